@@ -214,15 +214,19 @@ class Peer:
                     pass
 
 
+def whole_request(got: bytes) -> bool:
+    """Whether these bytes are one whole request."""
+    head, blank, body = got.partition(b"\r\n\r\n")
+    length = re.search(rb"\r\nContent-Length: (\d+)", head)
+    return bool(blank) and len(body) >= (int(length[1]) if length else 0)
+
+
 def read_request(stream: socket.socket) -> bytes:
     """The bytes of one request, or what came of it."""
     got = b""
     while True:
-        head, blank, body = got.partition(b"\r\n\r\n")
-        if blank:
-            length = re.search(rb"\r\nContent-Length: (\d+)", head)
-            if len(body) >= (int(length[1]) if length else 0):
-                return got
+        if whole_request(got):
+            return got
         piece = stream.recv(65536)
         if not piece:
             return got

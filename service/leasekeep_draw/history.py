@@ -2,8 +2,8 @@
 
 One line an event: `entry NAME END`, `wake T NAME..`, `told NAME SECS`, `refused NAME STATUS`, `lost NAME`,
 `short NAME NEED`; `next`, `sleep`, `idle`, `planned`, `fault` and `done` change no life. A line of leasekeepd's log has its
-moment in front, and its moments are dates: what is told there is told of `renew NAME..` before it, and what else the log says
-is passed over.
+moment in front, and its moments are dates; a loss has its reason there. What is told of an entry there is told of the `renew NAME..`
+before it that names the entry, and what else the log says is passed over.
 """
 
 from __future__ import annotations
@@ -51,6 +51,12 @@ class History:
     is_over: bool = False
     begun: int | None = None
     now: int = 0
+    renewing: dict[int, int] = field(default_factory=dict)
+    """When each renewal went out that has no answer yet, by a log."""
+
+    def asked(self, entry: int, otherwise: int) -> int:
+        """When the request about an entry went out of which an answer comes now."""
+        return self.renewing.pop(entry, otherwise)
 
 
 class LineFault(Exception):
@@ -89,6 +95,7 @@ def read(lines: Iterable[str], indices: Mapping[str, int], start: int) -> Histor
 
 def _take(history: History, words: list[str], indices: Mapping[str, int], round_at: int, is_logged: bool) -> int:
     """Takes one line. `round_at` is the moment of the round of which answers speak; gives that of the lines after it."""
+    asked_at = history.now if is_logged else round_at
     match words:
         case ["wake", moment, *names]:
             round_at = _moment(moment)
@@ -99,14 +106,14 @@ def _take(history: History, words: list[str], indices: Mapping[str, int], round_
         case ["entry", name, end]:
             history.ends[indices[name]] = _moment(end)
         case ["told", name, seconds]:
-            _renew(history, round_at, indices[name], int(seconds))
+            _renew(history, history.asked(indices[name], asked_at), indices[name], int(seconds))
         case ["renew", *names]:
-            round_at = history.now
-            history.requests += len([indices[name] for name in names])
+            history.renewing.update((indices[name], history.now) for name in names)
+            history.requests += len(names)
         case ["refused", name, status]:
-            history.marks.append(Mark(round_at, indices[name], Sign.REFUSED, int(status)))
-        case ["lost", name]:
-            history.marks.append(Mark(round_at, indices[name], Sign.LOST))
+            history.marks.append(Mark(history.asked(indices[name], asked_at), indices[name], Sign.REFUSED, int(status)))
+        case ["lost", name, *why] if len(why) <= is_logged:  # (Older logs tell no reason.)
+            history.marks.append(Mark(history.asked(indices[name], asked_at), indices[name], Sign.LOST))
         case ["short", name, need]:
             history.marks.append(Mark(history.now, indices[name], Sign.SHORT, _moment(need)))
         case [word, *_] if word in _QUIET:

@@ -81,11 +81,11 @@ def _doubt_margin(reading: Reading, doubts: _Doubts, timeout: int, now: float) -
         doubts.doubt("", "margin", f"is over three quarters of the shortest step ({room.step} s of {room.whose})",
                      f"{room.most} s is used for it instead: {room.for_timeout(timeout, margin)}")
     fullest = _fullest_round(reading.sound, now)
-    slices = math.ceil(fullest / AT_ONCE)
-    if slices * timeout > margin:
+    turns = math.ceil(fullest / AT_ONCE)
+    if turns * timeout > margin:
         doubts.doubt("", "margin",
                      f"the fullest round, {AT_ONCE} at a time, may take longer than the margin ({fullest} entries, {timeout} s each)",
-                     f"a slower broker loses the last ones: {room.for_round(slices, timeout, margin)}")
+                     f"a slower broker loses the last ones: {room.for_round(turns, timeout, margin)}")
 
 
 def _fullest_round(inventory: Inventory, now: float) -> int:

@@ -52,14 +52,14 @@ class Room:
             return longer
         return f"{longer}, or give --timeout {shorter} and write {_range(TIMEOUTS_IN_MARGIN * shorter, self.most)}"
 
-    def for_round(self, slices: int, timeout: int, margin: int) -> str:
-        """What to do where so many slices of a round, each as slow as the time-out, are longer than the margin."""
-        fits = f"replies of {_seconds(margin / slices)} s still fit"
-        wanted = slices * timeout
+    def for_round(self, turns: int, timeout: int, margin: int) -> str:
+        """What to do where so many requests of a round one after another, each as slow as the time-out, are longer than the margin."""
+        fits = f"replies of {_seconds(margin / turns)} s still fit"
+        wanted = turns * timeout
         if wanted <= self.most:
             return f"{fits}; a margin of {wanted} holds the time-out for each"
         if self.most > margin:
-            return f"{fits}, and with {self.most}, the greatest margin here, those of {_seconds(self.most / slices)} s"
+            return f"{fits}, and with {self.most}, the greatest margin here, those of {_seconds(self.most / turns)} s"
         return f"{fits}, and this is the greatest margin here: the broker has to be as quick as that"
 
 

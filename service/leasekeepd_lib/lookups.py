@@ -10,7 +10,7 @@ from leasekeep_inventory.inventory import ALWAYS, Entry, Inventory, Kind
 
 from .child import Child, LaunchFault
 from .clock import Clock
-from .patience import longest_silence
+from .patience import SILENCE
 from .watch_lines import Said, WatchLineFault, read_watch_line
 from .watch_process import WatchLauncher, clock_line
 
@@ -40,8 +40,7 @@ class Lookups:
         except LaunchFault as fault:
             return Looked(missing=str(fault))
         try:
-            async with asyncio.timeout(longest_silence(self._launcher.timeout)):
-                return await self._told(process, entry.name)
+            return await self._told(process, entry.name)
         except TimeoutError:
             return Looked(missing="leasekeep watch says nothing")
         except WatchLineFault as fault:
@@ -50,10 +49,12 @@ class Lookups:
             await process.end()
 
     async def _told(self, process: Child, name: str) -> Looked:
-        """What is told of the entry: in the first slice, or after its token's where only one request goes out at once."""
+        """What is told of the entry: with the answer to the first clock, or to a later one where the broker takes its time, or where
+        its token is asked before it."""
         while True:
-            await process.write_line(clock_line(self._clock))
-            looked, last = await _answer(process, name)
+            async with asyncio.timeout(SILENCE):
+                await process.write_line(clock_line(self._clock))
+                looked, last = await _answer(process, name)
             if looked is not None:
                 return looked
             if last is not Said.CLOCK:
@@ -79,8 +80,8 @@ async def _answer(process: Child, name: str) -> tuple[Looked | None, Said | None
                 looked = Looked(refused=f"the broker answers {status} to its lookup")
             case Said.NEVER, (about,) if about == name:
                 looked = Looked(refused="it never ends (ttl 0) and needs no keeping")
-            case Said.LOST, (about,) if about == name:
-                looked = Looked(missing="the broker gave no answer to its lookup")
+            case Said.LOST, (about, why) if about == name:
+                looked = Looked(missing=f"the broker gave no answer to its lookup: {why}")
         if line.said.ends_answer:
             return looked, line.said
     return looked, None

@@ -6,11 +6,10 @@ from typing import Iterable
 
 from leasekeep_inventory.inventory import Inventory
 
-SILENCE_BEYOND = 15.0
-"""Seconds beyond twice the time-out."""
-SLICE_BEYOND = 3.0
-"""The same for the slowest slice: one reply may drip in for twice the time-out and two seconds, and those after it are given up
-within another."""
+SILENCE = 5.0
+"""Seconds for which a process may say nothing when it is asked: one that is sound answers a clock within a second, however long
+the broker takes."""
+LONGEST_SILENCE = 40.0
 LONGEST_PAUSE = 30.0
 LEAST_PAUSE = 1.0
 PARTS = 16
@@ -19,25 +18,15 @@ DOUBLINGS = 8
 """After so many a pause is longer than any may be."""
 
 
-def longest_silence(timeout: int) -> float:
-    """Seconds for which a process may say nothing when it is asked: longer than any slice of requests takes."""
-    return 2 * timeout + SILENCE_BEYOND
-
-
-def silence_within(timeout: int, own_margin: float) -> float:
-    """The same of a process that keeps entries, the least of whose own margins is that: half of it is left to the one that
-    is started then. It is never shorter than the slowest slice."""
-    return min(longest_silence(timeout), max(own_margin / 2, 2 * timeout + SLICE_BEYOND))
+def silence_after(failures: int) -> float:
+    """Seconds for which a process may say nothing, after so many ends in a row: twice as long after each but the first, so that
+    on a machine that is merely slow one of them comes to its answer."""
+    return min(SILENCE * 2.0 ** min(max(failures - 1, 0), DOUBLINGS), LONGEST_SILENCE)
 
 
 def own_margin(granted: int, margin: int) -> float:
     """The margin of an entry that is granted so many seconds: three quarters of them, where that is less."""
     return min(float(margin), 0.75 * granted)
-
-
-def least_own_margin(inventory: Inventory) -> float:
-    """The least margin of an entry, by the steps that are asked for."""
-    return min((own_margin(entry.step, inventory.margin) for entry in inventory.entries if entry.step), default=float(inventory.margin))
 
 
 def pause_after(failures: int, left: float) -> float:

@@ -16,7 +16,6 @@ from leasekeepd_journal.changes import Change, ChangeFault, What, only_entry, re
 from .aside import aside
 from .book import Book
 from .clock import Clock
-from .day_before import DayBefore
 from .events import HeldLog, Log
 from .health import unkept
 from .lookups import Lookups
@@ -37,8 +36,8 @@ DAY = 86400.0
 LONGEST_NAP = 60.0
 """Seconds that are slept at once towards a far moment: a sleep counts no suspension."""
 ALIVE_WITHIN = 300.0
-"""Seconds without a sign of life from which on the watch counts as hung: it gives one every half a minute, and more than
-two minutes pass only where the longest time-out runs out again and again."""
+"""Seconds without a sign of life from which on the watch counts as hung: it gives one every half a minute, or within the longest
+silence and the longest pause where one process ends after the other."""
 
 
 class Service:
@@ -51,8 +50,7 @@ class Service:
         self.standings = Standings(clock)
         self._files = SecretFiles(surroundings.source.path.parent)
         self._secrets = SecretWatch(self._files, lambda: self.inventory, lookups.look_up, self._take_file, clock, log)
-        self._day_before = DayBefore(self.standings.moment, self._hear)
-        self.watch = Watch(launcher, clock, surroundings.ends, log, self._day_before.hear)
+        self.watch = Watch(launcher, clock, surroundings.ends, log, self._hear)
         self.reports = Reports(surroundings.notifier, surroundings.storage, surroundings.metrics, lambda: self.metrics(),
                                lambda: self.standings.next_wake, self._is_alive, log)
         self._widest = None if surroundings.widest is None else WidestServed(surroundings.widest, clock)
@@ -63,7 +61,7 @@ class Service:
     def _hear(self, line: WatchLine) -> None:
         level = self.standings.level_of(line)
         if level is not None:
-            self._log.say(level, line.said.word, *line.logged)
+            self._log.say(level, line.said.word, *self.standings.logged(line))
         self.standings.hear(line)
 
     def load(self) -> None:
@@ -80,7 +78,6 @@ class Service:
         """Serves another inventory from now on."""
         self.inventory = self._files.filled(inventory, self.inventory)
         self.standings.take(self.inventory)
-        self._day_before.take(self.inventory)
         self.watch.take(self._handed())
 
     def _handed(self) -> Inventory:
@@ -255,7 +252,6 @@ class Service:
         inventory = await self._written(Change(What.NEED, name, until=until))
         self._log.info("need", name, until_text(until), "by", who)
         self.inventory = inventory
-        self._day_before.take(inventory)
         handed = self._handed()
         if self._soon is None and handed.find(name) is not None:
             self.watch.need(handed, name, until)

@@ -22,7 +22,7 @@ class Said(Enum):
     ENTRY = "entry", _NAME + _NUMBER, 1
     TOLD = "told", _NAME + _NUMBER
     REFUSED = "refused", _NAME + _NUMBER
-    LOST = "lost", _NAME
+    LOST = "lost", _NAME + r" (?:connect|timeout|closed|reply|0|[1-9]\d{0,4})"
     END = "end", f"{_NAME}{_NUMBER} (?:yes|no)"
     AWAY = "away", ""
     BACK = "back", ""

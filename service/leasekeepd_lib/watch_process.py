@@ -16,13 +16,15 @@ from .child import Child, LaunchFault, start_child
 from .clock import Clock, Waiter
 from .events import Log
 from .known_ends import KnownEnds
-from .patience import least_left, least_own_margin, own_margin, pause_after, silence_within
+from .patience import least_left, pause_after, silence_after
 from .watch_lines import Said, WatchLine, WatchLineFault, read_watch_line
 
 GOOD_STRETCH = 60.0
 """Seconds that a process goes on before the next one is started without a pause."""
 CHANGES_AT_ONCE = 8
 """So many changes go before each clock, at most: however many come, the time is handed in."""
+ENDS_EVERY = 1000
+"""Milliseconds after which the ends are written again while requests are out. Before a sleep they are written anyway."""
 LAST_WRITE = 0.5
 """Seconds that the end waits for the disk."""
 TICK = 0.001
@@ -32,10 +34,7 @@ NAP = 1.0
 
 
 class WatchLauncher(Protocol):
-    """Starts `leasekeep watch`. `timeout` is its S."""
-
-    @property
-    def timeout(self) -> int: ...
+    """Starts `leasekeep watch`."""
 
     async def launch(self, inventory: Inventory) -> Child:
         """Starts one on that inventory; LaunchFault where it cannot be started."""
@@ -81,7 +80,10 @@ class Watch:
         self._waiter = Waiter()
         self._file = LaterFile(ends.write, self._hear_of_ends)
         self._held_until = 0
-        self._own_margin = 0.0
+        self._began = 0.0
+        self._failures = 0
+        """How many processes in a row have ended before a good stretch was over."""
+        self._ends_given = 0
         self.starts = 0
         self.last_beat: float | None = None
         """The event loop's time of the last sign of life: of a clock that was answered, or of the start."""
@@ -122,17 +124,16 @@ class Watch:
         self._beat()
         self._inventory = self._wanted
         await self._sleep(self._held_until, self._beat)
-        failures = 0
         while True:
-            began = self._clock.elapsed()
+            self._began = self._clock.elapsed()
             self._inventory = self._wanted
             self._changes.clear()
             why = await self._one_process()
             if why is None:
                 continue
             self._log.warn("watch", why)
-            failures = failures + 1 if self._clock.elapsed() - began < GOOD_STRETCH else 0
-            await asyncio.sleep(pause_after(failures, self._left()))
+            self._failures = self._failures + 1 if self._clock.elapsed() - self._began < GOOD_STRETCH else 0
+            await asyncio.sleep(pause_after(self._failures, self._left()))
 
     def _left(self) -> float:
         """Seconds to the first end."""
@@ -141,7 +142,6 @@ class Watch:
     async def _one_process(self) -> str | None:
         """From the start of a process to its end; why it ended, None where another inventory is to be served."""
         self.starts += 1
-        self._own_margin = least_own_margin(self._inventory)
         try:
             process = await self._launcher.launch(self._inventory)
         except LaunchFault as fault:
@@ -152,8 +152,9 @@ class Watch:
             while self._wanted is self._inventory:
                 wake = await self._hand_in(process, clock_line(self._clock))
                 self._beat()
-                if wake is not None:
+                if wake is not None or self._elapsed() >= self._ends_given + ENDS_EVERY:
                     self._write_ends()
+                if wake is not None:
                     await self._sleep(wake)
                 for about in list(islice(self._changes, CHANGES_AT_ONCE)):
                     await self._hand_in(process, self._changes.pop(about))
@@ -201,7 +202,7 @@ class Watch:
 
     def _patience(self) -> float:
         """Seconds for which the process may say nothing."""
-        return silence_within(self._launcher.timeout, self._own_margin)
+        return silence_after(self._failures if self._clock.elapsed() - self._began < GOOD_STRETCH else 0)
 
     def _hear(self, line: WatchLine) -> None:
         if line.said is Said.END:
@@ -210,12 +211,11 @@ class Watch:
             if entry is None:
                 raise WatchLineFault("leasekeep watch tells the end of an entry that it was not given")
             self._ends.keep(entry, int(end), is_renewable == "yes")
-        elif line.said is Said.TOLD:
-            self._own_margin = min(self._own_margin, own_margin(int(line.words[1]), self._inventory.margin))
         self._heard(line)
 
     def _write_ends(self) -> None:
         """Has the ends written where something is new; nothing waits for that."""
+        self._ends_given = self._elapsed()
         text = self._ends.fresh()
         if text is not None:
             self._file.give(text)

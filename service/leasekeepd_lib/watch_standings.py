@@ -35,6 +35,10 @@ class _Standing:
     granted: int = 0
     refused: int = 0
     lost: int = 0
+    is_renewal: bool = False
+    """Whether the last request that went out about it was a renewal."""
+    asked: float = 0.0
+    """When that request went out, by the elapsed clock."""
 
 
 class Standings:
@@ -44,7 +48,7 @@ class Standings:
     def __init__(self, clock: Clock) -> None:
         self._clock = clock
         self._by_name: dict[str, _Standing] = {}
-        self._is_renewal = False
+        self._loss = ""
         self._told_end: int | None = None
         self.beginnings = 0
         self.begun: float | None = None
@@ -72,6 +76,10 @@ class Standings:
             return Level.NOTE
         return _LEVELS.get(line.said, Level.INFO)
 
+    def logged(self, line: WatchLine) -> list[object]:
+        """The words after the first for the log, before the line is heard: `away` has the reason of the loss that it comes from."""
+        return [self._loss] if line.said is Said.AWAY and self._loss else line.logged
+
     def _is_known(self, standing: _Standing, moment: int) -> bool:
         return standing.warned is not None and abs(moment - standing.warned) < self._inventory.margin
 
@@ -81,12 +89,16 @@ class Standings:
             case Said.BEGIN, _:
                 self.beginnings += 1
                 self.begun = self._clock.elapsed()
-            case (Said.LOOK | Said.RENEW) as said, _:
-                self._is_renewal = said is Said.RENEW
+            case (Said.LOOK | Said.RENEW) as said, names:
+                for standing in (self._by_name[name] for name in names if name in self._by_name):
+                    standing.is_renewal, standing.asked = said is Said.RENEW, self._clock.elapsed()
             case Said.NEXT, (moment, *names):
                 self._next = (int(moment), names[0]) if names else None
-            case said, (name, *rest) if name in self._by_name:
-                self._hear_of(self._by_name[name], said, rest)
+            case said, (name, *rest):
+                if said is Said.LOST:
+                    self._loss = rest[0]
+                if name in self._by_name:
+                    self._hear_of(self._by_name[name], said, rest)
 
     def _hear_of(self, standing: _Standing, said: Said, rest: list[str]) -> None:
         match said:
@@ -97,12 +109,12 @@ class Standings:
                 standing.granted += 1
             case Said.END:
                 standing.end = int(rest[0]) / 1000
-                self._take_offset(standing.end)
+                self._take_offset(standing.end, self._clock.elapsed() - standing.asked)
             case Said.LOST | Said.REFUSED | Said.GONE:
                 if standing.trouble != "gone":
                     standing.trouble = _TROUBLES[said]
-                standing.lost += said is Said.LOST and self._is_renewal
-                standing.refused += said is Said.REFUSED and self._is_renewal
+                standing.lost += said is Said.LOST and standing.is_renewal
+                standing.refused += said is Said.REFUSED and standing.is_renewal
             case Said.NEVER:
                 standing.never_ends = True
             case Said.SHORT:
@@ -110,10 +122,11 @@ class Standings:
                 if not self._is_known(standing, standing.short):
                     standing.warned = standing.short
 
-    def _take_offset(self, end: float) -> None:
-        """A lookup's end is told by the broker's clock, and then by the elapsed one."""
+    def _take_offset(self, end: float, took: float) -> None:
+        """A lookup's end is told by the broker's clock, counted from its reply, and then by the elapsed one, counted from the request,
+        which went out so long before."""
         if self._told_end is not None:
-            apart = self._told_end - end - (self._clock.wall() - self._clock.elapsed())
+            apart = self._told_end - end - (self._clock.wall() - self._clock.elapsed()) - took
             self.offset = apart if abs(apart) > PARTED else 0.0
             self._told_end = None
 

@@ -42,10 +42,6 @@ class LedLauncher:
     def __init__(self, launcher: WatchLauncher, may_ask: Callable[[], bool], is_alone: bool = False) -> None:
         self._launcher, self._may_ask, self._is_alone = launcher, may_ask, is_alone
 
-    @property
-    def timeout(self) -> int:
-        return self._launcher.timeout
-
     async def launch(self, inventory: Inventory) -> Child:
         if not self._may_ask():
             raise LaunchFault("another may lead now")

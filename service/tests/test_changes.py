@@ -408,7 +408,7 @@ class Refused(InRoom):
             self.assertEqual(room.state(), meaning(INVENTORY))
             room.vault.faults = [Fault(0, 2e9, Act.REFUSE)]
             self.assertEqual(await service.command(["replace", "web", "s.later"], WHO),
-                             ["it could not be looked up (the broker gave no answer to its lookup), but is used"])
+                             ["it could not be looked up (the broker gave no answer to its lookup: closed), but is used"])
             self.assertEqual(room.state()["web"][1], "s.later")
             room.vault.faults.clear()
             self.assertEqual(await service.command(["replace", "web", "s.web"], WHO), ["web has a new secret"])

@@ -233,6 +233,24 @@ class Lanes(unittest.TestCase):
         self.assertEqual(marks, [(1099, Sign.RENEWED), (1010, Sign.RENEWED), (1110, Sign.SHORT), (1099, Sign.LOST)])
         self.assertEqual((chart.requests, chart.is_over, chart.stop), (3, False, 1199))
 
+    def test_answers_of_a_log_that_come_while_other_requests_are_out(self) -> None:
+        """Each is told of its own request; a lookup that fails, of the moment of the answer."""
+        log = (
+            "1970-01-01T00:17:39Z wake 1059 T L\n1970-01-01T00:17:39Z renew T L\n1970-01-01T00:17:41Z told L 60\n"
+            "1970-01-01T00:17:42Z renew U\n1970-01-01T00:17:43Z told T 100\n1970-01-01T00:17:44Z warning: lost U timeout\n"
+            "1970-01-01T00:17:44Z warning: away timeout\n1970-01-01T00:17:46Z look U\n1970-01-01T00:17:47Z note: lost U 503\n"
+            "1970-01-01T00:17:49Z renew U\n1970-01-01T00:17:50Z warning: refused U 400\n"
+        )
+        chart = family(log)
+        self.assertEqual([(lane.entry.name, lane.end) for lane in chart.lanes], [("T", 1159), ("L", 1119), ("U", 1060)])
+        self.assertEqual([[(mark.moment, mark.sign) for mark in lane.marks] for lane in chart.lanes], [
+            [(1059, Sign.RENEWED)], [(1059, Sign.RENEWED)], [(1062, Sign.LOST), (1067, Sign.LOST), (1069, Sign.REFUSED)]])
+        self.assertEqual(chart.requests, 4)
+
+    def test_a_reason_is_a_logs_alone(self) -> None:
+        with self.assertRaises(history.LineFault):
+            family("wake 1059 L\nlost L timeout\n")
+
     def test_the_moments_of_a_log_are_dates(self) -> None:
         """(They were seconds once.)"""
         log = ("1970-01-01T00:16:49Z entry T {}\n1970-01-01T00:17:30Z wake {} T\n1970-01-01T00:17:30Z renew T\n"

@@ -7,11 +7,11 @@ from dataclasses import replace
 
 from leasekeep_inventory.inventory import Inventory
 from leasekeepd_lib.patience import (
-    LONGEST_PAUSE, least_left, least_own_margin, longest_silence, own_margin, pause_after, silence_within)
+    LONGEST_PAUSE, LONGEST_SILENCE, SILENCE, least_left, own_margin, pause_after, silence_after)
 
 from .model.stage import Stage, fleet
 from .model.vault import Act, about, both, renewals
-from .model.watch_stage import DB, TWO, WEB, Script, WatchStage
+from .model.watch_stage import DB, ONE, TWO, WEB, Script, WatchStage
 from .test_scenarios import HOUR, Scenario, fault
 from .test_watch import InStage, clock
 
@@ -40,7 +40,7 @@ class Hung(Scenario):
         self.assert_kept()
 
     def test_a_reply_that_drips_is_no_hang(self) -> None:
-        """Nor is a broker that is silent: the slowest slice takes less."""
+        """Nor is a broker that is silent: the process answers each clock within a second, however long its requests take."""
         for act, lost in ((Act.DRIP, ("e5",)), (Act.HANG, ("e5",))):
             async def scene(stage: Stage) -> None:
                 stage.vault.faults.append(fault(100, HOUR, act, on=both(renewals, about("e5"))))
@@ -52,34 +52,29 @@ class Hung(Scenario):
 
 
 class Silences(InStage):
-    def noticed(self, inventory: Inventory, *said: str) -> float:
-        """Seconds until another process is started instead of one that says so much and nothing more."""
-        script: Script = [[(clock(1_000_000), [*said, None])], [(clock(0), [None])]]
+    def test_each_that_hangs_is_given_longer(self) -> None:
+        """A machine that is merely slow gets there. After a good stretch it begins with five seconds again."""
+        hangs: Script = [[(clock(0), [None])]]
+        silences = [5, 5, 10, 20, 40, 40]
+        ended = 1000 + sum(silences) + sum((0, 1, 2, 4, 8, 16))
+        ok = int(1000 * ended)
+        well: Script = [[(clock(ok), [f"wait {ok + 60_000}"]), (clock(ok + 60_000), [None])]]
+        script = [[(clock(1_000_000), [None])], *hangs * 5, *well, *hangs * 3]
 
         async def scene(stage: WatchStage) -> None:
-            await stage.serve(1060)
-        (self.folder / "ends").unlink(missing_ok=True)
-        for file in self.folder.glob("script*"):
-            file.unlink()
-        launched = self.play(scene, [*script, *[script[1]] * 9], inventory=inventory).launched
-        return launched[1] - launched[0]
+            await stage.serve(ended + 80)
+        launched = self.play(scene, script, inventory=replace(ONE, margin=240)).launched
+        between = [after - before for before, after in zip(launched, launched[1:])]
+        self.assertEqual([round(one, 3) for one in between[:8]], [5, 6, 12, 24, 48, 56, 65, 5])
 
-    def test_half_the_least_own_margin(self) -> None:
-        """But the slowest slice at least, and twice the time-out and 15 seconds at most."""
-        for margin, step, said, seconds in ((20, 600, (), 13), (30, 600, (), 15), (40, 600, (), 20), (60, 600, (), 25),
-                                            (600, 600, (), 25), (60, 56, (), 21), (60, 20, (), 13),
-                                            (60, 600, ("told web 48",), 18)):
-            with self.subTest(margin=margin, step=step, said=said):
-                inventory = Inventory((replace(WEB, increment=step),), margin)
-                self.assertAlmostEqual(self.noticed(inventory, *said), seconds, places=2)
+    def test_it_counts_from_the_last_line(self) -> None:
+        script: Script = [[(clock(1_000_000), ["look web", "lost web timeout", None])], [(clock(1_005_000), ["wait 9000000"])]]
+        self.assertEqual(self.played(1006, script).launched, [1000.0, 1005.0])
 
     def test_the_numbers(self) -> None:
-        self.assertEqual([longest_silence(timeout) for timeout in (1, 5, 60)], [17, 25, 135])
-        self.assertEqual([silence_within(timeout, margin) for timeout, margin in (
-            (1, 4), (1, 12), (1, 3600), (5, 20), (5, 40), (60, 240), (60, 3600))], [5, 6, 17, 13, 20, 123, 135])
+        self.assertEqual((SILENCE, LONGEST_SILENCE), (5, 40))
+        self.assertEqual([silence_after(failures) for failures in (0, 1, 2, 3, 4, 5, 2000)], [5, 5, 10, 20, 40, 40, 40])
         self.assertEqual([own_margin(granted, 60) for granted in (0, 20, 79, 80, 81, 9000)], [0, 15, 59.25, 60, 60, 60])
-        self.assertEqual(least_own_margin(TWO), 20)
-        self.assertEqual(least_own_margin(Inventory((), 7)), 7)
 
 
 class Pauses(InStage):

@@ -105,7 +105,7 @@ class Agreement(unittest.TestCase):
                          if one.severity is Severity.FAULT and "under four times the time-out" not in one.problem]
                 said = [one.text("f") for one in found]
                 self.assertEqual(ran.returncode == 1, bool(found), f"case {case}: {ran.stderr}{said}\n{text}")
-                words = ran.stderr.split()
+                words = ran.stderr.partition("\n")[0].split()
                 if "bad-value" in words or "missing-key" in words:
                     self.assertTrue(named(words[-1], found), f"case {case}: {ran.stderr}{said}\n{text}")
                 refused += ran.returncode == 1

@@ -20,7 +20,7 @@ from .model.vault import Act, Fault, Secret, Vault
 from .model.world import World, simulate
 
 BEGAN = 1_000_000
-GONE = "the broker gave no answer to its lookup"
+GONE = "the broker gave no answer to its lookup: {}"
 ROOT = Entry("root", Kind.TOKEN, None, BEGAN - 1000, BEGAN + 900, increment=900, max_ttl=90_000, credential="s.root")
 APP = replace(ROOT, name="app", parent="root", credential="s.app")
 DB = replace(APP, name="db", kind=Kind.LEASE, parent="app", credential="db/creds/1")
@@ -96,7 +96,7 @@ class Asked(unittest.TestCase):
             room.vault.faults = [Fault(0, 2e9, Act.STATUS, 403, on=lambda request, name: name == "app")]
             self.assertEqual(await room.look_up("db"), Looked())
             room.vault.faults = [Fault(0, 2e9, Act.STATUS, 500, on=lambda request, name: name == "db")]
-            self.assertEqual(await room.look_up("db"), Looked(missing=GONE))
+            self.assertEqual(await room.look_up("db"), Looked(missing=GONE.format(500)))
         self.play(scene)
 
     def test_one_request_at_a_time(self) -> None:
@@ -107,18 +107,29 @@ class Asked(unittest.TestCase):
             self.assertEqual(room.asked, [("lookup-self", "app"), ("lookup", "db")])
             self.assertEqual((await room.look_up("db", credential="db/creds/2")).refused, "the broker answers 400 to its lookup")
             room.vault.faults = [Fault(0, 2e9, Act.REFUSE)]
-            self.assertEqual(await room.look_up("db"), Looked(missing=GONE))
+            self.assertEqual(await room.look_up("db"), Looked(missing=GONE.format("closed")))
             room.vault.faults = [Fault(0, 2e9, Act.STATUS, 403, on=lambda request, name: name == "app")]
             self.assertEqual(await room.look_up("db"), Looked())
         self.play(scene)
 
     def test_where_nobody_answers(self) -> None:
         async def scene(room: Room) -> None:
-            for act, status, seconds in ((Act.REFUSE, 0, 0.0), (Act.HANG, 0, 5.0), (Act.STATUS, 500, 0.0), (Act.STATUS, 429, 0.0)):
+            for act, status, why, seconds in ((Act.REFUSE, 0, "closed", 0.0), (Act.HANG, 0, "timeout", 5.0), (Act.DRIP, 0, "timeout", 5.4),
+                                              (Act.STATUS, 500, "500", 0.0), (Act.STATUS, 429, "429", 0.0), (Act.STATUS, 200, "reply", 0.0)):
                 with self.subTest(act=act, status=status):
                     room.vault.faults, began = [Fault(0, 2e9, act, status)], room.world.now()
-                    self.assertEqual(await room.look_up("root"), Looked(missing=GONE))
-                    self.assertAlmostEqual(room.world.now() - began, seconds, delta=1.0)
+                    self.assertEqual(await room.look_up("root"), Looked(missing=GONE.format(why)))
+                    self.assertAlmostEqual(room.world.now() - began, seconds, delta=0.1)
+        self.play(scene)
+
+    def test_a_lookup_behind_a_slow_one_of_its_token(self) -> None:
+        """Each clock is answered in time, however long both take together."""
+        async def scene(room: Room) -> None:
+            room.launcher.set_width(1)
+            room.vault.latency = 4.9
+            began = room.world.now()
+            self.assertEqual(await room.look_up("db"), Looked())
+            self.assertAlmostEqual(room.world.now() - began, 9.8, delta=0.1)
         self.play(scene)
 
     def test_a_token_that_never_ends(self) -> None:
@@ -143,8 +154,6 @@ class Asked(unittest.TestCase):
 
 class Scripted:
     """A launcher of a process that says these lines, and then nothing for ever."""
-
-    timeout = 5
 
     def __init__(self, *lines: str) -> None:
         self.lines, self.handed_in, self.ended = deque(lines), list[str](), 0
@@ -175,25 +184,29 @@ class Said(unittest.TestCase):
         return simulate(go())
 
     def test_both_clocks_are_handed_in_once_and_the_process_is_ended(self) -> None:
-        looked, process, seconds = self.look_up(APP, ALL, "begin start", "look app", "entry app 1000900", "clock", "lost app")
+        looked, process, seconds = self.look_up(APP, ALL, "begin start", "look app", "entry app 1000900", "clock", "lost app closed")
         self.assertEqual((looked, process.handed_in, process.ended, seconds),
                          (Looked(), ["clock 1005007500 5000500"], 1, 0.0))
 
     def test_what_is_told_of_its_token_is_nothing_of_a_lease(self) -> None:
-        for told in ("never app", "refused app 403", "lost app", "entry app 1000900"):
+        for told in ("never app", "refused app 403", "lost app timeout", "entry app 1000900"):
             with self.subTest(told=told):
                 looked, _, _ = self.look_up(DB, ALL, "look app db", "entry db 1000900", told, "clock")
                 self.assertEqual(looked, Looked())
-                looked, _, _ = self.look_up(DB, ALL, "look app db", "lost db", told, "clock")
-                self.assertEqual(looked, Looked(missing=GONE))
+                looked, _, _ = self.look_up(DB, ALL, "look app db", "lost db connect", told, "clock")
+                self.assertEqual(looked, Looked(missing=GONE.format("connect")))
 
     def test_silence_and_words_that_are_none(self) -> None:
-        for lines, said, took in (((), "leasekeep watch says nothing", 25.0), (("begin start",), "leasekeep watch says nothing", 25.0),
+        for lines, said, took in (((), "leasekeep watch says nothing", 5.0), (("begin start",), "leasekeep watch says nothing", 5.0),
                                   (("hello",), "leasekeep watch printed an unknown line", 0.0),
                                   (("wait 5",), "leasekeep watch asks nothing", 0.0)):
             with self.subTest(lines=lines):
                 looked, process, seconds = self.look_up(APP, ALL, *lines)
                 self.assertEqual((looked, process.ended, seconds), (Looked(missing=said), 1, took))
+
+    def test_an_answer_that_a_later_clock_brings(self) -> None:
+        looked, process, _ = self.look_up(APP, ALL, "look app", "clock", "clock", "clock", "entry app 1000900", "clock")
+        self.assertEqual((looked, len(process.handed_in)), (Looked(), 4))
 
     def test_a_lease_whose_token_waits_for_its_file(self) -> None:
         """The token's name would be sent instead of its secret."""
@@ -203,8 +216,6 @@ class Said(unittest.TestCase):
 
     def test_a_launcher_that_may_not(self) -> None:
         class Refusing:
-            timeout = 5
-
             async def launch(self, inventory: Inventory) -> Child:
                 raise LaunchFault("another may lead now")
 

@@ -80,8 +80,6 @@ class Talking:
 
 
 class Launcher:
-    timeout = 5
-
     def __init__(self) -> None:
         self.inventories = list[Inventory]()
         self.children = list[Talking]()
@@ -243,35 +241,6 @@ class Served(unittest.TestCase):
             await room.service.command(["need", "web", "1970-01-20T00:00:00Z"], WHO)
             with self.assertRaises(ChangeFault):
                 await room.service.command(["need", "web", "forever"], WHO)
-        self.play(scene)
-
-    def test_it_is_said_to_be_short_a_day_before(self) -> None:
-        async def scene(room: Room) -> None:
-            reach = BEGAN + 86400 + 600
-            room.launcher.says += [f"entry app {int(room.world.wall() + 8e4)}", f"end app {int((room.world.elapsed() + 8e4) * 1000)} yes", f"short app {reach}",
-                                   f"short web {reach}"]
-            await room.after(30)
-            self.assertEqual(room.said("short"), ["warning: short web 1970-01-13T13:56:40Z"])
-            self.assertNotIn("app short", "\n".join(await room.service.command(["status"], WHO)))
-            await room.after(540)
-            self.assertEqual(len(room.said("short")), 1)
-            await room.after(60)
-            self.assertEqual(room.said("short"), ["warning: short web 1970-01-13T13:56:40Z", "warning: short app 1970-01-13T13:56:40Z"])
-            self.assertIn("app short", "\n".join(await room.service.command(["status"], WHO)))
-        self.play(scene)
-
-    def test_what_is_short_goes_by_the_need_as_it_is_now(self) -> None:
-        async def scene(room: Room) -> None:
-            reach = BEGAN + 5 * 86400
-            room.launcher.says += [f"short app {reach}"]
-            await room.after(30)
-            self.assertEqual(room.said("short"), [])
-            await room.service.command(["need", "app", str(reach + 1)], WHO)
-            self.assertEqual(room.said("short"), ["warning: short app 1970-01-17T13:46:40Z"])
-            await room.service.command(["need", "web", "always"], WHO)
-            room.launcher.says += [f"short web {reach}"]
-            await room.after(30)
-            self.assertEqual(len(room.said("short")), 1)  # (Days before.)
         self.play(scene)
 
     def test_settle_keeps_the_words(self) -> None:

@@ -231,8 +231,6 @@ class Gate(unittest.TestCase):
         margins = list[int]()
 
         class Launcher:
-            timeout = 5
-
             async def launch(self, inventory: Inventory) -> Launched:
                 margins.append(inventory.margin)
                 return Launched()
@@ -248,8 +246,6 @@ class Gate(unittest.TestCase):
         process, may = Launched(), [True]
 
         class Launcher:
-            timeout = 5
-
             async def launch(self, inventory: Inventory) -> Launched:
                 return process
 

@@ -100,9 +100,12 @@ class Output(Started):
         self.file.write_text("[[token]]\n" * 30_000)
         process.send_signal(signal.SIGHUP)
         self.wait_for_file(metrics, "leasekeepd_config_last_reload_successful 0\n")
-        (dropped,) = [line.split(" ")[1] for line in metrics.read_text().splitlines()
-                      if line.startswith("leasekeepd_log_dropped_lines_total ")]
-        self.assertGreater(int(dropped), 1000)
+        dropped, end = 0, time.monotonic() + 20 * SLOWER
+        while dropped <= 1000:  # (They may have been written before the faults were.)
+            self.assertLess(time.monotonic(), end, f"{dropped} lines dropped")
+            time.sleep(0.05)
+            (dropped,) = [int(line.split(" ")[1]) for line in metrics.read_text().splitlines()
+                          if line.startswith("leasekeepd_log_dropped_lines_total ")]
         self.wait_for_renewals(1)
         began = time.monotonic()
         process.terminate()

@@ -14,9 +14,10 @@ from leasekeep_inventory.inventory import Inventory, inventory_text
 from leasekeepd_journal.storage import Storage
 from leasekeepd_lib.child import END_SECONDS, Child, ChildExit
 from leasekeepd_lib.known_ends import KnownEnds, boot_id
+from leasekeepd_lib.patience import SILENCE
 from leasekeepd_lib.watch_lines import Said, WatchLine
 
-from .model.watch_stage import DB, ONE, SILENCE, TWO, WEB, Script, WatchStage
+from .model.watch_stage import DB, ONE, TWO, WEB, Script, WatchStage
 from .model.world import World, simulate
 
 
@@ -200,7 +201,7 @@ class Endings(InStage):
 
     def test_the_time_counts_from_the_last_line(self) -> None:
         class Slow:
-            """Says a line every 20 seconds, five times."""
+            """Says a line just before it would be ended, five times."""
 
             def __init__(self) -> None:
                 self.lines = ["look web"] * 5 + ["wait 9000000"]
@@ -286,7 +287,38 @@ class Known(InStage):
             await stage.serve(1002, (1000.5, lambda: self.assertEqual(len(self.lines("boot-1", TWO)), 2)))
         self.play(scene, self.LIFE, inventory=TWO)
 
-    def test_they_are_written_where_the_service_ends_in_the_middle_of_a_slice(self) -> None:
+    def test_they_are_written_each_second_while_requests_are_out(self) -> None:
+        class Busy:
+            """Answers each clock 0.3 seconds later, and tells an end then."""
+
+            def __init__(self, clock: World) -> None:
+                self.clock, self.said, self.told = clock, list[str](), 1_060_000
+
+            async def write_line(self, line: str) -> None:
+                self.told += 1
+                self.said = [f"end web {self.told} yes", "clock"]
+
+            async def read_line(self) -> str | None:
+                await asyncio.sleep(0.15)
+                return self.said.pop(0)
+
+            async def end(self) -> ChildExit:
+                return ChildExit(0)
+
+        async def scene(stage: WatchStage) -> None:
+            async def launch(inventory: Inventory) -> Child:
+                return Busy(stage.world)
+            setattr(stage, "launch", launch)
+            written = list[list[str]]()
+
+            def look() -> None:
+                written.append(self.lines("boot-1", ONE))
+            await stage.serve(1003.05, *((moment, look) for moment in (1000.5, 1001.3, 1002.5, 1003)))
+            ends = [int(lines[0].split(" ")[2]) for lines in written]
+            self.assertEqual(ends, [1_060_001, 1_060_001, 1_060_005, 1_060_009])
+        self.play(scene, [])
+
+    def test_they_are_written_where_the_service_ends_while_requests_are_out(self) -> None:
         self.played(1001, [[(clock(1_000_000), ["look web", "entry web 1060", "end web 1060000 yes", None])]])
         self.assertEqual(self.lines("boot-1", ONE), ["known web 1060000 yes"])
 

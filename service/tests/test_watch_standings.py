@@ -6,6 +6,7 @@ import unittest
 from dataclasses import replace
 
 from leasekeep_inventory.inventory import Entry, Inventory, Kind
+from leasekeep_inventory.rfc3339 import At
 from leasekeepd_lib.events import Level
 from leasekeepd_lib.status import EntryStatus, State
 from leasekeepd_lib.watch_lines import read_watch_line
@@ -65,23 +66,38 @@ class Lines(unittest.TestCase):
 
     def test_what_fails_is_tried_until_it_is_answered(self) -> None:
         self.looked_up()
-        self.hear("renew web db", "lost web", "refused db 400")
+        self.hear("renew web db", "lost web timeout", "refused db 400")
         self.assertEqual(self.states(), ("trying", "trying"))
         self.assertEqual((self.of("web").trouble, self.of("db").trouble), ("lost", "refused"))
-        self.assertEqual([self.level(line) for line in ("lost web", "refused web 400")], [Level.NOTE, Level.WARNING])
-        self.hear("look web db", "lost web", "refused db 403")
+        self.assertEqual([self.level(line) for line in ("lost web 503", "refused web 400")], [Level.NOTE, Level.WARNING])
+        self.hear("look web db", "lost web closed", "refused db 403")
         self.assertEqual([(entry.refused, entry.lost) for entry in self.standings.entries(BOTH)], [(0, 1), (1, 0)])
         self.hear("renew web", "told web 60", "end web 160000 yes", "look db", "entry db 1060", "end db 110000 yes")
         self.assertEqual(self.states(), ("kept", "kept"))
+
+    def test_answers_that_come_while_other_requests_are_out(self) -> None:
+        """Whether a renewal failed goes by the entry's own request, whatever went out since."""
+        self.looked_up()
+        self.hear("renew web", "clock", "look db", "lost web timeout", "clock", "renew web", "lost db closed", "refused web 400")
+        self.assertEqual([(entry.refused, entry.lost) for entry in self.standings.entries(BOTH)], [(1, 1), (0, 0)])
+
+    def test_an_absence_has_the_reason_of_the_loss_that_shows_it(self) -> None:
+        def logged(text: str) -> list[object]:
+            return self.standings.logged(read_watch_line(text))
+        self.assertEqual(logged("away"), [])
+        for why in ("connect", "timeout", "closed", "reply", "503"):
+            self.hear(f"lost nobody {why}")
+            self.assertEqual([logged(text) for text in ("away", "back", f"lost web {why}", "wake 1059 web")],
+                             [[why], [], ["web", why], [At(1059), "web"]])
 
     def test_gone_and_back(self) -> None:
         self.looked_up()
         self.assertEqual([self.level(line) for line in ("refused db 403", "gone db 403")], [Level.WARNING, Level.ALERT])
         self.hear("look db", "refused db 403", "gone db 403")
-        self.assertEqual([self.level(line) for line in ("lost db", "refused db 403", "gone db 403", "lost web")],
+        self.assertEqual([self.level(line) for line in ("lost db reply", "refused db 403", "gone db 403", "lost web connect")],
                          [Level.NOTE, Level.NOTE, Level.NOTE, Level.WARNING])
         self.assertEqual((self.of("db").state, self.of("db").in_force), (State.GONE, 0))
-        self.hear("renew db", "lost db", "refused db 400")
+        self.hear("renew db", "lost db timeout", "refused db 400")
         self.assertEqual(self.of("db").state, State.GONE)
         self.hear("look db", "entry db 1055")
         self.assertEqual((self.of("db").state, self.of("db").in_force), (State.KEPT, 1500))
@@ -122,19 +138,27 @@ class Lines(unittest.TestCase):
         self.hear("told web 60", "end web 169000 yes")  # A grant tells no moment of the broker's.
         self.assertEqual(self.standings.offset, -40.0)
 
+    def test_a_slow_reply_is_no_difference_of_clocks(self) -> None:
+        for ahead, offset in ((0, 0.0), (40, 39.2)):
+            self.clock.now = 50.0
+            self.hear("look web", "clock")
+            self.clock.now = 54.8
+            self.hear(f"entry web {1064 + ahead}", "end web 110000 yes", "clock")
+            self.assertAlmostEqual(self.standings.offset, offset)
+
     def test_another_credential_and_another_entry(self) -> None:
         self.looked_up()
         self.hear("gone web 403", "gone db 404")
         new = Inventory((replace(WEB, credential="s.new"), DB), 20)
         self.standings.take(new)
         self.assertEqual((self.of("web", new).state, self.of("db", new).state), (State.TRYING, State.GONE))
-        self.hear("gone nobody 403", "lost nobody")
+        self.hear("gone nobody 403", "lost nobody closed")
         self.assertEqual(len(self.standings.entries(new)), 2)
 
     def test_how_grave_lines_are(self) -> None:
         for text, level in (
             ("begin start", Level.INFO), ("told web 60", Level.INFO), ("back", Level.INFO), ("next none", Level.INFO),
-            ("top web 5", Level.NOTE), ("lost web", Level.WARNING), ("refused web 400", Level.WARNING),
+            ("top web 5", Level.NOTE), ("lost web 500", Level.WARNING), ("refused web 400", Level.WARNING),
             ("short web 5", Level.WARNING), ("orphan web", Level.WARNING), ("away", Level.WARNING),
             ("gone web 403", Level.ALERT), ("never web", Level.ALERT), ("end web 5 yes", None), ("clock", None),
             ("wait 5", None), ("planned", None),

@@ -4,7 +4,7 @@ use crate::outcomes::{Outcome, streams_to};
 use crate::sources::{source, table_of};
 use crate::wanting::Wanting;
 use keep_device::{MemorySink, MemorySource, Sink, Streams};
-use keep_exchange::MemoryExchange;
+use keep_lanes::MemoryLanes;
 use keep_report::Exit;
 use keep_watching::run_watch;
 use mini_broker::Fault;
@@ -76,7 +76,7 @@ look web\nentry web 1060\nend web 1060000 yes\nclock\n",
         Some(Fault::Drop),
         "clock 1000000 1000000\nclock 1050000 1050000\nclock 1050000 1050000\nclock 1051000 1051000\n",
         "begin start\nlook web\nentry web 1060\nend web 1060000 yes\nclock\n\
-wake 1050 web\nrenew web\nlost web\naway\nclock\nnext 1050 web\nwait 1051000\n\
+wake 1050 web\nrenew web\nlost web closed\naway\nclock\nnext 1050 web\nwait 1051000\n\
 renew web\ntold web 60\nend web 1111000 yes\nback\nclock\n",
     ),
     // what is known before the first clock: the end is ahead, and its lookup owed
@@ -98,7 +98,7 @@ fault unknown-name\nclock\nfault unknown-name\nclock\n",
     ),
 ];
 
-// A watch over the inventory's own table, at most eight requests abreast: its exit.
+// A watch over the inventory's own table, with eight lanes: its exit.
 fn watches_to<R: AllocGlobal + Abort, S: Sink>(
     rt: &R,
     inventory: &str,
@@ -106,8 +106,8 @@ fn watches_to<R: AllocGlobal + Abort, S: Sink>(
     streams: &mut Streams<MemorySource, S, MemorySink>,
 ) -> Result<Exit, Fail> {
     let alloc = rt.alloc();
-    let mut exchange = MemoryExchange::new(alloc, table_of(rt, inventory, fault)?);
-    Ok(run_watch(alloc, inventory.as_bytes(), 8, &mut exchange, streams))
+    let mut lanes = MemoryLanes::new(alloc, table_of(rt, inventory, fault)?, 5, 8);
+    Ok(run_watch(alloc, inventory.as_bytes(), &mut lanes, streams))
 }
 
 fn watches<R: AllocGlobal + Abort>(
@@ -198,10 +198,10 @@ fn a_read_that_fails_ends_it(rt: HostRuntime) -> Result<(), Fail> {
 #[test]
 fn no_inventory_is_named(rt: HostRuntime) -> Result<(), Fail> {
     let alloc = rt.alloc();
-    let mut exchange = MemoryExchange::new(alloc, table_of(&rt, WEB, None)?);
+    let mut lanes = MemoryLanes::new(alloc, table_of(&rt, WEB, None)?, 5, 8);
     let lines = source(alloc, FIRST, &[], None)?;
     let mut streams = streams_to(alloc, lines, MemorySink::new(alloc, None));
-    let exit = run_watch(alloc, b"x", 8, &mut exchange, &mut streams);
+    let exit = run_watch(alloc, b"x", &mut lanes, &mut streams);
     let outcome = Outcome::of(exit, streams);
     assert!(rt; outcome.is(Exit::Inventory, "", "leasekeep: inventory: not-toml\n"));
     Ok(())

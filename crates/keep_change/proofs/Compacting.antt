@@ -1,10 +1,11 @@
 -- A need counts for nothing but itself: so the rows of a replay in which one is left out that is given again differ, up to there,
 -- in that need alone, and from there on in nothing.
-use Rattle.std.proofs.Common.{◌≡◌, ℕ, ◌+◌, ◌⊎◌, inl, inr, Bool, true, false, cond, ◌&&◌, ◌||◌, not, List, [], ◌∷◌, Option, Some, None, option_map, is_some, bytes_eq, codes, unwrap_or, refl, sym, ap, ◌∙◌, subst}
+use Rattle.std.proofs.Common.{◌≡◌, ℕ, zero, suc, ◌+◌, ◌⊎◌, inl, inr, Bool, true, false, cond, ◌&&◌, ◌||◌, not, List, [], ◌∷◌, ◌++◌, length, Option, Some, None, option_map, is_some, is_none, bytes_eq, codes, unwrap_or, refl, sym, ap, ◌∙◌, subst}
 use Rattle.std.proofs.lemmas.Bool.{and_parts, cases_Bool, cond-true, cond-false}
 use Rattle.std.specs.Bool.{beq}
 use Rattle.std.specs.Cmp.Lexicographic.{bytes_decides}
 use Rattle.std.specs.List.{find, list_any}
+use Rattle.keep_tree.specs.declared.forest.TheConstants.{MAX_DEPTH}
 use Rattle.keep_tree.specs.Push.{is_lease}
 use Rattle.keep_inventory.specs.declared.need.Need.{Need}
 use Rattle.keep_inventory.specs.declared.need.Need.TheVariants.{Always}
@@ -16,11 +17,12 @@ use Rattle.keep_change.specs.declared.change.What.TheVariants as what
 use Rattle.keep_change.specs.declared.fault.ChangeFault.{ChangeFault}
 use Rattle.keep_change.specs.declared.fault.ChangeFault.TheVariants.{NoEntry, CredentialTwice, InFile, HasUnder}
 use Rattle.keep_change.specs.declared.row.Row.{Row}
-use Rattle.keep_change.specs.Changes.{after, changed, refusal, refused, refused_of, unless}
+use Rattle.keep_change.specs.declared.replaying.File.{File}
+use Rattle.keep_change.specs.Changes.{after, changed, never, of_entry, refusal, refused_credential, refused_drop, refused_row, unless}
 use Rattle.keep_change.specs.Compaction.{compacted, is_need, is_need_of, is_void, kept, voids}
 use Rattle.keep_change.specs.Laws.{CompactedLaw}
-use Rattle.keep_change.specs.Replay.{File, State, begun, is_as_then, made, made_with, overruled, replay_from, replayed, step}
-use Rattle.keep_change.specs.Rows.{has_under, is_named, is_taken, is_under, named, with_named, without}
+use Rattle.keep_change.specs.Replay.{State, begun, is_as_then, made, made_with, overruled, replay_from, replayed, step}
+use Rattle.keep_change.specs.Rows.{has_under, is_deep, is_lease_if, is_named, is_taken, is_under, is_under_lease, lacks_parent, named, of_parent, with_named, without}
 use Rattle.keep_change.specs.Said.{said}
 
 -- ---- the rows of a replay, apart from its notes
@@ -30,12 +32,12 @@ settled None rows new = new
 settled (Some fault) rows new = rows
 
 -- the rows after a change, or as they were
-abbrev made_rows : List Row → List ℕ → What → List Row
-made_rows rows name w = settled (refusal rows name w) rows (after rows name w)
+abbrev made_rows : ℕ → List Row → List ℕ → What → List Row
+made_rows margin rows name w = settled (refusal margin rows name w) rows (after rows name w)
 
 abbrev next : File → List Row → Record → List Row
 next f rows (Settling mark) = cond (bytes_eq mark f.mark) f.rows rows
-next f rows (Made c) = cond (is_as_then f.rows c) (made_rows rows c.name c.what) rows
+next f rows (Made c) = cond (is_as_then f.rows c) (made_rows f.margin rows c.name c.what) rows
 
 abbrev all : File → List Row → List Record → List Row
 all f rows [] = rows
@@ -45,9 +47,9 @@ made_by : (at : ℕ) (s : State) (new : List Row) (o : Option ChangeFault) → (
 made_by at s new None = refl
 made_by at s new (Some fault) = refl
 
-made_is : (at : ℕ) (s : State) (c : Change) → (made at s c).rows ≡ made_rows s.rows c.name c.what
+made_is : (margin at : ℕ) (s : State) (c : Change) → (made margin at s c).rows ≡ made_rows margin s.rows c.name c.what
 unfolding made changed
-made_is at s c = made_by at s (after s.rows c.name c.what) (refusal s.rows c.name c.what)
+made_is margin at s c = made_by at s (after s.rows c.name c.what) (refusal margin s.rows c.name c.what)
 
 overruled_is : (at : ℕ) (s : State) (c : Change) → (overruled at s c).rows ≡ s.rows
 unfolding overruled
@@ -60,9 +62,9 @@ chosen_rows false s t = refl
 step_rows : (f : File) (at : ℕ) (s : State) (r : Record) → (step f at s r).rows ≡ next f s.rows r
 step_rows f at s (Settling mark) = chosen_rows (bytes_eq mark f.mark) (begun f) s
 step_rows f at s (Made c) =
-    chosen_rows (is_as_then f.rows c) (made at s c) (overruled at s c)
-    ∙ ap (λ rows. cond (is_as_then f.rows c) rows (overruled at s c).rows) (made_is at s c)
-    ∙ ap (λ rows. cond (is_as_then f.rows c) (made_rows s.rows c.name c.what) rows) (overruled_is at s c)
+    chosen_rows (is_as_then f.rows c) (made f.margin at s c) (overruled at s c)
+    ∙ ap (λ rows. cond (is_as_then f.rows c) rows (overruled at s c).rows) (made_is f.margin at s c)
+    ∙ ap (λ rows. cond (is_as_then f.rows c) (made_rows f.margin s.rows c.name c.what) rows) (overruled_is at s c)
 
 replay_rows : (f : File) (rs : List Record) (at : ℕ) (s : State) → (replay_from f at s rs).rows ≡ all f s.rows rs
 replay_rows f [] at s = refl
@@ -160,9 +162,24 @@ without_alike n m (r ∷ rows) =
       ]
     ]
 
+-- an entry at the end
+push_alike : (n : List ℕ) (rows : List Row) (x : Row) → alike n (rows ++ x ∷ []) ≡ alike n (alike n rows ++ x ∷ [])
+unfolding with_named
+push_alike n [] x = refl
+push_alike n (r ∷ rows) x =
+    elim (cases_Bool (is_named n r)) [
+      | inl e ↦
+          named_yes (needed Always) n r (rows ++ x ∷ []) e ∙ sym (named_yes (needed Always) n (needed Always r) (rows ++ x ∷ []) e)
+          ∙ ap (λ l. alike n (l ++ x ∷ [])) (sym (named_yes (needed Always) n r rows e))
+      | inr e ↦
+          named_no (needed Always) n r (rows ++ x ∷ []) e ∙ ap (λ l. r ∷ l) (push_alike n rows x) ∙ sym (named_no (needed Always) n r (alike n rows ++ x ∷ []) e)
+          ∙ ap (λ l. alike n (l ++ x ∷ [])) (sym (named_no (needed Always) n r rows e))
+    ]
+
 after_alike : (n m : List ℕ) (w : What) (rows : List Row) → alike n (after rows m w) ≡ alike n (after (alike n rows) m w)
 after_alike n m (what.Need u) rows = with_alike n (needed u) m (λ r. refl) (λ r. refl) rows
 after_alike n m (what.Replace c) rows = with_alike n (λ row. record row { credential = c }) m (λ r. refl) (λ r. refl) rows
+after_alike n m (what.Add x) rows = push_alike n rows x
 after_alike n m what.Drop rows = without_alike n m rows
 
 -- ---- refusals heed no need
@@ -180,6 +197,15 @@ any_alike n test h (r ∷ rows) =
       | inr e ↦ ap (list_any test) (named_no (needed Always) n r rows e) ∙ ap (λ b. test r || b) (any_alike n test h rows)
     ]
 
+length_alike : (n : List ℕ) (rows : List Row) → length (alike n rows) ≡ length rows
+unfolding with_named
+length_alike n [] = refl
+length_alike n (r ∷ rows) =
+    elim (cases_Bool (is_named n r)) [
+      | inl e ↦ ap length (named_yes (needed Always) n r rows e)
+      | inr e ↦ ap length (named_no (needed Always) n r rows e) ∙ ap (λ k. suc k) (length_alike n rows)
+    ]
+
 found_alike : {A : Type 0} (n m : List ℕ) (g : Row → A) → IsHeedless g → (rows : List Row) → option_map g (named (alike n rows) m) ≡ option_map g (named rows m)
 unfolding with_named named
 found_alike n m g h [] = refl
@@ -193,6 +219,50 @@ found_alike n m g h (r ∷ rows) =
           ∙ elim (is_named m r) as (λ b. option_map g (cond b (Some r) (find (is_named m) (alike n rows))) ≡ option_map g (cond b (Some r) (find (is_named m) rows))) [ true ↦ refl | false ↦ found_alike n m g h rows ]
     ]
 
+-- what is seen of the entry of a name by such a test alone
+seen_alike : {A B : Type 0} (n m : List ℕ) (g : Row → A) → IsHeedless g → (h : Option Row → B) (k : Option A → B) → ((o : Option Row) → h o ≡ k (option_map g o))
+    → (rows : List Row) → h (named (alike n rows) m) ≡ h (named rows m)
+seen_alike n m g heedless h k by rows = by (named (alike n rows) m) ∙ ap k (found_alike n m g heedless rows) ∙ sym (by (named rows m))
+
+some_mapped : {A : Type 0} (g : Row → A) (o : Option Row) → is_some o ≡ is_some (option_map g o)
+some_mapped g None = refl
+some_mapped g (Some r) = refl
+
+none_mapped : {A : Type 0} (g : Row → A) (o : Option Row) → is_none o ≡ is_none (option_map g o)
+none_mapped g None = refl
+none_mapped g (Some r) = refl
+
+there_alike : (n m : List ℕ) (rows : List Row) → is_some (named (alike n rows) m) ≡ is_some (named rows m)
+there_alike n m rows = seen_alike n m (λ r. r.kind) (λ r u. refl) is_some is_some (some_mapped (λ r. r.kind)) rows
+
+lacks_alike : (n : List ℕ) (rows : List Row) (p : Option (List ℕ)) → lacks_parent (alike n rows) p ≡ lacks_parent rows p
+lacks_alike n rows None = refl
+lacks_alike n rows (Some m) = seen_alike n m (λ r. r.kind) (λ r u. refl) is_none is_none (none_mapped (λ r. r.kind)) rows
+
+lease_mapped : (o : Option Row) → is_lease_if o ≡ unwrap_or (option_map (λ (r : Row). is_lease r.kind) o) false
+lease_mapped None = refl
+lease_mapped (Some r) = refl
+
+under_lease_alike : (n : List ℕ) (rows : List Row) (p : Option (List ℕ)) → is_under_lease (alike n rows) p ≡ is_under_lease rows p
+under_lease_alike n rows None = refl
+under_lease_alike n rows (Some m) = seen_alike n m (λ r. is_lease r.kind) (λ r u. refl) is_lease_if (λ o. unwrap_or o false) lease_mapped rows
+
+of_parent_mapped : (f : Option (List ℕ) → Bool) (o : Option Row) → of_parent f o ≡ unwrap_or (option_map (λ (r : Row). f r.parent) o) false
+of_parent_mapped f None = refl
+of_parent_mapped f (Some r) = refl
+
+of_parent_same : (f g : Option (List ℕ) → Bool) → ((p : Option (List ℕ)) → f p ≡ g p) → (o : Option Row) → of_parent f o ≡ of_parent g o
+of_parent_same f g same None = refl
+of_parent_same f g same (Some r) = same r.parent
+
+deep_alike : (n : List ℕ) (rows : List Row) (k : ℕ) (p : Option (List ℕ)) → is_deep k (alike n rows) p ≡ is_deep k rows p
+unfolding is_deep
+deep_alike n rows zero p = refl
+deep_alike n rows (suc k) None = refl
+deep_alike n rows (suc k) (Some m) =
+    of_parent_same (is_deep k (alike n rows)) (is_deep k rows) (deep_alike n rows k) (named (alike n rows) m)
+    ∙ seen_alike n m (λ r. is_deep k rows r.parent) (λ r u. refl) (of_parent (is_deep k rows)) (λ o. unwrap_or o false) (of_parent_mapped (is_deep k rows)) rows
+
 taken_alike : (n : List ℕ) (rows : List Row) (r : Row) (c : List ℕ) → is_taken (alike n rows) r c ≡ is_taken rows r c
 unfolding is_taken
 taken_alike n rows r c = any_alike n (λ x. not (bytes_eq x.name r.name) && (beq (is_lease x.kind) (is_lease r.kind) && bytes_eq x.credential c)) (λ x u. refl) rows
@@ -201,31 +271,39 @@ under_alike : (n : List ℕ) (rows : List Row) (m : List ℕ) → has_under (ali
 unfolding has_under
 under_alike n rows m = any_alike n (is_under m) (λ x u. refl) rows
 
-refused_alike : (n : List ℕ) (rows : List Row) (r : Row) (w : What) → refused (alike n rows) r w ≡ refused rows r w
-refused_alike n rows r (what.Need u) = refl
-refused_alike n rows r (what.Replace c) = ap (λ b. cond b (Some CredentialTwice) (cond (is_some r.file) (Some InFile) None)) (taken_alike n rows r c)
-refused_alike n rows r what.Drop = ap (λ b. cond b (Some HasUnder) None) (under_alike n rows r.name)
+row_alike : (margin : ℕ) (n : List ℕ) (rows : List Row) (r : Row) → refused_row margin (alike n rows) r ≡ refused_row margin rows r
+unfolding refused_row
+row_alike margin n rows r =
+    simp (there_alike n r.name rows, lacks_alike n rows r.parent, under_lease_alike n rows r.parent, deep_alike n rows MAX_DEPTH r.parent, length_alike n rows, taken_alike n rows r r.credential) refl
 
-refused_heedless : (rows : List Row) (w : What) → IsHeedless (λ r. refused rows r w)
+-- what is asked of the entry of a name
+of_entry_mapped : (f : Row → Option ChangeFault) (o : Option Row) → of_entry f o ≡ unwrap_or (option_map f o) (Some NoEntry)
+of_entry_mapped f None = refl
+of_entry_mapped f (Some r) = refl
+
+of_entry_same : (f g : Row → Option ChangeFault) → ((r : Row) → f r ≡ g r) → (o : Option Row) → of_entry f o ≡ of_entry g o
+of_entry_same f g same None = refl
+of_entry_same f g same (Some r) = same r
+
+entry_alike : (n m : List ℕ) (f g : Row → Option ChangeFault) → ((r : Row) → f r ≡ g r) → IsHeedless g → (rows : List Row) → of_entry f (named (alike n rows) m) ≡ of_entry g (named rows m)
+entry_alike n m f g same heedless rows = of_entry_same f g same (named (alike n rows) m) ∙ seen_alike n m g heedless (of_entry g) (λ o. unwrap_or o (Some NoEntry)) (of_entry_mapped g) rows
+
+credential_alike : (n : List ℕ) (rows : List Row) (c : List ℕ) (r : Row) → refused_credential (alike n rows) c r ≡ refused_credential rows c r
+credential_alike n rows c r = ap (λ b. cond b (Some CredentialTwice) (cond (is_some r.file) (Some InFile) None)) (taken_alike n rows r c)
+
+drop_alike : (n : List ℕ) (rows : List Row) (r : Row) → refused_drop (alike n rows) r ≡ refused_drop rows r
+drop_alike n rows r = ap (λ b. cond b (Some HasUnder) None) (under_alike n rows r.name)
+
+credential_heedless : (rows : List Row) (c : List ℕ) → IsHeedless (refused_credential rows c)
 unfolding is_taken
-refused_heedless rows (what.Need v) r u = refl
-refused_heedless rows (what.Replace c) r u = refl
-refused_heedless rows what.Drop r u = refl
+credential_heedless rows c r u = refl
 
-same_refused : (n : List ℕ) (rows : List Row) (w : What) (o : Option Row) → refused_of (alike n rows) w o ≡ refused_of rows w o
-same_refused n rows w None = refl
-same_refused n rows w (Some r) = refused_alike n rows r w
-
-refused_is : (rows : List Row) (w : What) (o : Option Row) → refused_of rows w o ≡ unwrap_or (option_map (λ r. refused rows r w) o) (Some NoEntry)
-refused_is rows w None = refl
-refused_is rows w (Some r) = refl
-
-refusal_alike : (n m : List ℕ) (w : What) (rows : List Row) → refusal (alike n rows) m w ≡ refusal rows m w
+refusal_alike : (margin : ℕ) (n m : List ℕ) (w : What) (rows : List Row) → refusal margin (alike n rows) m w ≡ refusal margin rows m w
 unfolding refusal
-refusal_alike n m w rows =
-    same_refused n rows w (named (alike n rows) m) ∙ refused_is rows w (named (alike n rows) m)
-    ∙ ap (λ o. unwrap_or o (Some NoEntry)) (found_alike n m (λ r. refused rows r w) (refused_heedless rows w) rows)
-    ∙ sym (refused_is rows w (named rows m))
+refusal_alike margin n m (what.Need u) rows = entry_alike n m never never (λ r. refl) (λ r v. refl) rows
+refusal_alike margin n m (what.Replace c) rows = entry_alike n m (refused_credential (alike n rows) c) (refused_credential rows c) (credential_alike n rows c) (credential_heedless rows c) rows
+refusal_alike margin n m (what.Add row) rows = row_alike margin n rows row
+refusal_alike margin n m what.Drop rows = entry_alike n m (refused_drop (alike n rows)) (refused_drop rows) (drop_alike n rows) (λ r u. refl) rows
 
 -- ---- so rows that differ in one need go on so
 
@@ -233,10 +311,10 @@ settled_alike : (n : List ℕ) (o : Option ChangeFault) (a b new other : List Ro
 settled_alike n None a b new other h k = k
 settled_alike n (Some fault) a b new other h k = h
 
-made_alike : (n m : List ℕ) (w : What) (a : List Row) → alike n (made_rows a m w) ≡ alike n (made_rows (alike n a) m w)
-made_alike n m w a =
-    settled_alike n (refusal a m w) a (alike n a) (after a m w) (after (alike n a) m w) (sym (twice Always Always n a)) (after_alike n m w a)
-    ∙ ap (λ o. alike n (settled o (alike n a) (after (alike n a) m w))) (sym (refusal_alike n m w a))
+made_alike : (margin : ℕ) (n m : List ℕ) (w : What) (a : List Row) → alike n (made_rows margin a m w) ≡ alike n (made_rows margin (alike n a) m w)
+made_alike margin n m w a =
+    settled_alike n (refusal margin a m w) a (alike n a) (after a m w) (after (alike n a) m w) (sym (twice Always Always n a)) (after_alike n m w a)
+    ∙ ap (λ o. alike n (settled o (alike n a) (after (alike n a) m w))) (sym (refusal_alike margin n m w a))
 
 chosen_alike : (n : List ℕ) (t : Bool) (x y a b : List Row) → alike n x ≡ alike n y → alike n a ≡ alike n b → alike n (cond t x a) ≡ alike n (cond t y b)
 chosen_alike n true x y a b h k = h
@@ -245,8 +323,8 @@ chosen_alike n false x y a b h k = k
 next_alike : (n : List ℕ) (f : File) (r : Record) (a b : List Row) → alike n a ≡ alike n b → alike n (next f a r) ≡ alike n (next f b r)
 next_alike n f (Settling mark) a b h = chosen_alike n (bytes_eq mark f.mark) f.rows f.rows a b refl h
 next_alike n f (Made c) a b h =
-    chosen_alike n (is_as_then f.rows c) (made_rows a c.name c.what) (made_rows b c.name c.what) a b
-    (made_alike n c.name c.what a ∙ ap (λ x. alike n (made_rows x c.name c.what)) h ∙ sym (made_alike n c.name c.what b)) h
+    chosen_alike n (is_as_then f.rows c) (made_rows f.margin a c.name c.what) (made_rows f.margin b c.name c.what) a b
+    (made_alike f.margin n c.name c.what a ∙ ap (λ x. alike n (made_rows f.margin x c.name c.what)) h ∙ sym (made_alike f.margin n c.name c.what b)) h
 
 -- ---- up to where the need is given again
 
@@ -259,16 +337,16 @@ nobody f n (r ∷ rows) e =
       | inr t ↦ named_no f n r rows t ∙ ap (λ l. r ∷ l) (nobody f n rows (sym (cond-false (is_named n r) (Some r) (find (is_named n) rows) t) ∙ e))
     ]
 
-made_need_by : (n : List ℕ) (u : Need) (a : List Row) (o : Option Row) → named a n ≡ o → settled (refused_of a (what.Need u) o) a (with_named (needed u) n a) ≡ with_named (needed u) n a
+made_need_by : (n : List ℕ) (u : Need) (a : List Row) (o : Option Row) → named a n ≡ o → settled (of_entry never o) a (with_named (needed u) n a) ≡ with_named (needed u) n a
 made_need_by n u a None e = sym (nobody (needed u) n a e)
 made_need_by n u a (Some r) e = refl
 
-made_need : (n : List ℕ) (u : Need) (a : List Row) → made_rows a n (what.Need u) ≡ with_named (needed u) n a
+made_need : (margin : ℕ) (n : List ℕ) (u : Need) (a : List Row) → made_rows margin a n (what.Need u) ≡ with_named (needed u) n a
 unfolding refusal
-made_need n u a = made_need_by n u a (named a n) refl
+made_need margin n u a = made_need_by n u a (named a n) refl
 
-again : (n : List ℕ) (u : Need) (a b : List Row) → alike n a ≡ alike n b → made_rows a n (what.Need u) ≡ made_rows b n (what.Need u)
-again n u a b h = made_need n u a ∙ sym (twice u Always n a) ∙ ap (with_named (needed u) n) h ∙ twice u Always n b ∙ sym (made_need n u b)
+again : (margin : ℕ) (n : List ℕ) (u : Need) (a b : List Row) → alike n a ≡ alike n b → made_rows margin a n (what.Need u) ≡ made_rows margin b n (what.Need u)
+again margin n u a b h = made_need margin n u a ∙ sym (twice u Always n a) ∙ ap (with_named (needed u) n) h ∙ twice u Always n b ∙ sym (made_need margin n u b)
 
 -- what a file says of a need is not about the need that is wanted
 said_same : (rows : List Row) (n : List ℕ) (u v : Need) → said rows n (what.Need u) ≡ said rows n (what.Need v)
@@ -283,10 +361,11 @@ made_again : (f : File) (c : Change) (w : What) (u : Need) (a b : List Row) → 
 unfolding is_as_then
 made_again f c (what.Need v) u a b is need then h =
     let now : is_as_then f.rows c ≡ true = ap (λ x. bytes_eq (said f.rows c.name x) c.was) is ∙ ap (λ x. bytes_eq x c.was) (said_same f.rows c.name v u) ∙ then in
-    cond-true (is_as_then f.rows c) (made_rows a c.name c.what) a now
-    ∙ ap (made_rows a c.name) is ∙ again c.name v a b h ∙ ap (made_rows b c.name) (sym is)
-    ∙ sym (cond-true (is_as_then f.rows c) (made_rows b c.name c.what) b now)
+    cond-true (is_as_then f.rows c) (made_rows f.margin a c.name c.what) a now
+    ∙ ap (made_rows f.margin a c.name) is ∙ again f.margin c.name v a b h ∙ ap (made_rows f.margin b c.name) (sym is)
+    ∙ sym (cond-true (is_as_then f.rows c) (made_rows f.margin b c.name c.what) b now)
 made_again f c (what.Replace d) u a b is need then h = cc
+made_again f c (what.Add row) u a b is need then h = cc
 made_again f c what.Drop u a b is need then h = cc
 
 next_again : (f : File) (n was : List ℕ) (u : Need) (r : Record) (a b : List Row) → is_need_of n was r ≡ true → IsThen f n was u → alike n a ≡ alike n b → next f a r ≡ next f b r
@@ -318,12 +397,13 @@ void_change f c (what.Need u) rs a is need any =
     elim (cases_Bool (is_as_then f.rows c)) [
       | inl t ↦
           let now : next f a (Made c) ≡ with_named (needed u) c.name a =
-          cond-true (is_as_then f.rows c) (made_rows a c.name c.what) a t ∙ ap (made_rows a c.name) is ∙ made_need c.name u a in
+          cond-true (is_as_then f.rows c) (made_rows f.margin a c.name c.what) a t ∙ ap (made_rows f.margin a c.name) is ∙ made_need f.margin c.name u a in
           let then : IsThen f c.name c.was u = ap (λ x. bytes_eq (said f.rows c.name x) c.was) (sym is) ∙ t in
           all_again f c.name c.was u then rs any a (next f a (Made c)) (sym (ap (alike c.name) now ∙ twice Always u c.name a))
-      | inr t ↦ ap (λ rows. all f rows rs) (sym (cond-false (is_as_then f.rows c) (made_rows a c.name c.what) a t))
+      | inr t ↦ ap (λ rows. all f rows rs) (sym (cond-false (is_as_then f.rows c) (made_rows f.margin a c.name c.what) a t))
     ]
 void_change f c (what.Replace d) rs a is need any = cc
+void_change f c (what.Add row) rs a is need any = cc
 void_change f c what.Drop rs a is need any = cc
 
 void_next : (f : File) (r : Record) (rs : List Record) (a : List Row) → is_void r rs ≡ true → all f a rs ≡ all f (next f a r) rs

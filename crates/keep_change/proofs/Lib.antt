@@ -1,8 +1,15 @@
+pub mod Finding
+pub mod Seen
 pub mod Places
+pub mod Depths
+pub mod Cuts
 pub mod Spelling
+pub mod RowWords
+pub mod RowBack
 pub mod ReadBack
 pub mod Found
 pub mod Settling
+pub mod Making
 pub mod Compacting
 pub mod Later
 pub mod Rowed

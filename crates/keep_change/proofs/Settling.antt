@@ -5,7 +5,8 @@ use Rattle.std.specs.Cmp.Lexicographic.{bytes_decides}
 use Rattle.keep_change.specs.declared.change.Record.{Record}
 use Rattle.keep_change.specs.declared.change.Record.TheVariants.{Settling}
 use Rattle.keep_change.specs.Laws.{SettledLaw, UnsettledLaw}
-use Rattle.keep_change.specs.Replay.{File, State, begun, replay_from, replayed, step}
+use Rattle.keep_change.specs.declared.replaying.File.{File}
+use Rattle.keep_change.specs.Replay.{State, begun, replay_from, replayed, step}
 
 settling_last : (f : File) (mark : List ℕ) (rs : List Record) (at : ℕ) (s : State) → replay_from f at s (rs ++ Settling mark ∷ []) ≡ cond (bytes_eq mark f.mark) (begun f) (replay_from f at s rs)
 settling_last f mark [] at s = refl

@@ -14,7 +14,7 @@ use Rattle.keep_tree.specs.Push.{is_name, is_name_byte}
 use Rattle.keep_inventory.specs.Values.{is_credential}
 use Rattle.keep_inventory.specs.declared.need.Need.{Need}
 use Rattle.keep_inventory.specs.declared.need.Need.TheVariants.{Until, Always}
-use Rattle.keep_change.specs.Records.{IsNeed}
+use Rattle.keep_change.specs.RowText.{IsNeed}
 use Rattle.keep_change.specs.Words.{need_of, need_word}
 
 pub record IsPlain (w : List ℕ) : Type 0 where
@@ -27,11 +27,11 @@ ArePlain (w ∷ ws) = IsPlain w × ArePlain ws
 
 -- ---- names, words and needs are plain
 
-each_weaker : (p q : ℕ → Bool) → ((x : ℕ) → p x ≡ true → q x ≡ true) → (xs : List ℕ) → list_all p xs ≡ true → list_all q xs ≡ true
+pub each_weaker : (p q : ℕ → Bool) → ((x : ℕ) → p x ≡ true → q x ≡ true) → (xs : List ℕ) → list_all p xs ≡ true → list_all q xs ≡ true
 each_weaker p q weaker [] h = refl
 each_weaker p q weaker (x ∷ xs) h = let k = and_parts (p x) (list_all p xs) h in and_from _ _ (weaker x k.0) (each_weaker p q weaker xs k.1)
 
-byte_is_not : (test : ℕ → Bool) (b : ℕ) → test b ≡ false → (x : ℕ) → test x ≡ true → not (x == b) ≡ true
+pub byte_is_not : (test : ℕ → Bool) (b : ℕ) → test b ≡ false → (x : ℕ) → test x ≡ true → not (x == b) ≡ true
 byte_is_not test b lacks x h = not_from_false _ (ne_eqb x b (λ e. let both : true ≡ false = sym h ∙ ap test e ∙ lacks in cc))
 
 bytes_are_plain : (test : ℕ → Bool) → test 32 ≡ false → test 10 ≡ false → (w : List ℕ) → list_all test w ≡ true → IsPlain w

@@ -1,32 +1,64 @@
 -- Changes: what a change makes of an inventory, or why it cannot be made.
 -- Source: this project's own.
-use Rattle.std.specs.Prelude.{◌≡◌, ℕ, Bool, if◌then◌else◌, List, Option, Some, None, is_some, Result, Ok, Err}
+use Rattle.std.specs.Prelude.{◌≡◌, ◌⊎◌, ℕ, ◌+◌, Bool, true, false, if◌then◌else◌, List, [], ◌∷◌, ◌++◌, Option, Some, None, is_some, length, nat_le, nat_lt, Result, Ok, Err}
+use Rattle.keep_tree.specs.declared.forest.TheConstants.{MAX_DEPTH, MAX_ENTRIES}
+use Rattle.keep_inventory.specs.Terms.{step_of}
 use Rattle.keep_change.specs.declared.change.What.{What}
 use Rattle.keep_change.specs.declared.change.What.TheVariants as what
 use Rattle.keep_change.specs.declared.fault.ChangeFault.{ChangeFault}
-use Rattle.keep_change.specs.declared.fault.ChangeFault.TheVariants.{NoEntry, CredentialTwice, InFile, HasUnder}
+use Rattle.keep_change.specs.declared.fault.ChangeFault.TheVariants.{NoEntry, NameTwice, NoParent, ParentIsLease, StepTooSmall, TooDeep, Full, CredentialTwice, InFile, HasUnder, OutOfMemory}
 use Rattle.keep_change.specs.declared.row.Row.{Row}
-use Rattle.keep_change.specs.Rows.{named, has_under, is_taken, with_named, without}
+use Rattle.keep_change.specs.Rows.{named, lacks_parent, is_under_lease, is_deep, has_under, is_taken, with_named, without}
 
--- why it cannot be made of an entry that is there, None where it can
-abbrev pub refused : List Row → Row → What → Option ChangeFault
-refused rows row (what.Need until) = None
-refused rows row (what.Replace credential) = if is_taken rows row credential then Some CredentialTwice else (if is_some row.file then Some InFile else None)
-refused rows row what.Drop = if has_under rows row.name then Some HasUnder else None
+-- the fault of the first test that is met
+abbrev pub first_met : List (Bool × ChangeFault) → Option ChangeFault
+first_met [] = None
+first_met (t ∷ tests) = if t.0 then Some t.1 else first_met tests
 
--- and of none, that there is none
-abbrev pub refused_of : List Row → What → Option Row → Option ChangeFault
-refused_of rows w None = Some NoEntry
-refused_of rows w (Some row) = refused rows row w
+-- why an entry cannot be added, None where it can
+unfoldable pub refused_row : ℕ → List Row → Row → Option ChangeFault
+refused_row margin rows row =
+    first_met ((is_some (named rows row.name), NameTwice)
+    ∷ (lacks_parent rows row.parent, NoParent)
+    ∷ (is_under_lease rows row.parent, ParentIsLease)
+    ∷ (nat_lt (step_of row.terms) (margin + 1), StepTooSmall)
+    ∷ (is_deep MAX_DEPTH rows row.parent, TooDeep)
+    ∷ (nat_le MAX_ENTRIES (length rows), Full)
+    ∷ (is_taken rows row row.credential, CredentialTwice)
+    ∷ [])
 
--- why a change of the entry of that name cannot be made, None where it can
-unfoldable pub refusal : List Row → List ℕ → What → Option ChangeFault
-refusal rows name w = refused_of rows w (named rows name)
+-- why the credential of an entry cannot be another one
+abbrev pub refused_credential : List Row → List ℕ → Row → Option ChangeFault
+refused_credential rows credential row = if is_taken rows row credential then Some CredentialTwice else (if is_some row.file then Some InFile else None)
+
+-- why an entry cannot be dropped
+abbrev pub refused_drop : List Row → Row → Option ChangeFault
+refused_drop rows row = if has_under rows row.name then Some HasUnder else None
+
+abbrev pub never : Row → Option ChangeFault
+never row = None
+
+-- why a change of the entry of a name cannot be made: there is none, or by that entry
+abbrev pub of_entry : (Row → Option ChangeFault) → Option Row → Option ChangeFault
+of_entry refused None = Some NoEntry
+of_entry refused (Some row) = refused row
+
+-- the same of a change, with the entry of its name. An entry that is added has the name of its row
+abbrev pub refused_of : ℕ → List Row → What → Option Row → Option ChangeFault
+refused_of margin rows (what.Need until) row = of_entry never row
+refused_of margin rows (what.Replace credential) row = of_entry (refused_credential rows credential) row
+refused_of margin rows (what.Add added) row = refused_row margin rows added
+refused_of margin rows what.Drop row = of_entry (refused_drop rows) row
+
+-- why a change of the entry of that name cannot be made within that margin, None where it can
+unfoldable pub refusal : ℕ → List Row → List ℕ → What → Option ChangeFault
+refusal margin rows name w = refused_of margin rows w (named rows name)
 
 -- the rows as they are once it is made
 abbrev pub after : List Row → List ℕ → What → List Row
 after rows name (what.Need until) = with_named (λ row. record row { need = until }) name rows
 after rows name (what.Replace credential) = with_named (λ row. record row { credential = credential }) name rows
+after rows name (what.Add added) = rows ++ added ∷ []
 after rows name what.Drop = without name rows
 
 abbrev pub unless : List Row → Option ChangeFault → Result (List Row) ChangeFault
@@ -34,10 +66,21 @@ unless rows None = Ok rows
 unless rows (Some fault) = Err fault
 
 -- the rows after a change of the entry of that name, or why it cannot be made
-unfoldable pub changed : List Row → List ℕ → What → Result (List Row) ChangeFault
-changed rows name w = unless (after rows name w) (refusal rows name w)
+unfoldable pub changed : ℕ → List Row → List ℕ → What → Result (List Row) ChangeFault
+changed margin rows name w = unless (after rows name w) (refusal margin rows name w)
 
--- a call that changes the rows, against the definition: where it is refused, nothing is changed
-abbrev pub Changes : Result (List Row) ChangeFault → List Row → List Row → Result (Unit {0}) ChangeFault → Type 0
-Changes answer old new (Ok u) = answer ≡ Ok new
-Changes answer old new (Err fault) = (answer ≡ Err fault) × (new ≡ old)
+abbrev pub is_added : What → Bool
+is_added (what.Need until) = false
+is_added (what.Replace credential) = false
+is_added (what.Add added) = true
+is_added what.Drop = false
+
+abbrev pub takes_memory : What → Bool
+takes_memory (what.Need until) = false
+takes_memory (what.Replace credential) = true
+takes_memory (what.Add added) = true
+takes_memory what.Drop = false
+
+-- why a change was not made: its refusal, or where there is none, that memory was wanting
+abbrev pub IsWhy : Option ChangeFault → What → ChangeFault → Type 0
+IsWhy refused w fault = (refused ≡ Some fault) ⊎ ((refused ≡ None) × (takes_memory w ≡ true) × (fault ≡ OutOfMemory))

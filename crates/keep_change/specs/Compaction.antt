@@ -10,6 +10,7 @@ use Rattle.keep_change.specs.declared.change.What.TheVariants as what
 abbrev pub is_need : What → Bool
 is_need (what.Need until) = true
 is_need (what.Replace credential) = false
+is_need (what.Add row) = false
 is_need what.Drop = false
 
 -- a need of that name, beside that word of the file

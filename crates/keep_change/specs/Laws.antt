@@ -6,7 +6,8 @@ use Rattle.keep_change.specs.declared.change.Record.TheVariants.{Settling}
 use Rattle.keep_change.specs.declared.row.Row.{Row}
 use Rattle.keep_change.specs.Compaction.{compacted}
 use Rattle.keep_change.specs.Records.{IsRecord, record_of, record_text}
-use Rattle.keep_change.specs.Replay.{File, begun, replayed}
+use Rattle.keep_change.specs.declared.replaying.File.{File}
+use Rattle.keep_change.specs.Replay.{begun, replayed}
 
 -- the text of a record is read as that record
 abbrev pub WrittenIsRead : Type 0

@@ -1,9 +1,11 @@
 pub mod Rows
 pub mod Changes
 pub mod Words
+pub mod RowText
 pub mod Said
 pub mod Replay
 pub mod Records
 pub mod Compaction
 pub mod Listed
 pub mod Laws
+pub mod code

@@ -1,7 +1,7 @@
 -- Replay: the inventory that a file and the records of a journal give together. Where the file says something else of a word than
 -- it did when a change was made, the file wins.
 -- Source: this project's own.
-use Rattle.std.specs.Prelude.{ℕ, ◌+◌, Bool, true, false, if◌then◌else◌, ◌==◌, List, [], ◌∷◌, ◌++◌, Option, Some, None, Result, Ok, Err, bytes_eq}
+use Rattle.std.specs.Prelude.{ℕ, ◌+◌, Bool, true, false, not, if◌then◌else◌, ◌==◌, List, [], ◌∷◌, ◌++◌, Option, Some, None, Result, Ok, Err, bytes_eq}
 use Rattle.keep_inventory.specs.declared.need.Need.{Need}
 use Rattle.keep_inventory.specs.declared.need.Need.TheVariants.{Until, Always}
 use Rattle.keep_inventory.specs.Needs.{has_always}
@@ -11,18 +11,14 @@ use Rattle.keep_change.specs.declared.change.Record.TheVariants.{Made, Settling}
 use Rattle.keep_change.specs.declared.change.What.{What}
 use Rattle.keep_change.specs.declared.change.What.TheVariants as what
 use Rattle.keep_change.specs.declared.fault.ChangeFault.{ChangeFault}
-use Rattle.keep_change.specs.declared.fault.ChangeFault.TheVariants.{NoEntry, CredentialTwice, InFile, HasUnder}
+use Rattle.keep_change.specs.declared.fault.ChangeFault.TheVariants.{NoEntry}
+use Rattle.keep_change.specs.declared.replaying.File.{File}
 use Rattle.keep_change.specs.declared.replaying.Note.{Note}
 use Rattle.keep_change.specs.declared.replaying.Why.TheVariants.{FileWins, Refused}
 use Rattle.keep_change.specs.declared.row.Row.{Row}
-use Rattle.keep_change.specs.Changes.{changed}
+use Rattle.keep_change.specs.Changes.{changed, is_added}
 use Rattle.keep_change.specs.Rows.{named}
 use Rattle.keep_change.specs.Said.{said}
-
--- a file: the rows that it writes, and the fingerprint of its bytes
-pub record File : Type 0 where
-  pub rows : List Row
-  pub mark : List ℕ
 
 -- the rows so far, and notes on the changes so far that were not made
 pub record State : Type 0 where
@@ -44,26 +40,25 @@ same_need Always b = has_always b
 abbrev pub holds_of : Row → What → Bool
 holds_of row (what.Need until) = same_need row.need until
 holds_of row (what.Replace credential) = bytes_eq row.credential credential
+holds_of row (what.Add added) = true
 holds_of row what.Drop = false
 
--- of an entry that is not there, nothing is left to change
+-- of an entry that is not there, nothing is left to change, but that it was to be added
 unfoldable pub holds : List Row → Change → Bool
-holds rows c = elim (named rows c.name) [ None ↦ true | Some row ↦ holds_of row c.what ]
+holds rows c = elim (named rows c.name) [ None ↦ not (is_added c.what) | Some row ↦ holds_of row c.what ]
 
 -- a change of an entry that is no longer there is about what was dropped
 abbrev pub refused_note : ℕ → ChangeFault → List Note
 refused_note at NoEntry = []
-refused_note at CredentialTwice = record { at = at; why = Refused CredentialTwice } ∷ []
-refused_note at InFile = record { at = at; why = Refused InFile } ∷ []
-refused_note at HasUnder = record { at = at; why = Refused HasUnder } ∷ []
+refused_note at fault = record { at = at; why = Refused fault } ∷ []
 
 abbrev pub made_with : ℕ → State → Result (List Row) ChangeFault → State
 made_with at s (Ok rows) = record { rows = rows; notes = s.notes }
 made_with at s (Err fault) = record { rows = s.rows; notes = s.notes ++ refused_note at fault }
 
 -- the change at a place of the list is made, or a note says why not
-unfoldable pub made : ℕ → State → Change → State
-made at s c = made_with at s (changed s.rows c.name c.what)
+unfoldable pub made : ℕ → ℕ → State → Change → State
+made margin at s c = made_with at s (changed margin s.rows c.name c.what)
 
 -- the file wins; a note says so, unless all is as the change would make it
 unfoldable pub overruled : ℕ → State → Change → State
@@ -76,7 +71,7 @@ is_as_then file c = bytes_eq (said file c.name c.what) c.was
 -- what one record makes of the state: all changes before it are in the file that it is the mark of
 abbrev pub step : File → ℕ → State → Record → State
 step f at s (Settling mark) = if bytes_eq mark f.mark then begun f else s
-step f at s (Made c) = if is_as_then f.rows c then made at s c else overruled at s c
+step f at s (Made c) = if is_as_then f.rows c then made f.margin at s c else overruled at s c
 
 -- the records from a place of the list on
 abbrev pub replay_from : File → ℕ → State → List Record → State

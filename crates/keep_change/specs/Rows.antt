@@ -1,6 +1,6 @@
 -- Rows: an inventory as its tables write it, entry by entry.
 -- Source: this project's own.
-use Rattle.std.specs.Prelude.{ℕ, Bool, false, ◌&&◌, not, if◌then◌else◌, List, [], ◌∷◌, Option, Some, None, bytes_eq}
+use Rattle.std.specs.Prelude.{ℕ, zero, suc, Bool, true, false, ◌&&◌, not, if◌then◌else◌, List, [], ◌∷◌, Option, Some, None, is_none, bytes_eq}
 use Rattle.std.specs.Bool.{beq}
 use Rattle.std.specs.List.{find, list_any}
 use Rattle.keep_tree.specs.Push.{is_lease}
@@ -20,6 +20,31 @@ is_under name row = elim (row.parent) [ None ↦ false | Some parent ↦ bytes_e
 -- some entry is right under that name
 unfoldable pub has_under : List Row → List ℕ → Bool
 has_under rows name = list_any (is_under name) rows
+
+-- no entry has the name of the one that is to stand over
+abbrev pub lacks_parent : List Row → Option (List ℕ) → Bool
+lacks_parent rows None = false
+lacks_parent rows (Some name) = is_none (named rows name)
+
+abbrev pub is_lease_if : Option Row → Bool
+is_lease_if None = false
+is_lease_if (Some row) = is_lease row.kind
+
+-- the entry that is to stand over is a lease
+abbrev pub is_under_lease : List Row → Option (List ℕ) → Bool
+is_under_lease rows None = false
+is_under_lease rows (Some name) = is_lease_if (named rows name)
+
+-- of an entry that is there, what is so of the one over it
+abbrev pub of_parent : (Option (List ℕ) → Bool) → Option Row → Bool
+of_parent holds None = false
+of_parent holds (Some row) = holds row.parent
+
+-- so many entries or more stand one over the other, from that one up
+unfoldable pub is_deep : ℕ → List Row → Option (List ℕ) → Bool
+is_deep zero rows parent = true
+is_deep (suc n) rows None = false
+is_deep (suc n) rows (Some name) = of_parent (is_deep n rows) (named rows name)
 
 -- another entry of the kind has that credential
 unfoldable pub is_taken : List Row → Row → List ℕ → Bool

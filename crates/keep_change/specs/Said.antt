@@ -11,6 +11,7 @@ use Rattle.keep_change.specs.Words.{fingerprint, need_word, row_text}
 abbrev pub said_of : Row → What → List ℕ
 said_of row (what.Need until) = need_word row.need
 said_of row (what.Replace credential) = fingerprint row.credential
+said_of row (what.Add added) = fingerprint (row_text row)
 said_of row what.Drop = fingerprint (row_text row)
 
 -- of an entry that is not there, that it is absent

@@ -9,7 +9,6 @@ use Rattle.keep_tree.specs.declared.entry.Kind.{Kind}
 use Rattle.keep_tree.specs.declared.entry.Kind.TheVariants.{Token, Lease}
 use Rattle.keep_inventory.specs.declared.need.Need.{Need}
 use Rattle.keep_inventory.specs.declared.need.Need.TheVariants.{Until, Always}
-use Rattle.keep_inventory.specs.declared.terms.Terms.{Terms}
 use Rattle.keep_change.specs.declared.row.Row.{Row}
 
 -- a need: its moment in seconds, or `always`
@@ -51,20 +50,20 @@ abbrev pub file_end : Option (List ℕ) → List ℕ
 file_end None = []
 file_end (Some path) = 32 ∷ path
 
--- words, each with a space behind it
+-- words, each followed by a space
 abbrev pub spaced : List (List ℕ) → List ℕ
 spaced [] = []
 spaced (w ∷ ws) = w ++ 32 ∷ spaced ws
 
 abbrev pub who_words : Row → List (List ℕ)
-who_words row = kind_word row.kind ∷ row.name ∷ name_word row.parent ∷ []
+who_words row = kind_word row.kind ∷ row.name ∷ name_word row.parent ∷ told_word row.is_told ∷ []
 
 abbrev pub life_words : Row → List (List ℕ)
-life_words row = told_word row.is_told ∷ decimal row.terms.issued ∷ decimal row.end ∷ renewable_word row.renewable ∷ []
+life_words row = decimal row.terms.issued ∷ decimal row.end ∷ renewable_word row.renewable ∷ number_word row.terms.increment ∷ []
 
-abbrev pub terms_words : Terms → List (List ℕ)
-terms_words t = number_word t.increment ∷ decimal t.period ∷ decimal t.max_ttl ∷ decimal t.explicit_max ∷ []
+abbrev pub terms_words : Row → List (List ℕ)
+terms_words row = decimal row.terms.period ∷ decimal row.terms.max_ttl ∷ decimal row.terms.explicit_max ∷ need_word row.need ∷ []
 
 -- a row as a line
 unfoldable pub row_text : Row → List ℕ
-row_text row = spaced (who_words row) ++ (spaced (life_words row) ++ (spaced (terms_words row.terms) ++ (need_word row.need ++ 32 ∷ (row.credential ++ file_end row.file))))
+row_text row = spaced (who_words row) ++ (spaced (life_words row) ++ (spaced (terms_words row) ++ (row.credential ++ file_end row.file)))

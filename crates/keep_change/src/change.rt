@@ -1,5 +1,6 @@
 ghost use Rattle.std.specs.Prelude.{◌≡◌, IfOk};
 
+use crate::row::Row;
 use keep_inventory::Need;
 use keep_moment::{Name, Text};
 use std::alloc::AllocError;
@@ -12,6 +13,8 @@ pub enum What {
     Need(Need),
     /// Its credential is this one from now on: a token's own value, or a lease's id.
     Replace(Text),
+    /// It is kept from now on, as this row writes it. It has the name of the row.
+    Add(Row),
     /// It is kept no more.
     Drop,
 }
@@ -43,17 +46,19 @@ impl What {
         match self {
             What::Need(until) => Ok(What::Need(*until)),
             What::Replace(credential) => Ok(What::Replace(credential.clone()?)),
+            What::Add(row) => Ok(What::Add(row.copy()?)),
             What::Drop => Ok(What::Drop),
         }
     }
 }
 
 impl fmt::Debug for What {
-    /// Shows what it changes and a need. A credential is secret.
+    /// Shows what it changes, a need, and of a row the name and the kind. A credential is secret.
     fn fmt<W: fmt::Write>(&self, f: &mut fmt::Formatter<W>) -> fmt::Result {
         match self {
             What::Need(need) => f.debug_tuple("Need").field(need).finish(),
             What::Replace(_) => f.write_str("Replace(..)"),
+            What::Add(row) => f.debug_tuple("Add").field(row).finish(),
             What::Drop => f.write_str("Drop"),
         }
     }

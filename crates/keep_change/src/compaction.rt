@@ -62,6 +62,6 @@ fn is_need(what: &What) -> bool
 {
     match what {
         What::Need(_) => true,
-        What::Replace(_) | What::Drop => false,
+        What::Replace(_) | What::Add(_) | What::Drop => false,
     }
 }

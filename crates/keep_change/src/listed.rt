@@ -19,7 +19,7 @@ pub fn rows_of(alloc: Global, served: &Served) -> Result<Rows, AllocError>
     for index in 0..served.inventory().forest().len() {
         rows.push(row_at(alloc, served, index)?)?;
     }
-    Ok(Rows::of(rows))
+    Rows::of(alloc, rows)
 }
 
 // The row of the entry at an index.

@@ -1,14 +1,11 @@
 ghost use Rattle.std.specs.Prelude.{◌≡◌, IfOk};
-ghost use Rattle.std.specs.Int.{is_in_range};
-ghost use Rattle.std.specs.List.{list_all};
-ghost use Rattle.keep_tree.specs.Push.{is_name, is_name_byte};
-ghost use Rattle.keep_change.specs.Records.{drop_line, is_word, made_of, need_line, record_of, replace_line, settling_line};
+ghost use Rattle.keep_change.specs.Records.{add_line, added_of, drop_line, made_of, need_line, record_of, replace_line, settling_line};
 
 use crate::change::{Change, Record, What};
+use crate::row::Row;
+use crate::row_text::{is_name, is_word, one_and_rest, read_row};
 use crate::words::need_of;
-use keep_inventory::CREDENTIAL_MAX;
 use keep_moment::{Name, Text};
-use keep_tree::NAME_MAX;
 use keep_words::{begins, four_words, three_words, two_words};
 use std::alloc::{AllocError, Global};
 
@@ -23,6 +20,8 @@ pub fn read_record(alloc: Global, text: &[u8]) -> Result<Option<Record>, AllocEr
         need_line(alloc, text)
     } else if begins(text, b"replace") {
         replace_line(alloc, text)
+    } else if begins(text, b"add") {
+        add_line(alloc, text)
     } else if begins(text, b"drop") {
         drop_line(alloc, text)
     } else if begins(text, b"settling") {
@@ -59,6 +58,32 @@ fn replace_line(alloc: Global, text: &[u8]) -> Result<Option<Record>, AllocError
     }
     let credential = Text::of(alloc, credential)?;
     made_of(alloc, name, was, What::Replace(credential))
+}
+
+// The line `add WAS ROW`.
+#[tactic(auto, unfolding(crate::specs::Records::add_line))]
+fn add_line(alloc: Global, text: &[u8]) -> Result<Option<Record>, AllocError>
+    ensures { IfOk result (λ read. read ≡ add_line text.now) }
+{
+    let Some((_, rest)) = one_and_rest(text) else {
+        return Ok(None);
+    };
+    let Some((was, line)) = one_and_rest(rest) else {
+        return Ok(None);
+    };
+    let row = read_row(alloc, line)?;
+    added_of(alloc, was, row)
+}
+
+// The addition of a row, where it is one.
+fn added_of(alloc: Global, was: &[u8], row: Option<Row>) -> Result<Option<Record>, AllocError>
+    ensures { IfOk result (λ read. read ≡ added_of was.now row) }
+{
+    let Some(row) = row else {
+        return Ok(None);
+    };
+    let name = row.name.clone()?;
+    made_of(alloc, name.list(), was, What::Add(row))
 }
 
 // The line `drop NAME WAS`.
@@ -99,33 +124,4 @@ fn made_of(alloc: Global, name: &[u8], was: &[u8], what: What) -> Result<Option<
         was: Text::of(alloc, was)?,
         what,
     })))
-}
-
-// Whether these bytes are a name: 1 to 64 ASCII letters, digits, `-`, `_`, `.` or `/`.
-#[tactic(auto, unfolding(keep_tree::specs::Push::is_name))]
-fn is_name(name: &[u8]) -> bool
-    ensures { result ≡ is_name name.now }
-{
-    !name.is_empty() && name.len() <= NAME_MAX && has_name_bytes(name)
-}
-
-fn has_name_bytes(name: &[u8]) -> bool
-    ensures { result ≡ list_all is_name_byte name.now }
-{
-    name.iter().all(|b| {
-        b.is_ascii_alphanumeric() || *b == b'-' || *b == b'_' || *b == b'.' || *b == b'/'
-    })
-}
-
-// Whether these bytes are a word: 1 to 256 bytes from 0x21 to 0x7E.
-fn is_word(word: &[u8]) -> bool
-    ensures { result ≡ is_word word.now }
-{
-    !word.is_empty() && word.len() <= CREDENTIAL_MAX && is_visible(word)
-}
-
-fn is_visible(word: &[u8]) -> bool
-    ensures { result ≡ list_all (is_in_range 0x21 0x7E) word.now }
-{
-    word.iter().all(|b| *b >= 0x21 && *b <= 0x7e)
 }

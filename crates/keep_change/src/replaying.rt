@@ -1,6 +1,7 @@
-ghost use Rattle.std.specs.Prelude.{◌≡◌, ◌++◌, ◌∷◌, [], IfOk, OnOk};
+ghost use Rattle.std.specs.Prelude.{◌≡◌, ◌≢◌, ◌++◌, ◌∷◌, [], IfOk, OnOk};
 ghost use Rattle.keep_inventory.specs.Needs.{has_always};
-ghost use Rattle.keep_change.specs.Replay.{holds, holds_of, is_as_then, is_until, made, overruled, replayed, same_need, step};
+ghost use Rattle.keep_change.specs.Changes.{is_added};
+ghost use Rattle.keep_change.specs.Replay.{begun, holds, holds_of, is_as_then, is_until, made, overruled, refused_note, replayed, same_need, step};
 
 use crate::change::{Change, Record, What};
 use crate::fault::ChangeFault;
@@ -8,8 +9,20 @@ use crate::row::Row;
 use crate::rows::Rows;
 use crate::saying::said;
 use keep_inventory::Need;
+use keep_moment::Text;
 use std::alloc::{AllocError, Global};
 use std::marker::Model;
+
+/// What the file of an inventory says.
+#[derive(Debug, Drop)]
+pub struct File {
+    /// The entries that it writes.
+    pub rows: Rows,
+    /// The margin, in seconds.
+    pub margin: u32,
+    /// The fingerprint of its bytes.
+    pub mark: Text,
+}
 
 /// Why a change of a journal was not made.
 #[derive(Clone, Copy, Debug, PartialEq, Eq)]
@@ -67,14 +80,25 @@ impl Replayed {
     }
 
     // Makes the change at a place of the list, or notes why it cannot be made.
-    #[tactic(auto, unfolding(crate::specs::Replay::made))]
-    fn make(&mut self, at: usize, change: &Change) -> Result<(), AllocError>
-        ensures { OnOk result (self.new ≡ made at self.old change.now) }
+    #[tactic(auto, using(crate::proofs::Making::refused_made), unfolding(crate::specs::Replay::made))]
+    fn make(&mut self, margin: u32, at: usize, change: &Change) -> Result<(), AllocError>
+        ensures { OnOk result (self.new ≡ made margin at self.old change.now) }
     {
-        match self.rows.change(change.name.list(), change.what.copy()?) {
+        let what = change.what.copy()?;
+        match self.rows.change(margin, change.name.list(), what) {
             Ok(()) => Ok(()),
-            Err(ChangeFault::NoEntry) => Ok(()),
-            Err(fault) => self.note(at, Why::Refused(fault)),
+            Err(fault) => self.note_refused(at, fault),
+        }
+    }
+
+    // Notes why a change cannot be made, unless its entry was dropped. Want of memory is told.
+    fn note_refused(&mut self, at: usize, fault: ChangeFault) -> Result<(), AllocError>
+        ensures { OnOk result ((fault ≢ ChangeFault.OutOfMemory) × (self.new ≡ record self.old { notes = self.old.notes ++ refused_note at fault })) }
+    {
+        match fault {
+            ChangeFault::NoEntry => Ok(()),
+            ChangeFault::OutOfMemory => Err(AllocError),
+            fault => self.note(at, Why::Refused(fault)),
         }
     }
 
@@ -97,34 +121,28 @@ impl Replayed {
     }
 }
 
-/// The inventory that a file gives with the records of a journal, in order: `file` is what the file says, and `mark` the
-/// fingerprint of its bytes. A change is made where the file says of its word what it said when the change was made;
-/// where it says something else, the file wins. Behind a record that this file is to hold all changes before it, the file
-/// alone counts.
+/// The inventory that a file gives with the records of a journal, in order. A change is made where the file says of its word
+/// what it said when the change was made; where it says something else, the file wins. After a record that this file is to
+/// hold all changes before it, the file alone counts.
 ///
 /// The only error is want of memory.
 #[tactic(auto, unfolding(crate::specs::Replay::replayed))]
-pub fn replay(
-    alloc: Global,
-    file: &Rows,
-    mark: &[u8],
-    records: &[Record],
-) -> Result<Replayed, AllocError>
-    ensures { IfOk result (λ r. r ≡ replayed (record { rows = file.now; mark = mark.now }) records.now) }
+pub fn replay(alloc: Global, file: &File, records: &[Record]) -> Result<Replayed, AllocError>
+    ensures { IfOk result (λ r. r ≡ replayed file.now records.now) }
 {
     let mut state = begin(alloc, file)?;
     for (at, record) in records.iter().enumerate() {
-        take(alloc, file, mark, at, record, &mut state)?;
+        take(alloc, file, at, record, &mut state)?;
     }
     Ok(state)
 }
 
 // The file alone.
-fn begin(alloc: Global, file: &Rows) -> Result<Replayed, AllocError>
-    ensures { IfOk result (λ r. r ≡ record { rows = file.now; notes = [] }) }
+fn begin(alloc: Global, file: &File) -> Result<Replayed, AllocError>
+    ensures { IfOk result (λ r. r ≡ begun file.now) }
 {
     Ok(Replayed {
-        rows: file.copy(alloc)?,
+        rows: file.rows.copy(alloc)?,
         notes: Vec::new(alloc),
     })
 }
@@ -132,24 +150,23 @@ fn begin(alloc: Global, file: &Rows) -> Result<Replayed, AllocError>
 // Takes the record at a place of the list.
 fn take(
     alloc: Global,
-    file: &Rows,
-    mark: &[u8],
+    file: &File,
     at: usize,
     record: &Record,
     state: &mut Replayed,
 ) -> Result<(), AllocError>
-    ensures { OnOk result (state.new ≡ step (record { rows = file.now; mark = mark.now }) at state.old «record».now) }
+    ensures { OnOk result (state.new ≡ step file.now at state.old «record».now) }
 {
     match record {
         Record::Settling(settled) => {
-            if settled.list() == mark {
+            if settled.list() == file.mark.list() {
                 *state = begin(alloc, file)?;
             }
             Ok(())
         }
         Record::Made(change) => {
-            if is_as_then(alloc, file, change)? {
-                state.make(at, change)
+            if is_as_then(alloc, &file.rows, change)? {
+                state.make(file.margin, at, change)
             } else {
                 state.overrule(at, change)
             }
@@ -172,7 +189,7 @@ fn holds(rows: &Rows, change: &Change) -> bool
     ensures { result ≡ holds rows.now change.now }
 {
     match rows.named(change.name.list()) {
-        None => true,
+        None => !is_added(&change.what),
         Some(row) => holds_of(row, &change.what),
     }
 }
@@ -183,7 +200,17 @@ fn holds_of(row: &Row, what: &What) -> bool
     match what {
         What::Need(until) => same_need(&row.need, until),
         What::Replace(credential) => row.credential.list() == credential.list(),
+        What::Add(_) => true,
         What::Drop => false,
+    }
+}
+
+fn is_added(what: &What) -> bool
+    ensures { result ≡ is_added what.now }
+{
+    match what {
+        What::Add(_) => true,
+        What::Need(_) | What::Replace(_) | What::Drop => false,
     }
 }
 

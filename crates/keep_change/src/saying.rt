@@ -33,7 +33,7 @@ fn said_of(alloc: Global, row: &Row, what: &What) -> Result<Text, AllocError>
             Ok(Text::from_vec(text))
         }
         What::Replace(_) => fingerprint(alloc, row.credential.list()),
-        What::Drop => {
+        What::Add(_) | What::Drop => {
             push_row(alloc, row, &mut text)?;
             fingerprint(alloc, &text)
         }

@@ -2,7 +2,7 @@ ghost use Rattle.std.specs.Prelude.{◌≡◌, ◌++◌, ◌∷◌, [], IfOk, On
 ghost use Rattle.keep_change.specs.Words.{file_end, fingerprint, kind_word, life_words, name_word, need_of, need_word, number_word, renewable_word, row_text, spaced, terms_words, told_word, who_words};
 
 use crate::row::Row;
-use keep_inventory::{Need, Terms};
+use keep_inventory::Need;
 use keep_moment::{LAST, Moment, Name, Span, Text};
 use keep_tree::Kind;
 use keep_words::{number_up_to, push_number};
@@ -59,16 +59,14 @@ pub(crate) fn push_row(alloc: Global, row: &Row, text: &mut Vec<u8>) -> Result<(
 {
     push_who(row, text)?;
     push_life(alloc, row, text)?;
-    push_terms(alloc, &row.terms, text)?;
-    push_need(alloc, row.need, text)?;
+    push_terms(alloc, row, text)?;
     push_end(row, text)
 }
 
 // Appends what a row ends in: its credential, and the path of its file.
 fn push_end(row: &Row, text: &mut Vec<u8>) -> Result<(), AllocError>
-    ensures { OnOk result (text.new.items ≡ text.old.items ++ 32 ∷ (row.now.credential ++ file_end row.now.file)) }
+    ensures { OnOk result (text.new.items ≡ text.old.items ++ (row.now.credential ++ file_end row.now.file)) }
 {
-    text.push(b' ')?;
     text.extend_from_slice(row.credential.list())?;
     match &row.file {
         None => Ok(()),
@@ -79,33 +77,36 @@ fn push_end(row: &Row, text: &mut Vec<u8>) -> Result<(), AllocError>
     }
 }
 
-// Appends the kind, the name and the token over the entry.
+// Appends the kind, the name, the token over the entry, and whether its end is written.
 fn push_who(row: &Row, text: &mut Vec<u8>) -> Result<(), AllocError>
     ensures { OnOk result (text.new.items ≡ text.old.items ++ spaced (who_words row.now)) }
 {
     push_word(kind_word(row.kind), text)?;
     push_word(row.name.list(), text)?;
-    push_word(name_word(&row.parent), text)
+    push_word(name_word(&row.parent), text)?;
+    push_word(told_word(row.is_told), text)
 }
 
-// Appends its issue, its end, and whether it can be renewed.
+// Appends its issue, its end, whether it can be renewed, and the increment.
 fn push_life(alloc: Global, row: &Row, text: &mut Vec<u8>) -> Result<(), AllocError>
     ensures { OnOk result (text.new.items ≡ text.old.items ++ spaced (life_words row.now)) }
 {
-    push_word(told_word(row.is_told), text)?;
     push_spaced(alloc, row.terms.issued.get(), text)?;
     push_spaced(alloc, row.end, text)?;
-    push_word(renewable_word(row.renewable), text)
+    push_word(renewable_word(row.renewable), text)?;
+    push_if(alloc, row.terms.increment, text)
 }
 
-// Appends the terms but for the issue.
-fn push_terms(alloc: Global, terms: &Terms, text: &mut Vec<u8>) -> Result<(), AllocError>
-    ensures { OnOk result (text.new.items ≡ text.old.items ++ spaced (terms_words terms.now)) }
+// Appends the other terms, and until when it is needed.
+fn push_terms(alloc: Global, row: &Row, text: &mut Vec<u8>) -> Result<(), AllocError>
+    ensures { OnOk result (text.new.items ≡ text.old.items ++ spaced (terms_words row.now)) }
 {
-    push_if(alloc, terms.increment, text)?;
-    push_spaced(alloc, terms.period as u64, text)?;
-    push_spaced(alloc, terms.max_ttl as u64, text)?;
-    push_spaced(alloc, terms.explicit_max as u64, text)
+    push_spaced(alloc, row.terms.period as u64, text)?;
+    push_spaced(alloc, row.terms.max_ttl as u64, text)?;
+    push_spaced(alloc, row.terms.explicit_max as u64, text)?;
+    push_need(alloc, row.need, text)?;
+    text.push(b' ')?;
+    Ok(())
 }
 
 // Appends a number and a space.

@@ -3,7 +3,7 @@ ghost use Rattle.std.specs.List.{join_with_byte};
 ghost use Rattle.keep_change.specs.Records.{change_words, record_text};
 
 use crate::change::{Change, Record, What};
-use crate::words::{push_need, push_word};
+use crate::words::{push_need, push_row, push_word};
 use keep_moment::Text;
 use std::alloc::{AllocError, Global};
 
@@ -41,6 +41,11 @@ fn push_change(alloc: Global, change: &Change, text: &mut Vec<u8>) -> Result<(),
             push_word(name, text)?;
             push_word(was, text)?;
             text.extend_from_slice(credential.list())
+        }
+        What::Add(row) => {
+            push_word(b"add", text)?;
+            push_word(was, text)?;
+            push_row(alloc, row, text)
         }
         What::Drop => {
             push_word(b"drop", text)?;

@@ -6,6 +6,7 @@ pub mod OneText
 mod Sizes
 mod OwnText
 pub mod Reaching
+pub mod Dated
 mod Bounding
 pub mod Renewals
 pub mod Margins

@@ -16,7 +16,7 @@ run_read known max Over exit out errors read bytes is same run = inl (read, is, 
 -- what is done depends on the files only path by path
 pub over_same : (command : Command) (files now : Files) (bytes : List ℕ) (exit : Exit) (out errors : Change) → ((path : List ℕ) → now path ≡ files path) → ObeysOver command now bytes exit out errors → ObeysOver command files bytes exit out errors
 over_same (commands.Ends file start moments) files now bytes exit out errors same run = run
-over_same (commands.Plan file start) files now bytes exit out errors same run = run
+over_same (commands.Plan file start dates) files now bytes exit out errors same run = run
 over_same (commands.Margin file query) files now bytes exit out errors same run = run
 over_same (commands.Reach file start dates) files now bytes exit out errors same run = run
 over_same (commands.Rehearse file start words) files now bytes exit out errors same run = run

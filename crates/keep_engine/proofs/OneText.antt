@@ -11,7 +11,8 @@ use Rattle.keep_rule.specs.declared.run.Run.{Run}
 use Rattle.keep_rule.specs.Runs.{AreRuns, IsRun, all_wakes, wakes, wakes_of}
 use Rattle.keep_schedule.proofs.Bridge.{one_from}
 use Rattle.keep_schedule.proofs.Forces.{one_list}
-use Rattle.keep_plan.specs.Decides.{AreBest, AreLongest}
+use Rattle.keep_plan.specs.Decides.{AreBest, AreLongest, NoneKeeps}
+use Rattle.keep_plan.specs.Shortfall.{IsShortfall}
 use Rattle.keep_plan.proofs.Walking.{length_all_cons}
 use Rattle.keep_cert.specs.declared.cert.Body.TheVariants as body
 use Rattle.keep_cert.specs.declared.cert.Cert.{Cert}
@@ -86,7 +87,7 @@ one_runs (r ∷ rs) (q ∷ qs) are are' long long' same =
     let tail : rs ≡ qs = one_runs rs qs are.1 are'.1 long.1 long'.1 rest in
     cc
 
-one_best : (g : Forest) (s : ℕ) (rs qs : List Run) → AreBest g s rs → AreBest g s qs → rs ≡ qs
+pub one_best : (g : Forest) (s : ℕ) (rs qs : List Run) → AreBest g s rs → AreBest g s qs → rs ≡ qs
 one_best g s rs qs a b = one_runs rs qs a.runs b.runs a.longest b.longest (one_list g.entries g.margin s (end_of g.entries) None (all_wakes rs) (all_wakes qs) a.forces b.forces)
 
 -- ---- plan
@@ -94,18 +95,26 @@ one_best g s rs qs a b = one_runs rs qs a.runs b.runs a.longest b.longest (one_l
 one_plan : (g : Forest) (s : ℕ) (text other : List ℕ) → IsPlanText g s text → IsPlanText g s other → text ≡ other
 one_plan g s text other a b = a.spelled ∙ ap (λ rs. certificate_text g.entries (certified s (body.Runs rs))) (one_best g s a.runs b.runs a.best b.best) ∙ sym b.spelled
 
+-- the lowest entry that falls short, and whose need that is, are one pair
+pub one_shortfall : (g : Forest) (s entry needed entry' needed' : ℕ) → IsShortfall g s entry needed → IsShortfall g s entry' needed' → (entry ≡ entry') × (needed ≡ needed')
+one_shortfall g s entry needed entry' needed' a b =
+    let p = a.lowest entry' needed' b.pair in
+    let q = b.lowest entry needed a.pair in
+    let same : entry ≡ entry' = omega arith in
+    (same, one_from g.entries s entry' needed needed' (subst (λ i. IsFrom g.entries s i needed) same a.from) b.from)
+
 one_pair : (g : Forest) (s : ℕ) (text other : List ℕ) → IsPairText g s text → IsPairText g s other → text ≡ other
 one_pair g s text other a b =
-    let p = a.short.lowest b.entry b.needed b.short.pair in
-    let q = b.short.lowest a.entry a.needed a.short.pair in
-    let entry : a.entry ≡ b.entry = omega arith in
-    let needed : a.needed ≡ b.needed = one_from g.entries s b.entry a.needed b.needed (subst (λ i. IsFrom g.entries s i a.needed) entry a.short.from) b.short.from in
-    a.spelled ∙ ap (λ i. certificate_text g.entries (certified s (body.Unkeepable i a.needed))) entry
-    ∙ ap (λ i. certificate_text g.entries (certified s (body.Unkeepable b.entry i))) needed ∙ sym b.spelled
+    let same = one_shortfall g s a.entry a.needed b.entry b.needed a.short b.short in
+    a.spelled ∙ ap (λ i. certificate_text g.entries (certified s (body.Unkeepable i a.needed))) same.0
+    ∙ ap (λ i. certificate_text g.entries (certified s (body.Unkeepable b.entry i))) same.1 ∙ sym b.spelled
 
 -- a plan keeps, so no pair is named beside it
+pub best_or_none : {X : Type 0} (g : Forest) (s : ℕ) (rs : List Run) → AreBest g s rs → NoneKeeps g s → X
+best_or_none g s rs best none = absurd (none best.least.plan best.least.in_order best.least.kept)
+
 plan_or_pair : {X : Type 0} (g : Forest) (s : ℕ) (text other : List ℕ) → IsPlanText g s text → IsPairText g s other → X
-plan_or_pair g s text other a b = absurd (b.none a.best.least.plan a.best.least.in_order a.best.least.kept)
+plan_or_pair g s text other a b = best_or_none g s a.runs a.best b.none
 
 pub one_plan_text : OnePlanText
 one_plan_text g s exits.Done exits.Done text other a b = (refl, one_plan g s text other a b)

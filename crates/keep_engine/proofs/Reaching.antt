@@ -52,7 +52,7 @@ lines_more g s dates n front line text before here is =
 
 -- ---- one text
 
-one_moment : (dates : Bool) (n : ℕ) (a b : List ℕ) → IsMomentWord dates n a → IsMomentWord dates n b → a ≡ b
+pub one_moment : (dates : Bool) (n : ℕ) (a b : List ℕ) → IsMomentWord dates n a → IsMomentWord dates n b → a ≡ b
 one_moment false n a b x y = x ∙ sym y
 one_moment true n a b (inl x) (inl y) = one_date_text a b n x.1 y.1
 one_moment true n a b (inr x) (inr y) = x.1 ∙ sym y.1

@@ -10,8 +10,9 @@ use Rattle.keep_tree.specs.Forest.{Forest}
 use Rattle.keep_tree.specs.Push.{IsForest}
 use Rattle.keep_rule.specs.declared.wake.Wake.{Wake}
 use Rattle.keep_rule.specs.Plans.{moments}
+use Rattle.keep_rule.specs.declared.run.Run.{Run}
 use Rattle.keep_rule.specs.Runs.{all_wakes, moments_of}
-use Rattle.keep_plan.specs.Decides.{IsTooLong}
+use Rattle.keep_plan.specs.Decides.{AreBest, IsTooLong, NoneKeeps}
 use Rattle.keep_inventory.specs.declared.fault.InvFault.{InvFault}
 use Rattle.keep_inventory.specs.Inventories.{Inventory}
 use Rattle.keep_start.specs.Start.{from_start, inventory_at, marks}
@@ -29,9 +30,11 @@ use Rattle.keep_engine.specs.EndsRun.{EndsHalts, EndsTexts}
 use Rattle.keep_engine.specs.declared.margin.MarginQuery.{MarginQuery}
 use Rattle.keep_engine.specs.MarginRun.{MarginHalts, MarginTexts}
 use Rattle.keep_engine.specs.MarginText.{asked_about}
-use Rattle.keep_engine.specs.PlanRun.{IsCertified, IsPairText, IsPlanText, PlanHalts, PlanTexts}
+use Rattle.keep_engine.specs.PlanDates.{IsInDates, PlanDatesTexts}
+use Rattle.keep_engine.specs.PlanRun.{IsCertified, PlanHalts, PlanTexts}
 use Rattle.keep_engine.specs.Running.{Halted, Halts, NoHalts, RunOf, Texts, line_of}
-use Rattle.keep_engine.specs.Secrecy.{CheckSecrecy, DifferInSecrets, EndsSecrecy, IsWhole, MarginSecrecy, PlanSecrecy, ReachSecrecy, RunAlike, TellSame, WriteFronts, WriteSame}
+use Rattle.keep_engine.specs.Secrecy.{CheckSecrecy, DifferInSecrets, EndsSecrecy, IsWhole, MarginSecrecy, PlanDatesSecrecy, PlanSecrecy, ReachSecrecy, RunAlike, TellSame, WriteFronts, WriteSame}
+use Rattle.keep_engine.proofs.Dated.{one_plan_in_dates}
 use Rattle.keep_engine.proofs.Reaching.{one_reach_text}
 use Rattle.keep_engine.specs.ReachRun.{ReachTexts}
 use Rattle.keep_engine.proofs.Margins.{one_margin_text, one_reason, text_or_reason}
@@ -177,22 +180,22 @@ one_ends s at = record {
 pub ends_secrecy : EndsSecrecy
 ends_secrecy bytes other s at exit exit' out out' errors errors' d a b = runs_alike (EndsTexts s at) (EndsHalts s at) (inventory_at s bytes) (inventory_at s other) exit exit' out out' errors errors' (one_ends s at) (alike_at s bytes other d) a b
 
-long_or_planned : {X : Type 0} (g : Forest) (s : ℕ) (text : List ℕ) → IsTooLong g s → IsPlanText g s text → X
-long_or_planned g s text a b =
-    let plan = b.best.least.plan in
-    let long = a.long plan b.best.least.in_order b.best.least.kept in
-    let few = b.best.few in
+long_or_best : {X : Type 0} (g : Forest) (s : ℕ) (rs : List Run) → IsTooLong g s → AreBest g s rs → X
+long_or_best g s rs a best =
+    let plan = best.least.plan in
+    let long = a.long plan best.least.in_order best.least.kept in
+    let few = best.few in
     let one : length (moments plan) ≡ length plan = length-map plan (λ (w : Wake). w.at) in
-    let two : length (moments plan) ≡ length (moments_of (all_wakes b.runs)) = ap length b.best.least.at_these in
-    let three = length_moments (all_wakes b.runs) in
+    let two : length (moments plan) ≡ length (moments_of (all_wakes rs)) = ap length best.least.at_these in
+    let three = length_moments (all_wakes rs) in
     absurd (omega (arith, long, few, one, two, three))
 
-long_or_pair : {X : Type 0} (g : Forest) (s : ℕ) (text : List ℕ) → IsTooLong g s → IsPairText g s text → X
-long_or_pair g s text a b = absurd (b.none a.some.0 a.some.1.0 a.some.1.1)
+long_or_none : {X : Type 0} (g : Forest) (s : ℕ) → IsTooLong g s → NoneKeeps g s → X
+long_or_none g s a none = absurd (none a.some.0 a.some.1.0 a.some.1.1)
 
 long_or_certified : (g : Forest) (s : ℕ) (exit : Exit) (text : List ℕ) → IsTooLong g s → IsCertified g s exit text → ⊥
-long_or_certified g s exits.Done text long is = long_or_planned g s text long is
-long_or_certified g s exits.Unkeepable text long is = long_or_pair g s text long is
+long_or_certified g s exits.Done text long is = long_or_best g s is.runs long is.best
+long_or_certified g s exits.Unkeepable text long is = long_or_none g s long is.none
 long_or_certified g s exits.Inventory text long is = is
 long_or_certified g s exits.CommandLine text long is = is
 long_or_certified g s exits.No text long is = is
@@ -209,6 +212,26 @@ one_plan s = record {
 
 pub plan_secrecy : PlanSecrecy
 plan_secrecy bytes other s exit exit' out out' errors errors' d a b = runs_alike (PlanTexts s) (PlanHalts s) (inventory_at s bytes) (inventory_at s other) exit exit' out out' errors errors' (one_plan s) (alike_at s bytes other d) a b
+
+long_or_dated : (g : Forest) (s : ℕ) (exit : Exit) (text : List ℕ) → IsTooLong g s → IsInDates g s exit text → ⊥
+long_or_dated g s exits.Done text long is = long_or_best g s is.runs long is.best
+long_or_dated g s exits.Unkeepable text long is = long_or_none g s long is.none
+long_or_dated g s exits.Inventory text long is = is
+long_or_dated g s exits.CommandLine text long is = is
+long_or_dated g s exits.No text long is = is
+long_or_dated g s exits.TooLong text long is = is
+long_or_dated g s exits.Device text long is = is
+long_or_dated g s exits.Memory text long is = is
+
+one_dated : (s : ℕ) → IsOne (PlanDatesTexts s) (PlanHalts s)
+one_dated s = record {
+  text = λ g e f t u forest a b. one_plan_in_dates g s e f t u a b;
+  reason = λ g x y a b. a.0 ∙ sym b.0;
+  apart = λ g e t x a b. long_or_dated g s e t b.1 a;
+}
+
+pub plan_dates_secrecy : PlanDatesSecrecy
+plan_dates_secrecy bytes other s exit exit' out out' errors errors' d a b = runs_alike (PlanDatesTexts s) (PlanHalts s) (inventory_at s bytes) (inventory_at s other) exit exit' out out' errors errors' (one_dated s) (alike_at s bytes other d) a b
 
 one_margin : (q : MarginQuery) → IsOne (MarginTexts q) (MarginHalts q)
 one_margin q = record {

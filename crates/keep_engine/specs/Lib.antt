@@ -4,6 +4,7 @@ pub mod EndsRun
 pub mod PlanRun
 pub mod ReachText
 pub mod ReachRun
+pub mod PlanDates
 pub mod ReachLaws
 pub mod Renewed
 pub mod MarginText

@@ -1,6 +1,6 @@
 -- Obeys: what each command of the program does with its files.
 -- Source: this project's own.
-use Rattle.std.specs.Prelude.{ℕ, List, string_bytes}
+use Rattle.std.specs.Prelude.{ℕ, Bool, true, false, List, string_bytes}
 use Rattle.keep_device.specs.Seen.{Change}
 use Rattle.keep_report.specs.declared.exit.Exit.{Exit}
 use Rattle.keep_engine.specs.declared.command.Command.{Command}
@@ -12,6 +12,7 @@ use Rattle.keep_engine.specs.EndsRun.{EndsRun}
 use Rattle.keep_engine.specs.From.{RunFrom}
 use Rattle.keep_files.specs.Files.{Files}
 use Rattle.keep_engine.specs.MarginRun.{MarginRun}
+use Rattle.keep_engine.specs.PlanDates.{PlanDatesRun}
 use Rattle.keep_engine.specs.PlanRun.{PlanRun}
 use Rattle.keep_engine.specs.ReachRun.{ReachRun}
 use Rattle.keep_engine.specs.RehearseFrom.{Rehearses}
@@ -19,16 +20,21 @@ use Rattle.keep_engine.specs.RehearseFrom.{Rehearses}
 -- the path of a command's inventory
 abbrev pub path_of : Command → List ℕ
 path_of (commands.Ends file start moments) = string_bytes file
-path_of (commands.Plan file start) = string_bytes file
+path_of (commands.Plan file start dates) = string_bytes file
 path_of (commands.Margin file query) = string_bytes file
 path_of (commands.Reach file start dates) = string_bytes file
 path_of (commands.Rehearse file start words) = string_bytes file
 path_of (commands.Check file certificate start) = string_bytes file
 
+-- a plan, as its certificate or in dates
+abbrev pub PlanIn : Bool → List ℕ → ℕ → Exit → Change → Change → Type 0
+PlanIn false bytes start exit out errors = PlanRun bytes start exit out errors
+PlanIn true bytes start exit out errors = PlanDatesRun bytes start exit out errors
+
 -- what it does over the bytes of that; `check` reads its certificate
 abbrev pub ObeysOver : Command → Files → List ℕ → Exit → Change → Change → Type 0
 ObeysOver (commands.Ends file start moments) files bytes exit out errors = EndsRun bytes start moments.items exit out errors
-ObeysOver (commands.Plan file start) files bytes exit out errors = PlanRun bytes start exit out errors
+ObeysOver (commands.Plan file start dates) files bytes exit out errors = PlanIn dates bytes start exit out errors
 ObeysOver (commands.Margin file query) files bytes exit out errors = MarginRun bytes query exit out errors
 ObeysOver (commands.Reach file start dates) files bytes exit out errors = ReachRun bytes start dates exit out errors
 ObeysOver (commands.Rehearse file start words) files bytes exit out errors = Rehearses bytes start words.items exit out errors

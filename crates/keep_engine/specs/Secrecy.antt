@@ -12,6 +12,7 @@ use Rattle.keep_engine.specs.declared.margin.MarginQuery.{MarginQuery}
 use Rattle.keep_engine.specs.MarginRun.{MarginRun}
 use Rattle.keep_report.specs.Told.{Reports}
 use Rattle.keep_report.specs.Sent.{IsUntouched}
+use Rattle.keep_engine.specs.PlanDates.{PlanDatesRun}
 use Rattle.keep_engine.specs.PlanRun.{PlanRun}
 use Rattle.keep_engine.specs.ReachRun.{ReachRun}
 use Rattle.keep_engine.specs.RehearseFrom.{Rehearses}
@@ -58,6 +59,11 @@ abbrev pub PlanSecrecy : Type 0
 PlanSecrecy =
     (bytes other : List ℕ) (s : ℕ) (exit exit' : Exit) (out out' errors errors' : Change) → DifferInSecrets bytes other →
     PlanRun bytes s exit out errors → PlanRun other s exit' out' errors' → RunAlike exit exit' out out' errors errors'
+
+abbrev pub PlanDatesSecrecy : Type 0
+PlanDatesSecrecy =
+    (bytes other : List ℕ) (s : ℕ) (exit exit' : Exit) (out out' errors errors' : Change) → DifferInSecrets bytes other →
+    PlanDatesRun bytes s exit out errors → PlanDatesRun other s exit' out' errors' → RunAlike exit exit' out out' errors errors'
 
 abbrev pub MarginSecrecy : Type 0
 MarginSecrecy =

@@ -2,13 +2,14 @@ ghost use Rattle.std.specs.Prelude.{◌≡◌};
 ghost use Rattle.keep_report.specs.Exits.{exit_of, stop_of_input};
 ghost use Rattle.keep_report.specs.Told.{Reports};
 ghost use Rattle.keep_engine.specs.Running.{line_of};
-ghost use Rattle.keep_engine.specs.Obeys.{Obeys, ObeysOver, path_of};
+ghost use Rattle.keep_engine.specs.Obeys.{Obeys, ObeysOver, PlanIn, path_of};
 
 use crate::check::run_check;
 use crate::deliver::PROGRAM;
 use crate::ends::run_ends;
 use crate::margin::{MarginQuery, run_margin};
 use crate::plan::run_plan;
+use crate::plan_dates::run_plan_dates;
 use crate::reach::run_reach;
 use crate::rehearse::rehearse;
 use keep_cert::MOST_CERTIFICATE;
@@ -28,10 +29,11 @@ pub enum Command {
         start: Moment,
         moments: Vec<Moment>,
     },
-    /// The plan of an inventory from a start on.
+    /// The plan of an inventory from a start on: its certificate, or the same in dates, for people.
     Plan {
         file: String,
         start: Moment,
+        dates: bool,
     },
     /// The widest margin of an inventory for so many wake-ups.
     Margin {
@@ -60,7 +62,7 @@ pub enum Command {
 
 impl Command {
     /// The path of its inventory.
-    fn inventory(&self) -> &str
+    pub fn inventory(&self) -> &str
         ensures { result.now ≡ path_of self.now }
     {
         match self {
@@ -74,7 +76,7 @@ impl Command {
     }
 }
 
-/// Does what a command asks: [`run_ends`], [`run_plan`], [`run_margin`], [`run_reach`], [`run_rehearse`](keep_run::run_rehearse) or [`run_check`] over the bytes of its files.
+/// Does what a command asks: [`run_ends`], [`run_plan`], [`run_plan_dates`], [`run_margin`], [`run_reach`], [`run_rehearse`](keep_run::run_rehearse) or [`run_check`] over the bytes of its files.
 ///
 /// The inventory is read first, at most [`MOST_INVENTORY`] bytes, and for `check` the certificate after it, at most
 /// [`MOST_CERTIFICATE`]. Exit 6, with the line of a read: a file was not read to its end, or is longer. Exit 7: memory for
@@ -109,7 +111,9 @@ fn obey_over<I: Inputs, W: Sink, E: Sink>(
         Command::Ends { start, moments, .. } => {
             run_ends(alloc, inventory, *start, moments, out, errors)
         }
-        Command::Plan { start, .. } => run_plan(alloc, inventory, *start, out, errors),
+        Command::Plan { start, dates, .. } => {
+            plan_in(alloc, inventory, *start, *dates, out, errors)
+        }
         Command::Margin { query, .. } => run_margin(alloc, inventory, query, out, errors),
         Command::Reach { start, dates, .. } => {
             run_reach(alloc, inventory, *start, *dates, out, errors)
@@ -125,6 +129,24 @@ fn obey_over<I: Inputs, W: Sink, E: Sink>(
             Ok(text) => run_check(alloc, inventory, text.list(), *start, out, errors),
             Err(fault) => tell_unread(fault, errors),
         },
+    }
+}
+
+/// The plan of the bytes of an inventory, as its certificate or in dates.
+fn plan_in<W: Sink, E: Sink>(
+    alloc: Global,
+    inventory: &[u8],
+    start: Moment,
+    dates: bool,
+    out: &mut W,
+    errors: &mut E,
+) -> Exit
+    ensures { PlanIn dates inventory.now start result (⟦<W as Watched>⟧.change out.old out.new) (⟦<E as Watched>⟧.change errors.old errors.new) }
+{
+    if dates {
+        run_plan_dates(alloc, inventory, start, out, errors)
+    } else {
+        run_plan(alloc, inventory, start, out, errors)
     }
 }
 

@@ -1,9 +1,10 @@
 ghost use Rattle.keep_engine.specs.EndsText.{OneEndsText};
 ghost use Rattle.keep_engine.specs.Laws.{OneCheckText, OnePlanText, OwnCertificateLaw, OwnTextLaw};
 ghost use Rattle.keep_engine.specs.MarginText.{OneMarginText};
+ghost use Rattle.keep_engine.specs.PlanDates.{OnePlanInDates};
 ghost use Rattle.keep_engine.specs.ReachLaws.{BoundLaw, UntilLaw, WhateverIsNeeded};
 ghost use Rattle.keep_engine.specs.ReachText.{OneReachText};
-ghost use Rattle.keep_engine.specs.Secrecy.{CheckSecrecy, EndsSecrecy, MarginSecrecy, PlanSecrecy, ReachSecrecy, RehearseSecrecy};
+ghost use Rattle.keep_engine.specs.Secrecy.{CheckSecrecy, EndsSecrecy, MarginSecrecy, PlanDatesSecrecy, PlanSecrecy, ReachSecrecy, RehearseSecrecy};
 
 /// The law that own certificates are accepted. What `print` writes of a decision as `plan` gave it, with the start it was
 /// planned from, is read back over the same forest, and `keep_check::check` can answer nothing but Yes. And what the command
@@ -16,13 +17,14 @@ pub fn own_certificates_are_accepted()
 {}
 
 /// The law that what is written tells nothing but names, numbers and moments: of two inventories with one forest, as those
-/// that differ in the tokens' values and the lease ids alone, `ends`, `plan`, `margin`, `reach` and `check` each write one text
-/// with one exit.
+/// that differ in the tokens' values and the lease ids alone, `ends`, `plan`, in dates too, `margin`, `reach` and `check` each
+/// write one text with one exit.
 /// So `check` says `yes` exactly where the text is a certificate that gets Yes: for no text is there a right `yes` and a
 /// right other line.
 pub fn no_secret_shows()
     ensures ends { OneEndsText }
     ensures plan { OnePlanText }
+    ensures plan_dates { OnePlanInDates }
     ensures margin { OneMarginText }
     ensures reach { OneReachText }
     ensures check { OneCheckText }
@@ -35,6 +37,7 @@ pub fn no_secret_shows()
 pub fn secrets_change_no_run()
     ensures ends { EndsSecrecy }
     ensures plan { PlanSecrecy }
+    ensures plan_dates { PlanDatesSecrecy }
     ensures margin { MarginSecrecy }
     ensures reach { ReachSecrecy }
     ensures check { CheckSecrecy }

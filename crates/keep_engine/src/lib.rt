@@ -21,6 +21,8 @@ mod margin_text;
 mod no_margin;
 mod outcome;
 mod plan;
+mod plan_dates;
+mod plan_dates_text;
 mod plan_text;
 mod reach;
 mod reach_text;
@@ -43,4 +45,5 @@ pub use laws::{
 pub use live::keep_alive;
 pub use margin::{MarginQuery, run_margin};
 pub use plan::run_plan;
+pub use plan_dates::run_plan_dates;
 pub use reach::run_reach;

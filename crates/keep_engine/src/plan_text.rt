@@ -41,7 +41,7 @@ fn certificate(alloc: Global, forest: &Forest, start: Moment) -> Result<Outcome,
 }
 
 /// The exit that goes with a decision.
-fn decided_exit(decision: &Decision) -> Exit
+pub(crate) fn decided_exit(decision: &Decision) -> Exit
     ensures { result ≡ decided_exit decision.now }
 {
     match decision {

@@ -146,7 +146,7 @@ fn need_word(alloc: Global, dates: bool, need: u64) -> Result<Text, Stop>
 }
 
 /// A moment as a number, or as a date where that is asked for and it has one.
-fn moment_word(alloc: Global, dates: bool, seconds: u64) -> Result<Text, Stop>
+pub(crate) fn moment_word(alloc: Global, dates: bool, seconds: u64) -> Result<Text, Stop>
     ensures word { IfOk result (λ word. IsMomentWord dates seconds word) }
     ensures memory { IfErr result (λ stop. stop ≡ Memory) }
 {

@@ -1,9 +1,10 @@
 //! Connections of the system, which tells by `mio` when they can go on.
-ghost use Rattle.std.specs.Prelude.{◌≡◌, IfOk};
+ghost use Rattle.std.specs.Prelude.{◌≡◌, [], IfOk, max, min};
 ghost use Rattle.keep_exchange.specs.Abreast.{port_of};
 ghost use Rattle.keep_exchange.specs.Sockets.{IsHere};
 ghost use Rattle.keep_lanes.specs.Tries.{IsTried};
 
+use crate::lanes::Lanes;
 use crate::line::{Line, Tried, Wires};
 use crate::running::LanesOver;
 use keep_device::Place;
@@ -20,15 +21,20 @@ use std::time::{Clock, Duration};
 pub type SocketLanes<'a, R> = LanesOver<SocketWires<'a, R>>;
 
 impl<'a, R: Net + Clock> LanesOver<SocketWires<'a, R>> {
-    /// So many lanes, at most 32 and at least one, to the broker that listens there, with time-outs of so many seconds. It
-    /// connects to nothing yet.
+    /// So many lanes, at most 32 and at least one, to the broker that listens there, with time-outs of so many seconds. Nothing is
+    /// out, and it connects to nothing yet. The only error is want of memory.
     pub fn over_sockets(
         alloc: Global,
         rt: &'a R,
         place: Place<'a>,
         seconds: u32,
         width: u32,
-    ) -> Result<SocketLanes<'a, R>, AllocError> {
+    ) -> Result<SocketLanes<'a, R>, AllocError>
+        ensures none { IfOk result (λ lanes. ⟦<LanesOver<SocketWires<'a, R>> as Lanes>⟧.out lanes ≡ []) }
+        ensures width { IfOk result (λ lanes. ⟦<LanesOver<SocketWires<'a, R>> as Lanes>⟧.width lanes ≡ max 1 (min width 32)) }
+        ensures seconds { IfOk result (λ lanes. ⟦<LanesOver<SocketWires<'a, R>> as Lanes>⟧.seconds lanes ≡ seconds) }
+        ensures port { IfOk result (λ lanes. ⟦<LanesOver<SocketWires<'a, R>> as Lanes>⟧.host_port lanes ≡ port_of place.entry) }
+    {
         let wires = SocketWires::new(alloc, rt, place)?;
         Ok(LanesOver::new(alloc, wires, seconds, width))
     }

@@ -26,10 +26,8 @@ pub mod LiveTicks
 pub mod SentTicks
 pub mod LookedUp
 pub mod LiveOpening
-pub mod Cut
 pub mod LineByLine
 pub mod ToldRounds
-pub mod EventsRead
 pub mod LiveListening
 pub mod AlikeRows
 pub mod AlikeSteps

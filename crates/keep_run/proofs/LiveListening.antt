@@ -1,11 +1,12 @@
 -- LiveListening: a live run that was opened and then listened, and what it tells of its end: for `live` and `run_live`.
-use Rattle.std.proofs.Common.{◌≡◌, ℕ, inl, inr, Bool, List, ◌++◌, Option, Result, Ok, Err, ◌+◌, codes, length, refl, sym, subst, take}
-use Rattle.std.specs.Io.KnownBytes.{Appends}
+use Rattle.std.proofs.Common.{◌≡◌, ℕ, inl, inr, Bool, List, ◌++◌, Option, Result, Ok, Err, ◌+◌, codes, length, min, refl, sym, subst, take, ◌==◌, ◌≤◌, ◌∙◌, ap, arith, length-append, IsTrue}
 use Rattle.std.specs.Result.{IsErr, IsErrAnd}
-use Rattle.std.proofs.lemmas.List.{append_assoc}
+use Rattle.std.proofs.lemmas.List.{length-take}
+use Rattle.std.proofs.lemmas.List.Splits.{length-slice_split}
+use Rattle.std.proofs.lemmas.List.Sums.{count_by-le-length}
+use Rattle.std.specs.List.{count_by}
 use Rattle.keep_device.specs.Seen.{Change, Seen, change}
 use Rattle.keep_core.specs.State.{State}
-use Rattle.keep_device.specs.Failures.{HasFailed}
 use Rattle.keep_exchange.specs.Exchanges.{Behind}
 use Rattle.keep_inventory.specs.Answers.{Fails}
 use Rattle.keep_inventory.specs.declared.fault.InvFault.{InvFault}
@@ -19,85 +20,33 @@ use Rattle.keep_report.specs.declared.stop.Stop.{Stop}
 use Rattle.keep_report.specs.declared.stop.Stop.TheVariants as stops
 use Rattle.keep_report.specs.Exits.{exit_of, stop_of_inventory}
 use Rattle.keep_report.specs.FaultLine.{fault_line}
-use Rattle.keep_report.specs.Sent.{IsAll}
 use Rattle.keep_report.specs.Told.{Reports}
-use Rattle.keep_run.specs.Listening.{Halts, HaveEnded, IsBrokenShort, IsCutShort, Listens, ListensTo}
+use Rattle.keep_lines.specs.Hearing.{IsBetween, counted}
+use Rattle.keep_lines.proofs.LineByLine.{listens_then}
+use Rattle.keep_words.specs.Pieces.{pieces}
+use Rattle.keep_run.specs.declared.live.listening.TheConstants.{MOST_EVENTS}
+use Rattle.keep_run.specs.Listening.{Listens, ListensTo, hearing, limits}
+use Rattle.keep_run.specs.StopsAfter.{stops_after}
 use Rattle.keep_run.specs.LiveRun.{EndsEarly, HasListened, IsOpened, LiveRun, LivesTo}
 use Rattle.keep_run.specs.Stops.{both}
 use Rattle.keep_run.specs.Closed.{World}
 use Rattle.keep_run.proofs.Agents.{as_begun}
-use Rattle.keep_run.proofs.Written.{appends_then}
 
--- ---- what listening comes to, after the lines of the opening
+-- ---- the number of a line
 
-module _ (port : ℕ) (cs : List (List ℕ)) (read : List ℕ) (number : ℕ) (mid : World) (behind : List (List ℕ)) (before text : List ℕ) (new : World) (fed : Change) (a b c : Seen) (k : Bool)
-    (first : Appends a.output.written b.output.written before) (kept : b.failed_calls ≡ a.failed_calls) where
-  cut_short : (line : List ℕ) (old : World) → IsCutShort port cs old line new text (change k b c) → IsCutShort port cs old line new (before ++ text) (change k a c)
-  cut_short line old h =
-      let cut = h.1.1 in
-      let rest = cut.told ++ take cut.n cut.own in (
-        h.0,
-        (
-          h.1.0,
-          record {
-            told = cut.told;
-            own = cut.own;
-            up_to = cut.up_to;
-            n = cut.n;
-            front = subst (Appends a.output.written c.output.written) (sym (append_assoc before text rest)) (appends_then _ _ _ before (text ++ rest) first cut.front);
-          },
-        ),
-      )
+most_taken : (n : ℕ) (read : List ℕ) → length (take n read) ≤ n
+most_taken n read = let l : length (take n read) ≡ min n (length read) = length-take n read in omega (arith, l)
 
-  broken_short : (line : List ℕ) (old : World) → IsBrokenShort port cs old line new text (change k b c) → IsBrokenShort port cs old line new (before ++ text) (change k a c)
-  broken_short line old h =
-      let broken = h.1.1 in (
-        h.0,
-        (
-          h.1.0,
-          record {
-            t = broken.t;
-            is = broken.is;
-            told = broken.told;
-            mid = broken.mid;
-            others = broken.others;
-            so_far = broken.so_far;
-            written = subst (Appends a.output.written c.output.written) (sym (append_assoc before text broken.told)) (appends_then _ _ _ before (text ++ broken.told) first broken.written);
-            left = broken.left;
-          },
-        ),
-      )
-
-  whole : IsAll text (change k b c) → IsAll (before ++ text) (change k a c)
-  whole all = (appends_then _ _ _ before text first all.0, all.1)
-
-  halts :
-      (old : World) (stop : Stop) (HasEnded : Type 0) → Halts port cs number old behind text stop new HasEnded (change k b c) →
-      Halts port cs number old behind (before ++ text) stop new HasEnded (change k a c)
-  halts old (stops.Line x) HasEnded h = (h.0, (h.1.0, (h.1.1.0, whole h.1.1.1)))
-  halts old stops.TooLong HasEnded h = (h.0, (h.1.0, (h.1.1.0, whole h.1.1.1)))
-  halts old stops.Write HasEnded h = (subst (λ x. HasFailed x c.failed_calls) kept h.0, (h.1.0, (h.1.1.0, cut_short h.1.0 old h.1.1.1)))
-  halts old stops.Memory HasEnded (inl h) = inl (h.0, appends_then _ _ _ before text first h.1)
-  halts old stops.Memory HasEnded (inr h) =
-      inr (h.0, (h.1.0, elim h.1.1 [ inl broken ↦ inl (broken_short h.0 old broken) | inr cut ↦ inr (cut.0, cut_short h.0 old cut.1) ]))
-  halts old stops.Read HasEnded h = absurd h
-  halts old (stops.Inventory fault) HasEnded h = absurd h
-  halts old (stops.Moments fault) HasEnded h = absurd h
-  halts old (stops.FaultWord x) HasEnded h = absurd h
-  halts old (stops.Broker name) HasEnded h = absurd h
-
-  pub listens_to :
-      (result : Result (Unit {0}) Stop) → ListensTo port cs read number mid behind text result new fed (change k b c) → ListensTo port cs read number mid behind (before ++ text) result new fed (change k a c)
-  listens_to (Ok u) h = (h.0, (h.1.0, (h.1.1.0, (h.1.1.1.0, whole h.1.1.1.1))))
-  listens_to (Err stops.Read) h = (h.0, (h.1.0, (h.1.1.0, (h.1.1.1.0, (h.1.1.1.1.0, whole h.1.1.1.1.1)))))
-  listens_to (Err stops.Memory) h = (h.0, halts mid stops.Memory (HaveEnded read fed) h.1)
-  listens_to (Err stops.Write) h = (h.0, halts mid stops.Write (HaveEnded read fed) h.1)
-  listens_to (Err stops.TooLong) h = (h.0, halts mid stops.TooLong (HaveEnded read fed) h.1)
-  listens_to (Err (stops.Line x)) h = (h.0, halts mid (stops.Line x) (HaveEnded read fed) h.1)
-  listens_to (Err (stops.Inventory fault)) h = (h.0, halts mid (stops.Inventory fault) (HaveEnded read fed) h.1)
-  listens_to (Err (stops.Moments fault)) h = (h.0, halts mid (stops.Moments fault) (HaveEnded read fed) h.1)
-  listens_to (Err (stops.FaultWord x)) h = (h.0, halts mid (stops.FaultWord x) (HaveEnded read fed) h.1)
-  listens_to (Err (stops.Broker name)) h = (h.0, halts mid (stops.Broker name) (HaveEnded read fed) h.1)
+-- there are no more lines than bytes
+few_lines : (read : List ℕ) (lines behind : List (List ℕ)) → pieces 10 (take MOST_EVENTS read) ≡ lines ++ behind → counted (length lines + 1) ≡ length lines + 1
+unfolding pieces
+few_lines read lines behind parts =
+    let p : ℕ → Bool = λ c. c == 10 in
+    let all : length (lines ++ behind) ≡ count_by p (take MOST_EVENTS read) + 1 = ap length (sym parts) ∙ length-slice_split p (take MOST_EVENTS read) in
+    let both' : length (lines ++ behind) ≡ length lines + length behind = length-append lines behind in
+    let feeds : count_by p (take MOST_EVENTS read) ≤ length (take MOST_EVENTS read) = count_by-le-length p (take MOST_EVENTS read) in
+    let most : length (take MOST_EVENTS read) ≤ MOST_EVENTS = most_taken MOST_EVENTS read in
+    omega (arith, all, both', feeds, most)
 
 -- ---- nothing was read
 
@@ -143,9 +92,9 @@ module _ (port : ℕ) (bytes : List ℕ) (start : ℕ) (before : Option Behind) 
   -- it listened
   pub listened_lives :
       (now : ℕ) (v : Served) (cs : List (List ℕ)) (keeper : State) (middle : Option Behind) (a b c : Seen) (k : Bool) (result : Result (Unit {0}) Stop) (final : World) (fed : Change) → read_served bytes ≡ Ok v → now ≡ port →
-      IsOpened port start (marks v.notes) (record { inventory = v.inventory; behind = before }) cs keeper middle (change k a b) → Listens now cs (both keeper middle) result final fed (change k b c) →
+      IsOpened port start (marks v.notes) (record { inventory = v.inventory; behind = before }) cs keeper middle (change k a b) → Listens now cs (both keeper middle) result final fed (change k b c) → (IsBetween result → IsTrue c.output.is_flushed) →
       LivesTo port bytes start before result fed (change k a c) final.behind
-  listened_lives now v cs keeper middle a b c k result final fed read same o listens = by_result result has where
+  listened_lives now v cs keeper middle a b c k result final fed read same o listens flushed = by_result result has where
     has : HasListened port start (marks v.notes) (record { inventory = v.inventory; behind = before }) result final fed (change k a c)
     has =
         let h : Listens port v.inventory.credentials (both keeper middle) result final fed (change k b c) = as_begun same o.same (λ x ds. Listens x ds (both keeper middle) result final fed (change k b c)) listens in
@@ -155,12 +104,18 @@ module _ (port : ℕ) (bytes : List ℕ) (start : ℕ) (before : Option Behind) 
           reads = h.reads;
           lines = h.lines;
           behind = h.behind;
-          cut = h.heard.cut;
+          cut = h.heard.parts;
           prompt = h.prompt;
           mid = h.mid;
           text = o.text ++ h.text;
           run = record { opening = both keeper middle; before = o.text; opened = o.opened; spoken = h.text; heard = h.heard.heard; text_is = refl };
-          ends = listens_to port v.inventory.credentials h.read (length h.lines + 1) h.mid h.behind o.text h.text final fed a b c k o.sent.0 o.kept result h.ends;
+          ends =
+              subst (λ n. ListensTo port v.inventory.credentials h.read n h.mid h.behind (o.text ++ h.text) result final fed (change k a c)) (few_lines h.read h.lines h.behind h.heard.parts)
+              (
+              listens_then World (hearing port v.inventory.credentials) (stops_after port v.inventory.credentials) (change k a b) (change k b c) refl limits h.read (counted (length h.lines + 1)) h.mid h.behind o.text h.text result final fed
+              (inl o.sent, o.kept) h.ends
+              );
+          flushed = flushed;
         }
 
     by_result : (u : Result (Unit {0}) Stop) → HasListened port start (marks v.notes) (record { inventory = v.inventory; behind = before }) u final fed (change k a c) → LivesTo port bytes start before u fed (change k a c) final.behind
@@ -173,7 +128,7 @@ module _ (port : ℕ) (bytes : List ℕ) (start : ℕ) (before : Option Behind) 
     by_result (Err (stops.Broker name)) h = (v, read, inr (final, h, refl))
     by_result (Err (stops.Moments fault)) h = (v, read, inr (final, h, refl))
     by_result (Err (stops.FaultWord i)) h = (v, read, inr (final, h, refl))
-    by_result (Err (stops.Inventory fault)) h = absurd h.ends.1
+    by_result (Err (stops.Inventory fault)) h = absurd h.ends.1.1.1
 
   -- ---- by exit
 

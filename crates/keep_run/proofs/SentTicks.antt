@@ -13,7 +13,7 @@ use Rattle.keep_report.specs.declared.stop.Stop.{Stop}
 use Rattle.keep_report.specs.declared.stop.Stop.TheVariants as stops
 use Rattle.keep_report.specs.Sent.{Sends}
 use Rattle.keep_run.specs.Closed.{World, asked_in, asks_some}
-use Rattle.keep_run.specs.code.LineByLine.{IsSent}
+use Rattle.keep_run.specs.code.Telling.{IsSent}
 use Rattle.keep_run.specs.Hearing.{HearsTo, IsBrokenOff, IsCutOff, IsHeard, IsHeardUpTo, IsNeeded, IsOverlong, MayWant, last_line, next_line}
 use Rattle.keep_run.specs.declared.live.event_line.Heard.{Heard}
 use Rattle.keep_run.specs.declared.live.event_line.Heard.TheVariants as heards
@@ -22,7 +22,8 @@ use Rattle.keep_run.specs.code.Telling.{IsRoundBroken, IsRoundCut, StopsNeed, Te
 use Rattle.keep_run.specs.code.Playing.{Ticks}
 use Rattle.keep_run.specs.Stops.{both}
 use Rattle.keep_run.proofs.Written.{untouched_appends}
-use Rattle.keep_run.proofs.LineByLine.{all_then, appends, joined, sent_then}
+use Rattle.keep_lines.specs.Hearing.{joined}
+use Rattle.keep_run.proofs.LineByLine.{all_then, appends, sent_then}
 use Rattle.keep_run.proofs.ToldRounds.{so_far}
 use Rattle.keep_run.proofs.LiveTicks.{last_under_way, none_asked, one_more, quiet_heard, round_heard, some_answered}
 

@@ -12,13 +12,14 @@ use Rattle.keep_exchange.specs.Exchanges.{Behind}
 use Rattle.keep_report.specs.declared.stop.Stop.{Stop}
 use Rattle.keep_report.specs.declared.stop.Stop.TheVariants as stops
 use Rattle.keep_run.specs.Closed.{Exchanged, World, told_next}
-use Rattle.keep_run.specs.code.LineByLine.{IsSent}
+use Rattle.keep_run.specs.code.Telling.{IsSent}
 use Rattle.keep_run.specs.code.Playing.{Answers, AnswersAll}
 use Rattle.keep_run.specs.Hearing.{IsAskLeft}
 use Rattle.keep_run.specs.Stops.{both}
 use Rattle.keep_run.specs.code.Telling.{IsOneCut, IsRoundBroken, IsRoundCut, IsRoundSoFar, IsRoundUpTo, TellsOne, TellsRound}
 use Rattle.keep_run.specs.Text.{inventory_with}
-use Rattle.keep_run.proofs.LineByLine.{joined, sent_then}
+use Rattle.keep_lines.specs.Hearing.{joined}
+use Rattle.keep_run.proofs.LineByLine.{sent_then}
 use Rattle.keep_run.proofs.Loops.{answer_more}
 use Rattle.keep_run.proofs.Rounds.{answers_more}
 use Rattle.keep_run.proofs.Texts.{same_answer_text}

@@ -4,7 +4,7 @@ use Rattle.std.specs.Prelude.{ℕ, ◌==◌, ◌<◌, List, [], ◌∷◌, Optio
 use Rattle.keep_moment.specs.declared.moment.TheConstants.{LAST}
 use Rattle.keep_run.specs.declared.live.event_line.Heard.{Heard}
 use Rattle.keep_run.specs.declared.live.event_line.Heard.TheVariants.{Tick, Need, Unknown}
-use Rattle.keep_run.specs.declared.live.event_line.TheConstants.{MOST_LINE}
+use Rattle.keep_lines.specs.declared.limits.TheConstants.{MOST_LINE}
 use Rattle.keep_tree.specs.Forest.{Forest, index_named}
 use Rattle.keep_words.specs.Numbers.{number_up_to}
 use Rattle.keep_words.specs.Pieces.{words}

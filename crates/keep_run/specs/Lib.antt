@@ -12,6 +12,7 @@ pub mod Agent
 pub mod Hearing
 pub mod Looking
 pub mod Listening
+pub mod StopsAfter
 pub mod LiveRun
 pub mod Alike
 pub mod Secrecy

@@ -1,7 +1,7 @@
 -- LiveRun: the live run: each entry is looked up, the keeper is planned from the start, and event lines are heard; and how it
 -- ends.
 -- Source: this project's own.
-use Rattle.std.specs.Prelude.{◌≡◌, ℕ, ◌+◌, ◌⊎◌, Bool, List, ◌++◌, Option, Result, Ok, Err, codes, length, take}
+use Rattle.std.specs.Prelude.{◌≡◌, ℕ, ◌+◌, ◌⊎◌, Bool, List, ◌++◌, Option, Result, Ok, Err, codes, length, take, Some, IsTrue}
 use Rattle.std.specs.Io.KnownBytes.{Consumes}
 use Rattle.keep_device.specs.Seen.{Change, ReceivesFront}
 use Rattle.keep_core.specs.Replan.{Replan, ReplanTooLong}
@@ -12,6 +12,8 @@ use Rattle.keep_exchange.specs.Exchanges.{Behind}
 use Rattle.keep_inventory.specs.Inventory.{read_served}
 use Rattle.keep_inventory.specs.Served.{Served}
 use Rattle.keep_start.specs.Start.{from_start, marks}
+use Rattle.keep_lines.specs.Hearing.{IsBetween}
+use Rattle.keep_lines.specs.Listening.{IsPrompt}
 use Rattle.keep_report.specs.declared.exit.Exit.{Exit}
 use Rattle.keep_report.specs.declared.exit.Exit.TheVariants as exits
 use Rattle.keep_report.specs.declared.stop.Stop.{Stop}
@@ -22,7 +24,7 @@ use Rattle.keep_report.specs.Sent.{IsAll, IsUntouched}
 use Rattle.keep_report.specs.Told.{Reports}
 use Rattle.keep_run.specs.Closed.{World, taken}
 use Rattle.keep_run.specs.declared.live.listening.TheConstants.{MOST_EVENTS, MOST_EVENT_READS}
-use Rattle.keep_run.specs.Listening.{AreHeard, IsPrompt, ListensTo}
+use Rattle.keep_run.specs.Listening.{AreHeard, ListensTo}
 use Rattle.keep_run.specs.Looking.{AreLookedUp, IsCut, IsLeft, IsSaid, IsUnlooked, Looked, first, looked_text}
 use Rattle.keep_run.specs.Stops.{both}
 use Rattle.keep_run.specs.Text.{short_lines}
@@ -92,11 +94,12 @@ pub record HasListened (port start : ℕ) (always : List Bool) (old : Looked) (r
   pub lines : List (List ℕ)
   pub behind : List (List ℕ)
   pub cut : pieces 10 (take MOST_EVENTS read) ≡ lines ++ behind
-  pub prompt : IsPrompt read lines
+  pub prompt : IsPrompt (Some MOST_EVENTS) read lines
   pub mid : World
   pub text : List ℕ
   pub run : IsLiveRun port start always old lines mid text
   pub ends : ListensTo port old.inventory.credentials read (length lines + 1) mid behind text result new fed out
+  pub flushed : IsBetween result → IsTrue out.new.output.is_flushed
 
 -- ---- how it ends
 

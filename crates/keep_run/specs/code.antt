@@ -1,3 +1,2 @@
 pub mod Playing
 pub mod Telling
-pub mod LineByLine

@@ -1,9 +1,9 @@
 //! Laws of runs: what a rehearsal is where the broker has no faults, how any run goes on and ends, and that no secret changes
 //! what a live run says.
 ghost use Rattle.std.specs.Prelude.{◌≡◌};
-ghost use Rattle.keep_run.specs.declared.live.event_line.TheConstants.{MOST_LINE};
+ghost use Rattle.keep_lines.specs.declared.limits.TheConstants.{MOST_LINE, ROOM};
 ghost use Rattle.keep_run.specs.declared.rehearse.fault_words.TheConstants.{MOST_NUMBER};
-ghost use Rattle.keep_run.specs.declared.live.listening.TheConstants.{EVENT_ROOM, MOST_EVENTS, MOST_EVENT_READS};
+ghost use Rattle.keep_run.specs.declared.live.listening.TheConstants.{MOST_EVENTS, MOST_EVENT_READS};
 ghost use Rattle.keep_run.specs.declared.rehearse.playing.TheConstants.{MOST_WAKES};
 ghost use Rattle.keep_run.specs.Laws.{AnswersTakenLaw, LeastLaw, PlannedRunLaw, RehearsalLaw, SoFarLaw, StandsLaw};
 ghost use Rattle.keep_run.specs.PlannedRehearsal.{PlannedRehearsalLaw};
@@ -98,5 +98,5 @@ pub fn limits_of_live_runs()
     ensures line { MOST_LINE ≡ 256 }
     ensures events { MOST_EVENTS ≡ 1048576 }
     ensures reads { MOST_EVENT_READS ≡ 65536 }
-    ensures room { EVENT_ROOM ≡ 4096 }
+    ensures room { ROOM ≡ 4096 }
 {}

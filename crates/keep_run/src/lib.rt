@@ -9,7 +9,7 @@
 //! There are three rooms: `agent` has who asks and what one answer comes to, `rehearse` the wake-ups and the FAULT words, and
 //! `live` the lookups and the event lines. Begin with `specs/Closed.antt` and `specs/Text.antt`, then `rehearse`. Of the live
 //! run `specs/LiveRun.antt` says the whole, over its lookups (`specs/Looking.antt`), its event lines one after another
-//! (`specs/Listening.antt`) and what one of them comes to (`specs/Hearing.antt`, [`hear`]).
+//! (`specs/Listening.antt`, over crate keep_lines) and what one of them comes to (`specs/Hearing.antt`, [`hear`]).
 #![tactic(auto)]
 
 mod agent;
@@ -20,9 +20,9 @@ mod rehearse;
 pub use agent::Agent;
 pub use agent::lines::push_numbered;
 pub use agent::reply::event_from;
-pub use live::event_line::{Heard, MOST_LINE, heard_in};
+pub use live::event_line::{Heard, heard_in};
 pub use live::hearing::hear;
-pub use live::listening::{EVENT_ROOM, MOST_EVENT_READS, MOST_EVENTS};
+pub use live::listening::{MOST_EVENT_READS, MOST_EVENTS};
 pub use live::run_live;
 pub use rehearse::playing::MOST_WAKES;
 pub use rehearse::{Script, run_rehearse};

@@ -1,277 +1,306 @@
--- Alike watches: of two watches that are alike, over brokers whose tables differ in credentials alone, one line makes the same text,
+-- Alike watches: of two watches that are alike, over lanes in memory whose brokers differ in credentials alone, one line makes the same text,
 -- and leaves them alike. For the law that secrets change no answer.
-use Rattle.std.proofs.Common.{◌≡◌, ◌∙◌, ℕ, ◌/◌, ◌-◌, ◌<◌, Bool, true, false, is_some, List, [], ◌∷◌, ◌++◌, Option, Some, All, length, map, option_map, refl, sym, ap, ap₂, subst}
-use Rattle.std.proofs.lemmas.List.Elements.{All-head, All-tail}
-use Rattle.std.specs.List.{AllZip}
-use Rattle.keep_exchange.specs.Abreast as abreast
-use Rattle.keep_exchange.specs.Abreast.{AreAnswered, IsAnswered}
-use Rattle.keep_exchange.specs.Requests.{lookup_of, request_of}
+use Rattle.std.proofs.Common.{◌≡◌, ◌≢◌, ◌∙◌, ℕ, ◌/◌, ◌+◌, ◌-◌, ◌<◌, ◌≤◌, ◌==◌, zero, suc, Bool, true, false, cond, is_some, List, [], ◌∷◌, ◌++◌, Option, Some, None, IfSome, Ok, All, get_or, length, map, refl, sym, ap, ap₂, subst, arith, inl, inr}
+use Rattle.std.proofs.lemmas.Bool.{cases_Bool, cond-false, cond-true}
 use Rattle.keep_inventory.specs.Inventories.{IsInventory, Inventory}
 use Rattle.keep_inventory.specs.declared.terms.Terms.{Terms}
-use Rattle.keep_run.specs.Alike.{AreDated, AreTablesAlike, IsKept}
-use Rattle.keep_run.proofs.AlikeKept.{kept_itself, renewals_both}
-use Rattle.keep_run.proofs.AlikeLooks.{looks_both}
-use Rattle.keep_tree.specs.Forest.{Forest, entry_at}
-use Rattle.keep_watch.specs.declared.command.Command.{Command}
-use Rattle.keep_watch.specs.declared.command.Command.TheVariants.{Ask, Wait, Taken}
-use Rattle.keep_watch.specs.declared.command.Output.{Output}
-use Rattle.keep_watch.specs.declared.command.Patience.{Patience}
-use Rattle.keep_watch.specs.declared.event.Event.{Event}
-use Rattle.keep_watch.specs.declared.event.Event.TheVariants as events
-use Rattle.keep_watch.specs.declared.event.Operation.{Operation}
-use Rattle.keep_watch.specs.declared.event.Operation.TheVariants.{Look, Renew}
-use Rattle.keep_watch.specs.declared.event.Request.{Request}
-use Rattle.keep_watch.specs.declared.readings.Next.{Next}
-use Rattle.keep_watch.specs.State.{State}
-use Rattle.keep_watching.specs.Answers.{answered, by_index}
-use Rattle.keep_watching.specs.Clocked.{IsAsked, IsClocked, IsCommanded, IsDone, IsWaited, Side, changed_line, clock_lines, next_there, said_after, short_lines, side}
-use Rattle.keep_watching.specs.Hears.{AreHeard, IsHeard, IsKnown, IsLineHeard, IsTurned}
+use Rattle.keep_lanes.specs.Out as lanes
+use Rattle.keep_lanes.specs.Out.{AreThere}
+use Rattle.keep_run.specs.Alike.{IsKept}
+use Rattle.keep_run.proofs.AlikeKept.{kept_itself}
+use Rattle.keep_tree.specs.Forest.{Forest}
+use Rattle.vault_json.specs.Laws.{LookedLeaseIsRead}
+use Rattle.watch_machine.specs.declared.command.Command.TheVariants.{Go}
+use Rattle.watch_machine.specs.declared.command.Output.{Output}
+use Rattle.watch_machine.specs.declared.command.Request.{Request}
+use Rattle.watch_machine.specs.declared.event.Event.{Event}
+use Rattle.watch_machine.specs.declared.event.Event.TheVariants as events
+use Rattle.watch_machine.specs.declared.event.Operation.{Operation}
+use Rattle.watch_machine.specs.declared.lanes.Out.{Out}
+use Rattle.watch_machine.specs.declared.notes.Notes.{Notes}
+use Rattle.watch_machine.specs.declared.readings.Next.{Next}
+use Rattle.watch_machine.specs.History.{Turn}
+use Rattle.watch_machine.specs.Press.{pressed}
+use Rattle.watch_machine.specs.Round.{asked_by}
+use Rattle.watch_machine.specs.Sending.{out_at}
+use Rattle.watch_machine.specs.State.{State, track_at}
+use Rattle.watch_machine.specs.Step.{readied}
+use Rattle.watch_machine.proofs.Cases.{of_value, value_is}
+use Rattle.keep_watching.specs.Alike.{AlikeWatchesLaw, AreBehindAlike, AreLanesAlike, AreSidesAlike, FreshAlikeLaw, inventory_of}
+use Rattle.keep_watching.specs.Answers.{out_of}
+use Rattle.keep_watching.specs.Clocked.{AreTakenOn, IsClocked, IsDone, IsWaited, Side, changed_line, clock_lines, listens_until, said_after, short_lines, side}
+use Rattle.keep_watching.specs.Hears.{IsHeard, IsKnown, IsLineHeard, IsTurned}
+use Rattle.keep_watching.specs.Listening.{AreHeard}
 use Rattle.keep_watching.specs.Lines.{line_in}
-use Rattle.keep_watching.specs.Alike.{AlikeWatchesLaw, AreSidesAlike, FreshAlikeLaw}
-use Rattle.keep_watching.specs.Slices.{AreOut, IsSlice, asked_lines, message, message_as, moment_of}
+use Rattle.keep_watching.specs.Sending.{GoOut, IsAbreast, IsSound, Lanes, asked_lines, entries_on, entries_out, moment_of, times}
 use Rattle.keep_watching.specs.Texts.{after_clock_line, clock_line, planned_line, unknown_name_line, wait_line}
-use Rattle.keep_watching.specs.Told.{renewal_reply, reply_as, terms_as}
 use Rattle.keep_watching.specs.Watching.{Watching}
 use Rattle.keep_watching.specs.declared.line.Line.{Line}
 use Rattle.keep_watching.specs.declared.line.Line.TheVariants.{Clock, Need, Begin, Known, Unknown}
-use Rattle.keep_watching.proofs.AlikeReplies.{LooksSame, RenewsSame, answer_of, looks_same, renews_same}
-use Rattle.keep_watching.proofs.AlikeTaken.{AreToldAlike, kept_taken, told_both}
-use Rattle.keep_watching.proofs.Clocks.{commanded}
-use Rattle.keep_run.proofs.Dated.{step_dated}
+use Rattle.keep_watching.proofs.Abreast.{abreast_fresh, abreast_quiet, abreast_sent, abreast_taken, sent_all}
+use Rattle.keep_watching.proofs.AlikeLanes.{back_both, go_both, out_to}
+use Rattle.keep_watching.proofs.AlikeTaken.{all_asks, kept_taken, told_both}
+use Rattle.keep_watching.proofs.Answering.{some_out}
 use Rattle.keep_watching.proofs.Kept.{TellsNoStep, turn_kept}
-use Rattle.keep_watching.proofs.Once.{next_once, turn_once}
-use Rattle.mini_broker.specs.Step.{step}
-use Rattle.mini_broker.specs.Table.{Table}
-use Rattle.vault_json.specs.Laws.{LookedLeaseIsRead}
+use Rattle.keep_watching.proofs.Once.{turn_once}
+use Rattle.keep_watching.proofs.Secrets.{requests_in, there_once, until_in}
+use Rattle.keep_watching.proofs.Sound.{Gone, IsQuiet, counts, readied_left, same_index, times_cons, turn_begin, turn_gone, turn_known, turn_need}
 
--- ---- requests that are asked
+-- ---- what is asked while more goes out
 
-asked_within : (new : State) (command : Command) → IsCommanded new command → (requests : List Request) (patience : Patience) → command ≡ Ask requests patience → All (λ r. r.entry < length new.forest.entries) requests
-asked_within new command out requests patience is = let there : AreOut new requests = subst (IsCommanded new) is out in there.within
+-- what is asked of an entry is asked of it after others have gone out
+found_on : (out more : List Out) (i : ℕ) → out_of out i ≢ None → out_of (out ++ more) i ≡ out_of out i
+found_on [] more i some = absurd (some refl)
+found_on (r ∷ out) more i some =
+    elim (cases_Bool (r.entry == i)) as (λ _. out_of (r ∷ out ++ more) i ≡ out_of (r ∷ out) i) [
+      | inl same ↦ cond-true (r.entry == i) (Some r) (out_of (out ++ more) i) same ∙ sym (cond-true (r.entry == i) (Some r) (out_of out i) same)
+      | inr other ↦
+          cond-false (r.entry == i) (Some r) (out_of (out ++ more) i) other ∙ found_on out more i (λ none. some (cond-false (r.entry == i) (Some r) (out_of out i) other ∙ none))
+          ∙ sym (cond-false (r.entry == i) (Some r) (out_of out i) other)
+    ]
+
+-- of a lane that is taken the machine has a request out
+some_lane : (old : List lanes.Out) (k : ℕ) (d : lanes.Out) → k < length old → 0 < times (get_or old k d).index (entries_on old)
+some_lane [] k d below = absurd (omega (arith, below))
+some_lane (o ∷ os) zero d below = (let one = counts o.index o.index (entries_on os) (same_index o.index) in omega (arith, one))
+some_lane (o ∷ os) (suc k) d below =
+    let rest = some_lane os k d (omega (arith, below)) in
+    let i = (get_or os k d).index in
+    let more = times_cons i o.index (entries_on os) in
+    omega (arith, rest, more)
+
+-- what goes out at a clock is out after what was
+gone_out :
+    (old new : State) (wall elapsed : ℕ) (requests : List Request) (until : ℕ) (notes : Notes) → Turn old (events.Clock wall elapsed) (Ok (record { command = Go requests until; notes = notes })) new →
+    (at : ℕ) × (new.out ≡ old.out ++ map (out_at at) requests)
+gone_out old new wall elapsed requests until notes turn =
+    let mid = pressed (readied old wall elapsed) (asked_by turn.1.round) in
+    (mid.clocks.at, ap (λ (x : State). x.out) turn.1.command.0.1 ∙ ap (λ (out : List Out). out ++ map (out_at mid.clocks.at) requests) (readied_left old wall elapsed).0)
+
+most_one : (b : Bool) → cond b 1 0 ≤ 1
+most_one true = omega arith
+most_one false = omega arith
+
+-- the width of the machine is its own
+own_width : (m : State) (width : ℕ) (out : List lanes.Out) → IsAbreast m width out → IsAbreast m m.width out
+own_width m width out h = record { width_is = refl; room = subst (λ n. length out ≤ n) (sym h.width_is) h.room; sound = h.sound; in_step = h.in_step }
 
 module _ (g : Forest) (cs ds : List (List ℕ)) (ts : List Terms) (one : IsInventory (record { forest = g; credentials = cs; terms = ts })) (two : IsInventory (record { forest = g; credentials = ds; terms = ts })) (read : LookedLeaseIsRead) where
   abbrev s : Inventory
-  s = record { forest = g; credentials = cs; terms = ts }
+  s = inventory_of g cs ts
 
   abbrev u : Inventory
-  u = record { forest = g; credentials = ds; terms = ts }
+  u = inventory_of g ds ts
 
-  -- ---- one answer
-
-  abbrev SaysSame : Operation → ℕ → abreast.Answer → abreast.Answer → Type 0
-  SaysSame operation i a b = (reply_as operation u i b ≡ reply_as operation s i a) × (terms_as operation u i b ≡ terms_as operation s i a)
-
-  answer_both : (operation : Operation) (port other t i : ℕ) (mid : State) (l m l' m' : Table) (a b : abreast.Answer) → i < length g.entries → IsKept g mid.forest → AreTablesAlike g cs ds l m → AreDated l →
-      IsAnswered l t (message_as operation port s mid i) a l' → IsAnswered m t (message_as operation other u mid i) b m' → SaysSame operation i a b × (AreTablesAlike g cs ds l' m' × AreDated l')
-  answer_both Look port other t i mid l m l' m' a b within kept alike dated x y =
-      let r = lookup_of port cs g i in
-      let q = lookup_of other ds g i in
-      let outcome = looks_both g cs ds ts ts one two port other t i l m within alike in
-      let left = step_dated l dated t r in
-      let same : LooksSame g cs ds ts one two i (answer_of x.sent) (answer_of y.sent) = looks_same g cs ds ts one two read i t within (step l t r).answer (step m t q).answer outcome.0 left.0 x.sent y.sent x.says y.says in
-      let kind = (entry_at g.entries i).kind in (
-        (
-          ap (reply_as Look u i) y.answer_is ∙ same.0 ∙ sym (ap (reply_as Look s i) x.answer_is),
-          ap (terms_as Look u i) y.answer_is ∙ same.1 ∙ sym (ap (terms_as Look s i) x.answer_is),
-        ),
-        (
-          subst (λ z. AreTablesAlike g cs ds z m') (sym x.new_is) (subst (AreTablesAlike g cs ds (step l t r).table) (sym y.new_is) outcome.1),
-          subst AreDated (sym x.new_is) left.1,
-        ),
-      )
-  answer_both Renew port other t i mid l m l' m' a b within kept alike dated x y =
-      let r = request_of port cs mid.forest i in
-      let q = request_of other ds mid.forest i in
-      let outcome = renewals_both g cs ds ts one two port other t i mid.forest l m within kept alike in
-      let left = step_dated l dated t r in
-      let same : RenewsSame g cs ds ts one two i (answer_of x.sent) (answer_of y.sent) = renews_same g cs ds ts one two i t within (step l t r).answer (step m t q).answer outcome.0 x.sent y.sent x.says y.says in (
-        (ap (reply_as Renew u i) y.answer_is ∙ ap renewal_reply same ∙ sym (ap (reply_as Renew s i) x.answer_is), refl),
-        (
-          subst (λ z. AreTablesAlike g cs ds z m') (sym x.new_is) (subst (AreTablesAlike g cs ds (step l t r).table) (sym y.new_is) outcome.1),
-          subst AreDated (sym x.new_is) left.1,
-        ),
-      )
-
-  -- ---- the answers of a slice
-
-  served_both : (port other t : ℕ) (mid : State) (rs : List Request) (later more : List abreast.Answer) (l m l' m' : Table) → All (λ r. r.entry < length g.entries) rs → IsKept g mid.forest → AreTablesAlike g cs ds l m → AreDated l →
-      AreAnswered l t (map (message port s mid) rs) later l' → AreAnswered m t (map (message other u mid) rs) more m' →
-      AllZip (AreToldAlike s u) (answered rs later) (answered rs more) × (AreTablesAlike g cs ds l' m' × AreDated l')
-  served_both port other t mid [] [] [] l m l' m' within kept alike dated x y =
-      (tt, (subst (λ z. AreTablesAlike g cs ds z m') (sym x) (subst (AreTablesAlike g cs ds l) (sym y) alike), subst AreDated (sym x) dated))
-  served_both port other t mid [] [] (b ∷ more) l m l' m' within kept alike dated x y = absurd y
-  served_both port other t mid [] (a ∷ later) more l m l' m' within kept alike dated x y = absurd x
-  served_both port other t mid (r ∷ rs) [] more l m l' m' within kept alike dated x y = absurd x
-  served_both port other t mid (r ∷ rs) (a ∷ later) [] l m l' m' within kept alike dated x y = absurd y
-  served_both port other t mid (r ∷ rs) (a ∷ later) (b ∷ more) l m l' m' within kept alike dated x y =
-      let here = answer_both r.operation port other t r.entry mid l m x.0 y.0 a b (All-head (λ (z : Request). z.entry < length g.entries) r rs within) kept alike dated x.1.0 y.1.0 in
-      let rest = served_both port other t mid rs later more x.0 y.0 l' m' (All-tail (λ (z : Request). z.entry < length g.entries) r rs within) kept here.1.0 here.1.1 x.1.1 y.1.1 in
-      ((record { request = refl; reply = here.0.0; terms = here.0.1 }, rest.0), rest.1)
-
-  -- ---- what a slice comes to
-
-  -- two states and tables behind a slice
-  pub record AreLeftAlike (new last : State) (after other : Option Table) : Type 0 where
-    pub machine : last ≡ new
-    pub kept : IsKept g new.forest
-    pub table : Table
-    pub known : after ≡ Some table
-    pub other_table : Table
-    pub other_known : other ≡ Some other_table
-    pub alike : AreTablesAlike g cs ds table other_table
-    pub dated : AreDated table
-
-  slice_both : (port other t : ℕ) (rs : List Request) (mid new last : State) (l m : Table) (after behind : Option Table) (text more : List ℕ) → All (λ r. r.entry < length g.entries) rs → IsKept g mid.forest → AreTablesAlike g cs ds l m → AreDated l →
-      IsSlice port s t rs mid new (Some l) after text → IsSlice other u t rs mid last (Some m) behind more → (more ≡ text) × AreLeftAlike new last after behind
-  slice_both port other t rs mid new last l m after behind text more within kept alike dated a b =
-      let first = a.exchanged.served in
-      let second = b.exchanged.served in
-      let served = served_both port other t mid rs a.answers b.answers l m first.0 second.0 within kept alike dated first.1.1 second.1.1 in
-      let taken = told_both g cs ds ts rs a.answers b.answers mid new last a.told b.told served.0 a.taken b.taken in (
-        b.text_is ∙ ap (λ x. asked_lines g rs ++ x) taken.0 ∙ sym a.text_is,
-        record {
-          machine = taken.1;
-          kept = kept_taken g cs ds ts (by_index (length g.entries) (answered rs a.answers)) mid new a.told kept a.taken;
-          table = first.0;
-          known = first.1.0;
-          other_table = second.0;
-          other_known = second.1.0;
-          alike = served.1.0;
-          dated = served.1.1;
-        },
-      )
+  abbrev Alike : State → Lanes → Lanes → Type 0
+  Alike m a b = AreLanesAlike g cs ds ts m a b
 
   -- ---- sides
 
   abbrev holds : Inventory → State → List (Option ℕ) → Option (Option Next) → Watching
   holds v k said next = record { machine = k; inventory = v; said = said; next = next }
 
-  left_alike : (k j : State) (said : List (Option ℕ)) (next : Option (Option Next)) (new last : Side) → new.watching ≡ holds s k said next → last.watching ≡ holds u j said next → AreLeftAlike k j new.table last.table → AreSidesAlike g cs ds ts new last
+  -- two states and lanes behind a line
+  record AreLeftAlike (new last : State) (after behind : Lanes) : Type 0 where
+    machine : last ≡ new
+    kept : IsKept g new.forest
+    abreast : IsAbreast new new.width after.out
+    lanes : Alike new after behind
+
+  left_alike : (k j : State) (said : List (Option ℕ)) (next : Option (Option Next)) (new last : Side) → new.watching ≡ holds s k said next → last.watching ≡ holds u j said next → AreLeftAlike k j new.lanes last.lanes → AreSidesAlike g cs ds ts new last
   left_alike k j said next new last is other_is left = record {
     inventory = ap (λ (w : Watching). w.inventory) is;
     other_is = other_is ∙ ap (λ z. holds u z said next) left.machine ∙ sym (ap (λ (w : Watching). record w { inventory = u }) is);
     kept = subst (λ (w : Watching). IsKept g w.machine.forest) (sym is) left.kept;
-    table = left.table;
-    known = left.known;
-    other_table = left.other_table;
-    other_known = left.other_known;
-    alike = left.alike;
-    dated = left.dated;
+    abreast = subst (λ (w : Watching). IsAbreast w.machine w.machine.width new.lanes.out) (sym is) left.abreast;
+    lanes = subst (λ (w : Watching). Alike w.machine new.lanes last.lanes) (sym is) left.lanes;
   }
+
+  -- the machine moves, and what is asked stays
+  moves :
+      (m n : State) (W : lanes.Out → Type 0) (a b : Lanes) → ((o : lanes.Out) → W o → (P : Operation → Type 0) → IfSome (out_of m.out o.index) (λ r. P r.operation) → IfSome (out_of n.out o.index) (λ r. P r.operation)) →
+      All W a.out → Alike m a b → Alike n a b
+  moves m n W a b to all h = record { behind = h.behind; out = out_to s u m n W to a.out b.out all h.out; seconds = h.seconds }
 
   -- ---- a clock
 
   module _ (port other : ℕ) where
-    waited_both : (k : State) (said : List (Option ℕ)) (next : Option (Option Next)) (l m : Table) (until : ℕ) (new last : Side) (text more : List ℕ) → IsKept g k.forest → AreTablesAlike g cs ds l m → AreDated l →
-        IsWaited (holds s k said next) until new.watching text → new.table ≡ Some l → IsWaited (holds u k said next) until last.watching more → last.table ≡ Some m → (more ≡ text) × AreSidesAlike g cs ds ts new last
-    waited_both k said next l m until new last text more kept alike dated a known b other_known =
-        let coming = next_once k a.is_next.0 b.is_next.0 a.is_next.1.0 b.is_next.1.0 in
-        let there : b.next ≡ a.next = b.is_next.1.1 ∙ ap (λ o. option_map (next_there k) o) coming ∙ sym a.is_next.1.1 in (
-          b.text_is ∙ ap (λ o. changed_line g next o ++ wait_line (until - k.clocks.phase)) there ∙ sym a.text_is,
-          left_alike k k said (Some a.next) new last a.new_is (b.new_is ∙ ap (λ o. holds u k said (Some o)) there)
-              (record { machine = refl; kept = kept; table = l; known = known; other_table = m; other_known = other_known; alike = alike; dated = dated }),
+    waited_both :
+        (k : State) (said : List (Option ℕ)) (next : Option (Option Next)) (a b : Lanes) (until : ℕ) (new last : Side) (text more : List ℕ) → IsKept g k.forest → IsAbreast k k.width a.out → Alike k a b →
+        IsWaited (holds s k said next) until new.watching text → new.lanes ≡ a → IsWaited (holds u k said next) until last.watching more → last.lanes ≡ b → (more ≡ text) × AreSidesAlike g cs ds ts new last
+    waited_both k said next a b until new last text more kept abreast alike x same y other_same =
+        let there = there_once k x.next y.next x.is_next y.is_next in (
+          y.text_is ∙ ap (λ o. changed_line g next o ++ wait_line (until - k.clocks.phase)) there ∙ sym x.text_is,
+          left_alike k k said (Some x.next) new last x.new_is (y.new_is ∙ ap (λ o. holds u k said (Some o)) there)
+              (record {
+                machine = refl;
+                kept = kept;
+                abreast = subst (λ (l : Lanes). IsAbreast k k.width l.out) (sym same) abreast;
+                lanes = subst (λ l. Alike k l last.lanes) (sym same) (subst (Alike k a) (sym other_same) alike);
+              }),
         )
 
-    asked_both : (k : State) (said : List (Option ℕ)) (next : Option (Option Next)) (l m : Table) (wall : ℕ) (rs : List Request) (new last : Side) (text more : List ℕ) → All (λ r. r.entry < length g.entries) rs → IsKept g k.forest → AreTablesAlike g cs ds l m → AreDated l →
-        IsAsked port (side (holds s k said next) (Some l)) wall rs new text → IsAsked other (side (holds u k said next) (Some m)) wall rs last more → (more ≡ text) × AreSidesAlike g cs ds ts new last
-    asked_both k said next l m wall rs new last text more within kept alike dated a b =
-        let slice = slice_both port other (moment_of wall) rs k new.watching.machine last.watching.machine l m new.table last.table a.told b.told within kept alike dated a.slice b.slice in (
-          b.text_is ∙ ap (λ x. x ++ clock_line) slice.0 ∙ sym a.text_is,
-          left_alike new.watching.machine last.watching.machine said next new last a.rest b.rest slice.1,
+    taken_both :
+        (k : State) (said : List (Option ℕ)) (next : Option (Option Next)) (a b : Lanes) (now until : ℕ) (new last : Side) (text more : List ℕ) → IsKept g k.forest → IsAbreast k k.width a.out → Alike k a b →
+        AreTakenOn now until (side (holds s k said next) a) new text → AreTakenOn now until (side (holds u k said next) b) last more → (more ≡ text) × AreSidesAlike g cs ds ts new last
+    taken_both k said next a b now until new last text more kept abreast alike x y =
+        let n = new.watching.machine in
+        let first = x.handed_back in
+        let second = y.handed_back in
+        let there = of_value (λ _. AreThere now until a.out x.answers new.lanes.out) a.behind alike.behind.behind first.there alike.behind.known in
+        let here = of_value (λ _. AreThere now until b.out y.answers last.lanes.out) b.behind alike.behind.other_behind second.there alike.behind.other_known in
+        let zip = back_both s u k now until a.out b.out x.answers y.answers new.lanes.out last.lanes.out alike.out first.parted there second.parted here in
+        let told = told_both g cs ds ts x.answers y.answers k n last.watching.machine x.told y.told zip.0 x.taken y.taken in
+        let behind : AreBehindAlike g cs ds new.lanes.behind last.lanes.behind =
+        subst (λ o. AreBehindAlike g cs ds o last.lanes.behind) (sym (ap (λ (l : Lanes). l.behind) first.rest)) (subst (AreBehindAlike g cs ds a.behind) (sym (ap (λ (l : Lanes). l.behind) second.rest)) alike.behind) in
+        let out = out_to s u k n (λ o. Unit {0}) (λ o w P h. all_asks P s x.answers k n x.told x.taken o.index h) new.lanes.out last.lanes.out (λ i d below. tt) zip.1 in (
+          y.text_is ∙ ap (λ z. z ++ clock_line) told.1 ∙ sym x.text_is,
+          left_alike n last.watching.machine said next new last x.rest y.rest
+              (record {
+                machine = told.0;
+                kept = kept_taken g cs ds ts x.answers k n x.told kept x.taken;
+                abreast = own_width n k.width new.lanes.out (abreast_taken s k n k.width a.out x.answers new.lanes.out x.told abreast first.parted x.taken);
+                lanes = record { behind = behind; out = out; seconds = ap (λ (l : Lanes). l.seconds) second.rest ∙ alike.seconds ∙ sym (ap (λ (l : Lanes). l.seconds) first.rest) };
+              }),
         )
 
-    done_both : (command : Command) (k : State) (said : List (Option ℕ)) (next : Option (Option Next)) (l m : Table) (wall : ℕ) (new last : Side) (text more : List ℕ) →
-        ((rs : List Request) (patience : Patience) → command ≡ Ask rs patience → All (λ r. r.entry < length g.entries) rs) → IsKept g k.forest → AreTablesAlike g cs ds l m → AreDated l →
-        IsDone port (side (holds s k said next) (Some l)) wall command new text → IsDone other (side (holds u k said next) (Some m)) wall command last more → (more ≡ text) × AreSidesAlike g cs ds ts new last
-    done_both (Ask rs patience) k said next l m wall new last text more within kept alike dated a b = asked_both k said next l m wall rs new last text more (within rs patience refl) kept alike dated a b
-    done_both (Wait until) k said next l m wall new last text more within kept alike dated a b = waited_both k said next l m until new last text more kept alike dated a.0 a.1 b.0 b.1
-    done_both Taken k said next l m wall new last text more within kept alike dated a b = absurd a
+    done_both :
+        (out : List Out) (k : State) (said : List (Option ℕ)) (next : Option (Option Next)) (a b : Lanes) (elapsed until : ℕ) (new last : Side) (text more : List ℕ) → IsKept g k.forest → IsAbreast k k.width a.out → Alike k a b →
+        IsDone out elapsed until (side (holds s k said next) a) new text → IsDone out elapsed until (side (holds u k said next) b) last more → (more ≡ text) × AreSidesAlike g cs ds ts new last
+    done_both [] k said next a b elapsed until new last text more kept abreast alike x y = waited_both k said next a b until new last text more kept abreast alike x.0 x.1 y.0 y.1
+    done_both (r ∷ rest) k said next a b elapsed until new last text more kept abreast alike x y = taken_both k said next a b elapsed (listens_until k elapsed until) new last text more kept abreast alike x y
 
-    clocked_both : (k : State) (said : List (Option ℕ)) (next : Option (Option Next)) (l m : Table) (wall elapsed : ℕ) (new last : Side) (text more : List ℕ) → IsKept g k.forest → AreTablesAlike g cs ds l m → AreDated l →
-        IsClocked port (side (holds s k said next) (Some l)) wall elapsed new text → IsClocked other (side (holds u k said next) (Some m)) wall elapsed last more → (more ≡ text) × AreSidesAlike g cs ds ts new last
-    clocked_both k said next l m wall elapsed new last text more kept alike dated a b =
-        let turns = turn_once k a.mid b.mid (events.Clock wall elapsed) a.output b.output a.turn b.turn in
-        let still : IsKept g a.mid.forest = turn_kept g k a.mid (events.Clock wall elapsed) a.output a.turn tt kept in
-        let within : (rs : List Request) (patience : Patience) → a.output.command ≡ Ask rs patience → All (λ (r : Request). r.entry < length g.entries) rs =
-        λ rs patience is. subst (λ n. All (λ (r : Request). r.entry < n) rs) still.count
-        (asked_within a.mid a.output.command (commanded k a.mid wall elapsed a.output a.turn) rs patience is) in
-        let second : IsDone other (side (holds u a.mid (said_after a.mid said) next) (Some m)) wall a.output.command last b.done =
-        subst (λ (o : Output). IsDone other (side (holds u a.mid (said_after a.mid said) next) (Some m)) wall o.command last b.done) turns.0
-        (subst (λ (z : State). IsDone other (side (holds u z (said_after z said) next) (Some m)) wall b.output.command last b.done) turns.1 b.is_done) in
-        let done = done_both a.output.command a.mid (said_after a.mid said) next l m wall new last a.done b.done within still alike dated a.is_done second in (
-          b.text_is
-              ∙ ap₂ (λ (z : State) (o : Output). clock_lines g z o.notes ++ (short_lines g z said ++ b.done)) turns.1 turns.0
-              ∙ ap (λ x. clock_lines g a.mid a.output.notes ++ (short_lines g a.mid said ++ x)) done.0
-              ∙ sym a.text_is,
+    -- the requests of a clock go out on lanes that are alike
+    gone_both :
+        (k mid : State) (a b after behind : Lanes) (wall elapsed : ℕ) (requests : List Request) (until : ℕ) (notes : Notes) → IsKept g k.forest → IsKept g mid.forest → IsAbreast k k.width a.out → Alike k a b →
+        Turn k (events.Clock wall elapsed) (Ok (record { command = Go requests until; notes = notes })) mid → GoOut port s mid (moment_of wall) elapsed requests a after → GoOut other u mid (moment_of wall) elapsed requests b behind →
+        IsAbreast mid mid.width after.out × Alike mid after behind
+    gone_both k mid a b after behind wall elapsed requests until notes kept still abreast alike turn x y =
+        let output : Output = record { command = Go requests until; notes = notes } in
+        let gone : Gone k requests mid = turn_gone k mid wall elapsed output requests until turn refl abreast.sound in
+        let out = gone_out k mid wall elapsed requests until notes turn in
+        let W : lanes.Out → Type 0 = λ o. out_of k.out o.index ≢ None in
+        let taken : All W a.out = λ i d below. some_out k.out (get_or a.out i d).index (subst (λ n. 0 < n) (abreast.in_step.each (get_or a.out i d).index) (some_lane a.out i d below)) in
+        let to : (o : lanes.Out) → W o → (P : Operation → Type 0) → IfSome (out_of k.out o.index) (λ r. P r.operation) → IfSome (out_of mid.out o.index) (λ r. P r.operation) =
+        λ o w P h. subst (λ z. IfSome z (λ r. P r.operation)) (sym (ap (λ (xs : List Out). out_of xs o.index) out.1 ∙ found_on k.out (map (out_at out.0) requests) o.index w)) h in
+        let ready = moves k mid W a b to taken alike in
+        let within = subst (λ n. All (λ (r : Request). r.entry < n) requests) still.count gone.within in
+        let once : (i : ℕ) → times i (entries_out mid) ≤ 1 = λ i. (let few : times i (entries_out mid) ≤ cond (track_at mid i).out 1 0 = gone.sound.once i in let most = most_one (track_at mid i).out in omega (arith, few, most)) in (
+          own_width mid k.width after.out (abreast_sent k mid requests k.width a.out after.out abreast gone (sent_all port s mid (moment_of wall) elapsed requests a after x)),
+          go_both g cs ds ts one two read port other (moment_of wall) elapsed out.0 mid k.out requests a after b behind within still out.1 once ready x y,
+        )
+
+    clocked_both :
+        (k : State) (said : List (Option ℕ)) (next : Option (Option Next)) (a b : Lanes) (wall elapsed : ℕ) (new last : Side) (text more : List ℕ) → IsKept g k.forest → IsAbreast k k.width a.out → Alike k a b →
+        IsClocked port (side (holds s k said next) a) wall elapsed new text → IsClocked other (side (holds u k said next) b) wall elapsed last more → (more ≡ text) × AreSidesAlike g cs ds ts new last
+    clocked_both k said next a b wall elapsed new last text more kept abreast alike x y =
+        let first : Output = record { command = Go x.requests x.until; notes = x.notes } in
+        let second : Output = record { command = Go y.requests y.until; notes = y.notes } in
+        let both = turn_once k x.mid y.mid (events.Clock wall elapsed) first second x.turn y.turn in
+        let notes : y.notes ≡ x.notes = ap (λ (o : Output). o.notes) both.0 in
+        let requests : y.requests ≡ x.requests = ap (λ (o : Output). requests_in o.command) both.0 in
+        let until : y.until ≡ x.until = ap (λ (o : Output). until_in o.command) both.0 in
+        let still : IsKept g x.mid.forest = turn_kept g k x.mid (events.Clock wall elapsed) first x.turn tt kept in
+        let sent : GoOut other u x.mid (moment_of wall) elapsed x.requests b y.lanes =
+        subst (λ m. GoOut other u m (moment_of wall) elapsed x.requests b y.lanes) both.1 (subst (λ rs. GoOut other u y.mid (moment_of wall) elapsed rs b y.lanes) requests y.sent) in
+        let gone = gone_both k x.mid a b x.lanes y.lanes wall elapsed x.requests x.until x.notes kept still abreast alike x.turn x.sent sent in
+        let is_done : IsDone x.mid.out elapsed x.until (side (holds u x.mid (said_after x.mid said) next) y.lanes) last y.done =
+        subst (λ n. IsDone x.mid.out elapsed n (side (holds u x.mid (said_after x.mid said) next) y.lanes) last y.done) until
+        (subst (λ (m : State). IsDone m.out elapsed y.until (side (holds u m (said_after m said) next) y.lanes) last y.done) both.1 y.is_done) in
+        let done = done_both x.mid.out x.mid (said_after x.mid said) next x.lanes y.lanes elapsed x.until new last x.done y.done still gone.0 gone.1 x.is_done is_done in
+        let lines : State → Notes → List Request → List ℕ → List ℕ = λ m notes requests rest. clock_lines g m notes ++ (short_lines g m said ++ (asked_lines g requests ++ rest)) in (
+          y.text_is ∙ ap (λ m. lines m y.notes y.requests y.done) both.1 ∙ ap (λ n. lines x.mid n y.requests y.done) notes ∙ ap (λ rs. lines x.mid x.notes rs y.done) requests ∙ ap (lines x.mid x.notes x.requests) done.0 ∙ sym x.text_is,
           done.1,
         )
 
     -- ---- any other line
 
-    stays_both : (k : State) (said : List (Option ℕ)) (next : Option (Option Next)) (l m : Table) (new last : Side) (text more tells : List ℕ) → IsKept g k.forest → AreTablesAlike g cs ds l m → AreDated l →
-        new.watching ≡ holds s k said next → last.watching ≡ holds u k said next → text ≡ tells → more ≡ tells → new.table ≡ Some l → last.table ≡ Some m → (more ≡ text) × AreSidesAlike g cs ds ts new last
-    stays_both k said next l m new last text more tells kept alike dated is other_is text_is more_is known other_known =
-        (more_is ∙ sym text_is, left_alike k k said next new last is other_is (record { machine = refl; kept = kept; table = l; known = known; other_table = m; other_known = other_known; alike = alike; dated = dated }))
+    stays_both :
+        (k : State) (said : List (Option ℕ)) (next : Option (Option Next)) (a b : Lanes) (new last : Side) (text more tells : List ℕ) → IsKept g k.forest → IsAbreast k k.width a.out → Alike k a b →
+        new.watching ≡ holds s k said next → last.watching ≡ holds u k said next → text ≡ tells → more ≡ tells → new.lanes ≡ a → last.lanes ≡ b → (more ≡ text) × AreSidesAlike g cs ds ts new last
+    stays_both k said next a b new last text more tells kept abreast alike is other_is text_is more_is same other_same = (
+      more_is ∙ sym text_is,
+      left_alike k k said next new last is other_is
+          (record {
+            machine = refl;
+            kept = kept;
+            abreast = subst (λ (l : Lanes). IsAbreast k k.width l.out) (sym same) abreast;
+            lanes = subst (λ l. Alike k l last.lanes) (sym same) (subst (Alike k a) (sym other_same) alike);
+          }),
+    )
 
-    turned_both : (event : Event) (k : State) (said : List (Option ℕ)) (next : Option (Option Next)) (l m : Table) (new last : Side) (text more tells : List ℕ) → TellsNoStep g event → IsKept g k.forest → AreTablesAlike g cs ds l m → AreDated l →
-        IsTurned (holds s k said next) event new.watching → text ≡ tells → IsTurned (holds u k said next) event last.watching → more ≡ tells → new.table ≡ Some l → last.table ≡ Some m → (more ≡ text) × AreSidesAlike g cs ds ts new last
-    turned_both event k said next l m new last text more tells none kept alike dated a text_is b more_is known other_known =
-        let turns = turn_once k new.watching.machine last.watching.machine event a.output b.output a.turn b.turn in
-        let still = turn_kept g k new.watching.machine event a.output a.turn none kept in (
+    turned_both :
+        (event : Event) (k : State) (said : List (Option ℕ)) (next : Option (Option Next)) (a b : Lanes) (new last : Side) (text more tells : List ℕ) → TellsNoStep g event →
+        ((output : Output) (n : State) → Turn k event (Ok output) n → IsSound k → IsQuiet k n) → IsKept g k.forest → IsAbreast k k.width a.out → Alike k a b → IsTurned (holds s k said next) event new.watching → text ≡ tells →
+        IsTurned (holds u k said next) event last.watching → more ≡ tells → new.lanes ≡ a → last.lanes ≡ b → (more ≡ text) × AreSidesAlike g cs ds ts new last
+    turned_both event k said next a b new last text more tells none quiet kept abreast alike x text_is y more_is same other_same =
+        let n = new.watching.machine in
+        let turns = turn_once k n last.watching.machine event x.output y.output x.turn y.turn in
+        let calm = quiet x.output n x.turn abreast.sound in
+        let still = own_width n k.width a.out (abreast_quiet k n k.width a.out abreast calm) in
+        let to : (o : lanes.Out) → Unit {0} → (P : Operation → Type 0) → IfSome (out_of k.out o.index) (λ r. P r.operation) → IfSome (out_of n.out o.index) (λ r. P r.operation) =
+        λ o w P h. subst (λ (out : List Out). IfSome (out_of out o.index) (λ r. P r.operation)) (sym calm.out) h in
+        let after = moves k n (λ o. Unit {0}) a b to (λ i d below. tt) alike in (
           more_is ∙ sym text_is,
-          left_alike new.watching.machine last.watching.machine said next new last a.rest b.rest
-              (record { machine = turns.1; kept = still; table = l; known = known; other_table = m; other_known = other_known; alike = alike; dated = dated }),
+          left_alike n last.watching.machine said next new last x.rest y.rest
+              (record {
+                machine = turns.1;
+                kept = turn_kept g k n event x.output x.turn none kept;
+                abreast = subst (λ (l : Lanes). IsAbreast n n.width l.out) (sym same) still;
+                lanes = subst (λ l. Alike n l last.lanes) (sym same) (subst (Alike n a) (sym other_same) after);
+              }),
         )
 
-    known_both : (begun : Bool) (i end : ℕ) (renewable : Bool) (k : State) (said : List (Option ℕ)) (next : Option (Option Next)) (l m : Table) (new last : Side) (text more : List ℕ) → IsKept g k.forest → AreTablesAlike g cs ds l m → AreDated l →
-        IsKnown begun (holds s k said next) i end renewable new.watching text → new.table ≡ Some l → IsKnown begun (holds u k said next) i end renewable last.watching more → last.table ≡ Some m → (more ≡ text) × AreSidesAlike g cs ds ts new last
-    known_both true i end renewable k said next l m new last text more kept alike dated a known b other_known = stays_both k said next l m new last text more (after_clock_line ++ clock_line) kept alike dated a.0 b.0 a.1 b.1 known other_known
-    known_both false i end renewable k said next l m new last text more kept alike dated a known b other_known =
-        turned_both (events.Known i (end / 1000) renewable) k said next l m new last text more clock_line tt kept alike dated a.0 a.1 b.0 b.1 known other_known
+    known_both :
+        (begun : Bool) (i end : ℕ) (renewable : Bool) (k : State) (said : List (Option ℕ)) (next : Option (Option Next)) (a b : Lanes) (new last : Side) (text more : List ℕ) → IsKept g k.forest → IsAbreast k k.width a.out → Alike k a b →
+        IsKnown begun (holds s k said next) i end renewable new.watching text → new.lanes ≡ a → IsKnown begun (holds u k said next) i end renewable last.watching more → last.lanes ≡ b → (more ≡ text) × AreSidesAlike g cs ds ts new last
+    known_both true i end renewable k said next a b new last text more kept abreast alike x same y other_same =
+        stays_both k said next a b new last text more (after_clock_line ++ clock_line) kept abreast alike x.0 y.0 x.1 y.1 same other_same
+    known_both false i end renewable k said next a b new last text more kept abreast alike x same y other_same =
+        turned_both (events.Known i (end / 1000) renewable) k said next a b new last text more clock_line tt (λ output n turn sound. turn_known k n i (end / 1000) renewable output turn sound) kept abreast alike x.0 x.1 y.0 y.1 same other_same
 
-    heard_both : (says : Line) (k : State) (said : List (Option ℕ)) (next : Option (Option Next)) (l m : Table) (new last : Side) (text more : List ℕ) → IsKept g k.forest → AreTablesAlike g cs ds l m → AreDated l →
-        IsHeard port (side (holds s k said next) (Some l)) says new text → IsHeard other (side (holds u k said next) (Some m)) says last more → (more ≡ text) × AreSidesAlike g cs ds ts new last
-    heard_both (Clock wall elapsed) k said next l m new last text more kept alike dated a b = clocked_both k said next l m wall elapsed new last text more kept alike dated a b
-    heard_both (Need i until) k said next l m new last text more kept alike dated a b =
-        turned_both (events.Need i until) k said next l m new last text more (planned_line ++ clock_line) tt kept alike dated a.0.0 a.0.1 b.0.0 b.0.1 a.1 b.1
-    heard_both Begin k said next l m new last text more kept alike dated a b = turned_both events.Begin k said next l m new last text more clock_line tt kept alike dated a.0.0 a.0.1 b.0.0 b.0.1 a.1 b.1
-    heard_both (Known i end renewable) k said next l m new last text more kept alike dated a b = known_both (is_some k.begun) i end renewable k said next l m new last text more kept alike dated a.0 a.1 b.0 b.1
-    heard_both Unknown k said next l m new last text more kept alike dated a b = stays_both k said next l m new last text more (unknown_name_line ++ clock_line) kept alike dated a.0.0 b.0.0 a.0.1 b.0.1 a.1 b.1
+    heard_both :
+        (says : Line) (k : State) (said : List (Option ℕ)) (next : Option (Option Next)) (a b : Lanes) (new last : Side) (text more : List ℕ) → IsKept g k.forest → IsAbreast k k.width a.out → Alike k a b →
+        IsHeard port (side (holds s k said next) a) says new text → IsHeard other (side (holds u k said next) b) says last more → (more ≡ text) × AreSidesAlike g cs ds ts new last
+    heard_both (Clock wall elapsed) k said next a b new last text more kept abreast alike x y = clocked_both k said next a b wall elapsed new last text more kept abreast alike x y
+    heard_both (Need i until) k said next a b new last text more kept abreast alike x y =
+        turned_both (events.Need i until) k said next a b new last text more (planned_line ++ clock_line) tt (λ output n turn sound. turn_need k n i until output turn sound) kept abreast alike x.0.0 x.0.1 y.0.0 y.0.1 x.1 y.1
+    heard_both Begin k said next a b new last text more kept abreast alike x y =
+        turned_both events.Begin k said next a b new last text more clock_line tt (λ output n turn sound. turn_begin k n output turn sound) kept abreast alike x.0.0 x.0.1 y.0.0 y.0.1 x.1 y.1
+    heard_both (Known i end renewable) k said next a b new last text more kept abreast alike x y = known_both (is_some k.begun) i end renewable k said next a b new last text more kept abreast alike x.0 x.1 y.0 y.1
+    heard_both Unknown k said next a b new last text more kept abreast alike x y =
+        stays_both k said next a b new last text more (unknown_name_line ++ clock_line) kept abreast alike x.0.0 y.0.0 x.0.1 y.0.1 x.1 y.1
 
     -- ---- lines
 
     line_both : (old begun new last : Side) (line text more : List ℕ) → AreSidesAlike g cs ds ts old begun → IsLineHeard port old line new text → IsLineHeard other begun line last more → (more ≡ text) × AreSidesAlike g cs ds ts new last
-    line_both old begun new last line text more alike a b =
+    line_both old begun new last line text more alike x y =
         let w = old.watching in
         let k = w.machine in
-        let here : old ≡ side (holds s k w.said w.next) (Some alike.table) = ap₂ (λ v o. side (holds v k w.said w.next) o) alike.inventory alike.known in
-        let there : begun ≡ side (holds u k w.said w.next) (Some alike.other_table) = ap₂ side alike.other_is alike.other_known in
-        let says : Some b.says ≡ Some a.says =
-        sym b.is ∙ ap (λ (x : Side). line_in x.watching.inventory.forest line) there ∙ sym (ap (λ (x : Side). line_in x.watching.inventory.forest line) here) ∙ a.is in
-        let same : b.says ≡ a.says = cc in
-        heard_both a.says k w.said w.next alike.table alike.other_table new last text more alike.kept alike.alike alike.dated (subst (λ x. IsHeard port x a.says new text) here a.heard)
-        (subst (λ z. IsHeard other (side (holds u k w.said w.next) (Some alike.other_table)) z last more) same (subst (λ x. IsHeard other x b.says last more) there b.heard))
+        let here : old ≡ side (holds s k w.said w.next) old.lanes = ap (λ v. side (holds v k w.said w.next) old.lanes) alike.inventory in
+        let there : begun ≡ side (holds u k w.said w.next) begun.lanes = ap (λ v. side v begun.lanes) alike.other_is in
+        let says : Some y.says ≡ Some x.says =
+        sym y.is ∙ ap (λ (z : Side). line_in z.watching.inventory.forest line) there ∙ sym (ap (λ (z : Side). line_in z.watching.inventory.forest line) here) ∙ x.is in
+        let same : y.says ≡ x.says = value_is y.says x.says says in
+        heard_both x.says k w.said w.next old.lanes begun.lanes new last text more alike.kept alike.abreast alike.lanes (subst (λ z. IsHeard port z x.says new text) here x.heard)
+        (subst (λ z. IsHeard other (side (holds u k w.said w.next) begun.lanes) z last more) same (subst (λ z. IsHeard other z y.says last more) there y.heard))
 
     lines_both : (lines : List (List ℕ)) (old begun new last : Side) (text more : List ℕ) → AreSidesAlike g cs ds ts old begun → AreHeard port old lines new text → AreHeard other begun lines last more → (more ≡ text) × AreSidesAlike g cs ds ts new last
-    lines_both [] old begun new last text more alike a b =
-        (b.1 ∙ sym a.1, subst (λ x. AreSidesAlike g cs ds ts x last) (sym a.0) (subst (AreSidesAlike g cs ds ts old) (sym b.0) alike))
-    lines_both (line ∷ lines) old begun new last text more alike a b =
-        let here = line_both old begun a.0 b.0 line a.1.0 b.1.0 alike a.1.1.1.0 b.1.1.1.0 in
-        let rest = lines_both lines a.0 b.0 new last a.1.1.0 b.1.1.0 here.1 a.1.1.1.1.0 b.1.1.1.1.0 in
-        (b.1.1.1.1.1 ∙ ap₂ (λ x y. x ++ y) here.0 rest.0 ∙ sym a.1.1.1.1.1, rest.1)
+    lines_both [] old begun new last text more alike x y =
+        (y.1 ∙ sym x.1, subst (λ z. AreSidesAlike g cs ds ts z last) (sym x.0) (subst (AreSidesAlike g cs ds ts old) (sym y.0) alike))
+    lines_both (line ∷ lines) old begun new last text more alike x y =
+        let here = line_both old begun x.0 y.0 line x.1.0 y.1.0 alike x.1.1.1.0 y.1.1.1.0 in
+        let rest = lines_both lines x.0 y.0 new last x.1.1.0 y.1.1.0 here.1 x.1.1.1.1.0 y.1.1.1.1.0 in
+        (y.1.1.1.1.1 ∙ ap₂ (λ v w. v ++ w) here.0 rest.0 ∙ sym x.1.1.1.1.1, rest.1)
 
 pub alike_watches : LookedLeaseIsRead → AlikeWatchesLaw
-alike_watches read g cs ds ts one two port other_port old other new last lines text more alike a b = lines_both g cs ds ts one two read port other_port lines old other new last text more alike a b
+alike_watches read g cs ds ts one two port other_port old other new last lines text more alike x y = lines_both g cs ds ts one two read port other_port lines old other new last text more alike x y
 
 pub fresh_alike : FreshAlikeLaw
-fresh_alike g cs ds ts width l m alike dated = record {
+fresh_alike g cs ds ts width seconds a b alike = record {
   inventory = refl;
   other_is = refl;
   kept = kept_itself g;
-  table = l;
-  known = refl;
-  other_table = m;
-  other_known = refl;
-  alike = alike;
-  dated = dated;
+  abreast = abreast_fresh (inventory_of g cs ts) width [] refl;
+  lanes = record { behind = alike; out = tt; seconds = refl };
 }

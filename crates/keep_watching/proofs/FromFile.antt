@@ -10,11 +10,11 @@ use Rattle.keep_report.specs.Exits.{exit_of, stop_of_input}
 use Rattle.keep_report.specs.FaultLine.{fault_line}
 use Rattle.keep_report.specs.Sent.{IsUntouched}
 use Rattle.keep_report.specs.Told.{Reports}
+use Rattle.keep_watching.specs.Sending.{Lanes}
 use Rattle.keep_watching.specs.WatchFrom.{WatchFrom}
-use Rattle.mini_broker.specs.Table.{Table}
 
 pub unread_file :
-    (known : Option (List ℕ)) (port width : ℕ) (old : Option Table) (exit : Exit) (fed : Change) (out errors : Change) (fault : InputFault) (stop : Stop) →
+    (known : Option (List ℕ)) (port width : ℕ) (old : Lanes) (exit : Exit) (fed : Change) (out errors : Change) (fault : InputFault) (stop : Stop) →
     IsRead known MOST_INVENTORY (Err fault) → stop ≡ stop_of_input fault → exit ≡ exit_of stop → IsUntouched fed → IsUntouched out → Reports (fault_line (codes "leasekeep") stop) errors →
     WatchFrom known port width old exit fed out errors old
 unread_file known port width old exit fed out errors fault stop read is ends unread unwritten told =
@@ -22,6 +22,6 @@ unread_file known port width old exit fed out errors fault stop read is ends unr
       fault,
       read,
       ends ∙ ap exit_of is,
-      record { unread = unread; unwritten = unwritten; table = refl },
+      record { unread = unread; unwritten = unwritten; lanes = refl },
       subst (λ (s : Stop). Reports (fault_line (codes "leasekeep") s) errors) is told,
     )

@@ -1,17 +1,15 @@
 -- Kept: what the machine of a watch keeps of the forest that was supplied, whatever comes. For the law that secrets change no answer.
-use Rattle.std.proofs.Common.{◌≡◌, ◌∙◌, ℕ, ◌<◌, ◌&&◌, Bool, true, false, not, cond, is_some, Option, Some, None, Ok, ◌+◌, length, min, nat_le, nat_lt, refl, sym, ap, subst, arith, inl, inr}
-use Rattle.std.proofs.lemmas.Bool.{cases_Bool, cond-true}
-use Rattle.std.proofs.lemmas.Bool.Decides.{nat_tests}
-use Rattle.keep_exchange.specs.Abreast.{Answer}
-use Rattle.keep_exchange.specs.Heard.{looked_up}
-use Rattle.keep_exchange.specs.declared.heard.Heard.{Heard}
-use Rattle.keep_exchange.specs.declared.heard.Heard.TheVariants as heard
+use Rattle.std.proofs.Common.{◌≡◌, ◌∙◌, ℕ, ◌<◌, ◌&&◌, Bool, true, false, not, cond, if◌then◌else◌, is_some, Option, Some, None, Ok, ◌+◌, length, min, nat_lt, refl, sym, ap, subst}
 use Rattle.keep_exchange.specs.declared.heard.Terms as looked
 use Rattle.keep_inventory.specs.Inventories.{Inventory, terms_at}
 use Rattle.keep_inventory.specs.Lookup.{lookup_fault, told_terms}
 use Rattle.keep_inventory.specs.Terms.{step_of}
 use Rattle.keep_inventory.specs.declared.lookup.LookupFault.{LookupFault}
 use Rattle.keep_inventory.specs.declared.lookup.LookupFault.TheVariants.{OtherKind, OtherTree, NoStep}
+use Rattle.keep_lanes.specs.Heard.{looked_up}
+use Rattle.keep_lanes.specs.Losses.{Answer}
+use Rattle.keep_lanes.specs.declared.heard.Heard.{Heard}
+use Rattle.keep_lanes.specs.declared.heard.Heard.TheVariants as heard
 use Rattle.keep_moment.specs.declared.moment.TheConstants.{LAST}
 use Rattle.keep_run.specs.Alike.{IsKept}
 use Rattle.keep_run.proofs.AlikeKept.{kept_with}
@@ -19,34 +17,43 @@ use Rattle.keep_tree.specs.declared.entry.Kind.{Kind}
 use Rattle.keep_tree.specs.declared.entry.Kind.TheVariants.{Lease}
 use Rattle.keep_tree.specs.Forest.{Forest, entry_at}
 use Rattle.keep_tree.specs.Push.{is_lease}
-use Rattle.keep_watch.specs.declared.command.Output.{Output}
-use Rattle.keep_watch.specs.declared.event.Event.{Event}
-use Rattle.keep_watch.specs.declared.event.Event.TheVariants.{Clock, Looked, Renewed, Need, Begin, Known}
-use Rattle.keep_watch.specs.declared.event.Operation.{Operation}
-use Rattle.keep_watch.specs.declared.event.Operation.TheVariants.{Look, Renew}
-use Rattle.keep_watch.specs.declared.event.Reply.{Reply}
-use Rattle.keep_watch.specs.declared.event.Reply.TheVariants.{Told, Refused, Busy, Lost}
-use Rattle.keep_watch.specs.declared.event.Request.{Request}
-use Rattle.keep_watch.specs.declared.event.Terms.{Terms}
-use Rattle.keep_watch.specs.declared.fault.WatchFault.{WatchFault}
-use Rattle.keep_watch.specs.declared.fault.WatchFault.TheVariants.{BadIndex}
-use Rattle.keep_watch.specs.History.{Turn}
-use Rattle.keep_watch.specs.Looked.{by_terms, looked as looked_at, step_told}
-use Rattle.keep_watch.specs.Press.{pressed}
-use Rattle.keep_watch.specs.Refusal.{refusal, unless_closed}
-use Rattle.keep_watch.specs.Renewed.{renewed}
-use Rattle.keep_watch.specs.Round.{asked_by}
-use Rattle.keep_watch.specs.State.{State, entry_of}
-use Rattle.keep_watch.specs.Step.{Step, readied}
-use Rattle.keep_watch.proofs.Cases.{if_cases}
-use Rattle.keep_watch.proofs.Early.{new_of}
-use Rattle.keep_watch.proofs.Forested.{after_forest, readied_forest}
-use Rattle.keep_watch.proofs.Turning.{looked_to}
-use Rattle.keep_watching.specs.Told.{event_as, event_of, is_of_another, lookup_terms, no_terms, step_in, terms_as, terms_to, terms_told}
 use Rattle.vault_json.specs.declared.lookup.Lookup.{Lookup}
 use Rattle.vault_json.specs.declared.lookup.Lookup.TheVariants as lookups
+use Rattle.watch_machine.specs.declared.command.Command.{Command}
+use Rattle.watch_machine.specs.declared.command.Command.TheVariants.{Go, Taken}
+use Rattle.watch_machine.specs.declared.command.Output.{Output}
+use Rattle.watch_machine.specs.declared.event.Event.{Event}
+use Rattle.watch_machine.specs.declared.event.Event.TheVariants.{Clock, Looked, Renewed, Need, Begin, Known}
+use Rattle.watch_machine.specs.declared.event.Operation.{Operation}
+use Rattle.watch_machine.specs.declared.event.Operation.TheVariants.{Look, Renew}
+use Rattle.watch_machine.specs.declared.event.Reply.{Reply}
+use Rattle.watch_machine.specs.declared.event.Reply.TheVariants.{Told, Refused, Busy, Lost}
+use Rattle.watch_machine.specs.declared.event.Terms.{Terms}
+use Rattle.watch_machine.specs.declared.lanes.Out.{Out}
+use Rattle.watch_machine.specs.Answers.{answers_all, lane_freed, noted, replied, silent}
+use Rattle.watch_machine.specs.History.{Turn}
+use Rattle.watch_machine.specs.Looked.{by_terms, looked as looked_at, step_told}
+use Rattle.watch_machine.specs.Press.{pressed}
+use Rattle.watch_machine.specs.Refusal.{refusal, request_out}
+use Rattle.watch_machine.specs.Renewed.{renewed}
+use Rattle.watch_machine.specs.Round.{asked_by}
+use Rattle.watch_machine.specs.Settling.{is_real}
+use Rattle.watch_machine.specs.State.{State, entry_of}
+use Rattle.watch_machine.specs.Step.{Step, StepCommand, StepLooked, StepRenewed, readied}
+use Rattle.watch_machine.proofs.Cases.{if_both}
+use Rattle.watch_machine.proofs.Within.{asked_none, out_entry, within_none}
+use Rattle.keep_watching.specs.Told.{event_as, is_of_another, lookup_terms, no_terms, said_to, step_in, terms_told}
+use Rattle.keep_watching.proofs.Sound.{readied_left}
 
 -- ---- an event
+
+-- what an answer says of the broker leaves the forest
+replied_forest : (s : State) (r : Out) (reply : Reply) → (replied s r reply).forest ≡ s.forest
+replied_forest s r reply =
+    let free = lane_freed s r in
+    let P : State → Type 0 = λ t. t.forest ≡ s.forest in
+    if_both P (is_real reply) (answers_all free) (if r.heard then free else silent free) (if_both P s.presence.away _ _ refl refl)
+    (if_both P r.heard free (silent free) refl (if_both P s.presence.away _ _ refl refl))
 
 module _ (g : Forest) where
   -- no lookup of a lease tells a step
@@ -62,42 +69,45 @@ module _ (g : Forest) where
   not_orphaned k true o lease = ap (λ x. cond (not (is_lease x)) None o) lease
   not_orphaned k false o lease = refl
 
-  looked_kept : (s : State) (i : ℕ) (reply : Reply) (terms : Terms) → i < length s.forest.entries → ((entry_at g.entries i).kind ≡ Lease → terms.step ≡ None) → IsKept g s.forest → IsKept g (looked_at s i reply terms).forest
-  unfolding by_terms entry_of
-  looked_kept s i (Told seconds renewable date) terms within none kept =
-      let old = entry_at s.forest.entries i in
-      kept_with g s.forest i (by_terms s.forest.margin terms old) within kept refl
-      (λ lease. not_orphaned old.kind terms.orphan old.parent (kept.kinds i ∙ lease))
+  looked_kept : (s : State) (r : Out) (reply : Reply) (terms : Terms) → r.entry < length s.forest.entries → ((entry_at g.entries r.entry).kind ≡ Lease → terms.step ≡ None) → IsKept g s.forest → IsKept g (looked_at s r reply terms).forest
+  unfolding by_terms
+  looked_kept s r (Told seconds renewable date) terms within none kept =
+      let old = entry_at s.forest.entries r.entry in
+      kept_with g s.forest r.entry (by_terms s.forest.margin terms old) within kept refl
+      (λ lease. not_orphaned old.kind terms.orphan old.parent (kept.kinds r.entry ∙ lease))
       (λ lease. ap (step_told s.forest.margin old.step) (none lease))
-  looked_kept s i (Refused status date) terms within none kept = kept
-  looked_kept s i Busy terms within none kept = kept
-  looked_kept s i Lost terms within none kept = kept
+  looked_kept s r (Refused status date) terms within none kept = kept
+  looked_kept s r Busy terms within none kept = kept
+  looked_kept s r Lost terms within none kept = kept
 
-  renewed_kept : (s : State) (i : ℕ) (reply : Reply) → IsKept g s.forest → IsKept g (renewed s i reply).forest
-  renewed_kept s i (Told seconds renewable date) kept = kept
-  renewed_kept s i (Refused status date) kept = kept
-  renewed_kept s i Busy kept = kept
-  renewed_kept s i Lost kept = kept
+  answered_kept : (old new : State) (i : ℕ) (found : Option Out) (reply : Reply) (terms : Terms) (output : Output) → request_out old.out i Look ≡ found → StepLooked old found reply terms output new → i < length old.forest.entries →
+      ((entry_at g.entries i).kind ≡ Lease → terms.step ≡ None) → IsKept g old.forest → IsKept g new.forest
+  answered_kept old new i None reply terms output is step within none kept = absurd step
+  answered_kept old new i (Some q) reply terms output is step within none kept =
+      let s = noted old q reply in
+      let own : q.entry ≡ i = out_entry old.out i Look q is in
+      let left = looked_kept s q reply terms (subst (λ n. n < length old.forest.entries) (sym own) within) (subst (λ n. (entry_at g.entries n).kind ≡ Lease → terms.step ≡ None) (sym own) none) kept in
+      subst (λ (x : State). IsKept g x.forest) (sym step.1) (subst (IsKept g) (sym (replied_forest (looked_at s q reply terms) q reply)) left)
 
-  within_of : (n i : ℕ) (other : Option WatchFault) → cond (nat_le n i) (Some BadIndex) other ≡ None → i < n
-  within_of n i other h = elim (cases_Bool (nat_le n i)) as (λ _. i < n) [
-    | inl past ↦ absurd (let e = sym (cond-true (nat_le n i) (Some BadIndex) other past) ∙ h in cc)
-    | inr within ↦ grind (arith, nat_tests)
-  ]
+  granted_kept : (old new : State) (found : Option Out) (reply : Reply) (output : Output) → StepRenewed old found reply output new → IsKept g old.forest → IsKept g new.forest
+  granted_kept old new None reply output step kept = absurd step
+  granted_kept old new (Some q) reply output step kept =
+      subst (λ (x : State). IsKept g x.forest) (sym step.1) (subst (IsKept g) (sym (replied_forest (renewed (noted old q reply) q reply) q reply)) kept)
+
+  sent_kept : (mid new : State) (command : Command) → StepCommand mid command new → IsKept g mid.forest → IsKept g new.forest
+  sent_kept mid new (Go requests until) h kept = subst (λ (x : State). IsKept g x.forest) (sym h.0.1) kept
+  sent_kept mid new Taken h kept = absurd h
 
   stepped : (old new : State) (event : Event) (output : Output) → refusal old event ≡ None → Step old event output new → TellsNoStep event → IsKept g old.forest → IsKept g new.forest
-  unfolding refusal entry_of
+  unfolding refusal
   stepped old new (Clock wall elapsed) output free step none kept =
       let mid = pressed (readied old wall elapsed) (asked_by step.round) in
-      subst (IsKept g) (sym ((new_of mid new output.command step.command).0 ∙ readied_forest old wall elapsed)) kept
-  stepped old new (Looked i reply terms) output free step none kept =
-      let within = (looked_to old i reply terms free).within in
-      subst (λ (x : State). IsKept g x.forest) (sym step.1) (subst (IsKept g) (sym (after_forest (looked_at old i reply terms) old.slice i reply)) (looked_kept old i reply terms within none kept))
-  stepped old new (Renewed i reply) output free step none kept =
-      subst (λ (x : State). IsKept g x.forest) (sym step.1) (subst (IsKept g) (sym (after_forest (renewed old i reply) old.slice i reply)) (renewed_kept old i reply kept))
+      sent_kept mid new output.command step.command (subst (IsKept g) (sym (readied_left old wall elapsed).1.1) kept)
+  stepped old new (Looked i reply terms) output free step none kept = answered_kept old new i (request_out old.out i Look) reply terms output refl step (asked_none old i Look free) none kept
+  stepped old new (Renewed i reply) output free step none kept = granted_kept old new (request_out old.out i Renew) reply output step kept
   stepped old new (Need i until) output free step none kept =
-      let within : i < length old.forest.entries = within_of (length old.forest.entries) i (unless_closed old) free in
-      subst (λ (x : State). IsKept g x.forest) (sym step.1) (kept_with g old.forest i (record (entry_at old.forest.entries i) { need = min LAST until }) within kept refl (λ lease. refl) (λ lease. refl))
+      let within : i < length old.forest.entries = within_none old i None free in
+      subst (λ (x : State). IsKept g x.forest) (sym step.1) (kept_with g old.forest i (record (entry_of old i) { need = min LAST until }) within kept refl (λ lease. refl) (λ lease. refl))
   stepped old new Begin output free step none kept = subst (λ (x : State). IsKept g x.forest) (sym step.1) kept
   stepped old new (Known i end renewable) output free step none kept = subst (λ (x : State). IsKept g x.forest) (sym step.1) kept
 
@@ -115,18 +125,15 @@ lookup_step s i said (lookups.Token ttl created explicit_max orphan renewable pe
     let rest : Option LookupFault = cond (orphan && is_some e.parent) (Some OtherTree) (cond (nat_lt (step_of (told_terms l (terms_at s.terms i))) (s.forest.margin + 1)) (Some NoStep) None) in
     ap (λ k. (cond (is_of_another (cond (is_lease k) (Some OtherKind) rest)) no_terms (terms_told s i said)).step) lease
 lookup_step s i said (lookups.Lease id issued renewable ttl) is lease =
-    if_cases (λ (terms : Terms). terms.step ≡ None) (is_of_another (lookup_fault s i (lookups.Lease id issued renewable ttl))) no_terms (terms_told s i said) (λ e. refl) (λ e. ap (step_in s i) is)
+    if_both (λ (terms : Terms). terms.step ≡ None) (is_of_another (lookup_fault s i (lookups.Lease id issued renewable ttl))) no_terms (terms_told s i said) refl (ap (step_in s i) is)
 
 heard_step : (s : Inventory) (i : ℕ) (h : Heard looked.Terms) → (entry_at s.forest.entries i).kind ≡ Lease → (lookup_terms s i h).step ≡ None
 unfolding lookup_terms
 heard_step s i (heard.Told said date) lease = lookup_step s i said said.lookup refl lease
 heard_step s i (heard.Refused status date) lease = refl
 heard_step s i heard.Busy lease = refl
-heard_step s i heard.Lost lease = refl
+heard_step s i (heard.Lost why) lease = refl
 
-event_step : (s : Inventory) (operation : Operation) (i : ℕ) (a : Answer) (reply : Reply) → TellsNoStep s.forest (event_as operation i reply (terms_as operation s i a))
-event_step s Look i a reply = heard_step s i (looked_up (entry_at s.forest.entries i).kind a)
-event_step s Renew i a reply = tt
-
-pub answer_step : (s : Inventory) (r : Request) (a : Answer) (reply : Reply) → TellsNoStep s.forest (event_of r reply (terms_to s r a))
-answer_step s r a reply = event_step s r.operation r.entry a reply
+pub answer_step : (s : Inventory) (operation : Operation) (i : ℕ) (a : Answer) → TellsNoStep s.forest (event_as operation i (said_to s operation i a).reply (said_to s operation i a).terms)
+answer_step s Look i a = heard_step s i (looked_up (entry_at s.forest.entries i).kind a)
+answer_step s Renew i a = tt

@@ -1,15 +1,16 @@
 -- RunOfMachine: the law that the machine of a watch was handed events from its making on.
 use Rattle.std.proofs.Common.{◌≡◌, ◌∙◌, ℕ, Bool, true, false, is_some, List, [], ◌∷◌, ◌++◌, Ok, ap, refl, sym, subst}
 use Rattle.keep_inventory.specs.Inventories.{Inventory}
-use Rattle.keep_watch.specs.declared.command.Command.{Command}
-use Rattle.keep_watch.specs.declared.command.Command.TheVariants.{Ask, Wait, Taken}
-use Rattle.keep_watch.specs.declared.command.Output.{Output}
-use Rattle.keep_watch.specs.declared.event.Event.{Event}
-use Rattle.keep_watch.specs.History.{History, Turn, Turned}
-use Rattle.keep_watch.specs.State.{State}
-use Rattle.keep_watching.specs.Answers.{Answered, AreTaken}
-use Rattle.keep_watching.specs.Clocked.{IsClocked, IsDone, Side, side}
-use Rattle.keep_watching.specs.Hears.{AreHeard, IsHeard, IsKnown, IsTurned}
+use Rattle.keep_lanes.specs.declared.lanes.Answered.{Answered}
+use Rattle.watch_machine.specs.declared.command.Output.{Output}
+use Rattle.watch_machine.specs.declared.event.Event.{Event}
+use Rattle.watch_machine.specs.declared.lanes.Out.{Out}
+use Rattle.watch_machine.specs.History.{History, Turn, Turned}
+use Rattle.watch_machine.specs.State.{State}
+use Rattle.keep_watching.specs.Answers.{AreTaken}
+use Rattle.keep_watching.specs.Clocked.{IsClocked, IsDone, Side, clocked, side}
+use Rattle.keep_watching.specs.Hears.{IsHeard, IsKnown, IsTurned}
+use Rattle.keep_watching.specs.Listening.{AreHeard}
 use Rattle.keep_watching.specs.LawsOfWatching.{LeadsTo, RunOfMachineLaw, behind}
 use Rattle.keep_watching.specs.Watching.{Watching, fresh}
 use Rattle.keep_watching.specs.declared.line.Line.{Line}
@@ -35,14 +36,13 @@ by_answers s [] old new text h = nowhere old new h.0
 by_answers s (x ∷ xs) old new text h =
     and_then old h.0 new (by_turn old h.0 _ h.1.1.1.0.output h.1.1.1.0.turn) (by_answers s xs h.0 new h.1.1.0 h.1.1.1.1.0)
 
-by_command : (port : ℕ) (old : Side) (wall : ℕ) (command : Command) (new : Side) (text : List ℕ) → IsDone port old wall command new text → LeadsTo old.watching.machine new.watching.machine
-by_command port old wall (Ask requests patience) new text h = by_answers old.watching.inventory _ old.watching.machine new.watching.machine h.slice.told h.slice.taken
-by_command port old wall (Wait until) new text h = nowhere old.watching.machine new.watching.machine (ap (λ (w : Watching). w.machine) h.0.new_is)
-by_command port old wall Taken new text h = absurd h
+by_done : (out : List Out) (elapsed until : ℕ) (old new : Side) (text : List ℕ) → IsDone out elapsed until old new text → LeadsTo old.watching.machine new.watching.machine
+by_done [] elapsed until old new text h = nowhere old.watching.machine new.watching.machine (ap (λ (w : Watching). w.machine) h.0.new_is)
+by_done (r ∷ rest) elapsed until old new text h = by_answers old.watching.inventory h.answers old.watching.machine new.watching.machine h.told h.taken
 
 by_clock : (port : ℕ) (old : Side) (wall elapsed : ℕ) (new : Side) (text : List ℕ) → IsClocked port old wall elapsed new text → LeadsTo old.watching.machine new.watching.machine
 by_clock port old wall elapsed new text h =
-    and_then old.watching.machine h.mid new.watching.machine (by_turn old.watching.machine h.mid _ h.output h.turn) (by_command port _ wall h.output.command new h.done h.is_done)
+    and_then old.watching.machine h.mid new.watching.machine (by_turn old.watching.machine h.mid _ _ h.turn) (by_done h.mid.out elapsed h.until (side (clocked old.watching h.mid) h.lanes) new h.done h.is_done)
 
 by_event : (old : Watching) (event : Event) (new : Watching) → IsTurned old event new → LeadsTo old.machine new.machine
 by_event old event new h = by_turn old.machine new.machine event h.output h.turn
@@ -64,4 +64,4 @@ by_lines port (line ∷ lines) old new text h =
     and_then old.watching.machine h.0.watching.machine new.watching.machine (by_line port old h.1.1.1.0.says h.0 h.1.0 h.1.1.1.0.heard) (by_lines port lines h.0 new h.1.1.0 h.1.1.1.1.0)
 
 pub run_of_machine : RunOfMachineLaw
-run_of_machine port s width table lines new text h = by_lines port lines (side (fresh s width) table) new text h
+run_of_machine port s width lanes lines new text h = by_lines port lines (side (fresh s width) lanes) new text h

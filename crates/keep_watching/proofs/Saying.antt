@@ -3,7 +3,7 @@ use Rattle.std.proofs.Common.{◌≡◌, ◌∙◌, ◌≢◌, ℕ, Bool, true, 
 use Rattle.keep_run.specs.EventLines.{heard_in, need_in}
 use Rattle.keep_run.specs.EventLines.{words_in as heard_words}
 use Rattle.keep_run.specs.declared.live.event_line.Heard.{Heard}
-use Rattle.keep_run.specs.declared.live.event_line.TheConstants.{MOST_LINE}
+use Rattle.keep_lines.specs.declared.limits.TheConstants.{MOST_LINE}
 use Rattle.keep_tree.specs.Forest.{Forest}
 use Rattle.keep_watching.specs.declared.line.Line.{Line}
 use Rattle.keep_watching.specs.Lines.{clock_in, known_in, line_in, need_of, words_in}

@@ -1,31 +1,35 @@
 -- Secrets: the law that what a watch writes tells no secret and no lease id.
-use Rattle.std.proofs.Common.{◌≡◌, ◌∙◌, ◌==◌, ◌-◌, ℕ, Bool, true, false, cond, is_some, find, flat_map, length, map, option_to_list, replicate, List, [], ◌∷◌, ◌++◌, Option, Some, None, Ok, option_map, ap, refl, sym, subst}
-use Rattle.std.specs.List.{range_with_len}
+use Rattle.std.proofs.Common.{◌≡◌, ◌∙◌, ◌-◌, ℕ, Bool, true, false, is_some, length, replicate, List, [], ◌∷◌, ◌++◌, Option, Some, None, Ok, option_map, ap, refl, sym, subst}
 use mathlib.Core.Path.{path_j}
 use Rattle.keep_inventory.specs.Inventories.{Inventory}
+use Rattle.keep_lanes.specs.declared.lanes.Answered.{Answered}
 use Rattle.keep_run.specs.Text.{name_of}
 use Rattle.keep_tree.specs.Forest.{Forest}
-use Rattle.keep_watch.specs.declared.command.Command.{Command}
-use Rattle.keep_watch.specs.declared.command.Command.TheVariants.{Ask, Wait, Taken}
-use Rattle.keep_watch.specs.declared.command.Output.{Output}
-use Rattle.keep_watch.specs.declared.event.Event.{Event}
-use Rattle.keep_watch.specs.declared.event.Event.TheVariants as events
-use Rattle.keep_watch.specs.declared.event.Request.{Request}
-use Rattle.keep_watch.specs.declared.readings.Next.{Next}
-use Rattle.keep_watch.specs.History.{Turn}
-use Rattle.keep_watch.specs.State.{State, opened}
-use Rattle.keep_exchange.specs.Abreast.{Answer}
-use Rattle.keep_watching.specs.Answers.{Answered, AreTaken, IsTaken, answered, by_index, is_of, noted_lines, reply_lines, with_answer}
+use Rattle.watch_machine.specs.declared.command.Command.{Command}
+use Rattle.watch_machine.specs.declared.command.Command.TheVariants.{Go}
+use Rattle.watch_machine.specs.declared.command.Output.{Output}
+use Rattle.watch_machine.specs.declared.command.Request.{Request}
+use Rattle.watch_machine.specs.declared.event.Event.{Event}
+use Rattle.watch_machine.specs.declared.event.Event.TheVariants as events
+use Rattle.watch_machine.specs.declared.event.Operation.{Operation}
+use Rattle.watch_machine.specs.declared.lanes.Out.{Out}
+use Rattle.watch_machine.specs.declared.notes.Notes.{Notes}
+use Rattle.watch_machine.specs.declared.readings.Next.{Next}
+use Rattle.watch_machine.specs.History.{Turn}
+use Rattle.watch_machine.specs.State.{State, opened}
+use Rattle.keep_watching.specs.Answers.{AreTaken, IsTaken, noted_lines, out_of, reply_lines}
 use Rattle.keep_watching.specs.Clocked.{IsClocked, IsDone, IsNextThere, IsWaited, Side, changed_line, clock_lines, clocked, next_there, said_after, short_lines, side}
-use Rattle.keep_watching.specs.Hears.{AreHeard, IsHeard, IsKnown, IsLineHeard, IsTurned}
+use Rattle.keep_watching.specs.Hears.{IsHeard, IsKnown, IsLineHeard, IsTurned}
+use Rattle.keep_watching.specs.Listening.{AreHeard}
 use Rattle.keep_watching.specs.Lines.{line_in}
-use Rattle.keep_watching.specs.Secrecy.{Content, SecretsLaw, content, contents, contents_done, contents_heard}
-use Rattle.keep_watching.specs.Slices.{asked_lines}
+use Rattle.keep_watching.specs.Secrecy.{Content, SecretsLaw, contents, contents_done, contents_heard, contents_taken}
+use Rattle.keep_watching.specs.Sending.{asked_lines}
 use Rattle.keep_watching.specs.Texts.{clock_line, wait_line}
-use Rattle.keep_watching.specs.Told.{event_of}
+use Rattle.keep_watching.specs.Told.{event_as}
 use Rattle.keep_watching.specs.Watching.{Watching, fresh}
 use Rattle.keep_watching.specs.declared.line.Line.{Line}
 use Rattle.keep_watching.specs.declared.line.Line.TheVariants.{Clock, Need, Begin, Known, Unknown}
+use Rattle.keep_watching.specs.declared.told.Said.{Said}
 use Rattle.keep_watching.proofs.Once.{next_once, turn_once}
 
 -- two watches that differ in their inventories' secrets alone
@@ -43,7 +47,7 @@ record AreBothAlike (w v : Watching) (text more : List ℕ) : Type 0 where
 cons_head : {X : Type 0} (x y : X) (xs ys : List X) → x ∷ xs ≡ y ∷ ys → x ≡ y
 cons_head x y xs ys e = cc
 
-cons_tail : {X : Type 0} (x y : X) (xs ys : List X) → x ∷ xs ≡ y ∷ ys → xs ≡ ys
+pub cons_tail : {X : Type 0} (x y : X) (xs ys : List X) → x ∷ xs ≡ y ∷ ys → xs ≡ ys
 cons_tail x y xs ys e = cc
 
 not_empty : {X : Type 0} (x : X) (xs : List X) → x ∷ xs ≡ [] → ⊥
@@ -57,77 +61,62 @@ not_full x xs e = cc
 
 -- ---- answers
 
-module _ (s t : Inventory) (forest : t.forest ≡ s.forest) where
-  abbrev AreOfOneContent : List Answered → List Answered → Type 0
-  AreOfOneContent [] [] = Unit {0}
-  AreOfOneContent [] (y ∷ ys) = ⊥
-  AreOfOneContent (x ∷ xs) [] = ⊥
-  AreOfOneContent (x ∷ xs) (y ∷ ys) = (y.request ≡ x.request) × ((content t y ≡ content s x) × AreOfOneContent xs ys)
+-- the requests that a clock commands, and until when nothing is to be done
+abbrev pub requests_in : Command → List Request
+requests_in (Go requests until) = requests
+requests_in other = []
 
-  one_taken : (x y : Answered) (old new last : State) (text more : List ℕ) → y.request ≡ x.request → content t y ≡ content s x → IsTaken s x old new text → IsTaken t y old last more → (last ≡ new) × (more ≡ text)
-  one_taken x y old new last text more request same h k =
-      let event : event_of y.request (content t y).reply (content t y).terms ≡ event_of x.request (content s x).reply (content s x).terms =
-      ap (λ (r : Request). event_of r (content t y).reply (content t y).terms) request ∙ ap (λ (c : Content). event_of x.request c.reply c.terms) same in
-      let both = turn_once old new last (event_of x.request (content s x).reply (content s x).terms) h.output k.output h.turn (subst (λ (e : Event). Turn old e (Ok k.output) last) event k.turn) in
-      let lines : Forest → Request → Content → Output → State → List ℕ = λ g r c o m. reply_lines (name_of g r.entry) m r c.reply ++ noted_lines (name_of g r.entry) m c.terms.endless o.notes in (
+abbrev pub until_in : Command → ℕ
+until_in (Go requests until) = until
+until_in other = 0
+
+abbrev content_at : ℕ → Said → Content
+content_at i said = record { index = i; said = said }
+
+module _ (s t : Inventory) (forest : t.forest ≡ s.forest) where
+  pub one_taken :
+      (x y : Answered) (old other new last : State) (text more : List ℕ) → other ≡ old → (h : IsTaken s x old new text) (k : IsTaken t y other last more) → y.index ≡ x.index → k.said ≡ h.said →
+      (last ≡ new) × (more ≡ text)
+  one_taken x y old other new last text more state h k index said =
+      let found : Some k.request ≡ Some h.request = sym k.is_out ∙ ap (λ (m : State). out_of m.out y.index) state ∙ ap (out_of old.out) index ∙ h.is_out in
+      let operation : k.request.operation ≡ h.request.operation = ap (λ (r : Out). r.operation) (some_same k.request h.request found) in
+      let event_at : Operation → ℕ → Said → Event = λ o i said. event_as o i said.reply said.terms in
+      let event : event_at k.request.operation y.index k.said ≡ event_at h.request.operation x.index h.said =
+      ap (λ o. event_at o y.index k.said) operation ∙ ap (λ i. event_at h.request.operation i k.said) index ∙ ap (event_at h.request.operation x.index) said in
+      let turn : Turn old (event_at h.request.operation x.index h.said) (Ok k.output) last =
+      subst (λ (m : State). Turn m (event_at h.request.operation x.index h.said) (Ok k.output) last) state (subst (λ (e : Event). Turn other e (Ok k.output) last) event k.turn) in
+      let both = turn_once old new last (event_at h.request.operation x.index h.said) h.output k.output h.turn turn in
+      let lines : Forest → Operation → ℕ → Said → Output → State → List ℕ = λ g o i said output m. reply_lines (name_of g i) m o i said ++ noted_lines (name_of g i) m output.notes in (
         both.1,
-        k.text_is ∙ ap (λ g. lines g y.request (content t y) k.output last) forest ∙ ap (λ r. lines s.forest r (content t y) k.output last) request
-            ∙ ap (λ c. lines s.forest x.request c k.output last) same ∙ ap (λ o. lines s.forest x.request (content s x) o last) both.0 ∙ ap (λ m. lines s.forest x.request (content s x) h.output m) both.1 ∙ sym h.text_is,
+        k.text_is ∙ ap (λ g. lines g k.request.operation y.index k.said k.output last) forest ∙ ap (λ o. lines s.forest o y.index k.said k.output last) operation
+            ∙ ap (λ i. lines s.forest h.request.operation i k.said k.output last) index ∙ ap (λ z. lines s.forest h.request.operation x.index z k.output last) said
+            ∙ ap (λ o. lines s.forest h.request.operation x.index h.said o last) both.0 ∙ ap (lines s.forest h.request.operation x.index h.said h.output) both.1 ∙ sym h.text_is,
       )
 
-  all_taken : (xs ys : List Answered) (old new last : State) (text more : List ℕ) → AreOfOneContent xs ys → AreTaken s xs old new text → AreTaken t ys old last more → (last ≡ new) × (more ≡ text)
-  all_taken [] [] old new last text more same h k = (k.0 ∙ sym h.0, k.1 ∙ sym h.1)
-  all_taken [] (y ∷ ys) old new last text more same h k = absurd same
-  all_taken (x ∷ xs) [] old new last text more same h k = absurd same
-  all_taken (x ∷ xs) (y ∷ ys) old new last text more same h k =
-      let one = one_taken x y old h.0 k.0 h.1.0 k.1.0 same.0 same.1.0 h.1.1.1.0 k.1.1.1.0 in
-      let rest = all_taken xs ys h.0 new last h.1.1.0 k.1.1.0 same.1.1 h.1.1.1.1.0 (subst (λ m. AreTaken t ys m last k.1.1.0) one.0 k.1.1.1.1.0) in
+  all_taken :
+      (xs ys : List Answered) (old other new last : State) (text more : List ℕ) → other ≡ old → (h : AreTaken s xs old new text) (k : AreTaken t ys other last more) →
+      contents_taken t ys other last more k ≡ contents_taken s xs old new text h → (last ≡ new) × (more ≡ text)
+  all_taken [] [] old other new last text more state h k same = (k.0 ∙ state ∙ sym h.0, k.1 ∙ sym h.1)
+  all_taken [] (y ∷ ys) old other new last text more state h k same = absurd (not_empty _ _ same)
+  all_taken (x ∷ xs) [] old other new last text more state h k same = absurd (not_full _ _ same)
+  all_taken (x ∷ xs) (y ∷ ys) old other new last text more state h k same =
+      let first : content_at y.index k.1.1.1.0.said ≡ content_at x.index h.1.1.1.0.said = cons_head _ _ _ _ same in
+      let one = one_taken x y old other h.0 k.0 h.1.0 k.1.0 state h.1.1.1.0 k.1.1.1.0 (ap (λ (c : Content). c.index) first) (ap (λ (c : Content). c.said) first) in
+      let rest = all_taken xs ys h.0 k.0 new last h.1.1.0 k.1.1.0 one.0 h.1.1.1.1.0 k.1.1.1.1.0 (cons_tail _ _ _ _ same) in
       (rest.0, k.1.1.1.1.1 ∙ ap (λ x. x ++ k.1.1.0) one.1 ∙ ap (λ x. h.1.0 ++ x) rest.1 ∙ sym h.1.1.1.1.1)
-
-  answered_alike : (rs : List Request) (xs ys : List Answer) → map (content t) (answered rs ys) ≡ map (content s) (answered rs xs) → AreOfOneContent (answered rs xs) (answered rs ys)
-  answered_alike [] xs ys e = tt
-  answered_alike (r ∷ rs) [] [] e = tt
-  answered_alike (r ∷ rs) [] (y ∷ ys) e = absurd (not_empty _ _ e)
-  answered_alike (r ∷ rs) (x ∷ xs) [] e = absurd (not_full _ _ e)
-  answered_alike (r ∷ rs) (x ∷ xs) (y ∷ ys) e =
-      (refl, (cons_head (content t (with_answer r y)) (content s (with_answer r x)) _ _ e, answered_alike rs xs ys (cons_tail (content t (with_answer r y)) (content s (with_answer r x)) _ _ e)))
-
-  found_alike : (i : ℕ) (xs ys : List Answered) → AreOfOneContent xs ys → AreOfOneContent (option_to_list (find (is_of i) xs)) (option_to_list (find (is_of i) ys))
-  found_alike i [] [] same = tt
-  found_alike i [] (y ∷ ys) same = absurd same
-  found_alike i (x ∷ xs) [] same = absurd same
-  found_alike i (x ∷ xs) (y ∷ ys) same = by_test (x.request.entry == i) (y.request.entry == i) (ap (λ (r : Request). r.entry == i) same.0) (found_alike i xs ys same.1.1) where
-    by_test : (b c : Bool) → c ≡ b → AreOfOneContent (option_to_list (find (is_of i) xs)) (option_to_list (find (is_of i) ys)) → AreOfOneContent (option_to_list (cond b (Some x) (find (is_of i) xs))) (option_to_list (cond c (Some y) (find (is_of i) ys)))
-    by_test true true e rest = (same.0, (same.1.0, tt))
-    by_test false false e rest = rest
-    by_test true false e rest = absurd (let no : false ≡ true = e in cc)
-    by_test false true e rest = absurd (let no : true ≡ false = e in cc)
-
-  append_alike : (xs ys more rest : List Answered) → AreOfOneContent xs ys → AreOfOneContent more rest → AreOfOneContent (xs ++ more) (ys ++ rest)
-  append_alike [] [] more rest same then' = then'
-  append_alike [] (y ∷ ys) more rest same then' = absurd same
-  append_alike (x ∷ xs) [] more rest same then' = absurd same
-  append_alike (x ∷ xs) (y ∷ ys) more rest same then' = (same.0, (same.1.0, append_alike xs ys more rest same.1.1 then'))
-
-  each_alike : (is : List ℕ) (xs ys : List Answered) → AreOfOneContent xs ys → AreOfOneContent (flat_map (λ i. option_to_list (find (is_of i) xs)) is) (flat_map (λ i. option_to_list (find (is_of i) ys)) is)
-  each_alike [] xs ys same = tt
-  each_alike (i ∷ is) xs ys same = append_alike (option_to_list (find (is_of i) xs)) (option_to_list (find (is_of i) ys)) _ _ (found_alike i xs ys same) (each_alike is xs ys same)
-
-  index_alike : (n m : ℕ) (xs ys : List Answered) → m ≡ n → AreOfOneContent xs ys → AreOfOneContent (by_index n xs) (by_index m ys)
-  unfolding by_index
-  index_alike n m xs ys e same = subst (λ k. AreOfOneContent (by_index n xs) (by_index k ys)) (sym e) (each_alike (range_with_len 0 n) xs ys same)
 
 -- ---- what is done at a clock
 
-there_once : (m : State) (x y : Option Next) → IsNextThere m x → IsNextThere m y → y ≡ x
+pub there_once : (m : State) (x y : Option Next) → IsNextThere m x → IsNextThere m y → y ≡ x
 there_once m x y h k = k.1.1 ∙ ap (option_map (next_there m)) (next_once m h.0 k.0 h.1.0 k.1.0) ∙ sym h.1.1
 
-waits_alike : (w v : Watching) (until : ℕ) (new last : Watching) (text more : List ℕ) → AreAlike w v → IsWaited w until new text → IsWaited v until last more → AreBothAlike new last text more
-waits_alike w v until new last text more alike h k =
+waits_alike : (w v : Watching) (until other : ℕ) (new last : Watching) (text more : List ℕ) → other ≡ until → AreAlike w v → IsWaited w until new text → IsWaited v other last more → AreBothAlike new last text more
+waits_alike w v until other new last text more same alike h k =
     let next : k.next ≡ h.next = there_once w.machine h.next k.next h.is_next (subst (λ m. IsNextThere m k.next) alike.machine k.is_next) in
+    let lines : Forest → Option (Option Next) → Option Next → ℕ → State → List ℕ = λ g said next until m. changed_line g said next ++ wait_line (until - m.clocks.phase) in
     record {
-      wrote = k.text_is ∙ ap (λ g. changed_line g v.next k.next ++ wait_line (until - v.machine.clocks.phase)) alike.forest ∙ ap (λ n. changed_line w.inventory.forest n k.next ++ wait_line (until - v.machine.clocks.phase)) alike.next
-          ∙ ap (λ n. changed_line w.inventory.forest w.next n ++ wait_line (until - v.machine.clocks.phase)) next ∙ ap (λ (m : State). changed_line w.inventory.forest w.next h.next ++ wait_line (until - m.clocks.phase)) alike.machine ∙ sym h.text_is;
+      wrote = k.text_is ∙ ap (λ g. lines g v.next k.next other v.machine) alike.forest ∙ ap (λ n. lines w.inventory.forest n k.next other v.machine) alike.next ∙ ap (λ n. lines w.inventory.forest w.next n other v.machine) next
+          ∙ ap (λ n. lines w.inventory.forest w.next h.next n v.machine) same ∙ ap (lines w.inventory.forest w.next h.next until) alike.machine ∙ sym h.text_is;
       left = record {
         machine = ap (λ (x : Watching). x.machine) k.new_is ∙ alike.machine ∙ sym (ap (λ (x : Watching). x.machine) h.new_is);
         forest = ap (λ (x : Watching). x.inventory.forest) k.new_is ∙ alike.forest ∙ sym (ap (λ (x : Watching). x.inventory.forest) h.new_is);
@@ -145,27 +134,29 @@ moved w v new last alike h k machine = record {
   next = ap (λ (x : Watching). x.next) k ∙ alike.next ∙ sym (ap (λ (x : Watching). x.next) h);
 }
 
-module _ (port other : ℕ) where
-  done_alike :
-      (old side' : Side) (wall : ℕ) (command : Command) (new last : Side) (text more : List ℕ) → AreAlike old.watching side'.watching → (h : IsDone port old wall command new text) (k : IsDone other side' wall command last more) →
-      contents_done other side' wall command last more k ≡ contents_done port old wall command new text h → AreBothAlike new.watching last.watching text more
-  done_alike old side' wall (Ask requests patience) new last text more alike h k same =
-      let s = old.watching.inventory in
-      let t = side'.watching.inventory in
-      let answers = index_alike s t alike.forest (length s.forest.entries) (length t.forest.entries) (answered requests h.slice.answers) (answered requests k.slice.answers) (ap (λ (g : Forest). length g.entries) alike.forest)
-      (answered_alike s t alike.forest requests h.slice.answers k.slice.answers same) in
-      let taken = all_taken s t alike.forest _ _ old.watching.machine new.watching.machine last.watching.machine h.slice.told k.slice.told answers h.slice.taken
-      (subst (λ m. AreTaken t (by_index (length t.forest.entries) (answered requests k.slice.answers)) m last.watching.machine k.slice.told) alike.machine k.slice.taken) in
-      let told : k.told ≡ h.told = k.slice.text_is ∙ ap (λ g. asked_lines g requests ++ k.slice.told) alike.forest ∙ ap (λ x. asked_lines s.forest requests ++ x) taken.1 ∙ sym h.slice.text_is in
-      record { wrote = k.text_is ∙ ap (λ x. x ++ clock_line) told ∙ sym h.text_is; left = moved old.watching side'.watching new.watching last.watching alike h.rest k.rest taken.0 }
-  done_alike old side' wall (Wait until) new last text more alike h k same = waits_alike old.watching side'.watching until new.watching last.watching text more alike h.0 k.0
-  done_alike old side' wall Taken new last text more alike h k same = absurd h
+-- what was out, and what was done until when
+done_alike :
+    (out other : List Out) (elapsed until later : ℕ) (old side' new last : Side) (text more : List ℕ) → other ≡ out → later ≡ until → AreAlike old.watching side'.watching →
+    (h : IsDone out elapsed until old new text) (k : IsDone other elapsed later side' last more) → contents_done other elapsed later side' last more k ≡ contents_done out elapsed until old new text h →
+    AreBothAlike new.watching last.watching text more
+done_alike [] [] elapsed until later old side' new last text more outs moments alike h k same = waits_alike old.watching side'.watching until later new.watching last.watching text more moments alike h.0 k.0
+done_alike [] (q ∷ qs) elapsed until later old side' new last text more outs moments alike h k same = absurd (not_empty _ _ outs)
+done_alike (r ∷ rs) [] elapsed until later old side' new last text more outs moments alike h k same = absurd (not_full _ _ outs)
+done_alike (r ∷ rs) (q ∷ qs) elapsed until later old side' new last text more outs moments alike h k same =
+    let taken = all_taken old.watching.inventory side'.watching.inventory alike.forest h.answers k.answers old.watching.machine side'.watching.machine new.watching.machine last.watching.machine h.told k.told alike.machine h.taken k.taken same in
+    record { wrote = k.text_is ∙ ap (λ x. x ++ clock_line) taken.1 ∙ sym h.text_is; left = moved old.watching side'.watching new.watching last.watching alike h.rest k.rest taken.0 }
 
+module _ (port other : ℕ) where
   clock_alike :
       (old side' : Side) (wall elapsed : ℕ) (new last : Side) (text more : List ℕ) → AreAlike old.watching side'.watching → (h : IsClocked port old wall elapsed new text) (k : IsClocked other side' wall elapsed last more) →
       contents_heard other side' (Clock wall elapsed) last more k ≡ contents_heard port old (Clock wall elapsed) new text h → AreBothAlike new.watching last.watching text more
   clock_alike old side' wall elapsed new last text more alike h k same =
-      let both = turn_once old.watching.machine h.mid k.mid (events.Clock wall elapsed) h.output k.output h.turn (subst (λ m. Turn m (events.Clock wall elapsed) (Ok k.output) k.mid) alike.machine k.turn) in
+      let one : Output = record { command = Go h.requests h.until; notes = h.notes } in
+      let two : Output = record { command = Go k.requests k.until; notes = k.notes } in
+      let both = turn_once old.watching.machine h.mid k.mid (events.Clock wall elapsed) one two h.turn (subst (λ m. Turn m (events.Clock wall elapsed) (Ok two) k.mid) alike.machine k.turn) in
+      let notes : k.notes ≡ h.notes = ap (λ (o : Output). o.notes) both.0 in
+      let requests : k.requests ≡ h.requests = ap (λ (o : Output). requests_in o.command) both.0 in
+      let until : k.until ≡ h.until = ap (λ (o : Output). until_in o.command) both.0 in
       let g = old.watching.inventory.forest in
       let ready : AreAlike (clocked old.watching h.mid) (clocked side'.watching k.mid) = record {
         machine = both.1;
@@ -173,17 +164,13 @@ module _ (port other : ℕ) where
         said = ap (λ m. said_after m side'.watching.said) both.1 ∙ ap (said_after h.mid) alike.said;
         next = alike.next;
       } in
-      let before : Side = side (clocked old.watching h.mid) old.table in
-      let there : Side = side (clocked side'.watching k.mid) side'.table in
-      let command : h.output.command ≡ k.output.command = sym (ap (λ (o : Output). o.command) both.0) in
-      let done = path_j
-      (λ (c : Command) (e : h.output.command ≡ c). (d : IsDone other there wall c last k.done) → contents_done other there wall c last k.done d ≡ contents_done port before wall h.output.command new h.done h.is_done →
-      AreBothAlike new.watching last.watching h.done k.done)
-      (λ d e. done_alike before there wall h.output.command new last h.done k.done ready h.is_done d e) command k.is_done same in
-      let lines : Forest → State → Output → List (Option ℕ) → List ℕ → List ℕ = λ f m o said rest. clock_lines f m o.notes ++ (short_lines f m said ++ rest) in
+      let done = done_alike h.mid.out k.mid.out elapsed h.until k.until (side (clocked old.watching h.mid) h.lanes) (side (clocked side'.watching k.mid) k.lanes) new last h.done k.done (ap (λ (m : State). m.out) both.1) until ready
+      h.is_done k.is_done same in
+      let lines : Forest → State → Notes → List (Option ℕ) → List Request → List ℕ → List ℕ = λ f m notes said requests rest. clock_lines f m notes ++ (short_lines f m said ++ (asked_lines f requests ++ rest)) in
       record {
-        wrote = k.text_is ∙ ap (λ f. lines f k.mid k.output side'.watching.said k.done) alike.forest ∙ ap (λ m. lines g m k.output side'.watching.said k.done) both.1 ∙ ap (λ o. lines g h.mid o side'.watching.said k.done) both.0
-            ∙ ap (λ x. lines g h.mid h.output x k.done) alike.said ∙ ap (lines g h.mid h.output old.watching.said) done.wrote ∙ sym h.text_is;
+        wrote = k.text_is ∙ ap (λ f. lines f k.mid k.notes side'.watching.said k.requests k.done) alike.forest ∙ ap (λ m. lines g m k.notes side'.watching.said k.requests k.done) both.1
+            ∙ ap (λ n. lines g h.mid n side'.watching.said k.requests k.done) notes ∙ ap (λ x. lines g h.mid h.notes x k.requests k.done) alike.said ∙ ap (λ rs. lines g h.mid h.notes old.watching.said rs k.done) requests
+            ∙ ap (lines g h.mid h.notes old.watching.said h.requests) done.wrote ∙ sym h.text_is;
         left = done.left;
       }
 
@@ -236,7 +223,7 @@ module _ (port other : ℕ) where
       record { wrote = k.1.1.1.1.1 ∙ ap (λ x. x ++ k.1.1.0) one.wrote ∙ ap (λ x. h.1.0 ++ x) rest.wrote ∙ sym h.1.1.1.1.1; left = rest.left }
 
 pub secrets : SecretsLaw
-secrets s t only width port other a b lines new last text more h k same =
+secrets s t only width port other before after lines new last text more h k same =
     let forest : t.forest ≡ s.forest = ap (λ (i : Inventory). i.forest) only in
     let first : AreAlike (fresh s width) (fresh t width) = record {
       machine = ap (λ g. opened g width) forest;
@@ -244,5 +231,5 @@ secrets s t only width port other a b lines new last text more h k same =
       said = ap (λ (g : Forest). replicate (length g.entries) None) forest;
       next = refl;
     } in
-    let both = lines_alike port other lines (side (fresh s width) a) (side (fresh t width) b) new last text more first h k same in
+    let both = lines_alike port other lines (side (fresh s width) before) (side (fresh t width) after) new last text more first h k same in
     (both.wrote, both.left.machine)

@@ -1,53 +1,38 @@
--- Turns: which events a watch between two lines takes, and what a turn of the machine leaves: for `turn` and what calls it.
-use Rattle.std.proofs.Common.{◌≡◌, ◌∙◌, ℕ, ◌<◌, Bool, false, cond, Some, None, Result, Ok, length, ap, arith, nat_le}
+-- Turns: which events a watch takes between two lines, and what a turn of the machine leaves: for `turn` and what calls it.
+use Rattle.std.proofs.Common.{◌≡◌, ◌∙◌, ℕ, ◌<◌, Bool, false, Some, None, Result, length, refl, arith, nat_le}
+use Rattle.std.proofs.lemmas.Bool.{cond-false}
 use Rattle.std.proofs.lemmas.Bool.Decides.{nat_tests}
-use Rattle.keep_watch.specs.declared.command.Output.{Output}
-use Rattle.keep_watch.specs.declared.event.Event.{Event}
-use Rattle.keep_watch.specs.declared.event.Event.TheVariants.{Clock, Need, Begin, Known}
-use Rattle.keep_watch.specs.declared.fault.WatchFault.{WatchFault}
-use Rattle.keep_watch.specs.declared.fault.WatchFault.TheVariants.{BadIndex, SliceOpen}
-use Rattle.keep_watch.specs.History.{Turn}
-use Rattle.keep_watch.specs.Refusal.{is_open, refusal, unless_closed}
-use Rattle.keep_watch.specs.State.{State, unanswered_of}
-use Rattle.keep_watch.proofs.Recovering.{turn_entries}
-use Rattle.keep_watching.specs.Watching.{IsClosed, IsWhole, Watching}
+use Rattle.watch_machine.specs.declared.command.Output.{Output}
+use Rattle.watch_machine.specs.declared.event.Event.{Event}
+use Rattle.watch_machine.specs.declared.event.Event.TheVariants.{Clock, Need, Begin, Known}
+use Rattle.watch_machine.specs.declared.fault.WatchFault.{WatchFault}
+use Rattle.watch_machine.specs.declared.fault.WatchFault.TheVariants.{BadIndex}
+use Rattle.watch_machine.specs.History.{Turn}
+use Rattle.watch_machine.specs.Refusal.{refusal, unless_within}
+use Rattle.watch_machine.specs.State.{State}
+use Rattle.keep_watching.specs.Watching.{IsWhole, Watching}
+use Rattle.keep_watching.proofs.Sound.{turn_entries}
 
--- ---- which events are taken
-
-closed_free : (s : State) → IsClosed s → unless_closed s ≡ None
-closed_free s closed = ap (λ rs. cond (is_open rs) (Some SliceOpen) None) closed
-
-within_free : (s : State) (i : ℕ) → IsClosed s → i < length s.forest.entries → cond (nat_le (length s.forest.entries) i) (Some BadIndex) (unless_closed s) ≡ None
-within_free s i closed within =
+within_free : (s : State) (i : ℕ) → i < length s.forest.entries → unless_within s i None ≡ None
+within_free s i within =
     let test : nat_le (length s.forest.entries) i ≡ false = grind (arith, nat_tests) in
-    ap (λ b. cond b (Some BadIndex) (unless_closed s)) test ∙ closed_free s closed
+    cond-false (nat_le (length s.forest.entries) i) (Some BadIndex) None test
 
-pub clock_free : (s : State) (wall elapsed : ℕ) → IsClosed s → refusal s (Clock wall elapsed) ≡ None
+pub clock_free : (s : State) (wall elapsed : ℕ) → refusal s (Clock wall elapsed) ≡ None
 unfolding refusal
-clock_free s wall elapsed closed = closed_free s closed
+clock_free s wall elapsed = refl
 
-pub begin_free : (s : State) → IsClosed s → refusal s Begin ≡ None
+pub begin_free : (s : State) → refusal s Begin ≡ None
 unfolding refusal
-begin_free s closed = closed_free s closed
+begin_free s = refl
 
-pub need_free : (s : State) (i until : ℕ) → IsClosed s → i < length s.forest.entries → refusal s (Need i until) ≡ None
+pub need_free : (s : State) (i until : ℕ) → i < length s.forest.entries → refusal s (Need i until) ≡ None
 unfolding refusal
-need_free s i until closed within = within_free s i closed within
+need_free s i until within = within_free s i within
 
-pub known_free : (s : State) (i end : ℕ) (renewable : Bool) → IsClosed s → i < length s.forest.entries → refusal s (Known i end renewable) ≡ None
+pub known_free : (s : State) (i end : ℕ) (renewable : Bool) → i < length s.forest.entries → refusal s (Known i end renewable) ≡ None
 unfolding refusal
-known_free s i end renewable closed within = within_free s i closed within
-
--- ---- what a turn leaves
+known_free s i end renewable within = within_free s i within
 
 pub whole_turn : (w : Watching) (event : Event) (result : Result Output WatchFault) (new : State) → IsWhole w → Turn w.machine event result new → IsWhole (record w { machine = new })
 whole_turn w event result new whole turn = record { machine = turn_entries w.machine new event result turn ∙ whole.machine; said = whole.said }
-
-pub need_closed : (old new : State) (i until : ℕ) (output : Output) → Turn old (Need i until) (Ok output) new → IsClosed old → IsClosed new
-need_closed old new i until output turn closed = ap (λ (s : State). unanswered_of s.slice) turn.1.1 ∙ closed
-
-pub begin_closed : (old new : State) (output : Output) → Turn old Begin (Ok output) new → IsClosed old → IsClosed new
-begin_closed old new output turn closed = ap (λ (s : State). unanswered_of s.slice) turn.1.1 ∙ closed
-
-pub known_closed : (old new : State) (i end : ℕ) (renewable : Bool) (output : Output) → Turn old (Known i end renewable) (Ok output) new → IsClosed old → IsClosed new
-known_closed old new i end renewable output turn closed = ap (λ (s : State). unanswered_of s.slice) turn.1.1 ∙ closed

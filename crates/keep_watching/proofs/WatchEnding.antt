@@ -15,11 +15,11 @@ use Rattle.keep_report.specs.Exits.{exit_of, stop_of_inventory}
 use Rattle.keep_report.specs.FaultLine.{fault_line}
 use Rattle.keep_report.specs.Sent.{IsUntouched}
 use Rattle.keep_report.specs.Told.{Reports}
+use Rattle.keep_watching.specs.Sending.{Lanes}
 use Rattle.keep_watching.specs.Clocked.{Side, side}
 use Rattle.keep_watching.specs.Listening.{Listens}
 use Rattle.keep_watching.specs.Watching.{Watching, fresh}
 use Rattle.keep_watching.specs.WatchRun.{HasListened, IsUnbegun, IsWatchStop, WatchEnds, WatchRun, WatchesTo}
-use Rattle.mini_broker.specs.Table.{Table}
 
 by_stop : (bytes : List ℕ) (stop : Stop) (errors : Change) → IsWatchStop bytes stop → Reports (fault_line (codes "leasekeep") stop) errors → WatchEnds bytes (exit_of stop) errors
 by_stop bytes (stops.Inventory fault) errors is told = (stops.Inventory fault, refl, is, told)
@@ -36,7 +36,7 @@ pub ended :
     (bytes : List ℕ) (stop : Stop) (exit : Exit) (errors : Change) → exit ≡ exit_of stop → IsWatchStop bytes stop → Reports (fault_line (codes "leasekeep") stop) errors → WatchEnds bytes exit errors
 ended bytes stop exit errors is why told = subst (λ (e : Exit). WatchEnds bytes e errors) (sym is) (by_stop bytes stop errors why told)
 
-module _ (port : ℕ) (bytes : List ℕ) (width : ℕ) (old : Option Table) (fed : Change) (out : Change) where
+module _ (port : ℕ) (bytes : List ℕ) (width : ℕ) (old : Lanes) (fed : Change) (out : Change) where
   -- the bytes are no inventory, or memory was wanting
   pub read_watches :
       (result : Result (Unit {0}) Stop) (fault : InvFault) → IsErr result × IsErrAnd result (λ (q : Stop). q ≡ stop_of_inventory fault) → Fails fault (inventory_for_good bytes) → IsUnbegun old fed out old → WatchesTo port bytes width old result fed out old
@@ -53,12 +53,12 @@ module _ (port : ℕ) (bytes : List ℕ) (width : ℕ) (old : Option Table) (fed
   -- it listened
   pub listened_watches :
       (inventory : Inventory) (watching : Watching) (final : Side) (result : Result (Unit {0}) Stop) → inventory_for_good bytes ≡ Ok inventory → watching ≡ fresh inventory width → Listens port (side watching old) result final fed out →
-      WatchesTo port bytes width old result fed out final.table
+      WatchesTo port bytes width old result fed out final.lanes
   listened_watches inventory watching final result read is listens = by_result result (subst (λ (w : Watching). Listens port (side w old) result final fed out) is listens) where
-    has : (u : Result (Unit {0}) Stop) → Listens port (side (fresh inventory width) old) u final fed out → HasListened port bytes width old u fed out final.table
-    has u h = record { inventory = inventory; is = read; final = final; listened = h; table = refl }
+    has : (u : Result (Unit {0}) Stop) → Listens port (side (fresh inventory width) old) u final fed out → HasListened port bytes width old u fed out final.lanes
+    has u h = record { inventory = inventory; is = read; final = final; listened = h; lanes = refl }
 
-    by_result : (u : Result (Unit {0}) Stop) → Listens port (side (fresh inventory width) old) u final fed out → WatchesTo port bytes width old u fed out final.table
+    by_result : (u : Result (Unit {0}) Stop) → Listens port (side (fresh inventory width) old) u final fed out → WatchesTo port bytes width old u fed out final.lanes
     by_result (Ok u) h = has (Ok u) h
     by_result (Err stops.Memory) h = inr (has (Err stops.Memory) h)
     by_result (Err stops.Write) h = has (Err stops.Write) h
@@ -68,15 +68,15 @@ module _ (port : ℕ) (bytes : List ℕ) (width : ℕ) (old : Option Table) (fed
     by_result (Err (stops.Broker name)) h = has (Err (stops.Broker name)) h
     by_result (Err (stops.Moments fault)) h = has (Err (stops.Moments fault)) h
     by_result (Err (stops.FaultWord i)) h = has (Err (stops.FaultWord i)) h
-    by_result (Err (stops.Inventory fault)) h = absurd h.ends.1
+    by_result (Err (stops.Inventory fault)) h = absurd h.ends.1.1.1
 
   -- ---- by exit
 
-  pub done_runs : (errors : Change) (new : Option Table) → WatchesTo port bytes width old (Ok tt) fed out new → IsUntouched errors → WatchRun port bytes width old exits.Done fed out errors new
+  pub done_runs : (errors : Change) (new : Lanes) → WatchesTo port bytes width old (Ok tt) fed out new → IsUntouched errors → WatchRun port bytes width old exits.Done fed out errors new
   done_runs errors new h none = (h, none)
 
   pub stopped_runs :
-      (stop : Stop) (exit : Exit) (errors : Change) (new : Option Table) → exit ≡ exit_of stop → WatchesTo port bytes width old (Err stop) fed out new → Reports (fault_line (codes "leasekeep") stop) errors →
+      (stop : Stop) (exit : Exit) (errors : Change) (new : Lanes) → exit ≡ exit_of stop → WatchesTo port bytes width old (Err stop) fed out new → Reports (fault_line (codes "leasekeep") stop) errors →
       WatchRun port bytes width old exit fed out errors new
   stopped_runs stop exit errors new is h told = subst (λ (e : Exit). WatchRun port bytes width old e fed out errors new) (sym is) (by_exit stop h told) where
     by_exit : (u : Stop) → WatchesTo port bytes width old (Err u) fed out new → Reports (fault_line (codes "leasekeep") u) errors → WatchRun port bytes width old (exit_of u) fed out errors new

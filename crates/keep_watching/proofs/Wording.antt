@@ -4,10 +4,10 @@ use Rattle.std.proofs.lemmas.List.{append_assoc}
 use Rattle.std.specs.List.{list_any}
 use Rattle.keep_run.specs.Text.{line, name_of}
 use Rattle.keep_tree.specs.Forest.{Forest}
-use Rattle.keep_watch.specs.declared.event.Operation.{Operation}
-use Rattle.keep_watch.specs.declared.event.Request.{Request}
-use Rattle.keep_watch.specs.Refusal.{is_same}
-use Rattle.keep_watching.specs.Slices.{asked_names}
+use Rattle.watch_machine.specs.declared.event.Operation.{Operation}
+use Rattle.watch_machine.specs.declared.command.Request.{Request}
+use Rattle.watch_machine.specs.Refusal.{is_same}
+use Rattle.keep_watching.specs.Sending.{asked_names}
 use Rattle.keep_watching.specs.Texts.{asked_line}
 use Rattle.keep_watching.specs.code.Asking.{asked_name}
 

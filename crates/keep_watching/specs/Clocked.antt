@@ -1,34 +1,34 @@
--- Clocked: what a clock comes to: what the machine notes of it, the needs that cannot be kept, the slice that goes out, or until
--- when nothing is to be done.
+-- Clocked: what a clock comes to: what the machine notes of it, the needs that cannot be kept, the requests that go out, and the
+-- answers that come, or until when nothing is to be done.
 -- Source: this project's own.
-use Rattle.std.specs.Prelude.{◌≡◌, ℕ, ◌-◌, Bool, true, false, if◌then◌else◌, List, [], ◌++◌, Option, Some, None, Ok, map, option_map, slice_index_or, ◌==◌}
-use Rattle.std.specs.List.{flat_map}
+use Rattle.std.specs.Prelude.{◌≡◌, ℕ, ◌+◌, ◌-◌, ◌==◌, ◌||◌, Bool, true, false, if◌then◌else◌, List, [], ◌∷◌, ◌++◌, Option, Some, None, Ok, length, map, min, nat_le, nat_lt, option_map, slice_index_or}
+use Rattle.std.specs.List.{flat_map, range_with_len}
 use Rattle.keep_run.specs.Text.{name_of, names_of}
+use Rattle.keep_lanes.specs.declared.lanes.Answered.{Answered}
+use Rattle.keep_moment.specs.declared.moment.TheConstants.{LAST}
 use Rattle.keep_tree.specs.Forest.{Forest}
-use Rattle.keep_watch.specs.declared.command.Command.{Command}
-use Rattle.keep_watch.specs.declared.command.Command.TheVariants.{Ask, Wait, Taken}
-use Rattle.keep_watch.specs.declared.command.Output.{Output}
-use Rattle.keep_watch.specs.declared.event.Event.TheVariants.{Clock}
-use Rattle.keep_watch.specs.declared.event.Request.{Request}
-use Rattle.keep_watch.specs.declared.notes.Notes.{Notes}
-use Rattle.keep_watch.specs.declared.readings.Next.{Next}
-use Rattle.keep_watch.specs.History.{Turn}
-use Rattle.keep_watch.specs.Readings.{IsNext, broker_moment, broker_now}
-use Rattle.keep_watch.specs.Shortness.{short_of}
-use Rattle.keep_watch.specs.State.{State, indices}
-use Rattle.keep_watching.specs.Answers.{if_some}
-use Rattle.keep_watching.specs.Slices.{AreOut, IsSlice, moment_of}
+use Rattle.watch_machine.specs.declared.command.Command.TheVariants.{Go}
+use Rattle.watch_machine.specs.declared.command.Request.{Request}
+use Rattle.watch_machine.specs.declared.lanes.Out.{Out}
+use Rattle.watch_machine.specs.declared.event.Event.TheVariants.{Clock}
+use Rattle.watch_machine.specs.declared.notes.Notes.{Notes}
+use Rattle.watch_machine.specs.declared.readings.Next.{Next}
+use Rattle.watch_machine.specs.History.{Turn}
+use Rattle.watch_machine.specs.Readings.{IsNext, broker_moment, broker_now}
+use Rattle.watch_machine.specs.Shortness.{short_of}
+use Rattle.watch_machine.specs.State.{State, entry_of}
+use Rattle.keep_watching.specs.Answers.{AreTaken, cut, if_some}
+use Rattle.keep_watching.specs.Sending.{AreHandedBack, GoOut, Lanes, asked_lines, moment_of}
 use Rattle.keep_watching.specs.Texts.{begin_line, clock_line, next_line, no_next_line, short_line, wait_line, wake_line}
-use Rattle.keep_watching.specs.Watching.{IsClosed, Watching}
-use Rattle.mini_broker.specs.Table.{Table}
+use Rattle.keep_watching.specs.Watching.{Watching}
 
--- a watch, and the table behind its exchange, where that is known
+-- a watch, and the lanes that its requests go out on
 pub record Side : Type 0 where
   pub watching : Watching
-  pub table : Option Table
+  pub lanes : Lanes
 
-abbrev pub side : Watching → Option Table → Side
-side watching table = record { watching = watching; table = table }
+abbrev pub side : Watching → Lanes → Side
+side watching lanes = record { watching = watching; lanes = lanes }
 
 -- ---- what is noted
 
@@ -40,24 +40,42 @@ clock_lines g m notes = if_some begin_line notes.began ++ if_some (λ asked. wak
 abbrev pub said_of : List (Option ℕ) → ℕ → Option ℕ
 said_of said i = slice_index_or said i None
 
-abbrev pub is_reach : Option ℕ → ℕ → Bool
-is_reach None reach = false
-is_reach (Some last) reach = last == reach
+-- it is said where nothing was, or where it differs by a margin or more from what was said last
+abbrev pub is_news : ℕ → Option ℕ → ℕ → Bool
+is_news margin None reach = true
+is_news margin (Some last) reach = nat_le (last + margin) reach || nat_le (reach + margin) last
 
--- a reach that was not said last
-abbrev pub news_line : List ℕ → Option ℕ → Option ℕ → List ℕ
-news_line name last None = []
-news_line name last (Some reach) = if is_reach last reach then [] else short_line name reach
+-- it is time to say that an entry cannot be kept: at once, but a day before the moment that it reaches where its need is the last
+-- moment, which is what `always` is to a watch
+abbrev pub is_time : State → ℕ → ℕ → Bool
+is_time m i reach = nat_lt (entry_of m i).need LAST || nat_le (reach - 86400) (broker_now m)
+
+abbrev pub timely : State → ℕ → Option ℕ → Option ℕ
+timely m i None = None
+timely m i (Some reach) = if is_time m i reach then Some reach else None
+
+-- the reach of an entry that is before its need, where it is time to say so
+unfoldable pub short_now : State → ℕ → Option ℕ
+short_now m i = timely m i (short_of m i)
+
+-- a reach that is news
+abbrev pub news_line : ℕ → List ℕ → Option ℕ → Option ℕ → List ℕ
+news_line margin name last None = []
+news_line margin name last (Some reach) = if is_news margin last reach then short_line name reach else []
+
+abbrev pub indices : State → List ℕ
+indices m = range_with_len 0 (length m.forest.entries)
 
 unfoldable pub short_lines : Forest → State → List (Option ℕ) → List ℕ
-short_lines g m said = flat_map (λ i. news_line (name_of g i) (said_of said i) (short_of m i)) (indices m)
+short_lines g m said = flat_map (λ i. news_line m.forest.margin (name_of g i) (said_of said i) (short_now m i)) (indices m)
 
-abbrev pub later : Option ℕ → Option ℕ → Option ℕ
-later last None = last
-later last (Some reach) = Some reach
+-- what was said last, once that is said, too
+abbrev pub later : ℕ → Option ℕ → Option ℕ → Option ℕ
+later margin last None = last
+later margin last (Some reach) = if is_news margin last reach then Some reach else last
 
 unfoldable pub said_after : State → List (Option ℕ) → List (Option ℕ)
-said_after m said = map (λ i. later (said_of said i) (short_of m i)) (indices m)
+said_after m said = map (λ i. later m.forest.margin (said_of said i) (short_now m i)) (indices m)
 
 -- ---- the next time
 
@@ -96,34 +114,40 @@ pub record IsWaited (old : Watching) (until : ℕ) (new : Watching) (text : List
   pub new_is : new ≡ record old { next = Some next }
   pub text_is : text ≡ changed_line old.inventory.forest old.next next ++ wait_line (until - old.machine.clocks.phase)
 
--- a slice goes out, and its answers are taken
-pub record IsAsked (port : ℕ) (old : Side) (wall : ℕ) (requests : List Request) (new : Side) (text : List ℕ) : Type 0 where
+-- answers are waited for, and taken; the time is to be handed in at once after them
+pub record AreTakenOn (now until : ℕ) (old new : Side) (text : List ℕ) : Type 0 where
+  pub answers : List Answered
+  pub handed_back : AreHandedBack now until old.lanes answers new.lanes
   pub told : List ℕ
-  pub slice : IsSlice port old.watching.inventory (moment_of wall) requests old.watching.machine new.watching.machine old.table new.table told
+  pub taken : AreTaken old.watching.inventory answers old.watching.machine new.watching.machine told
   pub rest : new.watching ≡ record old.watching { machine = new.watching.machine }
   pub text_is : text ≡ told ++ clock_line
 
--- the command is carried out: a slice goes out, or nothing is done until a moment
-abbrev pub IsDone : ℕ → Side → ℕ → Command → Side → List ℕ → Type 0
-IsDone port old wall (Ask requests patience) new text = IsAsked port old wall requests new text
-IsDone port old wall (Wait until) new text = IsWaited old.watching until new.watching text × (new.table ≡ old.table)
-IsDone port old wall Taken new text = ⊥
+-- the moment of the driver's clock up to which answers are waited for: no later than that, nor a second from now
+abbrev pub listens_until : State → ℕ → ℕ → ℕ
+listens_until m elapsed until = min (until - m.clocks.phase) (cut (elapsed + 1000))
 
--- a state in which a clock commands this: its requests have gone out, or every request is answered
-abbrev pub IsCommanded : State → Command → Type 0
-IsCommanded mid (Ask requests patience) = AreOut mid requests
-IsCommanded mid (Wait until) = IsClosed mid
-IsCommanded mid Taken = ⊥
+-- what is done until a moment, once all requests have gone out: where none is out there is nothing to be done until then, and else
+-- answers are waited for
+abbrev pub IsDone : List Out → ℕ → ℕ → Side → Side → List ℕ → Type 0
+IsDone [] elapsed until old new text = IsWaited old.watching until new.watching text × (new.lanes ≡ old.lanes)
+IsDone (r ∷ rest) elapsed until old new text = AreTakenOn elapsed (listens_until old.watching.machine elapsed until) old new text
 
 -- what a clock makes of the machine, and which reaches it says
 abbrev pub clocked : Watching → State → Watching
 clocked w mid = record w { machine = mid; said = said_after mid w.said }
 
--- a clock: one turn of the machine, and what it commands is done before this ends
+-- a clock: one turn of the machine; its requests go out, and then what it commands is done before this ends
 pub record IsClocked (port : ℕ) (old : Side) (wall elapsed : ℕ) (new : Side) (text : List ℕ) : Type 0 where
-  pub output : Output
+  pub notes : Notes
+  pub requests : List Request
+  pub until : ℕ
   pub mid : State
-  pub turn : Turn old.watching.machine (Clock wall elapsed) (Ok output) mid
+  pub turn : Turn old.watching.machine (Clock wall elapsed) (Ok (record { command = Go requests until; notes = notes })) mid
+  pub lanes : Lanes
+  pub sent : GoOut port old.watching.inventory mid (moment_of wall) elapsed requests old.lanes lanes
   pub done : List ℕ
-  pub is_done : IsDone port (side (clocked old.watching mid) old.table) wall output.command new done
-  pub text_is : text ≡ clock_lines old.watching.inventory.forest mid output.notes ++ (short_lines old.watching.inventory.forest mid old.watching.said ++ done)
+  pub is_done : IsDone mid.out elapsed until (side (clocked old.watching mid) lanes) new done
+  pub text_is :
+      text ≡ clock_lines old.watching.inventory.forest mid notes
+      ++ (short_lines old.watching.inventory.forest mid old.watching.said ++ (asked_lines old.watching.inventory.forest requests ++ done))

@@ -1,10 +1,10 @@
--- Hears: what a line comes to, and lines one after another.
+-- Hears: what a line comes to.
 -- Source: this project's own.
-use Rattle.std.specs.Prelude.{◌≡◌, ℕ, ◌/◌, Bool, true, false, is_some, List, [], ◌∷◌, ◌++◌, Some, Ok}
-use Rattle.keep_watch.specs.declared.command.Output.{Output}
-use Rattle.keep_watch.specs.declared.event.Event.{Event}
-use Rattle.keep_watch.specs.declared.event.Event.TheVariants as events
-use Rattle.keep_watch.specs.History.{Turn}
+use Rattle.std.specs.Prelude.{◌≡◌, ℕ, ◌/◌, Bool, true, false, is_some, List, ◌++◌, Some, Ok}
+use Rattle.watch_machine.specs.declared.command.Output.{Output}
+use Rattle.watch_machine.specs.declared.event.Event.{Event}
+use Rattle.watch_machine.specs.declared.event.Event.TheVariants as events
+use Rattle.watch_machine.specs.History.{Turn}
 use Rattle.keep_watching.specs.Clocked.{IsClocked, Side}
 use Rattle.keep_watching.specs.Lines.{line_in}
 use Rattle.keep_watching.specs.Texts.{after_clock_line, clock_line, planned_line, unknown_name_line}
@@ -34,16 +34,10 @@ IsTold old Unknown new text = (new ≡ old) × (text ≡ unknown_name_line ++ cl
 -- what a line says is done, and this text answers it. A clock alone makes requests, which name this port
 abbrev pub IsHeard : ℕ → Side → Line → Side → List ℕ → Type 0
 IsHeard port old (Clock wall elapsed) new text = IsClocked port old wall elapsed new text
-IsHeard port old line new text = IsTold old.watching line new.watching text × (new.table ≡ old.table)
+IsHeard port old line new text = IsTold old.watching line new.watching text × (new.lanes ≡ old.lanes)
 
 -- a line of the input, without its line feed, is heard
 pub record IsLineHeard (port : ℕ) (old : Side) (line : List ℕ) (new : Side) (text : List ℕ) : Type 0 where
   pub says : Line
   pub is : line_in old.watching.inventory.forest line ≡ Some says
   pub heard : IsHeard port old says new text
-
--- lines are heard, one after another, and their texts stand one after another
-abbrev pub AreHeard : ℕ → Side → List (List ℕ) → Side → List ℕ → Type 0
-AreHeard port old [] new text = (new ≡ old) × (text ≡ [])
-AreHeard port old (line ∷ lines) new text =
-    (mid : Side) × ((first : List ℕ) × ((rest : List ℕ) × (IsLineHeard port old line mid first × (AreHeard port mid lines new rest × (text ≡ first ++ rest)))))

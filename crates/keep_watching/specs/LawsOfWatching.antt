@@ -1,13 +1,13 @@
 -- LawsOfWatching: what holds of every watch that has heard lines. The contract of a public function without a body.
 -- Source: this project's own.
-use Rattle.std.specs.Prelude.{◌≡◌, ℕ, List, [], ◌∷◌, Option}
+use Rattle.std.specs.Prelude.{◌≡◌, ℕ, List, [], ◌∷◌}
 use Rattle.keep_inventory.specs.Inventories.{Inventory}
-use Rattle.keep_watch.specs.History.{History, Turned}
-use Rattle.keep_watch.specs.State.{State}
+use Rattle.watch_machine.specs.History.{History, Turned}
+use Rattle.watch_machine.specs.State.{State}
 use Rattle.keep_watching.specs.Clocked.{Side, side}
-use Rattle.keep_watching.specs.Hears.{AreHeard}
+use Rattle.keep_watching.specs.Listening.{AreHeard}
+use Rattle.keep_watching.specs.Sending.{Lanes}
 use Rattle.keep_watching.specs.Watching.{fresh}
-use Rattle.mini_broker.specs.Table.{Table}
 
 -- the state after these turns
 abbrev pub behind : State → List Turned → State
@@ -22,5 +22,5 @@ LeadsTo old new = (turns : List Turned) × (History old turns × (behind old tur
 -- making on: so each law of all such runs holds of it
 abbrev pub RunOfMachineLaw : Type 0
 RunOfMachineLaw =
-    (port : ℕ) (s : Inventory) (width : ℕ) (table : Option Table) (lines : List (List ℕ)) (new : Side) (text : List ℕ) → AreHeard port (side (fresh s width) table) lines new text →
+    (port : ℕ) (s : Inventory) (width : ℕ) (lanes : Lanes) (lines : List (List ℕ)) (new : Side) (text : List ℕ) → AreHeard port (side (fresh s width) lanes) lines new text →
     LeadsTo (fresh s width).machine new.watching.machine

@@ -3,13 +3,14 @@ pub mod Told
 pub mod Lines
 pub mod Watching
 pub mod Answers
-pub mod Slices
+pub mod Sending
 pub mod Clocked
 pub mod Hears
 pub mod WatchRun
 pub mod WatchFrom
 pub mod code
 pub mod Listening
+pub mod StopsAfter
 pub mod LawsOfWatching
 pub mod Secrecy
 pub mod Alike

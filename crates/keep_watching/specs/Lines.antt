@@ -5,7 +5,7 @@ use Rattle.std.specs.Prelude.{ℕ, ◌<◌, ◌==◌, Bool, true, false, if◌th
 use Rattle.keep_run.specs.EventLines.{need_in}
 use Rattle.keep_run.specs.declared.live.event_line.Heard.{Heard}
 use Rattle.keep_run.specs.declared.live.event_line.Heard.TheVariants as heard
-use Rattle.keep_run.specs.declared.live.event_line.TheConstants.{MOST_LINE}
+use Rattle.keep_lines.specs.declared.limits.TheConstants.{MOST_LINE}
 use Rattle.keep_tree.specs.Forest.{Forest, index_named}
 use Rattle.keep_watching.specs.declared.line.Line.{Line}
 use Rattle.keep_watching.specs.declared.line.Line.TheVariants.{Clock, Need, Begin, Known, Unknown}

@@ -2,10 +2,12 @@
 -- Source: this project's own.
 use Rattle.std.specs.Prelude.{ℕ, Bool, List, [], ◌∷◌, codes, decimal, if◌then◌else◌}
 use Rattle.keep_run.specs.Text.{line}
-use Rattle.keep_watch.specs.declared.notes.Link.{Link}
-use Rattle.keep_watch.specs.declared.notes.Link.TheVariants.{Away, Back}
-use Rattle.keep_watch.specs.declared.notes.Why.{Why}
-use Rattle.keep_watch.specs.declared.notes.Why.TheVariants.{Start, Asked, Jump, Day}
+use Rattle.keep_lanes.specs.declared.loss.Loss.{Loss}
+use Rattle.keep_lanes.specs.declared.loss.Loss.TheVariants as losses
+use Rattle.watch_machine.specs.declared.notes.Link.{Link}
+use Rattle.watch_machine.specs.declared.notes.Link.TheVariants.{Away, Back}
+use Rattle.watch_machine.specs.declared.notes.Why.{Why}
+use Rattle.watch_machine.specs.declared.notes.Why.TheVariants.{Start, Asked, Jump, Day}
 
 -- ---- a clock
 
@@ -52,8 +54,15 @@ end_line name end renewable = line (codes "end" ∷ name ∷ decimal end ∷ yes
 abbrev pub refused_line : List ℕ → ℕ → List ℕ
 refused_line name status = line (codes "refused" ∷ name ∷ decimal status ∷ [])
 
-abbrev pub lost_line : List ℕ → List ℕ
-lost_line name = line (codes "lost" ∷ name ∷ [])
+abbrev pub loss_word : Loss → List ℕ
+loss_word losses.Connect = codes "connect"
+loss_word losses.Timeout = codes "timeout"
+loss_word losses.Closed = codes "closed"
+loss_word losses.Reply = codes "reply"
+loss_word (losses.Status status) = decimal status
+
+abbrev pub lost_line : List ℕ → Loss → List ℕ
+lost_line name why = line (codes "lost" ∷ name ∷ loss_word why ∷ [])
 
 abbrev pub gone_line : List ℕ → ℕ → List ℕ
 gone_line name status = line (codes "gone" ∷ name ∷ decimal status ∷ [])

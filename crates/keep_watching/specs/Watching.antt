@@ -1,9 +1,9 @@
 -- Watching: what a watch over an inventory holds between two lines.
 -- Source: this project's own.
-use Rattle.std.specs.Prelude.{◌≡◌, ℕ, List, [], Option, None, length, replicate}
+use Rattle.std.specs.Prelude.{◌≡◌, ℕ, List, Option, None, length, replicate}
 use Rattle.keep_inventory.specs.Inventories.{Inventory}
-use Rattle.keep_watch.specs.State.{State, opened, unanswered_of}
-use Rattle.keep_watch.specs.declared.readings.Next.{Next}
+use Rattle.watch_machine.specs.State.{State, opened}
+use Rattle.watch_machine.specs.declared.readings.Next.{Next}
 
 -- the machine; the inventory, with its names, its credentials and the terms that lookups are judged by; for each entry the reach
 -- that was said last; and what was said last of the next time, None before the first
@@ -17,10 +17,6 @@ pub record Watching : Type 0 where
 pub record IsWhole (w : Watching) : Type 0 where
   pub machine : length w.machine.forest.entries ≡ length w.inventory.forest.entries
   pub said : length w.said ≡ length w.inventory.forest.entries
-
--- every request is answered
-abbrev pub IsClosed : State → Type 0
-IsClosed s = unanswered_of s.slice ≡ []
 
 -- a watch that has said nothing yet
 abbrev pub fresh : Inventory → ℕ → Watching

@@ -1,66 +1,95 @@
-//! The answer to a request: it is handed in to the machine, and its lines are written.
-ghost use Rattle.std.specs.Prelude.{◌≡◌, ◌++◌, ◌<◌, IfOk, OnOk, length, min, true, unwrap_or};
+//! The answers to requests: each is handed in to the machine, and its lines are written.
+ghost use Rattle.std.specs.Prelude.{◌≡◌, ◌≢◌, ◌++◌, ◌<◌, IfOk, IfSome, None, OnOk, Some, length};
 ghost use Rattle.keep_run.specs.Text.{name_of};
-ghost use Rattle.keep_watch.specs.Refusal.{waits_for};
-ghost use Rattle.keep_watching.specs.Answers.{Appended, IsTaken, end_here, noted_lines, reply_lines, told_as, told_at, with_answer};
-ghost use Rattle.keep_watching.specs.Told.{event_of, reply_to, terms_to};
+ghost use Rattle.keep_watching.specs.Answers.{Appended, AreTaken, IsTaken, end_here, noted_lines, out_of, reply_lines, told_as, told_at};
+ghost use Rattle.keep_watching.specs.Sending.{AreOut, IsSound};
+ghost use Rattle.keep_watching.specs.Told.{event_as, said_to};
 ghost use Rattle.keep_watching.specs.Watching.{IsWhole};
 
 use crate::texts::{
     name_of, push_end, push_entry, push_gone, push_link, push_lost, push_never, push_orphan,
     push_refused, push_told, push_top,
 };
-use crate::told::{lookup_reply, no_terms, renewal_reply};
+use crate::told::{Said, said_of_lookup, said_of_renewal};
 use crate::watching::Watching;
-use keep_exchange::{ExchangeFault, hear_lookup, hear_renewal};
-use keep_watch::{Event, Notes, Operation, Reply, Request, Terms};
+use keep_lanes::{Answered, Loss, hear_lookup, hear_renewal};
 use std::alloc::{AllocError, Global};
 use vault_http::DatedReply;
+use watch_machine::{End, Event, Notes, Operation, Out, Reply};
 
 impl Watching {
-    /// Takes the answer to a request, and appends its lines.
-    pub(crate) fn answer(
+    /// Takes answers, each for the request that is out of its entry, and appends their lines.
+    pub(crate) fn take_answers(
         &mut self,
         alloc: Global,
-        request: Request,
-        answer: &Result<DatedReply, ExchangeFault>,
+        answers: Vec<Answered>,
         text: &mut Vec<u8>,
     ) -> Result<(), AllocError>
-        requires within { request.entry < length self.old.inventory.forest.entries }
-        requires asked { waits_for self.old.machine request.entry request.operation ≡ true }
-        ensures taken { OnOk result (Appended text.old.items text.new.items (IsTaken self.old.inventory (with_answer request answer.now) self.old.machine self.new.machine)) }
+        requires sound { IsSound self.old.machine }
+        requires out { AreOut self.old.machine answers.items }
+        ensures taken { OnOk result (Appended text.old.items text.new.items (AreTaken self.old.inventory answers.items self.old.machine self.new.machine)) }
         ensures rest { self.new ≡ record self.old { machine = self.new.machine } }
     {
-        let (reply, terms) = self.heard(alloc, request, answer)?;
-        let output = self.turn(alloc, event_of(request, reply, terms))?;
-        self.push_reply(alloc, request, reply, text)?;
-        let name = name_of(self.names(), request.entry);
-        self.push_notes(alloc, name, terms.endless, &output.notes, text)
+        for answered in answers {
+            self.answer(alloc, answered, text)?;
+        }
+        Ok(())
     }
 
-    /// What the machine is told of an answer, and the terms that a lookup told.
-    fn heard(
-        &self,
+    /// Takes the answer to the request that is out of its entry, and appends its lines.
+    fn answer(
+        &mut self,
         alloc: Global,
-        request: Request,
-        answer: &Result<DatedReply, ExchangeFault>,
-    ) -> Result<(Reply, Terms), AllocError>
-        requires { request.entry < length self.now.inventory.forest.entries }
-        ensures reply { IfOk result (λ heard. heard.0 ≡ reply_to self.now.inventory request answer.now) }
-        ensures terms { IfOk result (λ heard. heard.1 ≡ terms_to self.now.inventory request answer.now) }
+        answered: Answered,
+        text: &mut Vec<u8>,
+    ) -> Result<(), AllocError>
+        requires sound { IsSound self.old.machine }
+        requires out { out_of self.old.machine.out answered.index ≢ None }
+        ensures taken { OnOk result (Appended text.old.items text.new.items (IsTaken self.old.inventory answered self.old.machine self.new.machine)) }
+        ensures rest { self.new ≡ record self.old { machine = self.new.machine } }
+    {
+        let entry = answered.index;
+        let operation = self.asked_of(entry);
+        let said = self.said(alloc, operation, entry, answered.answer)?;
+        let output = self.turn(alloc, event_of(operation, entry, said))?;
+        self.push_reply(alloc, operation, entry, said, text)?;
+        let name = name_of(self.names(), entry);
+        self.push_notes(alloc, name, &output.notes, text)
+    }
+
+    /// What is asked of an entry of which a request is out.
+    fn asked_of(&self, entry: u32) -> Operation
+        requires out { out_of self.now.machine.out entry ≢ None }
+        ensures operation { IfSome (out_of self.now.machine.out entry) (λ r. result ≡ r.operation) }
         ensures whole { IsWhole self.now }
     {
-        let entry = request.entry;
+        match out_of(self.watch.out(), entry) {
+            Some(out) => out.operation,
+            None => Operation::Look,
+        }
+    }
+
+    /// What an answer says.
+    fn said(
+        &self,
+        alloc: Global,
+        operation: Operation,
+        entry: u32,
+        answer: Result<DatedReply, Loss>,
+    ) -> Result<Said, AllocError>
+        requires { entry < length self.now.inventory.forest.entries }
+        ensures { IfOk result (λ said. said ≡ said_to self.now.inventory operation entry answer) }
+    {
         let kind = self.names().get(entry).kind;
-        match request.operation {
+        match operation {
             Operation::Look => {
                 let heard = hear_lookup(alloc, kind, answer)?;
-                Ok(lookup_reply(&self.inventory, entry, &heard))
+                Ok(said_of_lookup(&self.inventory, entry, &heard))
             }
             Operation::Renew => {
                 let id = self.inventory.credential(entry);
                 let heard = hear_renewal(alloc, kind, id, answer)?;
-                Ok((renewal_reply(&heard), no_terms()))
+                Ok(said_of_renewal(&heard))
             }
         }
     }
@@ -70,27 +99,28 @@ impl Watching {
     fn push_reply(
         &self,
         alloc: Global,
-        request: Request,
-        reply: Reply,
+        operation: Operation,
+        entry: u32,
+        said: Said,
         text: &mut Vec<u8>,
     ) -> Result<(), AllocError>
-        requires { request.entry < length self.now.inventory.forest.entries }
-        ensures { OnOk result (text.new.items ≡ text.old.items ++ reply_lines (name_of self.now.inventory.forest request.entry) self.now.machine request reply) }
+        requires { entry < length self.now.inventory.forest.entries }
+        ensures { OnOk result (text.new.items ≡ text.old.items ++ reply_lines (name_of self.now.inventory.forest entry) self.now.machine operation entry said) }
     {
-        let name = name_of(self.names(), request.entry);
-        match reply {
+        let name = name_of(self.names(), entry);
+        match said.reply {
             Reply::Told {
                 seconds,
                 renewable,
                 date,
             } => {
                 let seconds = u64::from(seconds);
-                self.push_told(alloc, request, seconds, date, text)?;
-                let end = self.end_here(request.entry, seconds);
+                self.push_told(alloc, operation, entry, seconds, date, text)?;
+                let end = self.end_here(entry, seconds);
                 push_end(alloc, name, end, renewable, text)
             }
             Reply::Refused { status, .. } => push_refused(alloc, name, status, text),
-            Reply::Busy | Reply::Lost => push_lost(name, text),
+            Reply::Busy | Reply::Lost => push_lost(alloc, name, said.loss, text),
         }
     }
 
@@ -98,16 +128,17 @@ impl Watching {
     fn push_told(
         &self,
         alloc: Global,
-        request: Request,
+        operation: Operation,
+        entry: u32,
         seconds: u64,
         date: Option<u64>,
         text: &mut Vec<u8>,
     ) -> Result<(), AllocError>
-        requires { request.entry < length self.now.inventory.forest.entries }
-        ensures { OnOk result (text.new.items ≡ text.old.items ++ told_as request.operation (name_of self.now.inventory.forest request.entry) self.now.machine seconds date) }
+        requires { entry < length self.now.inventory.forest.entries }
+        ensures { OnOk result (text.new.items ≡ text.old.items ++ told_as operation (name_of self.now.inventory.forest entry) self.now.machine seconds date) }
     {
-        let name = name_of(self.names(), request.entry);
-        match request.operation {
+        let name = name_of(self.names(), entry);
+        match operation {
             Operation::Look => {
                 let end = self.told_at(date).saturating_add(seconds);
                 push_entry(alloc, name, end, text)
@@ -117,7 +148,7 @@ impl Watching {
     }
 
     /// The moment by the broker's clock at which a reply was told: its date, or as far as the broker's clock is known.
-    #[tactic(auto, unfolding(keep_watch::specs::Clocks::sec))]
+    #[tactic(auto, unfolding(watch_machine::specs::Clocks::sec))]
     fn told_at(&self, date: Option<u64>) -> u64
         ensures { result ≡ told_at self.now.machine date }
     {
@@ -125,15 +156,18 @@ impl Watching {
     }
 
     /// The believed end in milliseconds of the clock that is handed in; where there is none, so many seconds from now.
-    #[tactic(auto, unfolding(keep_watch::specs::Clocks::sec))]
+    #[tactic(auto, unfolding(watch_machine::specs::Clocks::sec))]
     fn end_here(&self, entry: u32, seconds: u64) -> u64
         requires { entry < length self.now.inventory.forest.entries }
         ensures { result ≡ end_here self.now.machine entry seconds }
     {
         let clocks = self.watch.clocks();
-        let told = (clocks.at / 1000).saturating_add(seconds);
-        let end = self.watch.end_of(entry).unwrap_or(told);
-        end.saturating_mul(1000).saturating_sub(clocks.phase)
+        let end = match self.watch.end_of(entry) {
+            End::At(end) => end,
+            End::Unknown | End::Never => (clocks.at / 1000).saturating_add(seconds),
+        };
+        end.saturating_mul(1000)
+            .saturating_sub(u64::from(clocks.phase))
     }
 
     /// Appends what is to be noted of an answer of the entry of that name.
@@ -142,11 +176,10 @@ impl Watching {
         &self,
         alloc: Global,
         name: &[u8],
-        never: bool,
         notes: &Notes,
         text: &mut Vec<u8>,
     ) -> Result<(), AllocError>
-        ensures { OnOk result (text.new.items ≡ text.old.items ++ noted_lines name.now self.now.machine never notes.now) }
+        ensures { OnOk result (text.new.items ≡ text.old.items ++ noted_lines name.now self.now.machine notes.now) }
     {
         if let Some(status) = notes.gone {
             push_gone(alloc, name, status, text)?;
@@ -157,19 +190,26 @@ impl Watching {
         if notes.orphan {
             push_orphan(name, text)?;
         }
-        if never {
+        if notes.endless {
             push_never(name, text)?;
         }
         push_link(notes.link, text)
     }
 }
 
-/// The event of an answer.
-fn event_of(request: Request, reply: Reply, terms: Terms) -> Event
-    ensures { result ≡ event_of request reply terms }
+/// The request of these that is out of an entry.
+fn out_of(out: &[Out], entry: u32) -> Option<Out>
+    ensures { result ≡ out_of out.now entry }
 {
-    let entry = request.entry;
-    match request.operation {
+    out.iter().find(|request| request.entry == entry).copied()
+}
+
+/// The event of an answer.
+fn event_of(operation: Operation, entry: u32, said: Said) -> Event
+    ensures { result ≡ event_as operation entry said.reply said.terms }
+{
+    let Said { reply, terms, .. } = said;
+    match operation {
         Operation::Look => Event::Looked {
             entry,
             reply,

@@ -1,17 +1,37 @@
-//! The requests of a slice as they are sent.
-ghost use Rattle.std.specs.Prelude.{◌≡◌, ◌<◌, All, IfOk, length, map};
+//! Requests as they are handed to the lanes.
+ghost use Rattle.std.specs.Prelude.{◌≡◌, ◌<◌, IfOk, length};
 ghost use Rattle.keep_exchange.specs.Abreast.{IsShort};
-ghost use Rattle.keep_watching.specs.Slices.{AreOut, message};
+ghost use Rattle.keep_watching.specs.Sending.{ask_of, message, patience_in};
 ghost use Rattle.vault_http.specs.RoundTripRequest.{IsWritable};
 
 use crate::watching::Watching;
-use keep_exchange::{Waiting, lookup_for, request_for};
-use keep_watch::{Operation, Patience, Request};
+use keep_exchange::{lookup_for, request_for};
+use keep_lanes::Ask;
 use std::alloc::{AllocError, Global};
+use watch_machine::{Operation, Patience, Request};
 
 impl Watching {
-    /// The request as it is sent to a broker at that port. A renewal asks for the step that the machine has, which lookups have
-    /// told. The only error is want of memory.
+    /// The request as it is handed to lanes whose broker listens at that port. The only error is out of memory.
+    pub(crate) fn ask_for(
+        &self,
+        alloc: Global,
+        port: u16,
+        request: Request,
+    ) -> Result<Ask, AllocError>
+        requires { request.entry < length self.now.machine.forest.entries }
+        ensures is { IfOk result (λ ask. ask ≡ ask_of port self.now.inventory self.now.machine request) }
+        ensures writable { IfOk result (λ ask. IsWritable ask.request) }
+        ensures short { IfOk result (λ ask. IsShort ask.request) }
+    {
+        Ok(Ask {
+            index: request.entry,
+            patience: patience_in(request.patience),
+            request: self.message(alloc, port, request)?,
+        })
+    }
+
+    /// The message to a broker at that port. A renewal asks for the step that the machine has, which lookups have told. The only
+    /// error is out of memory.
     fn message(
         &self,
         alloc: Global,
@@ -32,32 +52,14 @@ impl Watching {
             }
         }
     }
-
-    /// The requests of a slice as they are sent, in their order. The only error is want of memory.
-    pub(crate) fn messages(
-        &self,
-        alloc: Global,
-        port: u16,
-        asked: &[Request],
-    ) -> Result<Vec<vault_http::Request>, AllocError>
-        requires { AreOut self.now.machine asked.now }
-        ensures are { IfOk result (λ messages. messages.items ≡ map (message port self.now.inventory self.now.machine) asked.now) }
-        ensures writable { IfOk result (λ messages. All IsWritable messages.items) }
-        ensures short { IfOk result (λ messages. All IsShort messages.items) }
-    {
-        let mut messages = Vec::new(alloc);
-        for request in asked {
-            let message = self.message(alloc, port, *request)?;
-            messages.push(message)?;
-        }
-        Ok(messages)
-    }
 }
 
-/// How long a slice may wait.
-pub(crate) fn waiting(patience: Patience) -> Waiting {
+/// How long a request may take, in milliseconds; of lanes no more than their time-out counts.
+fn patience_in(patience: Patience) -> u64
+    ensures { result ≡ patience_in patience }
+{
     match patience {
-        Patience::Full => Waiting::Full,
-        Patience::Short => Waiting::Hurried,
+        Patience::Full => u64::MAX,
+        Patience::AtMost(millis) => millis,
     }
 }

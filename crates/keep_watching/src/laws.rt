@@ -4,14 +4,14 @@ ghost use Rattle.keep_watching.specs.Alike.{AlikeWatchesLaw, FreshAlikeLaw};
 ghost use Rattle.keep_watching.specs.Secrecy.{SecretsLaw};
 
 /// The law of the machine in a watch: whatever the lines are and whatever is answered, it was handed events one after another
-/// from its making on. So each law of `keep_watch` over all such runs holds of it.
+/// from its making on. So each law of `watch_machine` over all such runs holds of it.
 pub fn run_of_machine_law()
     ensures { RunOfMachineLaw }
 {}
 
 /// The law that secrets change no answer of a watch. Of two inventories that differ in secrets and lease ids alone, and given the
-/// same lines: over whatever exchanges, where the answers have the same content, the same is written; and over two brokers in
-/// memory whose tables differ in credentials alone the same is written, and the watches are left alike. New watches are alike.
+/// same lines: over whatever lanes, where the answers have the same content, the same is written; and over lanes in memory
+/// whose brokers' tables differ in credentials alone the same is written, and the watches are left alike. New watches are alike.
 pub fn secrets_change_no_watch()
     ensures content { SecretsLaw }
     ensures new { FreshAlikeLaw }

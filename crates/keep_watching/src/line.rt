@@ -3,8 +3,9 @@ ghost use Rattle.std.specs.Prelude.{◌≡◌, ◌==◌, IfSome, ℕ, bytes_eq, 
 ghost use Rattle.keep_run.specs.EventLines.{heard_in};
 ghost use Rattle.keep_watching.specs.Lines.{IsWithin, begin_in, clock_in, flag_in, known_in, line_in, need_of, number_in};
 
+use keep_lines::MOST_LINE;
 use keep_moment::Moment;
-use keep_run::{Heard, MOST_LINE, heard_in};
+use keep_run::{Heard, heard_in};
 use keep_tree::Forest;
 use keep_words::{cut, four_words, number_up_to, three_words};
 

@@ -2,17 +2,18 @@
 ghost use Rattle.std.specs.Prelude.{◌≡◌, ◌++◌, ◌∷◌, [], List, OnOk, flat_map, map};
 ghost use Rattle.std.specs.List.{list_any};
 ghost use Rattle.keep_run.specs.Text.{name_of, names_of};
-ghost use Rattle.keep_watch.specs.Refusal.{is_same};
+ghost use Rattle.watch_machine.specs.Refusal.{is_same};
 ghost use Rattle.keep_watching.specs.Answers.{if_some};
-ghost use Rattle.keep_watching.specs.Slices.{asked_names};
+ghost use Rattle.keep_watching.specs.Sending.{asked_names};
 ghost use Rattle.keep_watching.specs.Texts as lines;
 ghost use Rattle.keep_watching.specs.code.Asking.{asked_name};
 
+use keep_lanes::Loss;
 use keep_run::push_numbered;
 use keep_tree::Forest;
-use keep_watch::{Link, Operation, Request, Why};
 use keep_words::push_number;
 use std::alloc::{AllocError, Global};
+use watch_machine::{Link, Operation, Request, Why};
 
 /// The name of an entry, empty where there is none at that index.
 #[tactic(auto, using(keep_tree::proofs::Entries::entry_at_past))]
@@ -198,11 +199,34 @@ pub(crate) fn push_refused(
     push_numbered(alloc, b"refused ", name, status as u64, text)
 }
 
-/// Appends `lost NAME` and a line feed.
-pub(crate) fn push_lost(name: &[u8], text: &mut Vec<u8>) -> Result<(), AllocError>
-    ensures { OnOk result (text.new.items ≡ text.old.items ++ lines.lost_line name.now) }
+/// Appends why a request counts as lost.
+fn push_loss(alloc: Global, why: Loss, text: &mut Vec<u8>) -> Result<(), AllocError>
+    ensures { OnOk result (text.new.items ≡ text.old.items ++ lines.loss_word why) }
 {
-    push_named(b"lost ", name, text)
+    match why {
+        Loss::Connect => text.extend_from_slice(b"connect"),
+        Loss::Timeout => text.extend_from_slice(b"timeout"),
+        Loss::Closed => text.extend_from_slice(b"closed"),
+        Loss::Reply => text.extend_from_slice(b"reply"),
+        Loss::Status(status) => push_number(alloc, u64::from(status), text),
+    }
+}
+
+/// Appends `lost NAME WHY` and a line feed.
+pub(crate) fn push_lost(
+    alloc: Global,
+    name: &[u8],
+    why: Loss,
+    text: &mut Vec<u8>,
+) -> Result<(), AllocError>
+    ensures { OnOk result (text.new.items ≡ text.old.items ++ lines.lost_line name.now why) }
+{
+    text.extend_from_slice(b"lost ")?;
+    text.extend_from_slice(name)?;
+    text.push(b' ')?;
+    push_loss(alloc, why, text)?;
+    text.push(b'\n')?;
+    Ok(())
 }
 
 /// Appends `end NAME END yes|no` and a line feed.

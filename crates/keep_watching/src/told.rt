@@ -1,17 +1,26 @@
 //! What the machine is told of an answer.
 ghost use Rattle.std.specs.Prelude.{◌≡◌, ◌<◌, length};
 ghost use Rattle.keep_inventory.specs.Lookup.{lookup_fault};
-ghost use Rattle.keep_watch.specs.declared.event.Reply.TheVariants as replies;
-ghost use Rattle.keep_watching.specs.Told.{end_told, is_of_another, lookup_reply, lookup_terms, no_terms, renewal_reply, terms_told};
+ghost use Rattle.watch_machine.specs.declared.event.Reply.TheVariants as replies;
+ghost use Rattle.keep_watching.specs.Told.{end_told, is_of_another, lookup_reply, lookup_terms, loss_in, no_terms, renewal_reply, terms_told};
 
-use keep_exchange::{Heard, Terms as Told};
+use keep_exchange::Terms as Told;
 use keep_inventory::{Inventory, LookupFault, told_terms};
+use keep_lanes::{Heard, Loss};
 use keep_moment::{Moment, Span};
-use keep_watch::{Reply, Terms};
 use vault_json::{Lookup, Renewed};
+use watch_machine::{Reply, Terms};
+
+/// What an answer says: what the machine is told of it, the terms that a lookup told, and why it counts as lost, where it does.
+#[derive(Clone, Copy, Debug, PartialEq, Eq)]
+pub struct Said {
+    pub reply: Reply,
+    pub terms: Terms,
+    pub loss: Loss,
+}
 
 /// The terms of a reply that tells none.
-pub(crate) fn no_terms() -> Terms
+fn no_terms() -> Terms
     ensures { result ≡ no_terms }
 {
     Terms {
@@ -22,22 +31,59 @@ pub(crate) fn no_terms() -> Terms
     }
 }
 
+/// What an answer to a renewal says.
+pub(crate) fn said_of_renewal(heard: &Heard<Renewed>) -> Said
+    ensures { result ≡ record { reply = renewal_reply heard.now; terms = no_terms; loss = loss_in heard.now } }
+{
+    Said {
+        reply: renewal_reply(heard),
+        terms: no_terms(),
+        loss: loss_in(heard),
+    }
+}
+
+/// What an answer to the lookup of an entry says.
+pub(crate) fn said_of_lookup(inventory: &Inventory, entry: u32, heard: &Heard<Told>) -> Said
+    requires { entry < length inventory.now.forest.entries }
+    ensures { result ≡ record { reply = lookup_reply inventory.now entry heard.now; terms = lookup_terms inventory.now entry heard.now; loss = loss_in heard.now } }
+{
+    let (reply, terms) = lookup_reply(inventory, entry, heard);
+    Said {
+        reply,
+        terms,
+        loss: loss_in(heard),
+    }
+}
+
+/// Why an answer counts as lost, where it does: a lookup that is said of another entry cannot be used, and the broker was busy
+/// with 429.
+fn loss_in<T>(heard: &Heard<T>) -> Loss
+    ensures { result ≡ loss_in heard.now }
+{
+    match heard {
+        Heard::Told(..) => Loss::Reply,
+        Heard::Refused(status, _) => Loss::Status(*status),
+        Heard::Busy => Loss::Status(429),
+        Heard::Lost(why) => *why,
+    }
+}
+
 /// What the machine is told of an answer to a renewal.
-pub(crate) fn renewal_reply(heard: &Heard<Renewed>) -> Reply
+fn renewal_reply(heard: &Heard<Renewed>) -> Reply
     ensures { result ≡ renewal_reply heard.now }
 {
     match heard {
         Heard::Told(renewed, date) => told(renewed.seconds, renewed.renewable, *date),
         Heard::Refused(status, date) => refused(*status, *date),
         Heard::Busy => Reply::Busy,
-        Heard::Lost => Reply::Lost,
+        Heard::Lost(_) => Reply::Lost,
     }
 }
 
 /// What the machine is told of an answer to the lookup of an entry. One that is said of another entry, or of the other kind,
 /// counts as lost.
 #[tactic(auto, unfolding(crate::specs::Told::lookup_reply, crate::specs::Told::lookup_terms))]
-pub(crate) fn lookup_reply(inventory: &Inventory, entry: u32, heard: &Heard<Told>) -> (Reply, Terms)
+fn lookup_reply(inventory: &Inventory, entry: u32, heard: &Heard<Told>) -> (Reply, Terms)
     requires { entry < length inventory.now.forest.entries }
     ensures reply { result.0 ≡ lookup_reply inventory.now entry heard.now }
     ensures terms { result.1 ≡ lookup_terms inventory.now entry heard.now }
@@ -52,7 +98,7 @@ pub(crate) fn lookup_reply(inventory: &Inventory, entry: u32, heard: &Heard<Told
         }
         Heard::Refused(status, date) => (refused(*status, *date), no_terms()),
         Heard::Busy => (Reply::Busy, no_terms()),
-        Heard::Lost => (Reply::Lost, no_terms()),
+        Heard::Lost(_) => (Reply::Lost, no_terms()),
     }
 }
 

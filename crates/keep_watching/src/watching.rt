@@ -1,23 +1,26 @@
 //! A watch over the entries of an inventory, and what it has said.
 ghost use Rattle.std.specs.Prelude.{◌≡◌, ◌<◌, ◌++◌, IfOk, None, Ok, OnOk, is_some, length, replicate};
-ghost use Rattle.keep_watch.specs.History.{Turn};
-ghost use Rattle.keep_watch.specs.Refusal.{refusal};
-ghost use Rattle.keep_watch.specs.declared.event.Event.TheVariants as events;
+ghost use Rattle.watch_machine.specs.History.{Turn};
+ghost use Rattle.watch_machine.specs.Refusal.{refusal};
+ghost use Rattle.watch_machine.specs.declared.event.Event.TheVariants as events;
 ghost use Rattle.keep_watching.specs.Answers.{Appended};
 ghost use Rattle.keep_watching.specs.Clocked.{side};
+ghost use Rattle.keep_watching.specs.Sending.{IsAbreast};
 ghost use Rattle.keep_watching.specs.Hears.{IsHeard, IsKnown, IsTurned};
 ghost use Rattle.keep_watching.specs.Lines.{IsWithin};
 ghost use Rattle.keep_watching.specs.Texts.{after_clock_line, clock_line, planned_line};
-ghost use Rattle.keep_watching.specs.Watching.{IsClosed, IsWhole, fresh};
+ghost use Rattle.keep_watching.specs.Watching.{IsWhole, fresh};
 
 use crate::line::Line;
-use keep_exchange::Abreast;
+use crate::seen::SeenLanes;
+use crate::sending::Readings;
 use keep_inventory::Inventory;
+use keep_lanes::Lanes;
 use keep_moment::Moment;
 use keep_tree::Forest;
-use keep_watch::{Event, Next, Output, Watch};
 use std::alloc::{AllocError, Global};
 use std::marker::Model;
+use watch_machine::{Event, Next, Output, Watch};
 
 /// A watch over the entries of an inventory.
 #[derive(Debug, Drop)]
@@ -53,7 +56,7 @@ fn nothing_said(alloc: Global, count: u32) -> Result<Vec<Option<u64>>, AllocErro
 }
 
 impl Watching {
-    /// A watch over the entries of an inventory, which sends at most `width` requests in a slice. The only error is want of
+    /// A watch over the entries of an inventory, of which at most `width` requests are out at once. The only error is want of
     /// memory.
     #[tactic(auto, using(crate::proofs::Taking::whole_fresh))]
     pub(crate) fn new(
@@ -97,26 +100,28 @@ impl Watching {
         }
     }
 
-    /// Takes a line, and appends the lines that answer it. The requests of a clock go out over the exchange before this answers.
+    /// Takes a line, and appends the lines that answer it. The requests of a clock go out on the lanes before this answers.
     ///
     /// The last line is `wait ELAPSED` or `clock`. A name that no entry has is `fault unknown-name`, and an end that is known
     /// after a clock is `fault after-clock`; both change nothing. The only error is want of memory.
-    #[tactic(auto, using(crate::proofs::Taking::heard_need, crate::proofs::Taking::heard_begin, crate::proofs::Taking::heard_known, crate::proofs::Taking::heard_unknown))]
-    pub(crate) fn take<E: Abreast>(
+    #[tactic(auto, using(crate::proofs::Taking::heard_need, crate::proofs::Taking::heard_begin, crate::proofs::Taking::heard_known, crate::proofs::Taking::heard_unknown, crate::proofs::Taking::abreast_need, crate::proofs::Taking::abreast_begin))]
+    pub(crate) fn take<L: Lanes>(
         &mut self,
         alloc: Global,
-        exchange: &mut E,
+        lanes: &mut L,
         line: Line,
         text: &mut Vec<u8>,
     ) -> Result<(), AllocError>
-        requires closed { IsClosed self.old.machine }
+        requires abreast { IsAbreast self.old.machine (L.width lanes.old) (L.out lanes.old) }
         requires within { IsWithin (length self.old.machine.forest.entries) line }
-        ensures heard { OnOk result (Appended text.old.items text.new.items (IsHeard (E.host_port exchange.old) (side self.old (E.table exchange.old)) line (side self.new (E.table exchange.new)))) }
-        ensures closed { OnOk result (IsClosed self.new.machine) }
-        ensures port { OnOk result (E.host_port exchange.new ≡ E.host_port exchange.old) }
+        ensures heard { OnOk result (Appended text.old.items text.new.items (IsHeard (L.host_port lanes.old) (side self.old (⟦<L as SeenLanes>⟧.seen lanes.old)) line (side self.new (⟦<L as SeenLanes>⟧.seen lanes.new)))) }
+        ensures abreast { OnOk result (IsAbreast self.new.machine (L.width lanes.new) (L.out lanes.new)) }
+        ensures port { OnOk result (L.host_port lanes.new ≡ L.host_port lanes.old) }
     {
         match line {
-            Line::Clock { wall, elapsed } => self.clock(alloc, exchange, wall, elapsed, text),
+            Line::Clock { wall, elapsed } => {
+                self.clock(alloc, lanes, Readings { wall, elapsed }, text)
+            },
             Line::Need { entry, until } => self.need(alloc, entry, until, text),
             Line::Begin => self.begin(alloc, text),
             Line::Known {
@@ -129,7 +134,7 @@ impl Watching {
     }
 
     /// Takes a new need.
-    #[tactic(auto, using(crate::proofs::Turns::need_free, crate::proofs::Turns::need_closed))]
+    #[tactic(auto, using(crate::proofs::Turns::need_free))]
     fn need(
         &mut self,
         alloc: Global,
@@ -137,10 +142,8 @@ impl Watching {
         until: Moment,
         text: &mut Vec<u8>,
     ) -> Result<(), AllocError>
-        requires closed { IsClosed self.old.machine }
         requires within { entry < length self.old.machine.forest.entries }
         ensures needed { OnOk result (IsTurned self.old (events.Need entry until) self.new) }
-        ensures closed { OnOk result (IsClosed self.new.machine) }
         ensures text { OnOk result (text.new.items ≡ text.old.items ++ (planned_line ++ clock_line)) }
     {
         let until = until.get();
@@ -149,11 +152,9 @@ impl Watching {
     }
 
     /// Everything is to be looked up anew.
-    #[tactic(auto, using(crate::proofs::Turns::begin_free, crate::proofs::Turns::begin_closed))]
+    #[tactic(auto, using(crate::proofs::Turns::begin_free))]
     fn begin(&mut self, alloc: Global, text: &mut Vec<u8>) -> Result<(), AllocError>
-        requires closed { IsClosed self.old.machine }
         ensures begun { OnOk result (IsTurned self.old events.Begin self.new) }
-        ensures closed { OnOk result (IsClosed self.new.machine) }
         ensures text { OnOk result (text.new.items ≡ text.old.items ++ clock_line) }
     {
         self.turn(alloc, Event::Begin)?;
@@ -161,7 +162,7 @@ impl Watching {
     }
 
     /// Takes an end over from an earlier watch, rounded down to a whole second.
-    #[tactic(auto, using(crate::proofs::Turns::known_free, crate::proofs::Turns::known_closed))]
+    #[tactic(auto, using(crate::proofs::Turns::known_free))]
     fn know(
         &mut self,
         alloc: Global,
@@ -170,10 +171,8 @@ impl Watching {
         renewable: bool,
         text: &mut Vec<u8>,
     ) -> Result<(), AllocError>
-        requires closed { IsClosed self.old.machine }
         requires within { entry < length self.old.machine.forest.entries }
         ensures known { OnOk result (Appended text.old.items text.new.items (IsKnown (is_some self.old.machine.begun) self.old entry end renewable self.new)) }
-        ensures closed { OnOk result (IsClosed self.new.machine) }
     {
         if self.watch.has_begun() {
             return text.extend_from_slice(b"fault after-clock\nclock\n");

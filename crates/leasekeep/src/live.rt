@@ -1,6 +1,6 @@
+use keep_command::SystemFiles;
 use keep_device::{Place, Sink, Source, Streams};
-use keep_engine::{Exchange, Exit, TcpExchange, UnixExchange, keep_alive};
-use keep_files::Disk;
+use keep_engine::{Exchange, Exit, PROGRAM, TcpExchange, UnixExchange, keep_alive};
 use keep_moment::Moment;
 use std::net::Net;
 use std::rt::Files;
@@ -44,12 +44,15 @@ fn keep_over<R: Files + AllocGlobal, X: Exchange, I: Source, W: Sink, E: Sink>(
     exchange: &mut X,
     streams: &mut Streams<I, W, E>,
 ) -> Exit {
-    keep_alive(
+    let mut files = SystemFiles::new(rt);
+    let exit = keep_alive(
         rt.alloc(),
         live.file,
         live.start,
-        &mut Disk { rt },
+        &mut files,
         exchange,
         streams,
-    )
+    );
+    files.advise(PROGRAM, exit, live.file, &mut streams.errors);
+    exit
 }

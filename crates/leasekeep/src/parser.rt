@@ -2,8 +2,8 @@ use clap::error::ErrorKind;
 use clap::{Arg, ArgAction, ArgMatches, Command, Error};
 use keep_engine::LIMIT;
 use keep_moment::LAST;
-use keep_watch::WIDTH_MAX;
 use std::alloc::{AllocError, Global};
+use watch_machine::WIDTH_MAX;
 
 const ABOUT: &str = "Keeps Vault tokens and leases alive with the fewest wake-ups.";
 
@@ -29,8 +29,9 @@ any of them off: without it ENTRY would end while NEEDED still needs it. docs/ce
 A line `unkeepable ENTRY NEEDED` says that no plan keeps NEEDED. It takes the place of the whole plan: `leasekeep reach` shows
 every need that cannot be kept, and `rehearse` and `run` go on with the rest.
 
-Example:
+Examples:
   leasekeep plan web.toml 1000 > web.plan
+  leasekeep plan --dates web.toml $(date +%s)
 
 Exit status: 0 done, 1 inventory, 2 command line, 3 unkeepable, 5 more than 10000000 wake-ups, 6 read or write, 7 memory";
 
@@ -206,13 +207,21 @@ fn ends<'a>(alloc: Global) -> Result<Command<'a>, AllocError> {
         )
 }
 
-/// `plan FILE START`
+/// `plan FILE START [--dates]`
 fn plan<'a>(alloc: Global) -> Result<Command<'a>, AllocError> {
     Command::new(alloc, "plan")
         .about(PLAN_ABOUT)
         .after_help(PLAN_AFTER)
         .arg(file(alloc))?
-        .arg(start(alloc))
+        .arg(start(alloc))?
+        .arg(
+            Arg::new(alloc, "dates")
+                .long("dates")
+                .help(
+                    "Shows the plan to people, with moments as RFC 3339 dates: `check` does not read that",
+                )
+                .action(ArgAction::SetTrue),
+        )
 }
 
 /// `margin FILE START [WAKES] [--renewed]`

@@ -1,17 +1,16 @@
 use crate::live::keep;
 use crate::watch::watch;
 use crate::words::{Job, read_command};
-use keep_command::words;
+use keep_command::{SystemFiles, words};
 use keep_device::{Counted, Streams};
 use keep_engine::{Exit, PROGRAM, obey};
-use keep_files::Disk;
 use std::io;
 use std::io::{Read, Write};
 use std::net::Net;
-use std::rt::{Env, Files};
+use std::rt::{Clock, Env, Files};
 
 /// Runs the command that the words of the command line ask, and gives the exit.
-pub fn run<R: Env + Files + AllocGlobal + Print + Net, I: Read + Drop, E: Write + Drop>(
+pub fn run<R: Env + Files + AllocGlobal + Print + Net + Clock, I: Read + Drop, E: Write + Drop>(
     rt: &R,
     input: I,
     errors: E,
@@ -40,13 +39,10 @@ pub fn run<R: Env + Files + AllocGlobal + Print + Net, I: Read + Drop, E: Write 
         }
         Ok(Job::Offline(command)) => {
             let mut out = Counted::new(io::writer(rt));
-            obey(
-                rt.alloc(),
-                &command,
-                &mut Disk { rt },
-                &mut out,
-                &mut errors,
-            )
+            let mut files = SystemFiles::new(rt);
+            let exit = obey(rt.alloc(), &command, &mut files, &mut out, &mut errors);
+            files.advise(PROGRAM, exit, command.inventory(), &mut errors);
+            exit
         }
         Err(exit) => exit,
     }

@@ -1,11 +1,11 @@
+use keep_command::SystemFiles;
 use keep_device::{Place, Sink, Source, Streams};
-use keep_engine::Exit;
-use keep_exchange::SocketSlices;
-use keep_files::Disk;
-use keep_watch::WIDTH_MAX;
+use keep_engine::{Exit, PROGRAM};
+use keep_lanes::{LanesOver, MOST_WIDTH};
+use keep_report::Stop;
 use keep_watching::watch_file;
 use std::net::Net;
-use std::rt::Files;
+use std::rt::{Clock, Files};
 
 /// What the words of `watch` ask.
 #[derive(Debug, Drop)]
@@ -14,26 +14,26 @@ pub struct Watched<'a> {
     pub file: &'a str,
     /// Where the broker listens.
     pub place: Place<'a>,
-    /// How long the connects, writes and first reads of a slice may take, in seconds.
+    /// How long the connect, write and first read of a request may take, in seconds.
     pub patience: u64,
-    /// How many requests go out side by side at most.
+    /// How many requests are out at once at most.
     pub width: u64,
 }
 
 /// Runs the watch: it takes lines from these streams, and answers them there.
-pub fn watch<R: Files + AllocGlobal + Net, I: Source, W: Sink, E: Sink>(
+pub fn watch<R: Files + AllocGlobal + Net + Clock, I: Source, W: Sink, E: Sink>(
     rt: &R,
     watched: &Watched<'_>,
     streams: &mut Streams<I, W, E>,
 ) -> Exit {
     let seconds = watched.patience.min(60) as u32;
-    let mut exchange = SocketSlices::new(rt, watched.place, seconds);
-    watch_file(
-        rt.alloc(),
-        watched.file,
-        watched.width.min(WIDTH_MAX as u64) as u32,
-        &mut Disk { rt },
-        &mut exchange,
-        streams,
-    )
+    let width = watched.width.min(u64::from(MOST_WIDTH)) as u32;
+    let mut lanes = match LanesOver::over_sockets(rt.alloc(), rt, watched.place, seconds, width) {
+        Ok(lanes) => lanes,
+        Err(_) => return Stop::Memory.report(PROGRAM, &mut streams.errors),
+    };
+    let mut files = SystemFiles::new(rt);
+    let exit = watch_file(rt.alloc(), watched.file, &mut files, &mut lanes, streams);
+    files.advise(PROGRAM, exit, watched.file, &mut streams.errors);
+    exit
 }

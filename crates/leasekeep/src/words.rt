@@ -8,9 +8,9 @@ use keep_device::{Counted, Place, Sink};
 use keep_engine::{Command, Exit, MarginQuery, PROGRAM, Stop, tell};
 use keep_exchange::PATIENCE;
 use keep_moment::{Moment, Text};
-use keep_watch::WIDTH;
 use std::alloc::{AllocError, AllocFailed, Global};
 use std::io;
+use watch_machine::WIDTH;
 
 const PORT_MISTAKE: &str =
     "invalid value for '<PORT>': a port is 1 to 65535, and the path of a UNIX socket has a `/` in it";
@@ -145,6 +145,7 @@ fn command_of(alloc: Global, matches: &ArgMatches<'_>) -> Result<Command, Unread
         Some(("plan", matches)) => Ok(Command::Plan {
             file: word(alloc, matches, "FILE")?,
             start: start(matches)?,
+            dates: matches.get_flag("dates"),
         }),
         Some(("margin", matches)) => Ok(Command::Margin {
             file: word(alloc, matches, "FILE")?,

@@ -1,8 +1,9 @@
 use crate::serving::tell_served;
 use crate::sockets::{serve_path, serve_port};
 use crate::words::{Command, PROGRAM, read_command};
-use keep_command::words;
-use keep_device::{Counted, Place, Sink, Source, read_file};
+use keep_command::{SystemFiles, words};
+use keep_device::{Counted, Place, Sink, Source};
+use keep_files::Inputs;
 use keep_inventory::{MOST_INVENTORY, read_known};
 use keep_report::{Exit, Stop};
 use mini_broker::Table;
@@ -26,21 +27,28 @@ pub fn run<R: Env + Files + AllocGlobal + Print + Net, I: Read + Drop, E: Write 
         Ok(command) => command,
         Err(exit) => return exit,
     };
-    match obey(rt, &command, &mut Counted::new(input), &mut errors) {
+    let mut files = SystemFiles::new(rt);
+    let lines = &mut Counted::new(input);
+    match obey(rt, &command, &mut files, lines, &mut errors) {
         Ok(()) => Exit::Done,
-        Err(stop) => stop.report(PROGRAM, &mut errors),
+        Err(stop) => {
+            let exit = stop.report(PROGRAM, &mut errors);
+            files.advise(PROGRAM, exit, command.file, &mut errors);
+            exit
+        }
     }
 }
 
 /// Serves so many connections one after the other, then says so.
-fn obey<R: Files + AllocGlobal + Print + Net, S: Source, E: Sink>(
+fn obey<R: Files + AllocGlobal + Print + Net, I: Inputs, S: Source, E: Sink>(
     rt: &R,
     command: &Command<'_>,
+    files: &mut I,
     lines: &mut S,
     errors: &mut E,
 ) -> Result<(), Stop> {
     let alloc = rt.alloc();
-    let text = read_file(rt, command.file, MOST_INVENTORY)?;
+    let text = files.read(alloc, command.file, MOST_INVENTORY)?;
     let served = read_known(alloc, text.list())?;
     let mut table = Table::load(alloc, served.inventory())?;
     match command.place {

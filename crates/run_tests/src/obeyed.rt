@@ -9,6 +9,7 @@ use keep_engine::{Command, Exit, MarginQuery, keep_alive, obey};
 use keep_exchange::MemoryExchange;
 use keep_files::Inputs;
 use keep_inventory::read;
+use keep_lanes::MemoryLanes;
 use keep_moment::Text;
 use keep_watching::watch_file;
 use mini_broker::Table;
@@ -41,6 +42,7 @@ impl Inputs for Folder {
 enum Asked {
     Ends,
     Plan,
+    PlanInDates,
     Margin,
     Reach,
     Rehearse,
@@ -59,7 +61,7 @@ type Obeyed = (
     &'static str,
 );
 
-const OBEYED: [Obeyed; 14] = [
+const OBEYED: [Obeyed; 15] = [
     (
         Asked::Ends,
         "web.toml",
@@ -69,6 +71,14 @@ const OBEYED: [Obeyed; 14] = [
         "",
     ),
     (Asked::Plan, "web.toml", "", Exit::Done, IN_RUNS, ""),
+    (
+        Asked::PlanInDates,
+        "web.toml",
+        "",
+        Exit::Done,
+        "start 1970-01-01T00:16:40Z\nrun 1970-01-01T00:17:39Z 59 3 web web\nend 3\n",
+        "",
+    ),
     (Asked::Margin, "web.toml", "", Exit::Done, "1 3\n13 3\n", ""),
     (
         Asked::Reach,
@@ -169,7 +179,16 @@ fn command_of(alloc: Global, asked: Asked, file: &str, certificate: &str) -> Res
             start,
             moments: Vec::new(alloc),
         },
-        Asked::Plan => Command::Plan { file, start },
+        Asked::Plan => Command::Plan {
+            file,
+            start,
+            dates: false,
+        },
+        Asked::PlanInDates => Command::Plan {
+            file,
+            start,
+            dates: true,
+        },
         Asked::Margin => Command::Margin {
             file,
             query: MarginQuery {
@@ -252,11 +271,11 @@ fn a_live_run_reads_its_file_first(rt: HostRuntime) -> Result<(), Fail> {
 // A watch over the file, over a broker that lists the web example.
 fn watches(alloc: Global, file: &str) -> Result<(Outcome, u64), Fail> {
     let table = Table::load(alloc, &read(alloc, WEB.as_bytes())?)?;
-    let mut exchange = MemoryExchange::new(alloc, table);
+    let mut lanes = MemoryLanes::new(alloc, table, 5, 8);
     let text = Vec::from_slice(alloc, b"clock 1000000 1000000\n")?;
     let lines = MemorySource::new(text, Vec::new(alloc), None);
     let mut streams = streams_to(alloc, lines, MemorySink::new(alloc, None));
-    let exit = watch_file(alloc, file, 8, &mut Folder, &mut exchange, &mut streams);
+    let exit = watch_file(alloc, file, &mut Folder, &mut lanes, &mut streams);
     let reads = streams.lines.reads();
     Ok((Outcome::of(exit, streams), reads))
 }

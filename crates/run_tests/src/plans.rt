@@ -5,7 +5,7 @@ use agent_tests::inventories::{
 use agent_tests::moments::moment;
 use agent_tests::outcomes::Outcome;
 use keep_device::MemorySink;
-use keep_engine::{Exit, run_plan};
+use keep_engine::{Exit, run_plan, run_plan_dates};
 use std::alloc::Global;
 use std::test::Fail;
 
@@ -154,5 +154,55 @@ fn a_failed_write_of_a_plan_is_exit_6(rt: HostRuntime) -> Result<(), Fail> {
         let outcome = plans(rt.alloc(), WEB, Some(call))?;
         assert!(rt; outcome.is_a_failed_write(), "{call}");
     }
+    Ok(())
+}
+
+// Plans in dates from 1000 on: an inventory, the exit, and the lines after the first.
+const IN_DATES: [(&str, Exit, &str); 5] = [
+    ("", Exit::Done, "end 0\n"),
+    (
+        IN_TURN,
+        Exit::Done,
+        "run 1970-01-01T00:17:39Z 0 1 a a\nrun 1970-01-01T00:19:18Z 99 3 b b\nend 4\n",
+    ),
+    (
+        FOR_GOOD,
+        Exit::Done,
+        "run 1970-01-01T00:17:39Z 59 2 web web\nend 2\n",
+    ),
+    (LOW_CEILING, Exit::Unkeepable, "unkeepable T L\n"),
+    (CHILD, Exit::Unkeepable, "unkeepable A B\n"),
+];
+
+// `plan --dates` from 1000 on, to an output that fails after so many calls.
+fn plans_in_dates(alloc: Global, inventory: &str, failing: Option<u64>) -> Result<Outcome, Fail> {
+    let mut out = MemorySink::new(alloc, failing);
+    let mut errors = MemorySink::new(alloc, None);
+    let start = moment(1000)?;
+    let exit = run_plan_dates(alloc, inventory.as_bytes(), start, &mut out, &mut errors);
+    Ok(Outcome { exit, out, errors })
+}
+
+#[test]
+fn plans_in_dates_are_written(rt: HostRuntime) -> Result<(), Fail> {
+    let alloc = rt.alloc();
+    for (inventory, exit, lines) in &IN_DATES {
+        let text = format!(in alloc; "start 1970-01-01T00:16:40Z\n{lines}")?;
+        let outcome = plans_in_dates(alloc, inventory, None)?;
+        assert!(rt; outcome.is(*exit, text.as_str(), ""), "{lines}");
+    }
+    Ok(())
+}
+
+#[test]
+fn plans_in_dates_stop_as_plans_do(rt: HostRuntime) -> Result<(), Fail> {
+    let alloc = rt.alloc();
+    for (web, exit, fault) in &STOPPED {
+        let inventory = inventory_of(alloc, *web)?;
+        let outcome = plans_in_dates(alloc, inventory.as_str(), None)?;
+        assert!(rt; outcome.is(*exit, "", fault), "{fault}");
+    }
+    let cut = plans_in_dates(alloc, WEB, Some(0))?;
+    assert!(rt; cut.is(Exit::Device, "", "leasekeep: write\n"));
     Ok(())
 }

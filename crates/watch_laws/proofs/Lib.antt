@@ -31,3 +31,12 @@ pub mod Answered
 pub mod Outliving
 pub mod Recovering
 pub mod Ahead
+pub mod Believed
+pub mod Forested
+pub mod Foreseen
+pub mod OfPlan
+pub mod Calming
+pub mod OnPlan
+pub mod CalmClock
+pub mod CalmGrant
+pub mod CalmDay

@@ -9,3 +9,4 @@ pub mod Waiting
 pub mod Ends
 pub mod Outage
 pub mod Recovery
+pub mod Calm

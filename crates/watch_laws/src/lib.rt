@@ -7,6 +7,7 @@
 
 mod laws_of_absence;
 mod laws_of_beginnings;
+mod laws_of_calm;
 mod laws_of_ends;
 mod laws_of_load;
 mod laws_of_needs;
@@ -18,6 +19,7 @@ mod laws_of_waiting;
 
 pub use laws_of_absence::{held_law, spared_law};
 pub use laws_of_beginnings::few_law;
+pub use laws_of_calm::{calm_law, next_moment_law, round_of_plan_law};
 pub use laws_of_ends::never_past_law;
 pub use laws_of_load::{load_law, spaced_law, width_law};
 pub use laws_of_needs::needed_law;

@@ -14,13 +14,14 @@ from leasekeepd_lib.child import Child, ChildExit
 from .vault import Vault
 
 REFUSED = (400, 403, 404, 405)
+TIMEOUT = 5
 
 
 class AskedChild:
     """Looks each entry up when it is handed the clock."""
 
-    def __init__(self, vault: Vault, inventory: Inventory, timeout: int) -> None:
-        self._vault, self._inventory, self._timeout = vault, inventory, timeout
+    def __init__(self, vault: Vault, inventory: Inventory) -> None:
+        self._vault, self._inventory = vault, inventory
         self._said = deque[str]()
 
     async def write_line(self, line: str) -> None:
@@ -33,12 +34,14 @@ class AskedChild:
         request = Request("GET", "/v1/auth/token/lookup-self", token, b"") if entry.kind is Kind.TOKEN else Request(
             "POST", "/v1/sys/leases/lookup", token, json.dumps({"lease_id": entry.secret}).encode())
         try:
-            async with asyncio.timeout(self._timeout):
+            async with asyncio.timeout(TIMEOUT):
                 reply = await self._vault.serve(request)
-        except (TransportFault, TimeoutError):
-            return [f"lost {entry.name}"]
+        except TransportFault:
+            return [f"lost {entry.name} closed"]
+        except TimeoutError:
+            return [f"lost {entry.name} timeout"]
         if reply.status != 200:
-            return [f"refused {entry.name} {reply.status}" if reply.status in REFUSED else f"lost {entry.name}"]
+            return [f"{'refused' if reply.status in REFUSED else 'lost'} {entry.name} {reply.status}"]
         data: dict[str, Any] = json.loads(reply.body)["data"]
         end = int(self._vault.world.now()) + data["ttl"]
         return [f"entry {entry.name} {end}", f"end {entry.name} {1000 * end} yes"]
@@ -53,10 +56,8 @@ class AskedChild:
 class AskedLauncher:
     """Starts such."""
 
-    timeout = 5
-
     def __init__(self, vault: Vault) -> None:
         self._vault = vault
 
     async def launch(self, inventory: Inventory) -> Child:
-        return AskedChild(self._vault, inventory, self.timeout)
+        return AskedChild(self._vault, inventory)

@@ -37,8 +37,6 @@ class QuietChild:
 class QuietLauncher:
     """Starts such, and remembers what each was given."""
 
-    timeout = 5
-
     def __init__(self) -> None:
         self.inventories: list[Inventory] = []
         self.children: list[QuietChild] = []

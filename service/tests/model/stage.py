@@ -13,12 +13,12 @@ import tempfile
 import unittest
 from dataclasses import replace
 from pathlib import Path
-from typing import Awaitable, Callable
+from typing import Callable
 
 from leasekeep_inventory.http_client import Address, TransportFault
 from leasekeep_inventory.inventory import Entry, Inventory, Kind
 from leasekeepd_journal.storage import Storage
-from leasekeepd_lib.child import END_SECONDS, Child, ChildExit, ChildProcess, LaunchFault
+from leasekeepd_lib.child import Child, ChildExit, ChildProcess, LaunchFault
 from leasekeepd_lib.events import LineForm, Log
 from leasekeepd_lib.known_ends import KnownEnds
 from leasekeepd_lib.status import EntryStatus
@@ -27,26 +27,23 @@ from leasekeepd_lib.watch_process import Watch, WatchCommand
 from leasekeepd_lib.watch_standings import Standings
 from trial.programs import find_program
 
+from .program_time import ProgramTime, can_be_simulated
 from .server import read_request, reply_bytes
-from .vault import Reply, Vault
+from .vault import Vault
 from .world import SimLoop, World
 
-PROGRAM = find_program("leasekeep")
-"""`leasekeep` itself, where it is built or installed."""
+PROGRAM = find_program("leasekeep") if can_be_simulated() else None
+"""`leasekeep` itself, where it is built or installed, and a C compiler is there."""
 IS_QUICK = find_program("leasekeep", may_be_slow=False) is not None
 """Whether it is no build without a proof: such takes ten times as long, and plays days in place of weeks."""
-TIMEOUT = 5.0
-REAL_TIMEOUT = 60
-"""The time-out of the process's sockets in real time: that of the scenario is the broker's matter."""
-SHORT, HASTY = 0.25, 0.02
-"""Patience with entries whose time has just come while the broker is away, and after one that took all its time."""
+TIMEOUT = 5
 
 
 class StageChild:
     """One process of `leasekeep watch`."""
 
-    def __init__(self, process: ChildProcess, loop: SimLoop, sockets: Sockets) -> None:
-        self._process, self._loop, self._sockets = process, loop, sockets
+    def __init__(self, process: ChildProcess, loop: SimLoop, time: ProgramTime) -> None:
+        self._process, self._loop, self._time = process, loop, time
         self._stat = os.open(f"/proc/{process.pid}/stat", os.O_RDONLY)
         self._is_ending = self._is_hung = False
         self.thinks = 0.0
@@ -54,22 +51,33 @@ class StageChild:
         self.events: list[str] = []
         self.printed: list[str] = []
         loop.workers.add(self)
+        self.show(loop.time())
 
     @property
     def is_working(self) -> bool:
         """Whether it runs: not where it waits for a line or for the broker."""
-        if self._is_ending:
-            return True
+        state = self._state()
+        return state in ("R", "D") or (self._is_ending and not self._is_hung and self.wakes is None)
+
+    @property
+    def wakes(self) -> float | None:
+        return self._time.waits_until() if self._state() == "S" and not self._is_hung else None
+
+    def show(self, seconds: float) -> None:
+        if not self._is_hung and self._state():
+            self._time.show(seconds, self._process.pid)
+
+    def _state(self) -> str:
+        """What the kernel says that it does; nothing where it is no more."""
         try:
-            return os.pread(self._stat, 512, 0).rpartition(b")")[2][1:2] in b"RD"
+            return os.pread(self._stat, 512, 0).rpartition(b")")[2][1:2].decode()
         except OSError:
-            return False  # It is no more.
+            return ""
 
     async def read_line(self) -> str | None:
         line = await self._process.read_line()
         if line is not None:
             self.printed.append(line)
-            self._sockets.hear(line)
         return line
 
     async def write_line(self, line: str) -> None:
@@ -80,9 +88,6 @@ class StageChild:
 
     async def end(self) -> ChildExit:
         await self._loop.idle()  # (What it has sent is there then.)
-        if self._sockets.is_open or self._is_hung:  # (It hears only after its slice that its input has ended.)
-            await asyncio.sleep(END_SECONDS)
-            self.kill()
         self._is_ending = True
         try:
             return await self._process.end()
@@ -100,91 +105,30 @@ class StageChild:
         os.kill(self._process.pid, signal.SIGSTOP)
 
 
-class _Talk:
-    """A request of a slice, and where its reply goes."""
-
-    def __init__(self, writer: asyncio.StreamWriter, serving: Callable[[Callable[[], None]], Awaitable[Reply]]) -> None:
-        self.writer, self.has_begun = writer, asyncio.Event()
-        self.reply = asyncio.ensure_future(serving(self.has_begun.set))
-
-    async def end(self, patience: float) -> bool:
-        """Hands the reply over; whether its first bytes came in time."""
-        begun = asyncio.ensure_future(self.has_begun.wait())
-        await asyncio.wait((self.reply, begun), timeout=patience, return_when=asyncio.FIRST_COMPLETED)
-        in_time = self.reply.done() or begun.done()
-        begun.cancel()
+async def serve_at(vault: Vault, place: str) -> asyncio.Server:
+    """Lets the broker listen there. Each connection is served by itself, whatever becomes of the others."""
+    async def talk(reader: asyncio.StreamReader, writer: asyncio.StreamWriter) -> None:
+        def drip(piece: bytes) -> None:
+            if not writer.is_closing():
+                writer.write(piece)
         try:
-            if in_time:
-                self.writer.write(reply_bytes(await self.reply))
-                await self.writer.drain()
-        except (OSError, TransportFault):
-            pass  # The process sees a connection that ends without a reply.
-        finally:
-            self.reply.cancel()
-            self.writer.close()
-        return in_time
-
-
-class Sockets:
-    """The broker's socket, for a client that sends a slice of requests abreast and reads the replies in turn."""
-
-    def __init__(self, vault: Vault) -> None:
-        self._vault = vault
-        self._slice: list[_Talk] = []
-        self._failed: set[str] = set()
-        self._is_away = False
-        self.is_open = False
-        self.slices = 0
-
-    async def start(self, place: str) -> asyncio.Server:
-        return await asyncio.start_unix_server(self._talk, place)
-
-    def hear(self, line: str) -> None:
-        """What the process says of the broker and of entries decides how patient it is."""
-        word, *names = line.split(" ")
-        if word in ("away", "back"):
-            self._is_away = word == "away"
-        elif word in ("lost", "refused"):
-            self._failed.add(names[0])
-        elif word in ("told", "entry"):
-            self._failed.discard(names[0])
-
-    async def _talk(self, reader: asyncio.StreamReader, writer: asyncio.StreamWriter) -> None:
-        try:
-            request = await read_request(reader)
-        except (OSError, asyncio.IncompleteReadError):
-            writer.close()
-            return
-        is_first = not self._slice
-        name = self._vault.named_by(request)
-        self._slice.append(_Talk(writer, lambda begun: self._vault.serve(request, begun)))
-        if is_first:
-            self.is_open = True
             with contextlib.suppress(asyncio.CancelledError):  # (the loop tells of it)
-                await self._serve(SHORT if self._is_away and name not in self._failed else TIMEOUT)
-            self.is_open = False
-
-    async def _serve(self, patience: float) -> None:
-        loop = asyncio.get_running_loop()
-        assert isinstance(loop, SimLoop)
-        await loop.idle()  # Then all requests of the slice are there.
-        self.slices += 1
-        talks, self._slice = self._slice, []
-        for talk in talks:
-            if not await talk.end(patience):
-                patience = HASTY
+                writer.write(reply_bytes(await vault.serve(await read_request(reader), drip)))
+                await writer.drain()
+        except (OSError, asyncio.IncompleteReadError, TransportFault):
+            pass  # The process sees a connection that ends without a reply, or has given it up.
+        finally:
+            writer.close()
+    return await asyncio.start_unix_server(talk, place)
 
 
 class StageLauncher:
     """Starts processes on the broker of the stage, and remembers each."""
 
-    timeout = int(TIMEOUT)
-
     def __init__(self, vault: Vault, program: str, folder: str) -> None:
-        self._vault, self._folder = vault, folder
+        self._vault, self._program, self._folder = vault, program, folder
         self._place = f"{folder}/broker"
-        self._command = WatchCommand(program, Address(self._place), REAL_TIMEOUT)
-        self._sockets: Sockets | None = None
+        self._width: int | None = None
         self._server: asyncio.Server | None = None
         self.children: list[StageChild] = []
         self.inventories: list[Inventory] = []
@@ -193,7 +137,7 @@ class StageLauncher:
 
     def set_width(self, width: int | None) -> None:
         """How many requests go out at once, of the processes from now on."""
-        self._command = replace(self._command, width=width)
+        self._width = width
 
     async def launch(self, inventory: Inventory) -> Child:
         loop = asyncio.get_running_loop()
@@ -201,14 +145,13 @@ class StageLauncher:
         self.inventories.append(inventory)
         if self.is_missing:
             raise LaunchFault("cannot start leasekeep: No such file or directory")
-        if self._server is not None:
-            self._server.close()
-            os.unlink(self._place)
-        sockets = Sockets(self._vault)
-        self._server = await sockets.start(self._place)
-        process = await self._command.launch(inventory)
+        if self._server is None:
+            self._server = await serve_at(self._vault, self._place)
+        time = ProgramTime(self._folder)
+        command = WatchCommand(time.wrapped(self._program), Address(self._place), TIMEOUT, self._width)
+        process = await command.launch(inventory)
         assert isinstance(process, ChildProcess)
-        child = StageChild(process, loop, sockets)
+        child = StageChild(process, loop, time)
         child.thinks = self.thinks
         self.children.append(child)
         if self.ends_at_once:
@@ -225,7 +168,7 @@ class Stage:
 
     def __init__(self, inventory: Inventory, nap: float = math.inf, storage: Storage | None = None, **world: float) -> None:
         if PROGRAM is None:
-            raise unittest.SkipTest("no built leasekeep that has the command `watch`")
+            raise unittest.SkipTest("no built leasekeep that has the command `watch`, or no C compiler")
         self.nap = nap  # (as long as may be: naps take real time)
         self.world = World(**world)
         self.vault = Vault(self.world)
@@ -243,16 +186,21 @@ class Stage:
     def _new(self) -> None:
         """A service that knows what stands on the disk."""
         self._log = Log(LineForm(self.world), self.output)
-        self._ends = KnownEnds(Path(self.folder.name) / "ends", self._storage, "boot")
+        self._ends = KnownEnds(self.ends_file, self._storage, "boot")
         self._ends.load()
         self.watch = Watch(self.launcher, self.world, self._ends, self._log, self._hear, self.nap)
         self.standings = Standings(self.world)
         self.take(self.inventory)
 
+    @property
+    def ends_file(self) -> Path:
+        return Path(self.folder.name) / "ends"
+
     def _hear(self, line: WatchLine) -> None:
         level = self.standings.level_of(line)
         if level is not None:
-            self._log.say(level, line.said.word, *line.words)
+            words = line.words if line.said.moment is not None else self.standings.logged(line)  # (Moments stay numbers here.)
+            self._log.say(level, line.said.word, *words)
         if line.said is Said.END and int(line.words[1]) / 1000 + self.world.began > self.vault.named(line.words[0]).end + 0.001:
             self.believed_too_long.append(str(line))  # (of a machine whose clock is neither slow nor quick)
         self.standings.hear(line)

@@ -47,8 +47,8 @@ class Act(Enum):
     DROP = "do all, and send no reply"
 
 
-DRIPS = 7.0
-"""Seconds that a client with a time-out of five takes to have had enough: a quarter for each of 28 reads."""
+DRIPS, DRIP_EVERY = b"HTTP/1.1 200 OK\r\nContent-Length: 9\r\nServer: a slow one\r\n\r\n", 0.2
+"""A reply that drips, and the seconds between two bytes of it: a client with a time-out of five has had enough after 28 reads."""
 
 
 @dataclass(frozen=True)
@@ -98,12 +98,16 @@ class Vault:
     latency: float = 0.0
     quota: int | None = None
     tells_date: bool = False
+    nodes_ahead: tuple[float, ...] = (0.0,)
+    """By how many seconds the clocks of its nodes are ahead, of which one after the other answers. Dates alone are told by them."""
     has_whole_seconds: bool = False
     log: list[tuple[float, str, str, int | None]] = field(default_factory=list)
     _recent: list[float] = field(default_factory=list)
+    _swept: float | None = None
 
     def load(self, inventory: Inventory, **real: dict[str, Any]) -> None:
         """The rows of an inventory, each with its end as written; `real` changes fields of some by name."""
+        self._swept = None
         for entry in inventory.entries:
             ceiling = inventory.ceiling(entry, entry.issued, entry.period, entry.explicit_max_ttl)
             row = Secret(entry.name, entry.kind, entry.parent, entry.end, entry.issued, ceiling, entry.period,
@@ -121,8 +125,11 @@ class Vault:
         return next(row for row in self.rows.values() if row.name == name)
 
     def sweep(self) -> None:
-        """Ends each row whose end, or the end of one over it, has come."""
+        """Ends each row whose end, or the end of one over it, has come; once at each moment."""
         now = self.now()
+        if now == self._swept:
+            return
+        self._swept = now
         by_name = {row.name: row for row in self.rows.values()}
         for row in self.rows.values():
             if row.ended is None and row.end <= now:
@@ -133,17 +140,18 @@ class Vault:
 
     def revoke(self, name: str) -> None:
         self.named(name).ended = self.world.now()
+        self._swept = None
 
     def count(self, word: str) -> int:
         return sum(word in path for _, path, _, _ in self.log)
 
-    async def serve(self, request: Request, begun: Callable[[], None] = lambda: None) -> Reply:
-        """One request; `begun` is called where the first bytes of the reply go out long before its end."""
+    async def serve(self, request: Request, drip: Callable[[bytes], None] = lambda piece: None) -> Reply:
+        """One request; `drip` is called for each byte of a reply that drips."""
         name = self.named_by(request)
         fault = next((fault for fault in self.faults
                       if fault.since <= self.world.now() < fault.until and fault.on(request, name)), None)
         if fault is not None:
-            reply = await self._act(fault, request, name, begun)
+            reply = await self._act(fault, request, name, drip)
             if reply is not None:
                 return reply
         if self.latency:
@@ -154,10 +162,11 @@ class Vault:
         self.sweep()
         status, body = (429, {"errors": []}) if self._over_quota() else self._serve(request)
         self.log.append((self.world.now(), request.path, name, status))
-        date = math.floor(self.world.now()) if self.tells_date else None
+        ahead = self.nodes_ahead[len(self.log) % len(self.nodes_ahead)]
+        date = math.floor(self.world.now() + ahead) if self.tells_date else None
         return Reply(status, json.dumps(body).encode(), date)
 
-    async def _act(self, fault: Fault, request: Request, name: str, begun: Callable[[], None]) -> Reply | None:
+    async def _act(self, fault: Fault, request: Request, name: str, drip: Callable[[bytes], None]) -> Reply | None:
         if fault.act is Act.DELAY:
             await asyncio.sleep(fault.seconds)
             return None
@@ -170,8 +179,9 @@ class Vault:
         if fault.act is Act.HANG:
             await asyncio.sleep(1e9)
         elif fault.act is Act.DRIP:
-            begun()
-            await asyncio.sleep(DRIPS)
+            for byte in DRIPS:
+                drip(bytes((byte,)))
+                await asyncio.sleep(DRIP_EVERY)
         raise TransportFault("no reply")
 
     def _over_quota(self) -> bool:

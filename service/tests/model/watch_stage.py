@@ -24,9 +24,6 @@ PROGRAM = str(Path(__file__).resolve().parents[1] / "scripted_watch")
 WEB = Entry("web", Kind.TOKEN, None, 900, 1060, increment=60, max_ttl=9000, need=1200, credential="s.web")
 DB = Entry("db", Kind.LEASE, "web", 900, 1060, increment=60, max_ttl=9000, need=1200, credential="db/1")
 ONE, TWO = Inventory((WEB,), 20), Inventory((WEB, DB), 20)
-SILENCE = 2 * 5 + 3
-"""Seconds that a process may say nothing, with a margin of 20: half of that is less."""
-
 Script = list[list[tuple[str, list[Any]]]]
 
 
@@ -45,6 +42,13 @@ class TimedChild:
         if self._answer and self._answer[0] in (None, "hang"):
             return self._is_ending or not self._heard.exists() or self._heard.read_text().count("\n") <= self._lines
         return self._is_ending or bool(self._answer)
+
+    @property
+    def wakes(self) -> float | None:
+        return None
+
+    def show(self, seconds: float) -> None:
+        pass
 
     async def write_line(self, line: str) -> None:
         self._answer = list(self._script.pop(0)[1]) if self._script else []
@@ -89,10 +93,6 @@ class WatchStage:
         self.ends = KnownEnds(self.folder / "ends", Storage(), self.boot)
         self.watch = Watch(self, self.world, self.ends, Log(LineForm(self.world), self.output), self.heard.append)
         self.watch.take(self.inventory)
-
-    @property
-    def timeout(self) -> int:
-        return self.command.timeout
 
     async def launch(self, inventory: Inventory) -> Child:
         loop = asyncio.get_running_loop()

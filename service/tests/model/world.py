@@ -22,6 +22,13 @@ class Worker(Protocol):
     @property
     def is_working(self) -> bool: ...
 
+    @property
+    def wakes(self) -> float | None:
+        """The loop's time at which it goes on by itself, where it does not work; None where it waits for something else."""
+
+    def show(self, seconds: float) -> None:
+        """Shows it the loop's time, which has gone on; where it wakes by then it works from now on."""
+
 
 class _Selector(selectors.DefaultSelector):
     """A selector that never waits: a time-out passes at once. But for workers it waits."""
@@ -38,7 +45,7 @@ class _Selector(selectors.DefaultSelector):
                 break
             if time.monotonic() > began + LONGEST_WORK:
                 raise TimeoutError("a worker has not ended its work")
-        if not ready and timeout != 0 and self.loop.wake_idle():
+        if not ready and timeout != 0 and (self.loop.wake_idle() or self.loop.wake_worker(timeout)):
             return ready
         if not ready and timeout is None:
             # Only a thread or a child process could still wake the loop.
@@ -54,11 +61,22 @@ class SimLoop(asyncio.SelectorEventLoop):
     def __init__(self) -> None:
         selector = _Selector()
         selector.loop = self
-        self.simulated = 0.0
+        self._simulated = 0.0
         self.workers: set[Worker] = set()
         self._aside: float | None = None
         self._idle: list[asyncio.Future[None]] = []
         super().__init__(selector)
+
+    @property
+    def simulated(self) -> float:
+        """Seconds since the beginning."""
+        return self._simulated
+
+    @simulated.setter
+    def simulated(self, seconds: float) -> None:
+        self._simulated = seconds
+        for worker in self.workers:
+            worker.show(seconds)
 
     def time(self) -> float:
         return self.simulated
@@ -94,6 +112,14 @@ class SimLoop(asyncio.SelectorEventLoop):
         """Returns where nothing is left to be done at this moment, by the loop or by a worker."""
         self._idle.append(self.create_future())
         await self._idle[-1]
+
+    def wake_worker(self, within: float | None) -> bool:
+        """Whether a worker went on by itself within so many seconds: then that time has passed, up to the first that did."""
+        first = min((worker.wakes for worker in self.workers if worker.wakes is not None), default=None)
+        if first is None or (within is not None and first > self.simulated + within):
+            return False
+        self.simulated = max(self.simulated, first)
+        return True
 
     def wake_idle(self) -> bool:
         """Whether somebody waited for this."""

@@ -1,6 +1,8 @@
 -- Words for the parts of a run: what is made before the first write, and its delivery. No public clause cites them.
 use Rattle.std.specs.Prelude.{◌≡◌, ◌⊎◌, ℕ, List, Result, Ok, Err, slice_index}
 use Rattle.keep_device.specs.Seen.{Change}
+use Rattle.keep_moment.specs.declared.text.Text.{Text}
+use Rattle.keep_tree.specs.declared.entry.Entry.{Entry}
 use Rattle.keep_tree.specs.Forest.{Forest}
 use Rattle.keep_plan.specs.declared.decision.Decision.{Decision}
 use Rattle.keep_plan.specs.declared.decision.Decision.TheVariants as decision
@@ -14,19 +16,20 @@ use Rattle.keep_report.specs.Exits.{exit_of}
 use Rattle.keep_report.specs.Sent.{IsAll, IsUntouched, Sends}
 use Rattle.keep_report.specs.Told.{Reports}
 use Rattle.keep_engine.specs.declared.outcome.Outcome.{Outcome}
+use Rattle.keep_engine.specs.PlanDates.{AreRunsInDates, IsPairInDates}
 use Rattle.keep_engine.specs.Running.{Halts, Texts, line_of}
 
 -- what a command makes of a forest
 abbrev pub MakesOf : Texts → Halts → Forest → Result Outcome Stop → Type 0
-MakesOf Text Halt g (Ok outcome) = Text g outcome.exit outcome.text
-MakesOf Text Halt g (Err stops.Memory) = Unit {0}
-MakesOf Text Halt g (Err stop) = Halt g stop
+MakesOf Written Halt g (Ok outcome) = Written g outcome.exit outcome.text
+MakesOf Written Halt g (Err stops.Memory) = Unit {0}
+MakesOf Written Halt g (Err stop) = Halt g stop
 
 -- what it makes of what was read
 abbrev pub Makes : Texts → Halts → Result Inventory InvFault → Result Outcome Stop → Type 0
-Makes Text Halt answer (Err (stops.Inventory fault)) = answer ≡ Err fault
-Makes Text Halt answer (Err stops.Memory) = Unit {0}
-Makes Text Halt answer made = (inventory : Inventory) × (answer ≡ Ok inventory) × MakesOf Text Halt inventory.forest made
+Makes Written Halt answer (Err (stops.Inventory fault)) = answer ≡ Err fault
+Makes Written Halt answer (Err stops.Memory) = Unit {0}
+Makes Written Halt answer made = (inventory : Inventory) × (answer ≡ Ok inventory) × MakesOf Written Halt inventory.forest made
 
 -- a text was sent, or why only a front of it was; or why there is none was told
 abbrev pub Delivers : Result Outcome Stop → Exit → Change → Change → Type 0
@@ -44,3 +47,16 @@ abbrev pub decided_exit : Decision → Exit
 decided_exit (decision.Keep p) = exits.Done
 decided_exit (decision.Unkeepable entry needed) = exits.Unkeepable
 decided_exit decision.TooLong = exits.TooLong
+
+-- the text in dates of a decision over these entries
+abbrev pub IsInDatesOf : List Entry → ℕ → Decision → List ℕ → Type 0
+IsInDatesOf es s (decision.Keep p) text = AreRunsInDates es s p.runs text
+IsInDatesOf es s (decision.Unkeepable entry needed) text = IsPairInDates es s entry needed text
+IsInDatesOf es s decision.TooLong text = ⊥
+
+-- there is none where each plan is too long, or where memory was refused
+abbrev pub DatesOf : List Entry → ℕ → Result Text Stop → Decision → Type 0
+DatesOf es s (Ok text) d = IsInDatesOf es s d text
+DatesOf es s (Err stops.TooLong) d = d ≡ decision.TooLong
+DatesOf es s (Err stops.Memory) d = Unit {0}
+DatesOf es s (Err stop) d = ⊥

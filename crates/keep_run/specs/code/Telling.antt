@@ -8,12 +8,16 @@ use Rattle.keep_core.specs.declared.event.Output.{Output}
 use Rattle.keep_device.specs.Failures.{HasFailed}
 use Rattle.keep_report.specs.declared.stop.Stop.{Stop}
 use Rattle.keep_report.specs.declared.stop.Stop.TheVariants as stops
+use Rattle.keep_report.specs.Sent.{IsAll}
 use Rattle.keep_run.specs.Closed.{AreAnswered, Exchanged, World}
-use Rattle.keep_run.specs.code.LineByLine.{IsSent}
 use Rattle.keep_run.specs.Hearing.{IsAskLeft, IsOverlong}
 use Rattle.keep_run.specs.declared.live.event_line.Heard.{Heard}
 use Rattle.keep_run.specs.code.Playing.{Answers, AnswersAll}
 use Rattle.keep_run.specs.Text.{answer_text, inventory_with}
+
+-- all of a text was written and flushed, and no call failed
+abbrev pub IsSent : List ℕ → Change → Type 0
+IsSent text out = IsAll text out × (out.new.failed_calls ≡ out.old.failed_calls)
 
 -- ---- one answer
 

@@ -4,12 +4,10 @@ ghost use Rattle.keep_run.specs.EventLines.{IsWithin, heard_in, need_in, tick_in
 ghost use Rattle.keep_moment.specs.declared.moment.TheConstants.{LAST};
 ghost use Rattle.keep_words.specs.Numbers.{number_up_to};
 
+use keep_lines::MOST_LINE;
 use keep_moment::{LAST, Moment};
 use keep_tree::Forest;
 use keep_words::{number_up_to, three_words, two_words};
-
-/// The most bytes of an event line, its line feed included.
-pub const MOST_LINE: usize = 256;
 
 /// What an event line says to the keeper of a forest.
 #[derive(Clone, Copy, Debug, PartialEq, Eq)]

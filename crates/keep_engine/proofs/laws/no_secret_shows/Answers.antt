@@ -1,4 +1,5 @@
 -- Of inventories with one forest, each command writes one text with one exit.
+use Rattle.keep_engine.proofs.Dated.{one_plan_in_dates}
 use Rattle.keep_engine.proofs.Margins.{one_margin_text}
 use Rattle.keep_engine.proofs.OneText.{one_check_text, one_ends_text, one_plan_text}
 use Rattle.keep_engine.proofs.Reaching.{one_reach_text}
@@ -9,6 +10,9 @@ returns-clause-ends c = one_ends_text
 
 pub returns-clause-plan : goal.returns-clause-plan
 returns-clause-plan c = one_plan_text
+
+pub returns-clause-plan_dates : goal.returns-clause-plan_dates
+returns-clause-plan_dates c = one_plan_in_dates
 
 pub returns-clause-margin : goal.returns-clause-margin
 returns-clause-margin c = one_margin_text

@@ -1,5 +1,5 @@
 -- Inventories that differ in secrets alone have runs that write fronts of one text, with one exit.
-use Rattle.keep_engine.proofs.SameRun.{check_secrecy, ends_secrecy, margin_secrecy, plan_secrecy, reach_secrecy}
+use Rattle.keep_engine.proofs.SameRun.{check_secrecy, ends_secrecy, margin_secrecy, plan_dates_secrecy, plan_secrecy, reach_secrecy}
 use Rattle.keep_engine.proofs.SameRehearsal.{rehearse_secrecy}
 use Rattle.keep_engine.proofs.laws.secrets_change_no_run.Goals as goal
 
@@ -8,6 +8,9 @@ returns-clause-ends c = ends_secrecy
 
 pub returns-clause-plan : goal.returns-clause-plan
 returns-clause-plan c = plan_secrecy
+
+pub returns-clause-plan_dates : goal.returns-clause-plan_dates
+returns-clause-plan_dates c = plan_dates_secrecy
 
 pub returns-clause-margin : goal.returns-clause-margin
 returns-clause-margin c = margin_secrecy

@@ -47,4 +47,4 @@ returns g c =
     subst (λ (w : Inventory). IsOpened port c.args.start c.deref-2.result.now (record { inventory = w; behind = before }) agent.credentials agent.keeper middle out) c.into_parts-inventory.ensures.inventory c.in_ok-agent.ensures.opened in
     listened_lives port c.args.bytes.now c.args.start before (g.E.Exchange.host_port c.begin.new.exchange) v _ _ _ _ _ _ _ c.listen.result _ _
     c.in_ok-served.ensures c.in_ok-agent.ensures.port
-    (subst (λ (l : List Bool). IsOpened port c.args.start l (record { inventory = v.inventory; behind = before }) agent.credentials agent.keeper middle out) always_is over_served) c.listen.ensures.listens
+    (subst (λ (l : List Bool). IsOpened port c.args.start l (record { inventory = v.inventory; behind = before }) agent.credentials agent.keeper middle out) always_is over_served) c.listen.ensures.listens c.listen.ensures.flushed

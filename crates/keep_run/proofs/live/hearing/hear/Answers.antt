@@ -4,7 +4,7 @@ use Rattle.keep_device.specs.Seen.{Change, change}
 use Rattle.keep_report.specs.Sent.{Sends}
 use Rattle.keep_run.specs.Hearing.{HearsTo}
 use Rattle.keep_run.specs.Stops.{both}
-use Rattle.keep_run.proofs.LineByLine.{handed_on}
+use Rattle.keep_lines.proofs.LineByLine.{handed_on}
 use Rattle.keep_run.proofs.SentTicks.{need_halts, need_sent, unknown_sent}
 use Rattle.keep_run.proofs.live.hearing.hear.Goals as goal
 

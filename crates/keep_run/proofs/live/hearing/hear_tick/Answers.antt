@@ -5,12 +5,13 @@ use Rattle.keep_core.specs.declared.event.Output.TheVariants as out
 use Rattle.keep_core.specs.State.{State}
 use Rattle.keep_report.specs.declared.stop.Stop.TheVariants as stops
 use Rattle.keep_report.specs.Sent.{IsAll, Sends}
-use Rattle.keep_run.specs.code.LineByLine.{IsSent}
+use Rattle.keep_run.specs.code.Telling.{IsSent}
 use Rattle.keep_run.specs.Hearing.{HearsTo, next_line}
 use Rattle.keep_run.specs.declared.live.event_line.Heard.TheVariants as heards
 use Rattle.keep_run.specs.Stops.{both}
 use Rattle.keep_run.specs.code.Telling.{TellsRound}
-use Rattle.keep_run.proofs.LineByLine.{handed_on, joined}
+use Rattle.keep_lines.specs.Hearing.{joined}
+use Rattle.keep_lines.proofs.LineByLine.{handed_on}
 use Rattle.keep_run.proofs.LiveTicks.{on_ok, only_idle, round_as, ticks_as, ticks_ready}
 use Rattle.keep_run.proofs.Refusing.{leaves_closed, leaves_sleeping}
 use Rattle.keep_run.proofs.SentTicks.{late_sent, quiet_sent, round_memory, round_sent, round_stops, stops_at_first}

@@ -6,7 +6,8 @@ use Rattle.keep_core.proofs.Shaped.{both_shaped, same}
 use Rattle.keep_run.specs.Stops.{both}
 use Rattle.keep_run.specs.code.Telling.{TellsOne, TellsRound}
 use Rattle.keep_run.proofs.Agents.{as_begun}
-use Rattle.keep_run.proofs.LineByLine.{handed_on, joined}
+use Rattle.keep_lines.specs.Hearing.{joined}
+use Rattle.keep_lines.proofs.LineByLine.{handed_on}
 use Rattle.keep_run.proofs.Refusing.{Stands, hears_leads, hears_shaped, stands_first, stands_now}
 use Rattle.keep_run.proofs.Rounds.{none_answered}
 use Rattle.keep_run.proofs.ToldRounds.{stopped_on, told_more}

@@ -2,7 +2,7 @@
 use Rattle.std.proofs.Common.{◌≡◌, List, [], ℕ, drop, take}
 use Rattle.keep_device.specs.Seen.{change}
 use Rattle.keep_core.specs.LawsOfSteps.{IsShaped}
-use Rattle.keep_run.specs.code.LineByLine.{IsSent}
+use Rattle.keep_run.specs.code.Telling.{IsSent}
 use Rattle.keep_run.specs.code.Playing.{AnswersAll}
 use Rattle.keep_run.specs.Stops.{both}
 use Rattle.keep_run.proofs.Refusing.{Stands}

@@ -1,44 +1,56 @@
--- The answer of each entry is taken in its turn.
-use Rattle.std.proofs.Common.{◌≡◌, ◌+◌, List, None, Some, ℕ, ap, arith, length, refl, subst, sym, ◌∙◌}
-use Rattle.keep_tree.specs.Forest.{Forest}
-use Rattle.keep_watch.specs.declared.event.Operation.TheVariants.{Look}
-use Rattle.keep_watch.specs.declared.event.Request.{Request}
+-- Each answer is taken in its turn.
+use Rattle.std.proofs.Common.{◌≡◌, ◌∙◌, ◌+◌, ◌∷◌, [], ◌++◌, List, append_assoc, append-nil, ap, arith, length, refl, rules, subst, sym}
+use Rattle.std.specs.Vec.Iter.{into_iter_items}
+use Rattle.keep_lanes.specs.declared.lanes.Answered.{Answered}
 use Rattle.keep_watching.specs.Watching.{Watching}
-use Rattle.keep_watching.proofs.Answering.{IsTaking, place_of, taking_done, taking_first, taking_more, taking_none, taking_waits}
+use Rattle.keep_watching.proofs.Answering.{IsTaking, taking_first, taking_more, taking_next}
 use Rattle.keep_watching.proofs.watching.Watching.take_answers.Goals as goal
-use Rattle.keep_watching.proofs.watching.Watching.take_answers.Goals.{in-Some+in_ok-answer, in_default}
 
-abbrev none_asked : Request
-none_asked = record { entry = 0; operation = Look }
+nothing_left : {X : Type 0} (l : List X) → length l ≡ 0 → l ≡ []
+nothing_left [] h = refl
+nothing_left (x ∷ xs) h = absurd (omega arith)
 
-pub loop-entry-init : goal.loop-entry-init
-loop-entry-init c = taking_first c.args.self.now c.args.asked.now c.args.answers.now c.args.text.now.items c.requires.out
+pub loop-answered-init : goal.loop-answered-init
+loop-answered-init c = record { all = refl; count = search rules; taking = taking_first c.args.self.now c.args.text.now.items }
 
-pub answer-requires-clause-asked : goal.answer-requires-clause-asked
-answer-requires-clause-asked c =
-    taking_waits c.args.self.now c.args.asked.now c.args.answers.now c.args.text.now.items c.loop-entry.entry c.loop-entry.self c.loop-entry.text.items c.in-Some.place _ none_asked c.loop-entry.invariant
-    (sym c.place_of.ensures ∙ c.in-Some.is) refl
+pub answer-requires-clause-out : goal.answer-requires-clause-out
+answer-requires-clause-out c =
+    let at = c.loop-answered in
+    let x = c.in-Some.answered in
+    let steps : into_iter_items at.answered-iterator ≡ x ∷ into_iter_items c.next.new.self = c.in-Some.ensures.steps.0 in
+    let all : at.yielded ++ x ∷ into_iter_items c.next.new.self ≡ c.args.answers.items = ap (λ (l : List Answered). at.yielded ++ l) (sym steps) ∙ at.invariant.all ∙ c.into_iter-answered-iterator.ensures.into_iter_gives.0 in
+    (taking_next c.args.self.now at.yielded c.args.text.now.items at.self at.text.items x (into_iter_items c.next.new.self) c.args.answers.items at.invariant.taking all c.requires.sound c.requires.out).0
 
-pub loop-entry-preserved : goal.loop-entry-preserved
-loop-entry-preserved c =
-    let taking : Watching → List ℕ → Type 0 = λ w text. IsTaking c.args.self.now c.args.asked.now c.args.answers.now c.args.text.now.items (c.loop-entry.entry + 1) w text in
-    elim c.match-place_of.branch [
-      | in-Some+in_ok-answer w ↦
-          let place : place_of c.loop-entry.entry c.args.asked.now ≡ Some w.in-Some.place = sym c.place_of.ensures ∙ w.in-Some.is in
-          subst (λ v. taking v c.match-place_of.text.items) (sym w.self-is)
-          (subst (λ t. taking w.answer.new.self t.items) (sym w.text-is)
-          (taking_more c.args.self.now c.args.asked.now c.args.answers.now c.args.text.now.items c.loop-entry.entry c.loop-entry.self c.loop-entry.text.items w.in-Some.place _ none_asked w.index-answers-place.result
-          w.answer.new.self w.answer.new.text.items c.loop-entry.invariant c.requires.each place refl w.index-answers-place.is w.in_ok-answer.ensures.taken w.in_ok-answer.ensures.rest))
-      | in_default w ↦
-          let place : place_of c.loop-entry.entry c.args.asked.now ≡ None = sym c.place_of.ensures ∙ w.in_default.is in
-          subst (λ v. taking v c.match-place_of.text.items) (sym w.self-is)
-          (subst (λ t. taking c.loop-entry.self t.items) (sym w.text-is)
-          (taking_none c.args.self.now c.args.asked.now c.args.answers.now c.args.text.now.items c.loop-entry.entry c.loop-entry.self c.loop-entry.text.items c.loop-entry.invariant place))
-    ]
+pub answer-requires-clause-sound : goal.answer-requires-clause-sound
+answer-requires-clause-sound c =
+    let at = c.loop-answered in
+    let x = c.in-Some.answered in
+    let steps : into_iter_items at.answered-iterator ≡ x ∷ into_iter_items c.next.new.self = c.in-Some.ensures.steps.0 in
+    let all : at.yielded ++ x ∷ into_iter_items c.next.new.self ≡ c.args.answers.items = ap (λ (l : List Answered). at.yielded ++ l) (sym steps) ∙ at.invariant.all ∙ c.into_iter-answered-iterator.ensures.into_iter_gives.0 in
+    (taking_next c.args.self.now at.yielded c.args.text.now.items at.self at.text.items x (into_iter_items c.next.new.self) c.args.answers.items at.invariant.taking all c.requires.sound c.requires.out).1
 
-pub returns-clause-closed : goal.returns-clause-closed
-returns-clause-closed c =
-    let count : length c.args.self.now.inventory.forest.entries ≡ c.len-entry-end.result = ap (λ (g : Forest). length g.entries) (sym c.names.ensures.names) ∙ sym c.len-entry-end.ensures.value in
-    let past : c.loop-entry.entry ≡ length c.args.self.now.inventory.forest.entries = omega (arith, count) in
-    taking_done c.args.self.now c.args.asked.now c.args.answers.now c.args.text.now.items c.loop-entry.self c.loop-entry.text.items c.names.ensures.whole c.requires.out
-    (subst (λ i. IsTaking c.args.self.now c.args.asked.now c.args.answers.now c.args.text.now.items i c.loop-entry.self c.loop-entry.text.items) past c.loop-entry.invariant)
+pub loop-answered-preserved : goal.loop-answered-preserved
+loop-answered-preserved c =
+    let at = c.loop-answered in
+    let x = c.in-Some.answered in
+    let steps : into_iter_items at.answered-iterator ≡ x ∷ into_iter_items c.next.new.self = c.in-Some.ensures.steps.0 in
+    record {
+      all = append_assoc at.yielded (x ∷ []) _ ∙ rw (← steps) at.invariant.all;
+      count = let was = at.invariant.count in let gone = c.in-Some.ensures.steps.1 in let short = ap length steps in omega arith;
+      taking = taking_more c.args.self.now at.yielded c.args.text.now.items at.self at.text.items x c.answer.new.self c.answer.new.text.items at.invariant.taking c.in_ok-answer.ensures.taken c.answer.ensures.rest;
+    }
+
+pub returns-in_err-answer-clause-rest : goal.returns-in_err-answer-clause-rest
+returns-in_err-answer-clause-rest c = c.answer.ensures.rest ∙ ap (λ (w : Watching). record w { machine = c.answer.new.self.machine }) c.loop-answered.invariant.taking.rest
+
+pub returns-clause-rest : goal.returns-clause-rest
+returns-clause-rest c = c.loop-answered.invariant.taking.rest
+
+pub returns-clause-taken : goal.returns-clause-taken
+returns-clause-taken c =
+    let at = c.loop-answered in
+    let none = c.in-None.ensures.steps in
+    let empty : into_iter_items at.answered-iterator ≡ [] = nothing_left _ (sym at.invariant.count ∙ none.0) in
+    let all : at.yielded ≡ c.args.answers.items = sym (append-nil at.yielded) ∙ rw empty at at.invariant.all ∙ c.into_iter-answered-iterator.ensures.into_iter_gives.0 in
+    let h : IsTaking c.args.self.now c.args.answers.items c.args.text.now.items at.self at.text.items = subst (λ xs. IsTaking c.args.self.now xs c.args.text.now.items at.self at.text.items) all at.invariant.taking in
+    (h.told, (h.taken, h.text_is))

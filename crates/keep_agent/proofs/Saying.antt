@@ -1,0 +1,72 @@
+-- Saying: standings that are made anew one after another, and what is told in a list of news. For `say_all`, `shorts_of` and `say_shorts`.
+use Rattle.std.proofs.Common.{◌≡◌, ◌∙◌, ℕ, ◌+◌, ◌<◌, ◌≤◌, List, [], ◌∷◌, ◌++◌, All, flat_map, get_or, length, map, set, take, refl, sym, ap, subst, arith, inl, inr}
+use Rattle.std.proofs.lemmas.Bool.{cases_lt}
+use Rattle.std.proofs.lemmas.Grind.{flat_map-append}
+use Rattle.std.proofs.lemmas.List.{append-nil, get_or_past, get_or-set_other, length-set, take_all, take_more_set}
+use Rattle.std.proofs.lemmas.List.FromFn.{get_or-map-range_with_len, length-map-range_with_len, map-range_with_len_more}
+use Rattle.std.specs.List.{range_with_len}
+use Rattle.keep_tree.proofs.Ranges.{range_more}
+use Rattle.watch_machine.specs.State.{State, track_at}
+use Rattle.keep_agent.specs.declared.shorts.Short.{Short}
+use Rattle.keep_agent.specs.declared.standing.Standing.{Standing}
+use Rattle.keep_agent.specs.Agent.{Agent, Believes, IsAgent, IsStanding}
+use Rattle.keep_agent.specs.Shorts.{all_said, said_standing, said_standings}
+use Rattle.keep_agent.specs.Standings.{fresh_standing, standing_in}
+
+-- those before k are made by f, the others are as they were
+pub record Said (f : ℕ → Standing → Standing) (old now : List Standing) (k : ℕ) : Type 0 where
+  pub count : length now ≡ length old
+  pub done : take k now ≡ map (λ i. f i (standing_in old i)) (range_with_len 0 k)
+  pub rest : (j : ℕ) → k ≤ j → standing_in now j ≡ standing_in old j
+
+pub said_none : (f : ℕ → Standing → Standing) (old : List Standing) → Said f old old 0
+said_none f old = record { count = refl; done = refl; rest = λ j past. refl }
+
+pub said_more : (f : ℕ → Standing → Standing) (old now : List Standing) (k : ℕ) (x : Standing) → Said f old now k → k < length old → x ≡ f k (standing_in now k) → Said f old (set now k x) (k + 1)
+said_more f old now k x so within is = let g : ℕ → Standing = λ i. f i (standing_in old i) in record {
+  count = length-set now k x ∙ so.count;
+  done =
+      take_more_set now k x (let count = so.count in omega (arith, count)) ∙ ap (λ xs. xs ++ x ∷ []) so.done
+      ∙ ap (λ y. map g (range_with_len 0 k) ++ y ∷ []) (is ∙ ap (f k) (so.rest k (omega arith))) ∙ sym (map-range_with_len_more g 0 k k (omega arith));
+  rest = λ j past. get_or-set_other now k j x fresh_standing (λ same. omega (arith, same, past)) ∙ so.rest j (omega (arith, past));
+}
+
+pub said_all : (f : ℕ → Standing → Standing) (old now : List Standing) (k : ℕ) → Said f old now k → k ≡ length old → now ≡ map (λ i. f i (standing_in old i)) (range_with_len 0 (length old))
+said_all f old now k so whole =
+    sym (take_all k now (let count = so.count in omega (arith, count, whole))) ∙ so.done ∙ ap (λ n. map (λ i. f i (standing_in old i)) (range_with_len 0 n)) whole
+
+-- one entry more in a list of news
+pub news_more : (f : ℕ → List Short) (n : ℕ) → flat_map f (range_with_len 0 n) ++ f n ≡ flat_map f (range_with_len 0 (n + 1))
+news_more f n =
+    ap (λ xs. flat_map f (range_with_len 0 n) ++ xs) (sym (append-nil (f n))) ∙ sym (flat_map-append f (range_with_len 0 n) (n ∷ [])) ∙ ap (flat_map f) (sym (range_more 0 n n (omega arith)))
+
+-- ---- what is said leaves what was told
+
+said_told : (m : State) (i : ℕ) (x : Standing) → (said_standing m i x).told ≡ x.told
+unfolding said_standing
+said_told m i x = refl
+
+all_told : (m : State) (xs : List Standing) (i : ℕ) → (standing_in (said_standings m xs) i).told ≡ (standing_in xs i).told
+unfolding said_standings
+all_told m xs i =
+    let f : ℕ → Standing = λ j. said_standing m j (standing_in xs j) in
+    let count = length-map-range_with_len f 0 (length xs) in
+    elim (cases_lt i (length xs)) [
+      | inl within ↦ ap (λ (x : Standing). x.told) (get_or-map-range_with_len f 0 (length xs) i i fresh_standing within (omega arith)) ∙ said_told m i (standing_in xs i)
+      | inr past ↦
+          ap (λ (x : Standing). x.told) (get_or_past (map f (range_with_len 0 (length xs))) i fresh_standing (omega (arith, past, count)) ∙ sym (get_or_past xs i fresh_standing past))
+    ]
+
+said_count : (m : State) (xs : List Standing) → length (said_standings m xs) ≡ length xs
+unfolding said_standings
+said_count m xs = length-map-range_with_len (λ j. said_standing m j (standing_in xs j)) 0 (length xs)
+
+pub said_is_agent : (a : Agent) → IsAgent a → All IsStanding (said_standings a.machine a.standings) → IsAgent (all_said a)
+said_is_agent a h bounded = record {
+  entries = h.entries;
+  tracks = h.tracks;
+  standings = said_count a.machine a.standings ∙ h.standings;
+  phase = h.phase;
+  bounded = bounded;
+  believed = λ i. subst (λ t. Believes (track_at a.machine i).end (track_at a.machine i).renewable t) (sym (all_told a.machine a.standings i)) (h.believed i);
+}

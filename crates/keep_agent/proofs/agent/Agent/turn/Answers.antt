@@ -1,0 +1,31 @@
+-- Once the Watch has taken the event, the rest of the agent follows it.
+use Rattle.std.proofs.Common.{◌≡◌, ◌∙◌, List, ap, length, subst, sym}
+use Rattle.watch_machine.proofs.Rewritten.{once}
+use Rattle.keep_agent.specs.declared.standing.Standing.{Standing}
+use Rattle.keep_agent.specs.code.Within.{IsWithin}
+use Rattle.keep_agent.specs.Agent.{Agent, IsAgent}
+use Rattle.keep_agent.specs.Standings.{standings_after}
+use Rattle.keep_agent.proofs.Left.{left_turn}
+use Rattle.keep_agent.proofs.Turned.{turned_is_agent}
+use Rattle.keep_agent.proofs.Within.{taken_within}
+use Rattle.keep_agent.proofs.agent.Agent.turn.Goals as goal
+
+pub stand-requires-clause-watched : goal.stand-requires-clause-watched
+stand-requires-clause-watched c =
+    let turn = c.in_ok-output.ensures.turn in
+    let left = left_turn c.self.inside.watch c.step.new.self c.args.event c.in_ok-output.output turn in
+    subst (λ n. IsWithin n c.args.event) (sym left.entries) (taken_within c.self.inside.watch c.args.event turn.0)
+
+pub invariant_of-self-2 : goal.invariant_of-self-2
+invariant_of-self-2 c =
+    let old : Agent = record { machine = c.self.inside.watch; inventory = c.self.inside.inventory; standings = c.self.inside.standings.items; beginnings = c.self.inside.beginnings } in
+    let new : Agent = record { machine = c.step.new.self; inventory = c.set_need.new.inventory; standings = c.stand.new.standings; beginnings = c.beginnings_after-self-inside.result } in
+    let written = once c.self.inside.standings c.deref_mut.result.now c.stand.new.standings c.deref_mut.ensures.value c.stand.auto.standings in
+    subst (λ (xs : List Standing). IsAgent (record { machine = c.step.new.self; inventory = c.set_need.new.inventory; standings = xs; beginnings = c.beginnings_after-self-inside.result })) (sym written)
+    (turned_is_agent old new c.args.event c.in_ok-output.output c.self.invariant
+    (record {
+      machine = c.in_ok-output.ensures.turn;
+      inventory = c.set_need.ensures;
+      standings = c.stand.ensures.value ∙ ap (standings_after c.step.new.self c.args.event) c.deref_mut.ensures.value;
+      beginnings = c.beginnings_after-self-inside.ensures;
+    }) c.stand.ensures.bounds)

@@ -1,0 +1,10 @@
+pub mod Standings
+pub mod code
+pub mod Agent
+pub mod Turns
+pub mod Rebuilding
+pub mod Laws
+pub mod Shorts
+pub mod Status
+pub mod Ends
+pub mod Waiting

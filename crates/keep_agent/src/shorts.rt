@@ -1,0 +1,123 @@
+//! Needs that are past what their entries reach.
+ghost use Rattle.std.specs.Prelude.{◌≡◌, ◌<◌, ◌++◌, IfOk, OnErr, OnOk, length};
+ghost use Rattle.std.specs.List.{All};
+ghost use Rattle.keep_agent.specs.Agent.{IsStanding};
+ghost use Rattle.keep_agent.specs.Shorts.{all_said, is_near, is_news, news_in, said_standing, said_standings, short_at, shorts_in, shorts_of};
+
+use crate::agent::Agent;
+use crate::standing::Standing;
+use keep_moment::LAST;
+use std::alloc::{AllocError, Global};
+use watch_machine::Watch;
+
+/// A need that is past what its entry reaches.
+#[derive(Clone, Copy, Debug, PartialEq, Eq)]
+pub struct Short {
+    /// The index of the entry.
+    pub entry: u32,
+    /// The moment that it reaches, in seconds by the broker's clock.
+    pub reach: u64,
+}
+
+impl Agent {
+    /// The needs that are to be said to be past what their entries reach, by entry; they count as said from then on. A reach is said
+    /// where none was, or where it differs by the margin or more from what was said last; of a need that never ends no sooner than a day
+    /// before it. To be asked after each clock. The only error is want of memory, and then nothing counts as said.
+    pub fn say_shorts(&mut self, alloc: Global) -> Result<Vec<Short>, AllocError>
+        ensures shorts { IfOk result (λ shorts. shorts.items ≡ shorts_of self.old) }
+        ensures said { OnOk result (self.new ≡ all_said self.old) }
+        ensures unchanged { OnErr result (self.new ≡ self.old) }
+    {
+        let shorts = shorts_of(alloc, &self.watch, &self.standings)?;
+        say_all(&self.watch, &mut self.standings);
+        Ok(shorts)
+    }
+}
+
+/// All that is to be said, by entry. The only error is want of memory.
+fn shorts_of(alloc: Global, watch: &Watch, standings: &[Standing]) -> Result<Vec<Short>, AllocError>
+    requires { length standings.now ≡ length watch.now.forest.entries }
+    ensures { IfOk result (λ shorts. shorts.items ≡ shorts_in watch.now standings.now) }
+{
+    let mut shorts = Vec::new(alloc);
+    for entry in 0..watch.forest().len() {
+        let news = news_in(watch, entry, standings[entry as usize].short);
+        push_short(entry, news, &mut shorts)?;
+    }
+    Ok(shorts)
+}
+
+/// Appends the reach of an entry, where it is to be said. The only error is want of memory.
+fn push_short(entry: u32, news: Option<u64>, shorts: &mut Vec<Short>) -> Result<(), AllocError>
+    ensures { OnOk result (shorts.new.items ≡ shorts.old.items ++ short_at entry news) }
+{
+    if let Some(reach) = news {
+        shorts.push(Short { entry, reach })?;
+    }
+    Ok(())
+}
+
+/// All of it is said.
+fn say_all(watch: &Watch, standings: &mut [Standing])
+    requires count { length standings.old ≡ length watch.now.forest.entries }
+    requires bounds { All IsStanding standings.old }
+    ensures value { standings.new ≡ said_standings watch.now standings.old }
+    ensures bounds { All IsStanding standings.new }
+{
+    for entry in 0..watch.forest().len() {
+        let index = entry as usize;
+        standings[index] = said(watch, entry, standings[index]);
+    }
+}
+
+/// The standing of an entry once its reach is said, where that is news.
+#[tactic(auto, unfolding(crate::specs::Shorts::said_standing))]
+fn said(watch: &Watch, entry: u32, standing: Standing) -> Standing
+    requires within { entry < length watch.now.forest.entries }
+    requires bounds { IsStanding standing }
+    ensures value { result ≡ said_standing watch.now entry standing }
+    ensures bounds { IsStanding result }
+    ensures told { result.told ≡ standing.told }
+{
+    match news_in(watch, entry, standing.short) {
+        None => standing,
+        Some(reach) => Standing {
+            short: Some(reach),
+            ..standing
+        },
+    }
+}
+
+/// The reach of an entry that is to be said, given what was said last.
+#[tactic(auto, unfolding(watch_machine::specs::Clocks::sec))]
+fn news_in(watch: &Watch, entry: u32, last: Option<u64>) -> Option<u64>
+    requires { entry < length watch.now.forest.entries }
+    ensures { result ≡ news_in watch.now entry last }
+{
+    let reach = watch.short_of(entry)?;
+    let margin = u64::from(watch.forest().margin());
+    let now = watch.broker_moment(watch.clocks().at / 1000);
+    let need = watch.forest().get(entry).need;
+    if is_news(margin, last, reach) && is_near(now, need, reach) {
+        Some(reach)
+    } else {
+        None
+    }
+}
+
+/// Whether a reach is to be said: nothing was said before, or something that differs from it by the margin or more.
+fn is_news(margin: u64, last: Option<u64>, reach: u64) -> bool
+    ensures { result ≡ is_news margin last reach }
+{
+    match last {
+        None => true,
+        Some(last) => last.abs_diff(reach) >= margin,
+    }
+}
+
+/// Whether a need has an end, or what its entry reaches is no more than a day ahead.
+fn is_near(now: u64, need: u64, reach: u64) -> bool
+    ensures { result ≡ is_near now need reach }
+{
+    need < LAST || reach.saturating_sub(86400) <= now
+}

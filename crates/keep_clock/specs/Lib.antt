@@ -1,0 +1,4 @@
+pub mod Seen
+pub mod Scripts
+pub mod Times
+pub mod Laws

@@ -1,0 +1,10 @@
+pub mod Trees
+pub mod Fronts
+pub mod Chosen
+pub mod Spans
+pub mod Whens
+pub mod WordTrees
+pub mod OneLine
+pub mod Commands
+pub mod Written
+pub mod Replied

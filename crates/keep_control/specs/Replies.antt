@@ -1,0 +1,73 @@
+-- Replies: the lines that answer a request, and what a client reads of them.
+-- Source: this project's own.
+use Rattle.std.specs.Prelude.{ℕ, ◌==◌, List, [], ◌∷◌, ◌++◌, if◌then◌else◌, Option, Some, None, option_map, length, take, drop, bytes_eq, codes}
+use Rattle.keep_words.specs.Laws.{AllLack, Lacks}
+use Rattle.keep_words.specs.Pieces.{pieces}
+use Rattle.keep_control.specs.declared.fault.RequestFault.{RequestFault}
+use Rattle.keep_control.specs.declared.fault.RequestFault.TheVariants.{TooLong, NotWords, NoCommand, BadName, BadWhen, BadCredential, OutOfMemory}
+use Rattle.keep_control.specs.declared.reply.Reply.{Reply}
+use Rattle.keep_control.specs.declared.reply.Reply.TheVariants.{Done, Refused}
+
+-- ---- as it is written
+
+-- each line, and a line feed after it
+abbrev pub lines_text : List (List ℕ) → List ℕ
+lines_text [] = []
+lines_text (line ∷ lines) = line ++ 10 ∷ lines_text lines
+
+abbrev pub reply_lines : Reply → List (List ℕ)
+reply_lines (Done lines) = codes "ok" ∷ lines
+reply_lines (Refused why) = (codes "error: " ++ why) ∷ []
+
+unfoldable pub reply_text : Reply → List ℕ
+reply_text reply = lines_text (reply_lines reply)
+
+-- ---- as it is read
+
+-- the pieces of a text between its line feeds, without the last, where that is empty
+abbrev pub closed : List (List ℕ) → Option (List (List ℕ))
+closed [] = None
+closed (piece ∷ []) = if length piece == 0 then Some [] else None
+closed (piece ∷ next ∷ pieces) = option_map (λ lines. piece ∷ lines) (closed (next ∷ pieces))
+
+-- the lines of a text, where each has its line feed
+unfoldable pub lines_of : List ℕ → Option (List (List ℕ))
+lines_of text = closed (pieces 10 text)
+
+-- the reason on the one line of a refusal
+unfoldable pub refusal_of : List ℕ → Option (List ℕ)
+refusal_of line = if bytes_eq (take 7 line) (codes "error: ") then Some (drop 7 line) else None
+
+abbrev pub refused_in : List (List ℕ) → Option Reply
+refused_in (line ∷ []) = option_map (λ why. Refused why) (refusal_of line)
+refused_in lines = None
+
+abbrev pub reply_in : List (List ℕ) → Option Reply
+reply_in [] = None
+reply_in (line ∷ lines) = if bytes_eq line (codes "ok") then Some (Done lines) else refused_in (line ∷ lines)
+
+abbrev pub reply_if : Option (List (List ℕ)) → Option Reply
+reply_if None = None
+reply_if (Some lines) = reply_in lines
+
+-- the reply that the bytes are which came before the connection was closed
+unfoldable pub reply_of : List ℕ → Option Reply
+reply_of text = reply_if (lines_of text)
+
+-- ---- which there are
+
+-- each line is one line
+abbrev pub IsReply : Reply → Type 0
+IsReply (Done lines) = AllLack 10 lines
+IsReply (Refused why) = Lacks 10 why
+
+-- ---- why a request was not read
+
+unfoldable pub why_of : RequestFault → List ℕ
+why_of TooLong = codes "a request is one line of at most 65536 bytes"
+why_of NotWords = codes "send one line of JSON: an array of words"
+why_of NoCommand = codes "the commands are: need NAME WHEN, replace NAME, add, drop NAME, status, health, settle, reload, follow [alerts]"
+why_of BadName = codes "NAME is 1 to 64 ASCII letters, digits, -, _, . or /"
+why_of BadWhen = codes "WHEN is a moment (1764000000), a date (\"2026-11-22T09:00:00Z\") or +90s, +30m, +6h, +2d, or always"
+why_of BadCredential = codes "a secret or lease id is 1 to 256 printable ASCII characters without a space"
+why_of OutOfMemory = codes "out of memory"

@@ -1,0 +1,74 @@
+ghost use Rattle.std.specs.Prelude.{◌≡◌, IfOk, Some, option_map};
+ghost use Rattle.keep_control.specs.Replies.{lines_of, refusal_of, refused_in, reply_in, reply_of};
+
+use crate::reply::{Lines, Reply};
+use keep_moment::Text;
+use keep_words::cut;
+use std::alloc::{AllocError, Global};
+
+/// The reply that the bytes are which came before the connection was closed; `None` where they are none, or a part of one that
+/// ends within a line.
+///
+/// The only error is want of memory.
+#[tactic(auto, unfolding(crate::specs::Replies::reply_of))]
+pub fn read_reply(alloc: Global, bytes: &[u8]) -> Result<Option<Reply>, AllocError>
+    ensures { IfOk result (λ reply. reply ≡ reply_of bytes.now) }
+{
+    match lines(alloc, bytes)? {
+        None => Ok(None),
+        Some(lines) => said(alloc, lines),
+    }
+}
+
+// The reply that lines are.
+fn said(alloc: Global, mut lines: Vec<Text>) -> Result<Option<Reply>, AllocError>
+    ensures { IfOk result (λ reply. reply ≡ reply_in lines.items) }
+{
+    if lines.is_empty() {
+        return Ok(None);
+    }
+    if lines[0].list() == b"ok".as_slice() {
+        lines.remove(0);
+        return Ok(Some(Reply::Done(Lines::of(lines))));
+    }
+    refused(alloc, &lines)
+}
+
+// The refusal that one line is.
+fn refused(alloc: Global, lines: &[Text]) -> Result<Option<Reply>, AllocError>
+    ensures { IfOk result (λ reply. reply ≡ refused_in lines.now) }
+{
+    if lines.len() != 1 {
+        return Ok(None);
+    }
+    match refusal(lines[0].list()) {
+        None => Ok(None),
+        Some(why) => Ok(Some(Reply::Refused(Text::of(alloc, why)?))),
+    }
+}
+
+// The reason on the line of a refusal.
+#[tactic(auto, unfolding(crate::specs::Replies::refusal_of))]
+fn refusal(line: &[u8]) -> Option<&[u8]>
+    ensures { option_map (λ why. why.now) result ≡ refusal_of line.now }
+{
+    if line.len() >= 7 && &line[..7] == b"error: ".as_slice() {
+        Some(&line[7..])
+    } else {
+        None
+    }
+}
+
+// The lines of a text, where each has its line feed.
+#[tactic(auto, unfolding(crate::specs::Replies::lines_of))]
+fn lines(alloc: Global, text: &[u8]) -> Result<Option<Vec<Text>>, AllocError>
+    ensures { IfOk result (λ lines. option_map (λ v. v.items) lines ≡ lines_of text.now) }
+{
+    let mut lines = Vec::new(alloc);
+    let mut rest = text;
+    while let Some((line, after)) = cut(rest, b'\n') {
+        lines.push(Text::of(alloc, line)?)?;
+        rest = after;
+    }
+    Ok(if rest.is_empty() { Some(lines) } else { None })
+}

@@ -1,0 +1,196 @@
+-- Calm: how what a watch asks goes with the least and latest plan. Each law is the contract of a public function without a body.
+-- Source: this project's own.
+use Rattle.std.specs.Prelude.{◌≡◌, ℕ, ◌+◌, ◌<◌, ◌≤◌, true, false, not, ◌&&◌, Bool, List, [], ◌∷◌, Option, Some, None, IfSome, Result, Ok, Err, is_none, length, map}
+use Rattle.std.specs.List.{All, range_with_len}
+use Rattle.keep_tree.specs.declared.entry.Entry.{Entry}
+use Rattle.keep_tree.specs.Forest.{Forest}
+use Rattle.keep_tree.specs.Push.{IsForest}
+use Rattle.keep_tree.specs.Renewal.{renewal}
+use Rattle.keep_rule.specs.declared.wake.Wake.{Wake}
+use Rattle.keep_rule.specs.Asks.{asks, first_of, with_asks}
+use Rattle.keep_rule.specs.Ends.{after, is_asked}
+use Rattle.keep_rule.specs.Least.{IsLeastAndLatest}
+use Rattle.keep_rule.specs.Unkeepable.{AllKeepable}
+use Rattle.watch_machine.specs.declared.command.Output.{Output}
+use Rattle.watch_machine.specs.declared.event.Event.{Event}
+use Rattle.watch_machine.specs.declared.event.Event.TheVariants.{Clock, Renewed}
+use Rattle.watch_machine.specs.declared.event.Operation.TheVariants.{Renew}
+use Rattle.watch_machine.specs.declared.event.Reply.TheVariants.{Told}
+use Rattle.watch_machine.specs.declared.fault.WatchFault.{WatchFault}
+use Rattle.watch_machine.specs.declared.lanes.Out.{Out}
+use Rattle.watch_machine.specs.Beginning.{is_pressed}
+use Rattle.watch_machine.specs.Clocks.{sec}
+use Rattle.watch_machine.specs.History.{History, IsRun, Turned}
+use Rattle.watch_machine.specs.Margins.{is_in_plan, lead}
+use Rattle.watch_machine.specs.Readings.{time_of}
+use Rattle.watch_machine.specs.Refusal.{request_out}
+use Rattle.watch_machine.specs.Renewed.{from_try}
+use Rattle.watch_machine.specs.Settling.{timed}
+use Rattle.watch_machine.specs.State.{State, attempt_at, entry_of, opened, second, track_at}
+use Rattle.watch_machine.specs.Step.{readied, why}
+use Rattle.watch_machine.specs.Wanted.{believed, is_wanted, seen}
+use Rattle.watch_laws.specs.Load.{requests_of}
+use Rattle.watch_laws.specs.Time.{round_of}
+
+-- the believed ends
+unfoldable pub ends : State → ℕ → ℕ
+ends s i = believed (track_at s i).end
+
+-- an entry as it is believed, but for its end: at its top it is renewed no more
+unfoldable pub terms : State → ℕ → Entry
+terms s i = record (seen s.forest.entries s.tracks s.clocks i) { end = 0; renewable = (track_at s i).renewable && not (track_at s i).top }
+
+-- the forest as it is believed. Its ends are the believed ends
+unfoldable pub believed_forest : State → Forest
+believed_forest s = record { entries = map (terms s) (range_with_len 0 (length s.forest.entries)); margin = s.forest.margin }
+
+-- these are the moments of the least and latest plan from now on, by what is believed
+abbrev pub IsPlanNow : State → List ℕ → Type 0
+IsPlanNow s ts = IsLeastAndLatest (believed_forest s).entries s.forest.margin (second s) (ends s) ts
+
+-- by what is believed, no pair is Unkeepable
+abbrev pub IsKeepable : State → Type 0
+IsKeepable s = AllKeepable (believed_forest s) (second s) (ends s)
+
+-- an entry is in the plan, and how far a renewal of it is taken to lead
+abbrev pub in_plan_at : State → ℕ → Bool
+in_plan_at s i = is_in_plan s.forest.margin (entry_of s i) (track_at s i)
+
+abbrev pub lead_at : State → ℕ → ℕ
+lead_at s i = lead (entry_of s i).step (track_at s i).grant
+
+-- each entry that is wanted is in the plan
+abbrev pub AllInPlan : State → Type 0
+AllInPlan s = (i : ℕ) → i < length s.forest.entries → is_wanted s i ≡ true → in_plan_at s i ≡ true
+
+-- the least time of an entry that is wanted, None where nobody is
+abbrev pub IsLeastTime : State → Option ℕ → Type 0
+IsLeastTime s None = (i : ℕ) → i < length s.forest.entries → is_wanted s i ≡ false
+IsLeastTime s (Some t) =
+    ((i : ℕ) × ((i < length s.forest.entries) × ((is_wanted s i ≡ true) × (time_of s i ≡ t)))) × ((i : ℕ) → i < length s.forest.entries → is_wanted s i ≡ true → t ≤ time_of s i)
+
+-- the least time is the first moment of the least and latest plan
+abbrev pub IsForeseen : State → Type 0
+IsForeseen s = IsKeepable s → AllInPlan s → (ts : List ℕ) × (IsPlanNow s ts × IsLeastTime s (first_of ts))
+
+abbrev pub AllForeseen : List Turned → Type 0
+AllForeseen [] = Unit {0}
+AllForeseen (turn ∷ turns) = IsForeseen turn.state × AllForeseen turns
+
+-- in every state of every history, where no pair is Unkeepable and each entry that is wanted is in the plan, the least time of
+-- these is the first moment of the least and latest plan by what is believed; and where nobody is wanted that plan is empty
+abbrev pub NextMomentLaw : Type 0
+NextMomentLaw = (g : Forest) (width : ℕ) (turns : List Turned) → IsForest g → IsRun g width turns → AllForeseen turns
+
+-- a state in which nobody is being asked, and a renewal leads each entry that is wanted as far as its step
+pub record IsCalm (s : State) : Type 0 where
+  pub keepable : IsKeepable s
+  pub in_plan : AllInPlan s
+  pub led : (i : ℕ) → i < length s.forest.entries → is_wanted s i ≡ true → lead_at s i ≡ (entry_of s i).step
+  pub unpressed : (i : ℕ) → i < length s.forest.entries → is_pressed (track_at s i) ≡ false
+  pub unasked : (i : ℕ) → i < length s.forest.entries → (track_at s i).out ≡ false
+
+-- the Asks of now by what is believed, where the next moment is `next`
+abbrev pub asks_now : State → Option ℕ → List ℕ
+asks_now s next = asks (believed_forest s).entries s.forest.margin (second s) (ends s) (second s) next
+
+-- what a clock opens is the round of the plan: one where its first moment is now, of the Asks; and none before
+abbrev pub IsOfPlan : State → Option (List ℕ) → Type 0
+IsOfPlan s (Some asked) = (ts : List ℕ) × (IsPlanNow s (second s ∷ ts) × (asked ≡ asks_now s (first_of ts)))
+IsOfPlan s None = (ts : List ℕ) × (IsPlanNow s ts × ((t : ℕ) → first_of ts ≡ Some t → second s < t))
+
+-- a clock that was taken in calm
+abbrev pub RoundsRight : State → Turned → Type 0
+RoundsRight old turn =
+    (wall elapsed : ℕ) (output : Output) → turn.event ≡ Clock wall elapsed → turn.result ≡ Ok output → IsCalm (readied old wall elapsed) →
+    IsOfPlan (readied old wall elapsed) output.notes.round
+
+abbrev pub AllRight : State → List Turned → Type 0
+AllRight old [] = Unit {0}
+AllRight old (turn ∷ turns) = RoundsRight old turn × AllRight turn.state turns
+
+-- at every clock of every history that finds the state calm, a round opens where the first moment of the least and latest plan has
+-- come, and only there; and it asks the Asks
+abbrev pub RoundOfPlanLaw : Type 0
+RoundOfPlanLaw = (g : Forest) (width : ℕ) (turns : List Turned) → IsForest g → IsRun g width turns → AllRight (opened g width) turns
+
+-- a state at rest: it is calm, nobody has a try, is marked as out or owes a lookup, nothing is out, and the broker is there
+pub record IsAtRest (s : State) : Type 0 where
+  pub forest : IsForest s.forest
+  pub count : length s.tracks ≡ length s.forest.entries
+  pub begun : is_none s.begun ≡ false
+  pub there : s.presence.away ≡ false
+  pub out : s.out ≡ []
+  pub idle : (i : ℕ) → attempt_at s i ≡ None
+  pub unmarked : (i : ℕ) → (track_at s i).out ≡ false
+  pub owes : (i : ℕ) → (track_at s i).owes ≡ false
+  pub calm : IsCalm s
+
+-- a clock at which nothing begins anew and no clock is set: it comes in the second of the least time of an entry that is not pressed
+-- yet, or before; and in the same second as the last one while anybody has a try
+pub record IsCalmClock (s : State) (wall elapsed : ℕ) : Type 0 where
+  pub goes_on : why s wall elapsed ≡ None
+  pub broker_stays : (timed s wall elapsed).clocks.broker ≡ s.clocks.broker
+  pub wall_stays : (timed s wall elapsed).clocks.wall ≡ s.clocks.wall
+  pub in_time : (i : ℕ) → i < length s.forest.entries → is_wanted s i ≡ true → is_pressed (track_at s i) ≡ false → second (timed s wall elapsed) ≤ time_of s i
+  pub at_once : (i : ℕ) → i < length s.forest.entries → is_none (attempt_at s i) ≡ false → second (timed s wall elapsed) ≡ second s
+
+-- the end to which so many seconds lead that are granted to this request
+abbrev pub end_granted : State → Out → ℕ → ℕ
+end_granted s r seconds = sec (from_try s.forest.margin (entry_of s r.entry).step seconds s.clocks.at r.since (attempt_at s r.entry)) + seconds
+
+-- such a clock, or the answer to a renewal by the rule
+abbrev pub IsCalmEvent : State → Event → Type 0
+IsCalmEvent s (Clock wall elapsed) = IsCalmClock s wall elapsed
+IsCalmEvent s (Renewed i (Told seconds renewable date)) = (renewable ≡ true) × IfSome (request_out s.out i Renew) (λ r. end_granted s r seconds ≡ renewal (terms s i) (second s))
+IsCalmEvent s (Renewed i reply) = ⊥
+IsCalmEvent s event = ⊥
+
+abbrev pub IsCalmTurn : State → Event → Result Output WatchFault → Type 0
+IsCalmTurn s event (Ok output) = IsCalmEvent s event
+IsCalmTurn s event (Err fault) = Unit {0}
+
+-- each event that is taken is such a one
+abbrev pub AreCalm : State → List Turned → Type 0
+AreCalm s [] = Unit {0}
+AreCalm s (turn ∷ turns) = IsCalmTurn s turn.event turn.result × AreCalm turn.state turns
+
+-- no wake-up of a list has passed
+abbrev pub NonePassed : State → List Wake → Type 0
+NonePassed s [] = Unit {0}
+NonePassed s (w ∷ ws) = second s ≤ w.at
+
+-- what opens at a turn is the next of these wake-ups, or nothing: last is the wake-up before, now the one after which the turn leaves
+-- the watch, and next are those to come
+abbrev pub Opens : State → Option (List ℕ) → Wake → List Wake → Wake → List Wake → Type 0
+Opens s None last wakes now next = (now ≡ last) × ((next ≡ wakes) × NonePassed s wakes)
+Opens s (Some asked) last wakes now next = (now ≡ record { at = second s; asked = asked }) × (wakes ≡ now ∷ next)
+
+-- what goes out at a turn are renewals of those whom a wake-up asks, in its second
+abbrev pub SendsOnly : Wake → Turned → Type 0
+SendsOnly now turn = All (λ r. (r.operation ≡ Renew) × ((is_asked now r.entry ≡ true) × (second turn.state ≡ now.at))) (requests_of turn.result)
+
+-- the ends after a turn as the wake-ups leave them that have opened so far: e before it
+abbrev pub left_by : Forest → (ℕ → ℕ) → Option (List ℕ) → Wake → ℕ → ℕ
+left_by g e None now = e
+left_by g e (Some asked) now = after g.entries g.margin e now
+
+-- whoever has no try is believed to end so
+abbrev pub EndAs : (ℕ → ℕ) → State → Type 0
+EndAs e s = (i : ℕ) → attempt_at s i ≡ None → ends s i ≡ e i
+
+-- turns that go by a list of wake-ups, as far as they have gone, where last is the wake-up before and e are the ends that it left: a
+-- round opens at each, of those whom it asks, and at no other moment; each of them is renewed, and nothing else is asked
+abbrev pub GoBy : Forest → (ℕ → ℕ) → Wake → List Wake → List Turned → Type 0
+GoBy g e last wakes [] = Unit {0}
+GoBy g e last wakes (turn ∷ turns) =
+    (now : Wake) × ((next : List Wake) × (Opens turn.state (round_of turn.result) last wakes now next × (SendsOnly now turn
+    × (EndAs (left_by g e (round_of turn.result) now) turn.state × GoBy g (left_by g e (round_of turn.result) now) now next turns))))
+
+-- from a state at rest on, while each clock comes in time and each renewal is granted by the rule in the second in which it goes out,
+-- the rounds are exactly the wake-ups of the least and latest plan with its Asks; they lead the ends as the plan does, and nothing else
+-- is asked
+abbrev pub CalmLaw : Type 0
+CalmLaw =
+    (s : State) (turns : List Turned) → IsAtRest s → History s turns → AreCalm s turns →
+    (ts : List ℕ) × (IsPlanNow s ts × GoBy (believed_forest s) (ends s) (record { at = second s; asked = [] }) (with_asks (believed_forest s).entries s.forest.margin (second s) (ends s) ts) turns)
