@@ -1,12 +1,12 @@
-//! What the answers of a slice come to, by their status and body.
+//! What replies come to, by their status and body.
 use crate::moments::moment;
-use keep_exchange::{ExchangeFault, Heard, hear_lookup, hear_renewal};
+use keep_exchange::{Heard, hear_lookup, hear_renewal};
 use keep_moment::Text;
 use keep_tree::Kind;
 use std::alloc::Global;
 use std::process::Abort;
 use std::test::Fail;
-use vault_http::{DatedReply, HttpFault, Reply};
+use vault_http::{DatedReply, Reply};
 use vault_json::Lookup;
 
 // Statuses that are not 200, and the one word for what they come to (Vault, HTTP API, "HTTP status codes").
@@ -41,18 +41,14 @@ const NEVER: &str = "{\"data\":{\"creation_time\":1000,\"ttl\":0,\"expire_time\"
 const UNREAD: [&str; 5] = ["", "{", "{}", "[]", "{\"errors\":[]}"];
 
 // A reply of that moment.
-fn reply(
-    alloc: Global,
-    status: u16,
-    body: &str,
-) -> Result<Result<DatedReply, ExchangeFault>, Fail> {
-    Ok(Ok(DatedReply {
+fn reply(alloc: Global, status: u16, body: &str) -> Result<DatedReply, Fail> {
+    Ok(DatedReply {
         reply: Reply {
             status,
             body: Text::of(alloc, body.as_bytes())?,
         },
         date: Some(moment(1059)?),
-    }))
+    })
 }
 
 // The word for what was heard, if it is of that status and moment where it tells them.
@@ -96,23 +92,6 @@ fn a_status_is_refused_busy_or_lost(rt: HostRuntime) -> Result<(), Fail> {
 fn what_cannot_be_read_is_lost(rt: HostRuntime) -> Result<(), Fail> {
     for body in &UNREAD {
         comes_to(&rt, 200, body, "lost")?;
-    }
-    Ok(())
-}
-
-#[test]
-fn no_reply_is_lost(rt: HostRuntime) -> Result<(), Fail> {
-    let alloc = rt.alloc();
-    let faults = [
-        ExchangeFault::ConnectFailed,
-        ExchangeFault::WriteFailed,
-        ExchangeFault::Http(HttpFault::ReadFailed),
-    ];
-    for fault in faults {
-        let looked = hear_lookup(alloc, Kind::Token, &Err(fault))?;
-        assert!(rt; word(&looked, 0)? == "lost");
-        let renewed = hear_renewal(alloc, Kind::Lease, b"db/1", &Err(fault))?;
-        assert!(rt; word(&renewed, 0)? == "lost");
     }
     Ok(())
 }

@@ -12,7 +12,8 @@ use Rattle.keep_core.proofs.Orders.{not_both}
 use Rattle.keep_inventory.specs.declared.fault.InvFault.{InvFault}
 use Rattle.keep_inventory.specs.declared.terms.Terms.{Terms}
 use Rattle.keep_inventory.specs.Inventories.{IsInventory, Inventory}
-use Rattle.keep_start.specs.Start.{from_start, inventory_at, marks}
+use Rattle.keep_served.specs.ForGood.{marks}
+use Rattle.keep_start.specs.Start.{from_start, inventory_at}
 use Rattle.keep_start.proofs.Started.{known_at, secrecy_law, start_law}
 use Rattle.mini_broker.specs.declared.fault.NumberedFault.{NumberedFault}
 use Rattle.keep_exchange.specs.Exchanges.{Behind}

@@ -15,7 +15,8 @@ use Rattle.keep_rule.specs.Runs.{all_wakes, moments_of}
 use Rattle.keep_plan.specs.Decides.{AreBest, IsTooLong, NoneKeeps}
 use Rattle.keep_inventory.specs.declared.fault.InvFault.{InvFault}
 use Rattle.keep_inventory.specs.Inventories.{Inventory}
-use Rattle.keep_start.specs.Start.{from_start, inventory_at, marks}
+use Rattle.keep_served.specs.ForGood.{marks}
+use Rattle.keep_start.specs.Start.{from_start, inventory_at}
 use Rattle.keep_start.proofs.Started.{known_at, secrecy_law, start_law}
 use Rattle.keep_report.specs.declared.exit.Exit.{Exit}
 use Rattle.keep_report.specs.declared.exit.Exit.TheVariants as exits

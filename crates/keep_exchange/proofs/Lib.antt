@@ -4,5 +4,4 @@ pub mod Lengths
 pub mod Answered
 pub mod Sendable
 pub mod Looked
-pub mod Slices
 pub mod Counted

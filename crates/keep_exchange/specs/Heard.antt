@@ -1,14 +1,14 @@
--- What an answer comes to, for who keeps a watch.
+-- What a reply comes to, for who keeps a watch.
 -- Source: Vault, HTTP API, "HTTP status codes" (400, 403, 404 and 405 speak of the request; 412, 429, 472, 473 and 5xx of the
 -- broker); that a reply which cannot be read counts as none is this project's own.
 use Rattle.std.specs.Prelude.{ℕ, ◌==◌, ◌||◌, List, Bool, false, bytes_eq, Option, Some, None, Result, Ok, Err, if◌then◌else◌}
-use Rattle.keep_exchange.specs.Abreast.{Answer}
 use Rattle.keep_exchange.specs.Lookups.{lookup_in}
 use Rattle.keep_exchange.specs.declared.heard.Heard.{Heard}
 use Rattle.keep_exchange.specs.declared.heard.Heard.TheVariants.{Told, Refused, Busy, Lost}
 use Rattle.keep_exchange.specs.declared.heard.Terms.{Terms}
 use Rattle.keep_tree.specs.declared.entry.Kind.{Kind}
 use Rattle.keep_tree.specs.declared.entry.Kind.TheVariants.{Token, Lease}
+use Rattle.vault_http.specs.declared.dated_reply.DatedReply.{DatedReply}
 use Rattle.vault_json.specs.declared.fault.ReplyFault.{ReplyFault}
 use Rattle.vault_json.specs.declared.lookup.Lookup.{Lookup}
 use Rattle.vault_json.specs.declared.renewed.Renewed.{Renewed}
@@ -41,9 +41,8 @@ abbrev pub renewed_in : Kind → List ℕ → List ℕ → Option Renewed
 renewed_in Token id body = of_token (renew_self_answer body)
 renewed_in Lease id body = of_lease id (renew_lease_answer body)
 
-unfoldable pub renewed_by : Kind → List ℕ → Answer → Heard Renewed
-renewed_by kind id (Err fault) = Lost
-renewed_by kind id (Ok d) = if d.reply.status == 200 then told_at d.date (renewed_in kind id d.reply.body) else refuses d.reply.status d.date
+unfoldable pub renewed_by : Kind → List ℕ → DatedReply → Heard Renewed
+renewed_by kind id d = if d.reply.status == 200 then told_at d.date (renewed_in kind id d.reply.body) else refuses d.reply.status d.date
 
 -- ---- a lookup
 
@@ -63,6 +62,5 @@ looked_of never (Err fault) = None
 abbrev pub looked_in : Kind → List ℕ → Option Terms
 looked_in kind body = looked_of (has_no_end kind body) (lookup_in kind body)
 
-unfoldable pub looked_up : Kind → Answer → Heard Terms
-looked_up kind (Err fault) = Lost
-looked_up kind (Ok d) = if d.reply.status == 200 then told_at d.date (looked_in kind d.reply.body) else refuses d.reply.status d.date
+unfoldable pub looked_up : Kind → DatedReply → Heard Terms
+looked_up kind d = if d.reply.status == 200 then told_at d.date (looked_in kind d.reply.body) else refuses d.reply.status d.date

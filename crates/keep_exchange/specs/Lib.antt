@@ -1,8 +1,6 @@
 pub mod Exchanges
 pub mod Requests
 pub mod Lookups
-pub mod Abreast
-pub mod Waits
 pub mod Lines
 pub mod Sockets
 pub mod Heard

@@ -1,22 +1,15 @@
--- What is written to a line and heard of it, where its bytes are known.
+-- What is written to a line and read from it, where its bytes are known.
 -- Source: RFC 9112 (the texts); this project's own.
 use Rattle.std.specs.Prelude.{◌≡◌, ◌⊎◌, Result, Ok, Err}
-use Rattle.keep_device.specs.Seen.{Change, Input, Receives, ReceivesFront}
+use Rattle.keep_device.specs.Seen.{Change, Receives, ReceivesFront}
 use Rattle.keep_exchange.specs.declared.fault.ExchangeFault.{ExchangeFault}
 use Rattle.keep_exchange.specs.declared.fault.ExchangeFault.TheVariants.{WriteFailed, Http, OutOfMemory}
-use Rattle.keep_exchange.specs.Abreast.{Answer}
 use Rattle.vault_http.specs.declared.known.TheConstants.{MOST_MESSAGE}
 use Rattle.vault_http.specs.declared.http_fault.HttpFault.{HttpFault}
 use Rattle.vault_http.specs.declared.reply.Reply.{Reply}
 use Rattle.vault_http.specs.declared.request.Request.{Request}
-use Rattle.vault_http.specs.Reading.{SettlesDated, SettlesReply}
+use Rattle.vault_http.specs.Reading.{SettlesReply}
 use Rattle.vault_http.specs.Written.{request_text}
-
--- the answer is that of the bytes which the line hands out, of at most 1 MiB: a reply with its date, or why there is none
-abbrev pub Hears : Input → Input → Answer → Type 0
-Hears before now (Ok dated) = SettlesDated MOST_MESSAGE before now (Ok dated)
-Hears before now (Err (Http fault)) = SettlesDated MOST_MESSAGE before now (Err fault)
-Hears before now (Err fault) = ⊥
 
 -- the request is written whole, once, and this is what is read after it
 abbrev pub Reads : Request → Change → Result Reply HttpFault → Type 0

@@ -65,10 +65,14 @@ abbrev pub Fits : Served → Type 0
 Fits (served.Reply reply) = length (reply_text reply) ≤ MOST_MESSAGE
 Fits served.Dropped = Unit {0}
 
+-- a request of at most 1 MiB
+abbrev pub IsShort : Request → Type 0
+IsShort r = length (request_text r) ≤ MOST_MESSAGE
+
 -- a request that can be written and read, and whose replies can be read
 pub record IsFit (r : Request) : Type 0 where
   pub writable : IsWritable r
-  pub short : length (request_text r) ≤ MOST_MESSAGE
+  pub short : IsShort r
   pub answered : (l : Table) (t : ℕ) (sent : Served) → Says t (step l t r).answer sent → Fits sent
 
 -- the request was served at t, and its reply read, if there was one

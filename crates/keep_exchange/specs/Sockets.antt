@@ -6,6 +6,7 @@ use Rattle.std.specs.Net.Socket.{socket_ip, socket_port}
 use Rattle.std.specs.declared.net.socket_addr.SocketAddr.{SocketAddr}
 use Rattle.keep_exchange.specs.declared.fault.ExchangeFault.{ExchangeFault}
 use Rattle.keep_device.specs.declared.place.Place.{Place}
+use Rattle.keep_device.specs.declared.place.Place.TheVariants.{Port, Path}
 use Rattle.keep_device.specs.Seen.{Change}
 use Rattle.mini_broker.specs.Stream.{IsStreamed}
 use Rattle.mini_broker.specs.Table.{Table}
@@ -19,17 +20,16 @@ pub record Socket : Type 0 where
   pub is_short : Bool
   pub failures : ℕ
 
--- exchanges abreast: the time-out of each is in seconds
-pub record Slices : Type 0 where
-  pub place : Place
-  pub seconds : ℕ
-  pub failures : ℕ
-
 -- an exchange with a table that is served in the same thread, at a port
 pub record Served : Type 0 where
   pub port : ℕ
   pub table : Table
   pub failures : ℕ
+
+-- the port that requests to a broker at that place name
+abbrev pub port_of : Place → ℕ
+port_of (Port port) = port
+port_of (Path path) = 8200
 
 -- a quarter of a second, or the longest time where that is less
 abbrev pub quarter_of : ℕ → ℕ

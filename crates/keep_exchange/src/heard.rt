@@ -1,8 +1,7 @@
-//! What the answers of a slice come to, for who keeps a watch.
+//! What a reply comes to, for who keeps a watch.
 ghost use Rattle.std.specs.Prelude.{◌≡◌, IfOk};
 ghost use Rattle.keep_exchange.specs.Heard.{has_no_end, looked_in, looked_up, refuses, renewed_by, renewed_in};
 
-use crate::fault::ExchangeFault;
 use crate::looking::lookup_in;
 use keep_moment::Moment;
 use keep_tree::Kind;
@@ -10,7 +9,7 @@ use std::alloc::{AllocError, Global};
 use vault_http::{DatedReply, Reply};
 use vault_json::{Lookup, Renewed, ReplyFault, never_ends, read_renew_lease, read_renew_self};
 
-/// What an answer comes to.
+/// What a reply comes to.
 #[derive(Debug, Drop)]
 pub enum Heard<T> {
     /// A 200 that says what was asked, and the reply's date.
@@ -20,8 +19,8 @@ pub enum Heard<T> {
     Refused(u16, Option<Moment>),
     /// Status 429: the broker has too much to do.
     Busy,
-    /// Anything else: no reply, one that cannot be read or is of another lease, or another status. 412 wants another try, and
-    /// 472 and 473 are a standby's.
+    /// Anything else: a body that cannot be read or is of another lease, or another status. 412 wants another try, and 472 and
+    /// 473 are a standby's.
     Lost,
 }
 
@@ -34,19 +33,16 @@ pub struct Terms {
     pub never_ends: bool,
 }
 
-/// What an answer to the renewal of an entry of that kind and credential comes to. The only error is out of memory.
+/// What the reply to the renewal of an entry of that kind and credential comes to. The only error is out of memory.
 #[tactic(auto, unfolding(crate::specs::Heard::renewed_by))]
 pub fn hear_renewal(
     alloc: Global,
     kind: Kind,
     id: &[u8],
-    answer: &Result<DatedReply, ExchangeFault>,
+    dated: &DatedReply,
 ) -> Result<Heard<Renewed>, AllocError>
-    ensures { IfOk result (λ heard. heard ≡ renewed_by kind id.now answer.now) }
+    ensures { IfOk result (λ heard. heard ≡ renewed_by kind id.now dated.now) }
 {
-    let Ok(dated) = answer else {
-        return Ok(Heard::Lost);
-    };
     if dated.reply.status != 200 {
         return Ok(refused(dated.reply.status, dated.date));
     }
@@ -56,18 +52,15 @@ pub fn hear_renewal(
     }
 }
 
-/// What an answer to the lookup of an entry of that kind comes to. The only error is out of memory.
+/// What the reply to the lookup of an entry of that kind comes to. The only error is out of memory.
 #[tactic(auto, unfolding(crate::specs::Heard::looked_up))]
 pub fn hear_lookup(
     alloc: Global,
     kind: Kind,
-    answer: &Result<DatedReply, ExchangeFault>,
+    dated: &DatedReply,
 ) -> Result<Heard<Terms>, AllocError>
-    ensures { IfOk result (λ heard. heard ≡ looked_up kind answer.now) }
+    ensures { IfOk result (λ heard. heard ≡ looked_up kind dated.now) }
 {
-    let Ok(dated) = answer else {
-        return Ok(Heard::Lost);
-    };
     if dated.reply.status != 200 {
         return Ok(refused(dated.reply.status, dated.date));
     }

@@ -5,28 +5,23 @@
 //! (`specs/Requests.antt`) can be sent and whose replies can be read. Begin with `exchange`, then `memory` and `asking`.
 #![tactic(auto)]
 
-mod abreast;
 mod asking;
+mod connecting;
 mod exchange;
 mod fault;
 mod heard;
 mod line;
-mod link;
 mod looking;
 mod memory;
-mod memory_slice;
 mod over;
 mod patience;
 mod requests;
 mod self_served;
-mod sockets;
 mod sure;
 mod tcp;
 mod texts;
 mod unix;
-mod waits;
 
-pub use abreast::{Abreast, MOST_WIDTH, Waiting};
 pub use asking::ask;
 pub use exchange::{Exchange, can_carry};
 pub use fault::ExchangeFault;
@@ -36,6 +31,5 @@ pub use memory::MemoryExchange;
 pub use patience::PATIENCE;
 pub use requests::request_for;
 pub use self_served::SelfServed;
-pub use sockets::SocketSlices;
 pub use tcp::TcpExchange;
 pub use unix::UnixExchange;

@@ -1,11 +1,9 @@
-ghost use Rattle.std.specs.Prelude.{◌≡◌, ◌<◌, ◌≤◌, ◌≢◌, IfOk, IfSome, IsUtf8, Ok, false, true, length};
+ghost use Rattle.std.specs.Prelude.{◌≡◌, ◌<◌, ◌≢◌, IfOk, IfSome, IsUtf8, Ok, false, true, length};
 ghost use Rattle.keep_exchange.specs.Lookups.{LooksUp, lookup_in, looked, behind_if};
-ghost use Rattle.keep_exchange.specs.Requests.{lease_looked, lookup_of, token_looked};
+ghost use Rattle.keep_exchange.specs.Requests.{IsShort, lease_looked, lookup_of, token_looked};
 ghost use Rattle.keep_exchange.specs.Sockets.{PacesLooked, Slows};
 ghost use Rattle.keep_inventory.specs.Inventories.{IsSendable};
-ghost use Rattle.vault_http.specs.declared.known.TheConstants.{MOST_MESSAGE};
 ghost use Rattle.vault_http.specs.RoundTripRequest.{IsWritable};
-ghost use Rattle.vault_http.specs.Written.{request_text};
 ghost use Rattle.vault_json.specs.Answer.{Gives};
 
 use crate::exchange::Exchange;
@@ -67,7 +65,7 @@ pub fn lookup_for(
     requires { i < length inventory.now.forest.entries }
     ensures is { IfOk result (λ r. r ≡ lookup_of port inventory.now.credentials inventory.now.forest i) }
     ensures writable { IfOk result IsWritable }
-    ensures short { IfOk result (λ r. length (request_text r) ≤ MOST_MESSAGE) }
+    ensures short { IfOk result IsShort }
 {
     let entry = inventory.forest().get(i);
     match entry.kind {
@@ -120,7 +118,7 @@ fn token_lookup(alloc: Global, port: u16, credential: &[u8]) -> Result<Request, 
     requires { IsSendable credential.now }
     ensures is { IfOk result (λ r. r ≡ token_looked port credential.now) }
     ensures writable { IfOk result IsWritable }
-    ensures short { IfOk result (λ r. length (request_text r) ≤ MOST_MESSAGE) }
+    ensures short { IfOk result IsShort }
 {
     is_port(port);
     let request = token_message(alloc, port, credential)?;
@@ -149,7 +147,7 @@ fn lease_lookup(
     requires id { IsSendable id.now }
     ensures is { IfOk result (λ r. r ≡ lease_looked port owner id.now) }
     ensures writable { IfOk result IsWritable }
-    ensures short { IfOk result (λ r. length (request_text r) ≤ MOST_MESSAGE) }
+    ensures short { IfOk result IsShort }
 {
     is_port(port);
     credentials_are_sendable();

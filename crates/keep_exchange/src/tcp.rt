@@ -2,8 +2,7 @@ ghost use Rattle.std.specs.Prelude.{◌≡◌, ◌*◌, ◌⊎◌, None, OnOk, f
 ghost use Rattle.std.specs.Result.{IfErr};
 ghost use Rattle.std.specs.Duration.{as_nanos};
 ghost use Rattle.keep_device.specs.Seen.{outside};
-ghost use Rattle.keep_exchange.specs.Abreast.{port_of};
-ghost use Rattle.keep_exchange.specs.Sockets.{limit_of};
+ghost use Rattle.keep_exchange.specs.Sockets.{limit_of, port_of};
 ghost use Rattle.keep_exchange.specs.declared.fault.ExchangeFault.TheVariants as faults;
 ghost use Rattle.keep_device.specs.declared.place.Place.TheVariants as places;
 

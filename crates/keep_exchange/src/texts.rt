@@ -1,6 +1,7 @@
 //! Messages by way of their texts: each is written whole, and read of what was written.
 ghost use Rattle.std.specs.Prelude.{◌≡◌, ◌<◌, ◌≤◌, ◌^◌, IfOk, IsOkUnless, IsTrue, length};
 ghost use Rattle.keep_exchange.specs.Exchanges.{received};
+ghost use Rattle.keep_exchange.specs.Requests.{IsShort};
 ghost use Rattle.keep_exchange.specs.declared.fault.ExchangeFault.TheVariants.{OutOfMemory};
 ghost use Rattle.mini_broker.specs.Stream.{MaySend, sent_of};
 ghost use Rattle.vault_http.specs.declared.known.TheConstants.{MOST_MESSAGE};
@@ -38,7 +39,7 @@ pub(crate) fn request_of_text(
     request: &Request,
 ) -> Result<Request, ExchangeFault>
     requires writable { IsWritable request.now }
-    requires short { length (request_text request.now) ≤ MOST_MESSAGE }
+    requires short { IsShort request.now }
     requires text { text.now ≡ request_text request.now }
     ensures read { IfOk result (λ read. read ≡ without_port request.now) }
     ensures memory { IsOkUnless result OutOfMemory }

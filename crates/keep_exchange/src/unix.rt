@@ -6,12 +6,11 @@ ghost use Rattle.keep_exchange.specs.Sockets.{limit_of};
 ghost use Rattle.keep_exchange.specs.declared.fault.ExchangeFault.TheVariants as faults;
 ghost use Rattle.keep_device.specs.declared.place.Place.TheVariants as places;
 
+use crate::connecting::connect_within;
 use crate::exchange::Exchange;
 use crate::fault::ExchangeFault;
-use crate::link::{Bell, Shared, connect_unix};
 use crate::over::{count_after, exchange_over};
 use crate::patience::{Patience, Watched};
-use crate::waits::Waits;
 use keep_moment::Moment;
 use std::alloc::Global;
 use std::marker::Model;
@@ -65,11 +64,7 @@ impl<'a, R: Net> UnixExchange<'a, R> {
         ensures short { (self.new ≡ self.old) ⊎ (self.new ≡ record self.old { is_short = true }) }
     {
         let limit = self.patience.limit();
-        let mut shared = Shared {
-            bell: Bell::new(self.rt, alloc)?,
-            waits: Waits::of(limit),
-        };
-        let opened = connect_unix(self.rt, self.path, &mut shared, &mut 0);
+        let opened = connect_within(self.rt, alloc, self.path, limit)?;
         let stream = UnixStream::from(self.patience.settle(opened)?);
         if stream.set_nonblocking(false).is_err()
             || stream.set_read_timeout(Some(limit)).is_err()

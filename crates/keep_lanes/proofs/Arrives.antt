@@ -1,5 +1,5 @@
 -- What is heard of a reply, piece by piece: for `Lane` and `read_on`.
-use Rattle.std.proofs.Common.{◌≡◌, ℕ, zero, suc, ◌<◌, ◌++◌, List, [], ◌∷◌, length, take, arith, append_assoc, append-nil, refl, ap, subst, sym, ◌∙◌, Option, None, Some, IfSome, Result, Ok, Err}
+use Rattle.std.proofs.Common.{◌≡◌, ℕ, zero, suc, ◌<◌, ◌++◌, List, [], ◌∷◌, length, take, arith, append_assoc, append-nil, refl, ap, subst, sym, ◌∙◌, Option, None, Some, IfSome, Ok, Err}
 use Rattle.std.specs.Io.KnownBytes.{Consumes, IsAtEnd, Keeps}
 use Rattle.std.proofs.KnownBytes.{Consumes-kept, Consumes-nil, Consumes-trans}
 use Rattle.keep_lanes.specs.Lanes.{Follows, IsHeard, IsTold, Tells}
@@ -7,7 +7,6 @@ use Rattle.keep_lanes.specs.Losses.{Answer, loss_of}
 use Rattle.keep_lanes.specs.declared.loss.Loss.{Loss}
 use Rattle.keep_lanes.specs.declared.loss.Loss.TheVariants as losses
 use Rattle.vault_http.specs.Dates.{IsDatedReply}
-use Rattle.vault_http.specs.declared.dated_reply.DatedReply.{DatedReply}
 use Rattle.vault_http.specs.declared.http_fault.HttpFault.{HttpFault}
 use Rattle.vault_http.specs.declared.known.TheConstants.{MOST_MESSAGE}
 

@@ -1,5 +1,5 @@
 -- Waits make no connection: for `listen`.
-use Rattle.std.proofs.Common.{◌≡◌, ℕ, List, [], ◌∷◌, ◌++◌, Option, None, Some, IfSome, sym, subst, refl}
+use Rattle.std.proofs.Common.{◌≡◌, ℕ, [], ◌∷◌, ◌++◌, Option, None, Some, IfSome, subst}
 use Rattle.keep_lanes.specs.Tries.{KeepsDials, Log}
 
 pub dials_same : (a b : Option Log) → b ≡ a → KeepsDials a b

@@ -7,3 +7,4 @@ pub mod Moved
 pub mod Dials
 pub mod Sent
 pub mod There
+pub mod Due

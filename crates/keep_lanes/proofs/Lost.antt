@@ -1,10 +1,10 @@
 -- Why a request is lost at a stage: for `Lane` and `Course`.
-use Rattle.std.proofs.Common.{◌≡◌, ◌==◌, ℕ, ◌<◌, ◌≤◌, ◌⊎◌, inl, inr, List, [], ◌∷◌, ◌++◌, length, Bool, true, IsTrue, refl, sym, subst, ◌∙◌, Result, Ok, Err, Some}
+use Rattle.std.proofs.Common.{◌≡◌, ◌==◌, ℕ, ◌≤◌, inr, List, [], ◌∷◌, ◌++◌, length, Bool, true, IsTrue, refl, sym, subst, ◌∙◌, Result, Ok, Err, Some}
 use Rattle.std.proofs.Math.Dec.{eqb-suc-zero}
 use Rattle.std.proofs.lemmas.Bool.{false≢true}
-use Rattle.keep_lanes.specs.Allowed.{deadline, most_reads}
+use Rattle.keep_lanes.specs.Allowed.{most_reads}
 use Rattle.keep_lanes.specs.Lanes.{Follows, IsCounted, IsLost, IsRead, IsSettled, IsTold}
-use Rattle.keep_lanes.specs.Losses.{Answer, loss_of}
+use Rattle.keep_lanes.specs.Losses.{Answer}
 use Rattle.keep_lanes.specs.Stages.{failed, reads_with}
 use Rattle.keep_lanes.specs.declared.allowance.Allowance.{Allowance}
 use Rattle.keep_lanes.specs.declared.loss.Loss.TheVariants as losses

@@ -1,5 +1,5 @@
 -- Each of those that are out goes on for itself: for `go_on` of them all.
-use Rattle.std.proofs.Common.{◌≡◌, ℕ, zero, suc, ◌<◌, ◌+◌, ◌⊎◌, inl, inr, Some, IfSome, List, [], ◌∷◌, ◌++◌, length, take, drop, get_or, set, Option, None, refl, sym, subst, ap, ◌∙◌, arith, append-nil}
+use Rattle.std.proofs.Common.{◌≡◌, ℕ, zero, suc, ◌<◌, ◌+◌, inl, inr, Some, IfSome, List, [], ◌∷◌, ◌++◌, length, take, drop, get_or, set, Option, None, refl, sym, subst, ap, ◌∙◌, arith, append-nil}
 use Rattle.std.proofs.lemmas.Grind.{drop_more_same}
 use Rattle.std.proofs.lemmas.List.{drop-set-lt, drop_all, drop_more, take_all, take_more_set}
 use Rattle.std.proofs.Math.Seq.{take-add}
@@ -8,9 +8,8 @@ use Rattle.keep_lanes.specs.Lanes.{IsWritten}
 use Rattle.keep_lanes.specs.Losses.{Answer}
 use Rattle.keep_lanes.specs.Out as outs_of
 use Rattle.keep_lanes.specs.code.Seats.{out_of, outs}
-use Rattle.keep_lanes.specs.code.Ways.{Begins, GoesOn, IsAhead, IsBegun, Move, Moves, StaysOrMoves}
+use Rattle.keep_lanes.specs.code.Ways.{Begins, GoesOn, IsAhead, Move, Moves, StaysOrMoves}
 use Rattle.keep_lanes.specs.declared.allowance.Allowance.{Allowance}
-use Rattle.keep_lanes.specs.declared.coming.Coming.{Coming}
 use Rattle.keep_lanes.specs.declared.lane.Lane.{Lane}
 use Rattle.keep_lanes.specs.declared.seats.Seat.{Seat}
 use Rattle.keep_lanes.specs.declared.way.Way.{Way}

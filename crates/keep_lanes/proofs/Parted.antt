@@ -1,5 +1,5 @@
 -- One more of those that are out is handed back, or stays: for `take_out`.
-use Rattle.std.proofs.Common.{◌≡◌, ℕ, ◌++◌, inl, inr, List, [], ◌∷◌, refl, ap, subst, sym, ◌∙◌}
+use Rattle.std.proofs.Common.{◌++◌, inl, inr, List, [], ◌∷◌, refl, ap}
 use Rattle.keep_lanes.specs.Out.{IsOf, IsParted, Out}
 use Rattle.keep_lanes.specs.declared.lanes.Answered.{Answered}
 

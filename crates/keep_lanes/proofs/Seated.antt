@@ -1,5 +1,5 @@
 -- One more among those that are out: for `place_for` and `put`.
-use Rattle.std.proofs.Common.{◌≡◌, ℕ, ◌<◌, ◌≤◌, ◌+◌, ◌++◌, List, [], ◌∷◌, length, take, drop, get_or, refl, sym, subst, ap, ◌∙◌, All, None, Option, map, take-append-drop}
+use Rattle.std.proofs.Common.{◌≡◌, ℕ, ◌<◌, ◌≤◌, ◌+◌, ◌++◌, List, [], ◌∷◌, length, take, drop, get_or, sym, subst, ap, ◌∙◌, All, Option, take-append-drop}
 use Rattle.std.proofs.lemmas.List.{drop_all, drop_more, map-append}
 use Rattle.std.proofs.lemmas.List.Elements.{All-map, All-more}
 use Rattle.keep_lanes.specs.Out.{IsBelow, IsPut, Out}

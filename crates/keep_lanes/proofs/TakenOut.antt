@@ -4,7 +4,7 @@ use Rattle.keep_lanes.specs.Losses.{Answer}
 use Rattle.std.proofs.lemmas.List.{length-take-le, drop_all, drop_at, drop_more, map-append, take_at}
 use Rattle.std.proofs.lemmas.List.Elements.{filter-append}
 use Rattle.std.proofs.Math.Seq.{take-add}
-use Rattle.keep_lanes.specs.Out.{IsOf, IsParted, Out}
+use Rattle.keep_lanes.specs.Out.{IsOf, IsParted}
 use Rattle.keep_lanes.specs.code.Seats.{AreTakenOut, out_of, outs}
 use Rattle.keep_lanes.specs.declared.coming.Coming.{Coming}
 use Rattle.keep_lanes.specs.declared.lanes.Answered.{Answered}

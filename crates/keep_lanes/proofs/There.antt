@@ -1,6 +1,7 @@
 -- Those that are taken out of lanes in memory are those that are there: for `MemoryLanes`.
-use Rattle.std.proofs.Common.{◌≡◌, ℕ, List, [], ◌∷◌, Bool, true, false, cond, not, filter, map, nat_le, Some, Result, Ok, Err, IfOk, refl, ap, subst, sym, ◌∙◌}
-use Rattle.keep_lanes.specs.Out.{AreThere, Out, first_at, is_there, up_to}
+use Rattle.std.proofs.Common.{◌≡◌, ℕ, ◌<◌, List, [], ◌∷◌, Bool, true, false, cond, not, filter, map, nat_le, Option, None, Some, Result, Ok, Err, IfOk, OnOk, arith, refl, ap, subst, sym, ◌∙◌}
+use Rattle.std.proofs.lemmas.Bool.{false≢true, leb-false}
+use Rattle.keep_lanes.specs.Out.{AreThere, AreThereAt, IsDueAfter, Out, earlier, first_at, is_there, is_there_at, sooner_at, up_to}
 use Rattle.keep_lanes.specs.code.Seats.{AreTakenOut, out_of, outs}
 use Rattle.keep_lanes.specs.declared.coming.Coming.{Coming}
 use Rattle.keep_lanes.specs.declared.lanes.Answered.{Answered}
@@ -21,15 +22,53 @@ indices_known : (seats : List (Seat Coming)) → map (λ (o : Out). o.index) (ma
 indices_known [] = refl
 indices_known (s ∷ ss) = ap (λ l. s.index ∷ l) (indices_known ss)
 
-are_there : (now until moment : ℕ) (old new : List (Seat Coming)) (answers : List Answered) → moment ≡ up_to now until (first_at (outs (λ coming. Some coming) old))
-    → AreTakenOut (λ (coming : Coming). nat_le coming.at moment) old new answers → AreThere now until (outs (λ coming. Some coming) old) answers (outs (λ coming. Some coming) new)
-are_there now until moment old new answers is taken = record {
-  left = subst (λ m. map known new ≡ filter (λ o. not (is_there m o)) (map known old)) is (ap (map known) taken.left ∙ filter_known (λ o. not (is_there moment o)) old);
-  indices = subst (λ m. map (λ (a : Answered). a.index) answers ≡ map (λ (o : Out). o.index) (filter (is_there m) (map known old))) is
-      (taken.indices ∙ sym (ap (map (λ (o : Out). o.index)) (sym (filter_known (is_there moment) old)) ∙ indices_known (filter (λ s. is_there moment (known s)) old)));
+are_there_at : (moment : ℕ) (old new : List (Seat Coming)) (answers : List Answered) → AreTakenOut (λ (coming : Coming). nat_le coming.at moment) old new answers
+    → AreThereAt moment (outs (λ coming. Some coming) old) answers (outs (λ coming. Some coming) new)
+are_there_at moment old new answers taken = record {
+  left = ap (map known) taken.left ∙ filter_known (λ o. not (is_there moment o)) old;
+  indices = taken.indices ∙ sym (ap (map (λ (o : Out). o.index)) (sym (filter_known (is_there moment) old)) ∙ indices_known (filter (λ s. is_there moment (known s)) old));
 }
+
+pub there_at : {X E : Type 0} (r : Result X E) (items : X → List Answered) (moment : ℕ) (old new : List (Seat Coming))
+    → IfOk r (λ a. AreTakenOut (λ (coming : Coming). nat_le coming.at moment) old new (items a)) → IfOk r (λ a. AreThereAt moment (outs (λ coming. Some coming) old) (items a) (outs (λ coming. Some coming) new))
+there_at (Ok a) items moment old new h = are_there_at moment old new (items a) h
+there_at (Err e) items moment old new h = tt
 
 pub there_all : {X E : Type 0} (r : Result X E) (items : X → List Answered) (now until moment : ℕ) (old new : List (Seat Coming)) → moment ≡ up_to now until (first_at (outs (λ coming. Some coming) old))
     → IfOk r (λ a. AreTakenOut (λ (coming : Coming). nat_le coming.at moment) old new (items a)) → IfOk r (λ a. AreThere now until (outs (λ coming. Some coming) old) (items a) (outs (λ coming. Some coming) new))
-there_all (Ok a) items now until moment old new is h = are_there now until moment old new (items a) is h
-there_all (Err e) items now until moment old new is h = tt
+there_all r items now until moment old new is h =
+    subst (λ m. IfOk r (λ a. AreThereAt m (outs (λ coming. Some coming) old) (items a) (outs (λ coming. Some coming) new))) is (there_at r items moment old new h)
+
+-- ---- what is left is due later
+
+abbrev ahead : ℕ → Option ℕ → Type 0
+ahead now None = Unit {0}
+ahead now (Some moment) = now < moment
+
+away : (b : Bool) → not b ≡ true → b ≡ false
+away true is = absurd (false≢true is)
+away false is = refl
+
+first_ahead : (now at : ℕ) (others : Option ℕ) → now < at → ahead now others → now < earlier at others
+first_ahead now at None first h = first
+first_ahead now at (Some m) first h = omega (arith, first, h)
+
+still_ahead : (now : ℕ) (c : Option Coming) (others : Option ℕ) → not (is_there_at now c) ≡ true → ahead now others → ahead now (sooner_at c others)
+still_ahead now None others is h = h
+still_ahead now (Some c) others is h = first_ahead now c.at others (leb-false c.at now (away (nat_le c.at now) is)) h
+
+abbrev left : ℕ → List Out → List Out
+left now os = filter (λ o. not (is_there now o)) os
+
+by_test : (now : ℕ) (o : Out) (b : Bool) (os : List Out) → not (is_there now o) ≡ b → ahead now (first_at os) → ahead now (first_at (cond b (o ∷ os) os))
+by_test now o true os is h = still_ahead now o.comes (first_at os) is h
+by_test now o false os is h = h
+
+left_ahead : (now : ℕ) (os : List Out) → ahead now (first_at (left now os))
+left_ahead now [] = tt
+left_ahead now (o ∷ os) = by_test now o (not (is_there now o)) (left now os) refl (left_ahead now os)
+
+pub left_due : {X E : Type 0} (r : Result X E) (items : X → List Answered) (now : ℕ) (old new : List Out) → IfOk r (λ a. AreThereAt now old (items a) new)
+    → OnOk r (IsDueAfter now (λ due. earlier due (first_at new)))
+left_due (Ok a) items now old new h = λ due later bound. first_ahead now due (first_at new) later (subst (λ l. ahead now (first_at l)) (sym h.left) (left_ahead now old))
+left_due (Err e) items now old new h = tt

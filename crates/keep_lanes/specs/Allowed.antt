@@ -1,6 +1,6 @@
 -- How long a request may take, in milliseconds.
 -- Source: this project's own.
-use Rattle.std.specs.Prelude.{ℕ, ◌+◌, ◌*◌, ◌-◌, ◌^◌, ◌≤◌, min, nat_lt, if◌then◌else◌}
+use Rattle.std.specs.Prelude.{ℕ, ◌+◌, ◌*◌, ◌-◌, ◌^◌, min, nat_lt, if◌then◌else◌}
 use Rattle.keep_lanes.specs.declared.allowance.Allowance.{Allowance}
 use Rattle.keep_lanes.specs.declared.stage.Stage.{Stage}
 use Rattle.keep_lanes.specs.declared.stage.Stage.TheVariants.{Connecting, Sending, Silent, Coming}

@@ -17,7 +17,6 @@ loss_of https.Truncated = Closed
 loss_of https.ReadFailed = Closed
 loss_of fault = Reply
 
--- why an answer that counts as none does so
-abbrev pub lost_as : Answer → Loss
-lost_as (Err loss) = loss
-lost_as (Ok d) = if d.reply.status == 200 then Reply else Status d.reply.status
+-- why a reply with that status counts as none, where it does
+abbrev pub lost_by : ℕ → Loss
+lost_by status = if status == 200 then Reply else Status status

@@ -37,14 +37,15 @@ IsParted (o ∷ os) answers left =
 
 -- ---- where it is known what comes
 
-abbrev pub lesser : ℕ → Option ℕ → Option ℕ
-lesser n None = Some n
-lesser n (Some m) = Some (min n m)
+-- the earlier of two moments, of which there may be one alone
+abbrev pub earlier : ℕ → Option ℕ → ℕ
+earlier n None = n
+earlier n (Some m) = min n m
 
 -- the moment at which the first answer is there
 abbrev pub sooner_at : Option Coming → Option ℕ → Option ℕ
 sooner_at None later = later
-sooner_at (Some c) later = lesser c.at later
+sooner_at (Some c) later = Some (earlier c.at later)
 
 abbrev pub first_at : List Out → Option ℕ
 first_at [] = None
@@ -62,7 +63,17 @@ is_there_at moment (Some c) = nat_le c.at moment
 abbrev pub is_there : ℕ → Out → Bool
 is_there moment o = is_there_at moment o.comes
 
--- those that are there are handed back, and no others
-pub record AreThere (now until : ℕ) (old : List Out) (answers : List Answered) (new : List Out) : Type 0 where
-  pub left : new ≡ filter (λ o. not (is_there (up_to now until (first_at old)) o)) old
-  pub indices : map (λ (a : Answered). a.index) answers ≡ map (λ (o : Out). o.index) (filter (is_there (up_to now until (first_at old))) old)
+-- those that are there at a moment are handed back, and no others
+pub record AreThereAt (moment : ℕ) (old : List Out) (answers : List Answered) (new : List Out) : Type 0 where
+  pub left : new ≡ filter (λ o. not (is_there moment o)) old
+  pub indices : map (λ (a : Answered). a.index) answers ≡ map (λ (o : Out). o.index) (filter (is_there moment) old)
+
+-- those that come together are handed back, and no others
+abbrev pub AreThere : ℕ → ℕ → List Out → List Answered → List Out → Type 0
+AreThere now until old answers new = AreThereAt (up_to now until (first_at old)) old answers new
+
+-- ---- when they have to be looked at again
+
+-- nothing is due yet: whatever later moment it is looked for up to, that at which something is due is later too
+abbrev pub IsDueAfter : ℕ → (ℕ → ℕ) → Type 0
+IsDueAfter now due_by = (by : ℕ) → now < by → by < 2 ^ 64 → now < due_by by

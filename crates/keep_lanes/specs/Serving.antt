@@ -1,6 +1,6 @@
 -- Lanes in memory: what a broker's table makes of a request, with faults by number.
 -- Source: this project's own; the Broker step is that of one request.
-use Rattle.std.specs.Prelude.{◌≡◌, ℕ, ◌+◌, ◌*◌, ◌-◌, ◌^◌, ◌==◌, ◌⊎◌, List, [], Option, Some, None, IfSome, Result, Ok, Err, min, nat_lt, option_map, if◌then◌else◌}
+use Rattle.std.specs.Prelude.{◌≡◌, ℕ, ◌+◌, ◌*◌, ◌-◌, ◌^◌, ◌==◌, ◌⊎◌, List, [], Option, Some, None, Result, Ok, Err, min, nat_lt, option_map, if◌then◌else◌}
 use Rattle.std.specs.List.{find}
 use Rattle.keep_exchange.specs.Exchanges.{received}
 use Rattle.keep_exchange.specs.declared.fault.ExchangeFault.{ExchangeFault}

@@ -1,9 +1,9 @@
 //! What the answers come to, for who keeps a watch.
 ghost use Rattle.std.specs.Prelude.{◌≡◌, IfOk};
-ghost use Rattle.keep_lanes.specs.Heard.{as_exchanged, heard_with, looked_up, renewed_by};
+ghost use Rattle.keep_lanes.specs.Heard.{heard_with, looked_up, renewed_by};
 
-use crate::loss::{Loss, lost_as};
-use keep_exchange::{ExchangeFault, Terms};
+use crate::loss::{Loss, lost_by};
+use keep_exchange::Terms;
 use keep_moment::Moment;
 use keep_tree::Kind;
 use std::alloc::{AllocError, Global};
@@ -29,39 +29,37 @@ pub fn hear_renewal(
     alloc: Global,
     kind: Kind,
     id: &[u8],
-    answer: Result<DatedReply, Loss>,
+    answer: &Result<DatedReply, Loss>,
 ) -> Result<Heard<Renewed>, AllocError>
-    ensures { IfOk result (λ heard. heard ≡ renewed_by kind id.now answer) }
+    ensures { IfOk result (λ heard. heard ≡ renewed_by kind id.now answer.now) }
 {
-    let why = lost_as(&answer);
-    let heard = keep_exchange::hear_renewal(alloc, kind, id, &as_exchanged(answer))?;
-    Ok(heard_with(why, heard))
+    match answer {
+        Err(loss) => Ok(Heard::Lost(*loss)),
+        Ok(dated) => {
+            let heard = keep_exchange::hear_renewal(alloc, kind, id, dated)?;
+            Ok(heard_with(lost_by(dated.reply.status), heard))
+        }
+    }
 }
 
 /// What an answer to the lookup of an entry of that kind comes to. The only error is out of memory.
 pub fn hear_lookup(
     alloc: Global,
     kind: Kind,
-    answer: Result<DatedReply, Loss>,
+    answer: &Result<DatedReply, Loss>,
 ) -> Result<Heard<Terms>, AllocError>
-    ensures { IfOk result (λ heard. heard ≡ looked_up kind answer) }
-{
-    let why = lost_as(&answer);
-    let heard = keep_exchange::hear_lookup(alloc, kind, &as_exchanged(answer))?;
-    Ok(heard_with(why, heard))
-}
-
-/// The answer of an exchange that has no reply for another reason, which is told beside it.
-fn as_exchanged(answer: Result<DatedReply, Loss>) -> Result<DatedReply, ExchangeFault>
-    ensures { result ≡ as_exchanged answer }
+    ensures { IfOk result (λ heard. heard ≡ looked_up kind answer.now) }
 {
     match answer {
-        Ok(dated) => Ok(dated),
-        Err(_) => Err(ExchangeFault::ConnectFailed),
+        Err(loss) => Ok(Heard::Lost(*loss)),
+        Ok(dated) => {
+            let heard = keep_exchange::hear_lookup(alloc, kind, dated)?;
+            Ok(heard_with(lost_by(dated.reply.status), heard))
+        }
     }
 }
 
-/// The same, with why it was lost.
+/// What a reply comes to, with why it counts as none where it does.
 fn heard_with<T>(why: Loss, heard: keep_exchange::Heard<T>) -> Heard<T>
     ensures { result ≡ heard_with why heard }
 {

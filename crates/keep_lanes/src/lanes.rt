@@ -1,6 +1,6 @@
-ghost use Rattle.std.specs.Prelude.{◌≡◌, ℕ, ◌-◌, ◌<◌, ◌≤◌, List, Option, IfOk, IfSome, OnErr, OnOk, length};
-ghost use Rattle.keep_exchange.specs.Abreast.{IsShort};
-ghost use Rattle.keep_lanes.specs.Out.{AreThere, IsParted, Out};
+ghost use Rattle.std.specs.Prelude.{◌≡◌, ℕ, ◌-◌, ◌<◌, ◌≤◌, List, [], Option, IfOk, IfSome, OnErr, OnOk, length};
+ghost use Rattle.keep_exchange.specs.Requests.{IsShort};
+ghost use Rattle.keep_lanes.specs.Out.{AreThere, AreThereAt, IsDueAfter, IsParted, Out, earlier, first_at};
 ghost use Rattle.keep_lanes.specs.Serving.{Behind, IsLeft, IsSent};
 ghost use Rattle.vault_http.specs.RoundTripRequest.{IsWritable};
 
@@ -52,6 +52,9 @@ pub trait Lanes {
     /// The port that its requests name.
     ghost host_port: { Self → ℕ } = { λ _. 8200 };
 
+    /// From a moment on and up to another, the one by which something that is out has to be looked at again.
+    ghost due_by: { ℕ → ℕ → Self → ℕ };
+
     /// The port that requests to its broker name in `Host`: the broker's own, and 8200 where it has none.
     fn port(&self) -> u16
         ensures { result ≡ host_port self.now };
@@ -84,6 +87,36 @@ pub trait Lanes {
         ensures parted { IfOk result (λ answers. IsParted (Self.out self.old) answers.items (Self.out self.new)) }
         ensures there { IfSome (Self.behind self.old) (λ _. IfOk result (λ answers. AreThere now until (Self.out self.old) answers.items (Self.out self.new))) }
         ensures kept { OnErr result (Self.out self.new ≡ Self.out self.old) }
+        ensures behind { Self.behind self.new ≡ Self.behind self.old }
+        ensures width { Self.width self.new ≡ Self.width self.old }
+        ensures seconds { Self.seconds self.new ≡ Self.seconds self.old }
+        ensures port { Self.host_port self.new ≡ Self.host_port self.old };
+
+    /// Each that is out goes on as far as it can at `now` without waiting, and is settled where its time is over by then. It
+    /// hands back the answers that are there, by rising index, each with the index that its request was for. What it hands
+    /// back is out no more, and what is left is due later.
+    ///
+    /// The only error is out of memory: all are out as before.
+    fn go_on(&mut self, alloc: Global, now: u64) -> Result<Vec<Answered>, AllocError>
+        ensures parted { IfOk result (λ answers. IsParted (Self.out self.old) answers.items (Self.out self.new)) }
+        ensures there { IfSome (Self.behind self.old) (λ _. IfOk result (λ answers. AreThereAt now (Self.out self.old) answers.items (Self.out self.new))) }
+        ensures settled { OnOk result (IsDueAfter now (λ by. Self.due_by now by self.new)) }
+        ensures kept { OnErr result (Self.out self.new ≡ Self.out self.old) }
+        ensures behind { Self.behind self.new ≡ Self.behind self.old }
+        ensures width { Self.width self.new ≡ Self.width self.old }
+        ensures seconds { Self.seconds self.new ≡ Self.seconds self.old }
+        ensures port { Self.host_port self.new ≡ Self.host_port self.old };
+
+    /// The moment by which something that is out has to be looked at again, if nothing tells before that it can go on; at most
+    /// `by`. `now` is the moment of the elapsed clock, in milliseconds. In memory it is that at which the first answer is there.
+    fn due(&self, now: u64, by: u64) -> u64
+        ensures due { result ≡ due_by now by self.now }
+        ensures known { IfSome (behind self.now) (λ _. result ≡ earlier by (first_at (out self.now))) }
+        ensures within { result ≤ by };
+
+    /// Gives up all that is out. Its connections are closed, and no answer of it is handed back.
+    fn forget(&mut self)
+        ensures none { Self.out self.new ≡ [] }
         ensures behind { Self.behind self.new ≡ Self.behind self.old }
         ensures width { Self.width self.new ≡ Self.width self.old }
         ensures seconds { Self.seconds self.new ≡ Self.seconds self.old }

@@ -1,8 +1,8 @@
 ghost use Rattle.std.specs.Prelude.{◌≡◌};
-ghost use Rattle.keep_lanes.specs.Losses.{loss_of, lost_as};
+ghost use Rattle.keep_lanes.specs.Losses.{loss_of, lost_by};
 
 use thiserror::Error;
-use vault_http::{DatedReply, HttpFault};
+use vault_http::HttpFault;
 
 /// Why a request has no answer. The words are those of the line `lost`.
 #[derive(Clone, Copy, Debug, PartialEq, Eq, Error)]
@@ -39,13 +39,12 @@ pub(crate) fn loss_of(fault: HttpFault) -> Loss
     }
 }
 
-/// Why an answer that counts as none does so: its own loss, or the reply's status, or where that is 200 its body.
-pub(crate) fn lost_as(answer: &Result<DatedReply, Loss>) -> Loss
-    ensures { result ≡ lost_as answer.now }
+/// Why a reply with that status counts as none, where it does: by the status, or where that is 200 by its body.
+pub(crate) fn lost_by(status: u16) -> Loss
+    ensures { result ≡ lost_by status }
 {
-    match answer {
-        Err(loss) => *loss,
-        Ok(dated) if dated.reply.status == 200 => Loss::Reply,
-        Ok(dated) => Loss::Status(dated.reply.status),
+    match status {
+        200 => Loss::Reply,
+        _ => Loss::Status(status),
     }
 }

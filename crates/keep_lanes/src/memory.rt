@@ -1,7 +1,7 @@
 //! Lanes with a broker's table in memory.
 ghost use Rattle.std.specs.Prelude.{◌≡◌, ◌++◌, ◌∷◌, [], None, Some, IfOk, OnErr, OnOk, max, min, Ok, Err};
-ghost use Rattle.keep_exchange.specs.Abreast.{IsShort};
-ghost use Rattle.keep_lanes.specs.Out.{first_at, lesser, up_to};
+ghost use Rattle.keep_exchange.specs.Requests.{IsShort};
+ghost use Rattle.keep_lanes.specs.Out.{earlier, first_at, up_to};
 ghost use Rattle.keep_lanes.specs.Serving.{AnswersFor, Comes, IsServed, IsTableLeft, fault_at, later};
 ghost use Rattle.keep_lanes.specs.code.Seats.{outs};
 ghost use Rattle.vault_http.specs.RoundTripRequest.{IsWritable};
@@ -198,13 +198,14 @@ fn first_at(out: &[Seat<Coming>]) -> Option<u64>
     let mut at = out.len();
     while at > 0 {
         at -= 1;
-        first = Some(lesser(out[at].standing.at, first));
+        first = Some(earlier(out[at].standing.at, first));
     }
     first
 }
 
-fn lesser(n: u64, other: Option<u64>) -> u64
-    ensures { Some result ≡ lesser n other }
+/// The earlier of two moments, of which there may be one alone.
+fn earlier(n: u64, other: Option<u64>) -> u64
+    ensures { result ≡ earlier n other }
 {
     match other {
         None => n,
@@ -230,6 +231,8 @@ impl Lanes for MemoryLanes {
     ghost width = { λ l. l.width };
 
     ghost seconds = { λ l. l.seconds };
+
+    ghost due_by = { λ _ by l. earlier by (first_at l.out) };
 
     fn port(&self) -> u16 {
         8200
@@ -261,5 +264,17 @@ impl Lanes for MemoryLanes {
     fn wait(&mut self, alloc: Global, now: u64, until: u64) -> Result<Vec<Answered>, AllocError> {
         let moment = up_to(now, until, first_at(&self.out));
         take_out(alloc, &mut self.out, moment)
+    }
+
+    fn go_on(&mut self, alloc: Global, now: u64) -> Result<Vec<Answered>, AllocError> {
+        take_out(alloc, &mut self.out, now)
+    }
+
+    fn due(&self, _now: u64, by: u64) -> u64 {
+        earlier(by, first_at(&self.out))
+    }
+
+    fn forget(&mut self) {
+        self.out.clear();
     }
 }

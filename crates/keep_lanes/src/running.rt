@@ -1,10 +1,10 @@
 //! Lanes over connections, whatever these are.
-ghost use Rattle.std.specs.Prelude.{◌≡◌, ◌++◌, ◌∷◌, ◌*◌, ◌-◌, ◌<◌, [], None, Some, Bool, IfOk, IfSome, IsTrue, OnErr, OnOk, false, length, min, max, vec_len};
+ghost use Rattle.std.specs.Prelude.{◌≡◌, ◌++◌, ◌∷◌, ◌*◌, ◌-◌, ◌<◌, ◌≤◌, [], None, Some, Bool, IfOk, IfSome, IsTrue, OnErr, OnOk, false, length, min, max, vec_len};
 ghost use Rattle.std.specs.List.{list_all, list_any};
 ghost use Rattle.keep_device.specs.declared.limits.TheConstants.{MOST_ROOM};
 ghost use Rattle.keep_lanes.specs.Tries.{KeepsDials};
 ghost use Rattle.keep_lanes.specs.code.Seats.{outs};
-ghost use Rattle.keep_lanes.specs.code.Ways.{Begins, Move, is_over, soonest};
+ghost use Rattle.keep_lanes.specs.code.Ways.{AreAhead, Begins, Move, due, is_over, soonest};
 ghost use Rattle.vault_http.specs.RoundTripRequest.{IsWritable};
 ghost use Rattle.vault_http.specs.Written.{request_text};
 
@@ -74,12 +74,31 @@ impl<W: Wires> LanesOver<W> {
             }
             let passed = pass(&mut self.wires, &self.out, time, by);
             time = time.max(now.saturating_add(passed));
-            go_on(alloc, &self.wires, &mut self.out, &mut self.room, time)?;
+            go_on(
+                alloc,
+                &self.wires,
+                &mut self.out,
+                &mut self.room,
+                time,
+                false,
+            )?;
             if time >= by {
                 break;
             }
         }
         Ok(())
+    }
+
+    /// Each goes on at `now`.
+    fn try_all(&mut self, alloc: Global, now: u64) -> Result<(), AllocError>
+        ensures out { outs (λ _. None) self.new.out.items ≡ outs (λ _. None) self.old.out.items }
+        ensures ahead { OnOk result (AreAhead now self.new.out.items) }
+        ensures seconds { self.new.seconds ≡ self.old.seconds }
+        ensures width { self.new.width ≡ self.old.width }
+        ensures wires { self.new.wires ≡ self.old.wires }
+    {
+        make_room(alloc, &mut self.room)?;
+        go_on(alloc, &self.wires, &mut self.out, &mut self.room, now, true)
     }
 }
 
@@ -154,13 +173,26 @@ fn pass<W: Wires>(wires: &mut W, out: &[Seat<Way<W::Line>>], time: u64, by: u64)
     wires.wait(millis)
 }
 
-/// Each of them goes on that may, or has come to its deadline.
+/// The moment by which they have to be looked at again, and no later than `by`.
+fn due<L: Line + Drop>(out: &[Seat<Way<L>>], now: u64, by: u64) -> u64
+    ensures due { result ≡ due L.restless now by out.now }
+    ensures within { result ≤ by }
+{
+    if has_answer(out) {
+        now.min(by)
+    } else {
+        soonest(out, now, by)
+    }
+}
+
+/// Each of them goes on that may, or has come to its deadline. All of them may, or those that can by what the last wait told.
 fn go_on<W: Wires>(
     alloc: Global,
     wires: &W,
     out: &mut [Seat<Way<W::Line>>],
     room: &mut [u8],
     time: u64,
+    may_all: bool,
 ) -> Result<(), AllocError>
     requires room { 0 < length room.old }
     ensures room { length room.new ≡ length room.old }
@@ -168,7 +200,7 @@ fn go_on<W: Wires>(
     ensures out { outs (λ _. None) out.new ≡ outs (λ _. None) out.old }
 {
     for seat in out.iter_mut() {
-        let is_ready = wires.is_ready(seat.index);
+        let is_ready = may_all || wires.is_ready(seat.index);
         seat.standing.go_on(alloc, room, is_ready, time)?;
     }
     Ok(())
@@ -184,6 +216,8 @@ impl<W: Wires> Lanes for LanesOver<W> {
     ghost seconds = { λ lanes. lanes.seconds };
 
     ghost host_port = { λ lanes. W.host_port lanes.wires };
+
+    ghost due_by = { λ now by lanes. due W.Line.restless now by lanes.out.items };
 
     fn port(&self) -> u16 {
         self.wires.port()
@@ -205,5 +239,18 @@ impl<W: Wires> Lanes for LanesOver<W> {
     fn wait(&mut self, alloc: Global, now: u64, until: u64) -> Result<Vec<Answered>, AllocError> {
         self.listen(alloc, now, until)?;
         take_out(alloc, &mut self.out, now)
+    }
+
+    fn go_on(&mut self, alloc: Global, now: u64) -> Result<Vec<Answered>, AllocError> {
+        self.try_all(alloc, now)?;
+        take_out(alloc, &mut self.out, now)
+    }
+
+    fn due(&self, now: u64, by: u64) -> u64 {
+        due(&self.out, now, by)
+    }
+
+    fn forget(&mut self) {
+        self.out.clear();
     }
 }

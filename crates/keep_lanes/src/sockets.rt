@@ -1,20 +1,20 @@
 //! Connections of the system, which tells by `mio` when they can go on.
 ghost use Rattle.std.specs.Prelude.{◌≡◌, [], IfOk, max, min};
-ghost use Rattle.keep_exchange.specs.Abreast.{port_of};
-ghost use Rattle.keep_exchange.specs.Sockets.{IsHere};
+ghost use Rattle.keep_exchange.specs.Sockets.{IsHere, port_of};
 ghost use Rattle.keep_lanes.specs.Tries.{IsTried};
 
 use crate::lanes::Lanes;
 use crate::line::{Line, Tried, Wires};
 use crate::running::LanesOver;
+use crate::way::RESTLESS;
 use keep_device::Place;
 use mio::net::{TcpStream, UnixStream};
-use mio::{Events, Interest, Poll, Token};
+use mio::{Events, Interest, Poll, Registry, Token};
 use std::alloc::{AllocError, Global};
-use std::io;
 use std::io::{ErrorKind, Read, Write};
 use std::net::{IpAddr, Ipv4Addr, Net, SocketAddr};
 use std::time::{Clock, Duration};
+use std::{io, thread};
 
 /// Lanes to the broker that listens at a port of 127.0.0.1 or on a UNIX socket, over plain HTTP, with a connection for each
 /// request.
@@ -35,7 +35,27 @@ impl<'a, R: Net + Clock> LanesOver<SocketWires<'a, R>> {
         ensures seconds { IfOk result (λ lanes. ⟦<LanesOver<SocketWires<'a, R>> as Lanes>⟧.seconds lanes ≡ seconds) }
         ensures port { IfOk result (λ lanes. ⟦<LanesOver<SocketWires<'a, R>> as Lanes>⟧.host_port lanes ≡ port_of place.entry) }
     {
-        let wires = SocketWires::new(alloc, rt, place)?;
+        let wires = SocketWires::new(alloc, rt, place, Poll::new(rt).ok(), None)?;
+        Ok(LanesOver::new(alloc, wires, seconds, width))
+    }
+
+    /// The same for a caller that waits by itself: its wait is to end for what is registered there, and then they go on (see
+    /// [`Lanes::go_on`]). Each connection is registered under the index of its request. Without a registry nothing tells of
+    /// them, and they are due every 20 ms. [`Lanes::wait`] would try them again and again.
+    pub fn over_registry(
+        alloc: Global,
+        rt: &'a R,
+        place: Place<'a>,
+        seconds: u32,
+        width: u32,
+        registry: Option<Registry>,
+    ) -> Result<SocketLanes<'a, R>, AllocError>
+        ensures none { IfOk result (λ lanes. ⟦<LanesOver<SocketWires<'a, R>> as Lanes>⟧.out lanes ≡ []) }
+        ensures width { IfOk result (λ lanes. ⟦<LanesOver<SocketWires<'a, R>> as Lanes>⟧.width lanes ≡ max 1 (min width 32)) }
+        ensures seconds { IfOk result (λ lanes. ⟦<LanesOver<SocketWires<'a, R>> as Lanes>⟧.seconds lanes ≡ seconds) }
+        ensures port { IfOk result (λ lanes. ⟦<LanesOver<SocketWires<'a, R>> as Lanes>⟧.host_port lanes ≡ port_of place.entry) }
+    {
+        let wires = SocketWires::new(alloc, rt, place, None, registry)?;
         Ok(LanesOver::new(alloc, wires, seconds, width))
     }
 }
@@ -45,38 +65,55 @@ impl<'a, R: Net + Clock> LanesOver<SocketWires<'a, R>> {
 pub struct SocketWires<'a, R> {
     rt: &'a R,
     place: Place<'a>,
-    /// Made for the first connection. Where the system gives none, connections are tried again and again.
+    /// What waits for them. Where there is none, somebody else waits, or connections are tried again and again.
     poll: Option<Poll>,
     events: Events,
+    /// Where somebody else waits: of whom.
+    registry: Option<Registry>,
     /// The monotonic clock where time is counted from, and the milliseconds since.
     began: Duration,
     passed: u64,
 }
 
 impl<'a, R: Net + Clock> SocketWires<'a, R> {
-    fn new(alloc: Global, rt: &'a R, place: Place<'a>) -> Result<SocketWires<'a, R>, AllocError>
+    fn new(
+        alloc: Global,
+        rt: &'a R,
+        place: Place<'a>,
+        poll: Option<Poll>,
+        registry: Option<Registry>,
+    ) -> Result<SocketWires<'a, R>, AllocError>
         ensures { IfOk result (λ wires. wires.place ≡ place.entry) }
     {
         Ok(SocketWires {
             rt,
             place,
-            poll: Poll::new(rt).ok(),
+            poll,
             events: Events::with_capacity(alloc, MOST_EVENTS)?,
+            registry,
             began: Duration::ZERO,
             passed: 0,
         })
     }
 
+    /// Where connections are registered.
+    fn registry(&self) -> Option<&Registry> {
+        match &self.poll {
+            Some(poll) => Some(poll.registry()),
+            None => self.registry.as_ref(),
+        }
+    }
+
     /// Has the connection told of under this index.
     fn register(&self, stream: &mut Stream, index: u32) -> bool {
-        let Some(poll) = &self.poll else {
+        let Some(registry) = self.registry() else {
             return false;
         };
         let token = Token(index as usize);
         let both = Interest::READABLE | Interest::WRITABLE;
         match stream {
-            Stream::Tcp(stream) => poll.registry().register(stream, token, both).is_ok(),
-            Stream::Unix(stream) => poll.registry().register(stream, token, both).is_ok(),
+            Stream::Tcp(stream) => registry.register(stream, token, both).is_ok(),
+            Stream::Unix(stream) => registry.register(stream, token, both).is_ok(),
             Stream::Full | Stream::Absent => false,
         }
     }
@@ -110,8 +147,11 @@ impl<'a, R: Net + Clock> Wires for SocketWires<'a, R> {
 
     fn wait(&mut self, millis: u64) -> u64 {
         self.events.clear();
-        if let Some(poll) = &mut self.poll {
-            let _ended = poll.poll(&mut self.events, Some(Duration::from_millis(millis)));
+        match &mut self.poll {
+            Some(poll) => {
+                let _ended = poll.poll(&mut self.events, Some(Duration::from_millis(millis)));
+            }
+            None => thread::sleep(self.rt, Duration::from_millis(millis.min(RESTLESS))),
         }
         let passed = match self.rt.monotonic() {
             Ok(now) => millis_of(now.saturating_sub(self.began)),
@@ -122,9 +162,11 @@ impl<'a, R: Net + Clock> Wires for SocketWires<'a, R> {
     }
 
     fn is_ready(&self, index: u32) -> bool {
-        self.events
-            .iter()
-            .any(|event| event.token() == Token(index as usize))
+        self.poll.is_none()
+            || self
+                .events
+                .iter()
+                .any(|event| event.token() == Token(index as usize))
     }
 }
 

@@ -1,3 +1,4 @@
 pub mod Cut
 pub mod LineByLine
 pub mod LinesRead
+pub mod Wording

@@ -2,12 +2,19 @@
 //!
 //! The contract for the layers above: what lines mean is said by a [`Hearer`], and [`listen`] hears the lines of an input until it
 //! ends, fails or passes its [`Limits`], or until a line stops it. Begin with `specs/Hearing`, then `specs/Listening`.
+//!
+//! The lines that `run` and `watch` share are here too: `tick` and `need`, which they hear ([`heard_in`]), and the names and
+//! numbers of those that they write (`text`).
 #![tactic(auto)]
 
+mod event_line;
 mod hearer;
 mod limits;
 mod listening;
+mod text;
 
+pub use event_line::{Heard, heard_in};
 pub use hearer::Hearer;
 pub use limits::{Limits, MOST_LINE, ROOM, limits_law};
 pub use listening::listen;
+pub use text::{name_of, push_name, push_numbered, push_wake};

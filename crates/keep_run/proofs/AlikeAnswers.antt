@@ -29,13 +29,15 @@ use Rattle.keep_core.proofs.Once.{once}
 use Rattle.keep_core.proofs.Shaped.{shape}
 use Rattle.keep_exchange.specs.Exchanges.{Behind}
 use Rattle.keep_exchange.specs.Requests.{reply_in, request_of}
-use Rattle.keep_run.specs.Alike.{AreBrokersAlike, AreTablesAlike, IsKept}
+use Rattle.keep_alike.specs.Alike.{AreBrokersAlike, AreTablesAlike, IsKept}
 use Rattle.keep_run.specs.Closed.{AreAnswered, Exchanged, IsAnswered, World, closing, event_in, taken, told_next}
 use Rattle.keep_run.specs.Replies.{event_of, refuses, told_by}
 use Rattle.keep_run.specs.Stops.{both}
-use Rattle.keep_run.specs.Text.{answer_line, answer_text, line, name_of, short_lines, status_in}
-use Rattle.keep_run.proofs.AlikeKept.{kept_shaped, renewals_both}
-use Rattle.keep_run.proofs.AlikeSteps.{AnswersOf, OutcomesOf}
+use Rattle.keep_lines.specs.Text.{line, name_of}
+use Rattle.keep_run.specs.Text.{answer_line, answer_text, short_lines, status_in}
+use Rattle.keep_alike.specs.Answers.{AnswersOf, OutcomesOf}
+use Rattle.keep_alike.proofs.Kept.{renewals_both}
+use Rattle.keep_run.proofs.Shaped.{kept_shaped}
 use Rattle.keep_run.proofs.OneAnswer.{asked_known, table_after}
 use Rattle.keep_run.proofs.Replying.{sent_told}
 

@@ -18,11 +18,12 @@ use Rattle.keep_core.specs.State.{State, unplanned}
 use Rattle.keep_core.proofs.Once.{once}
 use Rattle.keep_core.proofs.Orders.{replan_once}
 use Rattle.keep_core.proofs.Shaped.{replanned, same as same_shape}
-use Rattle.keep_run.specs.Alike.{AreBrokersAlike, AreRowsAlike, AreTablesAlike, IsKept}
+use Rattle.keep_alike.specs.Alike.{AreBrokersAlike, AreRowsAlike, AreTablesAlike, IsKept}
 use Rattle.keep_run.specs.Closed.{Beat, Course, IsClosedRun, IsOpening, Played, World, requests_of, rounds, taken}
 use Rattle.keep_run.specs.Stops.{IsStopped, both}
 use Rattle.keep_run.specs.Text.{beat_text, course_text, done_text, short_lines}
-use Rattle.keep_run.proofs.AlikeKept.{kept_itself, kept_shaped}
+use Rattle.keep_alike.proofs.Kept.{kept_itself}
+use Rattle.keep_run.proofs.Shaped.{kept_shaped}
 use Rattle.keep_run.proofs.AlikeRuns.{Compared, compare}
 use Rattle.keep_run.proofs.Goes.{joins, wakes_join}
 use Rattle.keep_run.proofs.NextAsks.{no_more, round_more}

@@ -16,16 +16,16 @@ use Rattle.keep_core.specs.State.{State}
 use Rattle.keep_core.proofs.Once.{once}
 use Rattle.keep_core.proofs.Shaped.{shape}
 use Rattle.keep_exchange.specs.Exchanges.{Behind}
-use Rattle.keep_run.specs.Alike.{AreBrokersAlike, IsKept}
+use Rattle.keep_alike.specs.Alike.{AreBrokersAlike, IsKept}
 use Rattle.keep_run.specs.Secrecy.{AlikeAnswersLaw, AreSidesAlike}
 use Rattle.keep_run.specs.Closed.{Exchanged, World, next_by, taken}
-use Rattle.keep_run.specs.declared.live.event_line.Heard.{Heard}
-use Rattle.keep_run.specs.declared.live.event_line.Heard.TheVariants.{Tick, Need, Unknown}
+use Rattle.keep_lines.specs.declared.event_line.Heard.{Heard}
+use Rattle.keep_lines.specs.declared.event_line.Heard.TheVariants.{Tick, Need, Unknown}
 use Rattle.keep_run.specs.Listening.{AreHeard, IsLineHeard}
 use Rattle.keep_run.specs.Hearing.{IsHeard, IsNeeded, TicksLive, last_line, next_line}
 use Rattle.keep_run.specs.Stops.{both}
 use Rattle.keep_run.specs.Text.{beat_text, inventory_with, short_lines}
-use Rattle.keep_run.proofs.AlikeKept.{kept_shaped}
+use Rattle.keep_run.proofs.Shaped.{kept_shaped}
 use Rattle.keep_run.proofs.AlikeRuns.{beats_both}
 
 -- a tick before the last moment is no step

@@ -6,13 +6,13 @@ use Rattle.keep_core.specs.State.{State, unplanned}
 use Rattle.keep_core.proofs.Shaped.{replanned}
 use Rattle.keep_start.specs.Start.{from_start}
 use Rattle.keep_start.proofs.Started.{shaped_start}
-use Rattle.keep_run.specs.Alike.{IsKept}
+use Rattle.keep_alike.specs.Alike.{IsKept}
 use Rattle.keep_run.specs.Closed.{World, taken}
 use Rattle.keep_run.specs.Listening.{AreHeard}
 use Rattle.keep_run.specs.LiveRun.{IsLiveRun}
 use Rattle.keep_run.specs.Looking.{Looked}
 use Rattle.keep_run.specs.Secrecy.{AlikeRunsLaw, AlikeSoFarLaw, AlikeWholeLaw, Begins}
-use Rattle.keep_run.proofs.AlikeKept.{kept_shaped}
+use Rattle.keep_run.proofs.Shaped.{kept_shaped}
 use Rattle.keep_run.proofs.AlikeLines.{alike_answers}
 use Rattle.keep_run.proofs.AlikeLookups.{opened_both, opened_looked}
 use Rattle.vault_json.specs.Laws.{LookedLeaseIsRead}

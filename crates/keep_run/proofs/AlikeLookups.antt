@@ -1,10 +1,8 @@
 -- Alike lookups: over two brokers whose tables differ in credentials alone, lookups make of two inventories that do the same, and
 -- a run is opened by one text.
-use Rattle.std.proofs.Common.{◌≡◌, ◌∙◌, ◌==◌, ℕ, zero, suc, ◌+◌, ◌<◌, ◌≤◌, ◌^◌, Bool, true, false, cond, is_none, List, [], ◌∷◌, ◌++◌, Option, Some, None, IfSome, Result, Ok, Err, IsUtf8, bytes_eq, length, nat_le, option_map, refl, sym, ap, ap₂, subst, arith}
+use Rattle.std.proofs.Common.{◌≡◌, ◌∙◌, ◌==◌, ℕ, zero, suc, ◌+◌, ◌<◌, ◌≤◌, Bool, true, false, cond, is_none, List, [], ◌∷◌, ◌++◌, Option, Some, None, IfSome, Result, Ok, Err, bytes_eq, length, nat_le, option_map, refl, sym, ap, subst, arith}
 use Rattle.std.proofs.lemmas.Bool.{cond-true}
-use Rattle.std.proofs.lemmas.Bool.Decides.{nat_tests}
 use Rattle.std.proofs.lemmas.List.Elements.{All-head, All-nil, All-cons, All-tail}
-use Rattle.std.specs.Cmp.Lexicographic.{bytes_decides}
 use Rattle.std.specs.List.{All, range_with_len}
 use Rattle.keep_core.specs.Replan.{Replan}
 use Rattle.keep_core.specs.State.{State, unplanned}
@@ -13,16 +11,14 @@ use Rattle.keep_exchange.specs.declared.fault.ExchangeFault.{ExchangeFault}
 use Rattle.keep_exchange.specs.declared.fault.ExchangeFault.TheVariants.{Http}
 use Rattle.keep_exchange.specs.Exchanges.{Behind, IsExchanged, received, reply_of, wire_of}
 use Rattle.keep_exchange.specs.Lookups.{IsLookedUp, applied, behind_if, looked, lookup_in}
-use Rattle.keep_exchange.specs.Requests.{Fits, lookup_of, looked_as}
-use Rattle.keep_exchange.proofs.Lengths.{looked_lease_short, ok_short, reply_short, status_short}
+use Rattle.keep_exchange.specs.Requests.{lookup_of, looked_as}
 use Rattle.keep_inventory.specs.Inventories.{IsInventory, Inventory, credential_at, terms_at}
 use Rattle.keep_inventory.specs.Lookup.{lookup_fault, told, told_entry, told_terms}
 use Rattle.keep_inventory.specs.declared.lookup.LookupFault.{LookupFault}
 use Rattle.keep_inventory.specs.declared.lookup.LookupFault.TheVariants.{OtherEntry, OtherKind}
 use Rattle.keep_inventory.specs.declared.terms.Terms.{Terms}
-use Rattle.keep_inventory.proofs.Inventories.{credential_text, sendable_at}
+use Rattle.keep_inventory.proofs.Inventories.{credential_text}
 use Rattle.keep_moment.specs.declared.moment.TheConstants.{LAST}
-use Rattle.keep_moment.specs.Rfc3339.{face}
 use Rattle.keep_tree.specs.declared.entry.Entry.{Entry}
 use Rattle.keep_tree.specs.declared.entry.Kind.{Kind}
 use Rattle.keep_tree.specs.declared.entry.Kind.TheVariants.{Token, Lease}
@@ -49,56 +45,18 @@ use Rattle.vault_json.specs.Laws.{LookedLeaseIsRead}
 use Rattle.vault_json.specs.Lookup.{lookup_lease_answer}
 use Rattle.vault_json.specs.Written.{looked_self_text}
 use Rattle.keep_start.specs.Start.{from_start}
-use Rattle.keep_run.specs.Alike.{AreBrokersAlike, AreDated, AreTablesAlike, IsKept}
+use Rattle.keep_alike.specs.Alike.{AreBrokersAlike, AreDated, AreTablesAlike, IsKept}
 use Rattle.keep_run.specs.Closed.{World, taken}
 use Rattle.keep_run.specs.LiveRun.{IsLiveOpening}
 use Rattle.keep_run.specs.Looking.{AreLookedUp, Looked, first, looked_text}
 use Rattle.keep_run.specs.Secrecy.{AlikeLookupsLaw, AlikeOpeningsLaw, AreLookedAlike, AreSidesAlike}
 use Rattle.keep_run.specs.Text.{short_lines}
-use Rattle.keep_run.proofs.AlikeKept.{kept_itself, kept_with}
-use Rattle.keep_run.proofs.AlikeLooks.{look_for, looks_both}
-use Rattle.keep_run.proofs.AlikeSteps.{AnswersOf, by_kind}
-use Rattle.keep_run.proofs.Dated.{Speaks, if_both, step_dated}
-
--- ---- what is received
-
-pub fits_received : (reply : Reply) → Fits (served.Reply reply) → received (served.Reply reply) ≡ Ok reply
-fits_received reply fits =
-    let test : nat_le (length (reply_text reply)) MOST_MESSAGE ≡ true = grind (arith, fits, nat_tests) in
-    cond-true (nat_le (length (reply_text reply)) MOST_MESSAGE) (Ok reply) (Err (Http https.TooLong)) test
-
-pub reply_of_parts : (x y : Reply) → y.status ≡ x.status → y.body ≡ x.body → y ≡ x
-reply_of_parts x y status body = ap₂ (λ n bs. record { status = n; body = bs }) status body
-
-pub small : (end t : ℕ) → seconds_to end t < 2 ^ 32
-small end t = omega arith
-
--- what a lookup of a lease tells, and that its reply is received
-abbrev pub lease_told : List ℕ → Row → ℕ → Lookup
-lease_told id row t = lookups.Lease id row.issued row.renewable (seconds_to row.end t)
-
-pub lease_read : LookedLeaseIsRead → (id : List ℕ) (t : ℕ) (row : Row) (reply : Reply) → row.credential ≡ id → IsUtf8 id → length id ≤ 256 → row.issued ≤ LAST → Tells t LookupLease row (served.Reply reply) →
-    (received (served.Reply reply) ≡ Ok reply) × (lookup_lease_answer reply.body ≡ Ok (lease_told id row t))
-unfolding IsBody
-lease_read read id t row reply same text brief early is =
-    let n = seconds_to row.end t in
-    let body = is.1 in
-    let twenty : length (face body.1.0 84 ++ 90 ∷ []) ≡ 20 = refl in
-    let short : length reply.body ≤ 2000 =
-    subst (λ (bs : List ℕ). length bs ≤ 2000) (sym body.2) (looked_lease_short row.credential body.0 row.renewable n (subst (λ (bs : List ℕ). length bs ≤ 256) (sym same) brief) (subst (λ (bs : List ℕ). length bs ≤ 20) (sym body.1.4) (omega (arith, twenty))) (small row.end t)) in (
-      fits_received reply (reply_short reply (status_short reply.status 200 is.0 ok_short) short),
-      read reply.body row.credential row.issued row.renewable n (subst IsUtf8 (sym same) text) early (small row.end t) body ∙ ap (λ c. Ok (lease_told c row t)) same,
-    )
-
-pub brief : (v : Inventory) → IsInventory v → (i : ℕ) → i < length v.forest.entries → length (credential_at v.credentials i) ≤ 256
-brief v is i within = (sendable_at v.credentials i (omega (arith, within, is.credentials)) is.sendable).1
-
--- the lookup of a lease that tells its own id is taken
-pub own_lease : (v : Inventory) (i : ℕ) (id : List ℕ) (issued ttl : ℕ) (renewable : Bool) → credential_at v.credentials i ≡ id → (entry_at v.forest.entries i).kind ≡ Lease → lookup_fault v i (lookups.Lease id issued renewable ttl) ≡ None
-unfolding lookup_fault
-own_lease v i id issued ttl renewable same lease =
-    ap (λ k. cond (is_lease k) (cond (bytes_eq (credential_at v.credentials i) id) None (Some OtherEntry)) (Some OtherKind)) lease
-    ∙ cond-true (bytes_eq (credential_at v.credentials i) id) None (Some OtherEntry) ((bytes_decides (credential_at v.credentials i) id).1 same)
+use Rattle.keep_alike.proofs.Kept.{kept_itself, kept_with}
+use Rattle.keep_alike.specs.Answers.{AnswersOf, Speaks, look_for}
+use Rattle.keep_alike.proofs.Dated.{if_both, step_dated}
+use Rattle.keep_alike.proofs.Looks.{looks_both}
+use Rattle.keep_alike.proofs.Received.{brief, lease_read, lease_told, own_lease, reply_of_parts}
+use Rattle.keep_alike.proofs.Steps.{by_kind}
 
 -- ---- what a lookup leaves of the forest
 

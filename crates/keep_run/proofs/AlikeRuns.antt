@@ -15,12 +15,12 @@ use Rattle.keep_core.specs.State.{State}
 use Rattle.keep_core.proofs.Once.{once}
 use Rattle.keep_core.proofs.Shaped.{shape}
 use Rattle.keep_exchange.specs.Exchanges.{Behind}
-use Rattle.keep_run.specs.Alike.{AreBrokersAlike, IsKept}
+use Rattle.keep_alike.specs.Alike.{AreBrokersAlike, IsKept}
 use Rattle.keep_run.specs.Closed.{AreAnswered, Beat, Exchanged, IsBeat, Played, World, asked_in, asks_some, closing, next_by, next_tick, requests_of, rounds, taken}
 use Rattle.keep_run.specs.Stops.{both}
 use Rattle.keep_run.specs.Text.{answer_text, beat_text, short_lines, wake_line}
 use Rattle.keep_run.proofs.AlikeAnswers.{answers_both}
-use Rattle.keep_run.proofs.AlikeKept.{kept_shaped}
+use Rattle.keep_run.proofs.Shaped.{kept_shaped}
 use Rattle.keep_run.proofs.Within.{asked_within}
 
 -- told by the names of a forest that has kept what this one had

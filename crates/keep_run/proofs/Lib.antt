@@ -10,7 +10,6 @@ pub mod Whole
 pub mod Loops
 pub mod Refusing
 pub mod OneAnswer
-pub mod Wording
 pub mod Within
 pub mod Texts
 pub mod InForce
@@ -29,11 +28,7 @@ pub mod LiveOpening
 pub mod LineByLine
 pub mod ToldRounds
 pub mod LiveListening
-pub mod AlikeRows
-pub mod AlikeSteps
-pub mod AlikeLooks
-pub mod AlikeKept
-pub mod Dated
+pub mod Shaped
 pub mod AlikeLookups
 pub mod AlikeAnswers
 pub mod AlikeRuns

@@ -1,5 +1,5 @@
 -- LineByLine: what was sent after what was sent before, and one event line.
-use Rattle.std.proofs.Common.{◌≡◌, ℕ, inl, inr, IsTrue, List, [], ◌++◌, Some, OnOk, Result, Ok, Err, refl, sym, ap, ◌∙◌, subst}
+use Rattle.std.proofs.Common.{◌≡◌, ℕ, inl, inr, IsTrue, List, ◌++◌, Some, OnOk, Result, Ok, Err, sym, ap, ◌∙◌, subst}
 use Rattle.std.proofs.KnownBytes.{Appends-trans}
 use Rattle.std.specs.Io.KnownBytes.{Appends}
 use Rattle.keep_device.specs.Seen.{Change, Seen}
@@ -11,8 +11,8 @@ use Rattle.keep_report.specs.Sent.{IsAll}
 use Rattle.keep_run.specs.code.Telling.{IsSent}
 use Rattle.keep_run.specs.Listening.{hearing}
 use Rattle.keep_run.specs.Hearing.{HearsTo, IsReady}
-use Rattle.keep_run.specs.EventLines.{heard_in}
-use Rattle.keep_run.specs.declared.live.event_line.Heard.{Heard}
+use Rattle.keep_lines.specs.EventLines.{heard_in}
+use Rattle.keep_lines.specs.declared.event_line.Heard.{Heard}
 use Rattle.keep_run.specs.Closed.{World}
 
 -- ---- what was sent, and then more

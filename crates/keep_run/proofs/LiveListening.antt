@@ -13,7 +13,7 @@ use Rattle.keep_inventory.specs.declared.fault.InvFault.{InvFault}
 use Rattle.keep_inventory.specs.declared.fault.InvFault.TheVariants as faults
 use Rattle.keep_inventory.specs.Inventory.{read_served}
 use Rattle.keep_inventory.specs.Served.{Served}
-use Rattle.keep_start.specs.Start.{marks}
+use Rattle.keep_served.specs.ForGood.{marks}
 use Rattle.keep_report.specs.declared.exit.Exit.{Exit}
 use Rattle.keep_report.specs.declared.exit.Exit.TheVariants as exits
 use Rattle.keep_report.specs.declared.stop.Stop.{Stop}

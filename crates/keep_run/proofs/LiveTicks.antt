@@ -16,7 +16,7 @@ use Rattle.keep_inventory.specs.Inventories.{Inventory}
 use Rattle.keep_report.specs.declared.stop.Stop.{Stop}
 use Rattle.keep_run.specs.Closed.{AreAnswered, Beat, Exchanged, IsBeat, World, asked_in, asks_some, closing, taken}
 use Rattle.keep_run.specs.Hearing.{IsReady, IsUnderWay, TicksLive, TicksSoFar, TicksUpTo, last_line, next_line, tick_text}
-use Rattle.keep_run.specs.declared.live.event_line.Heard.TheVariants.{Need}
+use Rattle.keep_lines.specs.declared.event_line.Heard.TheVariants.{Need}
 use Rattle.keep_run.specs.code.Telling.{IsRoundSoFar, IsRoundUpTo, StopsNeed, TellsRound}
 use Rattle.keep_run.specs.code.Playing.{AnswersAll, IsPlanFault, Ticks, stop_of}
 use Rattle.keep_run.specs.Stops.{both}

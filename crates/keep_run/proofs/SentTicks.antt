@@ -1,8 +1,8 @@
 -- SentTicks: what is sent of an event, whole or cut short: the lines before the first request, those of each answer, and the last.
 use Rattle.std.proofs.Common.{◌≡◌, ℕ, ◌<◌, inl, inr, codes, false, IsTrue, List, [], ◌++◌, Option, Result, Ok, Err, refl, sym, ap, ◌∙◌, subst, take}
-use Rattle.std.proofs.KnownBytes.{Appends-nil, Keeps-refl}
+use Rattle.std.proofs.KnownBytes.{Appends-nil}
 use Rattle.std.proofs.lemmas.List.{append-nil, append_assoc}
-use Rattle.std.specs.Io.KnownBytes.{Appends, Keeps}
+use Rattle.std.specs.Io.KnownBytes.{Appends}
 use Rattle.keep_device.specs.Seen.{Change, Seen}
 use Rattle.keep_core.specs.declared.event.Output.{Output}
 use Rattle.keep_core.specs.declared.event.Output.TheVariants as out
@@ -15,9 +15,9 @@ use Rattle.keep_report.specs.Sent.{Sends}
 use Rattle.keep_run.specs.Closed.{World, asked_in, asks_some}
 use Rattle.keep_run.specs.code.Telling.{IsSent}
 use Rattle.keep_run.specs.Hearing.{HearsTo, IsBrokenOff, IsCutOff, IsHeard, IsHeardUpTo, IsNeeded, IsOverlong, MayWant, last_line, next_line}
-use Rattle.keep_run.specs.declared.live.event_line.Heard.{Heard}
-use Rattle.keep_run.specs.declared.live.event_line.Heard.TheVariants as heards
-use Rattle.keep_run.specs.declared.live.event_line.Heard.TheVariants.{Need}
+use Rattle.keep_lines.specs.declared.event_line.Heard.{Heard}
+use Rattle.keep_lines.specs.declared.event_line.Heard.TheVariants as heards
+use Rattle.keep_lines.specs.declared.event_line.Heard.TheVariants.{Need}
 use Rattle.keep_run.specs.code.Telling.{IsRoundBroken, IsRoundCut, StopsNeed, TellsRound}
 use Rattle.keep_run.specs.code.Playing.{Ticks}
 use Rattle.keep_run.specs.Stops.{both}

@@ -12,7 +12,8 @@ use Rattle.keep_core.specs.declared.event.Output.TheVariants as out
 use Rattle.keep_core.specs.declared.shortened.ShortNeed.{ShortNeed}
 use Rattle.keep_run.specs.Closed.{Beat, Exchanged, event_in}
 use Rattle.keep_run.specs.Replies.{event_of}
-use Rattle.keep_run.specs.Text.{answer_line, answer_text, beat_text, line, name_of, names_of, short_line, short_lines, status_in, wake_line}
+use Rattle.keep_lines.specs.Text.{line, name_of, names_of}
+use Rattle.keep_run.specs.Text.{answer_line, answer_text, beat_text, short_line, short_lines, status_in, wake_line}
 
 module _ (g h : Forest) (like : IsShaped g h) where
   same_name : (i : ℕ) → name_of h i ≡ name_of g i

@@ -17,11 +17,12 @@ use Rattle.keep_report.specs.declared.stop.Stop.{Stop}
 use Rattle.keep_report.specs.declared.stop.Stop.TheVariants as stops
 use Rattle.keep_report.specs.Sent.{IsAll, IsUntouched}
 use Rattle.keep_run.specs.Closed.{AreAnswered, Beat, Exchanged, IsBeat, World, asked_in, asks_some, closing, taken}
-use Rattle.keep_run.specs.declared.live.event_line.Heard.{Heard}
-use Rattle.keep_run.specs.declared.live.event_line.Heard.TheVariants.{Tick, Need, Unknown}
+use Rattle.keep_lines.specs.declared.event_line.Heard.{Heard}
+use Rattle.keep_lines.specs.declared.event_line.Heard.TheVariants.{Tick, Need, Unknown}
 use Rattle.keep_run.specs.Stops.{both}
 use Rattle.vault_http.specs.declared.reply.Reply.{Reply}
-use Rattle.keep_run.specs.Text.{answer_text, beat_text, inventory_with, line, short_lines}
+use Rattle.keep_lines.specs.Text.{line}
+use Rattle.keep_run.specs.Text.{answer_text, beat_text, inventory_with, short_lines}
 
 -- ---- lines
 

@@ -7,13 +7,11 @@ pub mod Stops
 pub mod FaultWords
 pub mod Rehearse
 pub mod PlannedRehearsal
-pub mod EventLines
 pub mod Agent
 pub mod Hearing
 pub mod Looking
 pub mod Listening
 pub mod StopsAfter
 pub mod LiveRun
-pub mod Alike
 pub mod Secrecy
 pub mod code

@@ -1,6 +1,6 @@
 -- Listening: event lines, one after another: what they mean, which are heard, and how listening ends.
 -- Source: this project's own.
-use Rattle.std.specs.Prelude.{◌≡◌, ℕ, ◌⊎◌, IsTrue, List, Option, None, Some, Result}
+use Rattle.std.specs.Prelude.{◌≡◌, ℕ, ◌⊎◌, IsTrue, List, None, Some, Result}
 use Rattle.keep_device.specs.Seen.{Change, Receives}
 use Rattle.keep_device.specs.Failures.{HasFailed}
 use Rattle.keep_lines.specs.Hearing.{Hearing}
@@ -9,10 +9,10 @@ use Rattle.keep_lines.specs.declared.limits.Limits.{Limits}
 use Rattle.keep_report.specs.declared.stop.Stop.{Stop}
 use Rattle.keep_report.specs.declared.stop.Stop.TheVariants as stops
 use Rattle.keep_report.specs.Sent.{IsAll}
-use Rattle.keep_run.specs.declared.live.event_line.Heard.{Heard}
+use Rattle.keep_lines.specs.declared.event_line.Heard.{Heard}
 use Rattle.keep_run.specs.declared.live.listening.TheConstants.{MOST_EVENTS, MOST_EVENT_READS}
 use Rattle.keep_run.specs.Closed.{World}
-use Rattle.keep_run.specs.EventLines.{heard_in}
+use Rattle.keep_lines.specs.EventLines.{heard_in}
 use Rattle.keep_run.specs.Hearing.{IsBrokenOff, IsCutOff, IsHeard, IsOverlong}
 
 -- ---- lines

@@ -11,7 +11,8 @@ use Rattle.keep_device.specs.Whole.{MakesAtMost}
 use Rattle.keep_exchange.specs.Exchanges.{Behind}
 use Rattle.keep_inventory.specs.Inventory.{read_served}
 use Rattle.keep_inventory.specs.Served.{Served}
-use Rattle.keep_start.specs.Start.{from_start, marks}
+use Rattle.keep_served.specs.ForGood.{marks}
+use Rattle.keep_start.specs.Start.{from_start}
 use Rattle.keep_lines.specs.Hearing.{IsBetween}
 use Rattle.keep_lines.specs.Listening.{IsPrompt}
 use Rattle.keep_report.specs.declared.exit.Exit.{Exit}

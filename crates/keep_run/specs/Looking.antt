@@ -11,7 +11,7 @@ use Rattle.keep_report.specs.declared.stop.Stop.{Stop}
 use Rattle.keep_report.specs.declared.stop.Stop.TheVariants as stops
 use Rattle.keep_report.specs.Sent.{IsAll, IsUntouched}
 use Rattle.keep_run.specs.Hearing.{entry_line}
-use Rattle.keep_run.specs.Text.{name_of}
+use Rattle.keep_lines.specs.Text.{name_of}
 use Rattle.keep_tree.specs.Forest.{entry_at}
 
 -- an inventory, and what stands after the exchange over which it is looked up, where that is known

@@ -6,7 +6,7 @@ use Rattle.keep_inventory.specs.Inventories.{Inventory, IsInventory}
 use Rattle.keep_inventory.specs.declared.terms.Terms.{Terms}
 use Rattle.keep_exchange.specs.Exchanges.{Behind}
 use Rattle.keep_exchange.specs.Lookups.{IsLookedUp}
-use Rattle.keep_run.specs.Alike.{AreBrokersAlike, AreDated, AreTablesAlike, IsKept}
+use Rattle.keep_alike.specs.Alike.{AreBrokersAlike, AreDated, AreTablesAlike, IsKept}
 use Rattle.keep_run.specs.Closed.{World}
 use Rattle.keep_run.specs.Listening.{AreHeard}
 use Rattle.keep_run.specs.LiveRun.{IsLiveOpening, IsLiveRun}

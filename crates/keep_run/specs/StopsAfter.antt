@@ -10,7 +10,7 @@ use Rattle.keep_lines.proofs.LineByLine.{appends_then, said_appends}
 use Rattle.keep_report.specs.declared.stop.Stop.TheVariants as stops
 use Rattle.keep_run.specs.Listening.{IsCutShort, hearing}
 use Rattle.keep_run.specs.Hearing.{IsBrokenOff, IsCutOff}
-use Rattle.keep_run.specs.declared.live.event_line.Heard.{Heard}
+use Rattle.keep_lines.specs.declared.event_line.Heard.{Heard}
 use Rattle.keep_run.specs.Closed.{World}
 
 module _ (a b : Change) (same : a.new ≡ b.old) where

@@ -2,7 +2,8 @@
 -- Source: this project's own.
 use Rattle.std.specs.Prelude.{ℕ, List, [], ◌∷◌, ◌++◌, Option, Some, None, codes, decimal, length}
 use Rattle.std.specs.List.{flat_map}
-use Rattle.keep_tree.specs.Forest.{Forest, entry_at}
+use Rattle.keep_lines.specs.Text.{line, name_of, names_of}
+use Rattle.keep_tree.specs.Forest.{Forest}
 use Rattle.keep_inventory.specs.Inventories.{Inventory}
 use Rattle.vault_http.specs.declared.reply.Reply.{Reply}
 use Rattle.keep_core.specs.declared.event.Event.{Event}
@@ -15,19 +16,6 @@ use Rattle.keep_run.specs.Closed.{Beat, Course, Exchanged, event_in, requests_of
 -- an inventory of these credentials and this forest
 abbrev pub inventory_with : List (List ℕ) → Forest → Inventory
 inventory_with cs g = record { forest = g; credentials = cs; terms = [] }
-
--- words parted by one space, and a line feed after the last
-abbrev pub line : List (List ℕ) → List ℕ
-line [] = 10 ∷ []
-line (w ∷ []) = w ++ 10 ∷ []
-line (w ∷ ws) = w ++ (32 ∷ line ws)
-
-abbrev pub name_of : Forest → ℕ → List ℕ
-name_of g i = (entry_at g.entries i).name
-
-abbrev pub names_of : Forest → List ℕ → List (List ℕ)
-names_of g [] = []
-names_of g (i ∷ is) = name_of g i ∷ names_of g is
 
 -- each need that was shortened
 abbrev pub short_line : Forest → ShortNeed → List ℕ

@@ -18,9 +18,7 @@ mod live;
 mod rehearse;
 
 pub use agent::Agent;
-pub use agent::lines::push_numbered;
 pub use agent::reply::event_from;
-pub use live::event_line::{Heard, heard_in};
 pub use live::hearing::hear;
 pub use live::listening::{MOST_EVENT_READS, MOST_EVENTS};
 pub use live::run_live;

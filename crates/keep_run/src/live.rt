@@ -4,7 +4,6 @@ ghost use Rattle.std.specs.Result.{IfErr};
 ghost use Rattle.keep_run.specs.Hearing.{IsReady};
 ghost use Rattle.keep_run.specs.LiveRun.{EndsEarly, IsOpened, LiveRun, LivesTo};
 
-pub(crate) mod event_line;
 pub(crate) mod hearing;
 pub(crate) mod listening;
 mod looking;
@@ -21,7 +20,8 @@ use keep_exchange::Exchange;
 use keep_inventory::{Inventory, read_served};
 use keep_moment::Moment;
 use keep_report::{Exit, Stop, send};
-use keep_start::{marks, need_always};
+use keep_served::marks;
+use keep_start::need_always;
 use std::alloc::Global;
 
 /// Keeps the entries of an inventory alive: looks each of them up at `start`, takes event lines, and renews over the exchange.

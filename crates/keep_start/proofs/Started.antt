@@ -1,10 +1,8 @@
 -- Started: what is read from a start on is an inventory, and what differs from the one that was read is its needs alone.
-use Rattle.std.proofs.Common.{◌≡◌, ℕ, zero, suc, ◌+◌, ◌<◌, ◌≤◌, Bool, true, false, cond, List, [], ◌∷◌, ◌++◌, get_or, length, map, take, Some, None, Option, Result, Ok, Err, refl, sym, ap, ◌∙◌, subst, arith}
+use Rattle.std.proofs.Common.{◌≡◌, ℕ, zero, suc, ◌+◌, ◌≤◌, Bool, true, false, cond, List, [], ◌∷◌, length, Some, None, Option, Ok, refl, sym, ap, ◌∙◌, subst, arith}
 use Rattle.std.proofs.lemmas.Bool.{cond-true}
-use Rattle.std.proofs.lemmas.List.{length-map, map_more, take_all}
-use Rattle.std.proofs.lemmas.List.FromFn.{length-map-range_with_len}
 use Rattle.keep_tree.specs.declared.entry.Entry.{Entry}
-use Rattle.keep_tree.specs.Forest.{Forest, end_of, entry_at}
+use Rattle.keep_tree.specs.Forest.{Forest, end_of}
 use Rattle.keep_tree.specs.Push.{IsForest}
 use Rattle.keep_rule.specs.Unkeepable.{AllKeepable}
 use Rattle.keep_core.specs.Always.{forest_from, is_always, need_from, needs_from}
@@ -18,15 +16,15 @@ use Rattle.keep_inventory.specs.declared.fault.InvFault.TheVariants.{BadValue, M
 use Rattle.keep_inventory.specs.declared.key.Key.TheVariants.{Issued, Need}
 use Rattle.keep_inventory.specs.declared.limits.TheConstants.{SPAN_MAX}
 use Rattle.keep_inventory.specs.declared.note.Note.{Note}
-use Rattle.keep_inventory.specs.Inventories.{IsInventory, Inventory, terms_at}
+use Rattle.keep_inventory.specs.Inventories.{IsInventory, Inventory}
 use Rattle.keep_inventory.specs.Inventory.{read_inventory, read_known, read_served}
-use Rattle.keep_inventory.specs.Served.{IsServed, Served, first_open, first_untold, known_of, open_fault, told_unless, unless, whole_of}
-use Rattle.keep_inventory.specs.Terms.{ceiling_of, step_of}
+use Rattle.keep_inventory.specs.Served.{Served, first_open, first_untold, known_of, told_unless, unless, whole_of}
 use Rattle.keep_inventory.proofs.Barely.{served_secrecy_law}
 use Rattle.keep_inventory.proofs.Chains.{bind_ok, follow}
 use Rattle.keep_inventory.proofs.Inventoried.{served_law}
 use Rattle.keep_start.specs.Laws.{KeptLaw, SecrecyLaw, StartLaw, WholeLaw}
-use Rattle.keep_start.specs.Start.{from_start, inventory_at, marks, need_for_good, needs_for_good, with_needs}
+use Rattle.keep_served.specs.ForGood.{marks, with_needs}
+use Rattle.keep_start.specs.Start.{from_start, inventory_at}
 
 -- ---- what was read before
 
@@ -46,28 +44,6 @@ pub known_at : (s : ℕ) (bytes : List ℕ) (v : Served) → read_known bytes �
 unfolding inventory_at
 known_at s bytes v read = follow _ v _ _ read refl
 
--- ---- marks
-
-pub marks_count : (notes : List Note) → length (marks notes) ≡ length notes
-unfolding marks
-marks_count notes = length-map notes (λ note. note.is_always)
-
-pub marks_none : (notes : List Note) → marks (take 0 notes) ≡ []
-unfolding marks
-marks_none notes = refl
-
-pub marks_more : (notes : List Note) (i : ℕ) (note : Note) → i < length notes → note ≡ get_or notes i note → marks (take (i + 1) notes) ≡ marks (take i notes) ++ note.is_always ∷ []
-unfolding marks
-marks_more notes i note within is = map_more (λ (n : Note). n.is_always) notes i note within ∙ ap (λ (n : Note). map (λ (m : Note). m.is_always) (take i notes) ++ n.is_always ∷ []) (sym is)
-
-pub marks_all : (notes : List Note) (i : ℕ) → length notes ≤ i → marks (take i notes) ≡ marks notes
-marks_all notes i past = ap marks (take_all i notes past)
-
--- there is one for each entry
-pub places : (v : Served) → IsServed v → (always : List Bool) (notes : List Note) (inventory : Inventory) → always ≡ marks notes → notes ≡ v.notes → inventory ≡ v.inventory → length always ≡ length inventory.forest.entries
-places v served always notes inventory are from is =
-    ap (λ bs. length bs) are ∙ marks_count notes ∙ ap (λ (ns : List Note). length ns) from ∙ served.notes ∙ ap (λ (x : Inventory). length x.forest.entries) (sym is)
-
 -- ---- needs that are set
 
 pub needs_set : (v : Inventory) (always : List Bool) (s : ℕ) (needs : List ℕ) → needs ≡ needs_from v.forest always s → with_needs v needs ≡ from_start v always s
@@ -76,10 +52,6 @@ needs_set v always s needs are = ap (λ (g : Forest). record v { forest = g }) (
 
 pub needs_for_each : (g : Forest) (always : List Bool) (s : ℕ) (needs : List ℕ) → needs ≡ needs_from g always s → length needs ≡ length g.entries
 needs_for_each g always s needs are = ap (λ ns. length ns) are ∙ needs_count g always s
-
-pub good_for_each : (g : Forest) (always : List Bool) (needs : List ℕ) → needs ≡ needs_for_good g always → length needs ≡ length g.entries
-unfolding needs_for_good
-good_for_each g always needs are = ap (λ ns. length ns) are ∙ length-map-range_with_len (need_for_good g always) 0 (length g.entries)
 
 -- ---- other needs alone
 

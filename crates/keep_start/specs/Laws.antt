@@ -9,7 +9,8 @@ use Rattle.keep_inventory.specs.Inventories.{IsInventory, Inventory}
 use Rattle.keep_inventory.specs.Inventory.{read_inventory, read_known}
 use Rattle.keep_inventory.specs.Laws.{DifferInCredentials}
 use Rattle.keep_inventory.specs.Served.{Served}
-use Rattle.keep_start.specs.Start.{inventory_at, marks}
+use Rattle.keep_served.specs.ForGood.{marks}
+use Rattle.keep_start.specs.Start.{inventory_at}
 
 -- what is read from a start on is an inventory
 abbrev pub StartLaw : Type 0

@@ -10,4 +10,4 @@ mod start;
 pub use laws::{
     needs_that_are_always_are_kept, starts_are_inventories, whole_inventories_start_as_they_are,
 };
-pub use start::{marks, need_always, read_at, read_for_good};
+pub use start::{need_always, read_at};

@@ -1,6 +1,6 @@
 -- Alike lanes: over brokers whose tables differ in credentials alone, requests that go out leave lanes alike, and the answers that come back
 -- from lanes that are alike say the same. For the law that secrets change no answer.
-use Rattle.std.proofs.Common.{◌≡◌, ◌≢◌, ◌∙◌, ◌==◌, ℕ, suc, ◌+◌, ◌<◌, ◌≤◌, Bool, true, false, not, if◌then◌else◌, List, [], ◌∷◌, ◌++◌, Option, Some, None, IfSome, Err, All, append_assoc, filter, length, map, nat_le, nat_lt, refl, sym, ap, ap₂, subst, arith, inl, inr, true≢false}
+use Rattle.std.proofs.Common.{◌≡◌, ◌∙◌, ◌==◌, ℕ, suc, ◌<◌, ◌≤◌, Bool, true, false, not, if◌then◌else◌, List, [], ◌∷◌, ◌++◌, Option, Some, None, IfSome, Err, All, append_assoc, filter, length, map, nat_le, nat_lt, refl, sym, ap, ap₂, subst, arith, inl, inr, true≢false}
 use Rattle.std.proofs.lemmas.Bool.{cases_Bool, cond-false, cond-true}
 use Rattle.std.proofs.lemmas.List.Elements.{All-head, All-tail, filter_passes}
 use Rattle.std.specs.List.{AllZip}
@@ -10,7 +10,7 @@ use Rattle.keep_inventory.specs.declared.terms.Terms.{Terms}
 use Rattle.keep_lanes.specs.Allowed.{after, first_by}
 use Rattle.keep_lanes.specs.Losses.{Answer}
 use Rattle.keep_lanes.specs.Out as lanes
-use Rattle.keep_lanes.specs.Out.{AreThere, IsBelow, IsOf, IsParted, IsPut, first_at, is_there, is_there_at, lesser, sooner_at, up_to}
+use Rattle.keep_lanes.specs.Out.{AreThere, IsBelow, IsOf, IsParted, IsPut, first_at, is_there, is_there_at, earlier, sooner_at, up_to}
 use Rattle.keep_lanes.specs.Serving.{Comes, IsSentBy, IsServed, allowed, fault_at, later, next_number}
 use Rattle.keep_lanes.specs.declared.allowance.Allowance.{Allowance}
 use Rattle.keep_lanes.specs.declared.coming.Coming.{Coming}
@@ -18,10 +18,10 @@ use Rattle.keep_lanes.specs.declared.fault.LaneFault.{LaneFault}
 use Rattle.keep_lanes.specs.declared.fault.LaneFault.TheVariants.{Refuse, Lose, Hang, Late, Garble, Status}
 use Rattle.keep_lanes.specs.declared.lanes.Answered.{Answered}
 use Rattle.keep_lanes.specs.declared.loss.Loss.TheVariants as losses
-use Rattle.keep_run.specs.Alike.{AreDated, AreTablesAlike, IsKept}
-use Rattle.keep_run.proofs.AlikeKept.{renewals_both}
-use Rattle.keep_run.proofs.AlikeLooks.{looks_both}
-use Rattle.keep_run.proofs.Dated.{step_dated}
+use Rattle.keep_alike.specs.Alike.{AreDated, AreTablesAlike, IsKept}
+use Rattle.keep_alike.proofs.Kept.{renewals_both}
+use Rattle.keep_alike.proofs.Looks.{looks_both}
+use Rattle.keep_alike.proofs.Dated.{step_dated}
 use Rattle.keep_tree.specs.Forest.{Forest}
 use Rattle.mini_broker.specs.Step.{step}
 use Rattle.mini_broker.specs.Table.{Table}
@@ -34,14 +34,16 @@ use Rattle.watch_machine.specs.Sending.{out_at}
 use Rattle.watch_machine.specs.State.{State}
 use Rattle.watch_machine.proofs.Cases.{of_value}
 use Rattle.keep_watching.specs.Alike.{AreLanesAlike, AreOutAlike, inventory_of}
-use Rattle.keep_watching.specs.Answers.{out_of}
-use Rattle.keep_watching.specs.Sending.{GoOut, GoesOut, Lanes, ask_of, message_as, times}
-use Rattle.keep_watching.specs.Told.{loss_in, no_terms, renewal_reply, said_to}
-use Rattle.keep_watching.specs.declared.told.Said.{Said}
+use Rattle.keep_asking.specs.Handing.{out_of}
+use Rattle.keep_asking.specs.Asking.{ask_of, message_as}
+use Rattle.keep_asking.specs.InStep.{times}
+use Rattle.keep_asking.specs.Sending.{GoOut, GoesOut, Lanes}
+use Rattle.keep_asking.specs.Told.{loss_in, no_terms, renewal_reply, said_to}
+use Rattle.keep_asking.specs.declared.told.Said.{Said}
 use Rattle.keep_watching.proofs.AlikeReplies.{LooksSame, RenewsSame, answer_of, loss_same, looks_same, renews_same, status_same}
 use Rattle.keep_watching.proofs.AlikeTaken.{AreToldAlike}
 use Rattle.keep_watching.proofs.Secrets.{cons_tail}
-use Rattle.keep_watching.proofs.Sound.{counts, same_index, skips, times_append, times_cons}
+use Rattle.keep_asking.proofs.Sound.{counts, same_index, skips, times_append, times_cons}
 
 -- ---- one more in a list by rising index
 
@@ -312,7 +314,7 @@ module _ (s u : Inventory) (m : State) where
   first_same (o ∷ os) [] zip = absurd zip
   first_same (o ∷ os) (p ∷ ps) zip =
       let h = zip.0 in
-      ap (λ c. sooner_at c (first_at ps)) h.other_known ∙ ap₂ lesser h.at (first_same os ps zip.1) ∙ sym (ap (λ c. sooner_at c (first_at os)) h.known)
+      ap (λ c. sooner_at c (first_at ps)) h.other_known ∙ ap₂ (λ n o. Some (earlier n o)) h.at (first_same os ps zip.1) ∙ sym (ap (λ c. sooner_at c (first_at os)) h.known)
 
   there_same : (moment now : ℕ) → now ≡ moment → (o p : lanes.Out) → R o p → is_there now p ≡ is_there moment o
   there_same moment now same o p h = ap (is_there_at now) h.other_known ∙ ap₂ nat_le h.at same ∙ sym (ap (is_there_at moment) h.known)

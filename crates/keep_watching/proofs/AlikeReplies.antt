@@ -22,9 +22,9 @@ use Rattle.keep_inventory.specs.declared.lookup.LookupFault.TheVariants.{OtherEn
 use Rattle.keep_inventory.specs.declared.terms.Terms.{Terms}
 use Rattle.keep_inventory.proofs.Inventories.{credential_text}
 use Rattle.keep_moment.specs.declared.moment.TheConstants.{LAST}
-use Rattle.keep_run.proofs.AlikeLooks.{look_for}
-use Rattle.keep_run.proofs.AlikeLookups.{brief, fits_received, lease_read, lease_told, own_lease, reply_of_parts, small}
-use Rattle.keep_run.proofs.AlikeSteps.{AnswersOf, by_kind}
+use Rattle.keep_alike.specs.Answers.{AnswersOf, Speaks, look_for}
+use Rattle.keep_alike.proofs.Received.{brief, fits_received, lease_read, lease_told, own_lease, reply_of_parts, small}
+use Rattle.keep_alike.proofs.Steps.{by_kind}
 use Rattle.keep_tree.specs.declared.entry.Kind.{Kind}
 use Rattle.keep_tree.specs.declared.entry.Kind.TheVariants.{Token, Lease}
 use Rattle.keep_tree.specs.Forest.{Forest, entry_at}
@@ -32,8 +32,8 @@ use Rattle.keep_tree.specs.Push.{is_lease}
 use Rattle.watch_machine.specs.declared.event.Operation.{Operation}
 use Rattle.watch_machine.specs.declared.event.Operation.TheVariants.{Look, Renew}
 use Rattle.watch_machine.specs.declared.event.Reply.TheVariants as replies
-use Rattle.keep_run.proofs.Dated.{Speaks, if_both}
-use Rattle.keep_watching.specs.Told.{end_told, is_of_another, lookup_reply, lookup_terms, loss_in, no_terms, renewal_reply, said_to, terms_told}
+use Rattle.keep_alike.proofs.Dated.{if_both}
+use Rattle.keep_asking.specs.Told.{end_told, is_of_another, lookup_reply, lookup_terms, loss_in, no_terms, renewal_reply, said_to, terms_told}
 use Rattle.mini_broker.specs.declared.call.Call.TheVariants.{LookupSelf, LookupLease}
 use Rattle.mini_broker.specs.declared.refusal.Refusal.{Refusal}
 use Rattle.mini_broker.specs.declared.refusal.Refusal.TheVariants.{UnsupportedPath, UnsupportedMethod, PermissionDenied, BadRequest, UnknownLease, NotRenewable}

@@ -6,7 +6,7 @@ use Rattle.std.specs.List.{AllZip}
 use Rattle.keep_inventory.specs.Inventories.{Inventory}
 use Rattle.keep_inventory.specs.declared.terms.Terms.{Terms}
 use Rattle.keep_lanes.specs.declared.lanes.Answered.{Answered}
-use Rattle.keep_run.specs.Alike.{IsKept}
+use Rattle.keep_alike.specs.Alike.{IsKept}
 use Rattle.keep_tree.specs.Forest.{Forest}
 use Rattle.watch_machine.specs.declared.command.Output.{Output}
 use Rattle.watch_machine.specs.declared.event.Operation.{Operation}
@@ -24,11 +24,12 @@ use Rattle.watch_machine.specs.State.{State}
 use Rattle.watch_machine.specs.Step.{StepLooked, StepRenewed}
 use Rattle.watch_machine.proofs.Cases.{if_both, if_cases, of_value, value_is}
 use Rattle.keep_watching.specs.Alike.{inventory_of}
-use Rattle.keep_watching.specs.Answers.{AreTaken, IsTaken, out_of}
-use Rattle.keep_watching.specs.Told.{event_as, said_to}
+use Rattle.keep_asking.specs.Handing.{out_of}
+use Rattle.keep_watching.specs.Answers.{AreTaken, IsTaken}
+use Rattle.keep_asking.specs.Told.{event_as, said_to}
 use Rattle.keep_watching.proofs.Kept.{TellsNoStep, answer_step, turn_kept}
 use Rattle.keep_watching.proofs.Secrets.{one_taken}
-use Rattle.keep_watching.proofs.Sound.{looked_out}
+use Rattle.keep_asking.proofs.Sound.{looked_out}
 
 -- ---- what is asked of an entry
 
@@ -100,7 +101,7 @@ module _ (P : Operation → Type 0) where
   turn_asks old new Renew j reply terms output turn i h = renewed_asks old new (request_out old.out j Renew) reply output turn.1 i h
 
   taken_asks : (s : Inventory) (x : Answered) (old new : State) (text : List ℕ) → IsTaken s x old new text → (i : ℕ) → Asks old.out i → Asks new.out i
-  taken_asks s x old new text h i asks = turn_asks old new h.request.operation x.index h.said.reply h.said.terms h.output h.turn i asks
+  taken_asks s x old new text h i asks = turn_asks old new h.handed.request.operation x.index h.handed.said.reply h.handed.said.terms h.handed.output h.is.turn i asks
 
   pub all_asks : (s : Inventory) (xs : List Answered) (old new : State) (text : List ℕ) → AreTaken s xs old new text → (i : ℕ) → Asks old.out i → Asks new.out i
   all_asks s [] old new text h i asks = subst (λ (m : State). Asks m.out i) (sym h.0) asks
@@ -128,11 +129,11 @@ module _ (g : Forest) (cs ds : List (List ℕ)) (ts : List Terms) where
 
   both_taken : (x y : Answered) (old new last : State) (text more : List ℕ) → AreToldAlike s u old x y → IsTaken s x old new text → IsTaken u y old last more → (last ≡ new) × (more ≡ text)
   both_taken x y old new last text more alike a b =
-      let found : Some b.request ≡ Some a.request = sym b.is_out ∙ ap (out_of old.out) alike.index ∙ a.is_out in
-      let request : b.request ≡ a.request = value_is b.request a.request found in
-      let says = of_value (λ r. said_to u r.operation x.index y.answer ≡ said_to s r.operation x.index x.answer) (out_of old.out x.index) a.request alike.says a.is_out in
-      let said : b.said ≡ a.said =
-      b.said_is ∙ ap (λ i. said_to u b.request.operation i y.answer) alike.index ∙ ap (λ (r : Out). said_to u r.operation x.index y.answer) request ∙ says ∙ sym a.said_is in
+      let found : Some b.handed.request ≡ Some a.handed.request = sym b.is.is_out ∙ ap (out_of old.out) alike.index ∙ a.is.is_out in
+      let request : b.handed.request ≡ a.handed.request = value_is b.handed.request a.handed.request found in
+      let says = of_value (λ r. said_to u r.operation x.index y.answer ≡ said_to s r.operation x.index x.answer) (out_of old.out x.index) a.handed.request alike.says a.is.is_out in
+      let said : b.handed.said ≡ a.handed.said =
+      b.is.said_is ∙ ap (λ i. said_to u b.handed.request.operation i y.answer) alike.index ∙ ap (λ (r : Out). said_to u r.operation x.index y.answer) request ∙ says ∙ sym a.is.said_is in
       one_taken s u refl x y old old new last text more refl a b alike.index said
 
   pub told_both : (xs ys : List Answered) (old new last : State) (text more : List ℕ) → AllZip (AreToldAlike s u old) xs ys → AreTaken s xs old new text → AreTaken u ys old last more → (last ≡ new) × (more ≡ text)
@@ -151,7 +152,7 @@ module _ (g : Forest) (cs ds : List (List ℕ)) (ts : List Terms) where
   kept_taken [] old new text kept a = subst (λ (x : State). IsKept g x.forest) (sym a.0) kept
   kept_taken (x ∷ xs) old new text kept a =
       let first = a.1.1.1.0 in
-      let operation = first.request.operation in
-      let none : TellsNoStep g (event_as operation x.index first.said.reply first.said.terms) =
-      subst (λ said. TellsNoStep g (event_as operation x.index said.reply said.terms)) (sym first.said_is) (answer_step s operation x.index x.answer) in
-      kept_taken xs a.0 new a.1.1.0 (turn_kept g old a.0 (event_as operation x.index first.said.reply first.said.terms) first.output first.turn none kept) a.1.1.1.1.0
+      let operation = first.handed.request.operation in
+      let none : TellsNoStep g (event_as operation x.index first.handed.said.reply first.handed.said.terms) =
+      subst (λ said. TellsNoStep g (event_as operation x.index said.reply said.terms)) (sym first.is.said_is) (answer_step s operation x.index x.answer) in
+      kept_taken xs a.0 new a.1.1.0 (turn_kept g old a.0 (event_as operation x.index first.handed.said.reply first.handed.said.terms) first.handed.output first.is.turn none kept) a.1.1.1.1.0

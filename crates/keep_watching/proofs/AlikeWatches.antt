@@ -1,13 +1,13 @@
 -- Alike watches: of two watches that are alike, over lanes in memory whose brokers differ in credentials alone, one line makes the same text,
 -- and leaves them alike. For the law that secrets change no answer.
-use Rattle.std.proofs.Common.{◌≡◌, ◌≢◌, ◌∙◌, ℕ, ◌/◌, ◌+◌, ◌-◌, ◌<◌, ◌≤◌, ◌==◌, zero, suc, Bool, true, false, cond, is_some, List, [], ◌∷◌, ◌++◌, Option, Some, None, IfSome, Ok, All, get_or, length, map, refl, sym, ap, ap₂, subst, arith, inl, inr}
+use Rattle.std.proofs.Common.{◌≡◌, ◌≢◌, ◌∙◌, ℕ, ◌/◌, ◌-◌, ◌<◌, ◌≤◌, ◌==◌, zero, suc, Bool, true, false, cond, is_some, List, [], ◌∷◌, ◌++◌, Option, Some, None, IfSome, Ok, All, get_or, length, map, refl, sym, ap, ap₂, subst, arith, inl, inr}
 use Rattle.std.proofs.lemmas.Bool.{cases_Bool, cond-false, cond-true}
 use Rattle.keep_inventory.specs.Inventories.{IsInventory, Inventory}
 use Rattle.keep_inventory.specs.declared.terms.Terms.{Terms}
 use Rattle.keep_lanes.specs.Out as lanes
 use Rattle.keep_lanes.specs.Out.{AreThere}
-use Rattle.keep_run.specs.Alike.{IsKept}
-use Rattle.keep_run.proofs.AlikeKept.{kept_itself}
+use Rattle.keep_alike.specs.Alike.{IsKept}
+use Rattle.keep_alike.proofs.Kept.{kept_itself}
 use Rattle.keep_tree.specs.Forest.{Forest}
 use Rattle.vault_json.specs.Laws.{LookedLeaseIsRead}
 use Rattle.watch_machine.specs.declared.command.Command.TheVariants.{Go}
@@ -27,24 +27,27 @@ use Rattle.watch_machine.specs.State.{State, track_at}
 use Rattle.watch_machine.specs.Step.{readied}
 use Rattle.watch_machine.proofs.Cases.{of_value, value_is}
 use Rattle.keep_watching.specs.Alike.{AlikeWatchesLaw, AreBehindAlike, AreLanesAlike, AreSidesAlike, FreshAlikeLaw, inventory_of}
-use Rattle.keep_watching.specs.Answers.{out_of}
+use Rattle.keep_asking.specs.Handing.{out_of}
 use Rattle.keep_watching.specs.Clocked.{AreTakenOn, IsClocked, IsDone, IsWaited, Side, changed_line, clock_lines, listens_until, said_after, short_lines, side}
 use Rattle.keep_watching.specs.Hears.{IsHeard, IsKnown, IsLineHeard, IsTurned}
 use Rattle.keep_watching.specs.Listening.{AreHeard}
 use Rattle.keep_watching.specs.Lines.{line_in}
-use Rattle.keep_watching.specs.Sending.{GoOut, IsAbreast, IsSound, Lanes, asked_lines, entries_on, entries_out, moment_of, times}
+use Rattle.keep_asking.specs.InStep.{IsAbreast, IsSound, entries_on, entries_out, times}
+use Rattle.keep_asking.specs.Sending.{GoOut, Lanes}
+use Rattle.keep_watching.specs.Sending.{asked_lines, moment_of}
 use Rattle.keep_watching.specs.Texts.{after_clock_line, clock_line, planned_line, unknown_name_line, wait_line}
 use Rattle.keep_watching.specs.Watching.{Watching}
 use Rattle.keep_watching.specs.declared.line.Line.{Line}
 use Rattle.keep_watching.specs.declared.line.Line.TheVariants.{Clock, Need, Begin, Known, Unknown}
-use Rattle.keep_watching.proofs.Abreast.{abreast_fresh, abreast_quiet, abreast_sent, abreast_taken, sent_all}
+use Rattle.keep_asking.proofs.InStep.{abreast_handed_in, abreast_new, abreast_quiet, abreast_sent, sent_all}
+use Rattle.keep_watching.proofs.Answering.{handed_in}
 use Rattle.keep_watching.proofs.AlikeLanes.{back_both, go_both, out_to}
 use Rattle.keep_watching.proofs.AlikeTaken.{all_asks, kept_taken, told_both}
-use Rattle.keep_watching.proofs.Answering.{some_out}
+use Rattle.keep_asking.proofs.AnswersOut.{some_out}
 use Rattle.keep_watching.proofs.Kept.{TellsNoStep, turn_kept}
-use Rattle.keep_watching.proofs.Once.{turn_once}
+use Rattle.keep_asking.proofs.Once.{turn_once}
 use Rattle.keep_watching.proofs.Secrets.{requests_in, there_once, until_in}
-use Rattle.keep_watching.proofs.Sound.{Gone, IsQuiet, counts, readied_left, same_index, times_cons, turn_begin, turn_gone, turn_known, turn_need}
+use Rattle.keep_asking.proofs.Sound.{Gone, IsQuiet, counts, readied_left, same_index, times_cons, turn_begin, turn_gone, turn_known, turn_need}
 
 -- ---- what is asked while more goes out
 
@@ -159,7 +162,7 @@ module _ (g : Forest) (cs ds : List (List ℕ)) (ts : List Terms) (one : IsInven
               (record {
                 machine = told.0;
                 kept = kept_taken g cs ds ts x.answers k n x.told kept x.taken;
-                abreast = own_width n k.width new.lanes.out (abreast_taken s k n k.width a.out x.answers new.lanes.out x.told abreast first.parted x.taken);
+                abreast = own_width n k.width new.lanes.out (abreast_handed_in s k n k.width a.out x.answers new.lanes.out abreast first.parted (handed_in s x.answers k n x.told x.taken));
                 lanes = record { behind = behind; out = out; seconds = ap (λ (l : Lanes). l.seconds) second.rest ∙ alike.seconds ∙ sym (ap (λ (l : Lanes). l.seconds) first.rest) };
               }),
         )
@@ -301,6 +304,6 @@ fresh_alike g cs ds ts width seconds a b alike = record {
   inventory = refl;
   other_is = refl;
   kept = kept_itself g;
-  abreast = abreast_fresh (inventory_of g cs ts) width [] refl;
+  abreast = abreast_new g width;
   lanes = record { behind = alike; out = tt; seconds = refl };
 }

@@ -1,196 +1,32 @@
--- Answering: answers are taken one after another, and what is then out: for `answer`, `take_answers` and `take_on`.
-use Rattle.std.proofs.Common.{◌≡◌, ◌≢◌, ◌∙◌, ℕ, suc, ◌+◌, ◌<◌, ◌≤◌, ◌==◌, ◌&&◌, Bool, true, false, cond, List, [], ◌∷◌, ◌++◌, Option, Some, None, IfSome, Ok, append_assoc, find, length, map, nat_le, refl, sym, ap, subst, arith, inl, inr}
-use Rattle.std.proofs.lemmas.Bool.{cases_Bool, cond-false, cond-true, eqb-true}
-use Rattle.std.proofs.lemmas.Bool.Decides.{nat_tests}
+-- Answering: answers are taken one after another, with their lines: for `answer` and `take_answers`.
+use Rattle.std.proofs.Common.{◌≡◌, ◌≢◌, ◌∙◌, ℕ, List, [], ◌∷◌, ◌++◌, None, append_assoc, refl, sym, ap, subst}
 use Rattle.std.proofs.lemmas.List.{append-nil as append_nil}
+use Rattle.keep_asking.specs.Handing.{AreHandedIn, IsHandedIn, out_of}
+use Rattle.keep_asking.specs.InStep.{AreOut, IsSound}
+use Rattle.keep_asking.specs.declared.handing.HandedIn.{HandedIn}
+use Rattle.keep_asking.proofs.AnswersOut.{next_out}
 use Rattle.keep_inventory.specs.Inventories.{Inventory}
 use Rattle.keep_lanes.specs.declared.lanes.Answered as lanes
-use Rattle.watch_machine.specs.declared.command.Output.{Output}
-use Rattle.watch_machine.specs.declared.event.Operation.{Operation}
-use Rattle.watch_machine.specs.declared.event.Operation.TheVariants.{Look, Renew}
-use Rattle.watch_machine.specs.declared.event.Reply.{Reply}
-use Rattle.watch_machine.specs.declared.event.Terms.{Terms}
-use Rattle.watch_machine.specs.declared.fault.WatchFault.TheVariants.{BadIndex, NotAsked}
-use Rattle.watch_machine.specs.declared.lanes.Out.{Out}
-use Rattle.watch_machine.specs.History.{Turn}
-use Rattle.watch_machine.specs.Refusal.{is_same, refusal, request_out, unless_some}
-use Rattle.watch_machine.specs.State.{State, track_at}
-use Rattle.keep_run.specs.Text.{name_of}
-use Rattle.keep_watching.specs.Answers.{Appended, AreTaken, IsTaken, noted_lines, out_of, reply_lines}
-use Rattle.keep_watching.specs.Sending.{AreOut, IsSound, entries_of, entries_out, times}
-use Rattle.keep_watching.specs.Told.{event_as, said_to}
+use Rattle.keep_lines.specs.Text.{name_of}
+use Rattle.watch_machine.specs.State.{State}
+use Rattle.keep_watching.specs.Answers.{Appended, AreTaken, IsTaken, noted_lines, reply_lines}
 use Rattle.keep_watching.specs.Watching.{Watching}
-use Rattle.keep_watching.specs.declared.told.Said.{Said}
-use Rattle.keep_watching.proofs.Sound.{Answered, counts, marked_within, same_index, skips, times_append, turn_looked, turn_renewed}
-
--- ---- the request that an answer is to
-
--- an entry that is out of some has a request among them
-pub some_out : (out : List Out) (i : ℕ) → 0 < times i (map (λ (r : Out). r.entry) out) → out_of out i ≢ None
-some_out [] i some = absurd (omega (arith, some))
-some_out (r ∷ out) i some =
-    elim (cases_Bool (r.entry == i)) [
-      | inl same ↦ λ none. (let bad : Some r ≡ None = sym (cond-true (r.entry == i) (Some r) (out_of out i) same) ∙ none in cc)
-      | inr other ↦
-          let fewer = skips i r.entry (map (λ (q : Out). q.entry) out) other in
-          let rest = some_out out i (omega (arith, some, fewer)) in
-          λ none. rest (sym (cond-false (r.entry == i) (Some r) (out_of out i) other) ∙ none)
-    ]
-
--- and the contrary
-counted_out : (out : List Out) (i : ℕ) → out_of out i ≢ None → 0 < times i (map (λ (r : Out). r.entry) out)
-counted_out [] i some = absurd (some refl)
-counted_out (r ∷ out) i some =
-    elim (cases_Bool (r.entry == i)) [
-      | inl same ↦ (let more = counts i r.entry (map (λ (q : Out). q.entry) out) same in omega (arith, more))
-      | inr other ↦
-          let fewer = skips i r.entry (map (λ (q : Out). q.entry) out) other in
-          let rest = counted_out out i (λ none. some (cond-false (r.entry == i) (Some r) (out_of out i) other ∙ none)) in
-          omega (arith, rest, fewer)
-    ]
-
-same_self : (operation : Operation) → is_same operation operation ≡ true
-same_self Look = refl
-same_self Renew = refl
-
--- the machine finds it by what was asked
-asked_out : (out : List Out) (i : ℕ) (q : Out) → out_of out i ≡ Some q → request_out out i q.operation ≢ None
-unfolding request_out
-asked_out [] i q is = absurd cc
-asked_out (r ∷ out) i q is =
-    let test : Out → Bool = λ o. o.entry == i && is_same o.operation q.operation in
-    elim (cases_Bool (r.entry == i)) [
-      | inl same ↦
-          let found : Some r ≡ Some q = sym (cond-true (r.entry == i) (Some r) (out_of out i) same) ∙ is in
-          let operation : r.operation ≡ q.operation = ap (λ (o : Option Out). elim o [ None ↦ q.operation | Some x ↦ x.operation ]) found in
-          let passes : test r ≡ true = ap (λ b. b && is_same r.operation q.operation) same ∙ ap (is_same r.operation) (sym operation) ∙ same_self r.operation in
-          λ none. (let bad : Some r ≡ None = sym (cond-true (test r) (Some r) (find test out) passes) ∙ none in cc)
-      | inr other ↦
-          let rest = asked_out out i q (sym (cond-false (r.entry == i) (Some r) (out_of out i) other) ∙ is) in
-          let fails : test r ≡ false = ap (λ b. b && is_same r.operation q.operation) other in
-          λ none. rest (sym (cond-false (test r) (Some r) (find test out) fails) ∙ none)
-    ]
-
--- it is of an entry
-pub out_within : (m : State) (i : ℕ) → IsSound m → out_of m.out i ≢ None → i < length m.forest.entries
-out_within m i sound some =
-    let there = counted_out m.out i some in
-    let once = sound.once i in
-    elim (cases_Bool (track_at m i).out) [
-      | inl marked ↦ (let within = marked_within m.tracks i marked in let n = sound.count in omega (arith, within, n))
-      | inr free ↦ absurd (let none : times i (entries_out m) ≤ 0 = subst (λ (b : Bool). times i (entries_out m) ≤ cond b 1 0) free once in omega (arith, none, there))
-    ]
-
-asked_free : (m : State) (i : ℕ) (operation : Operation) → i < length m.forest.entries → request_out m.out i operation ≢ None → cond (nat_le (length m.forest.entries) i) (Some BadIndex) (unless_some (request_out m.out i operation)) ≡ None
-asked_free m i operation within some =
-    let test : nat_le (length m.forest.entries) i ≡ false = grind (arith, nat_tests) in
-    cond-false (nat_le (length m.forest.entries) i) (Some BadIndex) (unless_some (request_out m.out i operation)) test ∙ there (request_out m.out i operation) some where
-      there : (o : Option Out) → o ≢ None → unless_some o ≡ None
-      there None h = absurd (h refl)
-      there (Some r) h = refl
-
-free_by : (m : State) (i : ℕ) (operation : Operation) (reply : Reply) (terms : Terms) → i < length m.forest.entries → request_out m.out i operation ≢ None → refusal m (event_as operation i reply terms) ≡ None
-unfolding refusal
-free_by m i Look reply terms within some = asked_free m i Look within some
-free_by m i Renew reply terms within some = asked_free m i Renew within some
-
--- the event of an answer to it is not refused
-pub answer_free :
-    (m : State) (i : ℕ) (operation : Operation) (reply : Reply) (terms : Terms) → IsSound m → out_of m.out i ≢ None → IfSome (out_of m.out i) (λ (r : Out). operation ≡ r.operation) →
-    refusal m (event_as operation i reply terms) ≡ None
-answer_free m i operation reply terms sound some asked = by (out_of m.out i) refl some asked where
-  by : (o : Option Out) → out_of m.out i ≡ o → o ≢ None → IfSome o (λ (r : Out). operation ≡ r.operation) → refusal m (event_as operation i reply terms) ≡ None
-  by None is there same = absurd (there refl)
-  by (Some q) is there same = free_by m i operation reply terms (out_within m i sound some) (subst (λ (o : Operation). request_out m.out i o ≢ None) (sym same) (asked_out m.out i q is))
 
 -- ---- an answer is taken
 
 pub taken_made :
-    (s : Inventory) (a : lanes.Answered) (old new : State) (operation : Operation) (said : Said) (output : Output) (first mid last : List ℕ) → out_of old.out a.index ≢ None →
-    IfSome (out_of old.out a.index) (λ (r : Out). operation ≡ r.operation) → said ≡ said_to s operation a.index a.answer → Turn old (event_as operation a.index said.reply said.terms) (Ok output) new →
-    mid ≡ first ++ reply_lines (name_of s.forest a.index) new operation a.index said → last ≡ mid ++ noted_lines (name_of s.forest a.index) new output.notes → Appended first last (IsTaken s a old new)
-taken_made s a old new operation said output first mid last some asked said_is turn told noted = by (out_of old.out a.index) refl some asked where
-  by : (o : Option Out) → out_of old.out a.index ≡ o → o ≢ None → IfSome o (λ (r : Out). operation ≡ r.operation) → Appended first last (IsTaken s a old new)
-  by None is there same = absurd (there refl)
-  by (Some q) is there same =
-      let name = name_of s.forest a.index in
-      let lines = reply_lines name new q.operation a.index said in
-      let notes = noted_lines name new output.notes in (
-        lines ++ notes,
-        (
-          record {
-            request = q;
-            is_out = is;
-            said = said;
-            said_is = said_is ∙ ap (λ (o : Operation). said_to s o a.index a.answer) same;
-            output = output;
-            turn = subst (λ (o : Operation). Turn old (event_as o a.index said.reply said.terms) (Ok output) new) same turn;
-            text_is = refl;
-          },
-          noted ∙ ap (λ t. t ++ notes) (told ∙ ap (λ (o : Operation). first ++ reply_lines name new o a.index said) same) ∙ append_assoc first lines notes,
-        ),
-      )
+    (s : Inventory) (a : lanes.Answered) (old new : State) (handed : HandedIn) (first mid last : List ℕ) → IsHandedIn s a old handed new →
+    mid ≡ first ++ reply_lines (name_of s.forest a.index) new handed.request.operation a.index handed.said → last ≡ mid ++ noted_lines (name_of s.forest a.index) new handed.output.notes → Appended first last (IsTaken s a old new)
+taken_made s a old new handed first mid last is told noted =
+    let name = name_of s.forest a.index in
+    let lines = reply_lines name new handed.request.operation a.index handed.said in
+    let notes = noted_lines name new handed.output.notes in
+    (lines ++ notes, (record { handed = handed; is = is; text_is = refl }, noted ∙ ap (λ t. t ++ notes) told ∙ append_assoc first lines notes))
 
--- ---- what is then out
-
-turned : (old new : State) (operation : Operation) (i : ℕ) (reply : Reply) (terms : Terms) (output : Output) → Turn old (event_as operation i reply terms) (Ok output) new → IsSound old → Answered old i new
-turned old new Look i reply terms output turn sound = turn_looked old new i reply terms output turn sound
-turned old new Renew i reply terms output turn sound = turn_renewed old new i reply output turn sound
-
-taken_one : (s : Inventory) (a : lanes.Answered) (old new : State) (text : List ℕ) → IsTaken s a old new text → IsSound old → Answered old a.index new
-taken_one s a old new text h sound = turned old new h.request.operation a.index h.said.reply h.said.terms h.output h.turn sound
-
--- answers were taken, each to another request that was out: the others are out
-pub record AreOver (old : State) (answers : List lanes.Answered) (new : State) : Type 0 where
-  pub width : new.width ≡ old.width
-  pub each : (i : ℕ) → times i (entries_out new) + times i (entries_of answers) ≡ times i (entries_out old)
-  pub count : length new.out + length answers ≡ length old.out
-  pub sound : IsSound new
-
-flag_most : (b : Bool) → cond b 1 0 ≤ 1
-flag_most true = omega arith
-flag_most false = omega arith
-
-pub are_over : (s : Inventory) (answers : List lanes.Answered) (old new : State) (text : List ℕ) → AreTaken s answers old new text → IsSound old → AreOut old answers → AreOver old answers new
-are_over s [] old new text h sound out =
-    subst (AreOver old []) (sym h.0) (record { width = refl; each = λ i. omega arith; count = omega arith; sound = sound })
-are_over s (a ∷ rest) old new text h sound out =
-    let mid = h.0 in
-    let one = taken_one s a old mid h.1.0 h.1.1.1.0 sound in
-    let own = one.own in
-    let first = counts a.index a.index (entries_of rest) (same_index a.index) in
-    let there = out a.index in
-    let once = sound.once a.index in
-    let most = flag_most (track_at old a.index).out in
-    let single : times a.index (entries_out old) ≡ 1 = omega (arith, first, there, once, most) in
-    let left : AreOut mid rest = λ i. elim (cases_Bool (a.index == i)) [
-      | inl same ↦
-          let none : times i (entries_of rest) ≤ times i (entries_out mid) = subst (λ k. times k (entries_of rest) ≤ times k (entries_out mid)) (eqb-true a.index i same) (omega (arith, first, there, single, own)) in
-          none
-      | inr other ↦
-          let fewer = skips i a.index (entries_of rest) other in
-          let as_was = one.others i other in
-          let all = out i in
-          omega (arith, fewer, as_was, all)
-    ] in
-    let more = are_over s rest mid new h.1.1.0 h.1.1.1.1.0 one.sound left in
-    let count = more.count in
-    let one_count = one.count in
-    record {
-      width = more.width ∙ one.width;
-      each = λ i. elim (cases_Bool (a.index == i)) [
-        | inl same ↦
-            subst (λ k. times k (entries_out new) + times k (entries_of (a ∷ rest)) ≡ times k (entries_out old)) (eqb-true a.index i same)
-            (let all = more.each a.index in omega (arith, all, first, single, own))
-        | inr other ↦
-            let all = more.each i in
-            let fewer = skips i a.index (entries_of rest) other in
-            let as_was = one.others i other in
-            omega (arith, all, fewer, as_was)
-      ];
-      count = omega (arith, count, one_count, single);
-      sound = more.sound;
-    }
+-- answers that are taken are handed in
+pub handed_in : (s : Inventory) (answers : List lanes.Answered) (old new : State) (text : List ℕ) → AreTaken s answers old new text → AreHandedIn s answers old new
+handed_in s [] old new text h = h.0
+handed_in s (a ∷ rest) old new text h = (h.0, (h.1.1.1.0.handed, (h.1.1.1.0.is, handed_in s rest h.0 new h.1.1.0 h.1.1.1.1.0)))
 
 -- ---- taking answers one after another
 
@@ -229,18 +65,4 @@ pub taking_next :
     (old : Watching) (answers : List lanes.Answered) (before : List ℕ) (now : Watching) (text : List ℕ) (a : lanes.Answered) (later all : List lanes.Answered) → IsTaking old answers before now text →
     answers ++ a ∷ later ≡ all → IsSound old.machine → AreOut old.machine all → (out_of now.machine.out a.index ≢ None) × IsSound now.machine
 taking_next old answers before now text a later all h is sound out =
-    let i = a.index in
-    let split : (k : ℕ) → times k (entries_of (answers ++ a ∷ later)) ≡ times k (entries_of answers) + times k (entries_of (a ∷ later)) = λ k. ap (times k) (entries_append answers (a ∷ later)) ∙ times_append k (entries_of answers) (entries_of (a ∷ later)) in
-    let so_far : AreOut old.machine answers = λ k.
-    (let most : times k (entries_of (answers ++ a ∷ later)) ≤ times k (entries_out old.machine) = subst (λ xs. times k (entries_of xs) ≤ times k (entries_out old.machine)) (sym is) (out k) in
-    let parts = split k in
-    omega (arith, most, parts)) in
-    let over = are_over old.inventory answers old.machine now.machine h.told h.taken sound so_far in
-    let most : times i (entries_of (answers ++ a ∷ later)) ≤ times i (entries_out old.machine) = subst (λ xs. times i (entries_of xs) ≤ times i (entries_out old.machine)) (sym is) (out i) in
-    let parts = split i in
-    let first = counts i i (entries_of later) (same_index i) in
-    let each = over.each i in
-    (some_out now.machine.out i (omega (arith, most, parts, first, each)), over.sound) where
-      entries_append : (xs ys : List lanes.Answered) → entries_of (xs ++ ys) ≡ entries_of xs ++ entries_of ys
-      entries_append [] ys = refl
-      entries_append (x ∷ xs) ys = ap (λ ns. x.index ∷ ns) (entries_append xs ys)
+    next_out old.inventory answers old.machine now.machine a later all (handed_in old.inventory answers old.machine now.machine h.told h.taken) is sound out

@@ -15,7 +15,8 @@ use Rattle.watch_machine.specs.State.{State}
 use Rattle.watch_machine.specs.Step.{StepCommand, readied}
 use Rattle.keep_watching.specs.Answers.{Appended, AreTaken}
 use Rattle.keep_watching.specs.Clocked.{AreTakenOn, IsClocked, IsDone, IsNextThere, IsWaited, changed_line, clock_lines, clocked, listens_until, said_after, short_lines, side}
-use Rattle.keep_watching.specs.Sending.{AreHandedBack, GoOut, Lanes, asked_lines, moment_of}
+use Rattle.keep_asking.specs.Sending.{AreHandedBack, GoOut, Lanes}
+use Rattle.keep_watching.specs.Sending.{asked_lines, moment_of}
 use Rattle.keep_watching.specs.Texts.{clock_line, wait_line}
 use Rattle.keep_watching.specs.Watching.{Watching}
 

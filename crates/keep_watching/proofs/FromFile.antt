@@ -10,7 +10,7 @@ use Rattle.keep_report.specs.Exits.{exit_of, stop_of_input}
 use Rattle.keep_report.specs.FaultLine.{fault_line}
 use Rattle.keep_report.specs.Sent.{IsUntouched}
 use Rattle.keep_report.specs.Told.{Reports}
-use Rattle.keep_watching.specs.Sending.{Lanes}
+use Rattle.keep_asking.specs.Sending.{Lanes}
 use Rattle.keep_watching.specs.WatchFrom.{WatchFrom}
 
 pub unread_file :

@@ -11,8 +11,8 @@ use Rattle.keep_lanes.specs.Losses.{Answer}
 use Rattle.keep_lanes.specs.declared.heard.Heard.{Heard}
 use Rattle.keep_lanes.specs.declared.heard.Heard.TheVariants as heard
 use Rattle.keep_moment.specs.declared.moment.TheConstants.{LAST}
-use Rattle.keep_run.specs.Alike.{IsKept}
-use Rattle.keep_run.proofs.AlikeKept.{kept_with}
+use Rattle.keep_alike.specs.Alike.{IsKept}
+use Rattle.keep_alike.proofs.Kept.{kept_with}
 use Rattle.keep_tree.specs.declared.entry.Kind.{Kind}
 use Rattle.keep_tree.specs.declared.entry.Kind.TheVariants.{Lease}
 use Rattle.keep_tree.specs.Forest.{Forest, entry_at}
@@ -42,8 +42,8 @@ use Rattle.watch_machine.specs.State.{State, entry_of}
 use Rattle.watch_machine.specs.Step.{Step, StepCommand, StepLooked, StepRenewed, readied}
 use Rattle.watch_machine.proofs.Cases.{if_both}
 use Rattle.watch_machine.proofs.Within.{asked_none, out_entry, within_none}
-use Rattle.keep_watching.specs.Told.{event_as, is_of_another, lookup_terms, no_terms, said_to, step_in, terms_told}
-use Rattle.keep_watching.proofs.Sound.{readied_left}
+use Rattle.keep_asking.specs.Told.{event_as, is_of_another, lookup_terms, no_terms, said_to, step_in, terms_told}
+use Rattle.keep_asking.proofs.Sound.{readied_left}
 
 -- ---- an event
 

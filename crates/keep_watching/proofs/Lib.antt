@@ -1,16 +1,13 @@
 pub mod WatchEnding
 pub mod Saying
 pub mod Wording
-pub mod Sound
 pub mod Turns
 pub mod Answering
-pub mod Abreast
 pub mod News
 pub mod Clocks
 pub mod Taking
 pub mod LineByLine
 pub mod RunOfMachine
-pub mod Once
 pub mod Secrets
 pub mod Kept
 pub mod AlikeReplies

@@ -1,5 +1,5 @@
 -- LineByLine: one line, and why listening stops.
-use Rattle.std.proofs.Common.{◌≡◌, ℕ, OnOk, inl, inr, List, [], None, Some, Result, Ok, Err, refl, subst, sym}
+use Rattle.std.proofs.Common.{◌≡◌, ℕ, OnOk, inl, inr, List, [], Some, Result, Ok, Err, subst, sym}
 use Rattle.keep_device.specs.Seen.{Change}
 use Rattle.keep_lines.specs.Hearing.{HearsLine}
 use Rattle.keep_lines.proofs.LineByLine.{untouched_appends}

@@ -34,7 +34,7 @@ and_then old mid new h k =
 by_answers : (s : Inventory) (xs : List Answered) (old new : State) (text : List ℕ) → AreTaken s xs old new text → LeadsTo old new
 by_answers s [] old new text h = nowhere old new h.0
 by_answers s (x ∷ xs) old new text h =
-    and_then old h.0 new (by_turn old h.0 _ h.1.1.1.0.output h.1.1.1.0.turn) (by_answers s xs h.0 new h.1.1.0 h.1.1.1.1.0)
+    and_then old h.0 new (by_turn old h.0 _ h.1.1.1.0.handed.output h.1.1.1.0.is.turn) (by_answers s xs h.0 new h.1.1.0 h.1.1.1.1.0)
 
 by_done : (out : List Out) (elapsed until : ℕ) (old new : Side) (text : List ℕ) → IsDone out elapsed until old new text → LeadsTo old.watching.machine new.watching.machine
 by_done [] elapsed until old new text h = nowhere old.watching.machine new.watching.machine (ap (λ (w : Watching). w.machine) h.0.new_is)

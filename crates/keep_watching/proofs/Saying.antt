@@ -1,8 +1,8 @@
 -- Saying: what a line says by the number of its words. For `line_in`.
 use Rattle.std.proofs.Common.{◌≡◌, ◌∙◌, ◌≢◌, ℕ, Bool, true, false, bytes_eq, is_none, length, nat_lt, codes, if◌then◌else◌, List, [], ◌∷◌, Option, Some, None, refl, sym, ap}
-use Rattle.keep_run.specs.EventLines.{heard_in, need_in}
-use Rattle.keep_run.specs.EventLines.{words_in as heard_words}
-use Rattle.keep_run.specs.declared.live.event_line.Heard.{Heard}
+use Rattle.keep_lines.specs.EventLines.{heard_in, need_in}
+use Rattle.keep_lines.specs.EventLines.{words_in as heard_words}
+use Rattle.keep_lines.specs.declared.event_line.Heard.{Heard}
 use Rattle.keep_lines.specs.declared.limits.TheConstants.{MOST_LINE}
 use Rattle.keep_tree.specs.Forest.{Forest}
 use Rattle.keep_watching.specs.declared.line.Line.{Line}

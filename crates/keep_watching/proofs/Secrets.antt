@@ -3,7 +3,7 @@ use Rattle.std.proofs.Common.{◌≡◌, ◌∙◌, ◌-◌, ℕ, Bool, true, fa
 use mathlib.Core.Path.{path_j}
 use Rattle.keep_inventory.specs.Inventories.{Inventory}
 use Rattle.keep_lanes.specs.declared.lanes.Answered.{Answered}
-use Rattle.keep_run.specs.Text.{name_of}
+use Rattle.keep_lines.specs.Text.{name_of}
 use Rattle.keep_tree.specs.Forest.{Forest}
 use Rattle.watch_machine.specs.declared.command.Command.{Command}
 use Rattle.watch_machine.specs.declared.command.Command.TheVariants.{Go}
@@ -17,7 +17,8 @@ use Rattle.watch_machine.specs.declared.notes.Notes.{Notes}
 use Rattle.watch_machine.specs.declared.readings.Next.{Next}
 use Rattle.watch_machine.specs.History.{Turn}
 use Rattle.watch_machine.specs.State.{State, opened}
-use Rattle.keep_watching.specs.Answers.{AreTaken, IsTaken, noted_lines, out_of, reply_lines}
+use Rattle.keep_asking.specs.Handing.{out_of}
+use Rattle.keep_watching.specs.Answers.{AreTaken, IsTaken, noted_lines, reply_lines}
 use Rattle.keep_watching.specs.Clocked.{IsClocked, IsDone, IsNextThere, IsWaited, Side, changed_line, clock_lines, clocked, next_there, said_after, short_lines, side}
 use Rattle.keep_watching.specs.Hears.{IsHeard, IsKnown, IsLineHeard, IsTurned}
 use Rattle.keep_watching.specs.Listening.{AreHeard}
@@ -25,12 +26,12 @@ use Rattle.keep_watching.specs.Lines.{line_in}
 use Rattle.keep_watching.specs.Secrecy.{Content, SecretsLaw, contents, contents_done, contents_heard, contents_taken}
 use Rattle.keep_watching.specs.Sending.{asked_lines}
 use Rattle.keep_watching.specs.Texts.{clock_line, wait_line}
-use Rattle.keep_watching.specs.Told.{event_as}
+use Rattle.keep_asking.specs.Told.{event_as}
 use Rattle.keep_watching.specs.Watching.{Watching, fresh}
 use Rattle.keep_watching.specs.declared.line.Line.{Line}
 use Rattle.keep_watching.specs.declared.line.Line.TheVariants.{Clock, Need, Begin, Known, Unknown}
-use Rattle.keep_watching.specs.declared.told.Said.{Said}
-use Rattle.keep_watching.proofs.Once.{next_once, turn_once}
+use Rattle.keep_asking.specs.declared.told.Said.{Said}
+use Rattle.keep_asking.proofs.Once.{next_once, turn_once}
 
 -- two watches that differ in their inventories' secrets alone
 record AreAlike (w v : Watching) : Type 0 where
@@ -75,22 +76,22 @@ content_at i said = record { index = i; said = said }
 
 module _ (s t : Inventory) (forest : t.forest ≡ s.forest) where
   pub one_taken :
-      (x y : Answered) (old other new last : State) (text more : List ℕ) → other ≡ old → (h : IsTaken s x old new text) (k : IsTaken t y other last more) → y.index ≡ x.index → k.said ≡ h.said →
+      (x y : Answered) (old other new last : State) (text more : List ℕ) → other ≡ old → (h : IsTaken s x old new text) (k : IsTaken t y other last more) → y.index ≡ x.index → k.handed.said ≡ h.handed.said →
       (last ≡ new) × (more ≡ text)
   one_taken x y old other new last text more state h k index said =
-      let found : Some k.request ≡ Some h.request = sym k.is_out ∙ ap (λ (m : State). out_of m.out y.index) state ∙ ap (out_of old.out) index ∙ h.is_out in
-      let operation : k.request.operation ≡ h.request.operation = ap (λ (r : Out). r.operation) (some_same k.request h.request found) in
+      let found : Some k.handed.request ≡ Some h.handed.request = sym k.is.is_out ∙ ap (λ (m : State). out_of m.out y.index) state ∙ ap (out_of old.out) index ∙ h.is.is_out in
+      let operation : k.handed.request.operation ≡ h.handed.request.operation = ap (λ (r : Out). r.operation) (some_same k.handed.request h.handed.request found) in
       let event_at : Operation → ℕ → Said → Event = λ o i said. event_as o i said.reply said.terms in
-      let event : event_at k.request.operation y.index k.said ≡ event_at h.request.operation x.index h.said =
-      ap (λ o. event_at o y.index k.said) operation ∙ ap (λ i. event_at h.request.operation i k.said) index ∙ ap (event_at h.request.operation x.index) said in
-      let turn : Turn old (event_at h.request.operation x.index h.said) (Ok k.output) last =
-      subst (λ (m : State). Turn m (event_at h.request.operation x.index h.said) (Ok k.output) last) state (subst (λ (e : Event). Turn other e (Ok k.output) last) event k.turn) in
-      let both = turn_once old new last (event_at h.request.operation x.index h.said) h.output k.output h.turn turn in
+      let event : event_at k.handed.request.operation y.index k.handed.said ≡ event_at h.handed.request.operation x.index h.handed.said =
+      ap (λ o. event_at o y.index k.handed.said) operation ∙ ap (λ i. event_at h.handed.request.operation i k.handed.said) index ∙ ap (event_at h.handed.request.operation x.index) said in
+      let turn : Turn old (event_at h.handed.request.operation x.index h.handed.said) (Ok k.handed.output) last =
+      subst (λ (m : State). Turn m (event_at h.handed.request.operation x.index h.handed.said) (Ok k.handed.output) last) state (subst (λ (e : Event). Turn other e (Ok k.handed.output) last) event k.is.turn) in
+      let both = turn_once old new last (event_at h.handed.request.operation x.index h.handed.said) h.handed.output k.handed.output h.is.turn turn in
       let lines : Forest → Operation → ℕ → Said → Output → State → List ℕ = λ g o i said output m. reply_lines (name_of g i) m o i said ++ noted_lines (name_of g i) m output.notes in (
         both.1,
-        k.text_is ∙ ap (λ g. lines g k.request.operation y.index k.said k.output last) forest ∙ ap (λ o. lines s.forest o y.index k.said k.output last) operation
-            ∙ ap (λ i. lines s.forest h.request.operation i k.said k.output last) index ∙ ap (λ z. lines s.forest h.request.operation x.index z k.output last) said
-            ∙ ap (λ o. lines s.forest h.request.operation x.index h.said o last) both.0 ∙ ap (lines s.forest h.request.operation x.index h.said h.output) both.1 ∙ sym h.text_is,
+        k.text_is ∙ ap (λ g. lines g k.handed.request.operation y.index k.handed.said k.handed.output last) forest ∙ ap (λ o. lines s.forest o y.index k.handed.said k.handed.output last) operation
+            ∙ ap (λ i. lines s.forest h.handed.request.operation i k.handed.said k.handed.output last) index ∙ ap (λ z. lines s.forest h.handed.request.operation x.index z k.handed.output last) said
+            ∙ ap (λ o. lines s.forest h.handed.request.operation x.index h.handed.said o last) both.0 ∙ ap (lines s.forest h.handed.request.operation x.index h.handed.said h.handed.output) both.1 ∙ sym h.text_is,
       )
 
   all_taken :
@@ -100,7 +101,7 @@ module _ (s t : Inventory) (forest : t.forest ≡ s.forest) where
   all_taken [] (y ∷ ys) old other new last text more state h k same = absurd (not_empty _ _ same)
   all_taken (x ∷ xs) [] old other new last text more state h k same = absurd (not_full _ _ same)
   all_taken (x ∷ xs) (y ∷ ys) old other new last text more state h k same =
-      let first : content_at y.index k.1.1.1.0.said ≡ content_at x.index h.1.1.1.0.said = cons_head _ _ _ _ same in
+      let first : content_at y.index k.1.1.1.0.handed.said ≡ content_at x.index h.1.1.1.0.handed.said = cons_head _ _ _ _ same in
       let one = one_taken x y old other h.0 k.0 h.1.0 k.1.0 state h.1.1.1.0 k.1.1.1.0 (ap (λ (c : Content). c.index) first) (ap (λ (c : Content). c.said) first) in
       let rest = all_taken xs ys h.0 k.0 new last h.1.1.0 k.1.1.0 one.0 h.1.1.1.1.0 k.1.1.1.1.0 (cons_tail _ _ _ _ same) in
       (rest.0, k.1.1.1.1.1 ∙ ap (λ x. x ++ k.1.1.0) one.1 ∙ ap (λ x. h.1.0 ++ x) rest.1 ∙ sym h.1.1.1.1.1)

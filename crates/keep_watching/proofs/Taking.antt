@@ -1,10 +1,11 @@
 -- Taking: what is taken of a line is what it says, and its text answers it: for `take` and `new`.
-use Rattle.std.proofs.Common.{◌≡◌, ℕ, Bool, true, false, List, ◌++◌, Option, None, is_some, length, ap, refl, sym, subst}
+use Rattle.std.proofs.Common.{◌≡◌, ℕ, Bool, true, false, List, ◌++◌, None, is_some, length, refl, sym, subst}
 use Rattle.std.proofs.lemmas.List.{length-replicate}
 use Rattle.keep_inventory.specs.Inventories.{Inventory}
 use Rattle.keep_lanes.specs.Out as lanes
 use Rattle.watch_machine.specs.declared.event.Event.TheVariants as events
-use Rattle.keep_watching.specs.Sending.{IsAbreast, Lanes}
+use Rattle.keep_asking.specs.InStep.{IsAbreast}
+use Rattle.keep_asking.specs.Sending.{Lanes}
 use Rattle.keep_watching.specs.Answers.{Appended}
 use Rattle.keep_watching.specs.Clocked.{side}
 use Rattle.keep_watching.specs.Hears.{IsHeard, IsKnown, IsTurned}
@@ -13,7 +14,7 @@ use Rattle.keep_watching.specs.Texts.{clock_line, planned_line, unknown_name_lin
 use Rattle.keep_watching.specs.Watching.{IsWhole, Watching, fresh}
 use Rattle.keep_watching.specs.declared.line.Line.{Line}
 use Rattle.keep_watching.specs.declared.line.Line.TheVariants.{Need, Begin, Known, Unknown}
-use Rattle.keep_watching.proofs.Abreast as sides
+use Rattle.keep_asking.proofs.InStep as sides
 
 pub whole_fresh : (s : Inventory) (width : ℕ) → IsWhole (fresh s width)
 whole_fresh s width = record { machine = refl; said = length-replicate (length s.forest.entries) None }

@@ -1,8 +1,8 @@
 -- Wording: the line of those who are asked, one request after another. For `push_asked`.
 use Rattle.std.proofs.Common.{◌≡◌, ◌≢◌, ◌∙◌, ℕ, Bool, true, false, List, [], ◌∷◌, ◌++◌, ◌||◌, filter, flat_map, if◌then◌else◌, map, refl, sym, ap}
-use Rattle.std.proofs.lemmas.List.{append_assoc}
 use Rattle.std.specs.List.{list_any}
-use Rattle.keep_run.specs.Text.{line, name_of}
+use Rattle.keep_lines.specs.Text.{name_of}
+use Rattle.keep_lines.proofs.Wording.{line_is}
 use Rattle.keep_tree.specs.Forest.{Forest}
 use Rattle.watch_machine.specs.declared.event.Operation.{Operation}
 use Rattle.watch_machine.specs.declared.command.Request.{Request}
@@ -10,10 +10,6 @@ use Rattle.watch_machine.specs.Refusal.{is_same}
 use Rattle.keep_watching.specs.Sending.{asked_names}
 use Rattle.keep_watching.specs.Texts.{asked_line}
 use Rattle.keep_watching.specs.code.Asking.{asked_name}
-
-line_is : (w : List ℕ) (ws : List (List ℕ)) → line (w ∷ ws) ≡ w ++ (flat_map (λ x. 32 ∷ x) ws ++ 10 ∷ [])
-line_is w [] = refl
-line_is w (x ∷ ws) = ap (λ xs. w ++ (32 ∷ xs)) (line_is x ws ∙ sym (append_assoc x (flat_map (λ y. 32 ∷ y) ws) (10 ∷ [])))
 
 asked_line_is : (w : List ℕ) (ws : List (List ℕ)) → ws ≢ [] → asked_line w ws ≡ w ++ (flat_map (λ x. 32 ∷ x) ws ++ 10 ∷ [])
 asked_line_is w [] some = absurd (some refl)

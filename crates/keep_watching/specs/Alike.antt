@@ -8,14 +8,15 @@ use Rattle.keep_inventory.specs.declared.terms.Terms.{Terms}
 use Rattle.keep_lanes.specs.Out as lanes
 use Rattle.keep_lanes.specs.Serving.{Behind}
 use Rattle.keep_lanes.specs.declared.coming.Coming.{Coming}
-use Rattle.keep_run.specs.Alike.{AreDated, AreTablesAlike, IsKept}
+use Rattle.keep_alike.specs.Alike.{AreDated, AreTablesAlike, IsKept}
 use Rattle.keep_tree.specs.Forest.{Forest}
 use Rattle.watch_machine.specs.State.{State}
-use Rattle.keep_watching.specs.Answers.{out_of}
+use Rattle.keep_asking.specs.Handing.{out_of}
 use Rattle.keep_watching.specs.Clocked.{Side, side}
 use Rattle.keep_watching.specs.Listening.{AreHeard}
-use Rattle.keep_watching.specs.Sending.{IsAbreast, Lanes, lanes_of}
-use Rattle.keep_watching.specs.Told.{said_to}
+use Rattle.keep_asking.specs.InStep.{IsAbreast}
+use Rattle.keep_asking.specs.Sending.{Lanes, lanes_of}
+use Rattle.keep_asking.specs.Told.{said_to}
 use Rattle.keep_watching.specs.Watching.{fresh}
 
 -- an inventory by its parts

@@ -1,25 +1,23 @@
 -- Answers: what the machine makes of answers, and the lines that say so.
 -- Source: this project's own.
-use Rattle.std.specs.Prelude.{◌≡◌, ℕ, ◌+◌, ◌-◌, ◌*◌, ◌==◌, Bool, if◌then◌else◌, List, [], ◌∷◌, ◌++◌, Option, Some, None, Ok, find, min, unwrap_or}
+use Rattle.std.specs.Prelude.{◌≡◌, ℕ, ◌+◌, ◌-◌, ◌*◌, Bool, if◌then◌else◌, List, [], ◌∷◌, ◌++◌, Option, Some, None, min, unwrap_or}
 use Rattle.keep_lanes.specs.declared.lanes.Answered.{Answered}
 use Rattle.keep_inventory.specs.Inventories.{Inventory}
 use Rattle.keep_lanes.specs.declared.loss.Loss.{Loss}
-use Rattle.keep_run.specs.Text.{name_of}
-use Rattle.watch_machine.specs.declared.command.Output.{Output}
+use Rattle.keep_lines.specs.Text.{name_of}
 use Rattle.watch_machine.specs.declared.event.Operation.{Operation}
 use Rattle.watch_machine.specs.declared.event.Operation.TheVariants.{Look, Renew}
 use Rattle.watch_machine.specs.declared.event.Reply.{Reply}
 use Rattle.watch_machine.specs.declared.event.Reply.TheVariants.{Told, Refused, Busy, Lost}
-use Rattle.watch_machine.specs.declared.lanes.Out.{Out}
 use Rattle.watch_machine.specs.declared.track.End.{End}
 use Rattle.watch_machine.specs.declared.track.End.TheVariants.{Unknown, At, Never}
 use Rattle.watch_machine.specs.declared.notes.Notes.{Notes}
-use Rattle.watch_machine.specs.History.{Turn}
 use Rattle.watch_machine.specs.Readings.{broker_moment, broker_now}
 use Rattle.watch_machine.specs.State.{State, second, track_at}
 use Rattle.keep_watching.specs.Texts.{end_line, entry_line, gone_line, link_line, lost_line, never_line, orphan_line, refused_line, told_line, top_line}
-use Rattle.keep_watching.specs.Told.{event_as, said_to}
-use Rattle.keep_watching.specs.declared.told.Said.{Said}
+use Rattle.keep_asking.specs.Handing.{IsHandedIn}
+use Rattle.keep_asking.specs.declared.handing.HandedIn.{HandedIn}
+use Rattle.keep_asking.specs.declared.told.Said.{Said}
 
 -- ---- the lines
 
@@ -72,19 +70,12 @@ noted_lines name m notes =
 
 -- ---- the turns
 
--- the request that is out of an entry
-abbrev pub out_of : List Out → ℕ → Option Out
-out_of out i = find (λ r. r.entry == i) out
-
--- the answer is handed to the machine as the event of the request that is out of its entry, and these are its lines
+-- the answer is handed in to the machine, and these are its lines
 pub record IsTaken (s : Inventory) (a : Answered) (old new : State) (text : List ℕ) : Type 0 where
-  pub request : Out
-  pub is_out : out_of old.out a.index ≡ Some request
-  pub said : Said
-  pub said_is : said ≡ said_to s request.operation a.index a.answer
-  pub output : Output
-  pub turn : Turn old (event_as request.operation a.index said.reply said.terms) (Ok output) new
-  pub text_is : text ≡ reply_lines (name_of s.forest a.index) new request.operation a.index said ++ noted_lines (name_of s.forest a.index) new output.notes
+  pub handed : HandedIn
+  pub is : IsHandedIn s a old handed new
+  pub text_is :
+      text ≡ reply_lines (name_of s.forest a.index) new handed.request.operation a.index handed.said ++ noted_lines (name_of s.forest a.index) new handed.output.notes
 
 -- answers are taken, one after another
 abbrev pub AreTaken : Inventory → List Answered → State → State → List ℕ → Type 0

@@ -3,7 +3,7 @@
 -- Source: this project's own.
 use Rattle.std.specs.Prelude.{◌≡◌, ℕ, ◌+◌, ◌-◌, ◌==◌, ◌||◌, Bool, true, false, if◌then◌else◌, List, [], ◌∷◌, ◌++◌, Option, Some, None, Ok, length, map, min, nat_le, nat_lt, option_map, slice_index_or}
 use Rattle.std.specs.List.{flat_map, range_with_len}
-use Rattle.keep_run.specs.Text.{name_of, names_of}
+use Rattle.keep_lines.specs.Text.{name_of, names_of}
 use Rattle.keep_lanes.specs.declared.lanes.Answered.{Answered}
 use Rattle.keep_moment.specs.declared.moment.TheConstants.{LAST}
 use Rattle.keep_tree.specs.Forest.{Forest}
@@ -18,7 +18,8 @@ use Rattle.watch_machine.specs.Readings.{IsNext, broker_moment, broker_now}
 use Rattle.watch_machine.specs.Shortness.{short_of}
 use Rattle.watch_machine.specs.State.{State, entry_of}
 use Rattle.keep_watching.specs.Answers.{AreTaken, cut, if_some}
-use Rattle.keep_watching.specs.Sending.{AreHandedBack, GoOut, Lanes, asked_lines, moment_of}
+use Rattle.keep_asking.specs.Sending.{AreHandedBack, GoOut, Lanes}
+use Rattle.keep_watching.specs.Sending.{asked_lines, moment_of}
 use Rattle.keep_watching.specs.Texts.{begin_line, clock_line, next_line, no_next_line, short_line, wait_line, wake_line}
 use Rattle.keep_watching.specs.Watching.{Watching}
 

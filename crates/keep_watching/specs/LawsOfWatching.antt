@@ -6,7 +6,7 @@ use Rattle.watch_machine.specs.History.{History, Turned}
 use Rattle.watch_machine.specs.State.{State}
 use Rattle.keep_watching.specs.Clocked.{Side, side}
 use Rattle.keep_watching.specs.Listening.{AreHeard}
-use Rattle.keep_watching.specs.Sending.{Lanes}
+use Rattle.keep_asking.specs.Sending.{Lanes}
 use Rattle.keep_watching.specs.Watching.{fresh}
 
 -- the state after these turns

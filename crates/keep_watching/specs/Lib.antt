@@ -1,5 +1,4 @@
 pub mod Texts
-pub mod Told
 pub mod Lines
 pub mod Watching
 pub mod Answers

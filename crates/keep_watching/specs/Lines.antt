@@ -2,9 +2,9 @@
 -- Source: this project's own: `clock WALL ELAPSED`, `need NAME T`, `begin` and `known NAME END yes|no`, words parted by one space,
 -- numbers spelled in decimal.
 use Rattle.std.specs.Prelude.{ℕ, ◌<◌, ◌==◌, Bool, true, false, if◌then◌else◌, List, [], ◌∷◌, Option, None, Some, bytes_eq, codes, length, nat_lt, option_and_then, option_map}
-use Rattle.keep_run.specs.EventLines.{need_in}
-use Rattle.keep_run.specs.declared.live.event_line.Heard.{Heard}
-use Rattle.keep_run.specs.declared.live.event_line.Heard.TheVariants as heard
+use Rattle.keep_lines.specs.EventLines.{need_in}
+use Rattle.keep_lines.specs.declared.event_line.Heard.{Heard}
+use Rattle.keep_lines.specs.declared.event_line.Heard.TheVariants as heard
 use Rattle.keep_lines.specs.declared.limits.TheConstants.{MOST_LINE}
 use Rattle.keep_tree.specs.Forest.{Forest, index_named}
 use Rattle.keep_watching.specs.declared.line.Line.{Line}
@@ -20,7 +20,7 @@ number_in word = number_up_to 18446744073709551615 word
 abbrev pub clock_in : List ℕ → List ℕ → Option Line
 clock_in wall elapsed = option_and_then (λ w. option_map (Clock w) (number_in elapsed)) (number_in wall)
 
--- `need NAME T`, as keep_run reads it
+-- `need NAME T`, as keep_lines reads it
 abbrev pub of_heard : Heard → Option Line
 of_heard (heard.Need i until) = Some (Need i until)
 of_heard heard.Unknown = Some Unknown

@@ -9,8 +9,8 @@ use Rattle.keep_watching.specs.Answers.{AreTaken}
 use Rattle.keep_watching.specs.Clocked.{IsDone, Side, clocked, side}
 use Rattle.keep_watching.specs.Hears.{IsHeard}
 use Rattle.keep_watching.specs.Listening.{AreHeard}
-use Rattle.keep_watching.specs.Sending.{Lanes}
-use Rattle.keep_watching.specs.declared.told.Said.{Said}
+use Rattle.keep_asking.specs.Sending.{Lanes}
+use Rattle.keep_asking.specs.declared.told.Said.{Said}
 use Rattle.keep_watching.specs.Watching.{fresh}
 use Rattle.keep_watching.specs.declared.line.Line.{Line}
 use Rattle.keep_watching.specs.declared.line.Line.TheVariants.{Clock, Need, Begin, Known, Unknown}
@@ -24,7 +24,7 @@ pub record Content : Type 0 where
 -- the contents of answers that were taken
 abbrev pub contents_taken : (s : Inventory) (answers : List Answered) (old new : State) (text : List ℕ) → AreTaken s answers old new text → List Content
 contents_taken s [] old new text h = []
-contents_taken s (a ∷ rest) old new text h = record { index = a.index; said = h.1.1.1.0.said } ∷ contents_taken s rest h.0 new h.1.1.0 h.1.1.1.1.0
+contents_taken s (a ∷ rest) old new text h = record { index = a.index; said = h.1.1.1.0.handed.said } ∷ contents_taken s rest h.0 new h.1.1.0 h.1.1.1.1.0
 
 -- of those that came to what was out, to what a line said, and to each of some lines
 abbrev pub contents_done : (out : List Out) (elapsed until : ℕ) (old new : Side) (text : List ℕ) → IsDone out elapsed until old new text → List Content

@@ -1,6 +1,6 @@
 -- StopsAfter: a line that ends short after a text ends short after what was written before it, too. A law of `Hearer`.
 -- Source: this project's own.
-use Rattle.std.proofs.Common.{◌≡◌, ℕ, inl, inr, ◌++◌, take, sym, ap, ◌∙◌, subst}
+use Rattle.std.proofs.Common.{ℕ, inl, inr, ◌++◌, take, sym, ap, ◌∙◌, subst}
 use Rattle.std.proofs.lemmas.List.{append_assoc}
 use Rattle.std.specs.Io.KnownBytes.{Appends}
 use Rattle.keep_device.specs.Seen.{Seen}

@@ -1,7 +1,7 @@
 -- Texts: the lines that a watch is written as, over names and numbers.
 -- Source: this project's own.
 use Rattle.std.specs.Prelude.{ℕ, Bool, List, [], ◌∷◌, codes, decimal, if◌then◌else◌}
-use Rattle.keep_run.specs.Text.{line}
+use Rattle.keep_lines.specs.Text.{line}
 use Rattle.keep_lanes.specs.declared.loss.Loss.{Loss}
 use Rattle.keep_lanes.specs.declared.loss.Loss.TheVariants as losses
 use Rattle.watch_machine.specs.declared.notes.Link.{Link}

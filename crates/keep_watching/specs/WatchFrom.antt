@@ -9,7 +9,7 @@ use Rattle.keep_report.specs.declared.exit.Exit.{Exit}
 use Rattle.keep_report.specs.Exits.{exit_of, stop_of_input}
 use Rattle.keep_report.specs.FaultLine.{fault_line}
 use Rattle.keep_report.specs.Told.{Reports}
-use Rattle.keep_watching.specs.Sending.{Lanes}
+use Rattle.keep_asking.specs.Sending.{Lanes}
 use Rattle.keep_watching.specs.WatchRun.{IsUnbegun, WatchEnds, WatchRun}
 
 -- a watch of that width over these bytes: how it ends, and all that it does over lanes that name this port

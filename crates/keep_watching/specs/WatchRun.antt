@@ -3,7 +3,7 @@
 use Rattle.std.specs.Prelude.{◌≡◌, ℕ, ◌⊎◌, List, Result, Ok, Err, codes}
 use Rattle.keep_device.specs.Seen.{Change}
 use Rattle.keep_inventory.specs.Inventories.{Inventory}
-use Rattle.keep_start.specs.Start.{inventory_for_good}
+use Rattle.keep_served.specs.ForGood.{inventory_for_good}
 use Rattle.keep_report.specs.declared.exit.Exit.{Exit}
 use Rattle.keep_report.specs.declared.exit.Exit.TheVariants as exits
 use Rattle.keep_report.specs.declared.stop.Stop.{Stop}
@@ -14,7 +14,7 @@ use Rattle.keep_report.specs.Sent.{IsUntouched}
 use Rattle.keep_report.specs.Told.{Reports}
 use Rattle.keep_watching.specs.Clocked.{Side, side}
 use Rattle.keep_watching.specs.Listening.{Listens}
-use Rattle.keep_watching.specs.Sending.{Lanes}
+use Rattle.keep_asking.specs.Sending.{Lanes}
 use Rattle.keep_watching.specs.Watching.{fresh}
 
 -- why lines are answered no more: a line is none, a read or a write failed, or memory was wanting

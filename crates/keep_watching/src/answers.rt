@@ -1,21 +1,20 @@
 //! The answers to requests: each is handed in to the machine, and its lines are written.
-ghost use Rattle.std.specs.Prelude.{◌≡◌, ◌≢◌, ◌++◌, ◌<◌, IfOk, IfSome, None, OnOk, Some, length};
-ghost use Rattle.keep_run.specs.Text.{name_of};
-ghost use Rattle.keep_watching.specs.Answers.{Appended, AreTaken, IsTaken, end_here, noted_lines, out_of, reply_lines, told_as, told_at};
-ghost use Rattle.keep_watching.specs.Sending.{AreOut, IsSound};
-ghost use Rattle.keep_watching.specs.Told.{event_as, said_to};
-ghost use Rattle.keep_watching.specs.Watching.{IsWhole};
+ghost use Rattle.std.specs.Prelude.{◌≡◌, ◌≢◌, ◌++◌, ◌<◌, IfOk, None, OnOk, length};
+ghost use Rattle.keep_lines.specs.Text.{name_of};
+ghost use Rattle.keep_asking.specs.Handing.{IsHandedIn, out_of};
+ghost use Rattle.keep_watching.specs.Answers.{Appended, AreTaken, IsTaken, end_here, noted_lines, reply_lines, told_as, told_at};
+ghost use Rattle.keep_asking.specs.InStep.{AreOut, IsSound};
 
 use crate::texts::{
-    name_of, push_end, push_entry, push_gone, push_link, push_lost, push_never, push_orphan,
-    push_refused, push_told, push_top,
+    push_end, push_entry, push_gone, push_link, push_lost, push_never, push_orphan, push_refused,
+    push_told, push_top,
 };
-use crate::told::{Said, said_of_lookup, said_of_renewal};
 use crate::watching::Watching;
-use keep_lanes::{Answered, Loss, hear_lookup, hear_renewal};
+use keep_asking::{HandedIn, Said};
+use keep_lanes::Answered;
+use keep_lines::name_of;
 use std::alloc::{AllocError, Global};
-use vault_http::DatedReply;
-use watch_machine::{End, Event, Notes, Operation, Out, Reply};
+use watch_machine::{End, Notes, Operation, Reply};
 
 impl Watching {
     /// Takes answers, each for the request that is out of its entry, and appends their lines.
@@ -49,49 +48,21 @@ impl Watching {
         ensures rest { self.new ≡ record self.old { machine = self.new.machine } }
     {
         let entry = answered.index;
-        let operation = self.asked_of(entry);
-        let said = self.said(alloc, operation, entry, answered.answer)?;
-        let output = self.turn(alloc, event_of(operation, entry, said))?;
-        self.push_reply(alloc, operation, entry, said, text)?;
+        let handed = self.hand_in(alloc, answered)?;
+        self.push_reply(alloc, handed.request.operation, entry, handed.said, text)?;
         let name = name_of(self.names(), entry);
-        self.push_notes(alloc, name, &output.notes, text)
+        self.push_notes(alloc, name, &handed.output.notes, text)
     }
 
-    /// What is asked of an entry of which a request is out.
-    fn asked_of(&self, entry: u32) -> Operation
-        requires out { out_of self.now.machine.out entry ≢ None }
-        ensures operation { IfSome (out_of self.now.machine.out entry) (λ r. result ≡ r.operation) }
-        ensures whole { IsWhole self.now }
+    /// Hands the answer in to the machine. The only error is out of memory.
+    fn hand_in(&mut self, alloc: Global, answered: Answered) -> Result<HandedIn, AllocError>
+        requires sound { IsSound self.old.machine }
+        requires out { out_of self.old.machine.out answered.index ≢ None }
+        ensures handed { IfOk result (λ handed. IsHandedIn self.old.inventory answered self.old.machine handed self.new.machine) }
+        ensures within { answered.index < length self.new.inventory.forest.entries }
+        ensures rest { self.new ≡ record self.old { machine = self.new.machine } }
     {
-        match out_of(self.watch.out(), entry) {
-            Some(out) => out.operation,
-            None => Operation::Look,
-        }
-    }
-
-    /// What an answer says.
-    fn said(
-        &self,
-        alloc: Global,
-        operation: Operation,
-        entry: u32,
-        answer: Result<DatedReply, Loss>,
-    ) -> Result<Said, AllocError>
-        requires { entry < length self.now.inventory.forest.entries }
-        ensures { IfOk result (λ said. said ≡ said_to self.now.inventory operation entry answer) }
-    {
-        let kind = self.names().get(entry).kind;
-        match operation {
-            Operation::Look => {
-                let heard = hear_lookup(alloc, kind, answer)?;
-                Ok(said_of_lookup(&self.inventory, entry, &heard))
-            }
-            Operation::Renew => {
-                let id = self.inventory.credential(entry);
-                let heard = hear_renewal(alloc, kind, id, answer)?;
-                Ok(said_of_renewal(&heard))
-            }
-        }
+        keep_asking::hand_in(alloc, &self.inventory, &mut self.watch, answered)
     }
 
     /// Appends what came of a request, and after an end that was told the line that keeps it.
@@ -194,27 +165,5 @@ impl Watching {
             push_never(name, text)?;
         }
         push_link(notes.link, text)
-    }
-}
-
-/// The request of these that is out of an entry.
-fn out_of(out: &[Out], entry: u32) -> Option<Out>
-    ensures { result ≡ out_of out.now entry }
-{
-    out.iter().find(|request| request.entry == entry).copied()
-}
-
-/// The event of an answer.
-fn event_of(operation: Operation, entry: u32, said: Said) -> Event
-    ensures { result ≡ event_as operation entry said.reply said.terms }
-{
-    let Said { reply, terms, .. } = said;
-    match operation {
-        Operation::Look => Event::Looked {
-            entry,
-            reply,
-            terms,
-        },
-        Operation::Renew => Event::Renewed { entry, reply },
     }
 }

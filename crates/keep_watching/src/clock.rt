@@ -2,14 +2,17 @@
 ghost use Rattle.std.specs.Prelude.{◌≡◌, ◌+◌, ◌-◌, ◌<◌, ◌≤◌, ◌++◌, All, IfOk, OnOk, Ok, Some, length};
 ghost use Rattle.keep_watching.specs.Answers.{Appended};
 ghost use Rattle.keep_watching.specs.Clocked.{IsClocked, IsNextThere, IsWaited, IsDone, changed_line, clock_lines, said_after, short_lines, side};
-ghost use Rattle.keep_watching.specs.Sending.{GoOut, IsAbreast, asked_lines, moment_of};
+ghost use Rattle.keep_asking.specs.InStep.{IsAbreast};
+ghost use Rattle.keep_asking.specs.Sending.{GoOut};
+ghost use Rattle.keep_watching.specs.Sending.{asked_lines, moment_of};
 
-use crate::seen::SeenLanes;
-use crate::sending::{Readings, push_asked_lines};
+use crate::sending::{Readings, moment_of, push_asked_lines};
 use crate::shorts::push_shorts;
-use crate::texts::{name_of, push_begin, push_next, push_wait, push_wake};
+use crate::texts::{push_begin, push_next, push_wait};
 use crate::watching::Watching;
+use keep_asking::{SeenLanes, send};
 use keep_lanes::Lanes;
+use keep_lines::{name_of, push_wake};
 use std::alloc::{AllocError, Global};
 use watch_machine::{Command, Event, Next, Notes, Output, Requests};
 
@@ -60,7 +63,17 @@ impl Watching {
         ensures port { L.host_port lanes.new ≡ L.host_port lanes.old }
     {
         push_asked_lines(self.names(), requests.list(), text)?;
-        self.send(alloc, lanes, readings, requests.list())
+        let Readings { wall, elapsed } = readings;
+        let t = moment_of(wall);
+        send(
+            alloc,
+            lanes,
+            &self.inventory,
+            &self.watch,
+            t,
+            elapsed,
+            requests.list(),
+        )
     }
 
     /// Once the requests have gone out: waits for the first answers where something is out, and else says until when nothing is

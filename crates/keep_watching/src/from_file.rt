@@ -3,7 +3,7 @@ ghost use Rattle.std.specs.Prelude.{◌≡◌, []};
 ghost use Rattle.keep_watching.specs.WatchFrom.{WatchFrom};
 
 use crate::running::run_watch;
-use crate::seen::SeenLanes;
+use keep_asking::SeenLanes;
 use keep_device::{Sink, Source, Streams, Watched};
 use keep_files::Inputs;
 use keep_inventory::MOST_INVENTORY;

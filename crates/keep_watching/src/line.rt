@@ -1,11 +1,10 @@
 //! What a line of the input says.
 ghost use Rattle.std.specs.Prelude.{◌≡◌, ◌==◌, IfSome, ℕ, bytes_eq, codes, if◌then◌else◌, None, length};
-ghost use Rattle.keep_run.specs.EventLines.{heard_in};
+ghost use Rattle.keep_lines.specs.EventLines.{heard_in};
 ghost use Rattle.keep_watching.specs.Lines.{IsWithin, begin_in, clock_in, flag_in, known_in, line_in, need_of, number_in};
 
-use keep_lines::MOST_LINE;
+use keep_lines::{Heard, MOST_LINE, heard_in};
 use keep_moment::Moment;
-use keep_run::{Heard, heard_in};
 use keep_tree::Forest;
 use keep_words::{cut, four_words, number_up_to, three_words};
 
@@ -99,7 +98,7 @@ fn known_in(forest: &Forest, word: &[u8], name: &[u8], end: &[u8], flag: &[u8]) 
     }
 }
 
-/// `need NAME T`, as `keep_run` reads it.
+/// `need NAME T`, as `keep_lines` reads it.
 fn need_in(forest: &Forest, line: &[u8]) -> Option<Line>
     ensures said { result ≡ need_of (heard_in forest.now line.now) }
     ensures within { IfSome result (λ said. IsWithin (length forest.now.entries) said) }

@@ -4,13 +4,13 @@ ghost use Rattle.std.specs.Result.{IfErr};
 ghost use Rattle.keep_watching.specs.Clocked.{Side, side};
 ghost use Rattle.keep_watching.specs.Listening as listening;
 ghost use Rattle.keep_watching.specs.Listening.{Listens};
-ghost use Rattle.keep_watching.specs.Sending.{IsAbreast};
+ghost use Rattle.keep_asking.specs.InStep.{IsAbreast};
 ghost use Rattle.keep_watching.specs.StopsAfter.{stops_after};
 ghost use Rattle.keep_watching.specs.WatchRun.{IsListenStop};
 
 use crate::line::line_in;
-use crate::seen::SeenLanes;
 use crate::watching::Watching;
+use keep_asking::SeenLanes;
 use keep_device::{Sink, Source, Watched};
 use keep_lanes::Lanes;
 use keep_lines::{Hearer, Limits};

@@ -4,12 +4,12 @@ ghost use Rattle.std.specs.Result.{IfErr};
 ghost use Rattle.keep_watching.specs.WatchRun.{IsWatchStop, WatchEnds, WatchRun, WatchesTo};
 
 use crate::listening::listen;
-use crate::seen::SeenLanes;
 use crate::watching::Watching;
+use keep_asking::SeenLanes;
 use keep_device::{Sink, Source, Streams, Watched};
 use keep_lanes::Lanes;
 use keep_report::{Exit, Stop};
-use keep_start::read_for_good;
+use keep_served::read_for_good;
 use std::alloc::Global;
 
 /// Watches over the entries of an inventory, one whose need is `always` until the last moment: sends requests on lanes, of which

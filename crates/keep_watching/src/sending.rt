@@ -1,12 +1,13 @@
-//! Requests go out on lanes, and answers are waited for.
-ghost use Rattle.std.specs.Prelude.{◌≡◌, ◌+◌, ◌-◌, ◌<◌, ◌≤◌, ◌++◌, All, OnOk, length};
+//! Whom is asked what, and answers as they are waited for.
+ghost use Rattle.std.specs.Prelude.{◌≡◌, ◌-◌, ◌++◌, OnOk};
 ghost use Rattle.keep_watching.specs.Answers.{Appended, cut};
 ghost use Rattle.keep_watching.specs.Clocked.{AreTakenOn, listens_until, side};
-ghost use Rattle.keep_watching.specs.Sending.{GoOut, IsAbreast, asked_lines, moment_of};
+ghost use Rattle.keep_asking.specs.InStep.{IsAbreast};
+ghost use Rattle.keep_watching.specs.Sending.{asked_lines, moment_of};
 
-use crate::seen::SeenLanes;
 use crate::texts::push_asked;
 use crate::watching::Watching;
+use keep_asking::{SeenLanes, take_back};
 use keep_lanes::Lanes;
 use keep_moment::{LAST, Moment};
 use keep_tree::Forest;
@@ -23,7 +24,7 @@ pub(crate) struct Readings {
 }
 
 /// The moment that a wall clock shows at so many milliseconds; after the last one, that.
-fn moment_of(wall: u64) -> Moment
+pub(crate) fn moment_of(wall: u64) -> Moment
     ensures { result ≡ moment_of wall }
 {
     Moment::new((wall / 1000).min(LAST)).unwrap()
@@ -43,29 +44,6 @@ pub(crate) fn push_asked_lines(
 }
 
 impl Watching {
-    /// Sends requests, each on a lane of its own, in their order. The only error is out of memory.
-    pub(crate) fn send<L: Lanes>(
-        &self,
-        alloc: Global,
-        lanes: &mut L,
-        readings: Readings,
-        asked: &[Request],
-    ) -> Result<(), AllocError>
-        requires within { All (λ r. r.entry < length self.now.machine.forest.entries) asked.now }
-        requires free { length (L.out lanes.old) + length asked.now ≤ L.width lanes.old }
-        ensures sent { OnOk result (GoOut (L.host_port lanes.old) self.now.inventory self.now.machine (moment_of readings.wall) readings.elapsed asked.now (⟦<L as SeenLanes>⟧.seen lanes.old) (⟦<L as SeenLanes>⟧.seen lanes.new)) }
-        ensures width { L.width lanes.new ≡ L.width lanes.old }
-        ensures port { L.host_port lanes.new ≡ L.host_port lanes.old }
-    {
-        let port = lanes.port();
-        let t = moment_of(readings.wall);
-        for request in asked {
-            let ask = self.ask_for(alloc, port, *request)?;
-            lanes.send(alloc, t, readings.elapsed, &ask)?;
-        }
-        Ok(())
-    }
-
     /// Waits for the first answers, up to that moment of the machine's clock, but for a second at most, and takes those that are
     /// there. Appends their lines, and that the time is to be handed in at once.
     pub(crate) fn take_on<L: Lanes>(
@@ -82,7 +60,7 @@ impl Watching {
         ensures port { L.host_port lanes.new ≡ L.host_port lanes.old }
     {
         let until = self.listens_until(elapsed, until);
-        let answers = lanes.wait(alloc, elapsed, until)?;
+        let answers = take_back(alloc, lanes, elapsed, until)?;
         self.take_answers(alloc, answers, text)?;
         text.extend_from_slice(b"clock\n")
     }

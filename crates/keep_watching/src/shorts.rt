@@ -2,7 +2,8 @@
 ghost use Rattle.std.specs.Prelude.{◌≡◌, ◌++◌, ◌<◌, OnOk, length};
 ghost use Rattle.keep_watching.specs.Clocked.{is_news, is_time, later, news_line, said_after, short_lines, short_now};
 
-use crate::texts::{name_of, push_short};
+use crate::texts::push_short;
+use keep_lines::name_of;
 use keep_moment::LAST;
 use keep_tree::Forest;
 use std::alloc::{AllocError, Global};

@@ -1,7 +1,6 @@
 //! The lines that a watch is written as.
-ghost use Rattle.std.specs.Prelude.{◌≡◌, ◌++◌, ◌∷◌, [], List, OnOk, flat_map, map};
+ghost use Rattle.std.specs.Prelude.{◌≡◌, ◌++◌, ◌∷◌, [], OnOk, flat_map};
 ghost use Rattle.std.specs.List.{list_any};
-ghost use Rattle.keep_run.specs.Text.{name_of, names_of};
 ghost use Rattle.watch_machine.specs.Refusal.{is_same};
 ghost use Rattle.keep_watching.specs.Answers.{if_some};
 ghost use Rattle.keep_watching.specs.Sending.{asked_names};
@@ -9,23 +8,11 @@ ghost use Rattle.keep_watching.specs.Texts as lines;
 ghost use Rattle.keep_watching.specs.code.Asking.{asked_name};
 
 use keep_lanes::Loss;
-use keep_run::push_numbered;
+use keep_lines::{name_of, push_name, push_numbered};
 use keep_tree::Forest;
 use keep_words::push_number;
 use std::alloc::{AllocError, Global};
 use watch_machine::{Link, Operation, Request, Why};
-
-/// The name of an entry, empty where there is none at that index.
-#[tactic(auto, using(keep_tree::proofs::Entries::entry_at_past))]
-pub(crate) fn name_of(forest: &Forest, entry: u32) -> &[u8]
-    ensures { result.now ≡ name_of forest.now entry }
-{
-    if entry < forest.len() {
-        forest.get(entry).name.list()
-    } else {
-        b""
-    }
-}
 
 /// Appends `begin WHY` and a line feed.
 pub(crate) fn push_begin(why: Why, text: &mut Vec<u8>) -> Result<(), AllocError>
@@ -38,41 +25,6 @@ pub(crate) fn push_begin(why: Why, text: &mut Vec<u8>) -> Result<(), AllocError>
         Why::Day => b"begin day\n".as_slice(),
     };
     text.extend_from_slice(line)
-}
-
-/// Appends a blank and a name.
-fn push_name(name: &[u8], text: &mut Vec<u8>) -> Result<(), AllocError>
-    ensures { OnOk result (text.new.items ≡ text.old.items ++ (32 ∷ name.now)) }
-{
-    text.push(b' ')?;
-    text.extend_from_slice(name)
-}
-
-/// Appends a blank and the name of each of these entries.
-fn push_names(forest: &Forest, asked: &[u32], text: &mut Vec<u8>) -> Result<(), AllocError>
-    ensures { OnOk result (text.new.items ≡ text.old.items ++ flat_map (λ i. 32 ∷ name_of forest.now i) asked.now) }
-{
-    for entry in asked {
-        push_name(name_of(forest, *entry), text)?;
-    }
-    Ok(())
-}
-
-/// Appends `wake T NAME..` and a line feed.
-pub(crate) fn push_wake(
-    alloc: Global,
-    forest: &Forest,
-    t: u64,
-    asked: &[u32],
-    text: &mut Vec<u8>,
-) -> Result<(), AllocError>
-    ensures { OnOk result (text.new.items ≡ text.old.items ++ lines.wake_line t (names_of forest.now asked.now)) }
-{
-    text.extend_from_slice(b"wake ")?;
-    push_number(alloc, t, text)?;
-    push_names(forest, asked, text)?;
-    text.push(b'\n')?;
-    Ok(())
 }
 
 /// Whether this is asked of somebody.

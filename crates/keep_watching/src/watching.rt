@@ -5,15 +5,15 @@ ghost use Rattle.watch_machine.specs.Refusal.{refusal};
 ghost use Rattle.watch_machine.specs.declared.event.Event.TheVariants as events;
 ghost use Rattle.keep_watching.specs.Answers.{Appended};
 ghost use Rattle.keep_watching.specs.Clocked.{side};
-ghost use Rattle.keep_watching.specs.Sending.{IsAbreast};
+ghost use Rattle.keep_asking.specs.InStep.{IsAbreast};
 ghost use Rattle.keep_watching.specs.Hears.{IsHeard, IsKnown, IsTurned};
 ghost use Rattle.keep_watching.specs.Lines.{IsWithin};
 ghost use Rattle.keep_watching.specs.Texts.{after_clock_line, clock_line, planned_line};
 ghost use Rattle.keep_watching.specs.Watching.{IsWhole, fresh};
 
 use crate::line::Line;
-use crate::seen::SeenLanes;
 use crate::sending::Readings;
+use keep_asking::SeenLanes;
 use keep_inventory::Inventory;
 use keep_lanes::Lanes;
 use keep_moment::Moment;

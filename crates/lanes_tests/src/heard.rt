@@ -70,7 +70,7 @@ fn words<T>(alloc: Global, heard: &Heard<T>, seconds: &str) -> Result<String, Fa
 
 /// The words for what this answer to a renewal comes to.
 fn renewal(alloc: Global, answer: Result<DatedReply, Loss>) -> Result<String, Fail> {
-    let heard = hear_renewal(alloc, Kind::Token, b"ta", answer)?;
+    let heard = hear_renewal(alloc, Kind::Token, b"ta", &answer)?;
     let seconds = match &heard {
         Heard::Told(renewed, _) => format!(in alloc; "{}", renewed.seconds)?,
         _ => format!(in alloc; "none")?,
@@ -94,7 +94,7 @@ fn a_body_that_says_nothing_of_it_is_lost(rt: HostRuntime) -> Result<(), Fail> {
     for body in &UNREAD {
         let heard = renewal(alloc, Ok(reply(alloc, 200, body)?))?;
         assert!(rt; heard.as_str() == "lost reply", "{body}");
-        let looked = hear_lookup(alloc, Kind::Token, Ok(reply(alloc, 200, body)?))?;
+        let looked = hear_lookup(alloc, Kind::Token, &Ok(reply(alloc, 200, body)?))?;
         assert!(rt;
             words(alloc, &looked, "")?.as_str() == "lost reply",
             "{body}"
@@ -106,9 +106,9 @@ fn a_body_that_says_nothing_of_it_is_lost(rt: HostRuntime) -> Result<(), Fail> {
 #[test]
 fn a_lookup_is_told(rt: HostRuntime) -> Result<(), Fail> {
     let alloc = rt.alloc();
-    let looked = hear_lookup(alloc, Kind::Token, Ok(reply(alloc, 200, LOOKED)?))?;
+    let looked = hear_lookup(alloc, Kind::Token, &Ok(reply(alloc, 200, LOOKED)?))?;
     assert!(rt; words(alloc, &looked, "it")?.as_str() == "told it");
-    let refused = hear_lookup(alloc, Kind::Token, Ok(reply(alloc, 403, LOOKED)?))?;
+    let refused = hear_lookup(alloc, Kind::Token, &Ok(reply(alloc, 403, LOOKED)?))?;
     assert!(rt; words(alloc, &refused, "it")?.as_str() == "refused 403");
     Ok(())
 }
@@ -120,7 +120,7 @@ fn a_loss_keeps_its_reason(rt: HostRuntime) -> Result<(), Fail> {
         let wanted = format!(in alloc; "lost {word}")?;
         let renewed = renewal(alloc, Err(*loss))?;
         assert!(rt; renewed.as_str() == wanted.as_str(), "{word}");
-        let looked = hear_lookup(alloc, Kind::Lease, Err(*loss))?;
+        let looked = hear_lookup(alloc, Kind::Lease, &Err(*loss))?;
         assert!(rt;
             words(alloc, &looked, "")?.as_str() == wanted.as_str(),
             "{word}"

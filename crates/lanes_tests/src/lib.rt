@@ -15,4 +15,6 @@ mod peers;
 #[cfg(test)]
 mod stages;
 #[cfg(test)]
+mod turns;
+#[cfg(test)]
 mod wires;

@@ -16,7 +16,7 @@ const HEAD: &[u8] =
     b"HTTP/1.1 200 OK\r\nContent-Type: application/json\r\nContent-Length: 47\r\nConnection: close\r\n\r\n";
 
 /// A request that has come.
-fn heard<S: Read>(alloc: Global, stream: &mut S) -> Result<Vec<u8>, Fail> {
+pub(crate) fn heard<S: Read>(alloc: Global, stream: &mut S) -> Result<Vec<u8>, Fail> {
     let mut room = vec![in alloc; 0u8; 1000]?;
     let n = stream.read(&mut room)?;
     room.truncate(n);
@@ -24,7 +24,7 @@ fn heard<S: Read>(alloc: Global, stream: &mut S) -> Result<Vec<u8>, Fail> {
 }
 
 /// Whether it is the renewal for that index, whole.
-fn is_for(request: &[u8], index: u32) -> bool {
+pub(crate) fn is_for(request: &[u8], index: u32) -> bool {
     let token = token_of(index);
     request.starts_with(b"POST /v1/auth/token/renew-self HTTP/1.1\r\n")
         && request.windows(2).any(|piece| piece == token.credential)
@@ -32,7 +32,7 @@ fn is_for(request: &[u8], index: u32) -> bool {
 }
 
 /// Answers the renewal for that index.
-fn grant<S: Write>(stream: &mut S, index: u32) -> Result<(), Fail> {
+pub(crate) fn grant<S: Write>(stream: &mut S, index: u32) -> Result<(), Fail> {
     stream.write_all(HEAD)?;
     stream.write_all(token_of(index).grants)?;
     Ok(())
@@ -50,7 +50,7 @@ fn comes<L: Lanes>(
     Ok(are(&answers, &[index], index, comes))
 }
 
-fn any_port() -> SocketAddr {
+pub(crate) fn any_port() -> SocketAddr {
     SocketAddr::new(IpAddr::V4(Ipv4Addr::LOCALHOST), 0)
 }
 

@@ -101,6 +101,53 @@ fn answers_that_come_together(rt: HostRuntime) -> Result<(), Fail> {
     Ok(())
 }
 
+/// Two are out, from 1000 on: the answer for 9 is there after 100 ms, and that for 2 a millisecond later.
+fn two_late(alloc: Global) -> Result<MemoryLanes, Fail> {
+    let mut lanes = lanes(alloc)?;
+    lanes.set_fault(1, LaneFault::Late(100))?;
+    lanes.set_fault(2, LaneFault::Late(101))?;
+    send(alloc, &mut lanes, 1000, 9, 400)?;
+    send(alloc, &mut lanes, 1000, 2, 400)?;
+    Ok(lanes)
+}
+
+/// What is there at a moment is handed back, and not what comes a millisecond later.
+#[test]
+fn going_on_waits_for_nothing(rt: HostRuntime) -> Result<(), Fail> {
+    let alloc = rt.alloc();
+    let mut lanes = two_late(alloc)?;
+    assert!(rt; lanes.go_on(alloc, 1099)?.is_empty() && lanes.free() == 2);
+    let first = lanes.go_on(alloc, 1100)?;
+    assert!(rt; are(&first, &[9], 0, Comes::Granted) && lanes.free() == 3);
+    let second = lanes.go_on(alloc, 1101)?;
+    assert!(rt; are(&second, &[2], 0, Comes::Granted) && lanes.free() == 4);
+    Ok(())
+}
+
+#[test]
+fn they_are_due_when_the_first_answer_is_there(rt: HostRuntime) -> Result<(), Fail> {
+    let alloc = rt.alloc();
+    let mut lanes = two_late(alloc)?;
+    assert!(rt; lanes.due(1000, 5000) == 1100 && lanes.due(1000, 1050) == 1050);
+    let _first = lanes.go_on(alloc, 1100)?;
+    assert!(rt; lanes.due(1100, 5000) == 1101);
+    let _second = lanes.go_on(alloc, 1101)?;
+    assert!(rt; lanes.due(1101, 5000) == 5000);
+    Ok(())
+}
+
+/// Its lanes are free, and what the broker did stays.
+#[test]
+fn what_is_given_up_is_not_handed_back(rt: HostRuntime) -> Result<(), Fail> {
+    let alloc = rt.alloc();
+    let mut lanes = lanes(alloc)?;
+    send_all(alloc, &mut lanes)?;
+    lanes.forget();
+    assert!(rt; lanes.free() == 4 && has_granted(&lanes, 0, true));
+    assert!(rt; lanes.go_on(alloc, 9000)?.is_empty());
+    Ok(())
+}
+
 /// A patience that is longer than the time-out of 5 seconds counts as long as that.
 #[test]
 fn no_patience_is_longer_than_the_time_out(rt: HostRuntime) -> Result<(), Fail> {

@@ -4,12 +4,12 @@
 
 use std::process::ExitCode;
 
+mod commands;
 mod live;
 mod parser;
-mod run;
 mod watch;
 mod words;
 
 fn main(rt: HostRuntime) -> ExitCode {
-    ExitCode::from(run::run(&rt, rt.stdin(), rt.stderr()).code())
+    ExitCode::from(commands::run(&rt, rt.stdin(), rt.stderr()).code())
 }

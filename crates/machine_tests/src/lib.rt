@@ -1,5 +1,5 @@
-//! Tests alone, of the machine with lanes: the example of the watch's page, refusals, widths, as many entries as there may be, and in
-//! simulated time the brokers on which a watch once lost entries that were well. They stand above the machine, so that it is not
+//! Tests alone, of the machine with lanes: the example of the watch's page, refusals, widths, as many entries as there may be, outages,
+//! and in simulated time the brokers on which a watch once lost entries that were well. They stand above the machine, so that it is not
 //! proved a second time with its tests.
 #![tactic(auto)]
 
@@ -7,6 +7,8 @@
 mod brokers;
 #[cfg(test)]
 mod examples;
+#[cfg(test)]
+mod outages;
 #[cfg(test)]
 mod sick_brokers;
 #[cfg(test)]

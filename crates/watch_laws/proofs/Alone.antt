@@ -61,7 +61,7 @@ fewer i e (q ∷ out) =
       if_both_le true o xs ys h = omega (arith, h)
       if_both_le false o xs ys h = h
 
-none_left : (i : ℕ) (out : List Out) → lanes_of i (without i out) ≡ 0
+pub none_left : (i : ℕ) (out : List Out) → lanes_of i (without i out) ≡ 0
 unfolding without
 none_left i [] = refl
 none_left i (q ∷ out) =
@@ -82,7 +82,7 @@ heard_same i (q ∷ out) = by (q.entry == i) (heard_same i out) where
   by true h = ap (λ n. suc n) h
   by false h = h
 
-replied_lanes : (s : State) (q : Out) (reply : Reply) (i : ℕ) → lanes_of i (replied s q reply).out ≤ lanes_of i (without q.entry s.out)
+pub replied_lanes : (s : State) (q : Out) (reply : Reply) (i : ℕ) → lanes_of i (replied s q reply).out ≤ lanes_of i (without q.entry s.out)
 replied_lanes s q reply i =
     let free = lane_freed s q in
     let same = heard_same i (without q.entry s.out) in

@@ -1,7 +1,6 @@
 -- Answered: what an answer makes of the stages of an outage. For the law of outages.
-use Rattle.std.proofs.Common.{◌≡◌, ◌≢◌, ◌⊎◌, ◌∙◌, ℕ, suc, ◌+◌, ◌*◌, ◌<◌, ◌≤◌, Bool, true, false, not, ◌&&◌, ◌||◌, ◌==◌, if◌then◌else◌, List, [], ◌∷◌, ◌++◌, Option, Some, None, All, length, refl, sym, ap, subst, arith, inl, inr}
-use Rattle.std.proofs.lemmas.Bool.{and_parts, cases_Bool, eqb-true}
-use Rattle.std.proofs.lemmas.Bool.Decides.{nat_tests}
+use Rattle.std.proofs.Common.{◌≡◌, ◌≢◌, ◌⊎◌, ◌∙◌, ℕ, suc, ◌+◌, ◌<◌, ◌≤◌, Bool, true, false, ◌&&◌, ◌==◌, [], ◌∷◌, ◌++◌, Some, All, length, refl, sym, ap, subst, arith, inl, inr}
+use Rattle.std.proofs.lemmas.Bool.{cases_Bool, eqb-true}
 use Rattle.std.proofs.lemmas.List.{get_or-set_other, get_or-set_same, length-set}
 use Rattle.std.specs.List.{list_any}
 use Rattle.watch_machine.specs.declared.command.Output.{Output}
@@ -13,28 +12,27 @@ use Rattle.watch_machine.specs.declared.event.Terms.{Terms}
 use Rattle.watch_machine.specs.declared.lanes.Answer.{Answer}
 use Rattle.watch_machine.specs.declared.lanes.Out.{Out}
 use Rattle.watch_machine.specs.declared.lanes.Presence.{Presence}
-use Rattle.watch_machine.specs.declared.track.Track.{Track}
-use Rattle.watch_machine.specs.Answers.{heard, noted, replied}
-use Rattle.watch_machine.specs.Clocks.{ms, sec}
+use Rattle.watch_machine.specs.Answers.{heard, noted}
+use Rattle.watch_machine.specs.Clocks.{ms}
 use Rattle.watch_machine.specs.Looked.{looked}
-use Rattle.watch_machine.specs.Refusal.{is_same, request_out}
+use Rattle.watch_machine.specs.Refusal.{request_out}
 use Rattle.watch_machine.specs.Renewed.{renewed, renewed_track, track_renewed, ungranted_track}
 use Rattle.watch_machine.specs.Settling.{is_busy, is_real}
 use Rattle.watch_machine.specs.State.{State, no_track, track_at}
 use Rattle.watch_machine.specs.Step.{StepLooked, StepRenewed}
 use Rattle.watch_machine.proofs.Cases.{not_both, of_value}
 use Rattle.watch_machine.proofs.Within.{out_all, out_entry}
-use Rattle.watch_laws.specs.Outage.{IsReply, Outage, comes, how_many, is_served, is_whole, settled_by, waiting}
-use Rattle.watch_laws.proofs.Alone.{IsAlone, flag}
+use Rattle.watch_laws.specs.Outage.{IsReply, comes, how_many, is_served, is_whole, settled_by, waiting}
+use Rattle.watch_laws.proofs.Alone.{flag}
 use Rattle.watch_laws.proofs.Answering.{looked_leaves, renewed_leaves, rest_of}
-use Rattle.watch_laws.proofs.Enduring.{Cutting, Endures, IsAnswered, after, any_more, cut, lost_endures, own_endures, real_endures, second_before}
+use Rattle.watch_laws.proofs.Enduring.{Cutting, Endures, IsAnswered, after, any_more, lost_endures, own_endures, real_endures, second_before}
 use Rattle.watch_laws.proofs.Holding.{looked_presence}
-use Rattle.watch_laws.proofs.Lanes.{Sends, all_left, fewer_wait, is_anew, is_of, passes, replied_any, replied_lane}
-use Rattle.watch_laws.proofs.Lasting.{Asks, Same, no_look, same_time}
+use Rattle.watch_laws.proofs.Lanes.{Sends, all_left, fewer_wait, is_of, passes, replied_any, replied_lane}
+use Rattle.watch_laws.proofs.Lasting.{Same, no_look, same_time}
 use Rattle.watch_laws.proofs.Retrying.{replied_free}
 use Rattle.watch_laws.proofs.Sparing.{found_lane, looked_answers}
 use Rattle.watch_laws.proofs.Spacing.{after_flag, looked_other, looked_out, same_index}
-use Rattle.watch_laws.proofs.Stages.{Facts, IsBack, IsBase, IsCut, IsEarly, IsGoing, IsServed, IsThrough, free_from}
+use Rattle.watch_laws.proofs.Stages.{Facts, IsBase, IsGoing, IsThrough, free_from}
 
 -- an answer that was lived
 pub record IsReplied (f : Facts) (due : ℕ) (old mid new : State) (q : Out) (reply : Reply) : Type 0 where

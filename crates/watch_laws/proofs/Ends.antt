@@ -1,8 +1,7 @@
 -- Ends: what every turn that was lived keeps of the believed end of an entry, and of the requests that may tell another. For the law of
 -- ends.
-use Rattle.std.proofs.Common.{◌≡◌, ◌≢◌, ◌∙◌, ℕ, zero, suc, ◌+◌, ◌-◌, ◌≤◌, Bool, true, false, not, ◌&&◌, ◌||◌, ◌==◌, if◌then◌else◌, List, [], ◌∷◌, Option, Some, None, IfSome, Result, Ok, Err, All, is_none, map, min, max, refl, sym, ap, subst, arith, inl, inr}
+use Rattle.std.proofs.Common.{◌≡◌, ◌≢◌, ◌∙◌, ℕ, zero, suc, ◌+◌, ◌-◌, ◌≤◌, Bool, true, false, not, ◌&&◌, ◌||◌, ◌==◌, if◌then◌else◌, List, [], ◌∷◌, Option, Some, None, Result, Ok, Err, All, is_none, map, min, max, refl, sym, ap, subst, arith, inl, inr}
 use Rattle.std.proofs.lemmas.Bool.{cases_Bool, cond-false, cond-true, eqb-true}
-use Rattle.std.proofs.lemmas.Bool.Decides.{nat_tests}
 use Rattle.std.proofs.lemmas.List.{get_or-set_other}
 use Rattle.std.proofs.lemmas.List.Elements.{All-append, All-cons, All-filter, All-nil, All-weaker}
 use Rattle.std.specs.List.{list_any}
@@ -28,17 +27,16 @@ use Rattle.watch_machine.specs.declared.lanes.Out.{Out}
 use Rattle.watch_machine.specs.declared.track.End.{End}
 use Rattle.watch_machine.specs.declared.track.End.TheVariants.{Unknown, At, Never}
 use Rattle.watch_machine.specs.declared.track.Track.{Track}
-use Rattle.watch_machine.specs.declared.track.Try.{Try}
-use Rattle.watch_machine.specs.Answers.{heard, noted, replied, with_track, without}
+use Rattle.watch_machine.specs.Answers.{noted, replied, with_track, without}
 use Rattle.watch_machine.specs.Clocks.{dated_by, first_clocks, is_ahead, is_behind, is_stepped, moment, ms, reading, sec, walled}
 use Rattle.watch_machine.specs.History.{Turn}
 use Rattle.watch_machine.specs.Looked.{is_called_for, looked, told_state, told_track, told_try, untold_track}
 use Rattle.watch_machine.specs.Press.{pressed}
-use Rattle.watch_machine.specs.Refusal.{is_same, request_out}
+use Rattle.watch_machine.specs.Refusal.{request_out}
 use Rattle.watch_machine.specs.Renewed.{from_try, granted_from, renewed, renewed_track, track_renewed, ungranted_track}
 use Rattle.watch_machine.specs.Round.{asked_by as round_of}
 use Rattle.watch_machine.specs.Sending.{out_at, sent, sent_in, sent_track}
-use Rattle.watch_machine.specs.Settling.{at_reading, clocks_after, date_of, dated, dated_by_all, dated_on, read, timed}
+use Rattle.watch_machine.specs.Settling.{at_reading, clocks_after, date_of, dated, dated_by_all, dated_on, read}
 use Rattle.watch_machine.specs.State.{State, entry_of, fresh_track, no_track, opened, track_at, track_in}
 use Rattle.watch_machine.specs.Step.{Step, StepClock, StepCommand, StepLooked, StepRenewed, known, readied}
 use Rattle.watch_machine.proofs.Cases.{if_both, not_both, of_value}
@@ -46,7 +44,7 @@ use Rattle.watch_machine.proofs.Within.{out_all, out_entry}
 use Rattle.watch_laws.specs.Ends.{AllNoLater, AreLivedFrom, IsHonest, IsNoLater, IsTrueEvent, IsTrueReply, Lived, NeverPastLaw, Origin, World, asked_after, is_told, never, tells, told_after}
 use Rattle.watch_laws.specs.Absence.{is_taken}
 use Rattle.watch_laws.specs.Load.{asked_by, requests_of}
-use Rattle.watch_laws.proofs.Alone.{IsAlone, flag, lanes_of, turn_alone}
+use Rattle.watch_laws.proofs.Alone.{IsAlone, flag, turn_alone}
 use Rattle.watch_laws.proofs.Answering.{looked_leaves, renewed_leaves, rest_of}
 use Rattle.watch_laws.proofs.Basing.{BaseBy, Passes, Timely, back_passes, base_later, from_try_by, granted_base, later_timely, mid_passes, none_timely, readied_passes, same_passes, told_base, ungranted_base, untold_base}
 use Rattle.watch_laws.proofs.Clocking.{begun_some, readied_clocks, refused_stays}

@@ -1,11 +1,11 @@
 -- Going: what goes out at a clock: as many requests as lanes are free at most, and of an entry nothing, or one request that was due. For
 -- the laws of load.
-use Rattle.std.proofs.Common.{◌≡◌, ◌⊎◌, ◌∙◌, ℕ, zero, suc, ◌+◌, ◌<◌, ◌≤◌, Bool, true, false, cond, ◌||◌, ◌==◌, List, [], ◌∷◌, Option, Some, None, All, IsPermutation, count_by, filter, length, map, take, zero-add, refl, sym, ap, subst, arith, inl, inr}
-use Rattle.std.proofs.lemmas.Bool.{cases_Bool, cases_lt, or_left, or_right}
+use Rattle.std.proofs.Common.{◌≡◌, ◌⊎◌, ◌∙◌, ℕ, zero, suc, ◌+◌, ◌<◌, ◌≤◌, Bool, true, false, cond, ◌||◌, ◌==◌, List, [], ◌∷◌, Option, Some, None, All, IsPermutation, count_by, filter, get_or, length, map, take, zero-add, refl, sym, ap, subst, arith, inl, inr}
+use Rattle.std.proofs.lemmas.Bool.{cases_Bool, cases_lt, eqb-true, or_left, or_right}
 use Rattle.std.proofs.lemmas.Bool.Decides.{nat_tests}
-use Rattle.std.proofs.lemmas.List.{length-take, take-map, take_all}
-use Rattle.std.proofs.lemmas.List.Elements.{All-cons, All-filter, All-head, All-nil, All-tail, All-take, filter_passes}
-use Rattle.std.proofs.lemmas.List.Sorted.{All-permutation, IsPermutation-map, sum_by-IsPermutation}
+use Rattle.std.proofs.lemmas.List.{get_or-take, length-take, take-map, take_all}
+use Rattle.std.proofs.lemmas.List.Elements.{All-cons, All-filter, All-head, All-map, All-nil, All-tail, All-take, filter_passes}
+use Rattle.std.proofs.lemmas.List.Sorted.{All-permutation, IsPermutation-map, sorted_far, sum_by-IsPermutation}
 use Rattle.std.proofs.lemmas.List.Sums.{sum_by-cons, sum_by-take-le}
 use Rattle.std.specs.List.{list_any, range_with_len}
 use Rattle.watch_machine.specs.declared.command.Request.{Request}
@@ -16,10 +16,11 @@ use Rattle.watch_machine.specs.declared.track.Track.{Track}
 use Rattle.watch_machine.specs.declared.track.Try.{Try}
 use Rattle.watch_machine.specs.Clocks.{sec}
 use Rattle.watch_machine.specs.Lines.{is_due}
-use Rattle.watch_machine.specs.Sending.{IsGoing, Place, due, is_partial, place, place_of, request, request_of}
+use Rattle.watch_machine.specs.Sending.{IsGoing, IsLine, Place, due, is_before, is_partial, place, place_of, request, request_of}
 use Rattle.watch_machine.specs.State.{track_in}
 use Rattle.watch_machine.proofs.Cases.{if_cases, not_both}
 use Rattle.watch_laws.specs.Load.{Sent, sent_at}
+use Rattle.watch_laws.proofs.Order.{line_order}
 
 -- a list of numbers below n, each of which passes a test
 abbrev pub AreOf : (ℕ → Bool) → ℕ → List ℕ → Type 0
@@ -117,6 +118,64 @@ pub record Goes (p : Presence) (at : ℕ) (xs : List Track) (lanes : ℕ) (reque
   pub once : (i : ℕ) → times i entries ≤ 1
   pub few : length entries ≤ lanes
   pub full : (i : ℕ) → i < length xs → is_due p at (track_in xs i) ≡ true → (1 ≤ times i entries) ⊎ (lanes ≤ length entries)
+  pub order : (i : ℕ) → i < length xs → is_due p at (track_in xs i) ≡ true → times i entries ≡ 0 → All (λ k. is_before (place p.away (sec at) xs i) (place p.away (sec at) xs k) ≡ false) entries
+
+-- an entry that is named, and not among the first, is named after them
+somewhere : (i : ℕ) (qs : List Place) → 1 ≤ times i (map (λ (q : Place). q.entry) qs) → (b : ℕ) × ((b < length qs) × ((d : Place) → (get_or qs b d).entry ≡ i))
+somewhere i [] some = absurd (omega (arith, some))
+somewhere i (q ∷ qs) some =
+    elim (cases_Bool (q.entry == i)) [
+      | inl here ↦ (0, (omega arith, λ d. eqb-true q.entry i here))
+      | inr there ↦
+          let more = skips i q.entry (map (λ (r : Place). r.entry) qs) there in
+          let rest = somewhere i qs (omega (arith, more, some)) in
+          let within = rest.1.0 in
+          (suc rest.0, (omega (arith, within), λ d. rest.1.1 d))
+    ]
+
+after_first : (i n : ℕ) (qs : List Place) → 1 ≤ times i (map (λ (q : Place). q.entry) qs) → times i (map (λ (q : Place). q.entry) (take n qs)) ≡ 0 → (b : ℕ) × ((n ≤ b) × ((b < length qs) × ((d : Place) → (get_or qs b d).entry ≡ i)))
+after_first i zero qs some none = let there = somewhere i qs some in (there.0, (omega arith, there.1))
+after_first i (suc n) [] some none = absurd (omega (arith, some))
+after_first i (suc n) (q ∷ qs) some none =
+    elim (cases_Bool (q.entry == i)) [
+      | inl here ↦ (let more = counts i q.entry (map (λ (r : Place). r.entry) (take n qs)) here in absurd (omega (arith, more, none)))
+      | inr there ↦
+          let more = skips i q.entry (map (λ (r : Place). r.entry) qs) there in
+          let fewer = skips i q.entry (map (λ (r : Place). r.entry) (take n qs)) there in
+          let rest = after_first i n qs (omega (arith, more, some)) (omega (arith, fewer, none)) in
+          let far = rest.1.0 in
+          let within = rest.1.1.0 in
+          (suc rest.0, (omega (arith, far), (omega (arith, within), λ d. rest.1.1.1 d)))
+    ]
+
+-- the place of an entry is as it is made of its index
+abbrev IsPlaced : Presence → ℕ → List Track → Place → Type 0
+IsPlaced p at xs q = q ≡ place p.away (sec at) xs q.entry
+
+all_placed : (p : Presence) (at : ℕ) (xs : List Track) (line : List Place) → IsPermutation (due p at xs) line → All (IsPlaced p at xs) line
+all_placed p at xs line all =
+    let these = filter (λ i. is_due p at (track_in xs i)) (range_with_len 0 (length xs)) in
+    All-permutation (IsPlaced p at xs) (due p at xs) line all
+    (All-map (IsPlaced p at xs) (place p.away (sec at) xs) these
+    (λ k d below. (let i = get_or these k d in ap (place p.away (sec at) xs) (sym (placed p.away (sec at) i (track_in xs i) (track_in xs i).attempt)))))
+
+-- who is due and is not among the first stands before none of them
+first_in_line :
+    (p : Presence) (at : ℕ) (xs : List Track) (lanes : ℕ) (line : List Place) (i : ℕ) → IsLine p at xs line → 1 ≤ times i (map (λ (q : Place). q.entry) line) →
+    times i (map (λ (q : Place). q.entry) (take lanes line)) ≡ 0 → All (λ (q : Place). is_before (place p.away (sec at) xs i) (place p.away (sec at) xs q.entry) ≡ false) (take lanes line)
+first_in_line p at xs lanes line i h some none = λ k d below.
+    let there = after_first i lanes line some none in
+    let b = there.0 in
+    let far = there.1.0 in
+    let within = there.1.1.0 in
+    let many = length-take lanes line in
+    let same = get_or-take lanes line k d (omega (arith, many, below)) in
+    let places = all_placed p at xs line h.all in
+    let mine : get_or line b d ≡ place p.away (sec at) xs i = places b d within ∙ ap (place p.away (sec at) xs) (there.1.1.1 d) in
+    let other : get_or line k d ≡ place p.away (sec at) xs (get_or (take lanes line) k d).entry =
+    places k d (omega (arith, many, below)) ∙ ap (λ (q : Place). place p.away (sec at) xs q.entry) (sym same) in
+    sym (ap (λ q. is_before q (place p.away (sec at) xs (get_or (take lanes line) k d).entry)) mine) ∙ sym (ap (λ q. is_before (get_or line b d) q) other)
+    ∙ sorted_far is_before line_order line h.in_order k b d (omega (arith, many, below, far)) within
 
 pub goes : (p : Presence) (at : ℕ) (xs : List Track) (lanes : ℕ) (requests : List Request) → IsGoing p at xs lanes requests → Goes p at xs lanes requests
 goes p at xs lanes requests h =
@@ -154,6 +213,14 @@ goes p at xs lanes requests h =
                 let count : times i (map (λ (q : Place). q.entry) h.picked) ≡ times i es = ap (times i) (front ∙ take_all lanes es whole) in
                 inl (omega (arith, same, here, count))
           ];
+      order = λ i within due' none.
+          let es = map (λ (q : Place). q.entry) line in
+          let is : ℕ → ℕ = λ j. cond (j == i) 1 0 in
+          let same = sum_by-IsPermutation is these es all in
+          let here = times_in test n 0 i (omega arith) (omega (arith, within)) due' in
+          let first = first_in_line p at xs lanes line i h.is_picked.1.0 (omega (arith, same, here)) (ap (λ (qs : List Place). times i (map (λ (q : Place). q.entry) qs)) (sym h.is_picked.1.1) ∙ none) in
+          All-map (λ k. is_before (place p.away (sec at) xs i) (place p.away (sec at) xs k) ≡ false) (λ (q : Place). q.entry) h.picked
+          (subst (All (λ (q : Place). is_before (place p.away (sec at) xs i) (place p.away (sec at) xs q.entry) ≡ false)) (sym h.is_picked.1.1) first);
     }
 
 -- what is asked of an entry by its try

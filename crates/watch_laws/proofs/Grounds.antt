@@ -1,8 +1,7 @@
 -- Grounds: what holds of every state of a history. For the laws of outages.
-use Rattle.std.proofs.Common.{◌≡◌, ◌∙◌, ℕ, zero, suc, ◌+◌, ◌<◌, ◌≤◌, Bool, true, false, ◌==◌, List, [], ◌∷◌, ◌++◌, Option, Some, None, All, Result, Ok, Err, is_none, length, map, refl, sym, ap, subst, arith}
+use Rattle.std.proofs.Common.{◌≡◌, ◌∙◌, ℕ, ◌<◌, ◌≤◌, List, [], ◌∷◌, Option, Some, None, All, Result, Ok, Err, length, refl, sym, ap, subst, arith}
 use Rattle.std.proofs.lemmas.List.{length-map}
 use Rattle.std.proofs.lemmas.List.Elements.{All-nil, All-weaker}
-use Rattle.keep_tree.specs.declared.entry.Entry.{Entry}
 use Rattle.keep_tree.specs.Forest.{Forest}
 use Rattle.watch_machine.specs.declared.command.Output.{Output}
 use Rattle.watch_machine.specs.declared.event.Event.{Event}
@@ -19,21 +18,20 @@ use Rattle.watch_machine.specs.Looked.{looked}
 use Rattle.watch_machine.specs.Press.{pressed}
 use Rattle.watch_machine.specs.Refusal.{request_out}
 use Rattle.watch_machine.specs.Renewed.{renewed}
-use Rattle.watch_machine.specs.State.{State, fresh_track, opened, track_at, track_in}
-use Rattle.watch_machine.specs.Settling.{timed}
+use Rattle.watch_machine.specs.State.{State, fresh_track, opened}
 use Rattle.watch_machine.specs.Step.{Step, StepLooked, StepRenewed, readied}
 use Rattle.watch_laws.specs.Turns.{after_all}
-use Rattle.watch_laws.proofs.Alone.{IsAlone, turn_alone}
+use Rattle.watch_laws.proofs.Alone.{turn_alone}
 use Rattle.watch_laws.proofs.Answering.{looked_leaves, renewed_leaves, rest_of}
-use Rattle.watch_laws.proofs.Clocking.{begun_some, readied_clocks, refused_stays}
+use Rattle.watch_laws.proofs.Clocking.{readied_clocks, refused_stays}
 use Rattle.watch_laws.proofs.Going.{entry_by}
 use Rattle.watch_laws.proofs.Lanes.{Ticks, all_left, all_sent, pressed_count, ticks}
-use Rattle.watch_laws.proofs.Owed.{AllTry, first_tries, turn_outcome}
+use Rattle.watch_laws.proofs.Owed.{first_tries, turn_outcome}
 use Rattle.watch_laws.proofs.Retrying.{IsPast, first_past, rises, turn_past}
 use Rattle.watch_laws.proofs.Spacing.{looked_out}
 use Rattle.watch_laws.proofs.Stages.{IsBase}
 use Rattle.watch_laws.proofs.Topping.{readied_count, turn_count}
-use Rattle.watch_laws.proofs.Width.{Fits, turn_fits}
+use Rattle.watch_laws.proofs.Width.{turn_fits}
 
 abbrev Bounds : ℕ → State → Type 0
 Bounds n s = All (λ (q : Out). q.entry < n) s.out × All (λ (q : Out). q.since ≤ s.clocks.at) s.out

@@ -1,7 +1,6 @@
 -- Lanes: what a turn makes of the requests that are out, and of the entries that wait. For the law of outages.
-use Rattle.std.proofs.Common.{◌≡◌, ◌≢◌, ◌⊎◌, ◌∙◌, ℕ, suc, ◌+◌, ◌-◌, ◌<◌, ◌≤◌, Bool, true, false, not, ◌&&◌, ◌||◌, ◌==◌, if◌then◌else◌, List, [], ◌∷◌, ◌++◌, Option, Some, None, All, Result, Ok, Err, cond, filter, get_or, is_none, is_some, length, map, nat_le, refl, sym, ap, subst, arith, inl, inr}
-use Rattle.std.proofs.lemmas.Bool.{and_from, and_parts, cases_Bool, cond-false, cond-true, eqb-true, or_parts}
-use Rattle.std.proofs.lemmas.Bool.Decides.{nat_tests}
+use Rattle.std.proofs.Common.{◌≡◌, ◌≢◌, ◌⊎◌, ◌∙◌, ℕ, ◌+◌, ◌-◌, ◌<◌, ◌≤◌, Bool, true, false, not, ◌&&◌, ◌||◌, ◌==◌, if◌then◌else◌, List, [], ◌∷◌, ◌++◌, Option, Some, None, All, Result, Ok, Err, filter, get_or, length, map, nat_le, refl, sym, ap, subst, arith, inl, inr}
+use Rattle.std.proofs.lemmas.Bool.{and_from, and_parts, cases_Bool, cond-false, cond-true, eqb-true}
 use Rattle.std.proofs.lemmas.List.Elements.{All-append, All-cons, All-filter, All-head, All-map, All-nil, All-tail, All-weaker}
 use Rattle.std.specs.List.{list_any}
 use Rattle.watch_machine.specs.declared.command.Command.{Command}
@@ -34,7 +33,7 @@ use Rattle.watch_machine.specs.Wait.{wait}
 use Rattle.watch_machine.proofs.Cases.{if_both, not_both}
 use Rattle.watch_machine.proofs.Written.{each_length}
 use Rattle.watch_laws.specs.Outage.{Outage, comes, how_many, is_served, is_tried, is_whole, waits}
-use Rattle.watch_laws.proofs.Alone.{IsAlone, flag, lanes_of}
+use Rattle.watch_laws.proofs.Alone.{IsAlone, flag}
 use Rattle.watch_laws.proofs.Clocking.{refused_stays}
 use Rattle.watch_laws.proofs.Counting.{counted, no_lane, sums}
 use Rattle.watch_laws.proofs.Going.{Goes, entry_by, goes, request_at}
@@ -335,7 +334,7 @@ fewer_wait o from n old new alone_old alone tries sends =
     ]))
 
 -- what holds of the requests that are out, and of those that go out, holds of all after a clock
-each_named : (p : Presence) (now : ℕ) (xs : List Track) (is : List ℕ) → All (λ k. list_any (λ (r : Request). r.entry == k) (map (request_at p now xs) is) ≡ true) is
+pub each_named : (p : Presence) (now : ℕ) (xs : List Track) (is : List ℕ) → All (λ k. list_any (λ (r : Request). r.entry == k) (map (request_at p now xs) is) ≡ true) is
 each_named p now xs [] = All-nil (λ k. list_any (λ (r : Request). r.entry == k) [] ≡ true)
 each_named p now xs (j ∷ js) =
     let rs = map (request_at p now xs) js in

@@ -1,5 +1,5 @@
 -- Lasting: what stays of an entry while its requests are lost. For the law of outages.
-use Rattle.std.proofs.Common.{◌≡◌, ◌≢◌, ◌∙◌, ℕ, zero, suc, ◌<◌, Bool, true, false, min, not, ◌&&◌, ◌||◌, ◌==◌, if◌then◌else◌, List, [], ◌∷◌, Option, Some, None, All, IfSome, Result, Ok, Err, length, refl, sym, ap, subst, inl, inr}
+use Rattle.std.proofs.Common.{◌≡◌, ◌≢◌, ◌∙◌, ℕ, zero, suc, Bool, true, false, min, not, ◌||◌, ◌==◌, if◌then◌else◌, List, [], ◌∷◌, Option, Some, None, All, Result, Ok, Err, length, refl, sym, ap, subst, inl, inr}
 use Rattle.std.proofs.lemmas.Bool.{cases_Bool, eqb-true}
 use Rattle.std.proofs.lemmas.List.{get_or-set_other, length-set}
 use Rattle.std.specs.List.{list_any}
@@ -11,7 +11,6 @@ use Rattle.watch_machine.specs.declared.command.Output.{Output}
 use Rattle.watch_machine.specs.declared.command.Request.{Request}
 use Rattle.watch_machine.specs.declared.event.Event.{Event}
 use Rattle.watch_machine.specs.declared.event.Event.TheVariants.{Clock, Looked, Renewed, Need, Begin, Known}
-use Rattle.watch_machine.specs.declared.event.Operation.{Operation}
 use Rattle.watch_machine.specs.declared.event.Operation.TheVariants.{Look, Renew}
 use Rattle.watch_machine.specs.declared.event.Reply.{Reply}
 use Rattle.watch_machine.specs.declared.event.Reply.TheVariants.{Told, Refused, Busy, Lost}
@@ -28,7 +27,7 @@ use Rattle.watch_machine.specs.Looked.{by_terms, looked}
 use Rattle.watch_machine.specs.Margins.{has_come, own_by, own_margin, lead, time, time_before}
 use Rattle.watch_machine.specs.Press.{asked_in, asked_track, dropped, is_fresh, press, pressed, pressed_alone, pressed_track}
 use Rattle.watch_machine.specs.Readings.{time_of}
-use Rattle.watch_machine.specs.Refusal.{is_same, request_out}
+use Rattle.watch_machine.specs.Refusal.{request_out}
 use Rattle.watch_machine.specs.Renewed.{renewed, renewed_track, ungranted_track}
 use Rattle.watch_machine.specs.Sending.{sent, sent_in, sent_track}
 use Rattle.watch_machine.specs.Settling.{settled, settled_track, timed}
@@ -37,7 +36,7 @@ use Rattle.watch_machine.specs.Step.{Step, StepLooked, StepRenewed, needed, read
 use Rattle.watch_machine.specs.Wanted.{need_of, wants}
 use Rattle.watch_machine.proofs.Cases.{if_both, not_both, of_value}
 use Rattle.watch_machine.proofs.Within.{out_all, out_entry}
-use Rattle.watch_laws.specs.Outage.{IsLived, IsReply, Outage}
+use Rattle.watch_laws.specs.Outage.{IsLived, Outage}
 use Rattle.watch_laws.proofs.Clocking.{refused_stays}
 use Rattle.watch_laws.proofs.Lanes.{Ticks, ticks}
 use Rattle.watch_laws.proofs.Spacing.{looked_other, out_operation, same_index}
@@ -54,7 +53,7 @@ Bears y x = (y.end ≡ x.end) × ((y.grant ≡ x.grant) × (y.owes ≡ x.owes))
 pub same_bears : (x : Track) → Bears x x
 same_bears x = (refl, (refl, refl))
 
-both_bear : (z y x : Track) → Bears z y → Bears y x → Bears z x
+pub both_bear : (z y x : Track) → Bears z y → Bears y x → Bears z x
 both_bear z y x h k = (h.0 ∙ k.0, (h.1.0 ∙ k.1.0, h.1.1 ∙ k.1.1))
 
 settled_bears : (margin at : ℕ) (x : Track) → Bears (settled_track margin at x) x
@@ -73,7 +72,7 @@ asked_bears margin e at round i x =
     if_both (λ y. Bears y x) (list_any (λ j. j == i) round) (asked_track margin e at x) x
     (if_both (λ y. Bears y x) x.out x (record x { attempt = Some (press at (not (has_come margin e x (sec at))) x) }) (refl, (refl, refl)) (refl, (refl, refl))) (refl, (refl, refl))
 
-sent_bears : (at : ℕ) (requests : List Request) (i : ℕ) (x : Track) → Bears (sent_in at requests i x) x
+pub sent_bears : (at : ℕ) (requests : List Request) (i : ℕ) (x : Track) → Bears (sent_in at requests i x) x
 sent_bears at requests i x = if_both (λ y. Bears y x) (list_any (λ (r : Request). r.entry == i) requests) (sent_track at x) x (refl, (refl, refl)) (refl, (refl, refl))
 
 pub back_bears : (x : Track) → Bears (back_track x) x
@@ -89,7 +88,7 @@ pub calm_ready : (s : State) (wall elapsed : ℕ) → why s wall elapsed ≡ Non
 unfolding readied
 calm_ready s wall elapsed none = ap (begun (settled (timed s wall elapsed))) none
 
-mid_bears : (s : State) (round : List ℕ) (i : ℕ) → Bears (track_at (pressed s round) i) (track_at s i)
+pub mid_bears : (s : State) (round : List ℕ) (i : ℕ) → Bears (track_at (pressed s round) i) (track_at s i)
 mid_bears s round i =
     let c = s.clocks in
     let g = s.forest in
@@ -99,7 +98,7 @@ mid_bears s round i =
     (each_kept Bears (same_bears no_track) (λ j. pressed_track g.margin (entry_at g.entries j) (need_of g.entries s.tracks c j) c.at) s.tracks
     (λ j x. pressed_bears g.margin (entry_at g.entries j) (need_of g.entries s.tracks c j) c.at x) i)
 
-clock_bears : (old new : State) (wall elapsed : ℕ) (output : Output) (i : ℕ) → Ticks old new wall elapsed output → why old wall elapsed ≡ None → Bears (track_at new i) (track_at old i)
+pub clock_bears : (old new : State) (wall elapsed : ℕ) (output : Output) (i : ℕ) → Ticks old new wall elapsed output → why old wall elapsed ≡ None → Bears (track_at new i) (track_at old i)
 clock_bears old new wall elapsed output i h none =
     let t = timed old wall elapsed in
     let ready = readied old wall elapsed in

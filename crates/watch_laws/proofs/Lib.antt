@@ -6,6 +6,7 @@ pub mod Needing
 pub mod Topping
 pub mod Ceiling
 pub mod Resting
+pub mod Order
 pub mod Going
 pub mod Spacing
 pub mod Load
@@ -30,6 +31,11 @@ pub mod Ticking
 pub mod Answered
 pub mod Outliving
 pub mod Recovering
+pub mod Fronts
+pub mod Spans
+pub mod Held
+pub mod Once
+pub mod Passing
 pub mod Ahead
 pub mod Believed
 pub mod Forested
@@ -40,3 +46,7 @@ pub mod OnPlan
 pub mod CalmClock
 pub mod CalmGrant
 pub mod CalmDay
+pub mod Lookups
+pub mod LookedOnce
+pub mod Working
+pub mod Starting

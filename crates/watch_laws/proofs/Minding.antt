@@ -151,7 +151,7 @@ sent_stands margin e need now at requests xs i h =
     (if_both (Stands margin e need now) (list_any (λ (r : Request). r.entry == i) requests) (sent_track at (track_in xs i)) (track_in xs i) (λ wanted bad. absurd (true≢false bad)) h)
 
 -- a try that may go out now is due
-due_so : (p : Presence) (at : ℕ) (x : Track) (t : Try) → x.out ≡ false → x.attempt ≡ Some t → ready p x t ≤ at → is_due p at x ≡ true
+pub due_so : (p : Presence) (at : ℕ) (x : Track) (t : Try) → x.out ≡ false → x.attempt ≡ Some t → ready p x t ≤ at → is_due p at x ≡ true
 unfolding is_due
 due_so p at x t free is now =
     and_from (not x.out) (is_due_try p at x x.attempt) (ap not free) (ap (is_due_try p at x) is ∙ (let test : nat_le (ready p x t) at ≡ true = grind (arith, nat_tests) in test))
@@ -162,7 +162,7 @@ module _ (s : State) (requests : List Request) (i : ℕ) where
   gone = sent s requests
 
   -- an entry that is not out after it was not named
-  not_named : i < length s.tracks → (track_at gone i).out ≡ false → list_any (λ (r : Request). r.entry == i) requests ≡ false
+  pub not_named : i < length s.tracks → (track_at gone i).out ≡ false → list_any (λ (r : Request). r.entry == i) requests ≡ false
   not_named within free =
       elim (cases_Bool (list_any (λ (r : Request). r.entry == i) requests)) [
         | inl named ↦ absurd (not_both (ap (λ (x : Track). x.out) (went s requests i named within)) free)

@@ -84,7 +84,7 @@ none_passed es margin s0 e d s (t ∷ ts) rises = rises.0
 
 -- ---- time passes
 
-sec_rises : (a b : ℕ) → a ≤ b → sec a ≤ sec b
+pub sec_rises : (a b : ℕ) → a ≤ b → sec a ≤ sec b
 unfolding sec
 sec_rises a b h = omega arith
 

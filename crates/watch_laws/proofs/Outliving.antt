@@ -1,13 +1,11 @@
 -- Outliving: an entry outlives every outage that its margin does. For the laws of outages.
-use Rattle.std.proofs.Common.{◌≡◌, ◌⊎◌, ◌∙◌, ℕ, zero, suc, ◌+◌, ◌-◌, ◌*◌, ◌<◌, ◌≤◌, Bool, true, false, max, min, not, ◌&&◌, ◌||◌, ◌==◌, if◌then◌else◌, List, [], ◌∷◌, ◌++◌, Option, Some, None, All, IfSome, Result, Ok, Err, get_or, is_none, is_some, length, map, nat_le, nat_lt, refl, sym, ap, subst, arith, inl, inr, true≢false}
+use Rattle.std.proofs.Common.{◌≡◌, ◌⊎◌, ◌∙◌, ℕ, suc, ◌+◌, ◌*◌, ◌<◌, ◌≤◌, Bool, true, false, not, ◌&&◌, ◌||◌, List, [], ◌∷◌, ◌++◌, Option, Some, None, All, IfSome, Result, Ok, Err, get_or, is_some, length, map, nat_lt, refl, sym, ap, subst, arith, inl, inr, true≢false}
 use Rattle.std.proofs.lemmas.Bool.{and_parts, cases_Bool, cases_lt, eqb-true}
-use Rattle.std.proofs.lemmas.Bool.Decides.{nat_tests}
 use Rattle.std.proofs.lemmas.List.{length-set}
 use Rattle.std.proofs.lemmas.List.Elements.{All-weaker}
 use Rattle.std.specs.List.{list_any}
 use Rattle.keep_tree.specs.Forest.{Forest}
-use Rattle.watch_machine.specs.declared.command.Command.{Command}
-use Rattle.watch_machine.specs.declared.command.Command.TheVariants.{Go, Taken}
+use Rattle.watch_machine.specs.declared.command.Command.TheVariants.{Taken}
 use Rattle.watch_machine.specs.declared.command.Output.{Output}
 use Rattle.watch_machine.specs.declared.event.Event.{Event}
 use Rattle.watch_machine.specs.declared.event.Event.TheVariants.{Clock, Looked, Renewed, Need, Begin, Known}
@@ -16,15 +14,13 @@ use Rattle.watch_machine.specs.declared.event.Reply.{Reply}
 use Rattle.watch_machine.specs.declared.event.Reply.TheVariants.{Told, Refused, Busy, Lost}
 use Rattle.watch_machine.specs.declared.event.Terms.{Terms}
 use Rattle.watch_machine.specs.declared.fault.WatchFault.{WatchFault}
-use Rattle.watch_machine.specs.declared.fault.WatchFault.TheVariants.{NotAsked, BadIndex, OutOfMemory}
 use Rattle.watch_machine.specs.declared.lanes.Answer.{Answer}
 use Rattle.watch_machine.specs.declared.lanes.Out.{Out}
 use Rattle.watch_machine.specs.declared.track.End.{End}
 use Rattle.watch_machine.specs.declared.track.End.TheVariants.{Unknown, At, Never}
 use Rattle.watch_machine.specs.declared.track.Track.{Track}
-use Rattle.watch_machine.specs.declared.track.Try.{Try}
 use Rattle.watch_machine.specs.Answers.{noted, replied}
-use Rattle.watch_machine.specs.Clocks.{ms, sec}
+use Rattle.watch_machine.specs.Clocks.{ms}
 use Rattle.watch_machine.specs.History.{History, IsRun, Turn, Turned}
 use Rattle.watch_machine.specs.Lines.{rested}
 use Rattle.watch_machine.specs.Looked.{looked}
@@ -34,12 +30,12 @@ use Rattle.watch_machine.specs.Readings.{time_of}
 use Rattle.watch_machine.specs.Refusal.{request_out}
 use Rattle.watch_machine.specs.Renewed.{renewed}
 use Rattle.watch_machine.specs.Sending.{sent}
-use Rattle.watch_machine.specs.Settling.{is_busy, is_silent, timed}
+use Rattle.watch_machine.specs.Settling.{is_busy, is_silent}
 use Rattle.watch_machine.specs.State.{State, attempt_at, entry_of, opened, second, track_at}
-use Rattle.watch_machine.specs.Step.{Step, StepClock, StepLooked, StepRenewed, needed, readied}
+use Rattle.watch_machine.specs.Step.{Step, StepLooked, StepRenewed, needed, readied}
 use Rattle.watch_machine.specs.Wait.{wait}
-use Rattle.watch_machine.specs.Wanted.{believed, is_never, is_unknown, is_wanted, least, wanted_need, wants}
-use Rattle.watch_machine.proofs.Cases.{if_both, not_both}
+use Rattle.watch_machine.specs.Wanted.{believed, is_never, is_unknown, is_wanted, wanted_need, wants}
+use Rattle.watch_machine.proofs.Cases.{not_both}
 use Rattle.watch_laws.specs.Absence.{is_clock, is_taken}
 use Rattle.watch_laws.specs.Outage.{AllInTime, AreLived, GrantLaw, IsBefore, IsIncident, IsInTime, IsLived, IsReply, IsShort, Outage, OutageLaw, again, asked_at, coming, comes, granted_at, granted_by, granted_next, how_many, is_served, is_whole, next_after, next_after_command, next_by, settled_by, waiting}
 use Rattle.watch_laws.specs.Turns.{after_all}
@@ -47,14 +43,14 @@ use Rattle.watch_laws.proofs.Alone.{IsAlone}
 use Rattle.watch_laws.proofs.Answered.{IsReplied, goes_on_after, looked_replied, renewed_replied, replied_through}
 use Rattle.watch_laws.proofs.Clocking.{refused_stays}
 use Rattle.watch_laws.proofs.Counting.{least_all}
-use Rattle.watch_laws.proofs.Enduring.{Cutting, Endures, IsPending, Kept, Missed, any_time, cut, cut_off, real_away}
+use Rattle.watch_laws.proofs.Enduring.{Cutting, Endures, Kept, Missed, cut, cut_off, real_away}
 use Rattle.watch_laws.proofs.Grounds.{opened_base, ran_base, turn_base}
-use Rattle.watch_laws.proofs.Lanes.{Sends, Ticks, is_of, is_anew, served_marked, ticks, turn_sends}
+use Rattle.watch_laws.proofs.Lanes.{Sends, Ticks, served_marked, ticks, turn_sends}
 use Rattle.watch_laws.proofs.Lasting.{Asks, Same, clock_forest, same_time, turn_same}
 use Rattle.watch_laws.proofs.Retrying.{rises}
 use Rattle.watch_laws.proofs.Minding.{end_minded, least_start}
 use Rattle.watch_laws.proofs.Sparing.{readied_answers}
-use Rattle.watch_laws.proofs.Stages.{Facts, IsBack, IsBase, IsCut, IsEarly, IsGoing, IsPlanned, IsServed, IsThrough, due_ahead, free_from, margin_holds, quick_if, turn_of}
+use Rattle.watch_laws.proofs.Stages.{Facts, IsBase, IsGoing, IsPlanned, IsThrough, due_ahead, free_from, margin_holds, quick_if, turn_of}
 use Rattle.watch_laws.proofs.Ticking.{IsTick, any_gives, anew_none, before_time, clock_goes, early_cut, free_lanes, none_of, none_passes, not_so, not_whole, so_whole, ticks_through}
 use Rattle.watch_laws.proofs.Tracking.{replied_forest}
 

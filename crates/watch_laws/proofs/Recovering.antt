@@ -1,13 +1,10 @@
 -- Recovering: while the broker is there, an entry that may go out is passed over by few rounds. For the law of recovery.
-use Rattle.std.proofs.Common.{◌≡◌, ◌⊎◌, ◌∙◌, ℕ, suc, ◌+◌, ◌*◌, ◌<◌, ◌≤◌, Bool, true, false, not, ◌&&◌, ◌||◌, ◌==◌, if◌then◌else◌, List, [], ◌∷◌, ◌++◌, Option, Some, None, All, Result, Ok, Err, get_or, is_some, length, map, nat_le, refl, sym, ap, subst, arith, inl, inr, true≢false}
+use Rattle.std.proofs.Common.{◌≡◌, ◌∙◌, ℕ, suc, ◌+◌, ◌*◌, ◌<◌, ◌≤◌, true, false, not, ◌&&◌, List, [], ◌∷◌, Option, Some, None, All, Result, Ok, Err, get_or, is_some, length, nat_le, refl, sym, ap, subst, arith, inl, inr}
 use Rattle.std.proofs.Math.Nat.{mul-suc}
 use Rattle.std.proofs.lemmas.Bool.{and_from, cases_Bool}
 use Rattle.std.proofs.lemmas.Bool.Decides.{nat_tests}
-use Rattle.std.proofs.lemmas.List.Elements.{All-weaker}
 use Rattle.std.specs.List.{list_any}
-use Rattle.keep_tree.specs.Forest.{Forest}
-use Rattle.watch_machine.specs.declared.command.Command.{Command}
-use Rattle.watch_machine.specs.declared.command.Command.TheVariants.{Go, Taken}
+use Rattle.watch_machine.specs.declared.command.Command.TheVariants.{Taken}
 use Rattle.watch_machine.specs.declared.command.Output.{Output}
 use Rattle.watch_machine.specs.declared.event.Event.{Event}
 use Rattle.watch_machine.specs.declared.event.Event.TheVariants.{Clock, Looked, Renewed, Need, Begin, Known}
@@ -16,23 +13,19 @@ use Rattle.watch_machine.specs.declared.event.Reply.{Reply}
 use Rattle.watch_machine.specs.declared.event.Terms.{Terms}
 use Rattle.watch_machine.specs.declared.fault.WatchFault.{WatchFault}
 use Rattle.watch_machine.specs.declared.lanes.Out.{Out}
-use Rattle.watch_machine.specs.declared.track.Try.{Try}
 use Rattle.watch_machine.specs.Answers.{noted, replied}
-use Rattle.watch_machine.specs.Clocks.{sec}
 use Rattle.watch_machine.specs.History.{History, Turn, Turned}
-use Rattle.watch_machine.specs.Lines.{ready}
 use Rattle.watch_machine.specs.Looked.{looked}
 use Rattle.watch_machine.specs.Press.{pressed}
 use Rattle.watch_machine.specs.Refusal.{request_out}
 use Rattle.watch_machine.specs.Renewed.{renewed}
 use Rattle.watch_machine.specs.Sending.{sent}
 use Rattle.watch_machine.specs.Settling.{timed}
-use Rattle.watch_machine.specs.State.{State, attempt_at, opened, track_at}
+use Rattle.watch_machine.specs.State.{State, opened}
 use Rattle.watch_machine.specs.Step.{Step, StepLooked, StepRenewed, readied}
 use Rattle.watch_machine.specs.Wait.{wait}
 use Rattle.watch_machine.proofs.Cases.{not_both}
-use Rattle.watch_laws.specs.Absence.{is_clock, is_taken}
-use Rattle.watch_laws.specs.Outage.{Outage, coming, comes, how_many, is_served, is_tried, is_whole, next_after, next_after_command, next_by, settled_by, waiting, waits}
+use Rattle.watch_laws.specs.Outage.{coming, comes, how_many, is_served, is_tried, is_whole, next_after, next_after_command, next_by, settled_by, waiting, waits}
 use Rattle.watch_laws.specs.Recovery.{AllBy, ArePassing, IsPassed, IsPassing, MayGo, RecoveryLaw, calm}
 use Rattle.watch_laws.specs.Turns.{after_all}
 use Rattle.watch_laws.proofs.Answering.{looked_leaves, renewed_leaves, rest_of}
@@ -41,35 +34,34 @@ use Rattle.watch_laws.proofs.Counting.{lanes_apart, least_all, some}
 use Rattle.watch_laws.proofs.Grounds.{opened_base, ran_base, turn_base}
 use Rattle.watch_laws.proofs.Lanes.{Sends, Ticks, all_left, fewer_wait, is_anew, served_marked, ticks, turn_sends}
 use Rattle.watch_laws.proofs.Minding.{some_within, tended}
-use Rattle.watch_laws.proofs.Outliving.{Starts, first_turns, last_turns, starts}
-use Rattle.watch_laws.proofs.Retrying.{rises}
+use Rattle.watch_laws.proofs.Outliving.{first_turns, last_turns, starts}
 use Rattle.watch_laws.proofs.Spacing.{looked_out}
-use Rattle.watch_laws.proofs.Stages.{IsBase, one_left, quick_if, take_one, turn_of, whole_after}
+use Rattle.watch_laws.proofs.Stages.{IsBase, one_left, quick_if, take_one, whole_after}
 use Rattle.watch_laws.proofs.Ticking.{any_gives, anew_none, later_than, none_passes, one_lane, some_lane}
 
 -- every request is whole
-all_whole : (quick late since : ℕ) → is_whole (calm quick late) since ≡ true
+pub all_whole : (quick late since : ℕ) → is_whole (calm quick late) since ≡ true
 all_whole quick late since = whole_after (calm quick late) since (omega arith)
 
-settles_so : (quick late since : ℕ) → settled_by (calm quick late) since ≡ since + quick
+pub settles_so : (quick late since : ℕ) → settled_by (calm quick late) since ≡ since + quick
 settles_so quick late since = quick_if (calm quick late) since (all_whole quick late since)
 
-abbrev Timely : ℕ → ℕ → ℕ → Out → Type 0
+abbrev pub Timely : ℕ → ℕ → ℕ → Out → Type 0
 Timely quick late due q = due ≤ settled_by (calm quick late) q.since + late
 
 -- after a turn: r rounds hold those that wait, but for those that went out after from; and by is the last moment
-record Passes (quick late width n i by due k : ℕ) (s : State) : Type 0 where
-  base : IsBase width n s
-  timely : All (Timely quick late due) s.out
-  r : ℕ
-  from : ℕ
-  count : k + how_many n (is_anew (calm quick late) (suc from) s) ≤ width * r
-  start : from + (quick + late) * r ≤ by
-  next : due ≤ from + (quick + late)
-  now : s.clocks.at ≤ by
+pub record Passes (quick late width n i by due k : ℕ) (s : State) : Type 0 where
+  pub base : IsBase width n s
+  pub timely : All (Timely quick late due) s.out
+  pub r : ℕ
+  pub from : ℕ
+  pub count : k + how_many n (is_anew (calm quick late) (suc from) s) ≤ width * r
+  pub start : from + (quick + late) * r ≤ by
+  pub next : due ≤ from + (quick + late)
+  pub now : s.clocks.at ≤ by
 
 -- who may go out and has not finds all lanes taken
-full_lanes : (old new : State) (wall elapsed : ℕ) (output : Output) (i width : ℕ) → Ticks old new wall elapsed output → MayGo new i → new.width ≡ width → width ≤ length new.out
+pub full_lanes : (old new : State) (wall elapsed : ℕ) (output : Output) (i width : ℕ) → Ticks old new wall elapsed output → MayGo new i → new.width ≡ width → width ≤ length new.out
 full_lanes old new wall elapsed output i width h m wide =
     let ready' = readied old wall elapsed in
     let end = sent (pressed ready' h.round) h.requests in
@@ -84,7 +76,7 @@ full_lanes old new wall elapsed output i width h m wide =
     ]
 
 -- so the next clock comes soon
-soon_next :
+pub soon_next :
     (quick late width n i by due : ℕ) (s : State) → 0 < width → IsBase width n s → All (Timely quick late due) s.out → width ≤ length s.out → due ≤ s.clocks.at + (quick + late)
 soon_next quick late width n i by due s wide base timely full =
     let now = base.since in
@@ -97,7 +89,7 @@ soon_next quick late width n i by due s wide base timely full =
     omega (arith, t, e, le))
 
 -- a clock
-clock_passes :
+pub clock_passes :
     (quick late width n i by due rest : ℕ) (old new : State) (wall elapsed : ℕ) (output : Output) → 0 < width → i < n → Step old (Clock wall elapsed) output new → (timed old wall elapsed).clocks.at ≤ due → MayGo new i →
     IsBase width n new → Sends old new n → Passes quick late width n i by due (waiting (calm quick late) n old + (how_many n (comes (calm quick late) old new) + rest)) old →
     Passes quick late width n i by (next_after_command (calm quick late) output.command new due) (waiting (calm quick late) n new + rest) new
@@ -162,7 +154,7 @@ clock_passes quick late width n i by due rest old new wall elapsed output wide l
     ])
 
 -- any other event leaves the clock, and what is out
-abbrev Quiet : ℕ → ℕ → ℕ → State → State → Output → Type 0
+abbrev pub Quiet : ℕ → ℕ → ℕ → State → State → Output → Type 0
 Quiet quick late due old new output =
     (new.clocks.at ≡ old.clocks.at) × ((All (Timely quick late due) old.out → All (Timely quick late due) new.out) × (next_after_command (calm quick late) output.command new due ≡ due))
 
@@ -175,18 +167,18 @@ answer_quiet quick late due old mid new q reply output out is outs clocks made t
   ),
 )
 
-looked_quiet : (quick late due : ℕ) (old new : State) (found : Option Out) (reply : Reply) (terms : Terms) (output : Output) → StepLooked old found reply terms output new → Quiet quick late due old new output
+pub looked_quiet : (quick late due : ℕ) (old new : State) (found : Option Out) (reply : Reply) (terms : Terms) (output : Output) → StepLooked old found reply terms output new → Quiet quick late due old new output
 looked_quiet quick late due old new None reply terms output step = absurd step
 looked_quiet quick late due old new (Some q) reply terms output step =
     let s = noted old q reply in
     answer_quiet quick late due old (looked s q reply terms) new q reply output _ step.1 (looked_out s q reply terms) (ap (λ (x : State). x.clocks) (ap rest_of step.1 ∙ looked_leaves old q reply terms)) step.0 refl
 
-renewed_quiet : (quick late due : ℕ) (old new : State) (found : Option Out) (reply : Reply) (output : Output) → StepRenewed old found reply output new → Quiet quick late due old new output
+pub renewed_quiet : (quick late due : ℕ) (old new : State) (found : Option Out) (reply : Reply) (output : Output) → StepRenewed old found reply output new → Quiet quick late due old new output
 renewed_quiet quick late due old new None reply output step = absurd step
 renewed_quiet quick late due old new (Some q) reply output step =
     answer_quiet quick late due old (renewed (noted old q reply) q reply) new q reply output _ step.1 refl (ap (λ (x : State). x.clocks) (ap rest_of step.1 ∙ renewed_leaves old q reply)) step.0 refl
 
-same_quiet : (quick late due : ℕ) (old mid new : State) (output out : Output) → new ≡ mid → mid.clocks ≡ old.clocks → mid.out ≡ old.out → output ≡ out → out.command ≡ Taken → Quiet quick late due old new output
+pub same_quiet : (quick late due : ℕ) (old mid new : State) (output out : Output) → new ≡ mid → mid.clocks ≡ old.clocks → mid.out ≡ old.out → output ≡ out → out.command ≡ Taken → Quiet quick late due old new output
 same_quiet quick late due old mid new output out is clocks outs made taken' = (
   ap (λ (x : State). x.clocks.at) is ∙ ap (λ c. c.at) clocks,
   (
@@ -195,7 +187,7 @@ same_quiet quick late due old mid new output out is clocks outs made taken' = (
   ),
 )
 
-quiet_passes :
+pub quiet_passes :
     (quick late width n i by due rest : ℕ) (old new : State) (output : Output) → Quiet quick late due old new output → IsBase width n new → Sends old new n →
     Passes quick late width n i by due (waiting (calm quick late) n old + (how_many n (comes (calm quick late) old new) + rest)) old →
     Passes quick late width n i by (next_after_command (calm quick late) output.command new due) (waiting (calm quick late) n new + rest) new

@@ -1,5 +1,5 @@
 -- Stages: how an outage goes by for an entry, stage by stage, and the sums of each. For the law of outages.
-use Rattle.std.proofs.Common.{◌≡◌, ◌⊎◌, ◌∙◌, ℕ, zero, suc, ◌+◌, ◌-◌, ◌*◌, ◌/◌, ◌<◌, ◌≤◌, Bool, true, false, max, not, ◌&&◌, ◌||◌, ◌==◌, if◌then◌else◌, List, Option, Some, None, All, length, nat_le, nat_lt, refl, sym, ap, subst, arith, inl, inr}
+use Rattle.std.proofs.Common.{◌≡◌, ◌⊎◌, ◌∙◌, ℕ, zero, suc, ◌+◌, ◌-◌, ◌*◌, ◌/◌, ◌<◌, ◌≤◌, Bool, true, false, max, ◌||◌, All, length, nat_le, refl, sym, ap, subst, arith, inl, inr}
 use Rattle.std.proofs.Math.Nat.{mul-suc, mul-zero}
 use Rattle.std.proofs.lemmas.Bool.Decides.{nat_tests}
 use Rattle.std.proofs.lemmas.Bool.{cond-true}
@@ -10,7 +10,7 @@ use Rattle.watch_machine.specs.Clocks.{ms}
 use Rattle.watch_machine.specs.Readings.{time_of}
 use Rattle.watch_machine.specs.Settling.{is_busy}
 use Rattle.watch_machine.specs.State.{State, track_at}
-use Rattle.watch_laws.specs.Outage.{IsShort, Outage, again, breath, granted_by, how_many, is_served, is_whole, settled_by, sweep}
+use Rattle.watch_laws.specs.Outage.{IsShort, Outage, again, granted_by, how_many, is_served, is_whole, settled_by}
 use Rattle.watch_laws.proofs.Alone.{IsAlone}
 use Rattle.watch_laws.proofs.Enduring.{Endures, cut}
 use Rattle.watch_laws.proofs.Lanes.{is_anew}

@@ -1,5 +1,5 @@
 -- Ticking: what a clock makes of the stages of an outage. For the law of outages.
-use Rattle.std.proofs.Common.{◌≡◌, ◌≢◌, ◌⊎◌, ◌∙◌, ℕ, zero, suc, ◌+◌, ◌-◌, ◌*◌, ◌<◌, ◌≤◌, Bool, true, false, cond, max, min, not, ◌&&◌, ◌||◌, ◌==◌, if◌then◌else◌, List, [], ◌∷◌, ◌++◌, Option, Some, None, All, filter, get_or, is_none, is_some, length, map, nat_le, nat_lt, refl, sym, ap, subst, arith, inl, inr}
+use Rattle.std.proofs.Common.{◌≡◌, ◌⊎◌, ◌∙◌, ℕ, suc, ◌+◌, ◌*◌, ◌<◌, ◌≤◌, Bool, true, false, max, not, ◌&&◌, ◌||◌, ◌==◌, List, [], ◌∷◌, Option, Some, None, All, get_or, is_some, length, map, nat_le, nat_lt, refl, sym, ap, subst, arith, inl, inr}
 use Rattle.std.proofs.Math.Nat.{mul-suc}
 use Rattle.std.proofs.lemmas.Bool.{and_from, and_parts, cases_Bool, cases_lt, cond-false, eqb-true, or_parts}
 use Rattle.std.proofs.lemmas.Bool.Decides.{nat_tests}
@@ -7,36 +7,34 @@ use Rattle.std.proofs.lemmas.List.Elements.{All-head, All-nil, All-cons, All-tai
 use Rattle.std.specs.List.{list_any}
 use Rattle.watch_machine.specs.declared.command.Output.{Output}
 use Rattle.watch_machine.specs.declared.command.Request.{Request}
-use Rattle.watch_machine.specs.declared.event.Operation.{Operation}
-use Rattle.watch_machine.specs.declared.event.Operation.TheVariants.{Look, Renew}
+use Rattle.watch_machine.specs.declared.event.Operation.TheVariants.{Renew}
 use Rattle.watch_machine.specs.declared.lanes.Answer.{Answer}
 use Rattle.watch_machine.specs.declared.lanes.Out.{Out}
 use Rattle.watch_machine.specs.declared.lanes.Presence.{Presence}
-use Rattle.watch_machine.specs.declared.track.End.TheVariants.{At}
 use Rattle.watch_machine.specs.declared.track.Track.{Track}
 use Rattle.watch_machine.specs.declared.track.Try.{Try}
 use Rattle.watch_machine.specs.Clocks.{ms, sec}
 use Rattle.watch_machine.specs.Lines.{is_due, is_first, ready, rested}
 use Rattle.watch_machine.specs.Press.{pressed}
 use Rattle.watch_machine.specs.Readings.{time_of}
-use Rattle.watch_machine.specs.Sending.{out_at, sent, sent_in, sent_track}
-use Rattle.watch_machine.specs.Settling.{held_back, is_busy, is_silent, pace_after, presence_after, timed}
+use Rattle.watch_machine.specs.Sending.{sent, sent_in, sent_track}
+use Rattle.watch_machine.specs.Settling.{is_busy, is_silent, presence_after, timed}
 use Rattle.watch_machine.specs.State.{State, attempt_at, second, track_at, track_in}
 use Rattle.watch_machine.specs.Step.{readied, why}
 use Rattle.watch_machine.specs.Wait.{wait}
-use Rattle.watch_machine.specs.Wanted.{is_wanted, least}
+use Rattle.watch_machine.specs.Wanted.{is_wanted}
 use Rattle.watch_machine.proofs.Cases.{if_both, if_cases, not_both}
-use Rattle.watch_laws.specs.Outage.{Outage, again, comes, granted_by, how_many, is_served, is_tried, is_whole, next_by, one_if, settled_by, waiting, waits}
+use Rattle.watch_laws.specs.Outage.{Outage, again, comes, granted_by, how_many, is_served, is_tried, is_whole, next_by, settled_by, waiting, waits}
 use Rattle.watch_laws.proofs.Alone.{IsAlone, flag, lanes_of}
 use Rattle.watch_laws.proofs.Clocking.{readied_clocks}
 use Rattle.watch_laws.proofs.Counting.{lanes_apart, lanes_most, least_all, no_lane, none, some}
-use Rattle.watch_laws.proofs.Enduring.{Cutting, Endures, IsKept, IsPending, Kept, Missed, Steady, any_time, clock_held, clock_steady, cut, cut_off, later_endures}
-use Rattle.watch_laws.proofs.Going.{asks_by, entry_by, named_of, one_sent, operation_of, request_at}
+use Rattle.watch_laws.proofs.Enduring.{Cutting, Endures, Kept, Missed, Steady, any_time, clock_held, clock_steady, cut, cut_off, later_endures}
+use Rattle.watch_laws.proofs.Going.{asks_by, entry_by, named_of, one_sent, operation_of}
 use Rattle.watch_laws.proofs.Holding.{ready_presence}
-use Rattle.watch_laws.proofs.Lanes.{Sends, Ticks, all_sent, fewer_wait, goes_out_now, is_anew, is_of, passes, pressed_count, served_marked, served_tried, stays_free, still_out}
+use Rattle.watch_laws.proofs.Lanes.{Sends, Ticks, all_sent, fewer_wait, goes_out_now, is_anew, is_of, pressed_count, served_marked, served_tried, stays_free, still_out}
 use Rattle.watch_laws.proofs.Lasting.{Asks, Same, same_time}
 use Rattle.watch_laws.proofs.Minding.{end_minded, least_start, tended}
-use Rattle.watch_laws.proofs.Owed.{AllTry, due_some}
+use Rattle.watch_laws.proofs.Owed.{due_some}
 use Rattle.watch_laws.proofs.Retrying.{ready_first, ready_later}
 use Rattle.watch_laws.proofs.Sparing.{readied_answers}
 use Rattle.watch_laws.proofs.Spacing.{free_of, mid_flag, passed_over, same_index, went}

@@ -1,15 +1,27 @@
--- Beginnings: how often everything is looked up anew. The law is the contract of a public function without a body.
+-- Beginnings: how often everything is looked up anew, and how often an entry is after that. Each law is the contract of a public function
+-- without a body.
 -- Source: this project's own.
-use Rattle.std.specs.Prelude.{◌≡◌, ◌⊎◌, ◌+◌, ◌≤◌, Bool, true, false, List, [], ◌∷◌, ◌++◌, Option, None, Result, Ok, Err, is_some}
+use Rattle.std.specs.Prelude.{◌≡◌, ◌⊎◌, ◌==◌, ℕ, ◌+◌, ◌<◌, ◌≤◌, Bool, true, false, ◌&&◌, List, [], ◌∷◌, ◌++◌, Option, None, Result, Ok, Err, filter, is_some, length}
 use Rattle.std.specs.List.{list_any}
+use Rattle.keep_tree.specs.Forest.{Forest}
 use Rattle.watch_machine.specs.declared.command.Output.{Output}
+use Rattle.watch_machine.specs.declared.command.Request.{Request}
 use Rattle.watch_machine.specs.declared.event.Event.{Event}
 use Rattle.watch_machine.specs.declared.event.Event.TheVariants.{Clock, Looked, Renewed, Need, Begin, Known}
+use Rattle.watch_machine.specs.declared.event.Operation.TheVariants.{Look}
+use Rattle.watch_machine.specs.declared.event.Reply.{Reply}
+use Rattle.watch_machine.specs.declared.event.Reply.TheVariants.{Told, Refused, Busy, Lost}
 use Rattle.watch_machine.specs.declared.fault.WatchFault.{WatchFault}
+use Rattle.watch_machine.specs.declared.lanes.Out.{Out}
 use Rattle.watch_machine.specs.declared.notes.Why.{Why}
-use Rattle.watch_machine.specs.History.{History, Turned}
+use Rattle.watch_machine.specs.Beginning.{is_called}
+use Rattle.watch_machine.specs.History.{History, IsRun, Turned}
+use Rattle.watch_machine.specs.Refusal.{is_same}
 use Rattle.watch_machine.specs.Settling.{has_jumped}
-use Rattle.watch_machine.specs.State.{State}
+use Rattle.watch_machine.specs.State.{State, opened, second, track_at}
+use Rattle.watch_machine.specs.Wanted.{is_alive, is_open, is_wanted}
+use Rattle.watch_laws.specs.Load.{requests_of}
+use Rattle.watch_laws.specs.Outage.{is_tried}
 use Rattle.watch_laws.specs.Turns.{after_all}
 
 -- why everything is looked up anew at a turn, None where it is not
@@ -43,3 +55,59 @@ abbrev pub FewLaw : Type 0
 FewLaw =
     (old : State) (first second : Turned) (between : List Turned) → History old (first ∷ (between ++ second ∷ [])) → Begins first → Begins second →
     Jumps (after_all first.state between) second.event ⊎ ((list_any asks between ≡ true) ⊎ (first.state.clocks.at + 600000 ≤ second.state.clocks.at))
+
+-- how many lookups of i go out
+abbrev pub is_lookup : ℕ → Request → Bool
+is_lookup i r = r.entry == i && is_same r.operation Look
+
+abbrev pub lookups : ℕ → List Turned → ℕ
+lookups i [] = 0
+lookups i (turn ∷ turns) = length (filter (is_lookup i) (requests_of turn.result)) + lookups i turns
+
+-- and how many are out: one at most
+abbrev pub looks : ℕ → List Out → ℕ
+looks i out = length (filter (λ (q : Out). q.entry == i && is_same q.operation Look) out)
+
+-- an answer of i tells an end that is ahead: s is the state after it
+abbrev pub TellsAhead : State → ℕ → Reply → Type 0
+TellsAhead s i (Told seconds renewable date) = is_alive (second s) (track_at s i) ≡ true
+TellsAhead s i (Refused status date) = ⊥
+TellsAhead s i Busy = ⊥
+TellsAhead s i Lost = ⊥
+
+-- all goes well with i: a clock does not begin anew, and finds i with an end that is ahead or unknown if it is to be asked; and an answer
+-- of i tells an end that is ahead. What others are answered is no matter
+abbrev pub GoesWell : ℕ → State → Event → Output → Type 0
+GoesWell i s (Clock wall elapsed) output = (output.notes.began ≡ None) × (is_tried s i ≡ true → is_open (second s) (track_at s i) ≡ true)
+GoesWell i s (Looked j reply terms) output = j ≡ i → TellsAhead s i reply
+GoesWell i s (Renewed j reply) output = j ≡ i → TellsAhead s i reply
+GoesWell i s (Need j until) output = Unit {0}
+GoesWell i s Begin output = Unit {0}
+GoesWell i s (Known j end renewable) output = Unit {0}
+
+abbrev pub GoesWellAt : ℕ → State → Event → Result Output WatchFault → Type 0
+GoesWellAt i s event (Ok output) = GoesWell i s event output
+GoesWellAt i s event (Err fault) = Unit {0}
+
+abbrev pub GoWell : ℕ → List Turned → Type 0
+GoWell i [] = Unit {0}
+GoWell i (turn ∷ turns) = GoesWellAt i turn.state turn.event turn.result × GoWell i turns
+
+-- i is needed, as whoever owes a lookup at a beginning
+abbrev pub is_needed : State → ℕ → Bool
+is_needed s i = is_called s.forest s.tracks s.clocks i
+
+-- how often i is looked up from a beginning on: before and begun are the states before and after its clock, last is that after all, and n
+-- is how many lookups go out. With one that was out before it is never two; and one where i is needed, as whoever is wanted is, and its end
+-- is unknown or ahead, by the time that no lookup is owed. None goes out where it is not needed, its end is ahead, and it owed none before
+pub record IsLookedUp (before begun last : State) (i n : ℕ) : Type 0 where
+  pub at_most : looks i before.out + n ≤ 1
+  pub wanted : is_wanted begun i ≡ true → is_needed begun i ≡ true
+  pub once : is_needed begun i ≡ true → is_open (second begun) (track_at begun i) ≡ true → (track_at last i).owes ≡ false → looks i before.out + n ≡ 1
+  pub never : is_needed begun i ≡ false → is_alive (second begun) (track_at begun i) ≡ true → (track_at before i).owes ≡ false → n ≡ 0
+
+-- from a beginning on, while all goes well with it, an entry that is needed is looked up once, and no other is
+abbrev pub LookupLaw : Type 0
+LookupLaw =
+    (g : Forest) (width : ℕ) (before : List Turned) (turn : Turned) (after : List Turned) (i : ℕ) → IsRun g width (before ++ turn ∷ after) → i < length g.entries → Begins turn →
+    GoWell i after → IsLookedUp (after_all (opened g width) before) turn.state (after_all turn.state after) i (lookups i (turn ∷ after))

@@ -9,4 +9,6 @@ pub mod Waiting
 pub mod Ends
 pub mod Outage
 pub mod Recovery
+pub mod Partial
+pub mod Starts
 pub mod Calm

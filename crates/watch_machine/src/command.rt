@@ -44,6 +44,13 @@ impl Requests {
     {
         &self.items
     }
+
+    /// The same as a vector.
+    pub fn into_vec(self) -> Vec<Request>
+        ensures { result.items ≡ self }
+    {
+        self.items
+    }
 }
 
 /// What is to be done now.

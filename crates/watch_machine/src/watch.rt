@@ -164,6 +164,13 @@ impl Watch {
         &self.forest
     }
 
+    /// How many requests may be out at once.
+    pub fn width(&self) -> u32
+        ensures { result ≡ self.now.width }
+    {
+        self.width
+    }
+
     /// The requests that are out, as they went.
     pub fn out(&self) -> &[Out]
         ensures { result.now ≡ self.now.out }

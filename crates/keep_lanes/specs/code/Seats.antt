@@ -1,5 +1,5 @@
 -- Those that are out, as the code has them.
-use Rattle.std.specs.Prelude.{◌≡◌, ℕ, List, Bool, Option, None, Some, IfSome, filter, map, not}
+use Rattle.std.specs.Prelude.{◌≡◌, List, Bool, Option, None, Some, IfSome, filter, map, not}
 use Rattle.keep_lanes.specs.Losses.{Answer}
 use Rattle.keep_lanes.specs.Out.{Out}
 use Rattle.keep_lanes.specs.declared.coming.Coming.{Coming}

@@ -1,5 +1,6 @@
 -- A request on its way over a connection, or what came of it, as the code has it.
-use Rattle.std.specs.Prelude.{◌≡◌, ℕ, ◌<◌, ◌-◌, ◌⊎◌, List, [], ◌∷◌, ◌++◌, Bool, true, false, Option, Some, None, IfSome, min, if◌then◌else◌}
+use Rattle.std.specs.Prelude.{◌≡◌, ℕ, ◌<◌, ◌⊎◌, List, [], ◌∷◌, Bool, true, false, Option, Some, None, IfSome, min, if◌then◌else◌}
+use Rattle.std.specs.List.{list_any}
 use Rattle.keep_lanes.specs.Allowed.{after, deadline}
 use Rattle.keep_lanes.specs.Lanes.{IsHeard, IsSettled, IsWritten}
 use Rattle.keep_lanes.specs.Losses.{Answer}
@@ -35,6 +36,11 @@ abbrev pub IsAhead : {L : Type 0} → ℕ → Way L → Type 0
 IsAhead now (Out lane) = now < deadline lane.course.allowance lane.course.stage
 IsAhead now (Over a) = Unit {0}
 
+-- that of each of them
+abbrev pub AreAhead : {L : Type 0} → ℕ → List (Seat (Way L)) → Type 0
+AreAhead now [] = Unit {0}
+AreAhead now (s ∷ ss) = IsAhead now s.standing × AreAhead now ss
+
 -- each for itself, under its own index
 abbrev pub Move : {L : Type 0} → (L → Option (List ℕ)) → (L → Option (List ℕ)) → ℕ → List (Seat (Way L)) → List (Seat (Way L)) → Type 0
 Move written remaining now [] new = new ≡ []
@@ -62,3 +68,7 @@ sooner restless time moment (Out lane) =
 abbrev pub soonest : {L : Type 0} → (L → Bool) → ℕ → ℕ → List (Seat (Way L)) → ℕ
 soonest restless time moment [] = moment
 soonest restless time moment (s ∷ ss) = soonest restless time (sooner restless time moment s.standing) ss
+
+-- the same where nobody waits for them meanwhile: at once where one is over
+abbrev pub due : {L : Type 0} → (L → Bool) → ℕ → ℕ → List (Seat (Way L)) → ℕ
+due restless now by seats = if list_any (λ seat. is_over seat.standing) seats then min now by else soonest restless now by seats

@@ -11,7 +11,7 @@ use Rattle.keep_report.specs.declared.stop.Stop.TheVariants as stops
 use Rattle.keep_report.specs.Sent.{IsAll}
 use Rattle.keep_run.specs.Closed.{AreAnswered, Exchanged, World}
 use Rattle.keep_run.specs.Hearing.{IsAskLeft, IsOverlong}
-use Rattle.keep_run.specs.declared.live.event_line.Heard.{Heard}
+use Rattle.keep_lines.specs.declared.event_line.Heard.{Heard}
 use Rattle.keep_run.specs.code.Playing.{Answers, AnswersAll}
 use Rattle.keep_run.specs.Text.{answer_text, inventory_with}
 

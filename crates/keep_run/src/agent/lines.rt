@@ -1,12 +1,13 @@
 //! The lines that a run is written as.
-ghost use Rattle.std.specs.Prelude.{◌≡◌, ◌++◌, ◌∷◌, [], ◌<◌, OnOk, decimal, flat_map, length};
+ghost use Rattle.std.specs.Prelude.{◌≡◌, ◌++◌, ◌<◌, OnOk, length};
 ghost use Rattle.std.specs.List.{All};
-ghost use Rattle.keep_run.specs.Text.{answer_line, done_text, name_of, short_line, short_lines, wake_line};
+ghost use Rattle.keep_run.specs.Text.{answer_line, done_text, short_line, short_lines, wake_line};
 ghost use Rattle.keep_core.specs.declared.event.Output.TheVariants as out;
 ghost use Rattle.keep_run.specs.Hearing.{entry_line, next_line, sleep_line};
 ghost use Rattle.keep_run.specs.Replies.{IsAnswerOf};
 
 use keep_core::{Event, ShortNeed};
+use keep_lines::{push_numbered, push_wake};
 use keep_tree::Forest;
 use std::alloc::{AllocError, Global};
 use vault_http::Reply;
@@ -55,32 +56,9 @@ pub(crate) fn push_wake_line(
     asked: &[u32],
     text: &mut Vec<u8>,
 ) -> Result<(), AllocError>
-    requires { All (λ i. i < length forest.now.entries) asked.now }
     ensures { OnOk result (text.new.items ≡ text.old.items ++ wake_line forest.now t (out.Ask asked.now)) }
 {
-    let t = t.to_string(alloc)?;
-    text.extend_from_slice(b"wake ")?;
-    text.extend_from_slice(t.as_bytes())?;
-    push_names(alloc, forest, asked, text)?;
-    text.push(b'\n')?;
-    Ok(())
-}
-
-/// Appends a blank and the name of each of these entries.
-fn push_names(
-    alloc: Global,
-    forest: &Forest,
-    asked: &[u32],
-    text: &mut Vec<u8>,
-) -> Result<(), AllocError>
-    requires { All (λ i. i < length forest.now.entries) asked.now }
-    ensures { OnOk result (text.new.items ≡ text.old.items ++ flat_map (λ i. 32 ∷ name_of forest.now i) asked.now) }
-{
-    for i in asked {
-        text.push(b' ')?;
-        text.extend_from_slice(forest.get(*i).name.list())?;
-    }
-    Ok(())
+    push_wake(alloc, forest, t, asked, text)
 }
 
 /// Appends the line of the answer of the entry `i`: `told NAME SECONDS`, `refused NAME STATUS` or `lost NAME`.
@@ -114,25 +92,6 @@ pub(crate) fn push_answer_line(
         }
         Event::Tick(_) | Event::Need { .. } => Ok(()),
     }
-}
-
-/// Appends these words, a name, a blank, a number and a line feed. The only error is want of memory.
-pub fn push_numbered(
-    alloc: Global,
-    words: &[u8],
-    name: &[u8],
-    number: u64,
-    text: &mut Vec<u8>,
-) -> Result<(), AllocError>
-    ensures { OnOk result (text.new.items ≡ text.old.items ++ (words.now ++ (name.now ++ (32 ∷ (decimal number ++ (10 ∷ [])))))) }
-{
-    let number = number.to_string(alloc)?;
-    text.extend_from_slice(words)?;
-    text.extend_from_slice(name)?;
-    text.push(b' ')?;
-    text.extend_from_slice(number.as_bytes())?;
-    text.push(b'\n')?;
-    Ok(())
 }
 
 /// Appends `done WAKES REQUESTS` and a line feed.

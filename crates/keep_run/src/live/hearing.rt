@@ -2,9 +2,9 @@
 ghost use Rattle.std.specs.Prelude.{◌≡◌, ◌++◌, ◌<◌, List, Option, ℕ, IsTrue, OnOk, length};
 ghost use Rattle.std.specs.Result.{IfErr};
 ghost use Rattle.keep_exchange.specs.Exchanges.{Behind};
-ghost use Rattle.keep_run.specs.EventLines.{IsWithin};
+ghost use Rattle.keep_lines.specs.EventLines.{IsWithin};
 ghost use Rattle.keep_run.specs.Hearing.{HearsTo, IsNeeded, IsReady};
-ghost use Rattle.keep_run.specs.declared.live.event_line.Heard.TheVariants as heards;
+ghost use Rattle.keep_lines.specs.declared.event_line.Heard.TheVariants as heards;
 ghost use Rattle.keep_run.specs.Stops.{both};
 ghost use Rattle.keep_run.specs.code.Telling.{StopsNeed};
 
@@ -12,11 +12,11 @@ use crate::agent::Agent;
 use crate::agent::lines::{push_next, push_short_lines, push_sleep};
 use crate::agent::refused::stop_of;
 use crate::agent::ticking::tick;
-use crate::live::event_line::Heard;
 use crate::live::telling::tell_round;
 use keep_core::{Event, Output};
 use keep_device::{Sink, Watched};
 use keep_exchange::Exchange;
+use keep_lines::Heard;
 use keep_moment::Moment;
 use keep_report::{Stop, send};
 use std::alloc::Global;

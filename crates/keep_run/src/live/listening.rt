@@ -9,11 +9,10 @@ ghost use Rattle.keep_run.specs.Closed.{World};
 ghost use Rattle.keep_run.specs.StopsAfter.{stops_after};
 
 use crate::agent::Agent;
-use crate::live::event_line::heard_in;
 use crate::live::hearing::hear;
 use keep_device::{Sink, Source, Watched};
 use keep_exchange::Exchange;
-use keep_lines::{Hearer, Limits};
+use keep_lines::{Hearer, Limits, heard_in};
 use keep_report::Stop;
 use std::alloc::Global;
 

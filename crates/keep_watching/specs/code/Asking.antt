@@ -1,6 +1,6 @@
 -- Asking: a word for a step of the line of those who are asked. No public clause cites it.
 use Rattle.std.specs.Prelude.{ℕ, List, [], ◌∷◌, if◌then◌else◌}
-use Rattle.keep_run.specs.Text.{name_of}
+use Rattle.keep_lines.specs.Text.{name_of}
 use Rattle.keep_tree.specs.Forest.{Forest}
 use Rattle.watch_machine.specs.declared.event.Operation.{Operation}
 use Rattle.watch_machine.specs.declared.command.Request.{Request}

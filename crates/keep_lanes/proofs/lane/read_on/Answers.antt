@@ -1,6 +1,6 @@
 -- An answer is that of the bytes before this piece and of those that may follow it.
-use Rattle.std.proofs.Common.{◌≡◌, ◌<◌, [], length, arith, Some, subst, sym}
-use Rattle.keep_lanes.specs.Lanes.{IsCounted, IsSettled, IsTold}
+use Rattle.std.proofs.Common.{◌<◌, [], length, arith, Some, subst, sym}
+use Rattle.keep_lanes.specs.Lanes.{IsCounted, IsSettled}
 use Rattle.keep_lanes.proofs.Arrives.{heard_read}
 use Rattle.keep_lanes.proofs.Lost.{settled_by}
 use Rattle.keep_lanes.proofs.lane.read_on.Goals as goal

@@ -1,5 +1,5 @@
 -- What was taken so far is the front of the text.
-use Rattle.std.proofs.Common.{◌≡◌, ◌-◌, ◌≤◌, length, take}
+use Rattle.std.proofs.Common.{◌-◌, ◌≤◌, length, take}
 use Rattle.std.specs.Io.KnownBytes.{Keeps, Appends}
 use Rattle.keep_lanes.proofs.lane.write.Given as goal
 

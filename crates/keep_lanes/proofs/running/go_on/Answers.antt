@@ -1,5 +1,5 @@
 -- Each goes on under its own index.
-use Rattle.std.proofs.Common.{◌≡◌, ◌<◌, ◌∙◌, ap, arith, length, refl}
+use Rattle.std.proofs.Common.{◌<◌, ◌∙◌, arith, length, refl}
 use Rattle.std.proofs.lemmas.List.{length-set}
 use Rattle.keep_lanes.proofs.Moved.{move_next, outs_set, rest_next}
 use Rattle.keep_lanes.proofs.running.go_on.Goals as goal

@@ -1,5 +1,5 @@
 -- It stands between those of no greater index and the others.
-use Rattle.std.proofs.Common.{◌≡◌, All, drop, take, true}
+use Rattle.std.proofs.Common.{◌≡◌, true}
 use Rattle.std.specs.Prelude.{is_ok}
 use Rattle.keep_lanes.proofs.Seated.{is_put}
 use Rattle.keep_lanes.proofs.seats.put.Goals as goal

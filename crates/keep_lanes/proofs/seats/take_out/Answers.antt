@@ -1,5 +1,5 @@
 -- One after another they stay, or go with their answers.
-use Rattle.std.proofs.Common.{◌≡◌, ◌+◌, ◌≤◌, ◌<◌, ◌∙◌, arith, sym, length}
+use Rattle.std.proofs.Common.{◌≤◌, ◌<◌, ◌∙◌, arith, sym, length}
 use Rattle.keep_lanes.proofs.TakenOut.{at_last, goes_with, stays}
 use Rattle.keep_lanes.proofs.seats.take_out.Goals as goal
 

@@ -4,8 +4,8 @@ use Rattle.std.specs.Prelude.{Bool, List}
 use Rattle.keep_device.specs.Seen.{Change, change}
 use Rattle.keep_inventory.specs.Inventories.{Inventory}
 use Rattle.keep_run.specs.LiveRun.{EndsEarly, IsOpened}
-use Rattle.keep_start.specs.Start.{marks}
-use Rattle.keep_start.proofs.Started.{places}
+use Rattle.keep_served.specs.ForGood.{marks}
+use Rattle.keep_served.proofs.ForGood.{places}
 use Rattle.keep_run.proofs.LiveListening.{early_lives, listened_lives, read_lives, unmarked_lives}
 use Rattle.keep_run.proofs.live.live.Goals as goal
 

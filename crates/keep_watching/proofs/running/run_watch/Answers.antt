@@ -1,7 +1,7 @@
 -- How the watch goes and what it tells of its end, by exit.
 use Rattle.std.proofs.Common.{refl}
 use Rattle.keep_device.specs.Seen.{Change, change}
-use Rattle.keep_watching.specs.Sending.{Lanes, lanes_of}
+use Rattle.keep_asking.specs.Sending.{Lanes, lanes_of}
 use Rattle.keep_watching.proofs.WatchEnding.{done_runs, stopped_runs}
 use Rattle.keep_watching.proofs.running.run_watch.Goals as goal
 

@@ -4,12 +4,13 @@ use Rattle.keep_device.specs.Seen.{Change, change}
 use Rattle.keep_report.specs.declared.stop.Stop.{Stop}
 use Rattle.keep_report.specs.declared.stop.Stop.TheVariants as stops
 use Rattle.keep_lines.proofs.LineByLine.{handed_on}
-use Rattle.keep_watching.specs.Sending.{IsAbreast, Lanes, lanes_of}
+use Rattle.keep_asking.specs.InStep.{IsAbreast}
+use Rattle.keep_asking.specs.Sending.{Lanes, lanes_of}
 use Rattle.keep_lanes.specs.Out.{Out}
 use Rattle.keep_watching.specs.Clocked.{side}
 use Rattle.keep_watching.specs.Watching.{Watching, fresh}
 use Rattle.keep_watching.specs.WatchRun.{IsUnbegun, WatchesTo}
-use Rattle.keep_watching.proofs.Abreast.{abreast_fresh}
+use Rattle.keep_asking.proofs.InStep.{abreast_new}
 use Rattle.keep_watching.proofs.WatchEnding.{listened_watches, read_watches}
 use Rattle.keep_watching.proofs.running.watch.Goals as goal
 
@@ -40,7 +41,7 @@ listen-requires g c =
     let free : c.free.result ≡ width =
     (let all = c.free.ensures ∙ ap (λ (o : List Out). width - length o) c.requires.free in omega (arith, all)) in
     let is = c.in_ok-watching.ensures ∙ ap (fresh c.in_ok-inventory.inventory) free in
-    record { abreast = subst (λ (w : Watching). IsAbreast w.machine width out) (sym is) (abreast_fresh c.in_ok-inventory.inventory width out c.requires.free) }
+    record { abreast = subst (λ (w : Watching). IsAbreast w.machine width out) (sym is) (subst (IsAbreast (fresh c.in_ok-inventory.inventory width).machine width) (sym c.requires.free) (abreast_new c.in_ok-inventory.inventory.forest width)) }
 
 pub returns-clause-run : goal.returns-clause-run
 returns-clause-run g c =

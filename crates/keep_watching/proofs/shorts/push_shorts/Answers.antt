@@ -1,7 +1,7 @@
 -- The news of each entry goes on from those before it.
 use Rattle.std.proofs.Common.{◌≡◌, ◌∙◌, ◌++◌, ◌<◌, ℕ, List, Option, flat_map, length, map, ap, arith}
 use Rattle.std.specs.List.{range_with_len}
-use Rattle.keep_run.specs.Text.{name_of}
+use Rattle.keep_lines.specs.Text.{name_of}
 use Rattle.keep_tree.specs.Forest.{Forest}
 use Rattle.keep_watching.specs.Clocked.{later, news_line, said_after, said_of, short_lines, short_now}
 use Rattle.keep_watching.proofs.News.{before_more, behind_more, one_more, said_is}

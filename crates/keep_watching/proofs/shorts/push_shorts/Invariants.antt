@@ -1,7 +1,7 @@
 -- The news so far, and what was said of those entries and of the others.
 use Rattle.std.proofs.Common.{◌≡◌, ◌++◌, ◌<◌, ◌≤◌, ℕ, flat_map}
 use Rattle.std.specs.List.{range_with_len}
-use Rattle.keep_run.specs.Text.{name_of}
+use Rattle.keep_lines.specs.Text.{name_of}
 use Rattle.keep_watching.specs.Clocked.{later, news_line, said_of, short_now}
 use Rattle.keep_watching.proofs.shorts.push_shorts.Given as goal
 

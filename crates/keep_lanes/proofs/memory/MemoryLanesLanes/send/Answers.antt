@@ -1,5 +1,5 @@
 -- One more is out, with what comes of it; where memory was wanting the table is left as it may be.
-use Rattle.std.proofs.Common.{◌≡◌, Some, inl, refl, subst}
+use Rattle.std.proofs.Common.{Some, inl, refl, subst}
 use Rattle.keep_lanes.specs.Out.{IsPut}
 use Rattle.keep_lanes.specs.Serving.{Behind, InMemory, IsLeft, IsSent}
 use Rattle.keep_lanes.specs.code.Seats.{outs}

@@ -1,5 +1,5 @@
 -- The same are out, and no connection is made.
-use Rattle.std.proofs.Common.{◌≡◌, None, ◌∙◌, ap, arith, length, refl, rules}
+use Rattle.std.proofs.Common.{◌≡◌, None, ◌∙◌, ap, length, refl, rules}
 use Rattle.keep_lanes.specs.code.Seats.{outs}
 use Rattle.keep_lanes.proofs.Dials.{dials_same, dials_wait}
 use Rattle.keep_lanes.proofs.Moved.{written_back}

@@ -1,14 +1,12 @@
--- The shortened needs and the asked entries of a tick are of the forest, and only want of memory refuses one.
-use Rattle.std.proofs.Common.{ap, ◌∙◌, ◌<◌, ◌≤◌, Err, Ok, arith, length, sym, subst}
-use Rattle.std.specs.List.{All}
+-- The shortened needs of a tick are of the forest, and only want of memory refuses one.
+use Rattle.std.proofs.Common.{ap, ◌∙◌, ◌≤◌, Err, Ok, arith, length, sym, subst}
 use Rattle.keep_tree.specs.Forest.{Forest}
 use Rattle.keep_core.specs.State.{State}
 use Rattle.keep_core.specs.States.{IsState}
-use Rattle.keep_run.specs.Closed.{asked_in}
 use Rattle.keep_core.specs.declared.event.Event.TheVariants.{Tick}
 use Rattle.keep_core.proofs.Shaped.{shape}
 use Rattle.keep_run.proofs.Refusing.{taken_stop, tick_leaves, tick_taken}
-use Rattle.keep_run.proofs.Within.{AreOf, short_within, asked_few, asked_within}
+use Rattle.keep_run.proofs.Within.{AreOf, short_within, asked_few}
 use Rattle.keep_run.proofs.agent.ticking.tick.Goals as goal
 
 pub push_short_lines-requires : goal.push_short_lines-requires
@@ -16,13 +14,6 @@ push_short_lines-requires c =
     let all = short_within c.args.agent.now.keeper c.step.new.self.keeper (Tick c.args.t) c.in-Ok.output c.requires.ready.quiet c.in-Ok.ensures.turn in
     subst (λ n. AreOf n c.list.result.now) (sym (ap (λ g. length g.entries) (c.forest-2.ensures ∙ ap (λ (s : State). s.forest) c.take_shortened-short.ensures.after)))
     (subst (AreOf (length c.step.new.self.keeper.forest.entries)) (sym (c.list.ensures ∙ c.take_shortened-short.ensures.value)) all)
-
-pub push_wake_line-requires : goal.push_wake_line-requires
-push_wake_line-requires c =
-    let all = asked_within c.args.agent.now.keeper c.step.new.self.keeper c.args.t c.in-Ok.output c.in-Ok.ensures.turn in
-    let count = ap (λ (g : Forest). length g.entries) (c.forest-in-Ask.ensures ∙ ap (λ (s : State). s.forest) c.take_shortened-short.ensures.after) in
-    let who = ap asked_in c.in-Ask.is ∙ sym c.list-in-Ask.ensures in
-    subst (λ n. All (λ i. i < n) c.list-in-Ask.result.now) (sym count) (subst (All (λ i. i < length c.step.new.self.keeper.forest.entries)) who all)
 
 pub stop_of-requires : goal.stop_of-requires
 stop_of-requires c =

@@ -7,7 +7,7 @@ use Rattle.keep_report.specs.declared.stop.Stop.TheVariants as stops
 use Rattle.keep_report.specs.Sent.{IsAll, Sends}
 use Rattle.keep_run.specs.code.Telling.{IsSent}
 use Rattle.keep_run.specs.Hearing.{HearsTo, next_line}
-use Rattle.keep_run.specs.declared.live.event_line.Heard.TheVariants as heards
+use Rattle.keep_lines.specs.declared.event_line.Heard.TheVariants as heards
 use Rattle.keep_run.specs.Stops.{both}
 use Rattle.keep_run.specs.code.Telling.{TellsRound}
 use Rattle.keep_lines.specs.Hearing.{joined}

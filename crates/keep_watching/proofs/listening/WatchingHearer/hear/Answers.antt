@@ -7,7 +7,8 @@ use Rattle.keep_report.specs.declared.stop.Stop.{Stop}
 use Rattle.keep_report.specs.declared.stop.Stop.TheVariants as stops
 use Rattle.keep_report.specs.Sent.{Sends}
 use Rattle.keep_tree.specs.Forest.{Forest}
-use Rattle.keep_watching.specs.Sending.{IsAbreast, lanes_of}
+use Rattle.keep_asking.specs.InStep.{IsAbreast}
+use Rattle.keep_asking.specs.Sending.{lanes_of}
 use Rattle.keep_watching.specs.Answers.{Appended}
 use Rattle.keep_watching.specs.Clocked.{Side, side}
 use Rattle.keep_watching.specs.Hears.{IsHeard}

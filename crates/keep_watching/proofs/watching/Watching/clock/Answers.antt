@@ -4,11 +4,12 @@ use Rattle.watch_machine.specs.declared.command.Request.{Request}
 use Rattle.watch_machine.specs.State.{State}
 use Rattle.keep_watching.specs.Answers.{Appended}
 use Rattle.keep_watching.specs.Clocked.{IsClocked, IsDone, side}
-use Rattle.keep_watching.specs.Sending.{IsAbreast, Lanes, lanes_of}
+use Rattle.keep_asking.specs.InStep.{IsAbreast}
+use Rattle.keep_asking.specs.Sending.{Lanes, lanes_of}
 use Rattle.keep_watching.specs.Watching.{Watching}
-use Rattle.keep_watching.proofs.Abreast.{abreast_sent, lanes_free, sent_all}
+use Rattle.keep_asking.proofs.InStep.{abreast_sent, lanes_free, sent_all}
 use Rattle.keep_watching.proofs.Clocks.{clock_made, on_ok}
-use Rattle.keep_watching.proofs.Sound.{Gone, turn_gone}
+use Rattle.keep_asking.proofs.Sound.{Gone, turn_gone}
 use Rattle.keep_watching.proofs.watching.Watching.clock.Goals as goal
 
 pub send_out-requires-clause-within : goal.send_out-requires-clause-within

@@ -1,5 +1,5 @@
 -- Each answer is taken in its turn.
-use Rattle.std.proofs.Common.{◌≡◌, ◌∙◌, ◌+◌, ◌∷◌, [], ◌++◌, List, append_assoc, append-nil, ap, arith, length, refl, rules, subst, sym}
+use Rattle.std.proofs.Common.{◌≡◌, ◌∙◌, ◌∷◌, [], ◌++◌, List, append_assoc, append-nil, ap, arith, length, refl, rules, subst, sym}
 use Rattle.std.specs.Vec.Iter.{into_iter_items}
 use Rattle.keep_lanes.specs.declared.lanes.Answered.{Answered}
 use Rattle.keep_watching.specs.Watching.{Watching}

@@ -1,15 +1,13 @@
 -- The answers that are there are those of requests that are out, and they are taken.
-use Rattle.std.proofs.Common.{◌≡◌, ◌∙◌, ◌++◌, IfSome, List, Ok, Err, OnOk, Option, Result, ap, rules, subst, sym, ℕ}
+use Rattle.std.proofs.Common.{◌≡◌, ◌++◌, Ok, Err, OnOk, Result, rules, subst, sym}
 use Rattle.std.proofs.lemmas.Result.{on_ok_weaker}
-use Rattle.keep_lanes.specs.Out as lanes
-use Rattle.keep_lanes.specs.Out.{AreThere, IsParted}
-use Rattle.keep_lanes.specs.Serving.{Behind}
-use Rattle.keep_lanes.specs.declared.lanes.Answered.{Answered}
 use Rattle.keep_watching.specs.Answers.{Appended, AreTaken}
-use Rattle.keep_watching.specs.Clocked.{AreTakenOn, listens_until, side}
-use Rattle.keep_watching.specs.Sending.{AreHandedBack, IsAbreast, Lanes, lanes_of}
+use Rattle.keep_watching.specs.Clocked.{listens_until}
+use Rattle.keep_asking.specs.InStep.{IsAbreast}
+use Rattle.keep_asking.specs.Sending.{AreHandedBack, Lanes, lanes_of}
 use Rattle.keep_watching.specs.Texts.{clock_line}
-use Rattle.keep_watching.proofs.Abreast.{abreast_taken, parted_out}
+use Rattle.keep_asking.proofs.InStep.{abreast_handed_in, parted_out}
+use Rattle.keep_watching.proofs.Answering.{handed_in}
 use Rattle.keep_watching.proofs.Clocks.{taken_on}
 use Rattle.keep_watching.proofs.watching.Watching.take_on.Goals as goal
 
@@ -17,18 +15,12 @@ always : {E : Type 0} (result : Result (Unit {0}) E) (P : Type 0) → P → OnOk
 always (Ok u) P p = p
 always (Err e) P p = tt
 
-handed_back :
-    (now until : ℕ) (behind after : Option Behind) (out left : List lanes.Out) (seconds later : ℕ) (answers : List Answered) → IsParted out answers left → IfSome behind (λ _. AreThere now until out answers left) →
-    after ≡ behind → later ≡ seconds → AreHandedBack now until (lanes_of behind out seconds) answers (lanes_of after left later)
-handed_back now until behind after out left seconds later answers parted there same as_long =
-    record { parted = parted; there = there; rest = ap (λ b. lanes_of b left later) same ∙ ap (λ s. lanes_of behind left s) as_long }
-
 pub take_answers-requires-clause-sound : goal.take_answers-requires-clause-sound
 take_answers-requires-clause-sound g c = c.requires.abreast.sound
 
 pub take_answers-requires-clause-out : goal.take_answers-requires-clause-out
 take_answers-requires-clause-out g c =
-    parted_out c.args.self.now.machine (g.L.Lanes.width c.args.lanes.now) (g.L.Lanes.out c.args.lanes.now) c.in_ok-answers.answers.items (g.L.Lanes.out c.wait.new.self) c.requires.abreast c.in_ok-answers.ensures.parted
+    parted_out c.args.self.now.machine (g.L.Lanes.width c.args.lanes.now) (g.L.Lanes.out c.args.lanes.now) c.in_ok-answers.answers.items (g.L.Lanes.out c.take_back.new.lanes) c.requires.abreast c.in_ok-answers.ensures.back.parted
 
 pub returns-clause-taken : goal.returns-clause-taken
 returns-clause-taken g c =
@@ -38,13 +30,12 @@ returns-clause-taken g c =
     let now = c.args.elapsed in
     let until = listens_until old.machine now c.args.until in
     let before : Lanes = lanes_of (g.L.Lanes.behind c.args.lanes.now) (g.L.Lanes.out c.args.lanes.now) (g.L.Lanes.seconds c.args.lanes.now) in
-    let after : Lanes = lanes_of (g.L.Lanes.behind c.wait.new.self) (g.L.Lanes.out c.wait.new.self) (g.L.Lanes.seconds c.wait.new.self) in
+    let after : Lanes = lanes_of (g.L.Lanes.behind c.take_back.new.lanes) (g.L.Lanes.out c.take_back.new.lanes) (g.L.Lanes.seconds c.take_back.new.lanes) in
     let first = c.args.text.now.items in
     let mid = c.take_answers.new.text.items in
     let last = c.extend_from_slice.new.self.items in
     let back : AreHandedBack now until before answers after =
-    subst (λ u. AreHandedBack now u before answers after) c.listens_until-until.ensures
-    (handed_back now c.listens_until-until.result _ _ _ _ _ _ answers c.in_ok-answers.ensures.parted c.in_ok-answers.ensures.there c.wait.ensures.behind c.wait.ensures.seconds) in
+    subst (λ u. AreHandedBack now u before answers after) c.listens_until-until.ensures c.in_ok-answers.ensures.back in
     let text : OnOk c.extend_from_slice.result (last ≡ mid ++ clock_line) = search rules in
     on_ok_weaker c.extend_from_slice.result (λ t. taken_on old new before after now until answers first mid last back c.in_ok-take_answers.ensures.taken c.take_answers.ensures.rest t) text
 
@@ -52,9 +43,10 @@ pub returns-clause-abreast : goal.returns-clause-abreast
 returns-clause-abreast g c =
     let old = c.args.self.now in
     let new = c.take_answers.new.self in
-    let left = g.L.Lanes.out c.wait.new.self in
+    let left = g.L.Lanes.out c.take_back.new.lanes in
     let taken : Appended c.args.text.now.items c.take_answers.new.text.items (AreTaken old.inventory c.in_ok-answers.answers.items old.machine new.machine) = c.in_ok-take_answers.ensures.taken in
-    let abreast : IsAbreast old.machine (g.L.Lanes.width c.wait.new.self) (g.L.Lanes.out c.args.lanes.now) =
-    subst (λ w. IsAbreast old.machine w (g.L.Lanes.out c.args.lanes.now)) (sym c.wait.ensures.width) c.requires.abreast in
-    always c.extend_from_slice.result (IsAbreast new.machine (g.L.Lanes.width c.wait.new.self) left)
-    (abreast_taken old.inventory old.machine new.machine (g.L.Lanes.width c.wait.new.self) (g.L.Lanes.out c.args.lanes.now) c.in_ok-answers.answers.items left taken.0 abreast c.in_ok-answers.ensures.parted taken.1.0)
+    let abreast : IsAbreast old.machine (g.L.Lanes.width c.take_back.new.lanes) (g.L.Lanes.out c.args.lanes.now) =
+    subst (λ w. IsAbreast old.machine w (g.L.Lanes.out c.args.lanes.now)) (sym c.take_back.ensures.width) c.requires.abreast in
+    always c.extend_from_slice.result (IsAbreast new.machine (g.L.Lanes.width c.take_back.new.lanes) left)
+    (abreast_handed_in old.inventory old.machine new.machine (g.L.Lanes.width c.take_back.new.lanes) (g.L.Lanes.out c.args.lanes.now) c.in_ok-answers.answers.items left abreast c.in_ok-answers.ensures.back.parted
+    (handed_in old.inventory c.in_ok-answers.answers.items old.machine new.machine taken.0 taken.1.0))

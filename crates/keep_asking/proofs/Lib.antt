@@ -1,0 +1,4 @@
+pub mod Sound
+pub mod AnswersOut
+pub mod InStep
+pub mod Once

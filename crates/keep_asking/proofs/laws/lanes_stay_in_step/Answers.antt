@@ -1,0 +1,15 @@
+-- The law, as it is proved of the definitions.
+use Rattle.keep_asking.proofs.InStep.{abreast_new, by_answers, by_clock, by_other}
+use Rattle.keep_asking.proofs.laws.lanes_stay_in_step.Goals as goal
+
+pub returns-clause-new : goal.returns-clause-new
+returns-clause-new c = abreast_new
+
+pub returns-clause-clock : goal.returns-clause-clock
+returns-clause-clock c = by_clock
+
+pub returns-clause-answers : goal.returns-clause-answers
+returns-clause-answers c = by_answers
+
+pub returns-clause-other : goal.returns-clause-other
+returns-clause-other c = by_other

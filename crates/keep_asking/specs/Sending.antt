@@ -1,0 +1,36 @@
+-- Sending: requests go out on lanes, and answers are handed back.
+-- Source: this project's own.
+use Rattle.std.specs.Prelude.{◌≡◌, ℕ, List, [], ◌∷◌, Option, IfSome}
+use Rattle.keep_inventory.specs.Inventories.{Inventory}
+use Rattle.keep_lanes.specs.Out as lanes
+use Rattle.keep_lanes.specs.Out.{AreThere, IsParted}
+use Rattle.keep_lanes.specs.Serving.{Behind, IsSent}
+use Rattle.keep_lanes.specs.declared.lanes.Answered.{Answered}
+use Rattle.watch_machine.specs.declared.command.Request.{Request}
+use Rattle.watch_machine.specs.State.{State}
+use Rattle.keep_asking.specs.Asking.{ask_of}
+
+-- lanes: what is behind them, where it is known; the requests that are out, by rising index; and their time-out in seconds
+pub record Lanes : Type 0 where
+  pub behind : Option Behind
+  pub out : List lanes.Out
+  pub seconds : ℕ
+
+abbrev pub lanes_of : Option Behind → List lanes.Out → ℕ → Lanes
+lanes_of behind out seconds = record { behind = behind; out = out; seconds = seconds }
+
+-- the request goes out on a lane, at that moment of the wall and of the elapsed clock
+pub record GoesOut (port : ℕ) (s : Inventory) (m : State) (t now : ℕ) (r : Request) (old new : Lanes) : Type 0 where
+  pub sent : IsSent old.seconds t now (ask_of port s m r) old.behind old.out new.behind new.out
+  pub seconds : new.seconds ≡ old.seconds
+
+-- requests go out one after another
+abbrev pub GoOut : ℕ → Inventory → State → ℕ → ℕ → List Request → Lanes → Lanes → Type 0
+GoOut port s m t now [] old new = new ≡ old
+GoOut port s m t now (r ∷ rest) old new = (mid : Lanes) × (GoesOut port s m t now r old mid × GoOut port s m t now rest mid new)
+
+-- the answers that were waited for: each is that of a request that was out
+pub record AreHandedBack (now until : ℕ) (old : Lanes) (answers : List Answered) (new : Lanes) : Type 0 where
+  pub parted : IsParted old.out answers new.out
+  pub there : IfSome old.behind (λ _. AreThere now until old.out answers new.out)
+  pub rest : new ≡ record old { out = new.out }

@@ -1,0 +1,22 @@
+//! What the machine of a watch asks, as messages on lanes, and what their answers tell it. `watch_machine` decides what is asked
+//! and `keep_lanes` carries it; this crate stands between them, for each program that runs the machine.
+//!
+//! The contract for the layers above: [`send`] sends the requests that a clock commands, each as the message of
+//! `specs/Asking`; [`take_back`] waits for answers; and [`hand_in`] hands one in, as the event of the request that is out of its
+//! entry, with what it says by `specs/Told`. `specs/InStep` says that on the lanes are the requests that the machine has out:
+//! [`lanes_stay_in_step`] says that this stays so, whatever is answered.
+#![tactic(auto)]
+
+mod asking;
+mod handing;
+mod laws;
+mod seen;
+mod sending;
+mod told;
+
+pub use asking::ask_for;
+pub use handing::{HandedIn, event_of, hand_in, out_of};
+pub use laws::lanes_stay_in_step;
+pub use seen::SeenLanes;
+pub use sending::{send, take_back};
+pub use told::{Said, said_to};

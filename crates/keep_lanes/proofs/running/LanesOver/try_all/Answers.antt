@@ -1,0 +1,12 @@
+-- The deadlines of those that went on are ahead.
+use Rattle.std.proofs.Common.{◌≡◌, ◌∙◌, ap, length}
+use Rattle.keep_lanes.proofs.Due.{back_ahead}
+use Rattle.keep_lanes.proofs.Moved.{written_back}
+use Rattle.keep_lanes.proofs.running.LanesOver.try_all.Goals as goal
+
+pub returns-clause-ahead : goal.returns-clause-ahead
+returns-clause-ahead g c =
+    let same : length c.go_on.new.out ≡ length c.args.self.now.out.items = c.go_on.auto.out ∙ ap length c.deref_mut.ensures.value in
+    let whole : c.args.self.now.out.len ≡ length c.args.self.now.out.items = c.args.self.now.out.ok.0 in
+    back_ahead g.W.Line.Line.written g.W.Line.Line.remaining c.args.now c.go_on.result c.deref_mut.result.now c.go_on.new.out _ (written_back c.args.self.now.out.len c.go_on.new.out c.args.self.now.out.items same whole)
+    c.go_on.ensures.moves

@@ -1,0 +1,39 @@
+-- Event lines: what a line of the program's input says.
+-- Source: this project's own: `tick T` and `need NAME T`, words parted by one space, T a moment spelled in decimal.
+use Rattle.std.specs.Prelude.{ℕ, ◌==◌, ◌<◌, List, [], ◌∷◌, Option, Some, None, codes, bytes_eq, length, nat_lt, option_map, if◌then◌else◌}
+use Rattle.keep_moment.specs.declared.moment.TheConstants.{LAST}
+use Rattle.keep_lines.specs.declared.event_line.Heard.{Heard}
+use Rattle.keep_lines.specs.declared.event_line.Heard.TheVariants.{Tick, Need, Unknown}
+use Rattle.keep_lines.specs.declared.limits.TheConstants.{MOST_LINE}
+use Rattle.keep_tree.specs.Forest.{Forest, index_named}
+use Rattle.keep_words.specs.Numbers.{number_up_to}
+use Rattle.keep_words.specs.Pieces.{words}
+
+-- `tick T`
+abbrev pub tick_in : List ℕ → List ℕ → Option Heard
+tick_in word t = if bytes_eq word (codes "tick") then option_map Tick (number_up_to LAST t) else None
+
+-- the entry of that name, if there is one
+abbrev pub needed : Option ℕ → ℕ → Heard
+needed (Some i) until = Need i until
+needed None until = Unknown
+
+-- `need NAME T`, where a name has at least one byte
+abbrev pub need_in : Forest → List ℕ → List ℕ → List ℕ → Option Heard
+need_in g word name until =
+    if bytes_eq word (codes "need") then (if length name == 0 then None else option_map (needed (index_named g.entries name)) (number_up_to LAST until)) else None
+
+abbrev pub words_in : Forest → List (List ℕ) → Option Heard
+words_in g (word ∷ t ∷ []) = tick_in word t
+words_in g (word ∷ name ∷ until ∷ []) = need_in g word name until
+words_in g ws = None
+
+-- what a line without its line feed says, which has 256 bytes at most with it; none where it is no event line
+unfoldable pub heard_in : Forest → List ℕ → Option Heard
+heard_in g line = if nat_lt (length line) MOST_LINE then words_in g (words line) else None
+
+-- the entry that is needed, if one is, is among so many
+abbrev pub IsWithin : ℕ → Heard → Type 0
+IsWithin n (Tick t) = Unit {0}
+IsWithin n (Need i until) = i < n
+IsWithin n Unknown = Unit {0}

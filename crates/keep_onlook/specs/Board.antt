@@ -1,0 +1,56 @@
+-- Board: what onlookers are shown, and what an agent puts on it.
+-- Source: this project's own.
+use Rattle.std.specs.Prelude.{◌≡◌, ℕ, ◌+◌, List, Option, Some, None, length, map, min}
+use Rattle.std.specs.List.{range_with_len}
+use Rattle.keep_tree.specs.Carried.{carried}
+use Rattle.keep_tree.specs.Forest.{entry_at}
+use Rattle.watch_machine.specs.Clocks.{sec}
+use Rattle.watch_machine.specs.Readings.{broker_moment, broker_now}
+use Rattle.watch_machine.specs.State.{State, entry_of}
+use Rattle.keep_agent.specs.Agent.{Agent, standing_at}
+use Rattle.keep_agent.specs.Status.{status_of}
+use Rattle.keep_onlook.specs.declared.board.Board.{Board}
+use Rattle.keep_onlook.specs.declared.board.Row.{Row}
+use Rattle.keep_onlook.specs.declared.board.Surroundings.{Surroundings}
+
+-- the moment by the broker's clock of a reading of the clock that never steps, as that is handed in
+abbrev pub moment_of_reading : State → ℕ → ℕ
+moment_of_reading m reading = broker_moment m (sec (min (reading + m.clocks.phase) 18446744073709551615))
+
+abbrev pub success_of : State → Option ℕ → Option ℕ
+success_of m None = None
+success_of m (Some reading) = Some (moment_of_reading m reading)
+
+-- the row of an entry: what it is, how it stands, what is told of its renewals. Need and parents are those of the Watch
+unfoldable pub row_of : Agent → ℕ → Row
+row_of a i =
+    record {
+      name = (entry_at a.inventory.forest.entries i).name;
+      kind = (entry_at a.inventory.forest.entries i).kind;
+      condition = (status_of a i).condition;
+      end = (status_of a i).end;
+      need = (entry_of a.machine i).need;
+      carried = carried a.machine.forest.entries 0 i;
+      in_force = (status_of a i).in_force;
+      last_success = success_of a.machine (standing_at a i).granted_at;
+      trouble = (standing_at a i).trouble;
+      granted = (standing_at a i).granted;
+      refused = (standing_at a i).refused;
+      lost = (standing_at a i).lost;
+    }
+
+-- a row for each entry that is served, in the order of the indices
+unfoldable pub rows_of : Agent → List Row
+rows_of a = map (row_of a) (range_with_len 0 (length a.inventory.forest.entries))
+
+-- what an agent shows, beside what is around it
+abbrev pub board_of : Agent → Surroundings → Board
+board_of a s = record { surroundings = s; broker_now = broker_now a.machine; beginnings = a.beginnings; margin = a.inventory.forest.margin; rows = rows_of a }
+
+-- ---- a law: the contract of a public function without a body
+
+-- two agents that differ in credentials and terms alone show the same
+abbrev pub NoCredentialShows : Type 0
+NoCredentialShows =
+    (a b : Agent) (s : Surroundings) → a.machine ≡ b.machine → a.inventory.forest ≡ b.inventory.forest → a.standings ≡ b.standings → a.beginnings ≡ b.beginnings
+    → board_of a s ≡ board_of b s

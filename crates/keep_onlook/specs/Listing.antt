@@ -1,0 +1,83 @@
+-- Listing: how the agent and each entry stand, as one text of JSON.
+-- Source: RFC 8259; the members are this project's own. Moments are seconds since 1970-01-01T00:00:00Z.
+use Rattle.std.specs.Prelude.{ℕ, List, [], ◌∷◌, ◌++◌, Option, Some, None, codes, decimal}
+use Rattle.keep_tree.specs.declared.entry.Kind.{Kind}
+use Rattle.keep_tree.specs.declared.entry.Kind.TheVariants.{Token, Lease}
+use Rattle.keep_agent.specs.declared.standing.Trouble.{Trouble}
+use Rattle.keep_agent.specs.declared.standing.Trouble.TheVariants as troubles
+use Rattle.keep_onlook.specs.declared.board.Board.{Board}
+use Rattle.keep_onlook.specs.declared.board.Row.{Row}
+use Rattle.keep_onlook.specs.declared.board.Surroundings.{Surroundings}
+use Rattle.keep_onlook.specs.declared.listing.Member.{Member}
+use Rattle.keep_onlook.specs.declared.listing.Member.TheVariants as members
+use Rattle.keep_onlook.specs.Escapes.{json_value}
+use Rattle.keep_onlook.specs.Metrics.{condition_word}
+
+abbrev pub number_or_null : Option ℕ → List ℕ
+number_or_null None = codes "null"
+number_or_null (Some n) = decimal n
+
+abbrev pub kind_word : Kind → List ℕ
+kind_word Token = codes "token"
+kind_word Lease = codes "lease"
+
+abbrev pub trouble_word : Option Trouble → List ℕ
+trouble_word None = codes "null"
+trouble_word (Some troubles.Lost) = codes "\"lost\""
+trouble_word (Some troubles.Refused) = codes "\"refused\""
+trouble_word (Some troubles.Gone) = codes "\"gone\""
+
+-- name, kind, state and what is wrong
+unfoldable pub words_text : Row → List ℕ
+words_text row =
+    codes "{\"name\":\"" ++ json_value row.name ++ codes "\",\"kind\":\"" ++ kind_word row.kind ++ codes "\",\"state\":\"" ++ condition_word row.condition
+    ++ codes "\",\"wrong\":" ++ trouble_word row.trouble
+
+-- a member with a number, its name first
+unfoldable pub member_name : Member → List ℕ
+member_name members.Now = codes "{\"now\":"
+member_name members.NextWake = codes ",\"next_wake\":"
+member_name members.Beginnings = codes ",\"beginnings\":"
+member_name members.Margin = codes ",\"margin\":"
+member_name members.End = codes ",\"end\":"
+member_name members.Need = codes ",\"need\":"
+member_name members.Carried = codes ",\"carried\":"
+member_name members.InForce = codes ",\"in_force\":"
+member_name members.LastSuccess = codes ",\"last_success\":"
+member_name members.Granted = codes ",\"granted\":"
+member_name members.Refused = codes ",\"refused\":"
+member_name members.Lost = codes ",\"lost\":"
+
+unfoldable pub member_text : Member → Option ℕ → List ℕ
+member_text name number = member_name name ++ number_or_null number
+
+unfoldable pub moments_text : Row → List ℕ
+moments_text row =
+    member_text members.End row.end ++ member_text members.Need (Some row.need) ++ member_text members.Carried (Some row.carried)
+    ++ member_text members.InForce (Some row.in_force) ++ member_text members.LastSuccess row.last_success
+
+unfoldable pub renewals_text : Row → List ℕ
+renewals_text row = member_text members.Granted (Some row.granted) ++ member_text members.Refused (Some row.refused) ++ member_text members.Lost (Some row.lost) ++ codes "}"
+
+unfoldable pub row_text : Row → List ℕ
+row_text row = words_text row ++ moments_text row ++ renewals_text row
+
+-- each row after a comma
+abbrev pub more_rows : List Row → List ℕ
+more_rows [] = []
+more_rows (row ∷ rows) = codes "," ++ row_text row ++ more_rows rows
+
+unfoldable pub rows_text : List Row → List ℕ
+rows_text [] = []
+rows_text (row ∷ rows) = row_text row ++ more_rows rows
+
+unfoldable pub entries_name : List ℕ
+entries_name = codes ",\"entries\":["
+
+unfoldable pub front_text : Board → List ℕ
+front_text b =
+    member_text members.Now (Some b.broker_now) ++ member_text members.NextWake b.surroundings.next_wake ++ member_text members.Beginnings (Some b.beginnings)
+    ++ member_text members.Margin (Some b.margin) ++ entries_name
+
+unfoldable pub listing_text : Board → List ℕ
+listing_text b = front_text b ++ rows_text b.rows ++ codes "]}\n"

@@ -1,0 +1,87 @@
+//! The families that have one sample, of the agent.
+ghost use Rattle.std.specs.Prelude.{◌≡◌};
+ghost use Rattle.keep_onlook.specs.Metrics.{figure_help, figure_kind, figure_name};
+
+/// What the samples of a family are.
+///
+/// Source: Prometheus, "Metric types"; OpenMetrics 1.0, "Metric Types".
+#[derive(Clone, Copy, Debug)]
+pub(crate) enum FamilyKind {
+    /// Numbers that go up and down.
+    Gauge,
+    /// Numbers that only go up while the agent runs.
+    Counter,
+}
+
+/// A figure of the agent.
+#[derive(Clone, Copy, Debug)]
+pub(crate) enum Figure {
+    Written,
+    NextWake,
+    Margin,
+    ClockOffset,
+    FileIsGood,
+    FileRead,
+    FileReadGood,
+    Beginnings,
+    DroppedLines,
+    DroppedAlerts,
+}
+
+impl Figure {
+    /// What its sample is.
+    pub(crate) fn kind(self) -> FamilyKind
+        ensures { result ≡ figure_kind self }
+    {
+        match self {
+            Figure::Written
+            | Figure::NextWake
+            | Figure::Margin
+            | Figure::ClockOffset
+            | Figure::FileIsGood
+            | Figure::FileRead
+            | Figure::FileReadGood => FamilyKind::Gauge,
+            Figure::Beginnings | Figure::DroppedLines | Figure::DroppedAlerts =>
+                FamilyKind::Counter,
+        }
+    }
+
+    /// Its name, without what each name begins with and without `_total`.
+    #[tactic(auto, unfolding(crate::specs::Metrics::figure_name))]
+    pub(crate) fn name(self) -> &'static str
+        ensures { result.now ≡ figure_name self }
+    {
+        match self {
+            Figure::Written => "metrics_written_timestamp_seconds",
+            Figure::NextWake => "next_wake_timestamp_seconds",
+            Figure::Margin => "margin_seconds",
+            Figure::ClockOffset => "clock_offset_seconds",
+            Figure::FileIsGood => "config_last_reload_successful",
+            Figure::FileRead => "config_last_reload_timestamp_seconds",
+            Figure::FileReadGood => "config_last_reload_success_timestamp_seconds",
+            Figure::Beginnings => "beginnings",
+            Figure::DroppedLines => "log_dropped_lines",
+            Figure::DroppedAlerts => "alerts_dropped",
+        }
+    }
+
+    /// What it says.
+    #[tactic(auto, unfolding(crate::specs::Metrics::figure_help))]
+    pub(crate) fn help(self) -> &'static str
+        ensures { result.now ≡ figure_help self }
+    {
+        match self {
+            Figure::Written => "When these figures were written.",
+            Figure::NextWake => "The next wake-up.",
+            Figure::Margin => "How long before its end an entry is renewed.",
+            Figure::ClockOffset =>
+                "How far the broker's clock is ahead of this machine's, where they differ.",
+            Figure::FileIsGood => "Whether the inventory's file was good when it was last read.",
+            Figure::FileRead => "When the file was last read.",
+            Figure::FileReadGood => "When the file was last read and good.",
+            Figure::Beginnings => "Beginnings: everything is looked up.",
+            Figure::DroppedLines => "Log lines that nobody took.",
+            Figure::DroppedAlerts => "Warnings and alerts that no program was run with.",
+        }
+    }
+}

@@ -1,0 +1,14 @@
+ghost use Rattle.std.specs.Prelude.{◌≡◌};
+ghost use Rattle.keep_onlook.specs.Board.{NoCredentialShows};
+ghost use Rattle.keep_onlook.specs.declared.asked.TheConstants.{FIELDS_MAX, HEAD_MAX};
+
+/// The law of the limits: a head has at most 8,192 bytes and 64 fields.
+pub fn limits_of_onlookers()
+    ensures bytes { HEAD_MAX ≡ 8192 }
+    ensures fields { FIELDS_MAX ≡ 64 }
+{}
+
+/// The law of secrecy: two agents that differ in credentials and terms alone show the same.
+pub fn no_credential_shows()
+    ensures { NoCredentialShows }
+{}

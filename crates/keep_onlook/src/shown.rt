@@ -1,0 +1,182 @@
+//! What is shown: a status, and what the body is.
+ghost use Rattle.std.specs.Prelude.{◌≡◌, ◌++◌, IfOk, length};
+ghost use Rattle.keep_onlook.specs.Answers.{allow_line, bare, code_words, content_words, head_text, health_code, page_of_board, shown_to};
+
+use crate::asked::{Method, Page};
+use crate::board::Board;
+use crate::entry_metrics::metrics_text;
+use crate::family::Format;
+use crate::health::{health_text, is_healthy};
+use crate::listing::listing_text;
+use keep_moment::Text;
+use keep_words::push_number;
+use std::alloc::{AllocError, Global};
+
+/// A status of HTTP.
+///
+/// Source: RFC 9110, section 15; RFC 6585, section 5.
+#[derive(Clone, Copy, Debug)]
+pub(crate) enum Code {
+    Good,
+    BadRequest,
+    NotFound,
+    MethodNotAllowed,
+    HeadTooLong,
+    Unavailable,
+}
+
+/// A media type.
+#[derive(Clone, Copy, Debug)]
+pub(crate) enum Content {
+    Prometheus,
+    OpenMetrics,
+    Json,
+    Plain,
+}
+
+/// What is shown.
+#[derive(Debug, Drop)]
+pub(crate) struct Shown {
+    pub(crate) code: Code,
+    pub(crate) content: Content,
+    pub(crate) body: Text,
+}
+
+impl Code {
+    /// Its number and its phrase.
+    #[tactic(auto, unfolding(crate::specs::Answers::code_words))]
+    fn words(self) -> &'static str
+        ensures { result.now ≡ code_words self }
+    {
+        match self {
+            Code::Good => "200 OK",
+            Code::BadRequest => "400 Bad Request",
+            Code::NotFound => "404 Not Found",
+            Code::MethodNotAllowed => "405 Method Not Allowed",
+            Code::HeadTooLong => "431 Request Header Fields Too Large",
+            Code::Unavailable => "503 Service Unavailable",
+        }
+    }
+
+    /// The line that goes with it of the methods that are answered.
+    fn allow_line(self) -> &'static str
+        ensures { result.now ≡ allow_line self }
+    {
+        match self {
+            Code::MethodNotAllowed => "Allow: GET, HEAD\r\n",
+            Code::Good
+            | Code::BadRequest
+            | Code::NotFound
+            | Code::HeadTooLong
+            | Code::Unavailable => { "" }
+        }
+    }
+}
+
+impl Content {
+    /// Its name, with its parameters.
+    #[tactic(auto, unfolding(crate::specs::Answers::content_words))]
+    fn words(self) -> &'static str
+        ensures { result.now ≡ content_words self }
+    {
+        match self {
+            Content::Prometheus => "text/plain; version=0.0.4; charset=utf-8",
+            Content::OpenMetrics => "application/openmetrics-text; version=1.0.0; charset=utf-8",
+            Content::Json => "application/json",
+            Content::Plain => "text/plain; charset=utf-8",
+        }
+    }
+}
+
+impl Shown {
+    /// The head that is sent, whether the body is or not.
+    #[tactic(auto, unfolding(crate::specs::Answers::head_text))]
+    pub(crate) fn head(&self, alloc: Global) -> Result<Text, AllocError>
+        ensures { IfOk result (λ text. text ≡ head_text self.now) }
+    {
+        let mut text = Vec::new(alloc);
+        text.extend_from_slice(b"HTTP/1.1 ")?;
+        text.extend_from_slice(self.code.words().as_bytes())?;
+        text.extend_from_slice(b"\r\nContent-Type: ")?;
+        text.extend_from_slice(self.content.words().as_bytes())?;
+        text.extend_from_slice(b"\r\n")?;
+        text.extend_from_slice(self.code.allow_line().as_bytes())?;
+        text.extend_from_slice(b"Content-Length: ")?;
+        push_number(alloc, self.body.list().len() as u64, &mut text)?;
+        text.extend_from_slice(b"\r\nConnection: close\r\n\r\n")?;
+        Ok(Text::from_vec(text))
+    }
+}
+
+/// A status by itself.
+#[tactic(auto, unfolding(crate::specs::Answers::bare))]
+pub(crate) fn bare(alloc: Global, code: Code) -> Result<Shown, AllocError>
+    ensures { IfOk result (λ shown. shown ≡ bare code) }
+{
+    let mut body = Vec::new(alloc);
+    body.extend_from_slice(code.words().as_bytes())?;
+    body.extend_from_slice(b"\n")?;
+    Ok(Shown {
+        code,
+        content: Content::Plain,
+        body: Text::from_vec(body),
+    })
+}
+
+/// What is shown to whoever asks for a page.
+#[tactic(auto, unfolding(crate::specs::Answers::shown_to))]
+pub(crate) fn shown_to(
+    alloc: Global,
+    board: &Board,
+    method: Method,
+    page: Page,
+) -> Result<Shown, AllocError>
+    ensures { IfOk result (λ shown. shown ≡ shown_to board.now method page) }
+{
+    match (method, page) {
+        (Method::Get | Method::Head, page) => page_of_board(alloc, board, page),
+        (Method::Other, Page::Nowhere) => bare(alloc, Code::NotFound),
+        (Method::Other, Page::Metrics(_) | Page::Health | Page::Listing) => {
+            bare(alloc, Code::MethodNotAllowed)
+        }
+    }
+}
+
+#[tactic(auto, unfolding(crate::specs::Answers::page_of_board))]
+fn page_of_board(alloc: Global, board: &Board, page: Page) -> Result<Shown, AllocError>
+    ensures { IfOk result (λ shown. shown ≡ page_of_board board.now page) }
+{
+    let (code, content, body) = match page {
+        Page::Metrics(Format::Prometheus) => {
+            let body = metrics_text(alloc, Format::Prometheus, board)?;
+            (Code::Good, Content::Prometheus, body)
+        }
+        Page::Metrics(Format::OpenMetrics) => {
+            let body = metrics_text(alloc, Format::OpenMetrics, board)?;
+            (Code::Good, Content::OpenMetrics, body)
+        }
+        Page::Health => (
+            health_code(board),
+            Content::Plain,
+            health_text(alloc, board)?,
+        ),
+        Page::Listing => (Code::Good, Content::Json, listing_text(alloc, board)?),
+        Page::Nowhere => return bare(alloc, Code::NotFound),
+    };
+    Ok(Shown {
+        code,
+        content,
+        body: Text::from_vec(body),
+    })
+}
+
+/// The status that tells whether all that is needed is kept.
+fn health_code(board: &Board) -> Code
+    ensures { result ≡ health_code board.now }
+{
+    if is_healthy(board) {
+        Code::Good
+    } else {
+        Code::Unavailable
+    }
+}

@@ -1,0 +1,124 @@
+-- Changed: changes are made one after another, and each leaves what is held in step with the lanes. For `make_changes` and the turn.
+use Rattle.std.proofs.Common.{◌≡◌, ◌∙◌, ℕ, zero, suc, ◌+◌, ◌≤◌, Bool, true, false, List, [], ◌∷◌, ◌++◌, Option, Some, None, IfSome, Result, Ok, Err, append_assoc, length, map, refl, sym, ap, subst, arith}
+use Rattle.std.proofs.lemmas.List.{length-append}
+use Rattle.keep_agent.specs.declared.standing.Told.{Told}
+use Rattle.keep_agent.specs.Agent.{Agent}
+use Rattle.keep_agent.specs.Rebuilding.{AreHanded, IsHanded, IsRebuilt, carried_told}
+use Rattle.keep_agent.specs.Turns.{AgentTurn}
+use Rattle.keep_asking.specs.InStep.{IsSound, times}
+use Rattle.keep_asking.proofs.InStep.{abreast_new}
+use Rattle.keep_asking.proofs.Sound.{IsQuiet, turn_begin, turn_known, turn_need}
+use Rattle.keep_inventory.specs.Inventories.{Inventory}
+use Rattle.keep_lanes.specs.Out as lanes
+use Rattle.watch_machine.specs.declared.command.Output.{Output}
+use Rattle.watch_machine.specs.declared.event.Event.{Event}
+use Rattle.watch_machine.specs.declared.event.Event.TheVariants as events
+use Rattle.watch_machine.specs.declared.fault.WatchFault.{WatchFault}
+use Rattle.watch_machine.specs.declared.lanes.Out.{Out}
+use Rattle.watch_machine.specs.State.{State, opened}
+use Rattle.keep_serving.specs.Changes.{AllGiven, AreMade, IsMade, IsServed, IsTurned, Made, changes_of}
+use Rattle.keep_serving.specs.Held.{Held, IsInStep, Side}
+use Rattle.keep_serving.specs.Turns.{is_some_change}
+use Rattle.keep_serving.specs.declared.change.Change.{Change}
+use Rattle.keep_serving.specs.declared.change.Change.TheVariants.{Need, Begin, Serve}
+
+-- ---- one after another
+
+pub made_on : (made : List Made) (c : Change) (is_made : Bool) (old mid new : Side) → AreMade made old mid → IsMade c is_made mid new → AreMade (made ++ record { change = c; is_made = is_made } ∷ []) old new
+made_on [] c is_made old mid new h one = (new, (subst (λ (s : Side). IsMade c is_made s new) h one, refl))
+made_on (m ∷ rest) c is_made old mid new h one = (h.0, (h.1.0, made_on rest c is_made h.0 mid new h.1.1 one))
+
+pub some_made : (made : List Made) (m : Made) → true ≡ is_some_change (made ++ m ∷ [])
+some_made [] m = refl
+some_made (x ∷ xs) m = refl
+
+changes_on : (made : List Made) (m : Made) → changes_of (made ++ m ∷ []) ≡ changes_of made ++ m.change ∷ []
+changes_on [] m = refl
+changes_on (x ∷ xs) m = ap (λ cs. x.change ∷ cs) (changes_on xs m)
+
+pub given_join : (xs ys : List Change) (a b c : Option (List Change)) → AllGiven xs a b → AllGiven ys b c → AllGiven (xs ++ ys) a c
+given_join xs ys a b None h k = tt
+given_join xs ys a b (Some given) h k =
+    let first : AllGiven xs a (Some k.0) = subst (AllGiven xs a) k.1.0 h in
+    (first.0, (first.1.0, k.1.1 ∙ ap (λ cs. cs ++ ys) first.1.1 ∙ append_assoc first.0 xs ys))
+
+pub given_on : (made : List Made) (c : Change) (is_made : Bool) (a b d e : Option (List Change)) → AllGiven (changes_of made) a b → AllGiven (c ∷ []) b d → e ≡ d → AllGiven (changes_of (made ++ record { change = c; is_made = is_made } ∷ [])) a e
+given_on made c is_made a b d e h one same =
+    let all = given_join (changes_of made) (c ∷ []) a b d h one in
+    let there = subst (AllGiven (changes_of made ++ c ∷ []) a) (sym same) all in
+    subst (λ cs. AllGiven cs a e) (sym (changes_on made (record { change = c; is_made = is_made }))) there
+
+append_none : (xs : List Change) → xs ++ [] ≡ xs
+append_none [] = refl
+append_none (x ∷ xs) = ap (λ ys. x ∷ ys) (append_none xs)
+
+pub given_end : (xs : List Change) (a b c : Option (List Change)) → AllGiven xs a b → AllGiven [] b c → AllGiven xs a c
+given_end xs a b c h none = subst (λ cs. AllGiven cs a c) (append_none xs) (given_join xs [] a b c h none)
+
+pub one_more : (made : List Made) (m : Made) (n : ℕ) → length made ≤ n → length (made ++ m ∷ []) ≤ n + 1
+one_more made m n few = (let more = length-append made (m ∷ []) in omega (arith, more, few))
+
+-- ---- in step
+
+quiet_in_step : (width : ℕ) (out : List lanes.Out) (h : Held) (new : Agent) → IsQuiet h.agent.machine new.machine → IsInStep width out h → IsInStep width out (record h { agent = new })
+quiet_in_step width out h new quiet step =
+    let same = ap length quiet.out in
+    let n = step.count in
+    let room = step.room in
+    record {
+      width_is = quiet.width ∙ step.width_is;
+      room = omega (arith, same, room);
+      sound = quiet.sound;
+      count = omega (arith, same, n);
+      each = λ i. step.each i ∙ sym (ap (λ (o : List Out). times i (map (λ (r : Out). r.entry) o)) quiet.out);
+    }
+
+turned_in_step : (width : ℕ) (out : List lanes.Out) (event : Event) (h : Held) (new : Agent) → ((output : Output) → AgentTurn h.agent event (Ok output) new → IsQuiet h.agent.machine new.machine) → (result : Result Output WatchFault) → AgentTurn h.agent event result new →
+    IsInStep width out h → IsInStep width out (record h { agent = new })
+turned_in_step width out event h new quiet (Ok output) turn step = quiet_in_step width out h new (quiet output turn) step
+turned_in_step width out event h new quiet (Err fault) turn step = subst (λ (a : Agent). IsInStep width out (record h { agent = a })) (sym turn.1) step
+
+-- what is handed to a new machine leaves nothing out
+record IsIdle (width : ℕ) (m : State) : Type 0 where
+  none : m.out ≡ []
+  width_is : m.width ≡ width
+  sound : IsSound m
+
+handed_one : (width i : ℕ) (told : Option Told) (old new : State) → IsHanded i told old new → IsIdle width old → IsIdle width new
+handed_one width i None old new h idle = subst (IsIdle width) (sym h) idle
+handed_one width i (Some t) old new h idle =
+    let quiet = turn_known old new i t.end t.renewable h.0 h.1 idle.sound in
+    record { none = quiet.out ∙ idle.none; width_is = quiet.width ∙ idle.width_is; sound = quiet.sound }
+
+handed_idle : (width : ℕ) (told : ℕ → Option Told) (n : ℕ) (old new : State) → AreHanded told old n new → IsIdle width old → IsIdle width new
+handed_idle width told zero old new h idle = subst (IsIdle width) (sym h) idle
+handed_idle width told (suc n) old new h idle = handed_one width n (told n) h.0 new h.1.1 (handed_idle width told n old h.0 h.1.0 idle)
+
+served_in_step : (width : ℕ) (s : Inventory) (old new : Side) → IsServed s old new → IsInStep width old.lanes.out old.held → IsInStep width new.lanes.out new.held
+served_in_step width s old new h step =
+    let w = old.held.agent.machine.width in
+    let fresh = abreast_new s.forest w in
+    let idle = handed_idle w (carried_told old.held.agent s) (length s.forest.entries) (opened s.forest w) new.held.agent.machine h.agent.machine (record { none = refl; width_is = refl; sound = fresh.sound }) in
+    let none = ap length idle.none in
+    let held : IsInStep width [] (record old.held { agent = new.held.agent; pending = []; unsent = [] }) = record {
+      width_is = idle.width_is ∙ step.width_is;
+      room = omega (arith, none);
+      sound = idle.sound;
+      count = omega (arith, none);
+      each = λ i. sym (ap (λ (o : List Out). times i (map (λ (r : Out). r.entry) o)) idle.none);
+    } in
+    subst (λ l. IsInStep width l.out new.held) (sym h.lanes) (subst (IsInStep width []) (sym h.held) held)
+
+made_one : (width : ℕ) (c : Change) (is_made : Bool) (old new : Side) → IsMade c is_made old new → IsInStep width old.lanes.out old.held → IsInStep width new.lanes.out new.held
+made_one width c false old new h step = subst (λ (s : Side). IsInStep width s.lanes.out s.held) (sym h) step
+made_one width (Need i until) true old new h step =
+    subst (λ (s : Side). IsInStep width s.lanes.out s.held) (sym h.rest)
+    (turned_in_step width old.lanes.out (events.Need i until) old.held new.held.agent (λ output turn. turn_need old.held.agent.machine new.held.agent.machine i until output turn.machine step.sound) h.result h.turn step)
+made_one width Begin true old new h step =
+    subst (λ (s : Side). IsInStep width s.lanes.out s.held) (sym h.rest)
+    (turned_in_step width old.lanes.out events.Begin old.held new.held.agent (λ output turn. turn_begin old.held.agent.machine new.held.agent.machine output turn.machine step.sound) h.result h.turn step)
+made_one width (Serve s) true old new h step = served_in_step width s old new h step
+
+pub made_keeps : (width : ℕ) (made : List Made) (old new : Side) → AreMade made old new → IsInStep width old.lanes.out old.held → IsInStep width new.lanes.out new.held
+made_keeps width [] old new h step = subst (λ (s : Side). IsInStep width s.lanes.out s.held) (sym h) step
+made_keeps width (m ∷ rest) old new h step = made_keeps width rest h.0 new h.1.1 (made_one width m.change m.is_made old h.0 h.1.0 step)

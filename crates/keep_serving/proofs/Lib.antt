@@ -1,0 +1,9 @@
+pub mod InStep
+pub mod Sent
+pub mod Taken
+pub mod Staged
+pub mod Changed
+pub mod Read
+pub mod Turned
+pub mod Run
+pub mod Stretch

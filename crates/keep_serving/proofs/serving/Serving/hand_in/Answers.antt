@@ -1,0 +1,25 @@
+-- Once what was left over is sent, what comes after follows.
+use Rattle.std.proofs.Common.{◌≡◌, ◌∙◌, is_ok, refl, subst, sym}
+use Rattle.keep_asking.specs.Sending.{Lanes, lanes_of}
+use Rattle.keep_serving.specs.Held.{IsInStep, Side, side}
+use Rattle.keep_serving.specs.Stages.{Comes, Commands, Goes, HandsIn, OnHeld, Reads, Sends, Takes, TakesUp, Then}
+use Rattle.keep_serving.proofs.InStep.{in_step_come, in_step_gone, in_step_read, in_step_taken}
+use Rattle.keep_serving.proofs.Staged.{then_on}
+use Rattle.keep_serving.proofs.serving.Serving.hand_in.Goals as goal
+
+pub hand_in_left-requires-clause-in_step : goal.hand_in_left-requires-clause-in_step
+hand_in_left-requires-clause-in_step g c =
+    let old : Lanes = lanes_of (g.L.Lanes.behind c.args.lanes.now) (g.L.Lanes.out c.args.lanes.now) (g.L.Lanes.seconds c.args.lanes.now) in
+    let mid : Lanes = lanes_of (g.L.Lanes.behind c.send_all.new.lanes) (g.L.Lanes.out c.send_all.new.lanes) (g.L.Lanes.seconds c.send_all.new.lanes) in
+    let step = in_step_gone (g.L.Lanes.host_port c.args.lanes.now) (g.L.Lanes.width c.args.lanes.now) (side c.args.self.now old) (side c.send_all.new.self mid) c.in_ok-send_all.ensures.sends.0 c.requires.in_step in
+    subst (λ w. IsInStep w (g.L.Lanes.out c.send_all.new.lanes) c.send_all.new.self) (sym c.in_ok-send_all.ensures.width) step
+
+pub returns-clause-goes : goal.returns-clause-goes
+returns-clause-goes g c =
+    let old : Lanes = lanes_of (g.L.Lanes.behind c.args.lanes.now) (g.L.Lanes.out c.args.lanes.now) (g.L.Lanes.seconds c.args.lanes.now) in
+    let mid : Lanes = lanes_of (g.L.Lanes.behind c.send_all.new.lanes) (g.L.Lanes.out c.send_all.new.lanes) (g.L.Lanes.seconds c.send_all.new.lanes) in
+    let new : Lanes = lanes_of (g.L.Lanes.behind c.hand_in_left.new.lanes) (g.L.Lanes.out c.hand_in_left.new.lanes) (g.L.Lanes.seconds c.hand_in_left.new.lanes) in
+    let port = g.L.Lanes.host_port c.args.lanes.now in
+    let goes = subst (λ p. Then (OnHeld Takes) (TakesUp p c.args.reading) (side c.send_all.new.self mid) (is_ok c.hand_in_left.result) (side c.hand_in_left.new.self new)) c.in_ok-send_all.ensures.port c.hand_in_left.ensures.goes in
+    then_on (Sends port) (Then (OnHeld Takes) (TakesUp port c.args.reading)) (side c.args.self.now old) (side c.send_all.new.self mid) (side c.hand_in_left.new.self new) (is_ok c.hand_in_left.result)
+    c.in_ok-send_all.ensures.sends goes

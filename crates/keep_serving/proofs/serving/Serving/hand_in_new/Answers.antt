@@ -1,0 +1,19 @@
+-- Once the answers are handed in, what comes after follows.
+use Rattle.std.proofs.Common.{◌≡◌, ◌∙◌, is_ok, refl, subst, sym}
+use Rattle.keep_asking.specs.Sending.{Lanes, lanes_of}
+use Rattle.keep_serving.specs.Held.{IsInStep, Side, side}
+use Rattle.keep_serving.specs.Stages.{Comes, Commands, Goes, HandsIn, OnHeld, Reads, Sends, Takes, TakesUp, Then}
+use Rattle.keep_serving.proofs.InStep.{in_step_come, in_step_gone, in_step_read, in_step_taken}
+use Rattle.keep_serving.proofs.Staged.{then_on}
+use Rattle.keep_serving.proofs.serving.Serving.hand_in_new.Goals as goal
+
+pub command-requires-clause-in_step : goal.command-requires-clause-in_step
+command-requires-clause-in_step g c = in_step_taken (g.L.Lanes.width c.args.lanes.now) (g.L.Lanes.out c.args.lanes.now) c.args.self.now c.take_all.new.self c.in_ok-take_all.ensures.takes.0 c.requires.in_step
+
+pub returns-clause-goes : goal.returns-clause-goes
+returns-clause-goes g c =
+    let old : Lanes = lanes_of (g.L.Lanes.behind c.args.lanes.now) (g.L.Lanes.out c.args.lanes.now) (g.L.Lanes.seconds c.args.lanes.now) in
+    let new : Lanes = lanes_of (g.L.Lanes.behind c.command.new.lanes) (g.L.Lanes.out c.command.new.lanes) (g.L.Lanes.seconds c.command.new.lanes) in
+    let port = g.L.Lanes.host_port c.args.lanes.now in
+    then_on (OnHeld Takes) (Commands port c.args.reading) (side c.args.self.now old) (side c.take_all.new.self old) (side c.command.new.self new) (is_ok c.command.result)
+    (c.in_ok-take_all.ensures.takes, refl) c.command.ensures.goes

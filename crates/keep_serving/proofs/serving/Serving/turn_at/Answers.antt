@@ -1,0 +1,49 @@
+-- The time was handed in, and then changes were made.
+use Rattle.std.proofs.Common.{◌≡◌, ◌∙◌, ◌||◌, Some, ap, is_ok, refl, subst, sym}
+use Rattle.keep_asking.specs.Sending.{Lanes, lanes_of}
+use Rattle.keep_serving.specs.Changes.{AllGiven, changes_of}
+use Rattle.keep_serving.specs.Held.{Held, IsInStep, Side, side}
+use Rattle.keep_serving.specs.Turns.{is_some_change, wait_by}
+use Rattle.keep_serving.proofs.Changed.{made_keeps}
+use Rattle.keep_serving.proofs.Staged.{goes_keeps}
+use Rattle.keep_serving.proofs.Turned.{turned, whole_turn}
+use Rattle.keep_serving.proofs.serving.Serving.turn_at.Goals as goal
+
+pub returns-clause-turn : goal.returns-clause-turn
+returns-clause-turn g c =
+    let old : Lanes = lanes_of (g.L.Lanes.behind c.args.lanes.now) (g.L.Lanes.out c.args.lanes.now) (g.L.Lanes.seconds c.args.lanes.now) in
+    let mid : Lanes = lanes_of (g.L.Lanes.behind c.hand_in.new.lanes) (g.L.Lanes.out c.hand_in.new.lanes) (g.L.Lanes.seconds c.hand_in.new.lanes) in
+    let new : Lanes = lanes_of (g.L.Lanes.behind c.make_changes-is_changed.new.lanes) (g.L.Lanes.out c.make_changes-is_changed.new.lanes) (g.L.Lanes.seconds c.make_changes-is_changed.new.lanes) in
+    let made = c.make_changes-is_changed.ensures.made in
+    let r = c.args.reading in
+    let whole = is_ok c.hand_in.result in
+    let busy = c.go_on-is_busy.result in
+    let due = c.due-due.result in
+    let held = c.make_changes-is_changed.new.self in
+    let waits : c.wait_of.result ≡ wait_by (is_some_change made.0 || busy) whole held.until due (Some r) =
+    c.wait_of.ensures ∙ ap (λ b. wait_by (b || busy) c.is_ok-is_whole.result c.self-2.inside.until due (Some r)) made.1.1.1.0
+    ∙ ap (λ w. wait_by (is_some_change made.0 || busy) w c.self-2.inside.until due (Some r)) c.is_ok-is_whole.ensures.value
+    ∙ ap (λ (h : Held). wait_by (is_some_change made.0 || busy) whole h.until due (Some r)) c.self-2.view_is in (
+      turned r whole made.0 busy due c.wait_of.result,
+      (
+        refl,
+        (
+          refl,
+          (
+            whole_turn (g.L.Lanes.host_port c.args.lanes.now) r whole busy made.0 due c.wait_of.result (side c.args.self.now old) (side c.hand_in.new.self mid) (side held new) c.hand_in.ensures.goes made.1.0 made.1.1.0 waits,
+            subst (λ a. AllGiven (changes_of made.0) a (g.N.Neighbours.given c.make_changes-is_changed.new.neighbours)) (c.go_on-is_busy.ensures ∙ c.hand_in.ensures.given) made.1.1.1.1,
+          ),
+        ),
+      ),
+    )
+
+pub returns-clause-in_step : goal.returns-clause-in_step
+returns-clause-in_step g c =
+    let old : Lanes = lanes_of (g.L.Lanes.behind c.args.lanes.now) (g.L.Lanes.out c.args.lanes.now) (g.L.Lanes.seconds c.args.lanes.now) in
+    let mid : Lanes = lanes_of (g.L.Lanes.behind c.hand_in.new.lanes) (g.L.Lanes.out c.hand_in.new.lanes) (g.L.Lanes.seconds c.hand_in.new.lanes) in
+    let new : Lanes = lanes_of (g.L.Lanes.behind c.make_changes-is_changed.new.lanes) (g.L.Lanes.out c.make_changes-is_changed.new.lanes) (g.L.Lanes.seconds c.make_changes-is_changed.new.lanes) in
+    let width = g.L.Lanes.width c.args.lanes.now in
+    let gone = goes_keeps (g.L.Lanes.host_port c.args.lanes.now) c.args.reading width (side c.args.self.now old) (side c.hand_in.new.self mid) (is_ok c.hand_in.result) c.hand_in.ensures.goes c.requires.in_step in
+    let made = c.make_changes-is_changed.ensures.made in
+    let step = made_keeps width made.0 (side c.hand_in.new.self mid) (side c.make_changes-is_changed.new.self new) made.1.0 gone in
+    subst (λ w. IsInStep w (g.L.Lanes.out c.make_changes-is_changed.new.lanes) c.make_changes-is_changed.new.self) (sym (c.make_changes-is_changed.ensures.width ∙ c.hand_in.ensures.width)) step

@@ -1,0 +1,53 @@
+-- Changes: what is taken from clients and files while the agent runs, and what it makes of the agent.
+-- Source: this project's own.
+use Rattle.std.specs.Prelude.{◌≡◌, ◌++◌, Bool, true, false, List, [], ◌∷◌, Option, Some, IfSome, Result, map}
+use Rattle.keep_agent.specs.Rebuilding.{IsRebuilt}
+use Rattle.keep_agent.specs.Turns.{AgentTurn}
+use Rattle.keep_inventory.specs.Inventories.{Inventory}
+use Rattle.watch_machine.specs.declared.command.Output.{Output}
+use Rattle.watch_machine.specs.declared.event.Event.{Event}
+use Rattle.watch_machine.specs.declared.event.Event.TheVariants as events
+use Rattle.watch_machine.specs.declared.fault.WatchFault.{WatchFault}
+use Rattle.keep_serving.specs.Held.{Held, Side}
+use Rattle.keep_serving.specs.declared.change.Change.{Change}
+use Rattle.keep_serving.specs.declared.change.Change.TheVariants.{Need, Begin, Serve}
+
+-- the agent takes an event of its own; one of no entry leaves it as it was
+pub record IsTurned (event : Event) (old new : Side) : Type 0 where
+  pub result : Result Output WatchFault
+  pub turn : AgentTurn old.held.agent event result new.held.agent
+  pub rest : new ≡ record old { held = record old.held { agent = new.held.agent } }
+
+-- another inventory is served from now on, by as many requests at once: what is out, what came and is not handed in, and what is not sent is forgotten
+pub record IsServed (s : Inventory) (old new : Side) : Type 0 where
+  pub agent : IsRebuilt old.held.agent s old.held.agent.machine.width new.held.agent
+  pub held : new.held ≡ record old.held { agent = new.held.agent; pending = []; unsent = [] }
+  pub lanes : new.lanes ≡ record old.lanes { out = [] }
+
+-- what a change makes
+abbrev pub Makes : Change → Side → Side → Type 0
+Makes (Need i until) old new = IsTurned (events.Need i until) old new
+Makes Begin old new = IsTurned events.Begin old new
+Makes (Serve s) old new = IsServed s old new
+
+-- a change that was taken, and whether memory sufficed to make it; where it did not, all is as it was, and it is to be given again
+pub record Made : Type 0 where
+  pub change : Change
+  pub is_made : Bool
+
+abbrev pub IsMade : Change → Bool → Side → Side → Type 0
+IsMade change true old new = Makes change old new
+IsMade change false old new = new ≡ old
+
+abbrev pub AreMade : List Made → Side → Side → Type 0
+AreMade [] old new = new ≡ old
+AreMade (m ∷ rest) old new = (mid : Side) × (IsMade m.change m.is_made old mid × AreMade rest mid new)
+
+abbrev pub changes_of : List Made → List Change
+changes_of made = map (λ (m : Made). m.change) made
+
+-- ---- what the neighbours that give changes have given
+
+-- these were given and no others, in this order: what was given by now was given before, and these are more
+abbrev pub AllGiven : List Change → Option (List Change) → Option (List Change) → Type 0
+AllGiven more old new = IfSome new (λ given. (before : List Change) × ((old ≡ Some before) × (given ≡ before ++ more)))

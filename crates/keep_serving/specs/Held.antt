@@ -1,0 +1,44 @@
+-- Held: what the agent holds between two turns, and that it is in step with its lanes.
+-- Source: this project's own.
+use Rattle.std.specs.Prelude.{◌≡◌, ℕ, ◌+◌, ◌≤◌, List, [], length, map}
+use Rattle.keep_agent.specs.Agent.{Agent, fresh}
+use Rattle.keep_clock.specs.declared.reading.Reading.{Reading}
+use Rattle.keep_inventory.specs.Inventories.{Inventory}
+use Rattle.keep_lanes.specs.Out as lanes
+use Rattle.keep_lanes.specs.declared.lanes.Answered.{Answered}
+use Rattle.keep_asking.specs.InStep.{IsSound, entries_of, entries_on, entries_out, times}
+use Rattle.keep_asking.specs.Sending.{Lanes}
+use Rattle.watch_machine.specs.declared.command.Request.{Request}
+
+-- the agent; the answers that came and are not handed in yet; the requests that the Watch commands and that are not sent yet; the
+-- reading at which it commanded them; and the moment of the same clock before which nothing else is to be done
+pub record Held : Type 0 where
+  pub agent : Agent
+  pub pending : List Answered
+  pub unsent : List Request
+  pub asked : Reading
+  pub until : ℕ
+
+abbrev pub entries_unsent : List Request → List ℕ
+entries_unsent unsent = map (λ r. r.entry) unsent
+
+-- what the Watch has out is on a lane, or its answer waits to be handed in, or it waits to be sent; and as many may be out as there
+-- are lanes
+pub record IsInStep (width : ℕ) (out : List lanes.Out) (h : Held) : Type 0 where
+  pub width_is : h.agent.machine.width ≡ width
+  pub room : length h.agent.machine.out ≤ width
+  pub sound : IsSound h.agent.machine
+  pub count : length out + (length h.pending + length h.unsent) ≡ length h.agent.machine.out
+  pub each : (i : ℕ) → times i (entries_on out) + (times i (entries_of h.pending) + times i (entries_unsent h.unsent)) ≡ times i (entries_out h.agent.machine)
+
+-- what is held, and the lanes
+pub record Side : Type 0 where
+  pub held : Held
+  pub lanes : Lanes
+
+abbrev pub side : Held → Lanes → Side
+side held lanes = record { held = held; lanes = lanes }
+
+-- an agent that has done nothing yet
+abbrev pub begun : Agent → Held
+begun a = record { agent = a; pending = []; unsent = []; asked = record { wall = 0; elapsed = 0 }; until = 0 }

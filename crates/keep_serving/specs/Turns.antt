@@ -1,0 +1,55 @@
+-- Turns: one round of the loop: the time is handed in, changes are taken, and one wait follows.
+-- Source: this project's own.
+use Rattle.std.specs.Prelude.{◌≡◌, ℕ, ◌-◌, ◌≤◌, Bool, true, false, ◌||◌, if◌then◌else◌, List, [], ◌∷◌, Option, Some, None, length, min}
+use Rattle.keep_clock.specs.Seen.{read_call}
+use Rattle.keep_clock.specs.declared.call.Call.{Call}
+use Rattle.keep_clock.specs.declared.call.Call.TheVariants.{Wait}
+use Rattle.keep_clock.specs.declared.reading.Reading.{Reading}
+use Rattle.keep_serving.specs.Changes.{AreMade, Made}
+use Rattle.keep_serving.specs.Held.{Held, Side}
+use Rattle.keep_serving.specs.Stages.{Goes}
+
+-- what a turn read, where it could; whether memory sufficed to hand the time in; the changes that it took; whether a neighbour
+-- could go on at once; the moment by which a lane has to be looked at; and for how long it then waited, in milliseconds
+pub record Turned : Type 0 where
+  pub reading : Option Reading
+  pub is_whole : Bool
+  pub changes : List Made
+  pub is_busy : Bool
+  pub due : ℕ
+  pub millis : ℕ
+
+-- nothing is handed in where the clocks could not be read
+abbrev pub Hears : ℕ → Option Reading → Side → Bool → Side → Type 0
+Hears port None old is_whole new = (is_whole ≡ false) × (new ≡ old)
+Hears port (Some r) old is_whole new = Goes port r old is_whole new
+
+abbrev pub is_some_change : List Made → Bool
+is_some_change [] = false
+is_some_change (m ∷ rest) = true
+
+-- no wait where something is to be handed in at once. Else until the Watch's moment, or until a lane has to be looked at, or a
+-- second; a tenth of one where memory is wanting or no clock is read
+abbrev pub wait_at : ℕ → ℕ → Reading → ℕ
+wait_at until due r = min 1000 (min until due - r.elapsed)
+
+abbrev pub wait_after : Bool → ℕ → ℕ → Option Reading → ℕ
+wait_after is_whole until due None = 100
+wait_after is_whole until due (Some r) = if is_whole then wait_at until due r else 100
+
+abbrev pub wait_by : Bool → Bool → ℕ → ℕ → Option Reading → ℕ
+wait_by is_more is_whole until due reading = if is_more then 0 else wait_after is_whole until due reading
+
+abbrev pub wait_of : Turned → ℕ → ℕ
+wait_of t until = wait_by (is_some_change t.changes || t.is_busy) t.is_whole until t.due t.reading
+
+pub record IsTurn (port : ℕ) (old : Side) (t : Turned) (new : Side) : Type 0 where
+  pub mid : Side
+  pub hears : Hears port t.reading old t.is_whole mid
+  pub made : AreMade t.changes mid new
+  pub few : length t.changes ≤ 8
+  pub waits : t.millis ≡ wait_of t new.held.until
+
+-- what is asked of the clock: one reading, and one wait
+abbrev pub calls_of : Turned → List Call
+calls_of t = read_call t.reading ∷ Wait t.millis ∷ []

@@ -1,0 +1,13 @@
+use keep_inventory::Inventory;
+
+/// What is taken from clients and files while the agent runs.
+#[derive(Debug, Drop)]
+pub enum Change {
+    /// The entry at this index is needed until that moment by the broker's clock, in seconds since 1970-01-01T00:00:00Z; 0 where
+    /// it is not needed. One of no entry changes nothing.
+    Need { entry: u32, until: u64 },
+    /// Everything is to be looked up anew.
+    Begin,
+    /// This inventory is served from now on.
+    Serve(Inventory),
+}

@@ -1,0 +1,97 @@
+//! Changes are made.
+ghost use Rattle.std.specs.Prelude.{◌≡◌, ◌≤◌, List, Result, length};
+ghost use Rattle.keep_agent.specs.Turns.{AgentTurn};
+ghost use Rattle.keep_serving.specs.Changes.{AllGiven, AreMade, IsMade, Made, changes_of};
+ghost use Rattle.keep_serving.specs.Held.{side};
+ghost use Rattle.keep_serving.specs.declared.change.Change.TheVariants.{Serve};
+ghost use Rattle.watch_machine.specs.declared.command.Output.{Output};
+ghost use Rattle.watch_machine.specs.declared.fault.WatchFault.{WatchFault};
+ghost use Rattle.keep_serving.specs.Turns.{is_some_change};
+
+use crate::change::Change;
+use crate::neighbours::Neighbours;
+use crate::serving::Serving;
+use keep_asking::SeenLanes;
+use keep_clock::Reading;
+use keep_inventory::Inventory;
+use keep_lanes::Lanes;
+use std::alloc::Global;
+use watch_machine::Event;
+
+/// The most changes that a turn takes.
+const MOST_CHANGES: u32 = 8;
+
+impl Serving {
+    /// Takes as many changes as a turn may, and makes each. Whether there was one.
+    pub(crate) fn make_changes<L: Lanes, N: Neighbours>(
+        &mut self,
+        alloc: Global,
+        now: Reading,
+        lanes: &mut L,
+        neighbours: &mut N,
+    ) -> bool
+        ensures made { (made : List Made) × ((AreMade made (side self.old (⟦<L as SeenLanes>⟧.seen lanes.old)) (side self.new (⟦<L as SeenLanes>⟧.seen lanes.new))) × ((length made ≤ 8) × ((result ≡ is_some_change made) × AllGiven (changes_of made) (N.given neighbours.old) (N.given neighbours.new)))) }
+        ensures width { L.width lanes.new ≡ L.width lanes.old }
+        ensures port { L.host_port lanes.new ≡ L.host_port lanes.old }
+    {
+        let mut is_changed = false;
+        for _ in 0..MOST_CHANGES {
+            let Some(change) = neighbours.change(alloc, &self.agent, now) else {
+                return is_changed;
+            };
+            is_changed = true;
+            let is_made = self.make(alloc, lanes, change);
+            neighbours.settle(alloc, &self.agent, is_made);
+        }
+        is_changed
+    }
+
+    /// Makes a change. Whether memory sufficed; where it did not all is as it was.
+    fn make<L: Lanes>(&mut self, alloc: Global, lanes: &mut L, change: Change) -> bool
+        ensures made { IsMade change result (side self.old (⟦<L as SeenLanes>⟧.seen lanes.old)) (side self.new (⟦<L as SeenLanes>⟧.seen lanes.new)) }
+        ensures width { L.width lanes.new ≡ L.width lanes.old }
+        ensures port { L.host_port lanes.new ≡ L.host_port lanes.old }
+    {
+        match change {
+            Change::Need { entry, until } => {
+                self.take(alloc, Event::Need { entry, until });
+                true
+            }
+            Change::Begin => {
+                self.take(alloc, Event::Begin);
+                true
+            }
+            Change::Serve(inventory) => self.serve_instead(alloc, lanes, inventory),
+        }
+    }
+
+    /// The agent takes an event of its own. One of no entry leaves it as it was.
+    fn take(&mut self, alloc: Global, event: Event)
+        ensures turned { (result : Result Output WatchFault) × AgentTurn self.old.agent event result self.new.agent }
+        ensures rest { self.new ≡ record self.old { agent = self.new.agent } }
+    {
+        let _turned = self.agent.turn(alloc, event);
+    }
+
+    /// Serves another inventory from now on, and forgets what is out. Whether memory sufficed.
+    fn serve_instead<L: Lanes>(
+        &mut self,
+        alloc: Global,
+        lanes: &mut L,
+        inventory: Inventory,
+    ) -> bool
+        ensures made { IsMade (Serve inventory) result (side self.old (⟦<L as SeenLanes>⟧.seen lanes.old)) (side self.new (⟦<L as SeenLanes>⟧.seen lanes.new)) }
+        ensures width { L.width lanes.new ≡ L.width lanes.old }
+        ensures port { L.host_port lanes.new ≡ L.host_port lanes.old }
+    {
+        let width = self.agent.watch().width();
+        let Ok(agent) = self.agent.rebuilt(alloc, inventory, width) else {
+            return false;
+        };
+        self.agent = agent;
+        lanes.forget();
+        self.pending.clear();
+        self.unsent.clear();
+        true
+    }
+}

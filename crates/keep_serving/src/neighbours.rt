@@ -1,0 +1,56 @@
+//! The neighbours of the loop besides its clock and its broker: clients, onlookers, the log, and the disk.
+ghost use Rattle.std.specs.Prelude.{◌≡◌, List, Option, option_to_list};
+ghost use Rattle.keep_serving.specs.Changes.{AllGiven};
+ghost use Rattle.keep_serving.specs.declared.change.Change.{Change};
+
+use crate::change::Change;
+use keep_agent::{Agent, Short};
+use keep_asking::Said;
+use keep_clock::Reading;
+use std::alloc::Global;
+use watch_machine::{Notes, Operation, Request};
+
+/// What has happened, for the log.
+#[derive(Debug, Drop)]
+pub enum Happened<'a> {
+    /// The time was handed in: what is noted of it, and the requests that go out at once.
+    Clocked {
+        notes: &'a Notes,
+        requests: &'a [Request],
+    },
+    /// Needs were found to be past what their entries reach.
+    Shorts(&'a [Short]),
+    /// The answer to a request was handed in: what it says, and what is noted of it.
+    Answered {
+        entry: u32,
+        operation: Operation,
+        said: Said,
+        notes: &'a Notes,
+    },
+    /// Memory was refused.
+    Refused,
+}
+
+/// Clients, onlookers, the log and the disk. None of their calls waits, but that of a disk where a change is made.
+///
+/// To contracts they are the changes that they have given.
+pub trait Neighbours {
+    /// The changes that were given so far, where that is known.
+    ghost given: { Self → Option (List Change) };
+
+    /// Hears what has happened to the agent, which is handed over as it is after it.
+    fn hear(&mut self, alloc: Global, agent: &Agent, happened: &Happened<'_>)
+        ensures { Self.given self.new ≡ Self.given self.old };
+
+    /// Goes on with clients and onlookers as far as it can without waiting. Whether more could be done at once.
+    fn go_on(&mut self, alloc: Global, agent: &Agent, now: Reading) -> bool
+        ensures { Self.given self.new ≡ Self.given self.old };
+
+    /// The next change that is to be made, if there is one.
+    fn change(&mut self, alloc: Global, agent: &Agent, now: Reading) -> Option<Change>
+        ensures { AllGiven (option_to_list result) (Self.given self.old) (Self.given self.new) };
+
+    /// Whether the change that was given last was made. Where memory was wanting it was not, and is to be given again.
+    fn settle(&mut self, alloc: Global, agent: &Agent, is_made: bool)
+        ensures { Self.given self.new ≡ Self.given self.old };
+}

@@ -1,0 +1,63 @@
+//! The time is handed in.
+ghost use Rattle.std.specs.Prelude.{◌≡◌, ◌-◌, [], is_ok};
+ghost use Rattle.keep_serving.specs.Stages.{IsSaid, Reads};
+
+use crate::neighbours::{Happened, Neighbours};
+use crate::serving::Serving;
+use keep_clock::Reading;
+use std::alloc::{AllocError, Global};
+use std::collections::VecDeque;
+use watch_machine::{Command, Event, Output};
+
+impl Serving {
+    /// Hands in the readings of both clocks; what the Watch commands is then to be sent. The only error is out of memory: all is
+    /// as it was.
+    pub(crate) fn read<N: Neighbours>(
+        &mut self,
+        alloc: Global,
+        reading: Reading,
+        neighbours: &mut N,
+    ) -> Result<(), AllocError>
+        requires none { self.old.unsent ≡ [] }
+        ensures reads { Reads reading self.old (is_ok result) self.new }
+        ensures given { N.given neighbours.new ≡ N.given neighbours.old }
+    {
+        let Reading { wall, elapsed } = reading;
+        let Ok(output) = self.agent.turn(alloc, Event::Clock { wall, elapsed }) else {
+            return Err(AllocError);
+        };
+        let Output { command, notes } = output;
+        let Command::Go { requests, until } = command else {
+            return Ok(());
+        };
+        let happened = Happened::Clocked {
+            notes: &notes,
+            requests: requests.list(),
+        };
+        neighbours.hear(alloc, &self.agent, &happened);
+        self.until = self.here(until);
+        self.asked = reading;
+        self.unsent = VecDeque::from_vec(requests.into_vec());
+        self.say_shorts(alloc, neighbours);
+        Ok(())
+    }
+
+    /// A moment of the Watch, as the clock that is handed in shows it.
+    fn here(&self, moment: u64) -> u64
+        ensures { result ≡ moment - self.now.agent.machine.clocks.phase }
+    {
+        moment.saturating_sub(u64::from(self.agent.watch().clocks().phase))
+    }
+
+    /// Says what is short, unless memory is wanting for that.
+    fn say_shorts<N: Neighbours>(&mut self, alloc: Global, neighbours: &mut N)
+        ensures said { IsSaid self.old.agent self.new.agent }
+        ensures rest { self.new ≡ record self.old { agent = self.new.agent } }
+        ensures given { N.given neighbours.new ≡ N.given neighbours.old }
+    {
+        match self.agent.say_shorts(alloc) {
+            Ok(shorts) => neighbours.hear(alloc, &self.agent, &Happened::Shorts(&shorts)),
+            Err(_) => neighbours.hear(alloc, &self.agent, &Happened::Refused),
+        }
+    }
+}

@@ -1,0 +1,73 @@
+//! Answers are handed in.
+ghost use Rattle.std.specs.Prelude.{◌≡◌, ◌≢◌, ◌<◌, OnErr, OnOk, ℕ, List, None, Some, is_ok, length};
+ghost use Rattle.keep_asking.specs.Handing.{out_of};
+ghost use Rattle.keep_lanes.specs.Out as lanes;
+ghost use Rattle.keep_serving.specs.Held.{IsInStep};
+ghost use Rattle.keep_serving.specs.Stages.{Takes};
+ghost use Rattle.keep_serving.specs.code.Firsts.{TakesFirst};
+
+use crate::neighbours::{Happened, Neighbours};
+use crate::serving::Serving;
+use keep_asking::{event_of, out_of, said_to};
+use std::alloc::{AllocError, Global};
+use watch_machine::{Operation, Out};
+
+impl Serving {
+    /// Hands in the answers that wait, in their order. The only error is out of memory: those that are left wait on.
+    pub(crate) fn take_all<N: Neighbours>(
+        &mut self,
+        alloc: Global,
+        neighbours: &mut N,
+    ) -> Result<(), AllocError>
+        requires in_step { (width : ℕ) × ((out : List lanes.Out) × IsInStep width out self.old) }
+        ensures takes { Takes self.old (is_ok result) self.new }
+        ensures given { N.given neighbours.new ≡ N.given neighbours.old }
+    {
+        for _ in 0..self.pending.len() {
+            self.take_first(alloc, neighbours)?;
+        }
+        Ok(())
+    }
+
+    /// Hands in the first of them.
+    fn take_first<N: Neighbours>(
+        &mut self,
+        alloc: Global,
+        neighbours: &mut N,
+    ) -> Result<(), AllocError>
+        requires some { 0 < length self.old.pending }
+        requires in_step { (width : ℕ) × ((out : List lanes.Out) × IsInStep width out self.old) }
+        ensures taken { OnOk result (TakesFirst self.old self.new) }
+        ensures kept { OnErr result (self.new ≡ self.old) }
+        ensures given { N.given neighbours.new ≡ N.given neighbours.old }
+    {
+        let answered = &self.pending[0];
+        let entry = answered.index;
+        let watch = self.agent.watch();
+        let request = request_of(watch.out(), entry);
+        let inventory = self.agent.inventory();
+        let operation = request.operation;
+        let said = said_to(alloc, inventory, operation, entry, &answered.answer)?;
+        let event = event_of(operation, entry, said);
+        let Ok(output) = self.agent.turn(alloc, event) else {
+            return Err(AllocError);
+        };
+        self.pending.pop_front();
+        let happened = Happened::Answered {
+            entry,
+            operation,
+            said,
+            notes: &output.notes,
+        };
+        neighbours.hear(alloc, &self.agent, &happened);
+        Ok(())
+    }
+}
+
+/// The request of these that is out of an entry of which one is.
+fn request_of(out: &[Out], entry: u32) -> Out
+    requires { out_of out.now entry ≢ None }
+    ensures { out_of out.now entry ≡ Some result }
+{
+    out_of(out, entry).unwrap()
+}

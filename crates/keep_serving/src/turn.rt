@@ -1,0 +1,189 @@
+//! One turn: the time is handed in, changes are taken, and one wait follows.
+ghost use Rattle.std.specs.Prelude.{◌≡◌, ◌||◌, [], Some, is_ok};
+ghost use Rattle.keep_clock.specs.Seen.{AllMade};
+ghost use Rattle.keep_serving.specs.Changes.{AllGiven, changes_of};
+ghost use Rattle.keep_serving.specs.Held.{IsInStep, side};
+ghost use Rattle.keep_serving.specs.Stages.{Commands, Goes, HandsIn, OnHeld, Takes, TakesUp, Then};
+ghost use Rattle.keep_serving.specs.Turns.{IsTurn, Turned, calls_of, wait_at, wait_by};
+
+use crate::neighbours::Neighbours;
+use crate::serving::Serving;
+use keep_asking::SeenLanes;
+use keep_clock::{Clock, Reading};
+use keep_lanes::Lanes;
+use std::alloc::{AllocError, Global};
+
+/// The longest wait of a turn, in milliseconds.
+const MOST_WAIT: u64 = 1000;
+
+/// The wait where memory is wanting or no clock is read.
+const SHORT_WAIT: u64 = 100;
+
+impl Serving {
+    /// One turn.
+    pub(crate) fn turn<C: Clock, L: Lanes, N: Neighbours>(
+        &mut self,
+        alloc: Global,
+        clock: &mut C,
+        lanes: &mut L,
+        neighbours: &mut N,
+    )
+        requires in_step { IsInStep (L.width lanes.old) (L.out lanes.old) self.old }
+        ensures turn { (t : Turned) × (IsTurn (L.host_port lanes.old) (side self.old (⟦<L as SeenLanes>⟧.seen lanes.old)) t (side self.new (⟦<L as SeenLanes>⟧.seen lanes.new)) × (AllMade (calls_of t) (C.seen clock.old) (C.seen clock.new) × AllGiven (changes_of t.changes) (N.given neighbours.old) (N.given neighbours.new))) }
+        ensures in_step { IsInStep (L.width lanes.new) (L.out lanes.new) self.new }
+        ensures width { L.width lanes.new ≡ L.width lanes.old }
+        ensures port { L.host_port lanes.new ≡ L.host_port lanes.old }
+    {
+        match clock.read() {
+            Ok(reading) => {
+                let millis = self.turn_at(alloc, reading, lanes, neighbours);
+                clock.wait(millis);
+            }
+            Err(_) => clock.wait(SHORT_WAIT),
+        }
+    }
+
+    /// The same at these readings, but for the wait. How long is to be waited, in milliseconds.
+    fn turn_at<L: Lanes, N: Neighbours>(
+        &mut self,
+        alloc: Global,
+        reading: Reading,
+        lanes: &mut L,
+        neighbours: &mut N,
+    ) -> u64
+        requires in_step { IsInStep (L.width lanes.old) (L.out lanes.old) self.old }
+        ensures turn { (t : Turned) × ((t.reading ≡ Some reading) × ((t.millis ≡ result) × (IsTurn (L.host_port lanes.old) (side self.old (⟦<L as SeenLanes>⟧.seen lanes.old)) t (side self.new (⟦<L as SeenLanes>⟧.seen lanes.new)) × AllGiven (changes_of t.changes) (N.given neighbours.old) (N.given neighbours.new)))) }
+        ensures in_step { IsInStep (L.width lanes.new) (L.out lanes.new) self.new }
+        ensures width { L.width lanes.new ≡ L.width lanes.old }
+        ensures port { L.host_port lanes.new ≡ L.host_port lanes.old }
+    {
+        let is_whole = self.hand_in(alloc, reading, lanes, neighbours).is_ok();
+        let is_busy = neighbours.go_on(alloc, &self.agent, reading);
+        let is_changed = self.make_changes(alloc, reading, lanes, neighbours);
+        let due = lanes.due(reading.elapsed, self.until);
+        wait_of(is_changed, is_busy, is_whole, self.until, due, reading)
+    }
+
+    /// Hands in what has come and the time, and sends what is commanded. The only error is out of memory: what is left over is
+    /// held until the next turn.
+    fn hand_in<L: Lanes, N: Neighbours>(
+        &mut self,
+        alloc: Global,
+        reading: Reading,
+        lanes: &mut L,
+        neighbours: &mut N,
+    ) -> Result<(), AllocError>
+        requires in_step { IsInStep (L.width lanes.old) (L.out lanes.old) self.old }
+        ensures goes { Goes (L.host_port lanes.old) reading (side self.old (⟦<L as SeenLanes>⟧.seen lanes.old)) (is_ok result) (side self.new (⟦<L as SeenLanes>⟧.seen lanes.new)) }
+        ensures width { L.width lanes.new ≡ L.width lanes.old }
+        ensures port { L.host_port lanes.new ≡ L.host_port lanes.old }
+        ensures given { N.given neighbours.new ≡ N.given neighbours.old }
+    {
+        self.send_all(alloc, lanes)?;
+        self.hand_in_left(alloc, reading, lanes, neighbours)
+    }
+
+    /// The same where nothing is left to be sent.
+    fn hand_in_left<L: Lanes, N: Neighbours>(
+        &mut self,
+        alloc: Global,
+        reading: Reading,
+        lanes: &mut L,
+        neighbours: &mut N,
+    ) -> Result<(), AllocError>
+        requires in_step { IsInStep (L.width lanes.old) (L.out lanes.old) self.old }
+        requires sent { self.old.unsent ≡ [] }
+        ensures goes { Then (OnHeld Takes) (TakesUp (L.host_port lanes.old) reading) (side self.old (⟦<L as SeenLanes>⟧.seen lanes.old)) (is_ok result) (side self.new (⟦<L as SeenLanes>⟧.seen lanes.new)) }
+        ensures width { L.width lanes.new ≡ L.width lanes.old }
+        ensures port { L.host_port lanes.new ≡ L.host_port lanes.old }
+        ensures given { N.given neighbours.new ≡ N.given neighbours.old }
+    {
+        self.take_all(alloc, neighbours)?;
+        self.take_up(alloc, reading, lanes, neighbours)
+    }
+
+    /// The same where nothing is left to be handed in either.
+    fn take_up<L: Lanes, N: Neighbours>(
+        &mut self,
+        alloc: Global,
+        reading: Reading,
+        lanes: &mut L,
+        neighbours: &mut N,
+    ) -> Result<(), AllocError>
+        requires in_step { IsInStep (L.width lanes.old) (L.out lanes.old) self.old }
+        requires sent { self.old.unsent ≡ [] }
+        requires taken { self.old.pending ≡ [] }
+        ensures goes { TakesUp (L.host_port lanes.old) reading (side self.old (⟦<L as SeenLanes>⟧.seen lanes.old)) (is_ok result) (side self.new (⟦<L as SeenLanes>⟧.seen lanes.new)) }
+        ensures width { L.width lanes.new ≡ L.width lanes.old }
+        ensures port { L.host_port lanes.new ≡ L.host_port lanes.old }
+        ensures given { N.given neighbours.new ≡ N.given neighbours.old }
+    {
+        self.come(alloc, lanes, reading.elapsed)?;
+        self.hand_in_new(alloc, reading, lanes, neighbours)
+    }
+
+    /// Hands in the answers that came, and the time, and sends what is commanded.
+    fn hand_in_new<L: Lanes, N: Neighbours>(
+        &mut self,
+        alloc: Global,
+        reading: Reading,
+        lanes: &mut L,
+        neighbours: &mut N,
+    ) -> Result<(), AllocError>
+        requires in_step { IsInStep (L.width lanes.old) (L.out lanes.old) self.old }
+        requires sent { self.old.unsent ≡ [] }
+        ensures goes { HandsIn (L.host_port lanes.old) reading (side self.old (⟦<L as SeenLanes>⟧.seen lanes.old)) (is_ok result) (side self.new (⟦<L as SeenLanes>⟧.seen lanes.new)) }
+        ensures width { L.width lanes.new ≡ L.width lanes.old }
+        ensures port { L.host_port lanes.new ≡ L.host_port lanes.old }
+        ensures given { N.given neighbours.new ≡ N.given neighbours.old }
+    {
+        self.take_all(alloc, neighbours)?;
+        self.command(alloc, reading, lanes, neighbours)
+    }
+
+    /// Hands in the time, and sends what is commanded.
+    fn command<L: Lanes, N: Neighbours>(
+        &mut self,
+        alloc: Global,
+        reading: Reading,
+        lanes: &mut L,
+        neighbours: &mut N,
+    ) -> Result<(), AllocError>
+        requires in_step { IsInStep (L.width lanes.old) (L.out lanes.old) self.old }
+        requires sent { self.old.unsent ≡ [] }
+        ensures goes { Commands (L.host_port lanes.old) reading (side self.old (⟦<L as SeenLanes>⟧.seen lanes.old)) (is_ok result) (side self.new (⟦<L as SeenLanes>⟧.seen lanes.new)) }
+        ensures width { L.width lanes.new ≡ L.width lanes.old }
+        ensures port { L.host_port lanes.new ≡ L.host_port lanes.old }
+        ensures given { N.given neighbours.new ≡ N.given neighbours.old }
+    {
+        self.read(alloc, reading, neighbours)?;
+        self.send_all(alloc, lanes)
+    }
+}
+
+/// For how long is waited: not at all where something is to be handed in at once.
+fn wait_of(
+    is_changed: bool,
+    is_busy: bool,
+    is_whole: bool,
+    until: u64,
+    due: u64,
+    reading: Reading,
+) -> u64
+    ensures { result ≡ wait_by (is_changed || is_busy) is_whole until due (Some reading) }
+{
+    if is_changed || is_busy {
+        0
+    } else if is_whole {
+        wait_at(until, due, reading)
+    } else {
+        SHORT_WAIT
+    }
+}
+
+/// Until the Watch's moment, or until a lane has to be looked at, or a second.
+fn wait_at(until: u64, due: u64, reading: Reading) -> u64
+    ensures { result ≡ wait_at until due reading }
+{
+    MOST_WAIT.min(until.min(due).saturating_sub(reading.elapsed))
+}

@@ -1,0 +1,55 @@
+ghost use Rattle.std.specs.Prelude.{◌≡◌, ◌++◌, IfOk, OnOk};
+ghost use Rattle.std.specs.List.{filter};
+ghost use Rattle.keep_tree.specs.Push.{is_lease};
+ghost use Rattle.keep_settle.specs.Order.{in_order, is_lease_row, is_token_row};
+
+use keep_change::{Row, Rows};
+use keep_tree::Kind;
+use std::alloc::{AllocError, Global};
+
+/// The rows as the tables of a file stand: tokens before leases, and each kind in its order. The only error is want of memory.
+#[tactic(auto, unfolding(crate::specs::Order::in_order))]
+pub fn in_order(alloc: Global, rows: &Rows) -> Result<Rows, AllocError>
+    ensures { IfOk result (λ ordered. ordered ≡ in_order rows.now) }
+{
+    let mut ordered = Vec::new(alloc);
+    push_tokens(rows.list(), &mut ordered)?;
+    push_leases(rows.list(), &mut ordered)?;
+    Rows::of(alloc, ordered)
+}
+
+// Appends the rows of the tokens.
+#[tactic(auto, using(crate::proofs::Ordered::token_in, crate::proofs::Ordered::token_out))]
+fn push_tokens(rows: &[Row], ordered: &mut Vec<Row>) -> Result<(), AllocError>
+    ensures { OnOk result (ordered.new.items ≡ ordered.old.items ++ filter is_token_row rows.now) }
+{
+    for row in rows {
+        if !is_lease(row.kind) {
+            ordered.push(row.copy()?)?;
+        }
+    }
+    Ok(())
+}
+
+// Appends the rows of the leases.
+#[tactic(auto, using(crate::proofs::Ordered::lease_in, crate::proofs::Ordered::lease_out))]
+fn push_leases(rows: &[Row], ordered: &mut Vec<Row>) -> Result<(), AllocError>
+    ensures { OnOk result (ordered.new.items ≡ ordered.old.items ++ filter is_lease_row rows.now) }
+{
+    for row in rows {
+        if is_lease(row.kind) {
+            ordered.push(row.copy()?)?;
+        }
+    }
+    Ok(())
+}
+
+/// Whether it is that of a lease.
+pub(crate) fn is_lease(kind: Kind) -> bool
+    ensures { result ≡ is_lease kind }
+{
+    match kind {
+        Kind::Token => false,
+        Kind::Lease => true,
+    }
+}

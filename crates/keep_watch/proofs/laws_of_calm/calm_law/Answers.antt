@@ -1,6 +1,0 @@
--- calm_law: the law as it is proved in CalmDay.
-use Rattle.keep_watch.proofs.CalmDay.{calm_days}
-use Rattle.keep_watch.proofs.laws_of_calm.calm_law.Goals as goal
-
-pub returns : goal.returns
-returns c = calm_days

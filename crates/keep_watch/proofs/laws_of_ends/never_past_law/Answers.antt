@@ -1,6 +1,0 @@
--- never_past_law: the law as it is proved in Ends.
-use Rattle.keep_watch.proofs.Ends.{never_past}
-use Rattle.keep_watch.proofs.laws_of_ends.never_past_law.Goals as goal
-
-pub returns : goal.returns
-returns c = never_past

@@ -1,6 +1,0 @@
--- recovery_law: the law as it is proved in Recovering.
-use Rattle.keep_watch.proofs.Recovering.{recovers}
-use Rattle.keep_watch.proofs.laws_of_recovery.recovery_law.Goals as goal
-
-pub returns : goal.returns
-returns c = recovers

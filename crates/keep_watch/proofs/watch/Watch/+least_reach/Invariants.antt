@@ -1,5 +1,0 @@
--- A parent has the lower index.
-use Rattle.keep_watch.proofs.watch.Watch.+least_reach.Given as goal
-
-abbrev pub decreases-least_reach : goal.decreases-least_reach
-decreases-least_reach l = l.index

@@ -1,9 +1,0 @@
--- The tracks of the entries before the index are made.
-use Rattle.std.proofs.Common.{◌≡◌, map, take}
-use Rattle.std.specs.List.{All}
-use Rattle.keep_watch.specs.State.{fresh_track}
-use Rattle.keep_watch.specs.code.Bounds.{IsTrack}
-use Rattle.keep_watch.proofs.watch.fresh_tracks.Given as goal
-
-abbrev pub invariant-loop-index : goal.invariant-loop-index
-invariant-loop-index l = record { is : l.tracks.items ≡ map fresh_track (take l.index l.forest.entries); bounds : All IsTrack l.tracks.items }

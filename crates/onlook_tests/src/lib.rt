@@ -1,0 +1,14 @@
+//! Tests alone, of what onlookers are told: metrics, health and status byte for byte, which text a request takes, and what is answered
+//! to whatever is asked. They stand above the crate, so that it is not proved a second time with them.
+#![tactic(auto)]
+
+#[cfg(test)]
+mod answers;
+#[cfg(test)]
+mod boards;
+#[cfg(test)]
+mod gathered;
+#[cfg(test)]
+mod questions;
+#[cfg(test)]
+mod texts;

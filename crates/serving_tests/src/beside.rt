@@ -1,0 +1,64 @@
+//! Neighbours that give the changes of a script and count what they hear.
+ghost use Rattle.std.specs.Prelude.{None};
+
+use keep_agent::Agent;
+use keep_clock::Reading;
+use keep_serving::{Change, Happened, Neighbours};
+use std::alloc::Global;
+
+/// What was heard, and the changes to come, the last of them first.
+#[derive(Drop)]
+pub(crate) struct Beside {
+    pub(crate) changes: Vec<Change>,
+    pub(crate) looks: u32,
+    pub(crate) renewals: u32,
+    pub(crate) answers: u32,
+    pub(crate) made: u32,
+}
+
+impl Beside {
+    pub(crate) fn with(changes: Vec<Change>) -> Beside {
+        Beside {
+            changes,
+            looks: 0,
+            renewals: 0,
+            answers: 0,
+            made: 0,
+        }
+    }
+
+    fn count(&mut self, requests: &[watch_machine::Request]) {
+        for request in requests {
+            match request.operation {
+                watch_machine::Operation::Look => self.looks = self.looks.saturating_add(1),
+                watch_machine::Operation::Renew => self.renewals = self.renewals.saturating_add(1),
+            }
+        }
+    }
+}
+
+impl Neighbours for Beside {
+    ghost given = { λ _. None };
+
+    fn hear(&mut self, _alloc: Global, _agent: &Agent, happened: &Happened<'_>) {
+        match happened {
+            Happened::Clocked { requests, .. } => self.count(requests),
+            Happened::Answered { .. } => self.answers = self.answers.saturating_add(1),
+            Happened::Shorts(_) | Happened::Refused => {}
+        }
+    }
+
+    fn go_on(&mut self, _alloc: Global, _agent: &Agent, _now: Reading) -> bool {
+        false
+    }
+
+    fn change(&mut self, _alloc: Global, _agent: &Agent, _now: Reading) -> Option<Change> {
+        self.changes.pop()
+    }
+
+    fn settle(&mut self, _alloc: Global, _agent: &Agent, is_made: bool) {
+        if is_made {
+            self.made = self.made.saturating_add(1);
+        }
+    }
+}

@@ -1,0 +1,436 @@
+-- Held: who is held up while the broker is there and somebody is alone goes out as soon as the lanes have served whoever stands before it.
+-- For the law of partial outages.
+use Rattle.std.proofs.Common.{◌≡◌, ◌≢◌, ◌⊎◌, ◌∙◌, ℕ, ◌+◌, ◌-◌, ◌*◌, ◌<◌, ◌≤◌, Bool, true, false, not, ◌&&◌, ◌||◌, ◌==◌, List, [], ◌∷◌, ◌++◌, Option, Some, None, All, Result, Ok, Err, get_or, length, map, refl, sym, ap, subst, arith, inl, inr, true≢false}
+use Rattle.std.proofs.Math.Nat.{mul-add, mul-le-mul_left, mul_comm}
+use Rattle.std.proofs.lemmas.Bool.{and_from, cases_Bool, cases_lt}
+use Rattle.std.proofs.lemmas.Bool.Decides.{nat_tests}
+use Rattle.std.proofs.lemmas.List.Elements.{All-cons, All-nil, All-weaker}
+use Rattle.std.specs.List.{list_any}
+use Rattle.watch_machine.specs.declared.command.Command.TheVariants.{Go, Taken}
+use Rattle.watch_machine.specs.declared.command.Output.{Output}
+use Rattle.watch_machine.specs.declared.command.Request.{Request}
+use Rattle.watch_machine.specs.declared.event.Event.{Event}
+use Rattle.watch_machine.specs.declared.event.Event.TheVariants.{Clock, Looked, Renewed, Need, Begin, Known}
+use Rattle.watch_machine.specs.declared.event.Operation.TheVariants.{Look, Renew}
+use Rattle.watch_machine.specs.declared.event.Reply.{Reply}
+use Rattle.watch_machine.specs.declared.event.Terms.{Terms}
+use Rattle.watch_machine.specs.declared.fault.WatchFault.{WatchFault}
+use Rattle.watch_machine.specs.declared.lanes.Out.{Out}
+use Rattle.watch_machine.specs.declared.track.Track.{Track}
+use Rattle.watch_machine.specs.Answers.{noted, replied}
+use Rattle.watch_machine.specs.Clocks.{sec}
+use Rattle.watch_machine.specs.History.{History, Turn, Turned}
+use Rattle.watch_machine.specs.Lines.{is_due}
+use Rattle.watch_machine.specs.Looked.{looked}
+use Rattle.watch_machine.specs.Press.{pressed}
+use Rattle.watch_machine.specs.Refusal.{request_out}
+use Rattle.watch_machine.specs.Renewed.{renewed}
+use Rattle.watch_machine.specs.Sending.{out_at, sent, sent_in}
+use Rattle.watch_machine.specs.Settling.{timed}
+use Rattle.watch_machine.specs.State.{State, opened, track_at, track_in}
+use Rattle.watch_machine.specs.Step.{Step, StepLooked, StepRenewed, readied}
+use Rattle.watch_machine.specs.Wait.{wait}
+use Rattle.watch_machine.proofs.Cases.{not_both}
+use Rattle.watch_machine.proofs.Written.{each_length}
+use Rattle.watch_laws.specs.Absence.{is_clock, is_taken}
+use Rattle.watch_laws.specs.Outage.{one_if}
+use Rattle.watch_laws.specs.Partial.{AreHolding, AreSettled, IsHeld, IsHeldUp, IsHolding, IsInTime, Partial, PartialLaw, comes_before, coming_before, due_after, keeps_lane, longest, next_after, next_after_command, next_by, settled_by, stands_before, total, waiting_before, waits_before}
+use Rattle.watch_laws.specs.Recovery.{MayGo}
+use Rattle.watch_laws.specs.Turns.{after_all}
+use Rattle.watch_laws.proofs.Answering.{looked_leaves, renewed_leaves, rest_of}
+use Rattle.watch_laws.proofs.Clocking.{readied_clocks, refused_stays}
+use Rattle.watch_laws.proofs.Counting.{least_all}
+use Rattle.watch_laws.proofs.Fronts.{front_at, fronts, keeps_short, own_at, sent_front, sent_own, sent_partial}
+use Rattle.watch_laws.proofs.Going.{counts, entry_by, request_at, skips, some_named, times}
+use Rattle.watch_laws.proofs.Grounds.{opened_base, ran_base, turn_base}
+use Rattle.watch_laws.proofs.Lanes.{Ticks, all_left, each_named, pressed_count, ticks}
+use Rattle.watch_laws.proofs.Minding.{due_so, not_named, some_within}
+use Rattle.watch_laws.proofs.Outliving.{first_turns, last_turns}
+use Rattle.watch_laws.proofs.Recovering.{full_lanes}
+use Rattle.watch_laws.proofs.Retrying.{IsPast, rises}
+use Rattle.watch_laws.proofs.Spacing.{free_of, looked_out, mid_flag, passed_over, readied_out, went}
+use Rattle.watch_laws.proofs.Spans.{adds_most, mapped, span, span_append, span_later, span_most, span_replied, span_sent, totals}
+use Rattle.watch_laws.proofs.Stages.{IsBase}
+use Rattle.watch_laws.proofs.Topping.{readied_count}
+
+-- who goes out between two states and stood before i
+abbrev goes_before : ℕ → State → State → ℕ → Bool
+goes_before i old new j = stands_before i new j && ((track_at new j).out && not (track_at old j).out)
+
+-- it waited before, or came to
+one_each : (stands out stood was : Bool) → one_if (stands && not out) + one_if (stands && (out && not was)) ≤ one_if (stood && not was) + one_if (stands && (not stood || (was && not out)))
+one_each false out stood was = omega arith
+one_each true true stood true = omega arith
+one_each true true true false = omega arith
+one_each true true false false = omega arith
+one_each true false true true = omega arith
+one_each true false true false = omega arith
+one_each true false false was = omega arith
+
+fewer : (o : Partial) (n i : ℕ) (old new : State) → waiting_before o n i new + total n (keeps_lane o) (goes_before i old new) ≤ waiting_before o n i old + total n (keeps_lane o) (comes_before i old new)
+fewer o n i old new =
+    totals n (keeps_lane o) (waits_before i new) (goes_before i old new) (waits_before i old) (comes_before i old new)
+    (λ j. one_each (stands_before i new j) (track_at new j).out (stands_before i old j) (track_at old j).out)
+
+-- none of some numbers is another
+absent : (i : ℕ) (is : List ℕ) → times i is ≡ 0 → All (λ k. k ≢ i) is
+absent i [] none = All-nil (λ k. k ≢ i)
+absent i (j ∷ js) none =
+    elim (cases_Bool (j == i)) as (λ _. All (λ k. k ≢ i) (j ∷ js)) [
+      | inl here ↦ absurd (let more = counts i j js here in omega (arith, more, none))
+      | inr there ↦
+          let more = skips i j js there in
+          All-cons (λ k. k ≢ i) j js (λ e. not_both (same_is j i e) there) (absent i js (omega (arith, more, none)))
+    ] where
+      same_is : (a b : ℕ) → a ≡ b → (a == b) ≡ true
+      same_is a b e = grind (arith, nat_tests)
+
+-- a clock after which i is held up: whoever goes out stood before it, and keeps its lane as long as is said
+module _ (o : Partial) (width n i : ℕ) (old new : State) (wall elapsed : ℕ) (output : Output) (h : Ticks old new wall elapsed output) (base : IsBase width n old) where
+  abbrev mid : State
+  mid = pressed (readied old wall elapsed) h.round
+
+  abbrev left : State
+  left = sent mid h.requests
+
+  abbrev gone : List ℕ
+  gone = h.going.entries
+
+  abbrev at : ℕ
+  at = mid.clocks.at
+
+  mid_count : length mid.tracks ≡ n
+  mid_count = pressed_count (readied old wall elapsed) h.round ∙ readied_count old wall elapsed ∙ base.count
+
+  none_of : MayGo left i → times i gone ≡ 0
+  none_of may =
+      let count = each_length (sent_in mid.clocks.at h.requests) mid.tracks in
+      let within = some_within left.tracks i may.attempt may.attempt_is in
+      let other = not_named mid h.requests i (omega (arith, within, count)) may.free in
+      elim (cases_lt (times i gone) 1) as (λ _. times i gone ≡ 0) [
+        | inl none ↦ omega (arith, none)
+        | inr some ↦ absurd (not_both (ap (list_any (λ (r : Request). r.entry == i)) h.going.requests_are ∙ some_named mid.presence (sec at) at mid.tracks i gone some) other)
+      ]
+
+  all_front : IsHeldUp o left i → All (λ k. front_at (sec at) mid.tracks i k ≡ true) gone
+  all_front held =
+      let may = held.may in
+      let count = each_length (sent_in mid.clocks.at h.requests) mid.tracks in
+      let low = some_within left.tracks i may.attempt may.attempt_is in
+      let within : i < length mid.tracks = omega (arith, low, count) in
+      let other = not_named mid h.requests i within may.free in
+      let same = passed_over mid h.requests i other in
+      let due : is_due mid.presence at (track_at mid i) ≡ true = subst (λ x. is_due mid.presence at x ≡ true) same (due_so mid.presence at (track_at left i) may.attempt may.free may.attempt_is may.due) in
+      let none = none_of may in
+      let apart = absent i gone none in
+      let order = h.going.order i within due none in
+      let all = h.going.due in
+      let own : own_at (sec at) mid.tracks i ≡ true = sym (sent_own mid h.requests (sec at) i) ∙ held.own in
+      λ k d below. fronts mid.presence at mid.tracks i (get_or gone k d) held.there own (all k d below).1 (apart k d below) (order k d below)
+
+  all_go : IsHeldUp o left i → All (λ k. goes_before i old left k ≡ true) gone
+  all_go held =
+      let front = all_front held in
+      let all = h.going.due in
+      let named = subst (λ rs. All (λ k. list_any (λ (r : Request). r.entry == k) rs ≡ true) gone) (sym h.going.requests_are) (each_named mid.presence (sec at) mid.tracks gone) in
+      λ j d below.
+      let k = get_or gone j d in
+      let stands : stands_before i left k ≡ true = sent_front mid h.requests (sec at) i k ∙ front j d below in
+      let out : (track_at left k).out ≡ true = ap (λ (x : Track). x.out) (went mid h.requests k (named j d below) (all j d below).0) in
+      let free : (track_at old k).out ≡ false = sym (mid_flag old wall elapsed h.round k) ∙ (free_of mid.presence at (track_in mid.tracks k) (all j d below).1).0 in
+      and_from (stands_before i left k) ((track_at left k).out && not (track_at old k).out) stands (and_from (track_at left k).out (not (track_at old k).out) out (ap not free))
+
+  all_short : IsHeldUp o left i → All (λ r. o.takes r.entry at ≤ longest o r) h.requests → All (λ k. o.takes k at + o.late ≤ keeps_lane o k) gone
+  all_short held settled =
+      let front = all_front held in
+      let rq = request_at mid.presence (sec at) mid.tracks in
+      let alone = sent_partial mid h.requests (sec at) held.partial in
+      let each' = mapped (λ r. o.takes r.entry at ≤ longest o r) rq gone (subst (All (λ r. o.takes r.entry at ≤ longest o r)) h.going.requests_are settled) in
+      λ j d below.
+      let k = get_or gone j d in
+      keeps_short o mid.presence (sec at) mid.tracks k at held.there alone held.patience (own_of (own_at (sec at) mid.tracks k) _ (front j d below))
+      (subst (λ m. o.takes m at ≤ longest o (rq k)) (entry_by mid.presence (sec at) mid.tracks k) (each' j d below)) where
+        own_of : (a b : Bool) → a && b ≡ true → a ≡ true
+        own_of true b e = refl
+        own_of false b e = absurd cc
+
+  -- so the lanes are kept no longer, all in all, than whoever waited or came to wait would keep them
+  grown : IsHeldUp o left i → All (λ r. o.takes r.entry at ≤ longest o r) h.requests →
+      span o at left.out + waiting_before o n i left ≤ span o at old.out + (waiting_before o n i old + total n (keeps_lane o) (comes_before i old left))
+  grown held settled =
+      let f = keeps_lane o in
+      let rq = request_at mid.presence (sec at) mid.tracks in
+      let out : left.out ≡ old.out ++ map (out_at at) (map rq gone) = ap (λ os. os ++ map (out_at at) h.requests) (readied_out old wall elapsed) ∙ ap (λ rs. old.out ++ map (out_at at) rs) h.going.requests_are in
+      let both = ap (span o at) out ∙ span_append o at old.out (map (out_at at) (map rq gone)) in
+      let new' = span_sent o at f rq gone (entry_by mid.presence (sec at) mid.tracks) (all_short held settled) in
+      let count = mid_count in
+      let all = h.going.due in
+      let most = adds_most n f (goes_before i old left) gone h.going.once (λ k d below. let low = (all k d below).0 in omega (arith, low, count)) (all_go held) in
+      let less = fewer o n i old left in
+      omega (arith, both, new', most, less)
+
+-- what holds after each turn: the lanes are kept until the next clock, and then as long as those that are out and those that wait and come
+-- to wait keep them, and all that is no more than the bound; or the next clock would come before this one
+record Timed (o : Partial) (width due bound k : ℕ) (s : State) : Type 0 where
+  timely : All (λ (q : Out). due ≤ settled_by o q + o.late) s.out
+  area : width * due + span o due s.out + k ≤ bound
+
+record Holds (o : Partial) (width n due bound k : ℕ) (s : State) : Type 0 where
+  base : IsBase width n s
+  rest : (due < s.clocks.at) ⊎ Timed o width due bound k s
+
+-- from the clock at which all lanes are taken on until the next one
+full_on :
+    (o : Partial) (width at bound k : ℕ) (s : State) → length s.out ≡ width → width * at + span o at s.out + k ≤ bound →
+    (due : ℕ) → All (λ (q : Out). due ≤ settled_by o q + o.late) s.out → at ≤ due → Timed o width due bound k s
+full_on o width at bound k s full room due timely later =
+    let d = due - at in
+    let e : at + d ≡ due = omega (arith, later) in
+    let less = span_later o at d s.out (subst (λ m. All (λ (q : Out). m ≤ settled_by o q + o.late) s.out) (sym e) timely) in
+    let lanes = ap (λ m. d * m) full in
+    let sum = mul-add width at d in
+    let turned = mul_comm d width in
+    record {
+      timely = timely;
+      area = subst (λ m. width * m + span o m s.out + k ≤ bound) e (omega (arith, room, less, lanes, sum, turned));
+    }
+
+clock_holds :
+    (o : Partial) (width n i due bound rest : ℕ) (old new : State) (wall elapsed : ℕ) (output : Output) → Step old (Clock wall elapsed) output new → IsHolding o i due old (Clock wall elapsed) output new → IsBase width n new →
+    Holds o width n due bound (waiting_before o n i old + (total n (keeps_lane o) (comes_before i old new) + rest)) old →
+    Holds o width n (next_after_command o output.command new due) bound (waiting_before o n i new + rest) new
+clock_holds o width n i due bound rest old new wall elapsed output step holding base p =
+    let h = ticks old new wall elapsed output step in
+    let e = left o width n i old new wall elapsed output h p.base in
+    let at = e.clocks.at in
+    let c : at ≡ (timed old wall elapsed).clocks.at = ap (λ x. x.at) (readied_clocks old wall elapsed) in
+    let up = rises old wall elapsed p.base.past.start in
+    let in_time = holding.0 in
+    let is = h.new_is in
+    let held : IsHeldUp o e i = subst (λ (x : State). IsHeldUp o x i) is holding.1.1 in
+    let settled : All (λ r. o.takes r.entry at ≤ longest o r) h.requests = subst (λ x. AreSettled o (Go h.requests (wait new)) x) is (subst (λ x. AreSettled o x new) h.command holding.1.0) in
+    let base' : IsBase width n e = subst (λ (x : State). IsBase width n x) is base in
+    let full' = full_lanes old new wall elapsed output i width h holding.1.1.may base.fits.0 in
+    let same = ap (λ (x : State). length x.out) is in
+    let fits = base'.fits.1 in
+    let full : length e.out ≡ width = omega (arith, full', same, fits) in
+    subst (λ x. Holds o width n (next_after_command o x new due) bound (waiting_before o n i new + rest) new) (sym h.command)
+    (subst (λ (x : State). Holds o width n (next_by o (wait x) x.out) bound (waiting_before o n i x + rest) x) (sym is)
+    (record {
+      base = base';
+      rest = elim p.rest as (λ _. (next_by o (wait e) e.out < at) ⊎ Timed o width (next_by o (wait e) e.out) bound (waiting_before o n i e + rest) e) [
+        | inl early ↦ absurd (omega (arith, early, up, in_time))
+        | inr t ↦
+            let d = due - at in
+            let now : at + d ≡ due = omega (arith, c, in_time) in
+            let less = span_later o at d old.out (subst (λ m. All (λ (q : Out). m ≤ settled_by o q + o.late) old.out) (sym now) t.timely) in
+            let came = total n (keeps_lane o) (comes_before i old new) in
+            let area : width * (at + d) + span o (at + d) old.out + (waiting_before o n i old + (came + rest)) ≤ bound =
+            subst (λ m. width * m + span o m old.out + (waiting_before o n i old + (came + rest)) ≤ bound) (sym now) t.area in
+            let sum = mul-add width at d in
+            let few = mul-le-mul_left d p.base.fits.1 in
+            let turned = mul_comm d width in
+            let more = grown o width n i old new wall elapsed output h p.base held settled in
+            let coming = ap (λ (x : State). total n (keeps_lane o) (comes_before i old x)) is in
+            let room : width * at + span o at e.out + (waiting_before o n i e + rest) ≤ bound = omega (arith, less, area, sum, few, turned, more, coming) in
+            elim (cases_lt (next_by o (wait e) e.out) at) as (λ _. (next_by o (wait e) e.out < at) ⊎ Timed o width (next_by o (wait e) e.out) bound (waiting_before o n i e + rest) e) [
+              | inl early ↦ inl early
+              | inr later ↦
+                  inr (full_on o width at bound (waiting_before o n i e + rest) e full room (next_by o (wait e) e.out) (least_all (λ (q : Out). settled_by o q + o.late) (wait e + o.late) e.out) later)
+            ]
+      ];
+    }))
+
+-- any other event leaves the clock, and some of what is out
+abbrev Quiet : Partial → ℕ → State → State → Output → Type 0
+Quiet o due old new output =
+    (new.clocks.at ≡ old.clocks.at)
+    × ((All (λ (q : Out). due ≤ settled_by o q + o.late) old.out → All (λ (q : Out). due ≤ settled_by o q + o.late) new.out)
+    × ((span o due new.out ≤ span o due old.out) × (next_after_command o output.command new due ≡ due)))
+
+answer_quiet :
+    (o : Partial) (due : ℕ) (old mid new : State) (q : Out) (reply : Reply) (output out : Output) → new ≡ replied mid q reply → mid.out ≡ old.out → new.clocks ≡ old.clocks → output ≡ out → out.command ≡ Taken →
+    Quiet o due old new output
+answer_quiet o due old mid new q reply output out is outs clocks made taken' =
+    let T : Out → Type 0 = λ r. due ≤ settled_by o r + o.late in
+    let less = span_replied o due mid q reply in
+    let a = ap (λ (x : State). span o due x.out) is in
+    let b = ap (span o due) outs in (
+      ap (λ c. c.at) clocks,
+      (
+        (λ all. subst (λ (x : State). All T x.out) (sym is) (all_left T (λ r h. h) mid q reply (subst (All T) (sym outs) all))),
+        (omega (arith, less, a, b), ap (λ c. next_after_command o c new due) (ap (λ (x : Output). x.command) made ∙ taken')),
+      ),
+    )
+
+looked_quiet : (o : Partial) (due : ℕ) (old new : State) (found : Option Out) (reply : Reply) (terms : Terms) (output : Output) → StepLooked old found reply terms output new → Quiet o due old new output
+looked_quiet o due old new None reply terms output step = absurd step
+looked_quiet o due old new (Some q) reply terms output step =
+    let s = noted old q reply in
+    answer_quiet o due old (looked s q reply terms) new q reply output _ step.1 (looked_out s q reply terms) (ap (λ (x : State). x.clocks) (ap rest_of step.1 ∙ looked_leaves old q reply terms)) step.0 refl
+
+renewed_quiet : (o : Partial) (due : ℕ) (old new : State) (found : Option Out) (reply : Reply) (output : Output) → StepRenewed old found reply output new → Quiet o due old new output
+renewed_quiet o due old new None reply output step = absurd step
+renewed_quiet o due old new (Some q) reply output step =
+    answer_quiet o due old (renewed (noted old q reply) q reply) new q reply output _ step.1 refl (ap (λ (x : State). x.clocks) (ap rest_of step.1 ∙ renewed_leaves old q reply)) step.0 refl
+
+same_quiet : (o : Partial) (due : ℕ) (old mid new : State) (output out : Output) → new ≡ mid → mid.clocks ≡ old.clocks → mid.out ≡ old.out → output ≡ out → out.command ≡ Taken → Quiet o due old new output
+same_quiet o due old mid new output out is clocks outs made taken' =
+    let T : Out → Type 0 = λ r. due ≤ settled_by o r + o.late in
+    let a = ap (λ (x : State). span o due x.out) is in
+    let b = ap (span o due) outs in (
+      ap (λ (x : State). x.clocks.at) is ∙ ap (λ c. c.at) clocks,
+      (
+        (λ all. subst (All T) (sym (ap (λ (x : State). x.out) is ∙ outs)) all),
+        (omega (arith, a, b), ap (λ c. next_after_command o c new due) (ap (λ (x : Output). x.command) made ∙ taken')),
+      ),
+    )
+
+quiet_holds :
+    (o : Partial) (width n i due bound rest : ℕ) (old new : State) (output : Output) → Quiet o due old new output → IsBase width n new →
+    Holds o width n due bound (waiting_before o n i old + (total n (keeps_lane o) (comes_before i old new) + rest)) old →
+    Holds o width n (next_after_command o output.command new due) bound (waiting_before o n i new + rest) new
+quiet_holds o width n i due bound rest old new output quiet base p =
+    let c = quiet.0 in
+    let span' = quiet.1.1.0 in
+    let less = fewer o n i old new in
+    subst (λ x. Holds o width n x bound (waiting_before o n i new + rest) new) (sym quiet.1.1.1)
+    (record {
+      base = base;
+      rest = elim p.rest as (λ _. (due < new.clocks.at) ⊎ Timed o width due bound (waiting_before o n i new + rest) new) [
+        | inl early ↦ inl (omega (arith, early, c))
+        | inr t ↦ inr (record { timely = quiet.1.0 t.timely; area = let area = t.area in omega (arith, area, span', less) })
+      ];
+    })
+
+step_holds :
+    (o : Partial) (width n i due bound rest : ℕ) (old new : State) (event : Event) (output : Output) → Step old event output new → IsHolding o i due old event output new → IsBase width n new →
+    Holds o width n due bound (waiting_before o n i old + (total n (keeps_lane o) (comes_before i old new) + rest)) old →
+    Holds o width n (next_after_command o output.command new due) bound (waiting_before o n i new + rest) new
+step_holds o width n i due bound rest old new (Clock wall elapsed) output step holding base p = clock_holds o width n i due bound rest old new wall elapsed output step holding base p
+step_holds o width n i due bound rest old new (Looked j reply terms) output step holding base p =
+    quiet_holds o width n i due bound rest old new output (looked_quiet o due old new (request_out old.out j Look) reply terms output step) base p
+step_holds o width n i due bound rest old new (Renewed j reply) output step holding base p =
+    quiet_holds o width n i due bound rest old new output (renewed_quiet o due old new (request_out old.out j Renew) reply output step) base p
+step_holds o width n i due bound rest old new (Need j until) output step holding base p = quiet_holds o width n i due bound rest old new output (same_quiet o due old _ new output _ step.1 refl refl step.0 refl) base p
+step_holds o width n i due bound rest old new Begin output step holding base p = quiet_holds o width n i due bound rest old new output (same_quiet o due old _ new output _ step.1 refl refl step.0 refl) base p
+step_holds o width n i due bound rest old new (Known j end renewable) output step holding base p =
+    quiet_holds o width n i due bound rest old new output (same_quiet o due old _ new output _ step.1 refl refl step.0 refl) base p
+
+turn_holds :
+    (o : Partial) (width n i due bound rest : ℕ) (old new : State) (event : Event) (result : Result Output WatchFault) → Turn old event result new → IsHeld o i due old event result new → IsBase width n new →
+    Holds o width n due bound (waiting_before o n i old + (total n (keeps_lane o) (comes_before i old new) + rest)) old →
+    Holds o width n (next_after o result new due) bound (waiting_before o n i new + rest) new
+turn_holds o width n i due bound rest old new event (Ok output) turn held base p = step_holds o width n i due bound rest old new event output turn.1 held base p
+turn_holds o width n i due bound rest old new event (Err fault) turn held base p =
+    let is = refused_stays old new event fault turn in
+    let c = ap (λ (x : State). x.clocks.at) is in
+    let less = fewer o n i old new in
+    let out = ap (λ (x : State). span o due x.out) is in
+    record {
+      base = base;
+      rest = elim p.rest as (λ _. (due < new.clocks.at) ⊎ Timed o width due bound (waiting_before o n i new + rest) new) [
+        | inl early ↦ inl (omega (arith, early, c))
+        | inr t ↦
+            inr (record {
+              timely = subst (λ (x : State). All (λ (q : Out). due ≤ settled_by o q + o.late) x.out) (sym is) t.timely;
+              area = let area = t.area in omega (arith, area, out, less);
+            })
+      ];
+    }
+
+along :
+    (o : Partial) (width n i bound : ℕ) (turns : List Turned) (due : ℕ) (old : State) → History old turns → AreHolding o i due old turns →
+    Holds o width n due bound (waiting_before o n i old + coming_before o n i old turns) old → (k : ℕ) × Holds o width n (due_after o due turns) bound k (after_all old turns)
+along o width n i bound [] due old history holding p = (waiting_before o n i old + 0, p)
+along o width n i bound (turn ∷ turns) due old history holding p =
+    let base = turn_base width n old turn.state turn.event turn.result history.0 p.base in
+    along o width n i bound turns (next_after o turn.result turn.state due) turn.state history.1 holding.1
+    (turn_holds o width n i due bound (coming_before o n i turn.state turns) old turn.state turn.event turn.result history.0 holding.0 base p)
+
+-- the clock from which on it is held up
+record Starts (o : Partial) (old : State) (first : Turned) : Type 0 where
+  wall : ℕ
+  elapsed : ℕ
+  output : Output
+  ticks' : Ticks old first.state wall elapsed output
+  due : next_after o first.result first.state 0 ≡ next_by o (wait first.state) first.state.out
+
+starts : (o : Partial) (old : State) (first : Turned) (event : Event) (result : Result Output WatchFault) → first.result ≡ result → Turn old event result first.state → is_clock event ≡ true → is_taken result ≡ true → Starts o old first
+starts o old first (Clock wall elapsed) (Ok output) same turn clock taken' =
+    let go = ticks old first.state wall elapsed output turn.1 in
+    record {
+      wall = wall;
+      elapsed = elapsed;
+      output = output;
+      ticks' = go;
+      due = ap (λ r. next_after o r first.state 0) same ∙ ap (λ c. next_after_command o c first.state 0) go.command;
+    }
+starts o old first (Looked j reply terms) (Ok output) same turn clock taken' = absurd (true≢false (sym clock))
+starts o old first (Renewed j reply) (Ok output) same turn clock taken' = absurd (true≢false (sym clock))
+starts o old first (Need j until) (Ok output) same turn clock taken' = absurd (true≢false (sym clock))
+starts o old first Begin (Ok output) same turn clock taken' = absurd (true≢false (sym clock))
+starts o old first (Known j end renewable) (Ok output) same turn clock taken' = absurd (true≢false (sym clock))
+starts o old first event (Err fault) same turn clock taken' = absurd (true≢false (sym taken'))
+
+-- and the next one, at which it may go out
+comes_in_time :
+    (due : ℕ) (old new : State) (event : Event) (result : Result Output WatchFault) → Turn old event result new → is_clock event ≡ true → is_taken result ≡ true → IsInTime due old event → IsPast old →
+    (old.clocks.at ≤ new.clocks.at) × (new.clocks.at ≤ due)
+comes_in_time due old new (Clock wall elapsed) (Ok output) turn clock taken' in_time past =
+    let h = ticks old new wall elapsed output turn.1 in
+    let c = ap (λ (x : State). x.clocks.at) h.new_is ∙ ap (λ x. x.at) (readied_clocks old wall elapsed) in
+    let up = rises old wall elapsed past.start in
+    (omega (arith, c, up), omega (arith, c, in_time))
+comes_in_time due old new (Looked j reply terms) (Ok output) turn clock taken' in_time past = absurd (true≢false (sym clock))
+comes_in_time due old new (Renewed j reply) (Ok output) turn clock taken' in_time past = absurd (true≢false (sym clock))
+comes_in_time due old new (Need j until) (Ok output) turn clock taken' in_time past = absurd (true≢false (sym clock))
+comes_in_time due old new Begin (Ok output) turn clock taken' in_time past = absurd (true≢false (sym clock))
+comes_in_time due old new (Known j end renewable) (Ok output) turn clock taken' in_time past = absurd (true≢false (sym clock))
+comes_in_time due old new event (Err fault) turn clock taken' in_time past = absurd (true≢false (sym taken'))
+
+ends_by : (o : Partial) (width n due bound k : ℕ) (s new : State) → Holds o width n due bound k s → (s.clocks.at ≤ new.clocks.at) × (new.clocks.at ≤ due) → width * new.clocks.at ≤ bound
+ends_by o width n due bound k s new p between =
+    let up = between.0 in
+    let by = between.1 in
+    elim p.rest as (λ _. width * new.clocks.at ≤ bound) [
+      | inl early ↦ absurd (omega (arith, early, up, by))
+      | inr t ↦ (let area = t.area in let less = mul-le-mul_left width by in omega (arith, area, less))
+    ]
+
+pub held_up : PartialLaw
+held_up o g width before first turns next i run clock taken' may out holding clock' taken'' in_time =
+    let n = length g.entries in
+    let rest = turns ++ next ∷ [] in
+    let old = after_all (opened g width) before in
+    let history = last_turns before (first ∷ rest) (opened g width) run in
+    let earlier = first_turns before (first ∷ rest) (opened g width) run in
+    let s = first.state in
+    let at = s.clocks.at in
+    let start = starts o old first first.event first.result refl history.0 clock taken' in
+    let base = turn_base width n old s first.event first.result history.0 (ran_base width n before (opened g width) earlier (opened_base g width)) in
+    let full' = full_lanes old s start.wall start.elapsed start.output i width start.ticks' may base.fits.0 in
+    let fits = base.fits.1 in
+    let full : length s.out ≡ width = omega (arith, full', fits) in
+    let k = waiting_before o n i s + coming_before o n i s turns in
+    let bound = width * (at + o.slow + o.late) + k in
+    let due = next_by o (wait s) s.out in
+    let most = span_most o at (o.slow + o.late) s.out (All-weaker (λ (q : Out). settled_by o q ≤ at + o.slow) (λ (q : Out). settled_by o q + o.late ≤ at + (o.slow + o.late)) (λ q h. omega (arith, h)) s.out out) in
+    let lanes = ap (λ m. (o.slow + o.late) * m) full in
+    let turned = mul_comm (o.slow + o.late) width in
+    let sum = mul-add width at (o.slow + o.late) in
+    let all = ap (λ m. width * m) (let e : at + o.slow + o.late ≡ at + (o.slow + o.late) = omega arith in e) in
+    let room : width * at + span o at s.out + k ≤ bound = omega (arith, most, lanes, turned, sum, all) in
+    let begins : Holds o width n due bound k s = record {
+      base = base;
+      rest = elim (cases_lt due at) as (λ _. (due < at) ⊎ Timed o width due bound k s) [
+        | inl early ↦ inl early
+        | inr later ↦ inr (full_on o width at bound k s full room due (least_all (λ (q : Out). settled_by o q + o.late) (wait s + o.late) s.out) later)
+      ];
+    } in
+    let first_due = next_after o first.result s 0 in
+    let begins' : Holds o width n first_due bound k s = subst (λ d. Holds o width n d bound k s) (sym start.due) begins in
+    let ran = along o width n i bound turns first_due s (first_turns turns (next ∷ []) s history.1) holding begins' in
+    let last = (last_turns turns (next ∷ []) s history.1).0 in
+    ends_by o width n (due_after o first_due turns) bound ran.0 (after_all s turns) next.state ran.1
+    (comes_in_time (due_after o first_due turns) (after_all s turns) next.state next.event next.result last clock' taken'' in_time ran.1.base.past)

@@ -1,0 +1,473 @@
+-- Once: an entry that is pressed and never answered comes to no first try again. For the law of one stand.
+use Rattle.std.proofs.Common.{◌≡◌, ◌⊎◌, ◌∙◌, ℕ, zero, suc, ◌+◌, ◌<◌, ◌≤◌, Bool, true, false, not, ◌&&◌, ◌||◌, ◌==◌, if◌then◌else◌, List, [], ◌∷◌, Option, Some, None, Result, Ok, Err, filter, length, min, nat_lt, refl, sym, ap, subst, arith, inl, inr}
+use Rattle.std.proofs.lemmas.Bool.{and_from, and_parts, cases_Bool, cond-false, cond-true, eqb-true}
+use Rattle.std.proofs.lemmas.Bool.Decides.{nat_tests}
+use Rattle.std.proofs.lemmas.List.{get_or-set_other, get_or-set_same, get_or_past}
+use Rattle.std.proofs.lemmas.Bool.{cases_lt}
+use Rattle.std.specs.List.{list_any, range_with_len}
+use Rattle.keep_tree.specs.declared.entry.Entry.{Entry}
+use Rattle.keep_tree.specs.Forest.{Forest, end_of, entry_at}
+use Rattle.keep_tree.specs.Renewal.{capped}
+use Rattle.keep_rule.specs.Asks.{asks, is_wanted as is_asked_for}
+use Rattle.watch_machine.specs.declared.clocks.Clocks.{Clocks}
+use Rattle.watch_machine.specs.declared.command.Command.{Command}
+use Rattle.watch_machine.specs.declared.command.Command.TheVariants.{Go, Taken}
+use Rattle.watch_machine.specs.declared.command.Output.{Output}
+use Rattle.watch_machine.specs.declared.command.Request.{Request}
+use Rattle.watch_machine.specs.declared.event.Event.{Event}
+use Rattle.watch_machine.specs.declared.event.Event.TheVariants.{Clock, Looked, Renewed, Need, Begin, Known}
+use Rattle.watch_machine.specs.declared.event.Operation.{Operation}
+use Rattle.watch_machine.specs.declared.event.Operation.TheVariants.{Look, Renew}
+use Rattle.watch_machine.specs.declared.event.Reply.{Reply}
+use Rattle.watch_machine.specs.declared.event.Reply.TheVariants.{Lost}
+use Rattle.watch_machine.specs.declared.event.Terms.{Terms}
+use Rattle.watch_machine.specs.declared.fault.WatchFault.{WatchFault}
+use Rattle.watch_machine.specs.declared.lanes.Out.{Out}
+use Rattle.watch_machine.specs.declared.notes.Why.{Why}
+use Rattle.watch_machine.specs.declared.track.End.{End}
+use Rattle.watch_machine.specs.declared.track.Track.{Track}
+use Rattle.watch_machine.specs.declared.track.Try.{Try}
+use Rattle.watch_machine.specs.Answers.{answers_all, failing, lane_freed, noted, replied, silent}
+use Rattle.watch_machine.specs.Beginning.{begun, is_called, is_pressed, is_pressed_try, owing, owing_lookup, soon, sooner, untopped, untopped_track}
+use Rattle.watch_machine.specs.Clocks.{sec}
+use Rattle.watch_machine.specs.History.{History, Turn, Turned}
+use Rattle.watch_machine.specs.Lines.{is_first}
+use Rattle.watch_machine.specs.Looked.{after_look, looked, untold, untold_track}
+use Rattle.watch_machine.specs.Margins.{has_come, is_in_plan, lead}
+use Rattle.watch_machine.specs.Press.{asked_in, asked_track, dropped, is_fresh, press, pressed, pressed_alone, pressed_track}
+use Rattle.watch_machine.specs.Refusal.{request_out}
+use Rattle.watch_machine.specs.Renewed.{after_renewal, renewed, renewed_track, ungranted, ungranted_track}
+use Rattle.watch_machine.specs.Round.{IsRound, asked_by as round_of, is_hoped, plan_view, planned, planned_by, step_in_plan}
+use Rattle.watch_machine.specs.Sending.{sent, sent_in, sent_track}
+use Rattle.watch_machine.specs.Settling.{is_real, settled, settled_track, settled_try, timed}
+use Rattle.watch_machine.specs.State.{State, each, no_track, opened, second, track_at, track_in}
+use Rattle.watch_machine.specs.Step.{Step, StepClock, StepCommand, StepLooked, StepRenewed, known, needed, readied, why}
+use Rattle.watch_machine.specs.Wanted.{believed, is_alive, is_open, is_unknown, is_wanted, need_of, seen, wants}
+use Rattle.watch_machine.proofs.Cases.{if_both, if_cases, not_both}
+use Rattle.watch_machine.proofs.Seeing.{SameSeen, both_seen, each_past, each_read, need_same}
+use Rattle.watch_machine.proofs.Unseen.{pressed_seen, sent_seen}
+use Rattle.watch_machine.proofs.Within.{out_entry}
+use Rattle.watch_laws.specs.Absence.{is_taken}
+use Rattle.watch_laws.specs.Outage.{one_if}
+use Rattle.watch_laws.specs.Partial.{AreHung, IsUnanswered, OnceLaw, comes_before, is_own_first, is_own_try, often_before, stands_before, waits_before}
+use Rattle.watch_laws.specs.Turns.{after_all}
+use Rattle.watch_laws.proofs.Answering.{looked_leaves, renewed_leaves, rest_of}
+use Rattle.watch_laws.proofs.Believed.{written_at, written_count}
+use Rattle.watch_laws.proofs.Clocking.{readied_clocks, refused_stays}
+use Rattle.watch_laws.proofs.Grounds.{opened_base, ran_base, turn_base}
+use Rattle.watch_laws.proofs.Holding.{looked_presence}
+use Rattle.watch_laws.proofs.OnPlan.{sec_rises}
+use Rattle.watch_laws.proofs.Opener.{mid_bears}
+use Rattle.watch_laws.proofs.Outliving.{first_turns, last_turns}
+use Rattle.watch_laws.proofs.Retrying.{IsPast, rises}
+use Rattle.watch_laws.proofs.Spacing.{looked_other}
+use Rattle.watch_laws.proofs.Stages.{IsBase}
+use Rattle.watch_laws.proofs.Tracking.{each_at, each_kept}
+
+-- what of a track says whether its try is a first one, whether it is pressed and out, and when it ends
+record Alike (y x : Track) : Type 0 where
+  own : is_own_try y.attempt ≡ is_own_try x.attempt
+  pressed' : is_pressed y ≡ is_pressed x
+  out : y.out ≡ x.out
+  end : y.end ≡ x.end
+
+same_alike : (x : Track) → Alike x x
+same_alike x = record { own = refl; pressed' = refl; out = refl; end = refl }
+
+both_alike : (z y x : Track) → Alike z y → Alike y x → Alike z x
+both_alike z y x h k = record { own = h.own ∙ k.own; pressed' = h.pressed' ∙ k.pressed'; out = h.out ∙ k.out; end = h.end ∙ k.end }
+
+-- before who has to be asked is pressed, all stay so
+settled_alike : (margin at : ℕ) (x : Track) → Alike (settled_track margin at x) x
+unfolding settled_track
+settled_alike margin at x = record { own = own' x.attempt; pressed' = pressed'' x.attempt; out = refl; end = refl } where
+  own' : (o : Option Try) → is_own_try (settled_try margin at x o) ≡ is_own_try o
+  own' None = refl
+  own' (Some t) = if_both (λ u. is_own_try u ≡ is_own_try (Some t)) t.failed _ (Some t) refl refl
+
+  pressed'' : (o : Option Try) → is_pressed_try (settled_try margin at x o) ≡ is_pressed_try o
+  pressed'' None = refl
+  pressed'' (Some t) = if_both (λ u. is_pressed_try u ≡ is_pressed_try (Some t)) t.failed _ (Some t) refl refl
+
+owing_alike : (at : ℕ) (called : Bool) (x : Track) → Alike (owing at called x) x
+unfolding owing
+owing_alike at called x =
+    if_both (λ y. Alike y x) (called && is_open (sec at) x) (owing_lookup at x) x
+    (if_both (λ y. Alike y x) x.out (record x { owes = true }) (record x { owes = true; attempt = Some (sooner (soon at x) x.attempt) }) (record { own = refl; pressed' = refl; out = refl; end = refl })
+    (record { own = own' x.attempt; pressed' = pressed'' x.attempt; out = refl; end = refl })) (same_alike x) where
+      own' : (o : Option Try) → is_own_try (Some (sooner (soon at x) o)) ≡ is_own_try o
+      own' None = refl
+      own' (Some t) = refl
+
+      pressed'' : (o : Option Try) → is_pressed_try (Some (sooner (soon at x) o)) ≡ is_pressed_try o
+      pressed'' None = refl
+      pressed'' (Some t) = refl
+
+begun_alike : (s : State) (w : Option Why) (j : ℕ) → Alike (track_at (begun s w) j) (track_at s j)
+begun_alike s None j = same_alike (track_at s j)
+begun_alike s (Some w) j =
+    let xs = untopped s.tracks in
+    both_alike (track_at (begun s (Some w)) j) (track_in xs j) (track_at s j)
+    (each_kept Alike (same_alike no_track) (λ k. owing s.clocks.at (is_called s.forest xs s.clocks k)) xs (λ k x. owing_alike s.clocks.at (is_called s.forest xs s.clocks k) x) j)
+    (each_kept Alike (same_alike no_track) (λ k. untopped_track) s.tracks (λ k x. record { own = refl; pressed' = refl; out = refl; end = refl }) j)
+
+readied_alike : (s : State) (wall elapsed j : ℕ) → Alike (track_at (readied s wall elapsed) j) (track_at s j)
+unfolding readied
+readied_alike s wall elapsed j =
+    let t = timed s wall elapsed in
+    both_alike (track_at (readied s wall elapsed) j) (track_at (settled t) j) (track_at s j) (begun_alike (settled t) (why s wall elapsed) j)
+    (each_kept Alike (same_alike no_track) (λ k. settled_track t.forest.margin t.clocks.at) s.tracks (λ k x. settled_alike t.forest.margin t.clocks.at x) j)
+
+-- and so does whoever is pressed already and wanted
+abbrev Kept : ℕ → Track → Track → Type 0
+Kept need y x = is_pressed x ≡ true → wants x need ≡ true → Alike y x
+
+pressed_kept : (margin : ℕ) (e : Entry) (need at : ℕ) (x : Track) → Kept need (pressed_track margin e need at x) x
+unfolding pressed_track is_fresh
+pressed_kept margin e need at x is wanted =
+    let fresh = wants x need && (has_come margin e x (sec at) && (not (is_pressed x) && not x.out)) in
+    if_cases (λ y. Alike y x) fresh (record x { attempt = Some (press at false x) }) (if wants x need || x.out then x else record x { attempt = dropped x x.attempt })
+    (λ yes'. absurd (not_both (and_parts (not (is_pressed x)) (not x.out) (and_parts (has_come margin e x (sec at)) (not (is_pressed x) && not x.out) (and_parts (wants x need) _ yes').1).1).0 (ap not is)))
+    (λ no'. if_cases (λ y. Alike y x) (wants x need || x.out) x (record x { attempt = dropped x x.attempt }) (λ kept. same_alike x) (λ let_go. absurd (not_both (ap (λ b. b || x.out) wanted) let_go)))
+
+-- a round names nobody who is pressed and wanted
+any_filter : (p : ℕ → Bool) (n a j : ℕ) → list_any (λ k. k == j) (filter p (range_with_len a n)) ≡ true → (j < a + n) × (p j ≡ true)
+any_filter p zero a j h = absurd cc
+any_filter p (suc n) a j h =
+    let rest = filter p (range_with_len (a + 1) n) in
+    let up : (j < (a + 1) + n) × (p j ≡ true) → (j < a + suc n) × (p j ≡ true) = λ r. (let low = r.0 in omega (arith, low), r.1) in
+    elim (cases_Bool (p a)) as (λ _. (j < a + suc n) × (p j ≡ true)) [
+      | inl yes' ↦
+          let named : (a == j) || list_any (λ k. k == j) rest ≡ true = sym (ap (list_any (λ k. k == j)) (cond-true (p a) (a ∷ rest) rest yes')) ∙ h in
+          elim (cases_Bool (a == j)) as (λ _. (j < a + suc n) × (p j ≡ true)) [
+            | inl here ↦ (let e = eqb-true a j here in (omega (arith, e), subst (λ k. p k ≡ true) e yes'))
+            | inr there ↦ up (any_filter p n (a + 1) j (sym (ap (λ b. b || list_any (λ k. k == j) rest) there) ∙ named))
+          ]
+      | inr no' ↦ up (any_filter p n (a + 1) j (sym (ap (list_any (λ k. k == j)) (cond-false (p a) (a ∷ rest) rest no')) ∙ h))
+    ]
+
+renewable_of : (es : List Entry) (margin s : ℕ) (ends : ℕ → ℕ) (t : ℕ) (next : Option ℕ) (j : ℕ) → list_any (λ k. k == j) (asks es margin s ends t next) ≡ true → (j < length es) × ((entry_at es j).renewable ≡ true)
+unfolding asks is_asked_for
+renewable_of es margin s ends t next j h =
+    let both = any_filter (is_asked_for es margin s ends t next) (length es) 0 j h in
+    (let low = both.0 in omega (arith, low), (and_parts (entry_at es j).renewable _ both.1).0)
+
+hope : (w p u b o : Bool) → w ≡ true → b ≡ true → w && (not p || (u || (b || o))) ≡ true
+hope true false u b o e f = refl
+hope true true true b o e f = refl
+hope true true false true o e f = refl
+hope true true false false o e f = absurd cc
+hope false p u b o e f = absurd cc
+
+hoped_for : (g : Forest) (xs : List Track) (c : Clocks) (j : ℕ) → is_pressed (track_in xs j) ≡ true → wants (track_in xs j) (need_of g.entries xs c j) ≡ true → (planned g xs c j).renewable ≡ false
+unfolding planned planned_by is_hoped
+hoped_for g xs c j is wanted =
+    let e = entry_at g.entries j in
+    let x = track_in xs j in
+    let y = seen g.entries xs c j in
+    let need = need_of g.entries xs c j in
+    let hoped = wants x need && (not (is_in_plan g.margin e x) || (is_unknown x.end || (is_pressed x || x.out))) in
+    if_cases (λ (z : Entry). z.renewable ≡ false) hoped (record y { end = capped y.ceiling (sec c.at + lead e.step x.grant); renewable = false })
+    (record y { renewable = x.renewable && not x.top; step = step_in_plan g.margin e x y.step }) (λ yes'. refl)
+    (λ no'. absurd (not_both (hope (wants x need) (is_in_plan g.margin e x) (is_unknown x.end) (is_pressed x) x.out wanted is) no'))
+
+names_none : (g : Forest) (xs : List Track) (c : Clocks) (round : Option (List ℕ)) (j : ℕ) → IsRound g xs c round → is_pressed (track_in xs j) ≡ true → wants (track_in xs j) (need_of g.entries xs c j) ≡ true →
+    list_any (λ k. k == j) (round_of round) ≡ false
+names_none g xs c None j h is wanted = refl
+names_none g xs c (Some asked) j h is wanted =
+    elim (cases_Bool (list_any (λ k. k == j) asked)) as (λ _. list_any (λ k. k == j) asked ≡ false) [
+      | inl named ↦
+          let es = plan_view g xs c in
+          let there = renewable_of es g.margin (sec c.at) (end_of es) (sec c.at) h.1.0 j (sym (ap (list_any (λ k. k == j)) h.1.1.1) ∙ named) in
+          let count = written_count (planned g xs c) (length g.entries) in
+          let low = there.0 in
+          absurd (not_both there.1 (ap (λ (e : Entry). e.renewable) (written_at (planned g xs c) (length g.entries) j (omega (arith, low, count))) ∙ hoped_for g xs c j is wanted))
+      | inr none ↦ none
+    ]
+
+-- a clock
+sent_made : (mid new : State) (command : Command) → StepCommand mid command new → (requests : List Request) × (new ≡ sent mid requests)
+sent_made mid new (Go requests until) h = (requests, h.0.1)
+sent_made mid new Taken h = absurd h
+
+mid_alike : (s : State) (round : Option (List ℕ)) (j : ℕ) → IsRound s.forest s.tracks s.clocks round → is_pressed (track_at s j) ≡ true → is_wanted s j ≡ true → Alike (track_at (pressed s (round_of round)) j) (track_at s j)
+mid_alike s round j h is wanted =
+    let c = s.clocks in
+    let g = s.forest in
+    let asked = round_of round in
+    let alone = pressed_alone g c s.tracks in
+    let e = entry_at g.entries j in
+    let need = need_of g.entries s.tracks c j in
+    let none = names_none g s.tracks c round j h is wanted in
+    let same : track_at (pressed s asked) j ≡ track_in alone j =
+    each_at (λ k. asked_in g.margin (entry_at g.entries k) c.at asked k) alone j (λ x. cond-false (list_any (λ k. k == j) asked) (asked_track g.margin e c.at x) x none) in
+    subst (λ y. Alike y (track_at s j)) (sym same)
+    (each_kept_at (λ k. pressed_track g.margin (entry_at g.entries k) (need_of g.entries s.tracks c k) c.at) s.tracks j (pressed_kept g.margin e need c.at (track_at s j) is wanted)) where
+      each_kept_at : (f : ℕ → Track → Track) (xs : List Track) (i : ℕ) → Alike (f i (track_in xs i)) (track_in xs i) → Alike (track_in (each f xs) i) (track_in xs i)
+      each_kept_at f xs i made =
+          elim (cases_lt i (length xs)) as (λ _. Alike (track_in (each f xs) i) (track_in xs i)) [
+            | inl within ↦ subst (λ y. Alike y (track_in xs i)) (sym (each_read f xs i within)) made
+            | inr past ↦ subst (λ y. Alike y (track_in xs i)) (sym (each_past f xs i past ∙ sym (get_or_past xs i no_track past))) (same_alike (track_in xs i))
+          ]
+
+-- whoever goes out is out
+record Sends (y x : Track) : Type 0 where
+  attempt : y.attempt ≡ x.attempt
+  end : y.end ≡ x.end
+  out : x.out ≡ true → y.out ≡ true
+
+sent_sends : (s : State) (rs : List Request) (j : ℕ) → Sends (track_at (sent s rs) j) (track_at s j)
+sent_sends s rs j =
+    each_kept Sends (record { attempt = refl; end = refl; out = λ h. h }) (sent_in s.clocks.at rs) s.tracks
+    (λ k x. if_both (λ y. Sends y x) (list_any (λ (r : Request). r.entry == k) rs) (sent_track s.clocks.at x) x (record { attempt = refl; end = refl; out = λ h. refl }) (record { attempt = refl; end = refl; out = λ h. h })) j
+
+-- what a turn leaves of an entry that is pressed: it stays pressed, and has no first try that is its own but where it had one, with the
+-- same end, and where its request is out still if it was
+record Stays (old new : State) (j : ℕ) : Type 0 where
+  pressed' : is_pressed (track_at new j) ≡ true
+  end : is_own_first new j ≡ true → (track_at new j).end ≡ (track_at old j).end
+  own : is_own_first new j ≡ true → is_own_first old j ≡ true
+  out : is_own_first new j ≡ true → (track_at old j).out ≡ true → (track_at new j).out ≡ true
+
+later_alive : (a b : ℕ) (e : End) → a ≤ b → nat_lt (sec b) (believed e) ≡ true → nat_lt (sec a) (believed e) ≡ true
+later_alive a b e up h = let less = sec_rises a b up in grind (arith, nat_tests)
+
+clock_stays :
+    (old new : State) (wall elapsed : ℕ) (output : Output) (j : ℕ) → StepClock old wall elapsed output new → IsPast old → is_pressed (track_at old j) ≡ true → is_wanted new j ≡ true → Stays old new j
+unfolding wants
+clock_stays old new wall elapsed output j step past is wanted =
+    let s = readied old wall elapsed in
+    let round = step.round in
+    let mid = pressed s (round_of round) in
+    let made = sent_made mid new output.command step.command in
+    let rs = made.0 in
+    let end' = sent mid rs in
+    let c = s.clocks in
+    let g = s.forest in
+    let ready = readied_alike old wall elapsed j in
+    let seen : SameSeen end'.tracks s.tracks = both_seen end'.tracks mid.tracks s.tracks (sent_seen c.at rs mid.tracks) (pressed_seen g c (round_of round) s.tracks) in
+    let needs = need_same end'.tracks s.tracks seen g.entries c j in
+    let wanted' : wants (track_at end' j) (need_of g.entries end'.tracks c j) ≡ true = subst (λ (x : State). is_wanted x j ≡ true) made.1 wanted in
+    let bears = mid_bears s (round_of round) rs j in
+    let wanted_before : is_wanted s j ≡ true = sym (ap (λ (x : Track). wants x (need_of g.entries s.tracks c j)) bears) ∙ sym (ap (λ k. wants (track_at end' j) k) needs) ∙ wanted' in
+    let pressed_there : is_pressed (track_at s j) ≡ true = ready.pressed' ∙ is in
+    let alike = both_alike (track_at mid j) (track_at s j) (track_at old j) (mid_alike s round j step.is_round pressed_there wanted_before) ready in
+    let sends = sent_sends mid rs j in
+    let up = rises old wall elapsed past.start in
+    let clock : end'.clocks.at ≡ (timed old wall elapsed).clocks.at = ap (λ x. x.at) (readied_clocks old wall elapsed) in
+    let end_same : (track_at end' j).end ≡ (track_at old j).end = sends.end ∙ alike.end in
+    subst (λ (x : State). Stays old x j) (sym made.1)
+    (record {
+      pressed' = ap is_pressed_try sends.attempt ∙ alike.pressed' ∙ is;
+      end = λ own. end_same;
+      own = λ own.
+          let both = and_parts (is_own_try (track_at end' j).attempt) (is_alive (sec end'.clocks.at) (track_at end' j)) own in
+          and_from (is_own_try (track_at old j).attempt) (is_alive (sec old.clocks.at) (track_at old j)) (sym alike.own ∙ sym (ap is_own_try sends.attempt) ∙ both.0)
+          (later_alive old.clocks.at end'.clocks.at (track_at old j).end (omega (arith, up, clock)) (sym (ap (λ e. nat_lt (sec end'.clocks.at) (believed e)) end_same) ∙ both.1));
+      out = λ own out. sends.out (alike.out ∙ out);
+    })
+
+-- a track that is as it was, at the same clock
+same_stays : (old new : State) (j : ℕ) → track_at new j ≡ track_at old j → new.clocks.at ≡ old.clocks.at → is_pressed (track_at old j) ≡ true → Stays old new j
+same_stays old new j same clock is =
+    let own : is_own_first new j ≡ is_own_first old j =
+    ap (λ (x : Track). is_own_try x.attempt && nat_lt (sec new.clocks.at) (believed x.end)) same ∙ ap (λ n. is_own_try (track_at old j).attempt && nat_lt (sec n) (believed (track_at old j).end)) clock in
+    record {
+      pressed' = ap is_pressed same ∙ is;
+      end = λ h. ap (λ (x : Track). x.end) same;
+      own = λ h. sym own ∙ h;
+      out = λ h out. ap (λ (x : Track). x.out) same ∙ out;
+    }
+
+-- what is tried past the last entry is not pressed
+pressed_within : (xs : List Track) (j : ℕ) → is_pressed (track_in xs j) ≡ true → j < length xs
+pressed_within xs j is =
+    elim (cases_lt j (length xs)) as (λ _. j < length xs) [
+      | inl within ↦ within
+      | inr past ↦ absurd (not_both is (ap is_pressed (get_or_past xs j no_track past)))
+    ]
+
+-- a loss leaves the try pressed, and no first one
+never_first : (n : ℕ) → (min 20 (n + 1) == 0) ≡ false
+never_first n = grind (arith, nat_tests)
+
+abbrev IsLater : Option Try → Type 0
+IsLater o = (is_pressed_try o ≡ true) × (is_own_try o ≡ false)
+
+failing_later : (t : Try) (next : Operation) (lost alone : Bool) → t.pressed ≡ true → IsLater (Some (failing t next lost alone))
+failing_later t next lost alone is = (is, ap (λ b. (b && (min 20 (t.fails + 1) == 0)) && not t.along) is ∙ ap (λ b. b && not t.along) (never_first t.fails))
+
+untold_later : (at : ℕ) (heard' : Bool) (x : Track) (o : Option Try) → is_pressed_try o ≡ true → IsLater (untold at heard' Lost x o)
+untold_later at heard' x None is = absurd cc
+untold_later at heard' x (Some t) is = failing_later t (after_look (sec at) x t) true heard' is
+
+ungranted_later : (at : ℕ) (heard' : Bool) (x : Track) (o : Option Try) → is_pressed_try o ≡ true → IsLater (ungranted at heard' Lost x o)
+ungranted_later at heard' x None is = absurd cc
+ungranted_later at heard' x (Some t) is = failing_later t (after_renewal (sec at) x) true heard' is
+
+looked_later : (s : State) (q : Out) (terms : Terms) → is_pressed (track_at s q.entry) ≡ true → IsLater (track_at (looked s q Lost terms) q.entry).attempt
+unfolding untold_track
+looked_later s q terms is =
+    let x = track_at s q.entry in
+    let within = pressed_within s.tracks q.entry is in
+    subst (λ (y : Track). IsLater y.attempt) (sym (get_or-set_same s.tracks q.entry (untold_track s.clocks.at q.heard Lost x) no_track within)) (untold_later s.clocks.at q.heard x x.attempt is)
+
+renewed_later : (s : State) (q : Out) → is_pressed (track_at s q.entry) ≡ true → IsLater (track_at (renewed s q Lost) q.entry).attempt
+unfolding renewed_track ungranted_track
+renewed_later s q is =
+    let x = track_at s q.entry in
+    let within = pressed_within s.tracks q.entry is in
+    subst (λ (y : Track). IsLater y.attempt) (sym (get_or-set_same s.tracks q.entry (ungranted_track s.clocks.at q.heard Lost x) no_track within)) (ungranted_later s.clocks.at q.heard x x.attempt is)
+
+-- an answer leaves the tracks but for its own, while the broker is there
+tracks_left : (s : State) (q : Out) (reply : Reply) → s.presence.away ≡ false → (replied s q reply).tracks ≡ s.tracks
+tracks_left s q reply there =
+    let free = lane_freed s q in
+    let P : State → Type 0 = λ t. t.tracks ≡ s.tracks in
+    if_both P (is_real reply) (answers_all free) (if q.heard then free else silent free) (if_cases P s.presence.away _ _ (λ yes'. absurd (not_both yes' there)) (λ no'. refl))
+    (if_both P q.heard free (silent free) refl (if_both P s.presence.away _ _ refl refl))
+
+answer_stays :
+    (old mid new : State) (q : Out) (reply : Reply) (j : ℕ) → new ≡ replied mid q reply → mid.presence.away ≡ false → new.clocks ≡ old.clocks → is_pressed (track_at old j) ≡ true →
+    (track_at mid j ≡ track_at old j) ⊎ IsLater (track_at mid j).attempt → Stays old new j
+answer_stays old mid new q reply j made there clocks is what =
+    let left : track_at new j ≡ track_at mid j = ap (λ (x : State). track_at x j) made ∙ ap (λ xs. track_in xs j) (tracks_left mid q reply there) in
+    elim what as (λ _. Stays old new j) [
+      | inl same ↦ same_stays old new j (left ∙ same) (ap (λ c. c.at) clocks) is
+      | inr later ↦
+          let none : is_own_first new j ≡ false =
+          ap (λ (x : Track). is_own_try x.attempt && nat_lt (second new) (believed x.end)) left ∙ ap (λ b. b && nat_lt (second new) (believed (track_at mid j).end)) later.1 in
+          record {
+            pressed' = ap is_pressed left ∙ later.0;
+            end = λ own. absurd (not_both own none);
+            own = λ own. absurd (not_both own none);
+            out = λ own. absurd (not_both own none);
+          }
+    ]
+
+looked_stays :
+    (old new : State) (k j : ℕ) (found : Option Out) (reply : Reply) (terms : Terms) (output : Output) → request_out old.out k Look ≡ found → StepLooked old found reply terms output new → (k ≡ j → reply ≡ Lost) →
+    old.presence.away ≡ false → is_pressed (track_at old j) ≡ true → Stays old new j
+looked_stays old new k j None reply terms output is_found step lost there is = absurd step
+looked_stays old new k j (Some q) reply terms output is_found step lost there is =
+    let s = noted old q reply in
+    let mid = looked s q reply terms in
+    let entry = out_entry old.out k Look q is_found in
+    answer_stays old mid new q reply j step.1 (ap (λ p. p.away) (looked_presence s q reply terms) ∙ there) (ap (λ (x : State). x.clocks) (ap rest_of step.1 ∙ looked_leaves old q reply terms)) is
+    (elim (cases_Bool (q.entry == j)) as (λ _. (track_at mid j ≡ track_at old j) ⊎ IsLater (track_at mid j).attempt) [
+      | inl same ↦
+          let e = eqb-true q.entry j same in
+          let is' = lost (sym entry ∙ e) in
+          inr (subst (λ m. IsLater (track_at mid m).attempt) e (subst (λ r. IsLater (track_at (looked (noted old q r) q r terms) q.entry).attempt) (sym is') (looked_later (noted old q Lost) q terms (ap (λ m. is_pressed (track_at old m)) e ∙ is))))
+      | inr other ↦ inl (looked_other s q reply terms j (λ e. not_both (same_index q.entry j e) other))
+    ]) where
+      same_index : (a b : ℕ) → a ≡ b → (a == b) ≡ true
+      same_index a b e = grind (arith, nat_tests)
+
+renewed_stays :
+    (old new : State) (k j : ℕ) (found : Option Out) (reply : Reply) (output : Output) → request_out old.out k Renew ≡ found → StepRenewed old found reply output new → (k ≡ j → reply ≡ Lost) →
+    old.presence.away ≡ false → is_pressed (track_at old j) ≡ true → Stays old new j
+renewed_stays old new k j None reply output is_found step lost there is = absurd step
+renewed_stays old new k j (Some q) reply output is_found step lost there is =
+    let s = noted old q reply in
+    let mid = renewed s q reply in
+    let entry = out_entry old.out k Renew q is_found in
+    answer_stays old mid new q reply j step.1 there (ap (λ (x : State). x.clocks) (ap rest_of step.1 ∙ renewed_leaves old q reply)) is
+    (elim (cases_Bool (q.entry == j)) as (λ _. (track_at mid j ≡ track_at old j) ⊎ IsLater (track_at mid j).attempt) [
+      | inl same ↦
+          let e = eqb-true q.entry j same in
+          let is' = lost (sym entry ∙ e) in
+          inr (subst (λ m. IsLater (track_at mid m).attempt) e (subst (λ r. IsLater (track_at (renewed (noted old q r) q r) q.entry).attempt) (sym is') (renewed_later (noted old q Lost) q (ap (λ m. is_pressed (track_at old m)) e ∙ is))))
+      | inr other ↦ inl (get_or-set_other s.tracks q.entry j _ no_track (λ e. not_both (same_index q.entry j (sym e)) other))
+    ]) where
+      same_index : (a b : ℕ) → a ≡ b → (a == b) ≡ true
+      same_index a b e = grind (arith, nat_tests)
+
+step_stays :
+    (old new : State) (event : Event) (output : Output) (j : ℕ) → Step old event output new → IsUnanswered j event → IsPast old → old.presence.away ≡ false → is_pressed (track_at old j) ≡ true → is_wanted new j ≡ true →
+    Stays old new j
+step_stays old new (Clock wall elapsed) output j step quiet past there is wanted = clock_stays old new wall elapsed output j step past is wanted
+step_stays old new (Looked k reply terms) output j step quiet past there is wanted = looked_stays old new k j (request_out old.out k Look) reply terms output refl step quiet there is
+step_stays old new (Renewed k reply) output j step quiet past there is wanted = renewed_stays old new k j (request_out old.out k Renew) reply output refl step quiet there is
+step_stays old new (Need k until) output j step quiet past there is wanted = subst (λ (x : State). Stays old x j) (sym step.1) (same_stays old (needed old k until) j refl refl is)
+step_stays old new Begin output j step quiet past there is wanted = subst (λ (x : State). Stays old x j) (sym step.1) (same_stays old (record old { asked = true }) j refl refl is)
+step_stays old new (Known k told renewable) output j step quiet past there is wanted =
+    subst (λ (x : State). Stays old x j) (sym step.1) (same_stays old (known old k told renewable) j (get_or-set_other old.tracks k j _ no_track (λ e. quiet (sym e))) refl is)
+
+turn_stays :
+    (old new : State) (event : Event) (result : Result Output WatchFault) (j : ℕ) → Turn old event result new → (is_taken result ≡ true → IsUnanswered j event) → IsPast old → old.presence.away ≡ false →
+    is_pressed (track_at old j) ≡ true → is_wanted new j ≡ true → Stays old new j
+turn_stays old new event (Ok output) j turn quiet past there is wanted = step_stays old new event output j turn.1 (quiet refl) past there is wanted
+turn_stays old new event (Err fault) j turn quiet past there is wanted =
+    subst (λ (x : State). Stays old x j) (sym (refused_stays old new event fault turn)) (same_stays old old j refl refl is)
+
+-- so it does not come to stand before another
+no_coming : (i j : ℕ) (old new : State) → Stays old new j → (track_at new i).end ≡ (track_at old i).end → comes_before i old new j ≡ false
+no_coming i j old new stays same =
+    elim (cases_Bool (comes_before i old new j)) as (λ _. comes_before i old new j ≡ false) [
+      | inl comes ↦
+          let earlier : End → End → Bool = λ x y. nat_lt (believed x) (believed y) || (believed x == believed y && nat_lt j i) in
+          let stood = stands_before i old j in
+          let both = and_parts (stands_before i new j) (not stood || ((track_at old j).out && not (track_at new j).out)) comes in
+          let parts = and_parts (is_own_first new j) (earlier (track_at new j).end (track_at new i).end) both.0 in
+          let own = parts.0 in
+          let before : earlier (track_at old j).end (track_at old i).end ≡ true =
+          sym (ap (λ e. earlier e (track_at new i).end) (stays.end own) ∙ ap (λ e. earlier (track_at old j).end e) same) ∙ parts.1 in
+          let stood' : stood ≡ true = and_from (is_own_first old j) (earlier (track_at old j).end (track_at old i).end) (stays.own own) before in
+          let answered = sym (ap (λ b. not b || ((track_at old j).out && not (track_at new j).out)) stood') ∙ both.1 in
+          let outs = and_parts (track_at old j).out (not (track_at new j).out) answered in
+          absurd (not_both outs.1 (ap not (stays.out own outs.0)))
+      | inr none ↦ none
+    ]
+
+own_pressed : (o : Option Try) → is_own_try o ≡ true → is_pressed_try o ≡ true
+own_pressed None h = absurd cc
+own_pressed (Some t) h = (and_parts t.pressed (t.fails == 0) (and_parts (is_first t) (not t.along) h).0).0
+
+stands_pressed : (i j : ℕ) (s : State) → stands_before i s j ≡ true → is_pressed (track_at s j) ≡ true
+stands_pressed i j s h =
+    own_pressed (track_at s j).attempt (and_parts (is_own_try (track_at s j).attempt) (is_alive (second s) (track_at s j)) (and_parts (is_own_first s j) _ h).0).0
+
+counts_once :
+    (width n i j : ℕ) (turns : List Turned) (s : State) → History s turns → AreHung i j s turns → IsBase width n s → s.presence.away ≡ false →
+    (is_pressed (track_at s j) ≡ true → often_before i j s turns ≡ 0) × (often_before i j s turns ≤ 1)
+counts_once width n i j [] s history hung base there = ((λ is. refl), omega arith)
+counts_once width n i j (turn ∷ turns) s history hung base there =
+    let new = turn.state in
+    let here = hung.0 in
+    let rest = counts_once width n i j turns new history.1 hung.1 (turn_base width n s new turn.event turn.result history.0 base) here.there in
+    let later = rest.0 in
+    let few = rest.1 in (
+      (λ is.
+          let stays = turn_stays s new turn.event turn.result j history.0 here.unanswered base.past there is here.wanted in
+          let none = ap one_if (no_coming i j s new stays here.same) in
+          let after = later stays.pressed' in
+          omega (arith, none, after)),
+      elim (cases_Bool (comes_before i s new j)) as (λ _. one_if (comes_before i s new j) + often_before i j new turns ≤ 1) [
+        | inl comes ↦
+            let one = ap one_if comes in
+            let after = later (stands_pressed i j new (and_parts (stands_before i new j) _ comes).0) in
+            omega (arith, one, after)
+        | inr none ↦ (let no' = ap one_if none in omega (arith, no', few))
+      ],
+    )
+
+pub waits_once :
+    (width n i j : ℕ) (turns : List Turned) (s : State) → History s turns → AreHung i j s turns → IsBase width n s → s.presence.away ≡ false → one_if (waits_before i s j) + often_before i j s turns ≤ 1
+waits_once width n i j turns s history hung base there =
+    let count = counts_once width n i j turns s history hung base there in
+    let pressed' = count.0 in
+    let few = count.1 in
+    elim (cases_Bool (waits_before i s j)) as (λ _. one_if (waits_before i s j) + often_before i j s turns ≤ 1) [
+      | inl waits ↦
+          let one = ap one_if waits in
+          let none = pressed' (stands_pressed i j s (and_parts (stands_before i s j) (not (track_at s j).out) waits).0) in
+          omega (arith, one, none)
+      | inr no' ↦ (let none = ap one_if no' in omega (arith, none, few))
+    ]
+
+pub stands_once : OnceLaw
+stands_once g width before turns i j run there hung =
+    let n = length g.entries in
+    let s = after_all (opened g width) before in
+    waits_once width n i j turns s (last_turns before turns (opened g width) run) hung (ran_base width n before (opened g width) (first_turns before turns (opened g width) run) (opened_base g width)) there

@@ -1,0 +1,210 @@
+-- Partial: how long an entry waits while requests of others have no answer. Each law is the contract of a public function without a body.
+-- Source: this project's own.
+use Rattle.std.specs.Prelude.{◌≡◌, ◌≢◌, ◌==◌, ℕ, zero, suc, ◌+◌, ◌*◌, ◌≤◌, ◌<◌, Bool, true, false, not, ◌&&◌, ◌||◌, if◌then◌else◌, List, [], ◌∷◌, ◌++◌, Option, Some, None, Result, Ok, Err, length, map, max, min, nat_lt}
+use Rattle.std.specs.List.{All}
+use Rattle.keep_tree.specs.Forest.{Forest}
+use Rattle.watch_machine.specs.declared.command.Command.{Command}
+use Rattle.watch_machine.specs.declared.command.Command.TheVariants.{Go, Taken}
+use Rattle.watch_machine.specs.declared.command.Output.{Output}
+use Rattle.watch_machine.specs.declared.command.Patience.{Patience}
+use Rattle.watch_machine.specs.declared.command.Patience.TheVariants.{Full, AtMost}
+use Rattle.watch_machine.specs.declared.command.Request.{Request}
+use Rattle.watch_machine.specs.declared.event.Event.{Event}
+use Rattle.watch_machine.specs.declared.event.Event.TheVariants.{Clock, Looked, Renewed, Need, Begin, Known}
+use Rattle.watch_machine.specs.declared.event.Reply.TheVariants.{Lost}
+use Rattle.watch_machine.specs.declared.fault.WatchFault.{WatchFault}
+use Rattle.watch_machine.specs.declared.lanes.Out.{Out}
+use Rattle.watch_machine.specs.declared.track.Try.{Try}
+use Rattle.watch_machine.specs.History.{IsRun, Turned}
+use Rattle.watch_machine.specs.Lines.{is_first}
+use Rattle.watch_machine.specs.Sending.{is_partial}
+use Rattle.watch_machine.specs.Settling.{timed}
+use Rattle.watch_machine.specs.State.{State, attempt_at, opened, second, track_at}
+use Rattle.watch_machine.specs.Wanted.{believed, is_alive, is_wanted, least}
+use Rattle.watch_laws.specs.Absence.{is_clock, is_taken}
+use Rattle.watch_laws.specs.Outage.{how_many, one_if}
+use Rattle.watch_laws.specs.Recovery.{MayGo}
+use Rattle.watch_laws.specs.Turns.{after_all}
+
+-- a partial outage, in milliseconds of the watch's clock: which entries are hung, so that each of their requests is silent until its
+-- patience is over; how long the request of an entry takes that goes out at a moment; within what those of the others are answered; the
+-- driver's time-out; the longest patience while somebody is alone; and how late a clock is handed in at most
+pub record Partial : Type 0 where
+  pub hung : ℕ → Bool
+  pub takes : ℕ → ℕ → ℕ
+  pub quick : ℕ
+  pub slow : ℕ
+  pub patience : ℕ
+  pub late : ℕ
+
+-- by when a request that is out is settled
+abbrev pub settled_by : Partial → Out → ℕ
+settled_by o q = q.since + o.takes q.entry q.since
+
+-- how long a request may be silent
+abbrev pub may_take : ℕ → Patience → ℕ
+may_take slow Full = slow
+may_take slow (AtMost n) = min slow n
+
+-- how long it takes at most: that of a hung entry until its patience is over
+abbrev pub longest : Partial → Request → ℕ
+longest o r = if o.hung r.entry then may_take o.slow r.patience else o.quick
+
+-- the broker: each request that goes out is settled in that time
+abbrev pub AreSettled : Partial → Command → State → Type 0
+AreSettled o (Go requests until) s = All (λ r. o.takes r.entry s.clocks.at ≤ longest o r) requests
+AreSettled o Taken s = Unit {0}
+
+-- the shell: by when the next clock is handed in. It is no later than the moment until which was to be waited, nor than any answer, but
+-- for so much
+abbrev pub next_by : Partial → ℕ → List Out → ℕ
+next_by o until out = least (until + o.late) (map (λ (q : Out). settled_by o q + o.late) out)
+
+abbrev pub next_after_command : Partial → Command → State → ℕ → ℕ
+next_after_command o (Go requests until) s due = next_by o until s.out
+next_after_command o Taken s due = due
+
+abbrev pub next_after : Partial → Result Output WatchFault → State → ℕ → ℕ
+next_after o (Ok output) s due = next_after_command o output.command s due
+next_after o (Err fault) s due = due
+
+-- a first try that no round asked along
+abbrev pub is_own_try : Option Try → Bool
+is_own_try None = false
+is_own_try (Some t) = is_first t && not t.along
+
+-- j has one, and its end is ahead
+abbrev pub is_own_first : State → ℕ → Bool
+is_own_first s j = is_own_try (attempt_at s j) && is_alive (second s) (track_at s j)
+
+-- i is held up after a clock: it has such a try, which may go out and does not. The broker is there, and somebody is alone
+pub record IsHeldUp (o : Partial) (s : State) (i : ℕ) : Type 0 where
+  pub may : MayGo s i
+  pub own : is_own_first s i ≡ true
+  pub there : s.presence.away ≡ false
+  pub partial : is_partial (second s) s.tracks ≡ true
+  pub patience : max 1000 (2 * s.presence.pace) ≤ o.patience
+
+-- a clock comes in time
+abbrev pub IsInTime : ℕ → State → Event → Type 0
+IsInTime due old (Clock wall elapsed) = (timed old wall elapsed).clocks.at ≤ due
+IsInTime due old event = Unit {0}
+
+-- a clock after which i is still held up
+abbrev pub IsHolding : Partial → ℕ → ℕ → State → Event → Output → State → Type 0
+IsHolding o i due old (Clock wall elapsed) output new = ((timed old wall elapsed).clocks.at ≤ due) × (AreSettled o output.command new × IsHeldUp o new i)
+IsHolding o i due old event output new = Unit {0}
+
+abbrev pub IsHeld : Partial → ℕ → ℕ → State → Event → Result Output WatchFault → State → Type 0
+IsHeld o i due old event (Ok output) new = IsHolding o i due old event output new
+IsHeld o i due old event (Err fault) new = Unit {0}
+
+-- turns that hold i up
+abbrev pub AreHolding : Partial → ℕ → ℕ → State → List Turned → Type 0
+AreHolding o i due s [] = Unit {0}
+AreHolding o i due s (turn ∷ turns) = IsHeld o i due s turn.event turn.result turn.state × AreHolding o i (next_after o turn.result turn.state due) turn.state turns
+
+-- by when the clock after them is handed in
+abbrev pub due_after : Partial → ℕ → List Turned → ℕ
+due_after o due [] = due
+due_after o due (turn ∷ turns) = due_after o (next_after o turn.result turn.state due) turns
+
+-- j stands before i: its first try is its own, and its end is ahead and earlier, or the same where its index is lower
+abbrev pub stands_before : ℕ → State → ℕ → Bool
+stands_before i s j =
+    let end = believed (track_at s j).end in
+    let mine = believed (track_at s i).end in
+    is_own_first s j && (nat_lt end mine || (end == mine && nat_lt j i))
+
+-- and is not out
+abbrev pub waits_before : ℕ → State → ℕ → Bool
+waits_before i s j = stands_before i s j && not (track_at s j).out
+
+-- j comes to stand before i between two states: it did not before, or a request of it was answered
+abbrev pub comes_before : ℕ → State → State → ℕ → Bool
+comes_before i old new j = stands_before i new j && (not (stands_before i old j) || ((track_at old j).out && not (track_at new j).out))
+
+-- what those of the first n add up to that pass a test
+abbrev pub total : ℕ → (ℕ → ℕ) → (ℕ → Bool) → ℕ
+total zero f p = 0
+total (suc n) f p = (if p n then f n else 0) + total n f p
+
+-- how long a request of j keeps a lane
+abbrev pub keeps_lane : Partial → ℕ → ℕ
+keeps_lane o j = (if o.hung j then o.patience else o.quick) + o.late
+
+-- how long those keep lanes that wait before i, and those that come to
+abbrev pub waiting_before : Partial → ℕ → ℕ → State → ℕ
+waiting_before o n i s = total n (keeps_lane o) (waits_before i s)
+
+abbrev pub coming_before : Partial → ℕ → ℕ → State → List Turned → ℕ
+coming_before o n i old [] = 0
+coming_before o n i old (turn ∷ turns) = total n (keeps_lane o) (comes_before i old turn.state) + coming_before o n i turn.state turns
+
+-- while somebody is alone and the broker is there, an entry that comes to its first try goes out no later than the lanes have served what
+-- was out by then, for the time-out at most, and whoever stands before it: each that is hung for the patience, each other for its answer
+abbrev pub PartialLaw : Type 0
+PartialLaw =
+    (o : Partial) (g : Forest) (width : ℕ) (before : List Turned) (first : Turned) (turns : List Turned) (next : Turned) (i : ℕ) →
+    IsRun g width (before ++ first ∷ (turns ++ next ∷ [])) → is_clock first.event ≡ true → is_taken first.result ≡ true → MayGo first.state i →
+    All (λ q. settled_by o q ≤ first.state.clocks.at + o.slow) first.state.out → AreHolding o i (next_after o first.result first.state 0) first.state turns →
+    is_clock next.event ≡ true → is_taken next.result ≡ true → IsInTime (due_after o (next_after o first.result first.state 0) turns) (after_all first.state turns) next.event →
+    width * next.state.clocks.at
+    ≤ width * (first.state.clocks.at + o.slow + o.late) + (waiting_before o (length g.entries) i first.state + coming_before o (length g.entries) i first.state turns)
+
+-- nothing is answered of j: each request of it is lost, and nothing else tells its end
+abbrev pub IsUnanswered : ℕ → Event → Type 0
+IsUnanswered j (Clock wall elapsed) = Unit {0}
+IsUnanswered j (Looked k reply terms) = k ≡ j → reply ≡ Lost
+IsUnanswered j (Renewed k reply) = k ≡ j → reply ≡ Lost
+IsUnanswered j (Need k until) = Unit {0}
+IsUnanswered j Begin = Unit {0}
+IsUnanswered j (Known k end renewable) = k ≢ j
+
+-- a turn at which j is hung: it is wanted after it, the broker is there, and the end of i stays as it is
+pub record IsHung (i j : ℕ) (old : State) (turn : Turned) : Type 0 where
+  pub unanswered : is_taken turn.result ≡ true → IsUnanswered j turn.event
+  pub wanted : is_wanted turn.state j ≡ true
+  pub there : turn.state.presence.away ≡ false
+  pub same : (track_at turn.state i).end ≡ (track_at old i).end
+
+abbrev pub AreHung : ℕ → ℕ → State → List Turned → Type 0
+AreHung i j old [] = Unit {0}
+AreHung i j old (turn ∷ turns) = IsHung i j old turn × AreHung i j turn.state turns
+
+-- how often j comes to stand before i
+abbrev pub often_before : ℕ → ℕ → State → List Turned → ℕ
+often_before i j old [] = 0
+often_before i j old (turn ∷ turns) = one_if (comes_before i old turn.state j) + often_before i j turn.state turns
+
+-- an entry that is never answered stands before another one once: at its first try. After that it stands behind it
+abbrev pub OnceLaw : Type 0
+OnceLaw =
+    (g : Forest) (width : ℕ) (before turns : List Turned) (i j : ℕ) → IsRun g width (before ++ turns) → (after_all (opened g width) before).presence.away ≡ false →
+    AreHung i j (after_all (opened g width) before) turns →
+    one_if (waits_before i (after_all (opened g width) before) j) + often_before i j (after_all (opened g width) before) turns ≤ 1
+
+-- every hung entry is so at each of some turns
+abbrev pub AllHung : Partial → ℕ → ℕ → State → List Turned → Type 0
+AllHung o n i s turns = (j : ℕ) → j < n → o.hung j ≡ true → AreHung i j s turns
+
+-- how many that are answered wait before i, and how often one comes to
+abbrev pub answered_before : Partial → ℕ → ℕ → State → ℕ
+answered_before o n i s = how_many n (λ j. not (o.hung j) && waits_before i s j)
+
+abbrev pub answered_coming : Partial → ℕ → ℕ → State → List Turned → ℕ
+answered_coming o n i old [] = 0
+answered_coming o n i old (turn ∷ turns) = how_many n (λ j. not (o.hung j) && comes_before i old turn.state j) + answered_coming o n i turn.state turns
+
+-- so, however long some entries are hung: an entry that comes to its first try is out as soon as the lanes have served what was out by
+-- then, each hung entry once for its patience, and the others that stand before it
+abbrev pub HungLaw : Type 0
+HungLaw =
+    (o : Partial) (g : Forest) (width : ℕ) (before : List Turned) (first : Turned) (turns : List Turned) (next : Turned) (i : ℕ) →
+    IsRun g width (before ++ first ∷ (turns ++ next ∷ [])) → is_clock first.event ≡ true → is_taken first.result ≡ true → IsHeldUp o first.state i →
+    All (λ q. settled_by o q ≤ first.state.clocks.at + o.slow) first.state.out → AreHolding o i (next_after o first.result first.state 0) first.state turns →
+    AllHung o (length g.entries) i first.state turns →
+    is_clock next.event ≡ true → is_taken next.result ≡ true → IsInTime (due_after o (next_after o first.result first.state 0) turns) (after_all first.state turns) next.event →
+    width * next.state.clocks.at
+    ≤ width * (first.state.clocks.at + o.slow + o.late) + (o.patience + o.late) * how_many (length g.entries) o.hung
+    + (o.quick + o.late) * (answered_before o (length g.entries) i first.state + answered_coming o (length g.entries) i first.state turns)

@@ -1,0 +1,21 @@
+ghost use Rattle.watch_laws.specs.Partial.{HungLaw, OnceLaw, PartialLaw};
+
+/// The law of partial outages: while the broker is there and a request of somebody had no answer while others were answered, an entry
+/// whose own time has come goes out no later than the lanes have served what was out by then, for the time-out at most, and those that
+/// stand before it or come to: each that never answers for the patience of its request, each other until its answer.
+pub fn partial_law()
+    ensures { PartialLaw }
+{}
+
+/// The law of one stand: while the broker is there, an entry that is wanted and never answered stands before another one once, at its
+/// first try. After that it is tried again only where nobody's first try may go out.
+pub fn once_law()
+    ensures { OnceLaw }
+{}
+
+/// The law of hung entries: however long the requests of some entries have no answer, while the broker is there an entry whose own
+/// time has come goes out as soon as the lanes have served what was out by then, for the time-out at most, each hung entry once, for
+/// its patience, and each other one that stands before it or comes to, for its answer.
+pub fn hung_law()
+    ensures { HungLaw }
+{}
