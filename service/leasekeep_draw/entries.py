@@ -6,7 +6,7 @@ import tomllib
 from dataclasses import dataclass
 from typing import Any
 
-from leasekeep_inventory.dialect import STRICT, Dialect
+from leasekeep_inventory.dialect import SERVED
 from leasekeep_inventory.inventory import ALWAYS, Kind
 from leasekeep_inventory.inventory import Entry as Written
 from leasekeep_inventory.inventory import Inventory as WrittenInventory
@@ -14,8 +14,6 @@ from leasekeep_inventory.inventory_file import read_inventory
 from leasekeep_inventory.toml_1_0 import older
 
 __all__ = ["Entry", "Inventory", "InventoryFault", "Kind", "read"]
-_DRAWN = Dialect(STRICT.absent_margin, False)
-"""As people have it; and a margin that is not written is that of the planning commands, whose lines are drawn."""
 
 
 class InventoryFault(Exception):
@@ -48,7 +46,7 @@ class Inventory:
 
 def read(text: str, path: str = "FILE") -> Inventory:
     """The entries of an inventory's text, which stands in that file. Raises InventoryFault."""
-    reading = read_inventory(text.encode(), _DRAWN)
+    reading = read_inventory(text.encode(), SERVED)
     if reading.inventory is None:
         first = min(reading.faults, key=lambda fault: fault.line)
         raise InventoryFault(f"{first.text(path)} (`leasekeepd lint {path}` shows every fault)")

@@ -7,12 +7,10 @@ from dataclasses import dataclass
 
 @dataclass(frozen=True)
 class Dialect:
-    """The margin where none is written, and whether `issued` and `end` have to be written: else both may be left out, and a
-    lookup tells them."""
+    """Whether `issued` and `end` have to be written: else both may be left out, and a lookup tells them."""
 
-    absent_margin: int
     has_terms: bool
 
 
-STRICT = Dialect(1, True)
-SERVED = Dialect(60, False)
+STRICT = Dialect(True)
+SERVED = Dialect(False)

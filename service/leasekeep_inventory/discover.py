@@ -18,7 +18,7 @@ from .filling import Moment, Page, Value
 from .findings import Finding, Severity
 from .inventory import Entry, Inventory, Kind
 from .inventory_file import Reading, judge, read_inventory
-from .refusals import open_to_others, without_credential
+from .refusals import NO_MARGIN, lacks_margin, open_to_others, without_credential
 from .secret_files import SecretFault, read_secret
 from .toml_text import decoded
 from .tree import shown
@@ -76,6 +76,8 @@ async def discover(broker: Broker, wall: Callable[[], float], listed: Listed) ->
     """The list with what each lookup tells; DiscoverFault where one fails, or where what is told makes a faulty inventory. `wall`
     reads the wall clock."""
     faults, doubts = list[Finding](), list[Finding]()
+    if lacks_margin(listed.reading):
+        doubts.append(Finding(Severity.DOUBT, 0, "", "margin", *NO_MARGIN))
     told = dict[str, dict[str, Value]]()
     for entry in listed.inventory.entries:
         key = "secret" if entry.kind is Kind.TOKEN else "lease_id"

@@ -26,6 +26,8 @@ KEYS = {
 TOP = ("system_max", "margin", "token", "lease")
 ABSENT_INCREMENT = 3600
 """What is asked for where neither an increment nor a period is written."""
+ABSENT_MARGIN = 1
+"""The margin of the commands that plan, where none is written. Nothing is served without one."""
 
 
 @dataclass
@@ -33,7 +35,8 @@ class Reading:
     """An inventory as far as it could be read, and every fault on the way.
 
     `inventory` is there where nothing is at fault; `rows` are its tables as far as each could be read, `sound` the
-    entries that are good by themselves and under good ones, `margin` is None where it could not be read.
+    entries that are good by themselves and under good ones, `margin` is None where it could not be read; `has_margin` is whether
+    one is written.
     """
 
     dialect: Dialect = STRICT
@@ -132,7 +135,7 @@ def read_inventory(data: bytes, dialect: Dialect = STRICT) -> Reading:
     system_max = table.take("system_max", SYSTEM_MAX_TEXT)
     margin = table.take("margin", MARGIN_TEXT)
     is_written = "margin" in top or "margin" in table.slips
-    reading.margin = margin if is_written else dialect.absent_margin
+    reading.margin = margin if is_written else ABSENT_MARGIN
     reading.has_margin = is_written
     reading.rows = list(_rows(table))
     whole = Inventory((), reading.margin or 1, system_max or SYSTEM_MAX)

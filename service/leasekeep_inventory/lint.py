@@ -5,7 +5,7 @@ from __future__ import annotations
 import math
 from pathlib import Path
 
-from .dialect import SERVED, STRICT, Dialect
+from .dialect import SERVED, Dialect
 from .findings import Finding, Severity
 from .inventory import ALWAYS, Entry, Inventory, Kind
 from .inventory_file import Reading, read_inventory
@@ -72,11 +72,8 @@ def _doubt_the_whole(inventory: Inventory, doubts: _Doubts, now: float) -> bool:
 
 def _doubt_margin(reading: Reading, doubts: _Doubts, timeout: int, now: float) -> None:
     margin, room = reading.margin, room_of(reading)
-    if margin is None or not reading.rows:
+    if margin is None or not reading.has_margin or not reading.rows:
         return
-    if not reading.has_margin:
-        doubts.doubt("", "margin", f"is not written: leasekeepd takes {SERVED.absent_margin} s, and leasekeep {STRICT.absent_margin} s",
-                     "write one, so that both plan for the same")
     if room.most < margin and (room.step is None or margin < room.step):  # (Else it is a fault.)
         doubts.doubt("", "margin", f"is over three quarters of the shortest step ({room.step} s of {room.whose})",
                      f"{room.most} s is used for it instead: {room.for_timeout(timeout, margin)}")

@@ -9,6 +9,8 @@ from .inventory import Kind, inventory_text
 from .inventory_file import LIMIT, Reading
 from .room import TIMEOUTS_IN_MARGIN, Room
 
+NO_MARGIN = "is not written", f"write one of at least {TIMEOUTS_IN_MARGIN} times the time-out"
+
 
 def refusals(reading: Reading, timeout: int, names_are_secrets: bool, mode: int) -> list[Finding]:
     """Why an inventory may not be served, besides what its reading found."""
@@ -16,10 +18,17 @@ def refusals(reading: Reading, timeout: int, names_are_secrets: bool, mode: int)
     if reading.inventory is not None and len(inventory_text(reading.inventory)) > LIMIT:
         found.append(_fault(0, "", "", f"this file is over {LIMIT} bytes as `leasekeep` is handed it", "split the inventory"))
     margin = reading.margin
-    if margin is not None and margin < TIMEOUTS_IN_MARGIN * timeout:
+    if lacks_margin(reading):
+        found.append(_fault(0, "", "margin", *NO_MARGIN))
+    elif margin is not None and margin < TIMEOUTS_IN_MARGIN * timeout:
         found.append(_fault(reading.line_of("", "margin"), "", "margin", f"is {margin} s, under four times the time-out of {timeout} s",
                             room_of(reading).for_timeout(timeout, margin)))
     return found if names_are_secrets else found + without_credential(reading, " (--names-are-secrets allows this, for trials)")
+
+
+def lacks_margin(reading: Reading) -> bool:
+    """Whether the text could be read, and writes no margin, so that nobody has said which outages to survive."""
+    return reading.margin is not None and not reading.has_margin
 
 
 def open_to_others(mode: int) -> list[Finding]:

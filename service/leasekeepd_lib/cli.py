@@ -141,8 +141,7 @@ def _parser() -> argparse.ArgumentParser:
     linted.add_argument("file", type=Path, metavar="FILE")
     linted.add_argument("--timeout", type=_timeout, default=5, metavar="SECONDS", help="the time-out of serve")
     linted.add_argument("--strict", action="store_true",
-                        help="judge FILE as the commands of `leasekeep` do, which take no need that is always, and no end that is"
-                        " left to a lookup")
+                        help="judge FILE as the commands of `leasekeep` that plan do, which take no end that is left to a lookup")
     linted.add_argument("--names-are-secrets", action="store_true",
                         help="accept entries without a secret or lease_id, as serve does with this option")
     found = commands.add_parser(
@@ -167,7 +166,8 @@ def _add_serve(commands: "argparse._SubParsersAction[argparse.ArgumentParser]", 
         description="Keeps the entries of FILE alive: runs `leasekeep watch`, tells it the time, sleeps as long as it says, and"
         " logs what it prints. SIGTERM ends it, SIGHUP makes it read FILE again.",
         epilog="It refuses a FILE that is faulty or that others may read, a token without secret, a lease without lease_id,"
-        " and a margin of less than four times the time-out: exit 1. `leasekeepd lint FILE` shows all of these beforehand.")
+        " and a margin that is not written or is less than four times the time-out: exit 1. `leasekeepd lint FILE` shows all of these"
+        " beforehand.")
     serving.add_argument("file", type=Path, metavar="FILE", help="the inventory")
     serving.add_argument("address", type=_address, metavar="PORT|SOCKET",
                        help="the broker: a port of 127.0.0.1, or the path of a UNIX socket")

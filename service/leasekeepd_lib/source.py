@@ -11,7 +11,7 @@ from pathlib import Path
 from leasekeep_inventory.dialect import SERVED
 from leasekeep_inventory.inventory import Inventory
 from leasekeep_inventory.inventory_file import LIMIT, read_inventory
-from leasekeep_inventory.refusals import refusals
+from leasekeep_inventory.refusals import lacks_margin, refusals
 from leasekeepd_journal.storage import Storage
 
 
@@ -70,12 +70,15 @@ class Source:
             self.storage.replace(self.copy, loaded.data)
 
     def load_copy(self) -> Loaded | None:
-        """The last good file: of this process, else of the one that kept it; None where there is none."""
+        """The last good file: of this process, else of the one that kept it; None where there is none, or none that
+        may be served."""
         if self.last is not None:
             return self.last
         try:
             data = self.storage.read(self.copy)
         except OSError:
             return None
-        inventory = None if data is None else read_inventory(data, SERVED).inventory
-        return None if data is None or inventory is None else Loaded(data, inventory)
+        reading = read_inventory(data or b"", SERVED)
+        if data is None or reading.inventory is None or lacks_margin(reading):
+            return None
+        return Loaded(data, reading.inventory)

@@ -644,6 +644,20 @@ class Files(InRoom):
                 room.service()
         self.in_room(work)
 
+    def test_a_margin_has_to_be_written(self) -> None:
+        """Of the file, and of a copy that an older leasekeepd has kept; a reload without one changes nothing."""
+        async def work(room: Room) -> None:
+            service = room.service()
+            bare = inventory_text(INVENTORY).replace(f"margin = {INVENTORY.margin}\n", "")
+            room.file.write_text(bare)
+            refused = f"{room.file}: fault: margin: is not written; write one of at least 4 times the time-out"
+            await service.reload()
+            self.assertIn(f"alert: file {refused}\n", room.output.getvalue())
+            self.assertEqual(service.inventory.margin, INVENTORY.margin)
+            (room.folder / "copy.toml").write_text(bare)
+            self.assertEqual(await self.reading(room), refused)
+        self.in_room(work)
+
     def test_refusals(self) -> None:
         async def work(room: Room) -> None:
             no_secret = Inventory((replace(INVENTORY.entries[0], credential=None),), 30)

@@ -263,7 +263,8 @@ class Command(Discovered):
         ran = subprocess.run([str(LEASEKEEPD), "inventory", str(file), server.word], capture_output=True, timeout=60 * SLOWER,
                              env={**os.environ, "PYTHONIOENCODING": "latin-1"})
         self.assertEqual((ran.returncode, ran.stderr.decode()), (
-            0, f"{file}:2: doubt: app renewable: the broker says that it cannot be renewed; issue it afresh before its end\n"))
+            0, f"{file}: doubt: margin: is not written; write one of at least 4 times the time-out\n"
+            f"{file}:2: doubt: app renewable: the broker says that it cannot be renewed; issue it afresh before its end\n"))
         lines = ran.stdout.decode("utf-8").split("\r\n")
         self.assertEqual(lines[:4], ["# für immer", "[[token]]", 'name = "app" # €', 'max_ttl = "1d"'])
         self.assertEqual([line.partition(" = ")[0] for line in lines[4:]], ["secret", "issued", "end", "renewable", "increment"])

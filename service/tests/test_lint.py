@@ -118,19 +118,20 @@ def table(kind: str, name: str, *more: str) -> str:
 
 
 class WrittenMargin(unittest.TestCase):
-    def test_one_that_is_not_written_is_doubted(self) -> None:
-        """It means 60 to leasekeepd and 1 to leasekeep."""
-        def doubts(text: str, dialect: Dialect = SERVED) -> list[str]:
-            found = lint(text.encode(), 0o600, 5, 1000.0, True, dialect)
-            return [finding.text("f") for finding in found if finding.key == "margin"]
+    def test_one_that_is_not_written_is_a_fault(self) -> None:
+        """Whatever the commands that plan take then: nobody has said which outages to survive."""
+        def found(text: str, dialect: Dialect = SERVED) -> list[str]:
+            findings = lint(text.encode(), 0o600, 5, 1000.0, True, dialect)
+            return [finding.text("f") for finding in findings if finding.key == "margin"]
         entry = '[[token]]\nname = "web"\nissued = 900\nend = 2000\nincrement = 600\nneed = 9000\n'
-        said = "f: doubt: margin: is not written: leasekeepd takes 60 s, and leasekeep 1 s; write one, so that both plan for the same"
-        self.assertEqual(doubts(entry), [said])
-        self.assertIn(said, doubts(entry, STRICT))
-        for margin in ("60", "90"):
-            self.assertEqual(doubts(f"margin = {margin}\n{entry}"), [])
-        self.assertEqual(doubts(f"Margin = 60\n{entry}"), [])  # (A slip, which is a fault.)
-        self.assertEqual(doubts(""), [])
+        said = "f: fault: margin: is not written; write one of at least 4 times the time-out"
+        for text in (entry, entry.replace("600", "1"), entry.replace("600", "-1"), ""):
+            self.assertEqual(found(text), [said])
+            self.assertEqual(found(text, STRICT), [said])
+        for margin in ("20", "60", "90"):
+            self.assertEqual(found(f"margin = {margin}\n{entry}"), [])
+        self.assertEqual(found(f"Margin = 60\n{entry}"), [])  # (A slip, which is a fault of its own.)
+        self.assertEqual(found("= 60\n"), [])  # (No TOML, so nobody knows.)
 
 
 class Slips(unittest.TestCase):
@@ -304,11 +305,11 @@ class Slips(unittest.TestCase):
                       "\n".join(linted("margin = 150\n" + entries.replace("increment = 900", "increment = 200"))))
 
     def test_many_slips_take_no_long_time(self) -> None:
-        begun = time.monotonic()
+        begun = time.process_time()
         linted("".join(f"key{number} = 1\n" for number in range(60000)))
         linted("".join(table("token", f"t{number}", f'parent = "t{number + 1}"')[:-1] + "\n" for number in range(4000)))
         linted("".join(table("token", f"t{number}", f'parent = "nobody{number}"') for number in range(4000)))
-        self.assertLess(time.monotonic() - begun, 25 * SLOWER)
+        self.assertLess(time.process_time() - begun, 25)
 
 
 class ByteOrderMark(unittest.TestCase):

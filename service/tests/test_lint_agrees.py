@@ -13,6 +13,7 @@ from pathlib import Path
 from leasekeep_inventory.dialect import STRICT
 from leasekeep_inventory.findings import Finding, Severity
 from leasekeep_inventory.lint import lint
+from leasekeep_inventory.refusals import NO_MARGIN
 from trial.programs import SLOWER, find_program
 
 CASES = int(os.environ.get("CASES", "100"))
@@ -85,6 +86,11 @@ def named(key: str, found: list[Finding]) -> bool:
     return any(fault.key == key or f"did you mean {key}?" in fault.mend or f"write {key}," in fault.mend for fault in found)
 
 
+def of_serving(fault: Finding) -> bool:
+    """Whether only what is served has it: the commands that plan take a margin of 1 where none is written, and have no time-out."""
+    return fault.key == "margin" and (fault.problem == NO_MARGIN[0] or "under four times the time-out" in fault.problem)
+
+
 class Agreement(unittest.TestCase):
     def test_what_leasekeep_refuses(self) -> None:
         program = find_program("leasekeep")
@@ -101,8 +107,7 @@ class Agreement(unittest.TestCase):
                 text = rare[case] if case < len(rare) else an_inventory(chance)
                 file.write_text(text, "utf-8")
                 ran = subprocess.run([program, "ends", str(file), "0"], capture_output=True, text=True, timeout=120 * SLOWER)
-                found = [one for one in lint(text.encode(), 0o600, 1, NOW, True, STRICT)
-                         if one.severity is Severity.FAULT and "under four times the time-out" not in one.problem]
+                found = [one for one in lint(text.encode(), 0o600, 1, NOW, True, STRICT) if one.severity is Severity.FAULT and not of_serving(one)]
                 said = [one.text("f") for one in found]
                 self.assertEqual(ran.returncode == 1, bool(found), f"case {case}: {ran.stderr}{said}\n{text}")
                 words = ran.stderr.partition("\n")[0].split()

@@ -107,8 +107,10 @@ class Read(unittest.TestCase):
         self.assertEqual(inventory_of(text), inventory_of(SHORT))
 
     def test_a_margin_that_is_not_written(self) -> None:
-        self.assertEqual(inventory_of(SHORT.replace('margin = "1m"\n', "")).margin, 60)
-        self.assertEqual(read_inventory(b"").margin, 1)
+        """It is read as the commands that plan read it, and noted."""
+        reading = read_inventory(SHORT.replace('margin = "1m"\n', "").encode(), SERVED)
+        self.assertEqual((reading.margin, reading.has_margin), (1, False))
+        self.assertTrue(read_inventory(SHORT.encode(), SERVED).has_margin)
 
     def test_issue_and_end_are_both_written_or_neither(self) -> None:
         for written, missing in (("issued = 1000", "end"), ("end = 2000", "issued"), ('end = "x"', "issued")):
