@@ -15,7 +15,7 @@ from .model.world import simulate
 HOUR = 3600
 WHO = "uid 1000 pid 4711"
 TWELVE = fleet(12, 120, 60, 130, need=2 * HOUR)
-"""They come to their time 70 seconds after the beginning, and then once a minute."""
+"""Their time comes 70 seconds after the beginning, and then once a minute."""
 
 Scene = Callable[[FleetStage], Coroutine[Any, Any, None]]
 
