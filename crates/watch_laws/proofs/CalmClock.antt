@@ -1,10 +1,9 @@
 -- CalmClock: a clock keeps a watch on its plan, whether it opens a round or not. For the law of calm.
-use Rattle.std.proofs.Common.{◌≡◌, ◌⊎◌, ◌∙◌, ℕ, ◌+◌, ◌-◌, ◌<◌, ◌≤◌, Bool, true, false, cond, not, ◌&&◌, ◌==◌, List, [], ◌∷◌, Option, Some, None, get_or, is_none, length, nat_le, nat_lt, refl, sym, ap, ap₂, subst, arith, inl, inr}
+use Rattle.std.proofs.Common.{◌≡◌, ◌⊎◌, ◌∙◌, ℕ, ◌+◌, ◌-◌, ◌<◌, ◌≤◌, Bool, true, false, cond, not, ◌&&◌, ◌==◌, List, [], ◌∷◌, Option, Some, None, is_none, length, nat_le, nat_lt, refl, sym, ap, ap₂, subst, arith, inl, inr}
 use Rattle.std.proofs.lemmas.Bool.{cases_Bool, cases_lt, cond-false, cond-true}
 use Rattle.std.proofs.lemmas.Bool.Decides.{nat_tests}
 use Rattle.std.proofs.Math.Path.{fun_ext}
-use Rattle.std.proofs.lemmas.List.Folds.{list_any_at}
-use Rattle.std.specs.List.{All, list_any}
+use Rattle.std.specs.List.{list_any}
 use Rattle.keep_tree.specs.declared.entry.Entry.{Entry}
 use Rattle.keep_tree.specs.Carried.{carried}
 use Rattle.keep_tree.specs.Forest.{Forest, entry_at}
@@ -40,14 +39,13 @@ use Rattle.watch_machine.specs.Sending.{IsSent as IsSending, sent}
 use Rattle.watch_machine.specs.State.{State, attempt_at, entry_of, second, track_at}
 use Rattle.watch_machine.specs.Wanted.{believed, is_alive, is_wanted, wanted_need}
 use Rattle.watch_machine.proofs.Cases.{value_is}
-use Rattle.watch_laws.specs.Calm.{IsCalm, IsKeepable, IsPlanNow, NonePassed, asks_now, believed_forest, ends, in_plan_at, terms}
+use Rattle.watch_laws.specs.Calm.{IsBetween, IsCalm, IsKeepable, IsPlanNow, NonePassed, asks_now, believed_forest, ends, in_plan_at, terms}
 use Rattle.watch_laws.proofs.Believed.{believed_at, believed_count, believed_is_forest, believed_margin, carried_believed}
-use Rattle.watch_laws.proofs.Calming.{AreAlike, IsIdle, IsKept, forest_alike, idle_on, kept_same, lead_alike, led_parts, plan_alike, terms_alike, unpressed}
+use Rattle.watch_laws.proofs.Calming.{AreAlike, IsIdle, IsKept, ends_alike, forest_alike, idle_on, kept_same, lead_alike, led_parts, need_kept, need_less, plan_alike, terms_alike, unpressed}
 use Rattle.watch_laws.proofs.Foreseen.{led_by, short_led, time_is, wanted_short}
 use Rattle.watch_laws.proofs.OfPlan.{come_asked, come_at, none_opens, of_plan, opens_at, opens_now, some_opens}
-use Rattle.watch_laws.proofs.OnPlan.{Goes, IsOn, IsTimed, IsTried, attempt_sent, bears_alike, end_pressed, mid_read, need_alike, new_count, none_passed, out_idle, out_pressed, owes_kept, past_kept, plan_keepable, plan_schedule, rise_behind, rise_later, sends, since_new, some_not_none, stays, timed_alike, tried_on, waits_new, wanted_alike}
+use Rattle.watch_laws.proofs.OnPlan.{Goes, IsOn, IsTimed, IsTried, attempt_sent, bears_alike, end_pressed, leads_is, mid_read, need_alike, new_count, none_passed, out_idle, out_pressed, owes_kept, past_kept, plan_keepable, plan_schedule, rise_behind, rise_later, sends, some_not_none, stays, timed_alike, tried_on, waits_new, wanted_alike}
 use Rattle.watch_laws.proofs.Opener.{bearing, mid_bears}
-use Rattle.watch_laws.proofs.Spacing.{same_index}
 
 -- ---- a clock that opens nothing
 
@@ -88,31 +86,25 @@ forest_of s g e last ts goes = subst IsForest goes.same (believed_is_forest s go
 pub keepable_of : (s : State) (g : Forest) (e : ℕ → ℕ) (last : Wake) (ts : List ℕ) → Goes s g e last ts → AllKeepable (believed_forest s) (second s) e
 keepable_of s g e last ts goes = subst (λ h. AllKeepable h (second s) e) (sym goes.same) (plan_keepable g (second s) e ts goes.plan)
 
--- who is out went out in this second, where nobody who is being renewed has seen another
-since_on : (s : State) (g : Forest) (e : ℕ → ℕ) (last : Wake) (ts : List ℕ) (now : ℕ) → Goes s g e last ts → ((i : ℕ) → IsTried s e last ts i → now ≡ second s) → All (λ (q : Out). sec q.since ≡ now) s.out
-since_on s g e last ts now goes at_once k d within =
-    let q = get_or s.out k d in
-    let named : list_any (λ (x : Out). x.entry == q.entry) s.out ≡ true = list_any_at (λ (x : Out). x.entry == q.entry) s.out k d within (same_index q.entry) in
-    elim (goes.each q.entry) as (λ _. sec q.since ≡ now) [
-      | inl idle ↦ absurd (goes.waits q.entry named idle.none)
-      | inr tried ↦ goes.since k d within ∙ sym (at_once q.entry tried)
-    ]
-
 quiet_on :
     (s r : State) (g : Forest) (e : ℕ → ℕ) (last : Wake) (wakes : List Wake) (ts : List ℕ) (s0 : ℕ) (requests : List Request) →
     Goes s g e last ts → IsStep s r [] requests → wakes ≡ with_asks g.entries g.margin s0 e ts → s0 ≤ second s →
-    ((i : ℕ) → i < length r.forest.entries → fresh_at r i ≡ false) → IsLeastAndLatest g.entries g.margin (second r) e ts → ((i : ℕ) → IsTried s e last ts i → second r ≡ second s) →
+    ((i : ℕ) → i < length r.forest.entries → fresh_at r i ≡ false) → IsLeastAndLatest g.entries g.margin (second r) e ts → ((i : ℕ) → IsTried s e last ts i → second r < ends s i) →
     IsOn (after_clock r [] requests) g s0 e last wakes None requests
-quiet_on s r g e last wakes ts s0 requests goes step to_come from not_fresh plan at_once =
+quiet_on s r g e last wakes ts s0 requests goes step to_come from not_fresh plan alive =
     let new = after_clock r [] requests in
     let forest_r : IsForest r.forest = subst IsForest (sym step.timed.forest) goes.forest in
     let alike_r = timed_alike r s step.timed in
     let c = goes.count in
     let tc = step.timed.count in
     let f = ap (λ (g' : Forest). length g'.entries) step.timed.forest in
+    let later = step.timed.later in
     let own : (i : ℕ) → (attempt_at r i ≡ None) ⊎ (is_wanted r i ≡ true) = λ i. elim (goes.each i) as (λ _. (attempt_at r i ≡ None) ⊎ (is_wanted r i ≡ true)) [
       | inl idle ↦ inl (ap (λ (x : Track). x.attempt) (step.timed.tracks i) ∙ idle.none)
-      | inr tried ↦ inr (wanted_alike r s i (timed_bears r s step.timed i) (need_alike r s forest_r goes.forest alike_r (at_once i tried) i) ∙ tried.wanted)
+      | inr tried ↦
+          let short = wanted_short s i tried.wanted in
+          let ahead = alive i tried in
+          inr (wanted_alike r s i (timed_bears r s step.timed i) (need_kept r s forest_r goes.forest alike_r later i (omega arith)) ∙ tried.wanted)
     ] in
     let kept : (i : ℕ) → attempt_at (pressed r []) i ≡ attempt_at r i = λ i. elim (cases_lt i (length r.forest.entries)) as (λ _. attempt_at (pressed r []) i ≡ attempt_at r i) [
       | inl within ↦ stays r [] requests i (not_fresh i within) refl (own i)
@@ -125,9 +117,8 @@ quiet_on s r g e last wakes ts s0 requests goes step to_come from not_fresh plan
           let none : attempt_at (pressed r []) i ≡ None = kept i ∙ ap (λ (x : Track). x.attempt) (step.timed.tracks i) ∙ idle.none in
           let out : (track_at new i).out ≡ false = out_idle r [] requests step.going i none ∙ ap (λ (x : Track). x.out) (step.timed.tracks i) ∙ idle.out in
           inl (idle_on new s e forest goes.forest alike step.timed.later (keepable_of s g e last ts goes) i (kept_on s r [] requests step.timed i (kept i)) out idle)
-      | inr tried ↦ inr (tried_on new s e last ts forest goes.forest alike (at_once i tried) i (kept_on s r [] requests step.timed i (kept i)) tried)
+      | inr tried ↦ inr (tried_on new s e last ts forest goes.forest alike later i (kept_on s r [] requests step.timed i (kept i)) (alive i tried) tried)
     ] in
-    let later = step.timed.later in
     let nc = new_count r [] requests in
     record {
       now = last;
@@ -145,7 +136,6 @@ quiet_on s r g e last wakes ts s0 requests goes step to_come from not_fresh plan
         plan = plan;
         each = each;
         waits = waits_new r [] requests step.going (λ i waiting none. goes.waits i (sym (ap (list_any (λ (q : Out). q.entry == i)) step.timed.out) ∙ waiting) (sym (kept_on s r [] requests step.timed i (kept i)).attempt ∙ none));
-        since = since_new r [] requests step.going (subst (All (λ (q : Out). sec q.since ≡ second r)) (sym step.timed.out) (since_on s g e last ts (second r) goes at_once));
       };
       to_come = to_come;
       from = omega arith;
@@ -160,15 +150,6 @@ time_alike new old forest i same = ap₂ (λ (g : Forest) (x : Track). time g.ma
 bound_none : (es : List Entry) (e : ℕ → ℕ) (i : ℕ) → bound es e None i ≡ e i
 unfolding bound latest_end
 bound_none es e i = refl
-
--- the first moment comes no later than the time of an entry that falls short
-pub first_before : (g : Forest) (s : ℕ) (e : ℕ → ℕ) (ts : List ℕ) → IsSchedule g.entries g.margin s e None ts → (i : ℕ) → e i < carried g.entries s i → (u : ℕ) × (first_of ts ≡ Some u) × (u ≤ e i - g.margin)
-first_before g s e [] schedule i short = absurd (let b = bound_none g.entries e i in let l = schedule i in omega arith)
-first_before g s e (u ∷ us) schedule i short =
-    let b = bound_none g.entries e i in
-    let l = schedule.0.earliest i (omega arith) in
-    let is = schedule.0.moment in
-    (u, refl, omega arith)
 
 fresh_parts : (s : State) (i : ℕ) → fresh_at s i ≡ true → (is_wanted s i ≡ true) × ((time_of s i ≤ second s) × (is_pressed (track_at s i) ≡ false))
 unfolding is_fresh has_come
@@ -185,8 +166,12 @@ fresh_parts s i fresh =
 is_pressed_so : (s : State) (i : ℕ) (t : Try) → attempt_at s i ≡ Some t → t.pressed ≡ true → is_pressed (track_at s i) ≡ true
 is_pressed_so s i t is yes' = ap is_pressed_try is ∙ yes'
 
-none_fresh : (s r : State) (g : Forest) (e : ℕ → ℕ) (last : Wake) (ts : List ℕ) → Goes s g e last ts → IsTimed r s → second r ≡ second s → ((u : ℕ) → first_of ts ≡ Some u → second s < u) → (i : ℕ) → fresh_at r i ≡ false
-none_fresh s r g e last ts goes timed' now later i =
+has_try : (s : State) (e : ℕ → ℕ) (last : Wake) (ts : List ℕ) (i : ℕ) → IsTried s e last ts i → is_none (attempt_at s i) ≡ false
+has_try s e last ts i tried = ap is_none tried.is
+
+-- before any round can open nobody's time has come who is not asked
+none_fresh : (s r : State) (g : Forest) (e : ℕ → ℕ) (last : Wake) (ts : List ℕ) → Goes s g e last ts → IsTimed r s → IsBetween s (second r) → (i : ℕ) → fresh_at r i ≡ false
+none_fresh s r g e last ts goes timed' between i =
     elim (cases_Bool (fresh_at r i)) as (λ _. fresh_at r i ≡ false) [
       | inr no' ↦ no'
       | inl yes' ↦ absurd (
@@ -198,23 +183,43 @@ none_fresh s r g e last ts goes timed' now later i =
           elim (goes.each i) as (λ _. ⊥) [
             | inr tried ↦ (let p = is_pressed_so r i tried.try (at ∙ tried.is) tried.pressed in let q = parts.1.1 in absurd cc)
             | inl idle ↦
-                let need = need_alike r s forest_r goes.forest (timed_alike r s timed') now i in
-                let wanted : is_wanted s i ≡ true = sym (wanted_alike r s i (ap bearing same) need) ∙ parts.0 in
-                let short = wanted_short s i wanted in
-                let led = led_by s goes.forest e (keepable_of s g e last ts goes) i (sym idle.end) short in
-                let t = time_is s i led (idle.in_plan wanted) in
+                let less = need_less r s forest_r goes.forest (timed_alike r s timed') timed'.later i in
+                let short = wanted_short r i parts.0 in
+                let end = ends_alike r s i (ap bearing same) in
+                let led = led_by s goes.forest e (keepable_of s g e last ts goes) i (sym idle.end) (omega arith) in
+                let l = between.others i led.within led.wanted (unpressed s i idle.none) in
                 let t' = time_alike r s timed'.forest i same in
-                let end = idle.end in
-                let c = carried_believed s goes.forest i in
-                let same_c = ap (λ (h : Forest). carried h.entries (second s) i) goes.same in
-                let m = ap (λ (h : Forest). h.margin) goes.same in
-                let m' = believed_margin s in
-                let first = first_before g (second s) e ts (plan_schedule g (forest_of s g e last ts goes) (second s) e ts goes.plan).0 i (omega arith) in
-                let l = later first.0 first.1 in
-                let k = first.2 in
                 omega arith
           ])
     ]
+
+-- nor has the next moment of the plan come
+next_ahead : (s : State) (g : Forest) (e : ℕ → ℕ) (last : Wake) (ts : List ℕ) → Goes s g e last ts → (now : ℕ) → IsBetween s now → (u : ℕ) → first_of ts ≡ Some u → now < u
+next_ahead s g e last ts goes now between u first = comes ts first (plan_schedule g (forest_of s g e last ts goes) (second s) e ts goes.plan).0 where
+  comes : (ts' : List ℕ) → first_of ts' ≡ Some u → IsSchedule g.entries g.margin (second s) e None ts' → now < u
+  comes [] first' schedule = absurd cc
+  comes (v ∷ vs) first' schedule =
+      let is : v ≡ u = value_is v u first' in
+      let k = schedule.0.entry in
+      let short = schedule.0.short in
+      let b = bound_none g.entries e k in
+      let c = carried_believed s goes.forest k in
+      let same_c = ap (λ (h : Forest). carried h.entries (second s) k) goes.same in
+      let at = schedule.0.moment in
+      let m = ap (λ (h : Forest). h.margin) goes.same in
+      let m' = believed_margin s in
+      elim (goes.each k) as (λ _. now < u) [
+        | inl idle ↦
+            let end = idle.end in
+            let led = led_by s goes.forest e (keepable_of s g e last ts goes) k (sym end) (omega arith) in
+            let t = time_is s k led (idle.in_plan led.wanted) in
+            let l = between.others k led.within led.wanted (unpressed s k idle.none) in
+            omega arith
+        | inr tried ↦
+            let to = leads_is s e last ts k tried in
+            let l = between.own k tried.within (has_try s e last ts k tried) (omega arith) in
+            omega arith
+      ]
 
 opens_fresh : (s : State) (i : ℕ) → opens_at s i ≡ true → fresh_at s i ≡ true
 unfolding opens
@@ -223,15 +228,17 @@ opens_fresh s i h = and_left (fresh_at s i) (in_plan_at s i && is_alive (second 
 pub going_on :
     (s r : State) (g : Forest) (e : ℕ → ℕ) (last : Wake) (wakes : List Wake) (ts : List ℕ) (s0 : ℕ) (requests : List Request) (round : Option (List ℕ)) →
     Goes s g e last ts → IsStep s r (asked_by round) requests → wakes ≡ with_asks g.entries g.margin s0 e ts → s0 ≤ second s → IsRound r.forest r.tracks r.clocks round →
-    (i : ℕ) → IsTried s e last ts i → second r ≡ second s → IsOn (after_clock r (asked_by round) requests) g s0 e last wakes round requests
-going_on s r g e last wakes ts s0 requests (Some asked) goes step to_come from round i tried now =
+    IsBetween s (second r) → IsOn (after_clock r (asked_by round) requests) g s0 e last wakes round requests
+going_on s r g e last wakes ts s0 requests (Some asked) goes step to_come from round between =
     let some = some_opens r round.0 in
     let fresh = opens_fresh r some.0 some.1.1 in
-    let none = none_fresh s r g e last ts goes step.timed now tried.later some.0 in
+    let none = none_fresh s r g e last ts goes step.timed between some.0 in
     absurd cc
-going_on s r g e last wakes ts s0 requests None goes step to_come from round i tried now =
-    quiet_on s r g e last wakes ts s0 requests goes step to_come from (λ k within. none_fresh s r g e last ts goes step.timed now tried.later k)
-    (subst (λ t. IsLeastAndLatest g.entries g.margin t e ts) (sym now) goes.plan) (λ k tried'. now)
+going_on s r g e last wakes ts s0 requests None goes step to_come from round between =
+    let schedule = plan_schedule g (forest_of s g e last ts goes) (second s) e ts goes.plan in
+    let all = rise_behind (second s) (second r) ts (λ u first. let l = next_ahead s g e last ts goes (second r) between u first in omega arith) schedule.1 in
+    quiet_on s r g e last wakes ts s0 requests goes step to_come from (λ k within. none_fresh s r g e last ts goes step.timed between k)
+    (later_start g.entries g.margin (second s) (second r) e ts step.timed.later all goes.plan) (λ k tried. between.alive k tried.within (has_try s e last ts k tried))
 
 -- ---- at rest
 
@@ -276,10 +283,10 @@ press_pressed at along x = (refl, (refl, refl))
 -- an entry that a round asks
 opened_tried :
     (r : State) (asked : List ℕ) (requests : List Request) (now : Wake) (e : ℕ → ℕ) (us : List ℕ) (i : ℕ) → IsForest r.forest → IsCalm r → length r.tracks ≡ length r.forest.entries →
-    is_wanted r i ≡ true → list_any (λ j. j == i) asked ≡ true → is_asked now i ≡ true → second r ≡ now.at → ((u : ℕ) → first_of us ≡ Some u → second r < u) →
+    is_wanted r i ≡ true → list_any (λ j. j == i) asked ≡ true → is_asked now i ≡ true → second r ≡ now.at →
     e i ≡ renewal (terms r i) (second r) → ends r i < e i → (track_at r i).owes ≡ false → IsTried (after_clock r asked requests) e now us i
 unfolding ends
-opened_tried r asked requests now e us i forest calm count wanted named is_named at later gains grows owes =
+opened_tried r asked requests now e us i forest calm count wanted named is_named at gains grows owes =
     let new = after_clock r asked requests in
     let alike = pressed_alike r asked requests in
     let led = short_led r forest calm.keepable i (wanted_short r i wanted) in
@@ -291,6 +298,7 @@ opened_tried r asked requests now e us i forest calm count wanted named is_named
     let w = led.within in
     let bears = mid_bears r asked requests i in
     let lead = lead_alike new r refl i (ap (λ (x : Track). x.grant) bears) in
+    let same_end = ends_alike new r i bears in
     let got = named_try r asked requests i (omega arith) named (calm.unasked i w) in
     let what = press_pressed r.clocks.at got.0 got.1 in
     let end = ap believed got.2.1 in
@@ -303,11 +311,11 @@ opened_tried r asked requests now e us i forest calm count wanted named is_named
       operation = press_renews r.clocks.at got.0 got.1 (omega arith);
       base = r.clocks.at;
       base_is = what.1.1;
-      base_now = refl;
+      base_now = at;
       asked = is_named;
-      now = at;
-      later = later;
-      gains = gains ∙ sym (ap (λ (x : Entry). renewal x (second r)) t);
+      now = omega arith;
+      gains = gains ∙ ap (λ n. renewal (terms r i) n) at ∙ sym (ap (λ (x : Entry). renewal x now.at) t);
+      grows = omega arith;
       ahead = omega arith;
       wanted = wanted_alike new r i bears need ∙ wanted;
       in_plan = plan_alike new r refl i lead ∙ calm.in_plan i w wanted;
@@ -341,8 +349,6 @@ opening_on s r last wakes ts us s0 requests asked goes step to_come from forest_
     let forest_g : IsForest g = believed_is_forest r forest_r in
     let same_ts : ts ≡ t ∷ us = one_least es m t e ts (t ∷ us) plan best in
     let rest : IsLeastAndLatest es m t d us = tail asks_enough g t t e us forest_g best in
-    let rises = (plan_schedule g forest_g t e (t ∷ us) best).1 in
-    let later = rise_later t us rises.1 in
     let now : Wake = record { at = t; asked = asked } in
     let f = step.timed.later in
     let first : asking es m s0 e t next ≡ w = ap (λ a. record { at = t; asked = a }) (same_asks es m s0 t t e next (omega arith) (omega arith)) in
@@ -371,7 +377,7 @@ opening_on s r last wakes ts us s0 requests asked goes step to_come from forest_
           let grows = (asked_end es m t e t next i yes').1 in
           let after' = after_wanted es m t e t next i yes' in
           let owes : (track_at r i).owes ≡ false = ap (λ (x : Track). x.owes) (step.timed.tracks i) ∙ (idle i).owes in
-          inr (opened_tried r asked requests now d us i forest_r calm count_r led.wanted (named i ∙ yes') (named i ∙ yes') refl later gains (omega arith) owes)
+          inr (opened_tried r asked requests now d us i forest_r calm count_r led.wanted (named i ∙ yes') (named i ∙ yes') refl gains (omega arith) owes)
       | inr no' ↦
           let kept : attempt_at (pressed r asked) i ≡ attempt_at r i = elim (cases_lt i (length r.forest.entries)) as (λ _. attempt_at (pressed r asked) i ≡ attempt_at r i) [
             | inl within ↦ stays r asked requests i (not_fresh i within no') (named i ∙ no') (inl (none_r i))
@@ -398,8 +404,6 @@ opening_on s r last wakes ts us s0 requests asked goes step to_come from forest_
         plan = rest;
         each = each;
         waits = waits_new r asked requests step.going (λ i waiting none. goes.waits i (sym (ap (list_any (λ (q : Out). q.entry == i)) step.timed.out) ∙ waiting) (idle i).none);
-        since = since_new r asked requests step.going (subst (All (λ (q : Out). sec q.since ≡ t)) (sym step.timed.out)
-            (since_on s g e last ts t goes (λ i tried. absurd (some_not_none (attempt_at s i) tried.try tried.is (idle i).none))));
       };
       to_come = refl;
       from = omega arith;

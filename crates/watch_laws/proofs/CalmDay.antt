@@ -1,12 +1,11 @@
 -- CalmDay: a watch that is at rest goes by its plan while all goes well. For the law of calm.
-use Rattle.std.proofs.Common.{◌≡◌, ◌⊎◌, ◌∙◌, ℕ, zero, suc, ◌<◌, ◌≤◌, Bool, true, false, ◌==◌, List, [], ◌∷◌, Option, Some, None, Result, Ok, Err, All, IfSome, is_none, length, refl, sym, ap, subst, arith, inl, inr}
+use Rattle.std.proofs.Common.{◌≡◌, ◌⊎◌, ◌∙◌, ℕ, zero, suc, ◌<◌, ◌≤◌, Bool, true, false, ◌==◌, List, [], ◌∷◌, Option, Some, None, Result, Ok, Err, IfSome, is_none, length, refl, sym, ap, subst, arith, inl, inr}
 use Rattle.std.proofs.lemmas.Bool.{cases_Bool, cases_lt}
 use Rattle.std.proofs.lemmas.List.Elements.{All-nil}
 use Rattle.std.specs.List.{list_any}
 use Rattle.keep_rule.specs.declared.wake.Wake.{Wake}
 use Rattle.keep_rule.specs.Asks.{with_asks}
 use Rattle.keep_tree.specs.Forest.{Forest}
-use Rattle.keep_tree.specs.Renewal.{renewal}
 use Rattle.watch_machine.specs.declared.clocks.Clocks.{Clocks}
 use Rattle.watch_machine.specs.declared.command.Command.{Command}
 use Rattle.watch_machine.specs.declared.command.Command.TheVariants.{Go, Taken}
@@ -30,7 +29,7 @@ use Rattle.watch_machine.specs.Settling.{timed}
 use Rattle.watch_machine.specs.State.{State, attempt_at, second}
 use Rattle.watch_machine.specs.Step.{Step, StepClock, StepCommand, StepRenewed, readied}
 use Rattle.watch_machine.proofs.Cases.{if_both}
-use Rattle.watch_laws.specs.Calm.{AreCalm, CalmLaw, EndAs, GoBy, IsAtRest, IsCalmClock, IsCalmEvent, IsCalmTurn, NonePassed, believed_forest, end_granted, ends, left_by, terms}
+use Rattle.watch_laws.specs.Calm.{AreCalm, CalmLaw, EndAs, GoBy, IsAtRest, IsBetween, IsByRule, IsCalmClock, IsCalmEvent, IsCalmTurn, NonePassed, believed_forest, ends, left_by}
 use Rattle.watch_laws.specs.Load.{asked_by as asked_for, requests_of}
 use Rattle.watch_laws.specs.Time.{round_of}
 use Rattle.watch_laws.proofs.CalmClock.{IsStep, after_clock, forest_of, going_on, resting_on}
@@ -110,7 +109,7 @@ clock_to s new wall elapsed output (Go requests until) g e last wakes ts s0 goes
           let i = one'.0 in
           elim (goes.each i) as (λ _. IsOn (after_clock r round requests) g s0 e last wakes step.round requests) [
             | inl idle ↦ absurd (let a : is_none (attempt_at s i) ≡ false = one'.1.1 in let b : is_none (attempt_at s i) ≡ true = ap is_none idle.none in cc)
-            | inr tried ↦ going_on s r g e last wakes ts s0 requests step.round goes is to_come from step.is_round i tried (now ∙ clock.at_once i one'.1.0 one'.1.1)
+            | inr tried ↦ going_on s r g e last wakes ts s0 requests step.round goes is to_come from step.is_round (subst (IsBetween s) (sym now) (clock.answered i one'.1.0 one'.1.1))
           ]
     ])
 
@@ -126,7 +125,7 @@ second_replied s q seconds date = if_both (λ (t : State). second t ≡ second s
 
 renewed_on :
     (s new : State) (i seconds : ℕ) (date : Option ℕ) (found : Option Out) (output : Output) (g : Forest) (e : ℕ → ℕ) (last : Wake) (wakes : List Wake) (ts : List ℕ) (s0 : ℕ) → Goes s g e last ts → wakes ≡ with_asks g.entries g.margin s0 e ts → s0 ≤ second s →
-    request_out s.out i Renew ≡ found → StepRenewed s found (Told seconds true date) output new → IfSome found (λ r. end_granted s r seconds ≡ renewal (terms s i) (second s)) →
+    request_out s.out i Renew ≡ found → StepRenewed s found (Told seconds true date) output new → IfSome found (IsByRule s i seconds) →
     IsOn new g s0 e last wakes output.notes.round (asked_for output.command)
 renewed_on s new i seconds date None output g e last wakes ts s0 goes to_come from is step rule = absurd step
 renewed_on s new i seconds date (Some q) output g e last wakes ts s0 goes to_come from is step rule =
@@ -202,6 +201,5 @@ calm_days s turns rest h calm =
       plan = some.1.best;
       each = λ i. inl (idle_at_rest s rest i);
       waits = λ i waiting none. (let k = sym (ap (list_any (λ (r : Out). r.entry == i)) rest.out) ∙ waiting in absurd cc);
-      since = subst (All (λ (r : Out). sec r.since ≡ second s)) (sym rest.out) (All-nil (λ (r : Out). sec r.since ≡ second s));
     } in
     (ts, (some.1.best, goes_by turns s (believed_forest s) (ends s) last (with_asks (believed_forest s).entries s.forest.margin (second s) (ends s) ts) ts (second s) goes refl (omega arith) h calm))

@@ -1,9 +1,8 @@
 -- CalmGrant: a renewal that is granted by the rule keeps a watch on its plan. For the law of calm.
-use Rattle.std.proofs.Common.{◌≡◌, ◌≢◌, ◌⊎◌, ◌∙◌, ℕ, ◌+◌, ◌<◌, Bool, true, false, cond, not, ◌&&◌, ◌||◌, ◌==◌, if◌then◌else◌, List, [], ◌∷◌, Option, Some, None, IfSome, filter, map, min, nat_le, nat_lt, refl, sym, ap, ap₂, subst, arith, inl, inr}
+use Rattle.std.proofs.Common.{◌≡◌, ◌≢◌, ◌⊎◌, ◌∙◌, ℕ, ◌+◌, ◌<◌, Bool, true, false, cond, not, ◌&&◌, ◌||◌, ◌==◌, if◌then◌else◌, List, [], ◌∷◌, Option, Some, None, filter, map, min, nat_le, nat_lt, refl, sym, ap, ap₂, subst, arith, inl, inr}
 use Rattle.std.proofs.lemmas.Bool.{and_parts, cases_Bool, cases_eq, cases_lt, cond-false, cond-true, or_left}
 use Rattle.std.proofs.lemmas.Bool.Decides.{nat_tests}
 use Rattle.std.proofs.lemmas.List.{get_or-set_other, get_or-set_same, length-set}
-use Rattle.std.proofs.lemmas.List.Elements.{All-filter, All-map}
 use Rattle.std.specs.List.{find, list_any}
 use Rattle.keep_tree.specs.Forest.{Forest}
 use Rattle.keep_tree.specs.Renewal.{capped, renewal}
@@ -23,24 +22,17 @@ use Rattle.watch_machine.specs.Beginning.{owed}
 use Rattle.watch_machine.specs.Clocks.{sec}
 use Rattle.watch_machine.specs.Margins.{lead}
 use Rattle.watch_machine.specs.Refusal.{is_same, request_out}
-use Rattle.watch_machine.specs.Renewed.{from_base, from_try, granted, granted_from, granted_try, is_no_further, renewed, renewed_track, time_from}
-use Rattle.watch_machine.specs.State.{State, attempt_at, entry_of, no_track, second, track_at}
+use Rattle.watch_machine.specs.Renewed.{from_try, granted, granted_from, granted_try, is_no_further, renewed, renewed_track}
+use Rattle.watch_machine.specs.State.{State, attempt_at, entry_of, no_track, track_at}
 use Rattle.watch_machine.specs.Wanted.{believed, is_fixed, is_wanted, seen}
-use Rattle.watch_machine.proofs.Cases.{if_both}
-use Rattle.watch_machine.proofs.Within.{out_all, out_entry}
-use Rattle.watch_laws.specs.Calm.{end_granted, ends, in_plan_at, lead_at, terms}
+use Rattle.watch_machine.proofs.Within.{out_entry}
+use Rattle.watch_laws.specs.Calm.{IsByRule, end_granted, ends, in_plan_at, lead_at, terms}
 use Rattle.watch_laws.proofs.Calming.{AreAlike, IsIdle, entry_step, forest_alike, idle_on, kept_same, plan_alike}
 use Rattle.watch_laws.proofs.CalmClock.{keepable_of}
 use Rattle.watch_laws.proofs.Foreseen.{wanted_short}
-use Rattle.watch_laws.proofs.OnPlan.{Goes, IsTried, need_alike, tried_on}
+use Rattle.watch_laws.proofs.OnPlan.{Goes, IsTried, began_is, leads_is, need_alike, tried_on}
 
 -- ---- what a grant comes to
-
--- a grant counts from this second
-from_now : (margin step seconds at since now : ℕ) (o : Option Try) (t : Try) (base : ℕ) → o ≡ Some t → t.base ≡ Some base → sec base ≡ now → sec since ≡ now → sec (from_try margin step seconds at since o) ≡ now
-from_now margin step seconds at since now o t base is base_is here there =
-    ap (λ (x : Option Try). sec (from_try margin step seconds at since x)) is ∙ ap (λ (b : Option ℕ). sec (from_base margin step seconds at since b)) base_is
-    ∙ if_both (λ n. sec n ≡ now) (nat_lt (sec at + 1) (time_from margin step seconds (sec base))) base since here there
 
 -- a grant by the rule is of a whole step, or up to the ceiling
 by_rule : (ceiling : Option ℕ) (now step seconds : ℕ) → now + seconds ≡ capped ceiling (now + step) → (seconds ≡ step) ⊎ ((seconds < step) × (ceiling ≡ Some (now + seconds)))
@@ -91,6 +83,7 @@ is_granted s e last ts q seconds tried is =
     let step = (entry_of s i).step in
     let from = from_try s.forest.margin step seconds s.clocks.at q.since (attempt_at s i) in
     let a = tried.ahead in
+    let more = tried.grows in
     record {
       end' = ap (λ n. At n) is;
       renewable = refl;
@@ -137,7 +130,7 @@ left_out (x ∷ xs) i j h =
       later true b h = refl
       later false b h = h
 
-module _ (s : State) (g : Forest) (e : ℕ → ℕ) (last : Wake) (ts : List ℕ) (goes : Goes s g e last ts) (q : Out) (seconds : ℕ) (tried : IsTried s e last ts q.entry) (since : sec q.since ≡ second s) (rule : end_granted s q seconds ≡ renewal (terms s q.entry) (second s)) (answers : List Answer) where
+module _ (s : State) (g : Forest) (e : ℕ → ℕ) (last : Wake) (ts : List ℕ) (goes : Goes s g e last ts) (q : Out) (seconds : ℕ) (tried : IsTried s e last ts q.entry) (rule : IsByRule s q.entry seconds q) (answers : List Answer) where
   abbrev j : ℕ
   j = q.entry
 
@@ -151,7 +144,7 @@ module _ (s : State) (g : Forest) (e : ℕ → ℕ) (last : Wake) (ts : List ℕ
   new = granted_state
 
   granted_is : IsGranted s x j (e j) seconds
-  granted_is = is_granted s e last ts q seconds tried (rule ∙ sym tried.gains)
+  granted_is = is_granted s e last ts q seconds tried (rule.1 ∙ leads_is s e last ts j tried)
 
   own : track_at new j ≡ x
   own = get_or-set_same s.tracks j x no_track (let c = goes.count in let w = tried.within in omega (arith, c, w))
@@ -197,13 +190,15 @@ module _ (s : State) (g : Forest) (e : ℕ → ℕ) (last : Wake) (ts : List ℕ
   idle_own : IsIdle new e j
   unfolding renewal
   idle_own =
-      let now = second s in
-      let from : end_granted s q seconds ≡ now + seconds = ap (λ n. n + seconds) (from_now s.forest.margin (entry_of s j).step seconds s.clocks.at q.since now (attempt_at s j) tried.try tried.base tried.is tried.base_is tried.base_now since) in
-      let is : now + seconds ≡ capped (terms s j).ceiling (now + (entry_of s j).step) = sym from ∙ rule ∙ ap (λ n. capped (terms s j).ceiling (now + n)) step_is in
+      let now = last.at in
+      let began = began_is s e last ts j tried in
+      let from : end_granted s q seconds ≡ now + seconds = ap (λ n. n + seconds) (rule.0 ∙ began) in
+      let to : end_granted s q seconds ≡ renewal (terms s j) now = rule.1 ∙ ap (λ n. renewal (terms s j) n) began in
+      let is : now + seconds ≡ capped (terms s j).ceiling (now + (entry_of s j).step) = sym from ∙ to ∙ ap (λ n. capped (terms s j).ceiling (now + n)) step_is in
       let need = need_alike new s goes.forest goes.forest alike refl j in
       let owes = ap (λ (y : Track). y.owes) own ∙ granted_is.owes in
       let out = ap (λ (y : Track). y.out) own ∙ granted_is.out in
-      let end : e j ≡ now + seconds = tried.gains ∙ sym rule ∙ from in
+      let end : e j ≡ now + seconds = tried.gains ∙ sym to ∙ from in
       let end' = new_end in
       let led = new_lead in
       elim (by_rule (terms s j).ceiling now (entry_of s j).step seconds is) as (λ _. IsIdle new e j) [
@@ -240,7 +235,7 @@ module _ (s : State) (g : Forest) (e : ℕ → ℕ) (last : Wake) (ts : List ℕ
         | inr there ↦ elim (goes.each i) as (λ _. IsIdle new e i ⊎ IsTried new e last ts i) [
           | inl idle ↦
               inl (idle_on new s e goes.forest goes.forest alike (omega arith) (keepable_of s g e last ts goes) i (kept_same (track_at new i) (track_at s i) (other i there)) (ap (λ (y : Track). y.out) (other i there) ∙ idle.out) idle)
-          | inr tried' ↦ inr (tried_on new s e last ts goes.forest goes.forest alike refl i (kept_same (track_at new i) (track_at s i) (other i there)) tried')
+          | inr tried' ↦ inr (tried_on new s e last ts goes.forest goes.forest alike (omega arith) i (kept_same (track_at new i) (track_at s i) (other i there)) tried'.ahead tried')
         ]
       ]
 
@@ -255,7 +250,6 @@ module _ (s : State) (g : Forest) (e : ℕ → ℕ) (last : Wake) (ts : List ℕ
     plan = goes.plan;
     each = each_new;
     waits = λ i waiting none'. (let l = left_out s.out i j waiting in goes.waits i l.1 (sym (ap (λ (y : Track). y.attempt) (other i l.0)) ∙ none'));
-    since = All-map (λ (r : Out). sec r.since ≡ second s) heard (filter (λ (r : Out). not (r.entry == j)) s.out) (λ k d within. All-filter (λ (r : Out). not (r.entry == j)) (λ (r : Out). sec r.since ≡ second s) s.out goes.since k d within);
   }
 
 -- a request that is found is among those that are out
@@ -274,22 +268,18 @@ asked_any : (out : List Out) (i : ℕ) (q : Out) → request_out out i Renew ≡
 unfolding request_out
 asked_any out i q is = found_any (λ (r : Out). r.entry == i && is_same r.operation Renew) out i q (λ r passes. (and_parts (r.entry == i) (is_same r.operation Renew) passes).0) is
 
-some_of_all : (P : Out → Type 0) (o : Option Out) (q : Out) → IfSome o P → o ≡ Some q → P q
-some_of_all P o q h is = subst (λ x. IfSome x P) is h
-
 -- the state after an answer by the rule
 pub answer_goes :
     (s : State) (g : Forest) (e : ℕ → ℕ) (last : Wake) (ts : List ℕ) → Goes s g e last ts → (q : Out) (i seconds : ℕ) (date : Option ℕ) → request_out s.out i Renew ≡ Some q →
-    end_granted s q seconds ≡ renewal (terms s i) (second s) → Goes (replied (renewed (noted s q (Told seconds true date)) q (Told seconds true date)) q (Told seconds true date)) g e last ts
+    IsByRule s i seconds q → Goes (replied (renewed (noted s q (Told seconds true date)) q (Told seconds true date)) q (Told seconds true date)) g e last ts
 unfolding renewed_track
 answer_goes s g e last ts goes q i seconds date is rule =
     let own : q.entry ≡ i = out_entry s.out i Renew q is in
     let named : list_any (λ (r : Out). r.entry == q.entry) s.out ≡ true = subst (λ k. list_any (λ (r : Out). r.entry == k) s.out ≡ true) (sym own) (asked_any s.out i q is) in
-    let since = some_of_all (λ (r : Out). sec r.since ≡ second s) (request_out s.out i Renew) q (out_all (λ (r : Out). sec r.since ≡ second s) s.out i Renew goes.since) is in
-    let rule' = rule ∙ ap (λ k. renewal (terms s k) (second s)) (sym own) in
+    let rule' = subst (λ k. IsByRule s k seconds q) (sym own) rule in
     let tried : IsTried s e last ts q.entry = elim (goes.each q.entry) as (λ _. IsTried s e last ts q.entry) [
       | inl idle ↦ absurd (goes.waits q.entry named idle.none)
       | inr tried' ↦ tried'
     ] in
     let after = renewed (noted s q (Told seconds true date)) q (Told seconds true date) in
-    subst (λ n. Goes n g e last ts) (sym (replied_there after q seconds date goes.there)) (granted_goes s g e last ts goes q seconds tried since rule' after.answers)
+    subst (λ n. Goes n g e last ts) (sym (replied_there after q seconds date goes.there)) (granted_goes s g e last ts goes q seconds tried rule' after.answers)

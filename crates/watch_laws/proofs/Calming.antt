@@ -1,6 +1,6 @@
 -- Calming: what is believed but for ends, and what is known of an entry that nobody asks, stays while time passes and others are answered.
 -- For the law of calm.
-use Rattle.std.proofs.Common.{◌≡◌, ◌∙◌, ℕ, ◌*◌, ◌/◌, ◌≤◌, Bool, true, false, cond, not, ◌&&◌, ◌==◌, if◌then◌else◌, List, [], ◌∷◌, Option, None, filter, length, map, max, min, option_map, refl, sym, ap, ap₂, arith, inl, inr}
+use Rattle.std.proofs.Common.{◌≡◌, ◌∙◌, ℕ, ◌-◌, ◌*◌, ◌/◌, ◌<◌, ◌≤◌, Bool, true, false, cond, not, ◌&&◌, ◌==◌, if◌then◌else◌, List, [], ◌∷◌, Option, None, filter, length, map, max, min, option_map, refl, sym, ap, ap₂, arith, inl, inr}
 use Rattle.std.proofs.lemmas.Bool.{cases_Bool, cases_lt}
 use Rattle.std.proofs.Math.Path.{fun_ext}
 use Rattle.std.specs.List.{range_with_len}
@@ -111,6 +111,26 @@ need_less new old forest forest' a later i =
     let o = carried_believed old forest' i in
     let same = ap (λ (g : Forest). carried g.entries (second new) i) (forest_alike new old a) in
     let less = carried_less (believed_forest old).entries (second old) (second new) i later in
+    omega arith
+
+-- and as much, as long as the need is ahead
+carried_same : (es : List Entry) (s t i : ℕ) → s ≤ t → t < carried es s i → carried es t i ≡ carried es s i
+carried_same es s t i later ahead =
+    let c = carried es s i in
+    let less = carried_less es s t i later in
+    let f = carried_is_of es s i (c - 1) (omega arith) in
+    let most = f.3 in
+    let l : (entry_at es f.0).need ≤ carried es t i = carried_at_least es t i f.0 f.1 (omega arith) in
+    omega arith
+
+pub need_kept :
+    (new old : State) → IsForest new.forest → IsForest old.forest → AreAlike new old → second old ≤ second new → (i : ℕ) → second new < wanted_need old i →
+    wanted_need new i ≡ wanted_need old i
+need_kept new old forest forest' a later i ahead =
+    let n = carried_believed new forest i in
+    let o = carried_believed old forest' i in
+    let same = ap (λ (g : Forest). carried g.entries (second new) i) (forest_alike new old a) in
+    let kept = carried_same (believed_forest old).entries (second old) (second new) i later (omega arith) in
     omega arith
 
 pub lead_alike : (new old : State) → new.forest ≡ old.forest → (i : ℕ) → (track_at new i).grant ≡ (track_at old i).grant → lead_at new i ≡ lead_at old i

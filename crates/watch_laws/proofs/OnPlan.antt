@@ -1,8 +1,8 @@
 -- OnPlan: what a watch holds that goes by its plan, and what a clock leaves of it. For the law of calm.
-use Rattle.std.proofs.Common.{◌≡◌, ◌⊎◌, ◌∙◌, ℕ, ◌+◌, ◌-◌, ◌<◌, ◌≤◌, Bool, true, false, not, ◌||◌, ◌==◌, if◌then◌else◌, List, [], ◌∷◌, Option, Some, None, IfSome, get_or, is_none, length, map, refl, sym, ap, ap₂, subst, arith, inl, inr}
-use Rattle.std.proofs.lemmas.Bool.{cases_Bool, cases_lt, cond-false, cond-true, eqb-true, or_left, or_right}
+use Rattle.std.proofs.Common.{◌≡◌, ◌⊎◌, ◌∙◌, ℕ, ◌+◌, ◌-◌, ◌<◌, ◌≤◌, true, false, not, ◌||◌, ◌==◌, List, [], ◌∷◌, Option, Some, None, IfSome, get_or, is_none, length, map, refl, sym, ap, ap₂, subst, arith, inl, inr}
+use Rattle.std.proofs.lemmas.Bool.{cases_Bool, cases_lt, cond-false, eqb-true, or_left, or_right}
 use Rattle.std.proofs.lemmas.List.{get_or_past}
-use Rattle.std.proofs.lemmas.List.Elements.{All-append, All-cons, All-head, All-map, All-nil, All-tail}
+use Rattle.std.proofs.lemmas.List.Elements.{All-cons, All-head, All-map, All-nil, All-tail}
 use Rattle.std.proofs.lemmas.List.Folds.{list_any-append}
 use Rattle.std.specs.List.{All, list_any}
 use Rattle.keep_tree.specs.declared.entry.Entry.{Entry}
@@ -40,10 +40,11 @@ use Rattle.watch_machine.specs.Wanted.{believed, is_fixed, is_wanted, need_of, w
 use Rattle.watch_machine.proofs.Cases.{if_both, value_is}
 use Rattle.watch_machine.proofs.Seeing.{each_past, each_read}
 use Rattle.watch_machine.proofs.Written.{each_length}
-use Rattle.watch_laws.specs.Calm.{IsCalmClock, NonePassed, Opens, believed_forest, in_plan_at, lead_at, left_by, terms}
+use Rattle.watch_laws.specs.Calm.{IsCalmClock, NonePassed, Opens, began_at, began_by, began_in, believed_forest, ends, in_plan_at, lead_at, leads_to, left_by, terms}
 use Rattle.watch_laws.proofs.Believed.{carried_believed}
-use Rattle.watch_laws.proofs.Calming.{AreAlike, IsIdle, IsKept, entry_step, forest_alike, lead_alike, plan_alike, terms_alike}
+use Rattle.watch_laws.proofs.Calming.{AreAlike, IsIdle, IsKept, ends_alike, entry_step, forest_alike, lead_alike, need_kept, plan_alike, terms_alike}
 use Rattle.watch_laws.proofs.Clocking.{clock_rises}
+use Rattle.watch_laws.proofs.Foreseen.{wanted_short}
 use Rattle.watch_laws.proofs.Going.{asks_by, entry_by, goes as going, operation_of, request_at}
 use Rattle.watch_laws.proofs.Opener.{bearing}
 use Rattle.watch_laws.proofs.Spacing.{free_of}
@@ -122,7 +123,7 @@ settled_is : (margin at : ℕ) (x : Track) → IfSome x.attempt (λ t. t.failed 
 unfolding settled_track
 settled_is margin at x whole = ap (λ o. record x { attempt = o }) (settled_same margin at x x.attempt whole)
 
-presence_away : (margin at : ℕ) (xs : List Track) (answers : List Answer) (p : Presence) → (presence_after margin at xs answers p).away ≡ p.away
+pub presence_away : (margin at : ℕ) (xs : List Track) (answers : List Answer) (p : Presence) → (presence_after margin at xs answers p).away ≡ p.away
 unfolding presence_after held_back
 presence_away margin at xs answers p = if_both (λ (q : Presence). q.away ≡ p.away) _ _ p refl refl
 
@@ -162,12 +163,12 @@ pub record IsTried (s : State) (e : ℕ → ℕ) (last : Wake) (ts : List ℕ) (
   pub operation : try.operation ≡ Renew
   pub base : ℕ
   pub base_is : try.base ≡ Some base
-  pub base_now : sec base ≡ second s
+  pub base_now : sec base ≡ last.at
   pub asked : is_asked last i ≡ true
-  pub now : second s ≡ last.at
-  pub later : (u : ℕ) → first_of ts ≡ Some u → second s < u
-  pub gains : e i ≡ renewal (terms s i) (second s)
-  pub ahead : second s < e i
+  pub now : last.at ≤ second s
+  pub gains : e i ≡ renewal (terms s i) last.at
+  pub grows : ends s i < e i
+  pub ahead : second s < ends s i
   pub wanted : is_wanted s i ≡ true
   pub in_plan : in_plan_at s i ≡ true
   pub led : lead_at s i ≡ (entry_of s i).step
@@ -175,6 +176,13 @@ pub record IsTried (s : State) (e : ℕ → ℕ) (last : Wake) (ts : List ℕ) (
   pub top : (track_at s i).top ≡ false
   pub more : (c : ℕ) → (terms s i).ceiling ≡ Some c → wanted_need s i ≤ c
   pub owes : (track_at s i).owes ≡ false
+
+-- its renewal counts from the second of the round, and leads as far as it should
+pub began_is : (s : State) (e : ℕ → ℕ) (last : Wake) (ts : List ℕ) (i : ℕ) → IsTried s e last ts i → began_at s i ≡ last.at
+began_is s e last ts i h = ap began_by h.is ∙ ap began_in h.base_is ∙ h.base_now
+
+pub leads_is : (s : State) (e : ℕ → ℕ) (last : Wake) (ts : List ℕ) (i : ℕ) → IsTried s e last ts i → leads_to s i ≡ e i
+leads_is s e last ts i h = ap (λ t. renewal (terms s i) t) (began_is s e last ts i h) ∙ sym h.gains
 
 pub need_alike : (new old : State) → IsForest new.forest → IsForest old.forest → AreAlike new old → second new ≡ second old → (i : ℕ) → wanted_need new i ≡ wanted_need old i
 need_alike new old forest forest' a now i =
@@ -189,14 +197,16 @@ wanted_alike new old i same need =
     sym (bears_wants (track_at new i) (wanted_need new i)) ∙ ap₂ (λ (x : Track) (n : ℕ). wants x n) same need ∙ bears_wants (track_at old i) (wanted_need old i)
 
 pub tried_on :
-    (new old : State) (e : ℕ → ℕ) (last : Wake) (ts : List ℕ) → IsForest new.forest → IsForest old.forest → AreAlike new old → second new ≡ second old →
-    (i : ℕ) → IsKept (track_at new i) (track_at old i) → IsTried old e last ts i → IsTried new e last ts i
-tried_on new old e last ts forest forest' a now i same h =
-    let need = need_alike new old forest forest' a now i in
+    (new old : State) (e : ℕ → ℕ) (last : Wake) (ts : List ℕ) → IsForest new.forest → IsForest old.forest → AreAlike new old → second old ≤ second new →
+    (i : ℕ) → IsKept (track_at new i) (track_at old i) → second new < ends old i → IsTried old e last ts i → IsTried new e last ts i
+tried_on new old e last ts forest forest' a later i same alive h =
+    let short = wanted_short old i h.wanted in
+    let need = need_kept new old forest forest' a later i (omega arith) in
     let l = lead_alike new old a.forest i (ap (λ (x : Track). x.grant) same.bears) in
     let t = terms_alike new old a i in
     let w = h.within in
     let count = ap (λ (g : Forest). length g.entries) a.forest in
+    let end = ends_alike new old i same.bears in
     record {
       within = omega arith;
       try = h.try;
@@ -206,12 +216,12 @@ tried_on new old e last ts forest forest' a now i same h =
       operation = h.operation;
       base = h.base;
       base_is = h.base_is;
-      base_now = h.base_now ∙ sym now;
+      base_now = h.base_now;
       asked = h.asked;
-      now = now ∙ h.now;
-      later = λ u is. (let k = h.later u is in omega arith);
-      gains = h.gains ∙ sym (ap₂ (λ (x : Entry) (m : ℕ). renewal x m) t now);
-      ahead = (let k = h.ahead in omega arith);
+      now = (let k = h.now in omega arith);
+      gains = h.gains ∙ sym (ap (λ (x : Entry). renewal x last.at) t);
+      grows = (let k = h.grows in omega arith);
+      ahead = omega arith;
       wanted = wanted_alike new old i same.bears need ∙ h.wanted;
       in_plan = plan_alike new old a.forest i l ∙ h.in_plan;
       led = l ∙ h.led ∙ sym (entry_step new old a.forest i);
@@ -222,7 +232,7 @@ tried_on new old e last ts forest forest' a now i same h =
     }
 
 -- a watch that goes by its plan: what it believes but for ends is g, it is to end up with the ends e, and from then on the moments to
--- come are ts. Whoever is out is being renewed, and went out in this second
+-- come are ts. Whoever is out is being renewed
 pub record Goes (s : State) (g : Forest) (e : ℕ → ℕ) (last : Wake) (ts : List ℕ) : Type 0 where
   pub forest : IsForest s.forest
   pub count : length s.tracks ≡ length s.forest.entries
@@ -232,11 +242,10 @@ pub record Goes (s : State) (g : Forest) (e : ℕ → ℕ) (last : Wake) (ts : L
   pub plan : IsLeastAndLatest g.entries g.margin (second s) e ts
   pub each : (i : ℕ) → IsIdle s e i ⊎ IsTried s e last ts i
   pub waits : (i : ℕ) → list_any (λ (r : Out). r.entry == i) s.out ≡ true → attempt_at s i ≡ None → ⊥
-  pub since : All (λ (r : Out). sec r.since ≡ second s) s.out
 
--- what goes out are renewals that a wake-up asks, in its second
+-- what goes out are renewals that a wake-up asks, from its second on
 abbrev pub IsSent : Wake → State → Request → Type 0
-IsSent now s r = (r.operation ≡ Renew) × ((is_asked now r.entry ≡ true) × (second s ≡ now.at))
+IsSent now s r = (r.operation ≡ Renew) × ((is_asked now r.entry ≡ true) × (now.at ≤ second s))
 
 -- a turn goes by the wake-ups to come
 pub record IsOn (new : State) (g : Forest) (s0 : ℕ) (was : ℕ → ℕ) (last : Wake) (wakes : List Wake) (round : Option (List ℕ)) (requests : List Request) : Type 0 where
@@ -428,7 +437,3 @@ module _ (r : State) (round : List ℕ) (requests : List Request) where
           mapped (q ∷ rs) some =
               or_parts (q.entry == i) (list_any (λ (o : Out). o.entry == i) (map (out_at r.clocks.at) rs)) (list_any (λ (o : Request). o.entry == i) (q ∷ rs) ≡ true) some
               (λ here. or_left (q.entry == i) (list_any (λ (o : Request). o.entry == i) rs) here) (λ later. or_right (q.entry == i) (list_any (λ (o : Request). o.entry == i) rs) (mapped rs later))
-
-    -- each that is out went out in this second
-    pub since_new : All (λ (q : Out). sec q.since ≡ second r) r.out → All (λ (q : Out). sec q.since ≡ second new) new.out
-    since_new before = All-append (λ (q : Out). sec q.since ≡ second r) r.out (map (out_at r.clocks.at) requests) before (All-map (λ (q : Out). sec q.since ≡ second r) (out_at r.clocks.at) requests (λ k d within. refl))

@@ -1,6 +1,6 @@
 -- Calm: how what a watch asks goes with the least and latest plan. Each law is the contract of a public function without a body.
 -- Source: this project's own.
-use Rattle.std.specs.Prelude.{◌≡◌, ℕ, ◌+◌, ◌<◌, ◌≤◌, true, false, not, ◌&&◌, Bool, List, [], ◌∷◌, Option, Some, None, IfSome, Result, Ok, Err, is_none, length, map}
+use Rattle.std.specs.Prelude.{◌≡◌, ℕ, ◌+◌, ◌-◌, ◌<◌, ◌≤◌, true, false, not, ◌&&◌, Bool, List, [], ◌∷◌, Option, Some, None, IfSome, Result, Ok, Err, is_none, length, map}
 use Rattle.std.specs.List.{All, range_with_len}
 use Rattle.keep_tree.specs.declared.entry.Entry.{Entry}
 use Rattle.keep_tree.specs.Forest.{Forest}
@@ -18,6 +18,7 @@ use Rattle.watch_machine.specs.declared.event.Operation.TheVariants.{Renew}
 use Rattle.watch_machine.specs.declared.event.Reply.TheVariants.{Told}
 use Rattle.watch_machine.specs.declared.fault.WatchFault.{WatchFault}
 use Rattle.watch_machine.specs.declared.lanes.Out.{Out}
+use Rattle.watch_machine.specs.declared.track.Try.{Try}
 use Rattle.watch_machine.specs.Beginning.{is_pressed}
 use Rattle.watch_machine.specs.Clocks.{sec}
 use Rattle.watch_machine.specs.History.{History, IsRun, Turned}
@@ -28,7 +29,7 @@ use Rattle.watch_machine.specs.Renewed.{from_try}
 use Rattle.watch_machine.specs.Settling.{timed}
 use Rattle.watch_machine.specs.State.{State, attempt_at, entry_of, opened, second, track_at}
 use Rattle.watch_machine.specs.Step.{readied, why}
-use Rattle.watch_machine.specs.Wanted.{believed, is_wanted, seen}
+use Rattle.watch_machine.specs.Wanted.{believed, is_wanted, seen, wanted_need}
 use Rattle.watch_laws.specs.Load.{requests_of}
 use Rattle.watch_laws.specs.Time.{round_of}
 
@@ -126,23 +127,53 @@ pub record IsAtRest (s : State) : Type 0 where
   pub owes : (i : ℕ) → (track_at s i).owes ≡ false
   pub calm : IsCalm s
 
+-- the second in which the try of an entry began: that of its round. 0 where it has none, and where it failed since
+abbrev pub began_in : Option ℕ → ℕ
+began_in None = 0
+began_in (Some base) = sec base
+
+abbrev pub began_by : Option Try → ℕ
+began_by None = 0
+began_by (Some t) = began_in t.base
+
+abbrev pub began_at : State → ℕ → ℕ
+began_at s i = began_by (attempt_at s i)
+
+-- the end to which a renewal by the rule leads that counts from there
+abbrev pub leads_to : State → ℕ → ℕ
+leads_to s i = renewal (terms s i) (began_at s i)
+
+-- a second in which no round can open: it comes before the time of each entry that is wanted and not pressed yet; and before the end of
+-- each that has a try, and before the time to which its renewal leads, where that end is before its need
+pub record IsBetween (s : State) (now : ℕ) : Type 0 where
+  pub others : (i : ℕ) → i < length s.forest.entries → is_wanted s i ≡ true → is_pressed (track_at s i) ≡ false → now < time_of s i
+  pub alive : (i : ℕ) → i < length s.forest.entries → is_none (attempt_at s i) ≡ false → now < ends s i
+  pub own : (i : ℕ) → i < length s.forest.entries → is_none (attempt_at s i) ≡ false → leads_to s i < wanted_need s i → now < leads_to s i - s.forest.margin
+
 -- a clock at which nothing begins anew and no clock is set: it comes in the second of the least time of an entry that is not pressed
--- yet, or before; and in the same second as the last one while anybody has a try
+-- yet, or before; and before any round could open while anybody has a try
 pub record IsCalmClock (s : State) (wall elapsed : ℕ) : Type 0 where
   pub goes_on : why s wall elapsed ≡ None
   pub broker_stays : (timed s wall elapsed).clocks.broker ≡ s.clocks.broker
   pub wall_stays : (timed s wall elapsed).clocks.wall ≡ s.clocks.wall
   pub in_time : (i : ℕ) → i < length s.forest.entries → is_wanted s i ≡ true → is_pressed (track_at s i) ≡ false → second (timed s wall elapsed) ≤ time_of s i
-  pub at_once : (i : ℕ) → i < length s.forest.entries → is_none (attempt_at s i) ≡ false → second (timed s wall elapsed) ≡ second s
+  pub answered : (i : ℕ) → i < length s.forest.entries → is_none (attempt_at s i) ≡ false → IsBetween s (second (timed s wall elapsed))
 
--- the end to which so many seconds lead that are granted to this request
+-- the second from which a grant of so many seconds to this request counts, and the end to which it leads
+abbrev pub counts_from : State → Out → ℕ → ℕ
+counts_from s r seconds = sec (from_try s.forest.margin (entry_of s r.entry).step seconds s.clocks.at r.since (attempt_at s r.entry))
+
 abbrev pub end_granted : State → Out → ℕ → ℕ
-end_granted s r seconds = sec (from_try s.forest.margin (entry_of s r.entry).step seconds s.clocks.at r.since (attempt_at s r.entry)) + seconds
+end_granted s r seconds = counts_from s r seconds + seconds
+
+-- a grant by the rule: it counts from the second of the round, and leads as far as a renewal in that second
+abbrev pub IsByRule : State → ℕ → ℕ → Out → Type 0
+IsByRule s i seconds r = (counts_from s r seconds ≡ began_at s i) × (end_granted s r seconds ≡ leads_to s i)
 
 -- such a clock, or the answer to a renewal by the rule
 abbrev pub IsCalmEvent : State → Event → Type 0
 IsCalmEvent s (Clock wall elapsed) = IsCalmClock s wall elapsed
-IsCalmEvent s (Renewed i (Told seconds renewable date)) = (renewable ≡ true) × IfSome (request_out s.out i Renew) (λ r. end_granted s r seconds ≡ renewal (terms s i) (second s))
+IsCalmEvent s (Renewed i (Told seconds renewable date)) = (renewable ≡ true) × IfSome (request_out s.out i Renew) (IsByRule s i seconds)
 IsCalmEvent s (Renewed i reply) = ⊥
 IsCalmEvent s event = ⊥
 
@@ -166,9 +197,9 @@ abbrev pub Opens : State → Option (List ℕ) → Wake → List Wake → Wake �
 Opens s None last wakes now next = (now ≡ last) × ((next ≡ wakes) × NonePassed s wakes)
 Opens s (Some asked) last wakes now next = (now ≡ record { at = second s; asked = asked }) × (wakes ≡ now ∷ next)
 
--- what goes out at a turn are renewals of those whom a wake-up asks, in its second
+-- what goes out at a turn are renewals of those whom a wake-up asks, from its second on
 abbrev pub SendsOnly : Wake → Turned → Type 0
-SendsOnly now turn = All (λ r. (r.operation ≡ Renew) × ((is_asked now r.entry ≡ true) × (second turn.state ≡ now.at))) (requests_of turn.result)
+SendsOnly now turn = All (λ r. (r.operation ≡ Renew) × ((is_asked now r.entry ≡ true) × (now.at ≤ second turn.state))) (requests_of turn.result)
 
 -- the ends after a turn as the wake-ups leave them that have opened so far: e before it
 abbrev pub left_by : Forest → (ℕ → ℕ) → Option (List ℕ) → Wake → ℕ → ℕ
@@ -187,9 +218,9 @@ GoBy g e last wakes (turn ∷ turns) =
     (now : Wake) × ((next : List Wake) × (Opens turn.state (round_of turn.result) last wakes now next × (SendsOnly now turn
     × (EndAs (left_by g e (round_of turn.result) now) turn.state × GoBy g (left_by g e (round_of turn.result) now) now next turns))))
 
--- from a state at rest on, while each clock comes in time and each renewal is granted by the rule in the second in which it goes out,
--- the rounds are exactly the wake-ups of the least and latest plan with its Asks; they lead the ends as the plan does, and nothing else
--- is asked
+-- from a state at rest on, while each clock comes in time, every reply comes before the next round and each renewal is granted by the rule
+-- from the second of its round, the rounds are exactly the wake-ups of the least and latest plan with its Asks; they lead the ends as the
+-- plan does, and nothing else is asked
 abbrev pub CalmLaw : Type 0
 CalmLaw =
     (s : State) (turns : List Turned) → IsAtRest s → History s turns → AreCalm s turns →

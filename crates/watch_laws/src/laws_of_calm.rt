@@ -14,8 +14,9 @@ pub fn round_of_plan_law()
     ensures { RoundOfPlanLaw }
 {}
 
-/// The law of calm: from a state at rest on, while each clock comes in time and each renewal is granted by the rule in its second,
-/// the rounds are exactly the wake-ups of the least and latest plan with its Asks, and nothing else is asked.
+/// The law of calm: from a state at rest on, while each clock comes in time, every reply comes before the next round opens, and each
+/// renewal is granted by the rule from the second of its round, the rounds are exactly the wake-ups of the least and latest plan with
+/// its Asks, and nothing else is asked. A round may take as long as it leaves room for the next one.
 pub fn calm_law()
     ensures { CalmLaw }
 {}
