@@ -1,10 +1,9 @@
 -- Held: who is held up while the broker is there and somebody is alone goes out as soon as the lanes have served whoever stands before it.
 -- For the law of partial outages.
-use Rattle.std.proofs.Common.{◌≡◌, ◌≢◌, ◌⊎◌, ◌∙◌, ℕ, ◌+◌, ◌-◌, ◌*◌, ◌<◌, ◌≤◌, Bool, true, false, not, ◌&&◌, ◌||◌, ◌==◌, List, [], ◌∷◌, ◌++◌, Option, Some, None, All, Result, Ok, Err, get_or, length, map, refl, sym, ap, subst, arith, inl, inr, true≢false}
+use Rattle.std.proofs.Common.{◌≡◌, ◌⊎◌, ◌∙◌, ℕ, ◌+◌, ◌-◌, ◌*◌, ◌<◌, ◌≤◌, Bool, true, false, not, ◌&&◌, ◌||◌, ◌==◌, List, [], ◌∷◌, ◌++◌, Option, Some, None, All, Result, Ok, Err, get_or, length, map, refl, sym, ap, subst, arith, inl, inr, true≢false}
 use Rattle.std.proofs.Math.Nat.{mul-add, mul-le-mul_left, mul_comm}
-use Rattle.std.proofs.lemmas.Bool.{and_from, cases_Bool, cases_lt}
-use Rattle.std.proofs.lemmas.Bool.Decides.{nat_tests}
-use Rattle.std.proofs.lemmas.List.Elements.{All-cons, All-nil, All-weaker}
+use Rattle.std.proofs.lemmas.Bool.{and_from, cases_lt}
+use Rattle.std.proofs.lemmas.List.Elements.{All-weaker}
 use Rattle.std.specs.List.{list_any}
 use Rattle.watch_machine.specs.declared.command.Command.TheVariants.{Go, Taken}
 use Rattle.watch_machine.specs.declared.command.Output.{Output}
@@ -20,35 +19,31 @@ use Rattle.watch_machine.specs.declared.track.Track.{Track}
 use Rattle.watch_machine.specs.Answers.{noted, replied}
 use Rattle.watch_machine.specs.Clocks.{sec}
 use Rattle.watch_machine.specs.History.{History, Turn, Turned}
-use Rattle.watch_machine.specs.Lines.{is_due}
 use Rattle.watch_machine.specs.Looked.{looked}
 use Rattle.watch_machine.specs.Press.{pressed}
 use Rattle.watch_machine.specs.Refusal.{request_out}
 use Rattle.watch_machine.specs.Renewed.{renewed}
-use Rattle.watch_machine.specs.Sending.{out_at, sent, sent_in}
+use Rattle.watch_machine.specs.Sending.{out_at, sent}
 use Rattle.watch_machine.specs.Settling.{timed}
 use Rattle.watch_machine.specs.State.{State, opened, track_at, track_in}
 use Rattle.watch_machine.specs.Step.{Step, StepLooked, StepRenewed, readied}
 use Rattle.watch_machine.specs.Wait.{wait}
-use Rattle.watch_machine.proofs.Cases.{not_both}
-use Rattle.watch_machine.proofs.Written.{each_length}
 use Rattle.watch_laws.specs.Absence.{is_clock, is_taken}
 use Rattle.watch_laws.specs.Outage.{one_if}
 use Rattle.watch_laws.specs.Partial.{AreHolding, AreSettled, IsHeld, IsHeldUp, IsHolding, IsInTime, Partial, PartialLaw, comes_before, coming_before, due_after, keeps_lane, longest, next_after, next_after_command, next_by, settled_by, stands_before, total, waiting_before, waits_before}
-use Rattle.watch_laws.specs.Recovery.{MayGo}
 use Rattle.watch_laws.specs.Turns.{after_all}
 use Rattle.watch_laws.proofs.Answering.{looked_leaves, renewed_leaves, rest_of}
 use Rattle.watch_laws.proofs.Clocking.{readied_clocks, refused_stays}
 use Rattle.watch_laws.proofs.Counting.{least_all}
-use Rattle.watch_laws.proofs.Fronts.{front_at, fronts, keeps_short, own_at, sent_front, sent_own, sent_partial}
-use Rattle.watch_laws.proofs.Going.{counts, entry_by, request_at, skips, some_named, times}
+use Rattle.watch_laws.proofs.Foremost.{all_front as before}
+use Rattle.watch_laws.proofs.Fronts.{front_at, keeps_short, own_at, sent_front, sent_partial}
+use Rattle.watch_laws.proofs.Going.{entry_by, request_at}
 use Rattle.watch_laws.proofs.Grounds.{opened_base, ran_base, turn_base}
 use Rattle.watch_laws.proofs.Lanes.{Ticks, all_left, each_named, pressed_count, ticks}
-use Rattle.watch_laws.proofs.Minding.{due_so, not_named, some_within}
 use Rattle.watch_laws.proofs.Outliving.{first_turns, last_turns}
 use Rattle.watch_laws.proofs.Recovering.{full_lanes}
 use Rattle.watch_laws.proofs.Retrying.{IsPast, rises}
-use Rattle.watch_laws.proofs.Spacing.{free_of, looked_out, mid_flag, passed_over, readied_out, went}
+use Rattle.watch_laws.proofs.Spacing.{free_of, looked_out, mid_flag, readied_out, went}
 use Rattle.watch_laws.proofs.Spans.{adds_most, mapped, span, span_append, span_later, span_most, span_replied, span_sent, totals}
 use Rattle.watch_laws.proofs.Stages.{IsBase}
 use Rattle.watch_laws.proofs.Topping.{readied_count}
@@ -72,19 +67,6 @@ fewer o n i old new =
     totals n (keeps_lane o) (waits_before i new) (goes_before i old new) (waits_before i old) (comes_before i old new)
     (λ j. one_each (stands_before i new j) (track_at new j).out (stands_before i old j) (track_at old j).out)
 
--- none of some numbers is another
-absent : (i : ℕ) (is : List ℕ) → times i is ≡ 0 → All (λ k. k ≢ i) is
-absent i [] none = All-nil (λ k. k ≢ i)
-absent i (j ∷ js) none =
-    elim (cases_Bool (j == i)) as (λ _. All (λ k. k ≢ i) (j ∷ js)) [
-      | inl here ↦ absurd (let more = counts i j js here in omega (arith, more, none))
-      | inr there ↦
-          let more = skips i j js there in
-          All-cons (λ k. k ≢ i) j js (λ e. not_both (same_is j i e) there) (absent i js (omega (arith, more, none)))
-    ] where
-      same_is : (a b : ℕ) → a ≡ b → (a == b) ≡ true
-      same_is a b e = grind (arith, nat_tests)
-
 -- a clock after which i is held up: whoever goes out stood before it, and keeps its lane as long as is said
 module _ (o : Partial) (width n i : ℕ) (old new : State) (wall elapsed : ℕ) (output : Output) (h : Ticks old new wall elapsed output) (base : IsBase width n old) where
   abbrev mid : State
@@ -102,31 +84,8 @@ module _ (o : Partial) (width n i : ℕ) (old new : State) (wall elapsed : ℕ) 
   mid_count : length mid.tracks ≡ n
   mid_count = pressed_count (readied old wall elapsed) h.round ∙ readied_count old wall elapsed ∙ base.count
 
-  none_of : MayGo left i → times i gone ≡ 0
-  none_of may =
-      let count = each_length (sent_in mid.clocks.at h.requests) mid.tracks in
-      let within = some_within left.tracks i may.attempt may.attempt_is in
-      let other = not_named mid h.requests i (omega (arith, within, count)) may.free in
-      elim (cases_lt (times i gone) 1) as (λ _. times i gone ≡ 0) [
-        | inl none ↦ omega (arith, none)
-        | inr some ↦ absurd (not_both (ap (list_any (λ (r : Request). r.entry == i)) h.going.requests_are ∙ some_named mid.presence (sec at) at mid.tracks i gone some) other)
-      ]
-
   all_front : IsHeldUp o left i → All (λ k. front_at (sec at) mid.tracks i k ≡ true) gone
-  all_front held =
-      let may = held.may in
-      let count = each_length (sent_in mid.clocks.at h.requests) mid.tracks in
-      let low = some_within left.tracks i may.attempt may.attempt_is in
-      let within : i < length mid.tracks = omega (arith, low, count) in
-      let other = not_named mid h.requests i within may.free in
-      let same = passed_over mid h.requests i other in
-      let due : is_due mid.presence at (track_at mid i) ≡ true = subst (λ x. is_due mid.presence at x ≡ true) same (due_so mid.presence at (track_at left i) may.attempt may.free may.attempt_is may.due) in
-      let none = none_of may in
-      let apart = absent i gone none in
-      let order = h.going.order i within due none in
-      let all = h.going.due in
-      let own : own_at (sec at) mid.tracks i ≡ true = sym (sent_own mid h.requests (sec at) i) ∙ held.own in
-      λ k d below. fronts mid.presence at mid.tracks i (get_or gone k d) held.there own (all k d below).1 (apart k d below) (order k d below)
+  all_front held = before old new wall elapsed output h i held.may held.there held.own
 
   all_go : IsHeldUp o left i → All (λ k. goes_before i old left k ≡ true) gone
   all_go held =

@@ -32,6 +32,7 @@ pub mod Answered
 pub mod Outliving
 pub mod Recovering
 pub mod Fronts
+pub mod Foremost
 pub mod Spans
 pub mod Held
 pub mod Once
@@ -50,3 +51,4 @@ pub mod Lookups
 pub mod LookedOnce
 pub mod Working
 pub mod Starting
+pub mod UnderWay

@@ -171,7 +171,7 @@ hoped_for g xs c j is wanted =
     (record y { renewable = x.renewable && not x.top; step = step_in_plan g.margin e x y.step }) (λ yes'. refl)
     (λ no'. absurd (not_both (hope (wants x need) (is_in_plan g.margin e x) (is_unknown x.end) (is_pressed x) x.out wanted is) no'))
 
-names_none : (g : Forest) (xs : List Track) (c : Clocks) (round : Option (List ℕ)) (j : ℕ) → IsRound g xs c round → is_pressed (track_in xs j) ≡ true → wants (track_in xs j) (need_of g.entries xs c j) ≡ true →
+pub names_none : (g : Forest) (xs : List Track) (c : Clocks) (round : Option (List ℕ)) (j : ℕ) → IsRound g xs c round → is_pressed (track_in xs j) ≡ true → wants (track_in xs j) (need_of g.entries xs c j) ≡ true →
     list_any (λ k. k == j) (round_of round) ≡ false
 names_none g xs c None j h is wanted = refl
 names_none g xs c (Some asked) j h is wanted =

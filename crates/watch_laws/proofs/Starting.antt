@@ -1,19 +1,42 @@
 -- Starting: from a clock on at which an entry is at work, it is answered within few rounds. For the law of a start.
-use Rattle.std.proofs.Common.{◌≡◌, ◌⊎◌, ◌∙◌, ℕ, suc, ◌+◌, ◌*◌, ◌<◌, ◌≤◌, Bool, true, false, List, ◌∷◌, All, length, refl, ap, subst, arith, inl, inr}
+use Rattle.std.proofs.Common.{◌≡◌, ◌∙◌, ℕ, suc, ◌+◌, ◌*◌, ◌≤◌, Bool, true, false, not, ◌&&◌, ◌∷◌, All, get_or, is_some, length, refl, ap, subst, arith, inl, inr}
+use Rattle.std.proofs.Math.Nat.{mul-suc}
 use Rattle.std.proofs.lemmas.Bool.{cases_Bool}
 use Rattle.watch_machine.specs.declared.lanes.Out.{Out}
 use Rattle.watch_machine.specs.State.{State, opened}
 use Rattle.watch_machine.specs.Wait.{wait}
-use Rattle.watch_laws.specs.Outage.{coming, is_served, next_by, settled_by, waiting}
+use Rattle.watch_laws.specs.Outage.{Outage, coming, how_many, is_served, is_tried, is_whole, next_by, one_if, settled_by, waiting, waits}
 use Rattle.watch_laws.specs.Recovery.{calm}
-use Rattle.watch_laws.specs.Starts.{AreWorked, StartLaw}
+use Rattle.watch_laws.specs.Starts.{AllSoon, AreWorked, StartLaw}
 use Rattle.watch_laws.specs.Turns.{after_all}
-use Rattle.watch_laws.proofs.Counting.{least_all}
+use Rattle.watch_laws.proofs.Counting.{lanes_apart, least_all, more, none, some, sums}
 use Rattle.watch_laws.proofs.Grounds.{opened_base, ran_base, turn_base}
+use Rattle.watch_laws.proofs.Lanes.{anew_served, is_anew, served_tried}
 use Rattle.watch_laws.proofs.Outliving.{first_turns, last_turns, starts}
-use Rattle.watch_laws.proofs.Recovering.{Timely, full_lanes, soon_next}
-use Rattle.watch_laws.proofs.Ticking.{anew_none}
+use Rattle.watch_laws.proofs.Recovering.{Timely, all_whole, full_lanes, soon_next}
+use Rattle.watch_laws.proofs.Stages.{IsBase, one_left, take_one}
+use Rattle.watch_laws.proofs.Ticking.{anew_none, one_lane}
 use Rattle.watch_laws.proofs.Working.{Stage, along, served_now, soon_after}
+
+-- whoever waits or is being asked has something to be asked
+both_tried : (tried served : Bool) → (served ≡ true → tried ≡ true) → one_if (tried && not served) + one_if served ≤ one_if tried + one_if false + one_if false
+both_tried true true h = omega arith
+both_tried true false h = omega arith
+both_tried false false h = omega arith
+both_tried false true h = absurd (let bad = h refl in cc)
+
+all_tried : (o : Outage) (width n : ℕ) (s : State) → IsBase width n s → waiting o n s + how_many n (is_served o s) ≤ how_many n (is_tried s)
+all_tried o width n s base =
+    let sum = sums n (waits o s) (is_served o s) (is_tried s) (λ j. false) (λ j. false) (λ j. both_tried (is_tried s j) (is_served o s j) (served_tried o s j base.alone base.tries)) in
+    let zero' = none n (λ j. false) (λ j. refl) in
+    omega (arith, sum, zero')
+
+-- every lane that is taken holds a request of another entry
+lanes_tried : (quick late width n : ℕ) (s : State) → IsBase width n s → length s.out ≤ how_many n (is_served (calm quick late) s)
+lanes_tried quick late width n s base =
+    let within = base.within in
+    lanes_apart n (λ (q : Out). is_whole (calm quick late) q.since) s.out (λ j. one_lane s j base.alone)
+    (λ k d below. (within k d below, all_whole quick late (get_or s.out k d).since))
 
 pub starts_soon : StartLaw
 starts_soon quick late rounds g width before last turns i wide run clock taken' low work working few =
@@ -28,45 +51,62 @@ starts_soon quick late rounds g width before last turns i wide run clock taken' 
     let due = next_by o (wait s) s.out in
     let timely : All (Timely quick late due) s.out = least_all (λ (q : Out). settled_by o q.since + late) (wait s + late) s.out in
     let at = s.clocks.at in
-    let by = at + (quick + late) * rounds in
+    let waits' = waiting o n s in
+    let k = waits' + coming o n s turns in
+    let all = all_tried o width n s base in
     let zero' = anew_none o (suc at) n s base.since (omega arith) in
-    let k = waiting o n s + coming o n s turns in
+    let tried : is_tried s i ≡ true = elim work as (λ _. is_tried s i ≡ true) [
+      | inl any ↦ served_tried o s i base.alone base.tries any
+      | inr m ↦ ap is_some m.attempt_is
+    ] in
+    let one = some n i (is_tried s) low tried in
+    let q = one_left width rounds (how_many n (is_tried s) + coming o n s turns) few (omega (arith, one)) in
+    let by = at + (quick + late) * q.0 in
+    let g' = ap (λ x. (quick + late) * x) q.1 ∙ mul-suc (quick + late) q.0 in
     let served : is_served o s i ≡ true → Stage quick late width n i by due k s =
     λ any.
     let here = served_now o i at s.out base.since any in
+    let fewer = more n (is_anew o 0 s) (is_served o s) (λ j. anew_served o 0 s j) in
     inr (record {
       base = base;
       timely = timely;
       r = rounds;
-      from = at;
+      anew = 0;
+      turn = at;
       sent = at;
       served = here;
-      count = omega (arith, few, zero');
-      start = omega arith;
-      sent_from = omega arith;
+      count = omega (arith, few, all, fewer);
+      order = omega arith;
+      start = omega (arith, g');
+      sent_turn = omega arith;
       sent_by = omega arith;
       next = soon_after quick late i due at s.out timely here;
       now = omega arith;
     }) in
-    along quick late width n i wide low turns by due s history.1 (subst (λ d. AreWorked o i d s turns) start.due working)
-    (elim work as (λ _. Stage quick late width n i by due k s) [
+    let stage : Stage quick late width n i by due k s = elim work as (λ _. Stage quick late width n i by due k s) [
       | inl any ↦ served any
       | inr m ↦ elim (cases_Bool (is_served o s i)) as (λ _. Stage quick late width n i by due k s) [
         | inl any ↦ served any
-        | inr none ↦
+        | inr none' ↦
+            let full = full_lanes old s start.wall start.elapsed start.output i width start.ticks' m base.fits.0 in
+            let lanes = lanes_tried quick late width n s base in
+            let less = take_one width rounds (how_many n (is_tried s) + coming o n s turns) k wide (omega (arith, all, full, lanes)) few in
+            let same = ap (λ x. (quick + late) * x) less.1.0 ∙ mul-suc (quick + late) less.0 in
+            let fits = less.1.1 in
             inl (record {
               passing = record {
                 base = base;
                 timely = timely;
-                r = rounds;
+                r = less.0;
                 from = at;
-                count = omega (arith, few, zero');
-                start = omega arith;
-                next = soon_next quick late width n i by due s wide base timely (full_lanes old s start.wall start.elapsed start.output i width start.ticks' m base.fits.0);
+                count = omega (arith, fits, zero');
+                start = omega (arith, same, g');
+                next = soon_next quick late width n i by due s wide base timely full;
                 now = omega arith;
               };
-              unserved = none;
+              unserved = none';
             })
       ]
-    ])
-    base
+    ] in
+    subst (λ b. AllSoon i (quick + late) b turns) (let e : by + (quick + late) ≡ at + (quick + late) * rounds = omega (arith, g') in e)
+    (along quick late width n i wide low turns by due s history.1 (subst (λ d. AreWorked o i d s turns) start.due working) stage base)

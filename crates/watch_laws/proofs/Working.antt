@@ -47,17 +47,19 @@ pub record Waits (quick late width n i by due k : ℕ) (s : State) : Type 0 wher
   pub passing : Passes quick late width n i by due k s
   pub unserved : is_served (calm quick late) s i ≡ false
 
--- or it is being asked
+-- or it is being asked: r rounds hold those that wait, but for those that went out at anew or later; and after its answer they begin at turn
 pub record Serves (quick late width n i by due k : ℕ) (s : State) : Type 0 where
   pub base : IsBase width n s
   pub timely : All (Timely quick late due) s.out
   pub r : ℕ
-  pub from : ℕ
+  pub anew : ℕ
+  pub turn : ℕ
   pub sent : ℕ
   pub served : since_by i sent s.out ≡ true
-  pub count : k + how_many n (is_anew (calm quick late) (suc from) s) ≤ width * r
-  pub start : from + (quick + late) * r ≤ by
-  pub sent_from : sent ≤ from + (quick + late)
+  pub count : k + how_many n (is_anew (calm quick late) anew s) ≤ width * r
+  pub order : anew ≤ suc turn
+  pub start : turn + (quick + late) * r ≤ by + (quick + late)
+  pub sent_turn : sent ≤ turn
   pub sent_by : sent ≤ by
   pub next : due ≤ sent + (quick + late)
   pub now : s.clocks.at ≤ by + (quick + late)
@@ -86,12 +88,14 @@ later_serves quick late width n i by more due k s le v =
       base = v.base;
       timely = v.timely;
       r = v.r;
-      from = v.from;
+      anew = v.anew;
+      turn = v.turn;
       sent = v.sent;
       served = v.served;
       count = v.count;
+      order = v.order;
       start = omega (arith, start, le);
-      sent_from = v.sent_from;
+      sent_turn = v.sent_turn;
       sent_by = omega (arith, sent_by, le);
       next = v.next;
       now = omega (arith, now, le);
@@ -113,34 +117,36 @@ fewer_stage quick late width n i by due k more s le (inr v) =
       base = v.base;
       timely = v.timely;
       r = v.r;
-      from = v.from;
+      anew = v.anew;
+      turn = v.turn;
       sent = v.sent;
       served = v.served;
       count = omega (arith, count, le);
+      order = v.order;
       start = v.start;
-      sent_from = v.sent_from;
+      sent_turn = v.sent_turn;
       sent_by = v.sent_by;
       next = v.next;
       now = v.now;
     })
 
 -- fewer are out anew after a later moment
-fewer_anew : (o : Outage) (from more n : ℕ) (s : State) → from ≤ more → how_many n (is_anew o (suc more) s) ≤ how_many n (is_anew o (suc from) s)
-fewer_anew o from more n s le = more_pass n (is_anew o (suc more) s) (is_anew o (suc from) s) (λ j h. weaker j s.out h) where
-  weaker : (j : ℕ) (out : List Out) → list_any (λ (q : Out). q.entry == j && (is_whole o q.since && nat_le (suc more) q.since)) out ≡ true →
-      list_any (λ (q : Out). q.entry == j && (is_whole o q.since && nat_le (suc from) q.since)) out ≡ true
+fewer_anew : (o : Outage) (from more n : ℕ) (s : State) → from ≤ more → how_many n (is_anew o more s) ≤ how_many n (is_anew o from s)
+fewer_anew o from more n s le = more_pass n (is_anew o more s) (is_anew o from s) (λ j h. weaker j s.out h) where
+  weaker : (j : ℕ) (out : List Out) → list_any (λ (q : Out). q.entry == j && (is_whole o q.since && nat_le more q.since)) out ≡ true →
+      list_any (λ (q : Out). q.entry == j && (is_whole o q.since && nat_le from q.since)) out ≡ true
   weaker j [] h = absurd cc
   weaker j (q ∷ out) h =
-      let rest = list_any (λ (p : Out). p.entry == j && (is_whole o p.since && nat_le (suc from) p.since)) out in
-      elim (cases_Bool (q.entry == j && (is_whole o q.since && nat_le (suc more) q.since))) as (λ _. (q.entry == j && (is_whole o q.since && nat_le (suc from) q.since)) || rest ≡ true) [
+      let rest = list_any (λ (p : Out). p.entry == j && (is_whole o p.since && nat_le from p.since)) out in
+      elim (cases_Bool (q.entry == j && (is_whole o q.since && nat_le more q.since))) as (λ _. (q.entry == j && (is_whole o q.since && nat_le from q.since)) || rest ≡ true) [
         | inl here ↦
-            let one = and_parts (q.entry == j) (is_whole o q.since && nat_le (suc more) q.since) here in
-            let two = and_parts (is_whole o q.since) (nat_le (suc more) q.since) one.1 in
-            let late : nat_le (suc from) q.since ≡ true = (let a = two.1 in grind (arith, nat_tests)) in
-            first (q.entry == j && (is_whole o q.since && nat_le (suc from) q.since)) rest (and_from (q.entry == j) (is_whole o q.since && nat_le (suc from) q.since) one.0 (and_from (is_whole o q.since) (nat_le (suc from) q.since) two.0 late))
+            let one = and_parts (q.entry == j) (is_whole o q.since && nat_le more q.since) here in
+            let two = and_parts (is_whole o q.since) (nat_le more q.since) one.1 in
+            let late : nat_le from q.since ≡ true = (let a = two.1 in grind (arith, nat_tests)) in
+            first (q.entry == j && (is_whole o q.since && nat_le from q.since)) rest (and_from (q.entry == j) (is_whole o q.since && nat_le from q.since) one.0 (and_from (is_whole o q.since) (nat_le from q.since) two.0 late))
         | inr there ↦
-            last (q.entry == j && (is_whole o q.since && nat_le (suc from) q.since)) rest
-            (weaker j out (sym (ap (λ b. b || list_any (λ (p : Out). p.entry == j && (is_whole o p.since && nat_le (suc more) p.since)) out) there) ∙ h))
+            last (q.entry == j && (is_whole o q.since && nat_le from q.since)) rest
+            (weaker j out (sym (ap (λ b. b || list_any (λ (p : Out). p.entry == j && (is_whole o p.since && nat_le more p.since)) out) there) ∙ h))
       ] where
         first : (a b : Bool) → a ≡ true → a || b ≡ true
         first true b e = refl
@@ -235,12 +241,14 @@ module _ (quick late width n i by due rest : ℕ) (old new : State) (wall elapse
         base = base;
         timely = timely_now;
         r = p.r;
-        from = p.from;
+        anew = suc p.from;
+        turn = p.from + (quick + late);
         sent = new.clocks.at;
         served = here;
         count = omega (arith, less, count);
-        start = start;
-        sent_from = omega (arith, is, late', next);
+        order = omega arith;
+        start = omega (arith, start);
+        sent_turn = omega (arith, is, late', next);
         sent_by = omega (arith, is, late', next, start, g);
         next = soon_after quick late i (next_by o (wait new) new.out) new.clocks.at new.out timely_now here;
         now = omega (arith, is, late', next, start, g);
@@ -256,7 +264,7 @@ module _ (quick late width n i by due rest : ℕ) (old new : State) (wall elapse
 
   clock_serves : Serves quick late width n i by due more old → Stage quick late width n i by (next_after_command o output.command new due) (waiting o n new + rest) new
   clock_serves v =
-      let less = fewer_wait o (suc v.from) n old new v.base.alone base.alone base.tries sends in
+      let less = fewer_wait o v.anew n old new v.base.alone base.alone base.tries sends in
       let count = v.count in
       let next = v.next in
       let sent_by = v.sent_by in
@@ -268,12 +276,14 @@ module _ (quick late width n i by due rest : ℕ) (old new : State) (wall elapse
         base = base;
         timely = timely_now;
         r = v.r;
-        from = v.from;
+        anew = v.anew;
+        turn = v.turn;
         sent = v.sent;
         served = here;
         count = omega (arith, less, count);
+        order = v.order;
         start = v.start;
-        sent_from = v.sent_from;
+        sent_turn = v.sent_turn;
         sent_by = v.sent_by;
         next = soon_after quick late i (next_by o (wait new) new.out) v.sent new.out timely_now here;
         now = omega (arith, is, late', next, sent_by);
@@ -294,7 +304,7 @@ quiet_stage quick late width n i by due rest old new output quiet base sends lea
     inl (record { passing = quiet_passes quick late width n i by due rest old new output quiet base sends w.passing; unserved = leaves.unserved w.unserved })
 quiet_stage quick late width n i by due rest old new output quiet base sends leaves (inr v) =
     let o = calm quick late in
-    let less = fewer_wait o (suc v.from) n old new v.base.alone base.alone base.tries sends in
+    let less = fewer_wait o v.anew n old new v.base.alone base.alone base.tries sends in
     let count = v.count in
     let now = v.now in
     let c = quiet.0 in
@@ -303,12 +313,14 @@ quiet_stage quick late width n i by due rest old new output quiet base sends lea
       base = base;
       timely = quiet.1.0 v.timely;
       r = v.r;
-      from = v.from;
+      anew = v.anew;
+      turn = v.turn;
       sent = v.sent;
       served = leaves.served v.sent v.served;
       count = omega (arith, less, count);
+      order = v.order;
       start = v.start;
-      sent_from = v.sent_from;
+      sent_turn = v.sent_turn;
       sent_by = v.sent_by;
       next = v.next;
       now = omega (arith, c, now);
@@ -332,14 +344,12 @@ own_stage quick late width n i by due rest old new output quiet base sends unser
     })
 own_stage quick late width n i by due rest old new output quiet base sends unserved (inr v) =
     let o = calm quick late in
-    let from' = v.from + (quick + late) in
-    let less = fewer_wait o (suc v.from) n old new v.base.alone base.alone base.tries sends in
-    let fewer = fewer_anew o v.from from' n new (omega arith) in
+    let less = fewer_wait o v.anew n old new v.base.alone base.alone base.tries sends in
+    let fewer = fewer_anew o v.anew (suc v.turn) n new v.order in
     let count = v.count in
-    let start = v.start in
     let now = v.now in
     let next = v.next in
-    let sent_from = v.sent_from in
+    let sent_turn = v.sent_turn in
     let c = quiet.0 in
     inl (record {
       passing = subst (λ x. Passes quick late width n i (by + (quick + late)) x (waiting o n new + rest) new) (sym quiet.1.1)
@@ -347,10 +357,10 @@ own_stage quick late width n i by due rest old new output quiet base sends unser
             base = base;
             timely = quiet.1.0 v.timely;
             r = v.r;
-            from = from';
+            from = v.turn;
             count = omega (arith, less, count, fewer);
-            start = omega (arith, start);
-            next = omega (arith, next, sent_from);
+            start = v.start;
+            next = omega (arith, next, sent_turn);
             now = omega (arith, c, now);
           });
       unserved = unserved;

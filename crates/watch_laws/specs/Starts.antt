@@ -1,18 +1,27 @@
 -- Starts: how long it takes, from a beginning or any other clock on, until an entry is answered once and again, as one that is looked up and
--- then renewed. The law is the contract of a public function without a body.
+-- then renewed; and who is asked first. Each law is the contract of a public function without a body.
 -- Source: this project's own.
-use Rattle.std.specs.Prelude.{◌≡◌, ◌⊎◌, ◌==◌, ℕ, ◌+◌, ◌*◌, ◌<◌, ◌≤◌, Bool, true, false, ◌&&◌, if◌then◌else◌, List, [], ◌∷◌, ◌++◌, Result, Ok, Err, length}
+use Rattle.std.specs.Prelude.{◌≡◌, ◌⊎◌, ◌==◌, ℕ, ◌+◌, ◌*◌, ◌<◌, ◌≤◌, Bool, true, false, ◌&&◌, if◌then◌else◌, List, [], ◌∷◌, ◌++◌, Option, Some, None, Result, Ok, Err, IfSome, length}
+use Rattle.std.specs.List.{All, list_any}
 use Rattle.keep_tree.specs.Forest.{Forest}
 use Rattle.watch_machine.specs.declared.command.Output.{Output}
 use Rattle.watch_machine.specs.declared.event.Event.{Event}
 use Rattle.watch_machine.specs.declared.event.Event.TheVariants.{Clock, Looked, Renewed, Need, Begin, Known}
+use Rattle.watch_machine.specs.declared.event.Operation.TheVariants.{Look, Renew}
 use Rattle.watch_machine.specs.declared.fault.WatchFault.{WatchFault}
+use Rattle.watch_machine.specs.declared.track.Try.{Try}
 use Rattle.watch_machine.specs.History.{IsRun, Turned}
-use Rattle.watch_machine.specs.Settling.{timed}
-use Rattle.watch_machine.specs.State.{State}
+use Rattle.watch_machine.specs.Lines.{is_first}
+use Rattle.watch_machine.specs.Refusal.{request_out}
+use Rattle.watch_machine.specs.Settling.{is_busy, timed}
+use Rattle.watch_machine.specs.State.{State, attempt_at, second, track_at}
+use Rattle.watch_machine.specs.Wanted.{is_alive, is_wanted}
 use Rattle.watch_laws.specs.Absence.{is_clock, is_taken}
-use Rattle.watch_laws.specs.Outage.{Outage, coming, is_served, next_after, waiting}
+use Rattle.watch_laws.specs.Load.{requests_of}
+use Rattle.watch_laws.specs.Outage.{IsReply, Outage, coming, how_many, is_served, is_tried, next_after}
+use Rattle.watch_laws.specs.Partial.{stands_before}
 use Rattle.watch_laws.specs.Recovery.{MayGo, calm}
+use Rattle.watch_laws.specs.Time.{is_come}
 
 -- i is being asked, or may go out by now
 abbrev pub IsAtWork : Outage → State → ℕ → Type 0
@@ -55,11 +64,79 @@ AllSoon i span by [] = Unit {0}
 AllSoon i span by (turn ∷ turns) = (turn.state.clocks.at ≤ by + later_by i span turn) × AllSoon i span (by + later_by i span turn) turns
 
 -- from a clock on, as a beginning, while the broker is there: as long as an entry is being asked or waits for a lane, no clock comes later than
--- all rounds that hold those that wait at first and come to wait meanwhile, and one more, and another for each answer to it
+-- all rounds that hold whatever is asked or to be asked at first and comes to wait meanwhile, and one round later for each answer to it
 abbrev pub StartLaw : Type 0
 StartLaw =
     (quick late rounds : ℕ) (g : Forest) (width : ℕ) (before : List Turned) (last : Turned) (turns : List Turned) (i : ℕ) → 0 < width →
     IsRun g width (before ++ last ∷ turns) → is_clock last.event ≡ true → is_taken last.result ≡ true → i < length g.entries → IsAtWork (calm quick late) last.state i →
     AreWorked (calm quick late) i (next_after (calm quick late) last.result last.state 0) last.state turns →
-    waiting (calm quick late) (length g.entries) last.state + coming (calm quick late) (length g.entries) last.state turns ≤ width * rounds →
-    AllSoon i (quick + late) (last.state.clocks.at + (quick + late) * rounds + (quick + late)) turns
+    how_many (length g.entries) (is_tried last.state) + coming (calm quick late) (length g.entries) last.state turns ≤ width * rounds →
+    AllSoon i (quick + late) (last.state.clocks.at + (quick + late) * rounds) turns
+
+-- a try that is pressed and has not failed
+abbrev pub is_first_try : Option Try → Bool
+is_first_try None = false
+is_first_try (Some t) = is_first t
+
+-- i is on its first try, which may go out by now or is out; the broker is there, and nothing is held back
+pub record IsUnderWay (o : Outage) (s : State) (i : ℕ) : Type 0 where
+  pub attempt : Try
+  pub attempt_is : attempt_at s i ≡ Some attempt
+  pub first : is_first attempt ≡ true
+  pub settled : attempt.failed ≡ false
+  pub soon : attempt.at ≤ s.clocks.at
+  pub lane : (track_at s i).out ≡ true → is_served o s i ≡ true
+  pub there : s.presence.away ≡ false
+  pub free : s.presence.free ≤ s.clocks.at
+  pub unbusy : list_any (λ a. is_busy a.reply) s.answers ≡ false
+
+-- the broker is there: a clock comes in time, and no reply is lost or says that the broker is busy
+abbrev pub IsThere : Outage → ℕ → State → Event → Type 0
+IsThere o due s (Clock wall elapsed) = (timed s wall elapsed).clocks.at ≤ due
+IsThere o due s (Looked j reply terms) = IfSome (request_out s.out j Look) (IsReply o reply)
+IsThere o due s (Renewed j reply) = IfSome (request_out s.out j Renew) (IsReply o reply)
+IsThere o due s event = Unit {0}
+
+abbrev pub IsThereAt : Outage → ℕ → State → Event → Result Output WatchFault → Type 0
+IsThereAt o due s event (Ok output) = IsThere o due s event
+IsThereAt o due s event (Err fault) = Unit {0}
+
+-- turns in which the broker is there, after each of which i is wanted and on its first try
+abbrev pub AreUnderWay : Outage → ℕ → ℕ → State → List Turned → Type 0
+AreUnderWay o i due s [] = Unit {0}
+AreUnderWay o i due s (turn ∷ turns) =
+    IsThereAt o due s turn.event turn.result
+    × ((is_wanted turn.state i ≡ true) × ((is_first_try (attempt_at turn.state i) ≡ true) × AreUnderWay o i (next_after o turn.result turn.state due) turn.state turns))
+
+-- so of an entry that is wanted: from a beginning on, while the broker is there, as long as it is on its first try, as one that is looked up
+-- and then renewed, no clock comes later than those rounds, and one round later once it is looked up
+abbrev pub SoonLaw : Type 0
+SoonLaw =
+    (quick late rounds : ℕ) (g : Forest) (width : ℕ) (before : List Turned) (last : Turned) (turns : List Turned) (i : ℕ) → 0 < width →
+    IsRun g width (before ++ last ∷ turns) → is_clock last.event ≡ true → is_taken last.result ≡ true → IsUnderWay (calm quick late) last.state i →
+    AreUnderWay (calm quick late) i (next_after (calm quick late) last.result last.state 0) last.state turns →
+    how_many (length g.entries) (is_tried last.state) + coming (calm quick late) (length g.entries) last.state turns ≤ width * rounds →
+    AllSoon i (quick + late) (last.state.clocks.at + (quick + late) * rounds) turns
+
+-- an entry of known end that is to be renewed now: it is wanted, its end is ahead and its own time has come, no round asked it along, it has
+-- not failed since, and it may go out by now
+pub record IsToRenew (s : State) (i : ℕ) : Type 0 where
+  pub may : MayGo s i
+  pub wanted : is_wanted s i ≡ true
+  pub alive : is_alive (second s) (track_at s i) ≡ true
+  pub come : is_come s i ≡ true
+  pub own : may.attempt.along ≡ false
+  pub first : may.attempt.fails ≡ 0
+
+-- what goes out at a turn stands before i: first tries whose ends are ahead and earlier, or the same where the index is lower
+abbrev pub GoesBefore : Turned → ℕ → Type 0
+GoesBefore turn i = All (λ r. stands_before i turn.state r.entry ≡ true) (requests_of turn.result)
+
+abbrev pub AllKnownFirst : List Turned → Type 0
+AllKnownFirst [] = Unit {0}
+AllKnownFirst (turn ∷ turns) = (turn.state.presence.away ≡ false → (i : ℕ) → IsToRenew turn.state i → GoesBefore turn i) × AllKnownFirst turns
+
+-- while the broker is there, entries of known end whose time has come are renewed first, by their ends: as long as one of them waits, nothing
+-- else goes out, no lookup of an entry whose end is unknown or that only owes it, and nothing that a round asks along
+abbrev pub KnownFirstLaw : Type 0
+KnownFirstLaw = (g : Forest) (width : ℕ) (turns : List Turned) → IsRun g width turns → AllKnownFirst turns

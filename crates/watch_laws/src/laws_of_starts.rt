@@ -1,9 +1,22 @@
-ghost use Rattle.watch_laws.specs.Starts.{StartLaw};
+ghost use Rattle.watch_laws.specs.Starts.{KnownFirstLaw, SoonLaw, StartLaw};
 
 /// The law of a start: from a beginning, or any other clock, on, while the broker is there and an entry is being asked or waits for a
-/// lane, no clock comes later than all the rounds of the lanes that hold those that wait at first and come to wait meanwhile, and one
-/// round more, and another one for each answer to the entry. So it is answered the first time within that, and the second time, as a
-/// renewal after its lookup, within one round more.
+/// lane, no clock comes later than all the rounds of the lanes that hold whatever is asked or to be asked at first and comes to wait
+/// meanwhile, and one round later for each answer to the entry. So it is answered the first time within those rounds, and the second
+/// time, as a renewal after its lookup, within one round more.
 pub fn start_law()
     ensures { StartLaw }
+{}
+
+/// The law of a wanted entry's start: so it is of each entry that is wanted and on its first try, while no reply is lost and none says
+/// that the broker is busy. It is looked up within all those rounds, and renewed, if its time has come, within one round more.
+pub fn soon_law()
+    ensures { SoonLaw }
+{}
+
+/// The law of known ends: while the broker is there, as long as an entry that is wanted, whose end is known and ahead, whose time has
+/// come and that has not failed may go out and does not, nothing goes out but first tries of such ends, earlier ones. So at a start
+/// those of known end whose time has come are renewed before anything is looked up.
+pub fn known_first_law()
+    ensures { KnownFirstLaw }
 {}

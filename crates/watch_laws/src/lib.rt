@@ -28,7 +28,7 @@ pub use laws_of_needs::needed_law;
 pub use laws_of_outages::{grant_law, outage_law};
 pub use laws_of_partial::{hung_law, once_law, partial_law};
 pub use laws_of_recovery::recovery_law;
-pub use laws_of_starts::start_law;
+pub use laws_of_starts::{known_first_law, soon_law, start_law};
 pub use laws_of_time::{ahead_law, early_law, round_law};
 pub use laws_of_tops::{ceiling_law, topped_law};
 pub use laws_of_waiting::{minded_law, owed_law, retry_law};

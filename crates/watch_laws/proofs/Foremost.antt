@@ -1,0 +1,179 @@
+-- Foremost: while the broker is there, whatever goes out at a clock before an entry of known end whose time has come, and that has not
+-- failed, stands before it. For the laws of a start and of partial outages.
+use Rattle.std.proofs.Common.{◌≡◌, ◌≢◌, ◌∙◌, ℕ, ◌<◌, ◌≤◌, Bool, true, false, not, ◌&&◌, ◌||◌, ◌==◌, if◌then◌else◌, List, [], ◌∷◌, Option, Some, None, All, Result, Ok, Err, get_or, length, max, refl, sym, ap, subst, arith, inl, inr}
+use Rattle.std.proofs.lemmas.Bool.{and_from, cases_Bool, cases_lt}
+use Rattle.std.proofs.lemmas.Bool.Decides.{nat_tests}
+use Rattle.std.proofs.lemmas.List.Elements.{All-cons, All-map, All-nil}
+use Rattle.std.specs.List.{list_any}
+use Rattle.keep_tree.specs.declared.entry.Entry.{Entry}
+use Rattle.keep_tree.specs.Forest.{entry_at}
+use Rattle.watch_machine.specs.declared.command.Command.TheVariants.{Taken}
+use Rattle.watch_machine.specs.declared.command.Output.{Output}
+use Rattle.watch_machine.specs.declared.command.Request.{Request}
+use Rattle.watch_machine.specs.declared.event.Event.{Event}
+use Rattle.watch_machine.specs.declared.event.Event.TheVariants.{Clock, Looked, Renewed, Need, Begin, Known}
+use Rattle.watch_machine.specs.declared.event.Operation.TheVariants.{Look, Renew}
+use Rattle.watch_machine.specs.declared.event.Reply.{Reply}
+use Rattle.watch_machine.specs.declared.event.Terms.{Terms}
+use Rattle.watch_machine.specs.declared.fault.WatchFault.{WatchFault}
+use Rattle.watch_machine.specs.declared.lanes.Out.{Out}
+use Rattle.watch_machine.specs.declared.track.Track.{Track}
+use Rattle.watch_machine.specs.declared.track.Try.{Try}
+use Rattle.watch_machine.specs.Clocks.{sec}
+use Rattle.watch_machine.specs.History.{History, Turn, Turned}
+use Rattle.watch_machine.specs.Lines.{is_due, is_first, rested}
+use Rattle.watch_machine.specs.Margins.{has_come, own_margin, time}
+use Rattle.watch_machine.specs.Press.{pressed}
+use Rattle.watch_machine.specs.Refusal.{request_out}
+use Rattle.watch_machine.specs.Sending.{sent, sent_in}
+use Rattle.watch_machine.specs.State.{State, entry_of, opened, second, track_at, track_in}
+use Rattle.watch_machine.specs.Step.{Step, StepLooked, StepRenewed, readied}
+use Rattle.watch_machine.specs.Wait.{wait}
+use Rattle.watch_machine.specs.Wanted.{is_alive, need_of, wants}
+use Rattle.watch_machine.proofs.Cases.{if_both, if_cases, not_both, value_is}
+use Rattle.watch_machine.proofs.Written.{each_length}
+use Rattle.watch_laws.specs.Load.{asked_by, requests_of}
+use Rattle.watch_laws.specs.Partial.{is_own_try, stands_before}
+use Rattle.watch_laws.specs.Recovery.{MayGo}
+use Rattle.watch_laws.specs.Starts.{AllKnownFirst, IsToRenew, KnownFirstLaw}
+use Rattle.watch_laws.specs.Waiting.{IsMinded}
+use Rattle.watch_laws.proofs.Fronts.{front_at, fronts, own_at, sent_front, sent_own}
+use Rattle.watch_laws.proofs.Going.{counts, entry_by, request_at, skips, some_named, times}
+use Rattle.watch_laws.proofs.Lanes.{Ticks, ticks}
+use Rattle.watch_laws.proofs.Minding.{due_so, end_minded, not_named, some_within}
+use Rattle.watch_laws.proofs.Spacing.{passed_over}
+use Rattle.watch_laws.proofs.Tracking.{each_holds}
+
+-- ---- a clock
+
+come_by : (margin : ℕ) (e : Entry) (x : Track) (now : ℕ) → has_come margin e x now ≡ true → time margin e x ≤ now
+unfolding has_come
+come_by margin e x now h = grind (arith, nat_tests)
+
+-- none of some numbers is another
+absent : (i : ℕ) (is : List ℕ) → times i is ≡ 0 → All (λ k. k ≢ i) is
+absent i [] none = All-nil (λ k. k ≢ i)
+absent i (j ∷ js) none =
+    elim (cases_Bool (j == i)) as (λ _. All (λ k. k ≢ i) (j ∷ js)) [
+      | inl here ↦ absurd (let more = counts i j js here in omega (arith, more, none))
+      | inr there ↦
+          let more = skips i j js there in
+          All-cons (λ k. k ≢ i) j js (λ e. not_both (same_is j i e) there) (absent i js (omega (arith, more, none)))
+    ] where
+      same_is : (a b : ℕ) → a ≡ b → (a == b) ≡ true
+      same_is a b e = grind (arith, nat_tests)
+
+module _ (old new : State) (wall elapsed : ℕ) (output : Output) (h : Ticks old new wall elapsed output) (i : ℕ) where
+  abbrev ready : State
+  ready = readied old wall elapsed
+
+  abbrev mid : State
+  mid = pressed ready h.round
+
+  abbrev left : State
+  left = sent mid h.requests
+
+  abbrev gone : List ℕ
+  gone = h.going.entries
+
+  abbrev at : ℕ
+  at = mid.clocks.at
+
+  within_mid : MayGo left i → i < length mid.tracks
+  within_mid may =
+      let count = each_length (sent_in mid.clocks.at h.requests) mid.tracks in
+      let low = some_within left.tracks i may.attempt may.attempt_is in
+      omega (arith, low, count)
+
+  none_of : MayGo left i → times i gone ≡ 0
+  none_of may =
+      let other = not_named mid h.requests i (within_mid may) may.free in
+      elim (cases_lt (times i gone) 1) as (λ _. times i gone ≡ 0) [
+        | inl none ↦ omega (arith, none)
+        | inr some ↦ absurd (not_both (ap (list_any (λ (r : Request). r.entry == i)) h.going.requests_are ∙ some_named mid.presence (sec at) at mid.tracks i gone some) other)
+      ]
+
+  -- while the broker is there, whoever goes out stands before a first try that is an entry's own and does not
+  pub all_front : MayGo left i → left.presence.away ≡ false → own_at (sec at) left.tracks i ≡ true → All (λ k. front_at (sec at) mid.tracks i k ≡ true) gone
+  all_front may there own' =
+      let within = within_mid may in
+      let other = not_named mid h.requests i within may.free in
+      let same = passed_over mid h.requests i other in
+      let due : is_due mid.presence at (track_at mid i) ≡ true = subst (λ x. is_due mid.presence at x ≡ true) same (due_so mid.presence at (track_at left i) may.attempt may.free may.attempt_is may.due) in
+      let none = none_of may in
+      let apart = absent i gone none in
+      let order = h.going.order i within due none in
+      let all = h.going.due in
+      let own : own_at (sec at) mid.tracks i ≡ true = sym (sent_own mid h.requests (sec at) i) ∙ own' in
+      λ k d below. fronts mid.presence at mid.tracks i (get_or gone k d) there own (all k d below).1 (apart k d below) (order k d below)
+
+  -- an entry of known end whose time has come has such a try
+  renews_own : IsToRenew left i → own_at (sec at) left.tracks i ≡ true
+  renews_own r =
+      let may = r.may in
+      let t = may.attempt in
+      let x = track_at left i in
+      let minded : IsMinded left (wait left) i = end_minded ready h.round h.requests i h.going may.within r.wanted in
+      let pressed' : t.pressed ≡ true = elim minded as (λ _. t.pressed ≡ true) [
+        | inl out ↦ absurd (not_both out may.free)
+        | inr rest ↦ elim rest as (λ _. t.pressed ≡ true) [
+          | inl p ↦ (let e : p.has.attempt ≡ t = value_is p.has.attempt t (sym p.has.attempt_is ∙ may.attempt_is) in sym (ap (λ (u : Try). u.pressed) e) ∙ p.pressed)
+          | inr a ↦ absurd (let late = a.ahead in let by = come_by left.forest.margin (entry_of left i) x (second left) r.come in omega (arith, late, by))
+        ]
+      ] in
+      let never : (t.fails == 0) ≡ true = (let e = r.first in grind (arith, nat_tests)) in
+      and_from (is_own_try x.attempt) (is_alive (sec at) x)
+      (ap is_own_try may.attempt_is ∙ and_from (is_first t) (not t.along) (and_from t.pressed (t.fails == 0) pressed' never) (ap not r.own)) r.alive
+
+  clock_first : left.presence.away ≡ false → IsToRenew left i → All (λ (r : Request). stands_before i left r.entry ≡ true) h.requests
+  clock_first there r =
+      let rq = request_at mid.presence (sec at) mid.tracks in
+      let front = all_front r.may there (renews_own r) in
+      let P : Request → Type 0 = λ q. stands_before i left q.entry ≡ true in
+      subst (All P) (sym h.going.requests_are)
+      (All-map P rq gone (λ k d below. ap (stands_before i left) (entry_by mid.presence (sec at) mid.tracks (get_or gone k d)) ∙ sent_front mid h.requests (sec at) i (get_or gone k d) ∙ front k d below))
+
+  pub new_first : new.presence.away ≡ false → IsToRenew new i → All (λ (r : Request). stands_before i new r.entry ≡ true) h.requests
+  new_first there r =
+      subst (λ (x : State). All (λ (q : Request). stands_before i x q.entry ≡ true) h.requests) (sym h.new_is)
+      (clock_first (subst (λ (x : State). x.presence.away ≡ false) h.new_is there) (subst (λ (x : State). IsToRenew x i) h.new_is r))
+
+-- ---- a step, a turn
+
+abbrev First : State → ℕ → Output → Type 0
+First new i output = All (λ (r : Request). stands_before i new r.entry ≡ true) (asked_by output.command)
+
+none_goes : (new : State) (i : ℕ) (output out : Output) → output ≡ out → out.command ≡ Taken → First new i output
+none_goes new i output out is taken' =
+    subst (λ c. All (λ (r : Request). stands_before i new r.entry ≡ true) (asked_by c)) (sym (ap (λ (x : Output). x.command) is ∙ taken')) (All-nil (λ (r : Request). stands_before i new r.entry ≡ true))
+
+looked_first : (old new : State) (i : ℕ) (found : Option Out) (reply : Reply) (terms : Terms) (output : Output) → StepLooked old found reply terms output new → First new i output
+looked_first old new i None reply terms output step = absurd step
+looked_first old new i (Some q) reply terms output step = none_goes new i output _ step.0 refl
+
+renewed_first : (old new : State) (i : ℕ) (found : Option Out) (reply : Reply) (output : Output) → StepRenewed old found reply output new → First new i output
+renewed_first old new i None reply output step = absurd step
+renewed_first old new i (Some q) reply output step = none_goes new i output _ step.0 refl
+
+step_first : (old new : State) (event : Event) (output : Output) (i : ℕ) → Step old event output new → new.presence.away ≡ false → IsToRenew new i → First new i output
+step_first old new (Clock wall elapsed) output i step there r =
+    let h = ticks old new wall elapsed output step in
+    subst (λ c. All (λ (q : Request). stands_before i new q.entry ≡ true) (asked_by c)) (sym h.command) (new_first old new wall elapsed output h i there r)
+step_first old new (Looked j reply terms) output i step there r = looked_first old new i (request_out old.out j Look) reply terms output step
+step_first old new (Renewed j reply) output i step there r = renewed_first old new i (request_out old.out j Renew) reply output step
+step_first old new (Need j until) output i step there r = none_goes new i output _ step.0 refl
+step_first old new Begin output i step there r = none_goes new i output _ step.0 refl
+step_first old new (Known j end renewable) output i step there r = none_goes new i output _ step.0 refl
+
+turn_first :
+    (old new : State) (event : Event) (result : Result Output WatchFault) (i : ℕ) → Turn old event result new → new.presence.away ≡ false → IsToRenew new i →
+    All (λ (r : Request). stands_before i new r.entry ≡ true) (requests_of result)
+turn_first old new event (Ok output) i turn there r = step_first old new event output i turn.1 there r
+turn_first old new event (Err fault) i turn there r = All-nil (λ (q : Request). stands_before i new q.entry ≡ true)
+
+ran : (turns : List Turned) (old : State) → History old turns → AllKnownFirst turns
+ran [] old h = tt
+ran (turn ∷ turns) old h = ((λ there i r. turn_first old turn.state turn.event turn.result i h.0 there r), ran turns turn.state h.1)
+
+pub known_first : KnownFirstLaw
+known_first g width turns run = ran turns (opened g width) run
