@@ -1,12 +1,11 @@
 -- Foremost: while the broker is there, whatever goes out at a clock before an entry of known end whose time has come, and that has not
 -- failed, stands before it. For the laws of a start and of partial outages.
-use Rattle.std.proofs.Common.{◌≡◌, ◌≢◌, ◌∙◌, ℕ, ◌<◌, ◌≤◌, Bool, true, false, not, ◌&&◌, ◌||◌, ◌==◌, if◌then◌else◌, List, [], ◌∷◌, Option, Some, None, All, Result, Ok, Err, get_or, length, max, refl, sym, ap, subst, arith, inl, inr}
+use Rattle.std.proofs.Common.{◌≡◌, ◌≢◌, ◌∙◌, ℕ, ◌<◌, ◌≤◌, true, false, not, ◌==◌, List, [], ◌∷◌, Option, Some, None, All, Result, Ok, Err, get_or, length, refl, sym, ap, subst, arith, inl, inr}
 use Rattle.std.proofs.lemmas.Bool.{and_from, cases_Bool, cases_lt}
 use Rattle.std.proofs.lemmas.Bool.Decides.{nat_tests}
 use Rattle.std.proofs.lemmas.List.Elements.{All-cons, All-map, All-nil}
 use Rattle.std.specs.List.{list_any}
 use Rattle.keep_tree.specs.declared.entry.Entry.{Entry}
-use Rattle.keep_tree.specs.Forest.{entry_at}
 use Rattle.watch_machine.specs.declared.command.Command.TheVariants.{Taken}
 use Rattle.watch_machine.specs.declared.command.Output.{Output}
 use Rattle.watch_machine.specs.declared.command.Request.{Request}
@@ -21,16 +20,16 @@ use Rattle.watch_machine.specs.declared.track.Track.{Track}
 use Rattle.watch_machine.specs.declared.track.Try.{Try}
 use Rattle.watch_machine.specs.Clocks.{sec}
 use Rattle.watch_machine.specs.History.{History, Turn, Turned}
-use Rattle.watch_machine.specs.Lines.{is_due, is_first, rested}
-use Rattle.watch_machine.specs.Margins.{has_come, own_margin, time}
+use Rattle.watch_machine.specs.Lines.{is_due, is_first}
+use Rattle.watch_machine.specs.Margins.{has_come, time}
 use Rattle.watch_machine.specs.Press.{pressed}
 use Rattle.watch_machine.specs.Refusal.{request_out}
 use Rattle.watch_machine.specs.Sending.{sent, sent_in}
-use Rattle.watch_machine.specs.State.{State, entry_of, opened, second, track_at, track_in}
+use Rattle.watch_machine.specs.State.{State, entry_of, opened, second, track_at}
 use Rattle.watch_machine.specs.Step.{Step, StepLooked, StepRenewed, readied}
 use Rattle.watch_machine.specs.Wait.{wait}
-use Rattle.watch_machine.specs.Wanted.{is_alive, need_of, wants}
-use Rattle.watch_machine.proofs.Cases.{if_both, if_cases, not_both, value_is}
+use Rattle.watch_machine.specs.Wanted.{is_alive}
+use Rattle.watch_machine.proofs.Cases.{not_both, value_is}
 use Rattle.watch_machine.proofs.Written.{each_length}
 use Rattle.watch_laws.specs.Load.{asked_by, requests_of}
 use Rattle.watch_laws.specs.Partial.{is_own_try, stands_before}
@@ -42,7 +41,6 @@ use Rattle.watch_laws.proofs.Going.{counts, entry_by, request_at, skips, some_na
 use Rattle.watch_laws.proofs.Lanes.{Ticks, ticks}
 use Rattle.watch_laws.proofs.Minding.{due_so, end_minded, not_named, some_within}
 use Rattle.watch_laws.proofs.Spacing.{passed_over}
-use Rattle.watch_laws.proofs.Tracking.{each_holds}
 
 -- ---- a clock
 

@@ -1,5 +1,5 @@
 -- LookedOnce: from a beginning on an entry that is needed is looked up once. For the law of lookups.
-use Rattle.std.proofs.Common.{◌≡◌, ◌≢◌, ◌⊎◌, ◌∙◌, ℕ, zero, suc, ◌+◌, ◌<◌, ◌≤◌, Bool, true, false, not, ◌&&◌, ◌||◌, ◌==◌, if◌then◌else◌, List, [], ◌∷◌, ◌++◌, Option, Some, None, Result, Ok, Err, filter, is_some, length, map, min, nat_lt, refl, sym, ap, subst, arith, inl, inr}
+use Rattle.std.proofs.Common.{◌≡◌, ◌≢◌, ◌⊎◌, ◌∙◌, ℕ, zero, suc, ◌+◌, ◌<◌, ◌≤◌, Bool, true, false, not, ◌&&◌, ◌||◌, ◌==◌, if◌then◌else◌, List, [], ◌∷◌, Option, Some, None, Result, Ok, Err, filter, is_some, length, map, min, nat_lt, refl, sym, ap, subst, arith, inl, inr}
 use Rattle.std.proofs.lemmas.Bool.{and_from, and_parts, cases_Bool, cases_eq, cond-true, or_left}
 use Rattle.std.proofs.lemmas.Bool.Decides.{nat_tests}
 use Rattle.std.proofs.lemmas.List.{get_or-set_other, get_or-set_same, length-append, length-set}
@@ -7,7 +7,7 @@ use Rattle.std.proofs.lemmas.List.Elements.{filter-append}
 use Rattle.std.specs.List.{list_any}
 use Rattle.keep_tree.specs.declared.forest.TheConstants.{END_MAX}
 use Rattle.keep_tree.specs.Carried.{carried}
-use Rattle.keep_tree.specs.Forest.{Forest, entry_at}
+use Rattle.keep_tree.specs.Forest.{Forest}
 use Rattle.watch_machine.specs.declared.clocks.Clocks.{Clocks}
 use Rattle.watch_machine.specs.declared.command.Output.{Output}
 use Rattle.watch_machine.specs.declared.command.Request.{Request}
@@ -31,36 +31,36 @@ use Rattle.watch_machine.specs.Clocks.{sec}
 use Rattle.watch_machine.specs.History.{History, Turn, Turned}
 use Rattle.watch_machine.specs.Lines.{is_due}
 use Rattle.watch_machine.specs.Looked.{is_called_for, looked, told_by, told_state, told_track, told_try}
-use Rattle.watch_machine.specs.Press.{pressed, pressed_track}
+use Rattle.watch_machine.specs.Press.{pressed}
 use Rattle.watch_machine.specs.Refusal.{is_same, request_out}
 use Rattle.watch_machine.specs.Renewed.{from_try, granted_from, renewed, renewed_track}
 use Rattle.watch_machine.specs.Sending.{out_at, sent, sent_in, sent_track}
 use Rattle.watch_machine.specs.Settling.{settled, settled_track, timed}
-use Rattle.watch_machine.specs.State.{State, attempt_at, each, entry_of, no_track, opened, second, track_at, track_in}
-use Rattle.watch_machine.specs.Step.{Step, StepClock, StepLooked, StepRenewed, known, needed, readied, why}
+use Rattle.watch_machine.specs.State.{State, attempt_at, entry_of, no_track, opened, second, track_at, track_in}
+use Rattle.watch_machine.specs.Step.{Step, StepClock, StepLooked, StepRenewed, known, readied, why}
 use Rattle.watch_machine.specs.Wanted.{believed, is_alive, is_open, is_never, is_unknown, wanted_need, wants}
-use Rattle.watch_machine.proofs.Cases.{if_both, if_cases, not_both}
+use Rattle.watch_machine.proofs.Cases.{if_both, not_both}
 use Rattle.watch_machine.proofs.Seeing.{SameSeen, both_seen, each_read, need_same}
 use Rattle.watch_machine.proofs.Unseen.{owing_seen, pressed_seen, sent_seen}
 use Rattle.watch_machine.proofs.Within.{out_entry}
 use Rattle.watch_machine.proofs.Written.{each_length}
-use Rattle.watch_laws.specs.Beginnings.{Begins, GoWell, GoesWell, GoesWellAt, IsLookedUp, LookupLaw, TellsAhead, is_lookup, is_needed, lookups, looks, why_of}
+use Rattle.watch_laws.specs.Beginnings.{GoWell, GoesWell, GoesWellAt, LookupLaw, TellsAhead, is_lookup, is_needed, lookups, looks, why_of}
 use Rattle.watch_laws.specs.Load.{asked_by, requests_of}
 use Rattle.watch_laws.specs.Outage.{is_tried}
 use Rattle.watch_laws.specs.Turns.{after_all}
-use Rattle.watch_laws.proofs.Alone.{IsAlone, flag, lanes_of, turn_alone}
+use Rattle.watch_laws.proofs.Alone.{IsAlone, flag, turn_alone}
 use Rattle.watch_laws.proofs.Answering.{looked_begins, replied_rest}
 use Rattle.watch_laws.proofs.Clocking.{refused_stays}
 use Rattle.watch_laws.proofs.Going.{named_of, operation_of, times}
 use Rattle.watch_laws.proofs.Grounds.{opened_base, ran_base}
 use Rattle.watch_laws.proofs.Lanes.{Ticks, ticks}
 use Rattle.watch_laws.proofs.Lasting.{Bears, both_bear, calm_ready, clock_bears, mid_bears, same_bears, sent_bears}
-use Rattle.watch_laws.proofs.Lookups.{Ahead, AsksRenewal, IsTold, back_told, few_go, found_looks, granted_owes, granted_told, look_goes, looked_told, looks_few, mid_told, other_looks, own_looks, pressed_told, renewal_looks, sent_looks, sent_told, settled_told, told_rid}
+use Rattle.watch_laws.proofs.Lookups.{AsksRenewal, IsTold, back_told, few_go, found_looks, granted_owes, granted_told, look_goes, looked_told, looks_few, mid_told, other_looks, own_looks, pressed_told, renewal_looks, sent_looks, sent_told, settled_told, told_rid}
 use Rattle.watch_laws.proofs.Outliving.{first_turns, last_turns}
 use Rattle.watch_laws.proofs.Owed.{due_some}
-use Rattle.watch_laws.proofs.Spacing.{free_of, looked_other, looked_out, mid_flag, passed_over, readied_out, same_index, went}
+use Rattle.watch_laws.proofs.Spacing.{free_of, looked_other, looked_out, mid_flag, readied_out}
 use Rattle.watch_laws.proofs.Topping.{readied_count, turn_count}
-use Rattle.watch_laws.proofs.Tracking.{back_kept, each_kept, set_holds, set_kept}
+use Rattle.watch_laws.proofs.Tracking.{back_kept, each_kept, set_kept}
 
 -- since a beginning i was not looked up yet, and owes a lookup if it did; or it was once, and its lookup is out or told
 abbrev Holds : State → ℕ → Bool → ℕ → Type 0

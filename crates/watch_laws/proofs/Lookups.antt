@@ -1,8 +1,7 @@
 -- Lookups: how many lookups of an entry are out, and what the parts of a turn make of one whose lookup was told. For the law of lookups.
-use Rattle.std.proofs.Common.{◌≡◌, ◌≢◌, ◌∙◌, ℕ, suc, ◌+◌, ◌<◌, ◌≤◌, Bool, true, false, cond, not, ◌&&◌, ◌||◌, ◌==◌, if◌then◌else◌, List, [], ◌∷◌, Option, Some, None, IfSome, filter, length, map, max, min, nat_le, nat_lt, refl, sym, ap, subst, arith, inl, inr, true≢false}
+use Rattle.std.proofs.Common.{◌≡◌, ◌≢◌, ◌∙◌, ℕ, suc, ◌+◌, ◌<◌, ◌≤◌, Bool, true, false, cond, not, ◌&&◌, ◌||◌, ◌==◌, if◌then◌else◌, List, [], ◌∷◌, Option, Some, None, IfSome, filter, length, map, max, nat_le, nat_lt, refl, sym, ap, subst, arith, inl, inr, true≢false}
 use Rattle.std.proofs.lemmas.Bool.{and_parts, cases_Bool, cond-false, eqb-true}
 use Rattle.std.specs.List.{find, list_any}
-use Rattle.keep_tree.specs.declared.forest.TheConstants.{END_MAX}
 use Rattle.keep_tree.specs.declared.entry.Entry.{Entry}
 use Rattle.keep_tree.specs.Forest.{entry_at}
 use Rattle.watch_machine.specs.declared.command.Request.{Request}
@@ -11,7 +10,6 @@ use Rattle.watch_machine.specs.declared.event.Operation.TheVariants.{Look, Renew
 use Rattle.watch_machine.specs.declared.event.Reply.{Reply}
 use Rattle.watch_machine.specs.declared.lanes.Out.{Out}
 use Rattle.watch_machine.specs.declared.lanes.Presence.{Presence}
-use Rattle.watch_machine.specs.declared.track.End.{End}
 use Rattle.watch_machine.specs.declared.track.End.TheVariants.{At, Never}
 use Rattle.watch_machine.specs.declared.track.Track.{Track}
 use Rattle.watch_machine.specs.declared.track.Try.{Try}
@@ -35,7 +33,7 @@ use Rattle.watch_machine.proofs.Written.{each_length}
 use Rattle.watch_laws.specs.Beginnings.{is_lookup, looks}
 use Rattle.watch_laws.proofs.Alone.{lanes_of}
 use Rattle.watch_laws.proofs.Going.{asks_by, counts, entry_by, operation_of, request_at, skips, times}
-use Rattle.watch_laws.proofs.Spacing.{same_index, same_is}
+use Rattle.watch_laws.proofs.Spacing.{same_is}
 use Rattle.watch_laws.proofs.Tracking.{each_kept}
 
 -- ---- how many lookups of an entry are out

@@ -1,5 +1,5 @@
 -- Working: while the broker is there, an entry that is being asked or may go out is answered within few rounds. For the law of a start.
-use Rattle.std.proofs.Common.{◌≡◌, ◌≢◌, ◌⊎◌, ◌∙◌, ℕ, zero, suc, ◌+◌, ◌*◌, ◌<◌, ◌≤◌, Bool, true, false, not, ◌&&◌, ◌||◌, ◌==◌, if◌then◌else◌, List, [], ◌∷◌, Option, Some, None, All, Result, Ok, Err, get_or, length, nat_le, refl, sym, ap, subst, arith, inl, inr}
+use Rattle.std.proofs.Common.{◌≡◌, ◌≢◌, ◌⊎◌, ◌∙◌, ℕ, suc, ◌+◌, ◌*◌, ◌<◌, ◌≤◌, Bool, true, false, not, ◌&&◌, ◌||◌, ◌==◌, if◌then◌else◌, List, [], ◌∷◌, Option, Some, None, All, Result, Ok, Err, get_or, nat_le, refl, sym, ap, subst, arith, inl, inr}
 use Rattle.std.proofs.Math.Nat.{mul-suc}
 use Rattle.std.proofs.lemmas.Bool.{and_from, and_parts, cases_Bool, eqb-true}
 use Rattle.std.proofs.lemmas.Bool.Decides.{nat_tests}
@@ -10,7 +10,6 @@ use Rattle.watch_machine.specs.declared.event.Event.{Event}
 use Rattle.watch_machine.specs.declared.event.Event.TheVariants.{Clock, Looked, Renewed, Need, Begin, Known}
 use Rattle.watch_machine.specs.declared.event.Operation.TheVariants.{Look, Renew}
 use Rattle.watch_machine.specs.declared.event.Reply.{Reply}
-use Rattle.watch_machine.specs.declared.event.Terms.{Terms}
 use Rattle.watch_machine.specs.declared.fault.WatchFault.{WatchFault}
 use Rattle.watch_machine.specs.declared.lanes.Out.{Out}
 use Rattle.watch_machine.specs.Answers.{noted, replied, without}
@@ -22,11 +21,11 @@ use Rattle.watch_machine.specs.Settling.{timed}
 use Rattle.watch_machine.specs.State.{State}
 use Rattle.watch_machine.specs.Step.{Step, StepLooked, StepRenewed}
 use Rattle.watch_machine.specs.Wait.{wait}
-use Rattle.watch_machine.proofs.Cases.{if_cases, not_both}
+use Rattle.watch_machine.proofs.Cases.{not_both}
 use Rattle.watch_machine.proofs.Within.{out_entry}
 use Rattle.watch_laws.specs.Absence.{is_taken}
 use Rattle.watch_laws.specs.Outage.{Outage, coming, comes, how_many, is_served, is_tried, is_whole, next_after, next_after_command, next_by, settled_by, waiting, waits}
-use Rattle.watch_laws.specs.Recovery.{MayGo, calm}
+use Rattle.watch_laws.specs.Recovery.{calm}
 use Rattle.watch_laws.specs.Starts.{AllSoon, AreWorked, IsAtWork, IsWorked, IsWorking, is_answer, later_by}
 use Rattle.watch_laws.proofs.Alone.{lanes_of, none_left, replied_lanes}
 use Rattle.watch_laws.proofs.Clocking.{readied_clocks, refused_stays}
