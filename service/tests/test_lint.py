@@ -378,11 +378,16 @@ class Widest(unittest.TestCase):
         program = find_program("leasekeep")
         if program is None or Path(program).name != "leasekeep":
             self.skipTest("no built leasekeep")
-        found = re.fullmatch(r"f: note: margin: (\d+) takes no more wake-ups and survives longer outages; write it if you like\n",
-                             self.told(20, program))
-        assert found is not None
-        self.assertGreater(int(found[1]), 20)
-        self.assertEqual(self.told(int(found[1]), program), "")
+        widest = self.named(self.told(20, program))
+        self.assertGreater(widest, 20)
+        said = self.told(widest, program)
+        # (lint reads the clock some time after the ends were written, and on a busy machine not both times as long after it.)
+        self.assertTrue(said == "" or 0 < self.named(said) - widest <= 3 * SLOWER, said)
+
+    def named(self, said: str) -> int:
+        found = re.fullmatch(r"f: note: margin: (\d+) takes no more wake-ups and survives longer outages; write it if you like\n", said)
+        assert found is not None, said
+        return int(found[1])
 
     def test_without_the_program_nothing_is_said(self) -> None:
         self.assertIsNone(widest_margin("/nowhere/leasekeep", Path("/nowhere/file"), 1e9))
