@@ -4,13 +4,13 @@
 use crate::inventories::WEB;
 use crate::moments::moment;
 use crate::network::{Books, Network, Peer};
+use broker_table::{Fault, Table};
 use http::Method;
 use keep_exchange::{
     Exchange, ExchangeFault, MemoryExchange, SelfServed, TcpExchange, UnixExchange, can_carry,
 };
 use keep_inventory::read;
 use keep_moment::Text;
-use mini_broker::{Fault, Table};
 use std::alloc::{AllocError, Global};
 use std::fs;
 use std::io::Read;

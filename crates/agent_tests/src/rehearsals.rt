@@ -4,13 +4,13 @@ use crate::inventories::{
 };
 use crate::moments::moment;
 use crate::outcomes::Outcome;
+use broker_table::Table;
 use keep_device::{MemorySink, MemorySource};
 use keep_exchange::MemoryExchange;
 use keep_inventory::read;
 use keep_moment::Text;
 use keep_report::Exit;
 use keep_run::{Script, run_rehearse};
-use mini_broker::Table;
 use std::alloc::Global;
 use std::process::Abort;
 use std::test::Fail;

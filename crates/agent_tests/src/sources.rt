@@ -1,8 +1,8 @@
 //! Lines as they come, and the broker that answers.
 
+use broker_table::{Fault, Table};
 use keep_device::MemorySource;
 use keep_inventory::read;
-use mini_broker::{Fault, Table};
 use std::alloc::Global;
 use std::process::Abort;
 use std::test::Fail;

@@ -3,13 +3,13 @@ use crate::inventories::{LOW_CEILING, TOKEN_AND_LEASE, WEB, WITH_MARGIN};
 use crate::outcomes::{Outcome, streams_to};
 use crate::sources::{source, table_of};
 use crate::wanting::Wanting;
+use broker_table::Fault;
 use keep_device::{MemorySink, MemorySource, Sink, Streams};
 use keep_lanes::MemoryLanes;
 use keep_report::Exit;
-use keep_watching::run_watch;
-use mini_broker::Fault;
 use std::process::Abort;
 use std::test::Fail;
+use watch_lines::run_watch;
 
 // The worked example of docs/commands/watch.md, to its end.
 const EXAMPLE: &str =

@@ -1,6 +1,6 @@
 use crate::requests::{THREE_TOKENS, moment, table};
+use broker_table::{LineFault, Moments, next_moment};
 use keep_device::{Device, MemorySource};
-use mini_broker::{LineFault, Moments, next_moment};
 use std::alloc::Global;
 use std::process::Abort;
 use std::test::Fail;

@@ -1,7 +1,7 @@
+use broker_table::{Fault, Served, SetFault, Table};
 use http::Method;
 use keep_inventory::read;
 use keep_moment::{Moment, Text};
-use mini_broker::{Fault, Served, SetFault, Table};
 use std::alloc::Global;
 use std::process::Abort;
 use std::test::Fail;

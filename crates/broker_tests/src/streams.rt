@@ -1,5 +1,5 @@
 use crate::requests::{RENEW_SELF, WEB, moment, request, table};
-use mini_broker::StreamFault;
+use broker_table::StreamFault;
 use std::alloc::Global;
 use std::net::{IpAddr, Ipv4Addr, OpenListener, SocketAddr, TcpListener, TcpStream};
 use std::test::Fail;

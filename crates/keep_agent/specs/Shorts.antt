@@ -3,7 +3,7 @@
 use Rattle.std.specs.Prelude.{ℕ, ◌+◌, Bool, true, not, ◌&&◌, ◌||◌, if◌then◌else◌, List, [], ◌∷◌, Option, Some, None, length, map, nat_le}
 use Rattle.std.specs.List.{flat_map, range_with_len}
 use Rattle.keep_moment.specs.declared.moment.TheConstants.{LAST}
-use Rattle.watch_machine.specs.Readings.{broker_now}
+use Rattle.watch_machine.specs.Outlook.{broker_now}
 use Rattle.watch_machine.specs.Shortness.{short_of}
 use Rattle.watch_machine.specs.State.{State, entry_of}
 use Rattle.keep_agent.specs.declared.shorts.Short.{Short}

@@ -3,7 +3,7 @@
 use Rattle.std.specs.Prelude.{ℕ, ◌+◌, Bool, true, false, ◌&&◌, ◌||◌, if◌then◌else◌, Option, Some, None, is_some, nat_le, nat_lt}
 use Rattle.watch_machine.specs.declared.track.End.{End}
 use Rattle.watch_machine.specs.declared.track.End.TheVariants.{Unknown, At, Never}
-use Rattle.watch_machine.specs.Readings.{broker_moment}
+use Rattle.watch_machine.specs.Outlook.{broker_moment}
 use Rattle.watch_machine.specs.State.{State, entry_of, second, track_at}
 use Rattle.watch_machine.specs.Wanted.{is_unknown}
 use Rattle.keep_agent.specs.declared.standing.Trouble.{Trouble}

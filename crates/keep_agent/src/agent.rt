@@ -2,7 +2,7 @@
 ghost use Rattle.std.specs.Prelude.{◌≡◌, ◌<◌, IfErr, IfOk, length, replicate};
 ghost use Rattle.keep_agent.specs.Agent.{IsAgent, IsStanding, fresh, standing_at};
 ghost use Rattle.keep_agent.specs.Standings.{fresh_standing};
-ghost use Rattle.watch_machine.specs.Readings.{IsNext};
+ghost use Rattle.watch_machine.specs.Outlook.{IsNext};
 ghost use Rattle.watch_machine.specs.declared.fault.WatchFault.TheVariants.{OutOfMemory};
 
 use crate::standing::Standing;

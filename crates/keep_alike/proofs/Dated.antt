@@ -3,19 +3,19 @@ use Rattle.std.proofs.Common.{ℕ, ◌≤◌, Bool, true, false, cond, List, [],
 use Rattle.std.proofs.lemmas.List.Elements.{All-filter, All-head, All-map, All-tail, All-weaker}
 use Rattle.std.specs.List.{find}
 use Rattle.keep_moment.specs.declared.moment.TheConstants.{LAST}
-use Rattle.mini_broker.specs.declared.asked.Asked.{Asked}
-use Rattle.mini_broker.specs.declared.call.Call.{Call}
-use Rattle.mini_broker.specs.declared.fault.Fault.{Fault}
-use Rattle.mini_broker.specs.declared.refusal.Refusal.{Refusal}
-use Rattle.mini_broker.specs.declared.refusal.Refusal.TheVariants.{NotRenewable, PermissionDenied, UnsupportedMethod}
-use Rattle.mini_broker.specs.declared.row.Row.{Row}
-use Rattle.mini_broker.specs.Faults.{fault_at, next_number}
-use Rattle.mini_broker.specs.Renewing.{granted, is_deny, new_end, renewal, rows_after, with_row}
-use Rattle.mini_broker.specs.Request.{allows, asked, call_of, is_renewal}
-use Rattle.mini_broker.specs.Step.{Outcome, after_sweep, by_call, drops, is_drop, looked, refuses, renewed, renews, step, tells}
-use Rattle.mini_broker.specs.Subject.{Subject, bearer, belongs, is_lease_with, is_token_with, lease_with, named, owned, subject, token_with, with_asked, with_bearer}
-use Rattle.mini_broker.specs.Sweep.{lives, swept}
-use Rattle.mini_broker.specs.Table.{Table}
+use Rattle.broker_table.specs.declared.asked.Asked.{Asked}
+use Rattle.broker_table.specs.declared.call.Call.{Call}
+use Rattle.broker_table.specs.declared.fault.Fault.{Fault}
+use Rattle.broker_table.specs.declared.refusal.Refusal.{Refusal}
+use Rattle.broker_table.specs.declared.refusal.Refusal.TheVariants.{NotRenewable, PermissionDenied, UnsupportedMethod}
+use Rattle.broker_table.specs.declared.row.Row.{Row}
+use Rattle.broker_table.specs.Faults.{fault_at, next_number}
+use Rattle.broker_table.specs.Renewing.{granted, is_deny, new_end, renewal, rows_after, with_row}
+use Rattle.broker_table.specs.Request.{allows, asked, call_of, is_renewal}
+use Rattle.broker_table.specs.Step.{Outcome, after_sweep, by_call, drops, is_drop, looked, refuses, renewed, renews, step, tells}
+use Rattle.broker_table.specs.Subject.{Subject, bearer, belongs, is_lease_with, is_token_with, lease_with, named, owned, subject, token_with, with_asked, with_bearer}
+use Rattle.broker_table.specs.Sweep.{lives, swept}
+use Rattle.broker_table.specs.Table.{Table}
 use Rattle.vault_http.specs.declared.request.Request.{Request}
 use Rattle.keep_alike.specs.Alike.{AreDated}
 use Rattle.keep_alike.specs.Answers.{Speaks}

@@ -15,9 +15,9 @@ use Rattle.keep_tree.specs.declared.entry.Kind.{Kind}
 use Rattle.keep_tree.specs.declared.entry.Kind.TheVariants.{Token, Lease}
 use Rattle.keep_tree.specs.Forest.{Forest, entry_at}
 use Rattle.keep_tree.proofs.Entries.{entry_at_set_other, entry_at_set_same}
-use Rattle.mini_broker.specs.Granted.{call_for}
-use Rattle.mini_broker.specs.Step.{step}
-use Rattle.mini_broker.specs.Table.{Table}
+use Rattle.broker_table.specs.Granted.{call_for}
+use Rattle.broker_table.specs.Step.{step}
+use Rattle.broker_table.specs.Table.{Table}
 use Rattle.vault_http.specs.declared.request.Request.{Request}
 
 -- ---- what is kept

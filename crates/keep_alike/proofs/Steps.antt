@@ -14,19 +14,19 @@ use Rattle.keep_tree.proofs.Chains.{cases_Option}
 use Rattle.keep_inventory.specs.Inventories.{IsInventory, Inventory, credential_at}
 use Rattle.keep_inventory.specs.declared.terms.Terms.{Terms}
 use Rattle.vault_http.specs.declared.request.Request.{Request}
-use Rattle.mini_broker.specs.declared.row.Row.{Row}
-use Rattle.mini_broker.specs.declared.call.Call.{Call}
-use Rattle.mini_broker.specs.declared.call.Call.TheVariants.{RenewSelf, RenewLease}
-use Rattle.mini_broker.specs.declared.fault.Fault.{Fault}
-use Rattle.mini_broker.specs.declared.refusal.Refusal.{Refusal}
-use Rattle.mini_broker.specs.declared.refusal.Refusal.TheVariants.{NotRenewable, PermissionDenied, UnsupportedMethod}
-use Rattle.mini_broker.specs.Faults.{fault_at, next_number, without}
-use Rattle.mini_broker.specs.Granted.{AsksRenewal, asked_for, bearer_for, call_for}
-use Rattle.mini_broker.specs.Table.{Table}
-use Rattle.mini_broker.specs.Renewing.{granted, is_deny, new_end, renewal, step_of}
-use Rattle.mini_broker.specs.Request.{asked, is_write}
-use Rattle.mini_broker.specs.Step.{after_sweep, by_call, counted, drops, is_drop, refuses, renews, step, tells}
-use Rattle.mini_broker.specs.Subject.{Subject, bearer, belongs, is_lease_with, is_token_with, lease_with, owned, subject, token_with, with_asked, with_bearer}
+use Rattle.broker_table.specs.declared.row.Row.{Row}
+use Rattle.broker_table.specs.declared.call.Call.{Call}
+use Rattle.broker_table.specs.declared.call.Call.TheVariants.{RenewSelf, RenewLease}
+use Rattle.broker_table.specs.declared.fault.Fault.{Fault}
+use Rattle.broker_table.specs.declared.refusal.Refusal.{Refusal}
+use Rattle.broker_table.specs.declared.refusal.Refusal.TheVariants.{NotRenewable, PermissionDenied, UnsupportedMethod}
+use Rattle.broker_table.specs.Faults.{fault_at, next_number, without}
+use Rattle.broker_table.specs.Granted.{AsksRenewal, asked_for, bearer_for, call_for}
+use Rattle.broker_table.specs.Table.{Table}
+use Rattle.broker_table.specs.Renewing.{granted, is_deny, new_end, renewal, step_of}
+use Rattle.broker_table.specs.Request.{asked, is_write}
+use Rattle.broker_table.specs.Step.{after_sweep, by_call, counted, drops, is_drop, refuses, renews, step, tells}
+use Rattle.broker_table.specs.Subject.{Subject, bearer, belongs, is_lease_with, is_token_with, lease_with, owned, subject, token_with, with_asked, with_bearer}
 use Rattle.keep_exchange.specs.Requests.{request_of}
 use Rattle.keep_alike.specs.Alike.{AreRowsAlike, AreTablesAlike}
 use Rattle.keep_alike.specs.Answers.{AnswersOf, OutcomesOf, RowsOf}

@@ -5,9 +5,9 @@ use Rattle.keep_exchange.specs.Requests.{lookup_of, request_of}
 use Rattle.keep_inventory.specs.Inventories.{IsInventory, Inventory}
 use Rattle.keep_inventory.specs.declared.terms.Terms.{Terms}
 use Rattle.keep_tree.specs.Forest.{Forest, entry_at}
-use Rattle.mini_broker.specs.Granted.{call_for}
-use Rattle.mini_broker.specs.Step.{step}
-use Rattle.mini_broker.specs.Table.{Table}
+use Rattle.broker_table.specs.Granted.{call_for}
+use Rattle.broker_table.specs.Step.{step}
+use Rattle.broker_table.specs.Table.{Table}
 use Rattle.vault_http.specs.declared.request.Request.{Request}
 use Rattle.keep_alike.specs.Alike.{AreDated, AreTablesAlike, IsKept}
 use Rattle.keep_alike.specs.Answers.{OutcomesOf, Speaks, look_for}

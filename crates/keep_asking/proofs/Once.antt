@@ -18,12 +18,12 @@ use Rattle.watch_machine.specs.declared.event.Reply.{Reply}
 use Rattle.watch_machine.specs.declared.event.Terms.{Terms}
 use Rattle.watch_machine.specs.declared.lanes.Out.{Out}
 use Rattle.watch_machine.specs.declared.lanes.Presence.{Presence}
-use Rattle.watch_machine.specs.declared.readings.Next.{Next}
+use Rattle.watch_machine.specs.declared.outlook.Next.{Next}
 use Rattle.watch_machine.specs.declared.track.Track.{Track}
 use Rattle.watch_machine.specs.Clocks.{sec}
 use Rattle.watch_machine.specs.History.{Turn}
 use Rattle.watch_machine.specs.Press.{pressed}
-use Rattle.watch_machine.specs.Readings.{IsNext}
+use Rattle.watch_machine.specs.Outlook.{IsNext}
 use Rattle.watch_machine.specs.Refusal.{request_out}
 use Rattle.watch_machine.specs.Round.{IsRound, IsSecond, asked_by, plan_view}
 use Rattle.watch_machine.specs.Sending.{IsGoing, IsLine, Place, due, is_before, request, sent}

@@ -4,3 +4,4 @@ pub mod Memory
 pub mod Seen
 pub mod Whole
 pub mod Tally
+pub mod Tries

@@ -18,6 +18,7 @@ mod one_read;
 mod place;
 mod read_whole;
 mod streams;
+mod tried;
 mod write_whole;
 
 pub use counted::Counted;
@@ -32,4 +33,5 @@ pub use one_read::{MoreFault, read_more, zeros};
 pub use place::Place;
 pub use read_whole::read_all;
 pub use streams::Streams;
+pub use tried::Tried;
 pub use write_whole::write_all;

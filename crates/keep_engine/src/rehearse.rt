@@ -4,13 +4,13 @@ ghost use Rattle.keep_report.specs.declared.stop.Stop.TheVariants as stops;
 ghost use Rattle.keep_engine.specs.RehearseFrom.{Rehearses};
 
 use crate::deliver::PROGRAM;
+use broker_table::Table;
 use keep_device::{Sink, Watched};
 use keep_exchange::MemoryExchange;
 use keep_inventory::read;
 use keep_moment::{Moment, Text};
 use keep_report::{Exit, Stop};
 use keep_run::{Script, run_rehearse};
-use mini_broker::Table;
 use std::alloc::Global;
 
 /// The command `rehearse` over an exchange of its own, which goes with it: [`run_rehearse`] says what it writes, and which

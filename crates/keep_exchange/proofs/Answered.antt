@@ -6,20 +6,20 @@ use Rattle.keep_tree.specs.Push.{is_lease}
 use Rattle.keep_tree.proofs.Carrying.{and_right}
 use Rattle.keep_exchange.specs.Requests.{Fits, lease_renewal, token_renewal}
 use Rattle.keep_exchange.proofs.Lengths.{errors_short, ok_short, refusal_short, refused_short, renewed_lease_short, renewed_self_short, reply_short, status_short}
-use Rattle.mini_broker.specs.declared.call.Call.{Call}
-use Rattle.mini_broker.specs.declared.call.Call.TheVariants.{RenewSelf, RenewLease, LookupSelf, LookupLease}
-use Rattle.mini_broker.specs.declared.fault.Fault.{Fault}
-use Rattle.mini_broker.specs.declared.refusal.Refusal.{Refusal}
-use Rattle.mini_broker.specs.declared.refusal.Refusal.TheVariants.{NotRenewable, PermissionDenied}
-use Rattle.mini_broker.specs.declared.row.Row.{Row}
-use Rattle.mini_broker.specs.declared.served.Served.{Served}
-use Rattle.mini_broker.specs.declared.served.Served.TheVariants as served
-use Rattle.mini_broker.specs.Table.{Table}
-use Rattle.mini_broker.specs.Faults.{fault_at, next_number}
-use Rattle.mini_broker.specs.Renewing.{granted, is_deny, new_end, renewal}
-use Rattle.mini_broker.specs.Request.{a_text, allows, answered, asked, call_of, increment_in, is_renewal, lease_id_in, of_lease}
-use Rattle.mini_broker.specs.Step.{Answer, IsBody, Outcome, Says, after_sweep, by_call, drops, is_drop, looked, refuses, renewed, renews, seconds_to, step, tells}
-use Rattle.mini_broker.specs.Subject.{Subject, bearer, belongs, is_lease_with, lease_with, owned, subject, with_asked, with_bearer}
+use Rattle.broker_table.specs.declared.call.Call.{Call}
+use Rattle.broker_table.specs.declared.call.Call.TheVariants.{RenewSelf, RenewLease, LookupSelf, LookupLease}
+use Rattle.broker_table.specs.declared.fault.Fault.{Fault}
+use Rattle.broker_table.specs.declared.refusal.Refusal.{Refusal}
+use Rattle.broker_table.specs.declared.refusal.Refusal.TheVariants.{NotRenewable, PermissionDenied}
+use Rattle.broker_table.specs.declared.row.Row.{Row}
+use Rattle.broker_table.specs.declared.served.Served.{Served}
+use Rattle.broker_table.specs.declared.served.Served.TheVariants as served
+use Rattle.broker_table.specs.Table.{Table}
+use Rattle.broker_table.specs.Faults.{fault_at, next_number}
+use Rattle.broker_table.specs.Renewing.{granted, is_deny, new_end, renewal}
+use Rattle.broker_table.specs.Request.{a_text, allows, answered, asked, call_of, increment_in, is_renewal, lease_id_in, of_lease}
+use Rattle.broker_table.specs.Step.{Answer, IsBody, Outcome, Says, after_sweep, by_call, drops, is_drop, looked, refuses, renewed, renews, seconds_to, step, tells}
+use Rattle.broker_table.specs.Subject.{Subject, bearer, belongs, is_lease_with, lease_with, owned, subject, with_asked, with_bearer}
 use Rattle.std.proofs.lemmas.Bool.{cond-true}
 use Rattle.std.proofs.lemmas.Str.{is_utf8-from_IsUtf8}
 use Rattle.std.specs.Str.{is_utf8}

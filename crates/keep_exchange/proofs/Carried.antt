@@ -4,14 +4,14 @@ use Rattle.vault_http.specs.declared.known.TheConstants.{MOST_MESSAGE}
 use Rattle.keep_exchange.specs.declared.fault.ExchangeFault.{ExchangeFault}
 use Rattle.keep_exchange.specs.declared.fault.ExchangeFault.TheVariants.{ConnectFailed, WriteFailed, Http, OutOfMemory}
 use Rattle.keep_exchange.specs.Exchanges.{Behind, Exchanges, IsExchanged, IsGivenUp, received, reply_of, wire_of}
-use Rattle.mini_broker.specs.declared.served.Served.{Served}
-use Rattle.mini_broker.specs.declared.served.Served.TheVariants as served
-use Rattle.mini_broker.specs.Table.{Table}
-use Rattle.mini_broker.specs.Renewing.{renewal}
-use Rattle.mini_broker.specs.Step.{Says, renews, step}
-use Rattle.mini_broker.specs.Stream.{MaySend, sent_of}
-use Rattle.mini_broker.specs.Subject.{subject}
-use Rattle.mini_broker.proofs.Streamed.{handled_sent}
+use Rattle.broker_table.specs.declared.served.Served.{Served}
+use Rattle.broker_table.specs.declared.served.Served.TheVariants as served
+use Rattle.broker_table.specs.Table.{Table}
+use Rattle.broker_table.specs.Renewing.{renewal}
+use Rattle.broker_table.specs.Step.{Says, renews, step}
+use Rattle.broker_table.specs.Stream.{MaySend, sent_of}
+use Rattle.broker_table.specs.Subject.{subject}
+use Rattle.broker_table.proofs.Streamed.{handled_sent}
 use Rattle.vault_http.specs.declared.http_fault.HttpFault.TheVariants as https
 use Rattle.vault_http.specs.declared.reply.Reply.{Reply}
 use Rattle.vault_http.specs.declared.request.Request.{Request}

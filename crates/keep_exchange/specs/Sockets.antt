@@ -8,8 +8,8 @@ use Rattle.keep_exchange.specs.declared.fault.ExchangeFault.{ExchangeFault}
 use Rattle.keep_device.specs.declared.place.Place.{Place}
 use Rattle.keep_device.specs.declared.place.Place.TheVariants.{Port, Path}
 use Rattle.keep_device.specs.Seen.{Change}
-use Rattle.mini_broker.specs.Stream.{IsStreamed}
-use Rattle.mini_broker.specs.Table.{Table}
+use Rattle.broker_table.specs.Stream.{IsStreamed}
+use Rattle.broker_table.specs.Table.{Table}
 use Rattle.vault_http.specs.declared.reply.Reply.{Reply}
 
 -- an exchange, one request after another: where its broker listens, the longest time that a call may take, in nanoseconds,

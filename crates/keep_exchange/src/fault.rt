@@ -2,7 +2,7 @@ ghost use Rattle.std.specs.Prelude.{◌≡◌};
 ghost use Rattle.keep_exchange.specs.Exchanges.{exchange_fault, sending_fault};
 ghost use Rattle.keep_exchange.specs.declared.fault.ExchangeFault.TheVariants.{OutOfMemory};
 
-use mini_broker::ServeFault;
+use broker_table::ServeFault;
 use std::alloc::{AllocError, AllocFailed};
 use thiserror::Error;
 use vault_http::{HttpFault, SendFault};

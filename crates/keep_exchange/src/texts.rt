@@ -3,16 +3,16 @@ ghost use Rattle.std.specs.Prelude.{◌≡◌, ◌<◌, ◌≤◌, ◌^◌, IfOk
 ghost use Rattle.keep_exchange.specs.Exchanges.{received};
 ghost use Rattle.keep_exchange.specs.Requests.{IsShort};
 ghost use Rattle.keep_exchange.specs.declared.fault.ExchangeFault.TheVariants.{OutOfMemory};
-ghost use Rattle.mini_broker.specs.Stream.{MaySend, sent_of};
+ghost use Rattle.broker_table.specs.Stream.{MaySend, sent_of};
 ghost use Rattle.vault_http.specs.declared.known.TheConstants.{MOST_MESSAGE};
-ghost use Rattle.mini_broker.specs.declared.served.Served.TheVariants as served;
+ghost use Rattle.broker_table.specs.declared.served.Served.TheVariants as served;
 ghost use Rattle.vault_http.specs.RoundTrip.{is_sent};
 ghost use Rattle.vault_http.specs.RoundTripRequest.{IsWritable, without_port};
 ghost use Rattle.vault_http.specs.Written.{reply_text, request_text};
 
 use crate::fault::ExchangeFault;
 use crate::sure::{SureSink, SureSource};
-use mini_broker::Served;
+use broker_table::Served;
 use std::alloc::Global;
 use std::fmt;
 use vault_http::{

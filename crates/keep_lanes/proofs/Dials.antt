@@ -1,6 +1,6 @@
 -- Waits make no connection: for `listen`.
 use Rattle.std.proofs.Common.{◌≡◌, ℕ, [], ◌∷◌, ◌++◌, Option, None, Some, IfSome, subst}
-use Rattle.keep_lanes.specs.Tries.{KeepsDials, Log}
+use Rattle.keep_lanes.specs.Dials.{KeepsDials, Log}
 
 pub dials_same : (a b : Option Log) → b ≡ a → KeepsDials a b
 dials_same None b is = tt

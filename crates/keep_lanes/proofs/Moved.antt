@@ -1,7 +1,7 @@
 -- Each of those that are out goes on for itself: for `go_on` of them all.
-use Rattle.std.proofs.Common.{◌≡◌, ℕ, zero, suc, ◌<◌, ◌+◌, inl, inr, Some, IfSome, List, [], ◌∷◌, ◌++◌, length, take, drop, get_or, set, Option, None, refl, sym, subst, ap, ◌∙◌, arith, append-nil}
+use Rattle.std.proofs.Common.{◌≡◌, ℕ, zero, suc, ◌<◌, ◌+◌, inl, inr, Some, IfSome, List, [], ◌∷◌, ◌++◌, length, take, drop, get_or, set, Option, None, refl, sym, subst, ap, ◌∙◌, arith}
 use Rattle.std.proofs.lemmas.Grind.{drop_more_same}
-use Rattle.std.proofs.lemmas.List.{drop-set-lt, drop_all, drop_more, take_all, take_more_set}
+use Rattle.std.proofs.lemmas.List.{drop-set-lt, drop_more, take_more_set}
 use Rattle.std.proofs.Math.Seq.{take-add}
 use Rattle.std.proofs.KnownBytes.{Appends-nil}
 use Rattle.keep_lanes.specs.Lanes.{IsWritten}
@@ -65,8 +65,3 @@ pub outs_set : {L : Type 0} (out : List (Seat (Way L))) (i : ℕ) (d n : Seat (W
 outs_set [] i d n e = refl
 outs_set (o ∷ os) zero d n e = ap (λ (i : ℕ). let it : outs_of.Out = record { index = i; comes = None } in it ∷ outs (λ _. None) os) e
 outs_set (o ∷ os) (suc i) d n e = ap (λ l. out_of (λ _. None) o ∷ l) (outs_set os i d n e)
-
--- what is lent whole, and keeps its length, is what comes back
-pub written_back : {X : Type 0} (len : ℕ) (new old : List X) → length new ≡ length old → len ≡ length old → take len (new ++ drop (length new) old) ≡ new
-written_back len new old same whole =
-    ap (λ l. take len (new ++ l)) (drop_all (length new) old (omega arith)) ∙ ap (λ l. take len l) (append-nil new) ∙ take_all len new (omega arith)

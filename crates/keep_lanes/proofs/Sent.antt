@@ -7,7 +7,7 @@ use Rattle.keep_lanes.specs.declared.coming.Coming.{Coming}
 use Rattle.keep_lanes.specs.declared.fault.LaneFault.{LaneFault}
 use Rattle.keep_lanes.specs.declared.fault.NumberedFault.{NumberedFault}
 use Rattle.keep_lanes.specs.declared.lanes.Ask.{Ask}
-use Rattle.mini_broker.specs.Table.{Table}
+use Rattle.broker_table.specs.Table.{Table}
 use Rattle.vault_http.specs.declared.request.Request.{Request}
 
 pub sent_with : (seconds t now : ℕ) (ask : Ask) (old : Behind) (olds news : List Out) (coming : Coming) (table : Table) (number : ℕ) (fault : Option LaneFault) (faults : List NumberedFault) (a : Allowance)

@@ -15,9 +15,9 @@ use Rattle.keep_lanes.specs.declared.fault.LaneFault.TheVariants.{Refuse, Lose, 
 use Rattle.keep_lanes.specs.declared.fault.NumberedFault.{NumberedFault}
 use Rattle.keep_lanes.specs.declared.lanes.Ask.{Ask}
 use Rattle.keep_lanes.specs.declared.loss.Loss.TheVariants as losses
-use Rattle.mini_broker.specs.declared.served.Served.{Served}
-use Rattle.mini_broker.specs.Step.{Says, after_sweep, step}
-use Rattle.mini_broker.specs.Table.{Table}
+use Rattle.broker_table.specs.declared.served.Served.{Served}
+use Rattle.broker_table.specs.Step.{Says, after_sweep, step}
+use Rattle.broker_table.specs.Table.{Table}
 use Rattle.vault_http.specs.declared.reply.Reply.{Reply}
 use Rattle.vault_http.specs.declared.request.Request.{Request}
 

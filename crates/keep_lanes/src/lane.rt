@@ -7,9 +7,10 @@ ghost use Rattle.keep_lanes.specs.Lanes.{IsCounted, IsHeard, IsPatient, IsRead, 
 ghost use Rattle.keep_lanes.specs.declared.stage.Stage.TheVariants.{Connecting};
 
 use crate::allowance::Allowance;
-use crate::line::{Line, Tried};
+use crate::line::Line;
 use crate::loss::Loss;
 use crate::stage::Stage;
+use keep_device::Tried;
 use std::alloc::{AllocError, Global};
 use vault_http::{Arriving, DatedReply, HttpFault};
 

@@ -28,7 +28,7 @@ pub use coming::Coming;
 pub use fault::{LaneFault, NumberedFault};
 pub use heard::{Heard, hear_lookup, hear_renewal};
 pub use lanes::{Answered, Ask, Lanes, MOST_WIDTH};
-pub use line::{Line, Tried, Wires};
+pub use line::{Line, Wires};
 pub use loss::Loss;
 pub use memory::MemoryLanes;
 pub use running::LanesOver;

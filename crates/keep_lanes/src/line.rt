@@ -1,18 +1,10 @@
 //! Connections whose calls do not wait, and what tells when one can go on.
 ghost use Rattle.std.specs.Prelude.{◌≡◌, ℕ, ◌<◌, ◌≤◌, List, [], ◌∷◌, ◌++◌, length, take, Option, None, Some, Bool, IfSome, false};
 ghost use Rattle.std.specs.Io.KnownBytes.{Appends, Consumes, IsAtEnd, Keeps};
-ghost use Rattle.keep_lanes.specs.Tries.{IfDone, Log, MatchTried};
+ghost use Rattle.keep_device.specs.Tries.{IfDone, MatchTried};
+ghost use Rattle.keep_lanes.specs.Dials.{Log};
 
-/// What a try at a connection comes to.
-#[derive(Clone, Copy, Debug, PartialEq, Eq)]
-pub enum Tried {
-    /// So many bytes were taken or handed out.
-    Done(usize),
-    /// None yet: it would have had to wait.
-    Waits,
-    /// The connection failed.
-    Failed,
-}
+use keep_device::Tried;
 
 /// A connection whose calls do not wait.
 ///

@@ -2,7 +2,7 @@
 ghost use Rattle.std.specs.Prelude.{◌≡◌, ◌++◌, ◌∷◌, ◌*◌, ◌-◌, ◌<◌, ◌≤◌, [], None, Some, Bool, IfOk, IfSome, IsTrue, OnErr, OnOk, false, length, min, max, vec_len};
 ghost use Rattle.std.specs.List.{list_all, list_any};
 ghost use Rattle.keep_device.specs.declared.limits.TheConstants.{MOST_ROOM};
-ghost use Rattle.keep_lanes.specs.Tries.{KeepsDials};
+ghost use Rattle.keep_lanes.specs.Dials.{KeepsDials};
 ghost use Rattle.keep_lanes.specs.code.Seats.{outs};
 ghost use Rattle.keep_lanes.specs.code.Ways.{AreAhead, Begins, Move, due, is_over, soonest};
 ghost use Rattle.vault_http.specs.RoundTripRequest.{IsWritable};

@@ -1,13 +1,12 @@
 //! Connections of the system, which tells by `mio` when they can go on.
 ghost use Rattle.std.specs.Prelude.{◌≡◌, [], IfOk, max, min};
 ghost use Rattle.keep_exchange.specs.Sockets.{IsHere, port_of};
-ghost use Rattle.keep_lanes.specs.Tries.{IsTried};
 
 use crate::lanes::Lanes;
-use crate::line::{Line, Tried, Wires};
+use crate::line::{Line, Wires};
 use crate::running::LanesOver;
 use crate::way::RESTLESS;
-use keep_device::Place;
+use keep_device::{Place, Tried};
 use mio::net::{TcpStream, UnixStream};
 use mio::{Events, Interest, Poll, Registry, Token};
 use std::alloc::{AllocError, Global};
@@ -227,7 +226,7 @@ impl<'a, R: Net> Line for SocketLine<'a, R> {
             Stream::Full => return Tried::Waits,
             Stream::Absent => return Tried::Failed,
         };
-        match tried(given) {
+        match Tried::of(given) {
             // A connection that takes nothing has failed.
             Tried::Done(0) if !piece.is_empty() => Tried::Failed,
             other => other,
@@ -236,27 +235,14 @@ impl<'a, R: Net> Line for SocketLine<'a, R> {
 
     fn get(&mut self, buf: &mut [u8]) -> Tried {
         match &mut self.stream {
-            Stream::Tcp(stream) => tried(stream.read(buf)),
-            Stream::Unix(stream) => tried(stream.read(buf)),
+            Stream::Tcp(stream) => Tried::of(stream.read(buf)),
+            Stream::Unix(stream) => Tried::of(stream.read(buf)),
             Stream::Full | Stream::Absent => Tried::Failed,
         }
     }
 
     fn is_restless(&self) -> bool {
         self.is_restless
-    }
-}
-
-/// What a call of the system came to.
-fn tried(call: io::Result<usize>) -> Tried
-    ensures { IsTried call result }
-{
-    match call {
-        Ok(n) => Tried::Done(n),
-        Err(error) => match error.kind() {
-            ErrorKind::WouldBlock | ErrorKind::Interrupted => Tried::Waits,
-            _ => Tried::Failed,
-        },
     }
 }
 

@@ -5,7 +5,7 @@ use Rattle.std.specs.List.{range_with_len}
 use Rattle.keep_tree.specs.Carried.{carried}
 use Rattle.keep_tree.specs.Forest.{entry_at}
 use Rattle.watch_machine.specs.Clocks.{sec}
-use Rattle.watch_machine.specs.Readings.{broker_moment, broker_now}
+use Rattle.watch_machine.specs.Outlook.{broker_moment, broker_now}
 use Rattle.watch_machine.specs.State.{State, entry_of}
 use Rattle.keep_agent.specs.Agent.{Agent, standing_at}
 use Rattle.keep_agent.specs.Status.{status_of}

@@ -10,15 +10,15 @@ use Rattle.keep_inventory.specs.declared.terms.Terms.{Terms}
 use Rattle.keep_inventory.proofs.Inventories.{credential_text}
 use Rattle.vault_http.specs.declared.reply.Reply.{Reply}
 use Rattle.vault_http.specs.declared.request.Request.{Request}
-use Rattle.mini_broker.specs.declared.call.Call.{Call}
-use Rattle.mini_broker.specs.declared.refusal.Refusal.{Refusal}
-use Rattle.mini_broker.specs.declared.refusal.Refusal.TheVariants.{UnsupportedPath, UnsupportedMethod, PermissionDenied, BadRequest, UnknownLease, NotRenewable}
-use Rattle.mini_broker.specs.declared.row.Row.{Row}
-use Rattle.mini_broker.specs.declared.served.Served.{Served}
-use Rattle.mini_broker.specs.declared.served.Served.TheVariants as served
-use Rattle.mini_broker.specs.Granted.{call_for}
-use Rattle.mini_broker.specs.Request.{status_of}
-use Rattle.mini_broker.specs.Step.{Answer, Says, Tells, drops, refuses as answer_refuses, seconds_to, step, tells}
+use Rattle.broker_table.specs.declared.call.Call.{Call}
+use Rattle.broker_table.specs.declared.refusal.Refusal.{Refusal}
+use Rattle.broker_table.specs.declared.refusal.Refusal.TheVariants.{UnsupportedPath, UnsupportedMethod, PermissionDenied, BadRequest, UnknownLease, NotRenewable}
+use Rattle.broker_table.specs.declared.row.Row.{Row}
+use Rattle.broker_table.specs.declared.served.Served.{Served}
+use Rattle.broker_table.specs.declared.served.Served.TheVariants as served
+use Rattle.broker_table.specs.Granted.{call_for}
+use Rattle.broker_table.specs.Request.{status_of}
+use Rattle.broker_table.specs.Step.{Answer, Says, Tells, drops, refuses as answer_refuses, seconds_to, step, tells}
 use Rattle.keep_core.specs.declared.event.Event.{Event}
 use Rattle.keep_core.specs.declared.event.Event.TheVariants.{Tick, Told, Refused, Lost, Need}
 use Rattle.keep_core.specs.declared.event.Output.{Output}

@@ -31,7 +31,7 @@ use Rattle.keep_core.specs.Shorten.{shorten}
 use Rattle.keep_core.specs.State.{State}
 use Rattle.keep_core.specs.Step.{answered, change, without}
 use Rattle.keep_core.proofs.Standing.{tail_kept}
-use Rattle.mini_broker.specs.Listed.{is_alive}
+use Rattle.broker_table.specs.Listed.{is_alive}
 use Rattle.keep_run.specs.Mirrors.{ended}
 use Rattle.keep_run.proofs.Mirroring.{ended_count, ended_other, ended_same}
 

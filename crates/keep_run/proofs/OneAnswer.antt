@@ -9,8 +9,8 @@ use Rattle.vault_json.specs.declared.renewed.RenewedLease.{RenewedLease}
 use Rattle.vault_json.specs.Renewed.{renew_lease_answer, renew_self_answer}
 use Rattle.vault_http.specs.declared.reply.Reply.{Reply}
 use Rattle.vault_http.specs.declared.request.Request.{Request}
-use Rattle.mini_broker.specs.Step.{step}
-use Rattle.mini_broker.specs.Table.{Table}
+use Rattle.broker_table.specs.Step.{step}
+use Rattle.broker_table.specs.Table.{Table}
 use Rattle.keep_exchange.specs.Exchanges.{Behind, wire_of}
 use Rattle.keep_exchange.specs.Requests.{IsAsked, request_of}
 use Rattle.keep_core.specs.LawsOfSteps.{IsShaped}

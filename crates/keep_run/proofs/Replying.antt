@@ -13,16 +13,16 @@ use Rattle.vault_http.specs.declared.reply.Reply.{Reply}
 use Rattle.vault_json.specs.Renewed.{renew_lease_answer, renew_self_answer}
 use Rattle.vault_json.specs.Written.{renewed_lease_text}
 use Rattle.vault_json.proofs.ReadBack.{renewed_lease_is_read, renewed_self_is_read}
-use Rattle.mini_broker.specs.declared.row.Row.{Row}
-use Rattle.mini_broker.specs.declared.served.Served.{Served}
-use Rattle.mini_broker.specs.declared.served.Served.TheVariants as served
-use Rattle.mini_broker.specs.Rows.{row_of}
-use Rattle.mini_broker.specs.Step.{IsBody, Says, Tells, seconds_to, tells}
+use Rattle.broker_table.specs.declared.row.Row.{Row}
+use Rattle.broker_table.specs.declared.served.Served.{Served}
+use Rattle.broker_table.specs.declared.served.Served.TheVariants as served
+use Rattle.broker_table.specs.Rows.{row_of}
+use Rattle.broker_table.specs.Step.{IsBody, Says, Tells, seconds_to, tells}
 use Rattle.keep_core.specs.declared.event.Event.TheVariants.{Told, Refused, Lost}
 use Rattle.keep_run.specs.Replies.{event_of, of_lease, of_token, refuses, told_by}
 use Rattle.keep_exchange.specs.Requests.{reply_in}
 use Rattle.keep_run.proofs.Mirroring.{renewal_within}
-use Rattle.mini_broker.specs.Granted.{call_for}
+use Rattle.broker_table.specs.Granted.{call_for}
 use Rattle.keep_run.proofs.Serving.{credential_in, renewable_in, renewed_row}
 
 ok_is_told : (kind : Kind) (id : List ℕ) (i : ℕ) (r : Reply) → r.status ≡ 200 → event_of kind id i (Some r) ≡ told_by kind id i r.body

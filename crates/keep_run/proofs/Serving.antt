@@ -4,16 +4,16 @@ use Rattle.std.proofs.lemmas.Bool.{and_from}
 use Rattle.keep_tree.specs.Forest.{end_of, entry_at}
 use Rattle.keep_tree.specs.Renewal.{all_last, is_granted, renewal}
 use Rattle.keep_inventory.specs.Inventories.{IsInventory, Inventory, credential_at}
-use Rattle.mini_broker.specs.declared.row.Row.{Row}
-use Rattle.mini_broker.specs.Faults.{fault_at, next_number, without}
-use Rattle.mini_broker.specs.Granted.{call_for}
-use Rattle.mini_broker.specs.Table.{Table}
-use Rattle.mini_broker.specs.Listed.{is_alive, listed}
-use Rattle.mini_broker.specs.Renewing.{with_row}
-use Rattle.mini_broker.specs.Rows.{row_of}
-use Rattle.mini_broker.specs.Step.{step, tells}
-use Rattle.mini_broker.specs.Sweep.{swept}
-use Rattle.mini_broker.proofs.Granting.{by_the_rule, renewed_by}
+use Rattle.broker_table.specs.declared.row.Row.{Row}
+use Rattle.broker_table.specs.Faults.{fault_at, next_number, without}
+use Rattle.broker_table.specs.Granted.{call_for}
+use Rattle.broker_table.specs.Table.{Table}
+use Rattle.broker_table.specs.Listed.{is_alive, listed}
+use Rattle.broker_table.specs.Renewing.{with_row}
+use Rattle.broker_table.specs.Rows.{row_of}
+use Rattle.broker_table.specs.Step.{step, tells}
+use Rattle.broker_table.specs.Sweep.{swept}
+use Rattle.broker_table.proofs.Granting.{by_the_rule, renewed_by}
 use Rattle.keep_exchange.specs.Requests.{request_of}
 use Rattle.keep_alike.proofs.Asking.{asks_renewal}
 

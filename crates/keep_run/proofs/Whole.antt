@@ -17,8 +17,8 @@ use Rattle.keep_rule.proofs.Alive.{last_from_alive}
 use Rattle.keep_rule.proofs.Keeping.{one_least}
 use Rattle.keep_rule.specs.declared.limit.TheConstants.{LIMIT}
 use Rattle.keep_inventory.specs.Inventories.{IsInventory, Inventory}
-use Rattle.mini_broker.specs.Rows.{row_named, rows_of}
-use Rattle.mini_broker.specs.Sweep.{swept}
+use Rattle.broker_table.specs.Rows.{row_named, rows_of}
+use Rattle.broker_table.specs.Sweep.{swept}
 use Rattle.keep_core.specs.declared.event.Event.{Event}
 use Rattle.keep_core.specs.declared.event.Event.TheVariants.{Tick}
 use Rattle.keep_plan.specs.Planned.{to_come}
@@ -42,14 +42,14 @@ use Rattle.keep_run.specs.Replies.{event_for}
 use Rattle.keep_run.specs.Text.{beat_text, course_text, done_text, short_lines}
 use Rattle.keep_run.specs.Stops.{IsTaken}
 use Rattle.keep_run.specs.Laws.{AnswersTakenLaw, PlannedRunLaw, RehearsalLaw, SoFarLaw, StandsLaw}
-use Rattle.mini_broker.specs.Listed.{is_alive, listed}
+use Rattle.broker_table.specs.Listed.{is_alive, listed}
 use Rattle.keep_run.specs.Mirrors.{with_forest}
 use Rattle.keep_run.proofs.Midway.{settled}
 use Rattle.keep_run.proofs.Mirroring.{mirrors_first}
 use Rattle.keep_run.proofs.Round.{AtRest, InRound, next_turn, part_goes}
 use Rattle.keep_start.proofs.Started.{start_law}
 use Rattle.keep_run.proofs.Running.{Awaits, asks_left, asks_open, requests_from, run_goes, tick_leaves, tick_says, tick_turn}
-use Rattle.mini_broker.proofs.Sweeping.{named_among}
+use Rattle.broker_table.proofs.Sweeping.{named_among}
 
 -- ---- the opening
 

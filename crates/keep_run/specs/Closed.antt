@@ -7,8 +7,8 @@ use Rattle.keep_inventory.specs.Inventories.{Inventory}
 use Rattle.keep_exchange.specs.Exchanges.{Behind}
 use Rattle.keep_exchange.specs.Requests.{IsAsked, request_of}
 use Rattle.vault_http.specs.declared.reply.Reply.{Reply}
-use Rattle.mini_broker.specs.declared.fault.NumberedFault.{NumberedFault}
-use Rattle.mini_broker.specs.Rows.{rows_of}
+use Rattle.broker_table.specs.declared.fault.NumberedFault.{NumberedFault}
+use Rattle.broker_table.specs.Rows.{rows_of}
 use Rattle.keep_core.specs.declared.event.Event.{Event}
 use Rattle.keep_core.specs.declared.event.Event.TheVariants.{Tick}
 use Rattle.keep_core.specs.declared.event.Output.{Output}

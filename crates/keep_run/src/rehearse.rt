@@ -11,13 +11,13 @@ use crate::agent::lines::push_short_lines;
 use crate::agent::refused::opened;
 use crate::rehearse::fault_words::set_faults;
 use crate::rehearse::playing::play;
+use broker_table::Table;
 use keep_core::Keeper;
 use keep_device::{Sink, Watched};
 use keep_exchange::MemoryExchange;
 use keep_moment::{Moment, Text};
 use keep_report::{Exit, Stop};
 use keep_start::read_at;
-use mini_broker::Table;
 use std::alloc::Global;
 
 /// What a rehearsal plays: from when on, and the FAULT words that say what goes wrong.

@@ -1,10 +1,10 @@
 //! Requests of four tokens, the broker's table that answers them, and what it says.
+use broker_table::Table;
 use http::Method;
 use keep_exchange::can_carry;
 use keep_inventory::read;
 use keep_lanes::{Answered, Ask, Lanes, Loss};
 use keep_moment::{Moment, Text};
-use mini_broker::Table;
 use std::alloc::Global;
 use std::test::Fail;
 use vault_http::Request;

@@ -1,5 +1,6 @@
 //! Connections of a play, in time that passes only while they are waited for.
-use keep_lanes::{Line, Tried, Wires};
+use keep_device::Tried;
+use keep_lanes::{Line, Wires};
 use std::alloc::Global;
 use std::cell::Cell;
 

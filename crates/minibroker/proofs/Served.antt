@@ -2,7 +2,7 @@
 use Rattle.std.proofs.Common.{◌≡◌, ℕ, ◌+◌, ◌<◌, ◌++◌, ◌∷◌, [], List, Option, Some, None, Err, IsErr, IsErrAnd, Ok, Result, ap, arith, inl, inr, length, map, refl, subst, sym, ◌∙◌}
 use Rattle.std.proofs.lemmas.List.{append-nil, append_assoc, length-append, map-append}
 use Rattle.keep_report.specs.declared.stop.Stop.{Stop}
-use Rattle.mini_broker.specs.declared.moment_line.Moments.{Moments}
+use Rattle.broker_table.specs.declared.moment_line.Moments.{Moments}
 use Rattle.minibroker.specs.Serving.{AreServed, Broker, Connection, HandsOut, IsNoneHanded, ServesAll, Visit, Visits, visited}
 
 -- so many connections were handed out and served

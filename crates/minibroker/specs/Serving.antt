@@ -1,17 +1,17 @@
 -- Serving: what becomes of one connection, and of the broker's table.
--- Source: this project's own; what is served is mini_broker's `Stream`, and the moment its `MomentLine`.
+-- Source: this project's own; what is served is broker_table's `Stream`, and the moment its `MomentLine`.
 use Rattle.std.specs.Prelude.{◌≡◌, ℕ, ◌<◌, ◌⊎◌, Bool, true, false, List, [], ◌∷◌, ◌++◌, codes, decimal, length, map, Option, Some, IfSome, Result, Ok, Err}
 use Rattle.keep_device.specs.Seen.{Change, Seen}
 use Rattle.keep_report.specs.declared.stop.Stop.{Stop}
 use Rattle.keep_report.specs.declared.stop.Stop.TheVariants as stops
 use Rattle.keep_report.specs.Sent.{IsUntouched, Sends}
-use Rattle.mini_broker.specs.declared.moment_line.LineFault.{LineFault}
-use Rattle.mini_broker.specs.declared.moment_line.LineFault.TheVariants as line_faults
-use Rattle.mini_broker.specs.declared.moment_line.Moments.{Moments}
-use Rattle.mini_broker.specs.declared.stream.StreamFault.TheVariants as stream_faults
-use Rattle.mini_broker.specs.MomentLine.{Tells}
-use Rattle.mini_broker.specs.Stream.{IsStreamed, Leaves}
-use Rattle.mini_broker.specs.Table.{Table}
+use Rattle.broker_table.specs.declared.moment_line.LineFault.{LineFault}
+use Rattle.broker_table.specs.declared.moment_line.LineFault.TheVariants as line_faults
+use Rattle.broker_table.specs.declared.moment_line.Moments.{Moments}
+use Rattle.broker_table.specs.declared.stream.StreamFault.TheVariants as stream_faults
+use Rattle.broker_table.specs.MomentLine.{Tells}
+use Rattle.broker_table.specs.Stream.{IsStreamed, Leaves}
+use Rattle.broker_table.specs.Table.{Table}
 
 -- nothing was read of the connection or written to it, and the table is as it was
 abbrev pub Stays : Change → Table → Table → Type 0

@@ -1,4 +1,4 @@
-//! `minibroker`: a small broker on 127.0.0.1 or a UNIX socket for tests and rehearsals. The program over `mini_broker`:
+//! `minibroker`: a small broker on 127.0.0.1 or a UNIX socket for tests and rehearsals. The program over `broker_table`:
 //! words, a file, sockets, standard streams and the exit status.
 #![tactic(auto)]
 

@@ -1,12 +1,12 @@
 use crate::serving::tell_served;
 use crate::sockets::{serve_path, serve_port};
 use crate::words::{Command, PROGRAM, read_command};
+use broker_table::Table;
 use keep_command::{SystemFiles, words};
 use keep_device::{Counted, Place, Sink, Source};
 use keep_files::Inputs;
 use keep_inventory::{MOST_INVENTORY, read_known};
 use keep_report::{Exit, Stop};
-use mini_broker::Table;
 use std::io;
 use std::io::{Read, Write};
 use std::net::Net;

@@ -3,6 +3,7 @@
 
 use crate::margins::margins;
 use agent_tests::moments::moment;
+use broker_table::{Served, Table};
 use http::Method;
 use keep_check::{Answer, check};
 use keep_core::{Event, Keeper, Output};
@@ -14,7 +15,6 @@ use keep_plan::{Decision, plan, shortfall};
 use keep_rule::{Wake, ends_after};
 use keep_schedule::{QueueSchedule, Run};
 use keep_tree::{Forest, Indices};
-use mini_broker::{Served, Table};
 use std::alloc::Global;
 use std::test::Fail;
 use vault_http::{Reply, Request};

@@ -4,6 +4,7 @@ use crate::checks::IN_RUNS;
 use agent_tests::inventories::WEB;
 use agent_tests::moments::moment;
 use agent_tests::outcomes::{Outcome, streams_to};
+use broker_table::Table;
 use keep_device::{InputFault, MemorySink, MemorySource};
 use keep_engine::{Command, Exit, MarginQuery, keep_alive, obey};
 use keep_exchange::MemoryExchange;
@@ -11,10 +12,9 @@ use keep_files::Inputs;
 use keep_inventory::read;
 use keep_lanes::MemoryLanes;
 use keep_moment::Text;
-use keep_watching::watch_file;
-use mini_broker::Table;
 use std::alloc::Global;
 use std::test::Fail;
+use watch_lines::watch_file;
 
 // Two files: the inventory of the web example, and its certificate.
 #[derive(Drop)]

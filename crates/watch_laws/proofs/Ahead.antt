@@ -17,7 +17,7 @@ use Rattle.watch_machine.specs.Answers.{noted, replied}
 use Rattle.watch_machine.specs.Clocks.{sec}
 use Rattle.watch_machine.specs.History.{Turn}
 use Rattle.watch_machine.specs.Margins.{lead, own_by, own_margin, time, time_before}
-use Rattle.watch_machine.specs.Readings.{time_of}
+use Rattle.watch_machine.specs.Outlook.{time_of}
 use Rattle.watch_machine.specs.Refusal.{request_out}
 use Rattle.watch_machine.specs.Renewed.{from_base, from_try, granted_from, renewed, renewed_track, time_from}
 use Rattle.watch_machine.specs.State.{State, entry_of, no_track, opened, track_at}

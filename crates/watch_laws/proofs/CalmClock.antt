@@ -33,7 +33,7 @@ use Rattle.watch_machine.specs.Beginning.{is_pressed, is_pressed_try}
 use Rattle.watch_machine.specs.Clocks.{sec}
 use Rattle.watch_machine.specs.Margins.{has_come, time}
 use Rattle.watch_machine.specs.Press.{asked_track, is_fresh, press, pressed, pressed_track}
-use Rattle.watch_machine.specs.Readings.{time_of}
+use Rattle.watch_machine.specs.Outlook.{time_of}
 use Rattle.watch_machine.specs.Round.{IsRound, asked_by, opens}
 use Rattle.watch_machine.specs.Sending.{IsSent as IsSending, sent}
 use Rattle.watch_machine.specs.State.{State, attempt_at, entry_of, second, track_at}

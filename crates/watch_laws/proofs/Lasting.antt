@@ -26,7 +26,7 @@ use Rattle.watch_machine.specs.History.{Turn}
 use Rattle.watch_machine.specs.Looked.{by_terms, looked}
 use Rattle.watch_machine.specs.Margins.{has_come, own_by, own_margin, lead, time, time_before}
 use Rattle.watch_machine.specs.Press.{asked_in, asked_track, dropped, is_fresh, press, pressed, pressed_alone, pressed_track}
-use Rattle.watch_machine.specs.Readings.{time_of}
+use Rattle.watch_machine.specs.Outlook.{time_of}
 use Rattle.watch_machine.specs.Refusal.{request_out}
 use Rattle.watch_machine.specs.Renewed.{renewed, renewed_track, ungranted_track}
 use Rattle.watch_machine.specs.Sending.{sent, sent_in, sent_track}

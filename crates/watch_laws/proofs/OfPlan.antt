@@ -29,7 +29,7 @@ use Rattle.watch_machine.specs.Beginning.{is_pressed}
 use Rattle.watch_machine.specs.History.{History, Turn, Turned}
 use Rattle.watch_machine.specs.Margins.{has_come}
 use Rattle.watch_machine.specs.Press.{is_fresh}
-use Rattle.watch_machine.specs.Readings.{time_of}
+use Rattle.watch_machine.specs.Outlook.{time_of}
 use Rattle.watch_machine.specs.Round.{IsRound, IsSecond, is_hoped, opens, opens_some, plan_view, planned, planned_by, step_in_plan}
 use Rattle.watch_machine.specs.State.{State, entry_of, opened, second, track_at}
 use Rattle.watch_machine.specs.Step.{StepClock, readied}

@@ -26,7 +26,7 @@ use Rattle.watch_machine.specs.Lines.{rested}
 use Rattle.watch_machine.specs.Looked.{looked}
 use Rattle.watch_machine.specs.Margins.{is_in_plan, own_margin, time, time_before}
 use Rattle.watch_machine.specs.Press.{pressed}
-use Rattle.watch_machine.specs.Readings.{time_of}
+use Rattle.watch_machine.specs.Outlook.{time_of}
 use Rattle.watch_machine.specs.Refusal.{request_out}
 use Rattle.watch_machine.specs.Renewed.{renewed}
 use Rattle.watch_machine.specs.Sending.{sent}

@@ -7,7 +7,7 @@ use Rattle.std.specs.List.{list_any}
 use Rattle.watch_machine.specs.declared.lanes.Out.{Out}
 use Rattle.watch_machine.specs.declared.track.End.TheVariants.{At}
 use Rattle.watch_machine.specs.Clocks.{ms}
-use Rattle.watch_machine.specs.Readings.{time_of}
+use Rattle.watch_machine.specs.Outlook.{time_of}
 use Rattle.watch_machine.specs.Settling.{is_busy}
 use Rattle.watch_machine.specs.State.{State, track_at}
 use Rattle.watch_laws.specs.Outage.{IsShort, Outage, again, granted_by, how_many, is_served, is_whole, settled_by}

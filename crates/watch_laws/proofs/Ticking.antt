@@ -16,7 +16,7 @@ use Rattle.watch_machine.specs.declared.track.Try.{Try}
 use Rattle.watch_machine.specs.Clocks.{ms, sec}
 use Rattle.watch_machine.specs.Lines.{is_due, is_first, ready, rested}
 use Rattle.watch_machine.specs.Press.{pressed}
-use Rattle.watch_machine.specs.Readings.{time_of}
+use Rattle.watch_machine.specs.Outlook.{time_of}
 use Rattle.watch_machine.specs.Sending.{sent, sent_in, sent_track}
 use Rattle.watch_machine.specs.Settling.{is_busy, is_silent, presence_after, timed}
 use Rattle.watch_machine.specs.State.{State, attempt_at, second, track_at, track_in}

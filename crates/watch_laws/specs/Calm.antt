@@ -23,7 +23,7 @@ use Rattle.watch_machine.specs.Beginning.{is_pressed}
 use Rattle.watch_machine.specs.Clocks.{sec}
 use Rattle.watch_machine.specs.History.{History, IsRun, Turned}
 use Rattle.watch_machine.specs.Margins.{is_in_plan, lead}
-use Rattle.watch_machine.specs.Readings.{time_of}
+use Rattle.watch_machine.specs.Outlook.{time_of}
 use Rattle.watch_machine.specs.Refusal.{request_out}
 use Rattle.watch_machine.specs.Renewed.{from_try}
 use Rattle.watch_machine.specs.Settling.{timed}

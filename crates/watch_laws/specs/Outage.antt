@@ -17,7 +17,7 @@ use Rattle.watch_machine.specs.Clocks.{ms}
 use Rattle.watch_machine.specs.History.{IsRun, Turned}
 use Rattle.watch_machine.specs.Lines.{rested}
 use Rattle.watch_machine.specs.Margins.{is_in_plan}
-use Rattle.watch_machine.specs.Readings.{time_of}
+use Rattle.watch_machine.specs.Outlook.{time_of}
 use Rattle.watch_machine.specs.Refusal.{request_out}
 use Rattle.watch_machine.specs.Settling.{is_busy, timed}
 use Rattle.watch_machine.specs.State.{State, attempt_at, entry_of, second, track_at}

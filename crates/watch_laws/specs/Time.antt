@@ -13,7 +13,7 @@ use Rattle.watch_machine.specs.declared.fault.WatchFault.{WatchFault}
 use Rattle.watch_machine.specs.Clocks.{sec}
 use Rattle.watch_machine.specs.History.{IsRun, Turned}
 use Rattle.watch_machine.specs.Margins.{has_come, is_in_plan, own_margin}
-use Rattle.watch_machine.specs.Readings.{time_of}
+use Rattle.watch_machine.specs.Outlook.{time_of}
 use Rattle.watch_machine.specs.Refusal.{is_same, request_out}
 use Rattle.watch_machine.specs.State.{State, entry_of, opened, second, track_at}
 use Rattle.watch_machine.specs.Wanted.{is_alive, is_wanted}

@@ -12,7 +12,7 @@ use Rattle.watch_machine.specs.Clocks.{ms}
 use Rattle.watch_machine.specs.History.{IsRun, Turned}
 use Rattle.watch_machine.specs.Lines.{ready}
 use Rattle.watch_machine.specs.Pauses.{cap}
-use Rattle.watch_machine.specs.Readings.{time_of}
+use Rattle.watch_machine.specs.Outlook.{time_of}
 use Rattle.watch_machine.specs.Settling.{is_silent}
 use Rattle.watch_machine.specs.State.{State, attempt_at, opened, second, track_at}
 use Rattle.watch_machine.specs.Wanted.{is_wanted}

@@ -2,10 +2,10 @@
 use Rattle.std.proofs.Common.{◌≡◌, ◌∙◌, ℕ, ◌+◌, ◌<◌, ◌≤◌, true, false, nat_le, Option, Some, None, refl, sym, ap, subst, arith, inl, inr}
 use Rattle.std.proofs.lemmas.Bool.{cases_eq}
 use Rattle.std.proofs.lemmas.Bool.Decides.{nat_tests}
-use Rattle.watch_machine.specs.declared.readings.Next.{Next}
-use Rattle.watch_machine.specs.Readings.{IsFirst, IsNextOf, is_timed_at, time_of}
+use Rattle.watch_machine.specs.declared.outlook.Next.{Next}
+use Rattle.watch_machine.specs.Outlook.{IsFirst, IsNextOf, is_timed_at, time_of}
 use Rattle.watch_machine.specs.State.{State}
-use Rattle.watch_machine.specs.code.Readings.{earlier}
+use Rattle.watch_machine.specs.code.Outlook.{earlier}
 use Rattle.watch_machine.proofs.Cases.{if_cases}
 
 module _ (s : State) (n : ℕ) where

@@ -13,7 +13,7 @@ pub mod Wait
 pub mod Answers
 pub mod Looked
 pub mod Renewed
-pub mod Readings
+pub mod Outlook
 pub mod Shortness
 pub mod Refusal
 pub mod Step

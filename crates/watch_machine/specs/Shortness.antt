@@ -9,7 +9,7 @@ use Rattle.keep_tree.specs.declared.forest.TheConstants.{END_MAX}
 use Rattle.keep_tree.specs.Over.{chain}
 use Rattle.watch_machine.specs.declared.track.End.{End}
 use Rattle.watch_machine.specs.declared.track.End.TheVariants.{Unknown, At, Never}
-use Rattle.watch_machine.specs.Readings.{broker_moment, broker_now}
+use Rattle.watch_machine.specs.Outlook.{broker_moment, broker_now}
 use Rattle.watch_machine.specs.State.{State, entry_of, second, track_at}
 use Rattle.watch_machine.specs.Wanted.{is_alive, is_fixed, is_never, is_unknown, least}
 

@@ -2,5 +2,5 @@ pub mod Bounds
 pub mod View
 pub mod Rounds
 pub mod Places
-pub mod Readings
+pub mod Outlook
 pub mod Watching

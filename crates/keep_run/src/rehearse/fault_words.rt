@@ -2,11 +2,11 @@
 ghost use Rattle.std.specs.Prelude.{◌≡◌, []};
 ghost use Rattle.keep_run.specs.FaultWords.{SetsFaults, fault_word, kind_of, stop_at};
 
+use broker_table::{Fault, NumberedFault, SetFault, Table};
 use keep_inventory::SPAN_MAX;
 use keep_moment::Text;
 use keep_report::Stop;
 use keep_words::{number_up_to, two_pieces};
-use mini_broker::{Fault, NumberedFault, SetFault, Table};
 
 /// The greatest number of a renewal request that a FAULT word names.
 pub const MOST_NUMBER: u64 = 1_000_000;

@@ -4,7 +4,7 @@ use Rattle.keep_device.specs.Seen.{Change, change}
 use Rattle.keep_moment.specs.declared.moment.TheConstants.{LAST}
 use Rattle.keep_tree.specs.Forest.{Forest}
 use Rattle.keep_core.specs.State.{State}
-use Rattle.mini_broker.specs.Table.{Table}
+use Rattle.broker_table.specs.Table.{Table}
 use Rattle.keep_run.specs.Agent.{Agent}
 use Rattle.keep_run.specs.Hearing.{IsReady}
 use Rattle.keep_run.specs.code.Playing.{Comes, Plays}

@@ -1,10 +1,10 @@
 -- The table serves the request that is heard, whether its reply is delivered, lost or out of memory.
 use Rattle.std.proofs.Common.{◌≡◌, Some, Result, Ok, Err, ◌++◌, ◌∙◌, ap, refl, subst}
-use Rattle.mini_broker.specs.Table.{Table}
+use Rattle.broker_table.specs.Table.{Table}
 use Rattle.keep_exchange.specs.Exchanges.{Exchanges, received}
 use Rattle.keep_exchange.specs.declared.fault.ExchangeFault.{ExchangeFault}
 use Rattle.keep_exchange.specs.declared.fault.ExchangeFault.TheVariants.{OutOfMemory}
-use Rattle.mini_broker.specs.Stream.{sent_of}
+use Rattle.broker_table.specs.Stream.{sent_of}
 use Rattle.vault_http.specs.declared.reply.Reply.{Reply}
 use Rattle.vault_http.specs.Written.{reply_text, request_text}
 use Rattle.keep_exchange.proofs.Carried.{exchanged, given_up, is_memory, may_send, text_received}

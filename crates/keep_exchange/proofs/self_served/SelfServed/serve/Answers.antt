@@ -1,7 +1,7 @@
 -- The stream that was served is the one that came.
 use Rattle.std.proofs.Common.{ap, subst}
 use Rattle.keep_exchange.specs.Sockets.{IsServedOnce}
-use Rattle.mini_broker.specs.Table.{Table}
+use Rattle.broker_table.specs.Table.{Table}
 use Rattle.keep_exchange.proofs.self_served.SelfServed.serve.Goals as goal
 
 pub returns-in-Ok-serve_stream-clause-served : goal.returns-in-Ok-serve_stream-clause-served

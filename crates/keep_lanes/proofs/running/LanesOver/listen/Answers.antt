@@ -2,7 +2,7 @@
 use Rattle.std.proofs.Common.{◌≡◌, None, ◌∙◌, ap, length, refl, rules}
 use Rattle.keep_lanes.specs.code.Seats.{outs}
 use Rattle.keep_lanes.proofs.Dials.{dials_same, dials_wait}
-use Rattle.keep_lanes.proofs.Moved.{written_back}
+use Rattle.keep_device.proofs.Lent.{written_back}
 use Rattle.keep_lanes.proofs.running.LanesOver.listen.Goals as goal
 
 pub returns-in_err-make_room-clause-dials : goal.returns-in_err-make_room-clause-dials

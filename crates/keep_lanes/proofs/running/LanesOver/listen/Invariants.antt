@@ -1,7 +1,7 @@
 -- The same are out, and no connection was made.
 use Rattle.std.proofs.Common.{◌≡◌, None, vec_len}
 use Rattle.keep_device.specs.declared.limits.TheConstants.{MOST_ROOM}
-use Rattle.keep_lanes.specs.Tries.{KeepsDials}
+use Rattle.keep_lanes.specs.Dials.{KeepsDials}
 use Rattle.keep_lanes.specs.code.Seats.{outs}
 use Rattle.keep_lanes.proofs.running.LanesOver.listen.Given as goal
 

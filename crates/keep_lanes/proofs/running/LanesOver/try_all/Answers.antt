@@ -1,7 +1,7 @@
 -- The deadlines of those that went on are ahead.
 use Rattle.std.proofs.Common.{◌≡◌, ◌∙◌, ap, length}
 use Rattle.keep_lanes.proofs.Due.{back_ahead}
-use Rattle.keep_lanes.proofs.Moved.{written_back}
+use Rattle.keep_device.proofs.Lent.{written_back}
 use Rattle.keep_lanes.proofs.running.LanesOver.try_all.Goals as goal
 
 pub returns-clause-ahead : goal.returns-clause-ahead

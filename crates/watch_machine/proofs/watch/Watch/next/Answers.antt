@@ -2,7 +2,7 @@
 use Rattle.std.proofs.Common.{subst}
 use Rattle.keep_tree.specs.Forest.{Forest}
 use Rattle.watch_machine.specs.declared.track.Track.{Track}
-use Rattle.watch_machine.specs.Readings.{IsNext}
+use Rattle.watch_machine.specs.Outlook.{IsNext}
 use Rattle.watch_machine.specs.State.{State}
 use Rattle.watch_machine.specs.code.View.{Sees}
 use Rattle.watch_machine.proofs.Seeing.{has_needs}

@@ -5,7 +5,7 @@ use Rattle.keep_tree.specs.Forest.{Forest, entry_at}
 use Rattle.watch_machine.specs.declared.track.Track.{Track}
 use Rattle.watch_machine.specs.Clocks.{sec}
 use Rattle.watch_machine.specs.Margins.{time}
-use Rattle.watch_machine.specs.Readings.{IsNextOf, is_timed, is_timed_at, time_of}
+use Rattle.watch_machine.specs.Outlook.{IsNextOf, is_timed, is_timed_at, time_of}
 use Rattle.watch_machine.specs.State.{State, entry_of, second, track_at}
 use Rattle.watch_machine.proofs.FirstTime.{is_timed_more, not_timed}
 use Rattle.watch_machine.proofs.watch.Watch.next_time.Goals.{then-is_timed, else-is_timed}

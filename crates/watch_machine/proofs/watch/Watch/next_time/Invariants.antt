@@ -1,5 +1,5 @@
 -- The first time of the entries before the index is found.
-use Rattle.watch_machine.specs.Readings.{IsNextOf}
+use Rattle.watch_machine.specs.Outlook.{IsNextOf}
 use Rattle.watch_machine.specs.State.{State}
 use Rattle.watch_machine.specs.Wanted.{HasNeeds}
 use Rattle.watch_machine.proofs.watch.Watch.next_time.Given as goal

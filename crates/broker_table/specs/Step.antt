@@ -1,0 +1,107 @@
+-- Broker step: what a table answers to a request, and what it then is.
+-- Source: Vault, "Tokens"; Vault, "Lease, renew, and revoke"; Vault, HTTP API `auth/token` and `sys/leases`. Faults by
+-- number and the texts of errors are this project's own.
+use Rattle.std.specs.Prelude.{◌≡◌, ℕ, ◌-◌, min, Bool, true, false, List, Option, Some, None, Result, Ok, Err, is_none, if◌then◌else◌}
+use Rattle.keep_inventory.specs.declared.limits.TheConstants.{SPAN_MAX}
+use Rattle.vault_http.specs.declared.request.Request.{Request}
+use Rattle.vault_json.specs.Written.{renewed_self_text, renewed_lease_text, looked_self_text, errors_text, IsLookedLease}
+use Rattle.broker_table.specs.declared.row.Row.{Row}
+use Rattle.broker_table.specs.declared.call.Call.{Call}
+use Rattle.broker_table.specs.declared.call.Call.TheVariants.{RenewSelf, RenewLease, LookupSelf, LookupLease}
+use Rattle.broker_table.specs.declared.fault.Fault.{Fault}
+use Rattle.broker_table.specs.declared.fault.Fault.TheVariants as faults
+use Rattle.broker_table.specs.declared.refusal.Refusal.{Refusal}
+use Rattle.broker_table.specs.declared.refusal.Refusal.TheVariants.{UnsupportedPath, UnsupportedMethod}
+use Rattle.broker_table.specs.declared.served.Served.{Served}
+use Rattle.broker_table.specs.declared.served.Served.TheVariants as served
+use Rattle.broker_table.specs.Faults.{fault_at, next_number, without}
+use Rattle.broker_table.specs.Table.{Table}
+use Rattle.broker_table.specs.Renewing.{renewal, rows_after}
+use Rattle.broker_table.specs.Request.{allows, call_of, is_renewal, status_of, text_of}
+use Rattle.broker_table.specs.Subject.{Subject, subject}
+use Rattle.broker_table.specs.Sweep.{swept}
+
+-- what is answered: a refusal, what a call says of a row, or nothing
+pub data Answer : Type 0 where
+  refuses : Refusal → Answer
+  tells : Call → Row → Answer
+  drops : Answer
+
+-- an answer, and the table behind it
+pub record Outcome : Type 0 where
+  pub answer : Answer
+  pub table : Table
+
+abbrev pub is_drop : Option Fault → Bool
+is_drop None = false
+is_drop (Some (faults.Short seconds)) = false
+is_drop (Some faults.Drop) = true
+is_drop (Some faults.Deny) = false
+
+-- what a lookup answers
+abbrev pub looked : Call → Result Subject Refusal → Answer
+looked call (Err refusal) = refuses refusal
+looked call (Ok s) = tells call s.row
+
+-- what a renewal answers; a refusal is sent whatever the fault
+abbrev pub renewed : Call → Option Fault → Result Row Refusal → Answer
+renewed call fault (Err refusal) = refuses refusal
+renewed call fault (Ok row) = if is_drop fault then drops else tells call row
+
+-- a renewal request is counted, and its fault is used
+abbrev pub counted : Table → ℕ → Call → Option Fault → Result Row Refusal → Outcome
+counted l number call fault found = record {
+  answer = renewed call fault found;
+  table = record { rows = rows_after l.rows found; faults = without l.faults number; count = number };
+}
+
+unfoldable pub renews : Table → ℕ → Call → Request → Outcome
+renews l t call r =
+    counted l (next_number l.count) call (fault_at l.faults (next_number l.count)) (renewal l.rows t call r (fault_at l.faults (next_number l.count)))
+
+abbrev pub by_call : Table → ℕ → Request → Option Call → Outcome
+by_call l t r None = record { answer = refuses UnsupportedPath; table = l }
+by_call l t r (Some call) =
+    if allows call r.method then (if is_renewal call then renews l t call r else record { answer = looked call (subject l.rows call r); table = l })
+    else record { answer = refuses UnsupportedMethod; table = l }
+
+abbrev pub after_sweep : Table → ℕ → Table
+after_sweep l t = record { rows = swept t l.rows; faults = l.faults; count = l.count }
+
+-- the Broker step
+unfoldable pub step : Table → ℕ → Request → Outcome
+step l t r = by_call (after_sweep l t) t r (call_of r.path)
+
+-- ---- the text of an answer
+
+-- the seconds to an end, at most the greatest duration; a grant has never more
+abbrev pub seconds_to : ℕ → ℕ → ℕ
+seconds_to end t = min (end - t) SPAN_MAX
+
+-- the body of a reply that speaks of a row
+unfoldable pub IsBody : Call → Row → ℕ → List ℕ → Type 0
+IsBody RenewSelf row t body = body ≡ renewed_self_text (seconds_to row.end t) row.renewable
+IsBody RenewLease row t body = body ≡ renewed_lease_text row.credential (seconds_to row.end t) row.renewable
+IsBody LookupSelf row t body = body ≡ looked_self_text (seconds_to row.end t) row.issued row.explicit_max (is_none row.parent) row.renewable row.period
+IsBody LookupLease row t body = IsLookedLease body row.credential row.issued row.renewable (seconds_to row.end t)
+
+-- a reply that refuses a request
+abbrev pub Refuses : Refusal → Served → Type 0
+Refuses refusal (served.Reply reply) = (reply.status ≡ status_of refusal) × (reply.body ≡ errors_text (text_of refusal))
+Refuses refusal served.Dropped = ⊥
+
+-- a reply that speaks of a row
+abbrev pub Tells : ℕ → Call → Row → Served → Type 0
+Tells t call row (served.Reply reply) = (reply.status ≡ 200) × IsBody call row t reply.body
+Tells t call row served.Dropped = ⊥
+
+-- no reply
+abbrev pub Drops : Served → Type 0
+Drops (served.Reply reply) = ⊥
+Drops served.Dropped = Unit {0}
+
+-- a reply, or none, that says an answer
+abbrev pub Says : ℕ → Answer → Served → Type 0
+Says t (refuses refusal) served = Refuses refusal served
+Says t (tells call row) served = Tells t call row served
+Says t drops served = Drops served

@@ -1,0 +1,122 @@
+-- A request served over a stream: what is read, what the table then is, and what is written.
+-- Source: RFC 9112 (the message that is read and the reply that is written); which unreadable request gets a reply is this
+-- project's own.
+use Rattle.std.specs.Prelude.{◌≡◌, ℕ, ◌⊎◌, List, [], Bool, IsTrue, Result, Ok, Err}
+use Rattle.std.specs.Io.KnownBytes.{Keeps}
+use Rattle.vault_http.specs.declared.http_fault.HttpFault.{HttpFault}
+use Rattle.vault_http.specs.declared.http_fault.HttpFault.TheVariants as https
+use Rattle.vault_http.specs.declared.request.Request.{Request}
+use Rattle.vault_http.specs.declared.writing.SendFault.{SendFault}
+use Rattle.vault_http.specs.declared.writing.SendFault.TheVariants as sends
+use Rattle.keep_device.specs.Failures.{one_more}
+use Rattle.keep_device.specs.Seen.{Change, Receives, ReceivesFront}
+use Rattle.vault_http.specs.Reading.{SettlesRequest}
+use Rattle.vault_http.specs.RoundTrip.{is_sent}
+use Rattle.vault_http.specs.Written.{reply_text}
+use Rattle.broker_table.specs.declared.refusal.Refusal.TheVariants.{BadRequest}
+use Rattle.broker_table.specs.declared.served.Served.{Served}
+use Rattle.broker_table.specs.declared.served.Served.TheVariants as served
+use Rattle.broker_table.specs.declared.stream.StreamFault.{StreamFault}
+use Rattle.broker_table.specs.declared.stream.StreamFault.TheVariants as streams
+use Rattle.vault_http.specs.declared.known.TheConstants.{MOST_MESSAGE}
+use Rattle.broker_table.specs.Table.{Table}
+use Rattle.broker_table.specs.Step.{Refuses, Says, after_sweep, step}
+
+-- the bytes that are sent
+abbrev pub sent_of : Served → List ℕ
+sent_of (served.Reply reply) = reply_text reply
+sent_of served.Dropped = []
+
+-- what is done with a message: a request is served; one that stream too soon gets no reply; every other that cannot be read
+-- is refused, and is not counted
+abbrev pub Handles : Table → ℕ → Result Request HttpFault → Table → Served → Type 0
+Handles l t (Ok r) after done = (Says t (step l t r).answer done) × (after ≡ (step l t r).table)
+Handles l t (Err https.Truncated) after done = (done ≡ served.Dropped) × (after ≡ l)
+Handles l t (Err https.ReadFailed) after done = ⊥
+Handles l t (Err https.OutOfMemory) after done = ⊥
+Handles l t (Err https.BadHead) after done = (Refuses BadRequest done) × (after ≡ l)
+Handles l t (Err https.BadLength) after done = (Refuses BadRequest done) × (after ≡ l)
+Handles l t (Err https.BadChunk) after done = (Refuses BadRequest done) × (after ≡ l)
+Handles l t (Err https.TooLong) after done = (Refuses BadRequest done) × (after ≡ l)
+Handles l t (Err https.TwoLengths) after done = (Refuses BadRequest done) × (after ≡ l)
+
+-- one message is read by its bytes, where the stream tells them, and it is handled; what was not read stays
+pub record IsHandled (stream : Change) (l : Table) (t : ℕ) (after : Table) : Type 0 where
+  pub message : Result Request HttpFault
+  pub read : SettlesRequest MOST_MESSAGE stream.old.input stream.new.input message
+  pub done : Served
+  pub handled : Handles l t message after done
+
+-- a reply may be sent: its status is one of those that are written
+abbrev pub MaySend : Served → Type 0
+MaySend (served.Reply reply) = IsTrue (is_sent reply.status)
+MaySend served.Dropped = Unit {0}
+
+-- a reply that is sent is flushed
+abbrev pub IsFlushed : Served → Bool → Type 0
+IsFlushed (served.Reply reply) flushed = IsTrue flushed
+IsFlushed served.Dropped flushed = Unit {0}
+
+-- one message is handled, and what is sent for it is appended
+pub record IsStreamed (stream : Change) (l : Table) (t : ℕ) (after : Table) : Type 0 where
+  pub done : IsHandled stream l t after
+  pub sent : Receives (sent_of done.done) stream
+  pub flushed : IsFlushed done.done stream.new.output.is_flushed
+
+-- what want of memory leaves of the table: what it was where the message was not read or is refused, and what a sweep leaves
+-- where it is a request. No reply to a message that stream too soon is made, so none wants memory
+abbrev pub WantsMemory : Table → ℕ → Result Request HttpFault → Table → Type 0
+WantsMemory l t (Ok r) after = after ≡ after_sweep l t
+WantsMemory l t (Err https.Truncated) after = ⊥
+WantsMemory l t (Err https.ReadFailed) after = ⊥
+WantsMemory l t (Err https.OutOfMemory) after = after ≡ l
+WantsMemory l t (Err https.BadHead) after = after ≡ l
+WantsMemory l t (Err https.BadLength) after = after ≡ l
+WantsMemory l t (Err https.BadChunk) after = after ≡ l
+WantsMemory l t (Err https.TooLong) after = after ≡ l
+WantsMemory l t (Err https.TwoLengths) after = after ≡ l
+
+-- one message is read by its bytes, where the stream tells them, or was refused memory, and nothing is sent
+pub record IsUnserved (stream : Change) (l : Table) (t : ℕ) (after : Table) : Type 0 where
+  pub message : Result Request HttpFault
+  pub read : SettlesRequest MOST_MESSAGE stream.old.input stream.new.input message
+  pub unwritten : Keeps stream.old.output.written stream.new.output.written
+  pub wants : WantsMemory l t message after
+
+-- one message is handled, and of what is sent for it no more than a front is appended
+pub record IsCut (stream : Change) (l : Table) (t : ℕ) (after : Table) : Type 0 where
+  pub done : IsHandled stream l t after
+  pub front : ReceivesFront (sent_of done.done) stream
+
+-- what a fault leaves: the table as it was where a read failed, and where a write failed what handling the message has left,
+-- with a front of what is sent. Memory may be wanting while a message is read, while a request is served, and while the reply
+-- is sent
+abbrev pub Leaves : Change → Table → ℕ → StreamFault → Table → Type 0
+Leaves stream l t streams.ReadFailed after = after ≡ l
+Leaves stream l t streams.WriteFailed after = IsCut stream l t after
+Leaves stream l t streams.OutOfMemory after = IsUnserved stream l t after ⊎ IsCut stream l t after
+
+-- one failure more where a read or a write failed, and else none
+abbrev pub CountsStream : {X : Type 0} → Result X StreamFault → ℕ → ℕ → Type 0
+CountsStream (Ok x) before now = now ≡ before
+CountsStream (Err streams.ReadFailed) before now = now ≡ one_more before
+CountsStream (Err streams.WriteFailed) before now = now ≡ one_more before
+CountsStream (Err streams.OutOfMemory) before now = now ≡ before
+
+-- what handling a message comes to where it fails
+abbrev pub Fails : Table → ℕ → Result Request HttpFault → StreamFault → Table → Type 0
+Fails l t message streams.ReadFailed after = (message ≡ Err https.ReadFailed) × (after ≡ l)
+Fails l t message streams.WriteFailed after = ⊥
+Fails l t message streams.OutOfMemory after = WantsMemory l t message after
+
+-- a fault of sending
+abbrev pub stream_fault : SendFault → StreamFault
+stream_fault sends.WriteFailed = streams.WriteFailed
+stream_fault sends.OutOfMemory = streams.OutOfMemory
+
+-- the count of failures over the sending alone
+abbrev pub CountsSending : {X : Type 0} → Result X StreamFault → ℕ → ℕ → Type 0
+CountsSending (Ok x) before now = now ≡ before
+CountsSending (Err streams.ReadFailed) before now = ⊥
+CountsSending (Err streams.WriteFailed) before now = now ≡ one_more before
+CountsSending (Err streams.OutOfMemory) before now = now ≡ before

@@ -1,0 +1,71 @@
+ghost use Rattle.std.specs.Prelude.{◌≡◌};
+ghost use Rattle.broker_table.specs.Request.{call_of, is_get, is_write, allows, is_renewal};
+
+use http::Method;
+
+/// The four calls of Vault's HTTP API that a broker serves (`auth/token`, "Renew a token (self)" and "Lookup a token
+/// (self)"; `sys/leases`, "Renew lease" and "Read lease").
+#[derive(Clone, Copy, Debug, PartialEq, Eq)]
+pub enum Call {
+    RenewSelf,
+    RenewLease,
+    LookupSelf,
+    LookupLease,
+}
+
+/// The call of a path, `None` where there is none.
+#[tactic(auto, unfolding(crate::specs::Request::call_of))]
+pub(crate) fn call_of(path: &[u8]) -> Option<Call>
+    ensures { result ≡ call_of path.now }
+{
+    if path == b"/v1/auth/token/renew-self".as_slice() {
+        return Some(Call::RenewSelf);
+    }
+    if path == b"/v1/sys/leases/renew".as_slice() {
+        return Some(Call::RenewLease);
+    }
+    if path == b"/v1/auth/token/lookup-self".as_slice() {
+        return Some(Call::LookupSelf);
+    }
+    if path == b"/v1/sys/leases/lookup".as_slice() {
+        return Some(Call::LookupLease);
+    }
+    None
+}
+
+impl Call {
+    /// Whether the method is listed for the call: GET for a token's lookup, POST and PUT for the others.
+    pub(crate) fn allows(self, method: &Method) -> bool
+        ensures { result ≡ allows self method.now }
+    {
+        match self {
+            Call::LookupSelf => is_get(method),
+            Call::RenewSelf | Call::RenewLease | Call::LookupLease => is_write(method),
+        }
+    }
+
+    /// Whether the call asks for a renewal.
+    pub(crate) fn is_renewal(self) -> bool
+        ensures { result ≡ is_renewal self }
+    {
+        match self {
+            Call::RenewSelf | Call::RenewLease => true,
+            Call::LookupSelf | Call::LookupLease => false,
+        }
+    }
+}
+
+#[tactic(auto, unfolding(crate::specs::Request::is_get))]
+fn is_get(method: &Method) -> bool
+    ensures { result ≡ is_get method.now }
+{
+    method.as_str().as_bytes() == b"GET".as_slice()
+}
+
+#[tactic(auto, unfolding(crate::specs::Request::is_write))]
+fn is_write(method: &Method) -> bool
+    ensures { result ≡ is_write method.now }
+{
+    (method.as_str().as_bytes() == b"POST".as_slice())
+        | (method.as_str().as_bytes() == b"PUT".as_slice())
+}

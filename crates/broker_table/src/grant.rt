@@ -1,0 +1,118 @@
+ghost use Rattle.std.specs.Prelude.{◌≡◌, ◌<◌, IfOk};
+ghost use Rattle.broker_table.specs.Found.{subject_at, row_granted, IsFoundWithin, IsGrantWithin};
+ghost use Rattle.broker_table.specs.Renewing.{asked_or, granted, is_deny, new_end, renewal, shortened, step_of};
+ghost use Rattle.broker_table.specs.Slots.{listed_rows};
+
+use crate::call::Call;
+use crate::fault::Fault;
+use crate::refusal::Refusal;
+use crate::row::Row;
+use crate::slot::slot_in;
+use crate::slots::Slots;
+use crate::subject::{Found, subject};
+use keep_moment::{Moment, Span};
+use keep_tree::capped;
+use std::alloc::{AllocError, Global};
+use vault_http::Request;
+
+/// The slot of a row that is renewed, and its new end.
+#[derive(Clone, Copy, Debug)]
+pub struct Grant {
+    pub place: usize,
+    pub end: u64,
+}
+
+/// What a renewal request with that fault comes to. The only error is want of memory.
+#[tactic(auto, unfolding(crate::specs::Renewing::renewal))]
+pub(crate) fn renewal(
+    alloc: Global,
+    slots: &Slots,
+    t: Moment,
+    call: Call,
+    request: &Request,
+    fault: Option<Fault>,
+) -> Result<Result<Grant, Refusal>, AllocError>
+    ensures granted { IfOk result (λ grant. row_granted slots.now grant ≡ renewal (listed_rows slots.now) t call request.now fault) }
+    ensures within { IfOk result (λ grant. IsGrantWithin slots.now grant) }
+{
+    if is_deny(fault) {
+        return Ok(Err(Refusal::PermissionDenied));
+    }
+    let found = subject(alloc, slots, call, request)?;
+    Ok(granted(slots, t, fault, found))
+}
+
+fn is_deny(fault: Option<Fault>) -> bool
+    ensures { result ≡ is_deny fault }
+{
+    match fault {
+        None | Some(Fault::Short(_) | Fault::Drop) => false,
+        Some(Fault::Deny) => true,
+    }
+}
+
+/// The new end of a row that was found, where it can be renewed.
+fn granted(
+    slots: &Slots,
+    t: Moment,
+    fault: Option<Fault>,
+    found: Result<Found, Refusal>,
+) -> Result<Grant, Refusal>
+    requires { IsFoundWithin slots.now found }
+    ensures granted { row_granted slots.now result ≡ granted fault t (subject_at slots.now found) }
+    ensures within { IsGrantWithin slots.now result }
+{
+    match found {
+        Err(refusal) => Err(refusal),
+        Ok(found) => {
+            let row = &slot_in(slots.list(), found.place).row;
+            if row.renewable {
+                Ok(Grant {
+                    place: found.place,
+                    end: new_end(fault, t, row, found.increment),
+                })
+            } else {
+                Err(Refusal::NotRenewable)
+            }
+        }
+    }
+}
+
+/// The end that a renewal at `t` gives a row: no later than its ceiling, and no later than its fault says.
+#[tactic(auto, unfolding(crate::specs::Renewing::new_end, crate::specs::Renewing::step_of))]
+fn new_end(fault: Option<Fault>, t: Moment, row: &Row, increment: Option<Span>) -> u64
+    ensures { result ≡ new_end fault t row.now increment }
+{
+    let end = capped(row.ceiling, t.plus(step_of(row, increment)));
+    shortened(fault, t, end)
+}
+
+/// How long after the renewal the row is to end: its period where it is not 0, else what is asked, else its own step.
+#[tactic(auto, unfolding(crate::specs::Renewing::step_of))]
+fn step_of(row: &Row, increment: Option<Span>) -> Span
+    ensures { result ≡ step_of row.now increment }
+{
+    if row.period == 0 {
+        asked_or(row.step, increment)
+    } else {
+        row.period
+    }
+}
+
+fn asked_or(step: Span, increment: Option<Span>) -> Span
+    ensures { result ≡ asked_or step increment }
+{
+    match increment {
+        None => step,
+        Some(increment) => { if increment == 0 { step } else { increment } }
+    }
+}
+
+fn shortened(fault: Option<Fault>, t: Moment, end: u64) -> u64
+    ensures { result ≡ shortened fault t end }
+{
+    match fault {
+        Some(Fault::Short(seconds)) => end.min(t.plus(seconds)),
+        None | Some(Fault::Drop | Fault::Deny) => end,
+    }
+}

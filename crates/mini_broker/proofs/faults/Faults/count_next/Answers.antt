@@ -1,6 +1,0 @@
--- When the next request is counted, its fault is used and those of later ones stay.
-use Rattle.mini_broker.proofs.Pending.{counted_faults}
-use Rattle.mini_broker.proofs.faults.Faults.count_next.Goals as goal
-
-pub returns : goal.returns
-returns c = counted_faults c.self.inside.given.items c.self.inside.count c.args.self.now c.next_number-self-inside.result c.self.view_is c.next_number-self-inside.ensures

@@ -1,6 +1,0 @@
--- Two empty maps are the index of no slots.
-use Rattle.mini_broker.proofs.Indexed.{index_of_none}
-use Rattle.mini_broker.proofs.index.Index.new.Goals as goal
-
-pub returns : goal.returns
-returns c = index_of_none (record { tokens = c.new.result; leases = c.new-2.result }) c.new.ensures.empty c.new-2.ensures.empty

@@ -1,6 +1,0 @@
--- The rows of an inventory that are left after a sweep are those of the entries then alive.
-use Rattle.mini_broker.proofs.Sweeping as law
-use Rattle.mini_broker.proofs.laws.swept_inventory.Goals as goal
-
-pub returns : goal.returns
-returns c = law.swept_inventory

@@ -1,0 +1,26 @@
+-- LawsOfWatching: what holds of every watch that has heard lines. The contract of a public function without a body.
+-- Source: this project's own.
+use Rattle.std.specs.Prelude.{◌≡◌, ℕ, List, [], ◌∷◌}
+use Rattle.keep_inventory.specs.Inventories.{Inventory}
+use Rattle.watch_machine.specs.History.{History, Turned}
+use Rattle.watch_machine.specs.State.{State}
+use Rattle.watch_lines.specs.Clocked.{Side, side}
+use Rattle.watch_lines.specs.Listening.{AreHeard}
+use Rattle.keep_asking.specs.Sending.{Lanes}
+use Rattle.watch_lines.specs.Watching.{fresh}
+
+-- the state after these turns
+abbrev pub behind : State → List Turned → State
+behind old [] = old
+behind old (turn ∷ turns) = behind turn.state turns
+
+-- some events, handed in one after another, lead from the one state to the other
+abbrev pub LeadsTo : State → State → Type 0
+LeadsTo old new = (turns : List Turned) × (History old turns × (behind old turns ≡ new))
+
+-- whatever the lines are and whatever is answered, the machine of a watch over the inventory is one that was handed events from its
+-- making on: so each law of all such runs holds of it
+abbrev pub RunOfMachineLaw : Type 0
+RunOfMachineLaw =
+    (port : ℕ) (s : Inventory) (width : ℕ) (lanes : Lanes) (lines : List (List ℕ)) (new : Side) (text : List ℕ) → AreHeard port (side (fresh s width) lanes) lines new text →
+    LeadsTo (fresh s width).machine new.watching.machine

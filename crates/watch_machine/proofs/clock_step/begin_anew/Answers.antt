@@ -1,0 +1,32 @@
+-- By what the entries carry, everybody who is called owes a lookup.
+use Rattle.std.proofs.Common.{◌≡◌, ◌∙◌, ap, length, subst}
+use Rattle.keep_needs.specs.Carried.{IsCarried}
+use Rattle.watch_machine.specs.Beginning.{owing_all, untopped}
+use Rattle.watch_machine.proofs.Owing.{owed_are, owed_sees}
+use Rattle.watch_machine.proofs.Written.{each_length}
+use Rattle.watch_machine.proofs.clock_step.begin_anew.Goals as goal
+
+pub returns-clause-tracks : goal.returns-clause-tracks
+returns-clause-tracks c =
+    let g = c.args.forest.now in
+    let k = c.args.clocks in
+    let old = c.args.tracks.now in
+    let mid = c.clear_tops.new.tracks in
+    let written = c.in_ok-written.written in
+    let wrote : IsCarried g 0 written = subst (λ t. IsCarried g t written) c.moment_at.ensures c.in_ok-written.ensures in
+    let beside : length mid ≡ length g.entries = ap length c.clear_tops.ensures.value ∙ each_length _ old ∙ c.requires.count in
+    owed_are g mid k c.in_ok-needs.needs beside c.needs_of.new.view written c.owe_all.new.tracks c.in_ok-needs.ensures.needs wrote c.owe_all.ensures.value ∙ ap (owing_all g k) c.clear_tops.ensures.value
+
+pub returns-clause-needs : goal.returns-clause-needs
+returns-clause-needs c =
+    let g = c.args.forest.now in
+    let k = c.args.clocks in
+    let old = c.args.tracks.now in
+    let mid = c.clear_tops.new.tracks in
+    let needs = c.in_ok-needs.needs in
+    let written = c.in_ok-written.written in
+    let view = c.needs_of.new.view in
+    let new = c.owe_all.new.tracks in
+    let wrote : IsCarried g 0 written = subst (λ t. IsCarried g t written) c.moment_at.ensures c.in_ok-written.ensures in
+    let beside : length mid ≡ length g.entries = ap length c.clear_tops.ensures.value ∙ each_length _ old ∙ c.requires.count in
+    owed_sees g mid k needs beside view new c.in_ok-needs.ensures.needs (owed_are g mid k needs beside view written new c.in_ok-needs.ensures.needs wrote c.owe_all.ensures.value)

@@ -1,9 +1,0 @@
--- Readings: the steps of what a watch says of itself. No public clause cites it.
--- Source: this project's own.
-use Rattle.std.specs.Prelude.{ℕ, if◌then◌else◌, Option, Some, None, nat_le}
-use Rattle.watch_machine.specs.declared.readings.Next.{Next}
-
--- the earlier of the first time so far and of that of an entry of a higher index
-abbrev pub earlier : Option Next → ℕ → ℕ → Option Next
-earlier None at i = Some (record { at = at; entry = i })
-earlier (Some first) at i = if nat_le first.at at then Some first else Some (record { at = at; entry = i })

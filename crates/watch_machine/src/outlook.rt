@@ -1,0 +1,125 @@
+//! What a watch says of itself between two events.
+ghost use Rattle.std.specs.Prelude.{◌≡◌, ◌<◌, IfErr, IfOk, is_some, length};
+ghost use Rattle.keep_tree.specs.declared.forest.TheConstants.{END_MAX};
+ghost use Rattle.watch_machine.specs.Outlook.{IsNext, broker_moment, is_timed, is_timed_at};
+ghost use Rattle.watch_machine.specs.State.{track_at};
+ghost use Rattle.watch_machine.specs.Wanted.{HasNeeds, is_wanted};
+ghost use Rattle.watch_machine.specs.code.Outlook.{earlier};
+ghost use Rattle.watch_machine.specs.declared.fault.WatchFault.TheVariants.{OutOfMemory};
+
+use crate::clock_step::needs_of;
+use crate::clocks::Clocks;
+use crate::fault::WatchFault;
+use crate::margins::time;
+use crate::reading::{moment_at, second};
+use crate::track::{End, Track};
+use crate::wanted::{carried_need, is_alive, wants, write_view};
+use crate::watch::Watch;
+use keep_needs::Carried;
+use keep_tree::END_MAX;
+use std::alloc::Global;
+
+/// The next time of an entry that is wanted.
+#[derive(Clone, Copy, Debug, PartialEq, Eq)]
+pub struct Next {
+    /// The moment, in seconds of the clock that never steps.
+    pub at: u64,
+    /// The lowest entry whose time it is.
+    pub entry: u32,
+}
+
+/// The earlier of the first time so far and that of an entry, of which the one so far is of a lower index.
+fn earlier(first: Option<Next>, at: u64, entry: u32) -> Option<Next>
+    ensures { result ≡ earlier first at entry }
+{
+    match first {
+        Some(first) if first.at <= at => Some(first),
+        _ => Some(Next { at, entry }),
+    }
+}
+
+/// Whether an entry that carries that need is wanted, and its end is ahead.
+#[tactic(auto, unfolding(crate::specs::Outlook::is_timed))]
+fn is_timed(track: Track, need: u64, now: u64) -> bool
+    ensures { result ≡ is_timed now track need }
+{
+    wants(track, need) && is_alive(track, now)
+}
+
+impl Watch {
+    /// Whether a clock was taken.
+    pub fn has_begun(&self) -> bool
+        ensures { result ≡ is_some self.now.begun }
+    {
+        self.begun.is_some()
+    }
+
+    /// The clocks.
+    pub fn clocks(&self) -> Clocks
+        ensures { result ≡ self.now.clocks }
+    {
+        self.clocks
+    }
+
+    /// What the broker's clock shows at a second of this clock, in seconds since 1970-01-01T00:00:00Z; after the greatest end, what
+    /// it shows then.
+    pub fn broker_moment(&self, second: u64) -> u64
+        ensures { result ≡ broker_moment self.now second }
+    {
+        self.clocks.broker.to_broker(second.min(END_MAX))
+    }
+
+    /// The believed end of an entry.
+    pub fn end_of(&self, index: u32) -> End
+        requires { index < length self.now.forest.entries }
+        ensures { result ≡ (track_at self.now index).end }
+    {
+        self.track(index).end
+    }
+
+    /// Whether an entry is to be led further.
+    pub fn is_wanted(&mut self, index: u32) -> bool
+        requires { index < length self.old.forest.entries }
+        ensures value { result ≡ is_wanted self.old index }
+        ensures unchanged { self.new ≡ self.old }
+    {
+        write_view(&mut self.view, &self.forest, &self.tracks, self.clocks);
+        let need = carried_need(&self.view, moment_at(second(self.clocks.at)), index);
+        wants(self.track(index), need)
+    }
+
+    /// The first time of the entries that are wanted and whose end is ahead, `None` where there is none; of an entry that is
+    /// asked and not yet granted it may be past. The only error is want of memory.
+    pub fn next(&mut self, alloc: Global) -> Result<Option<Next>, WatchFault>
+        ensures next { IfOk result (λ next. IsNext self.old next) }
+        ensures refused { IfErr result (λ fault. fault ≡ OutOfMemory) }
+        ensures unchanged { self.new ≡ self.old }
+    {
+        let needs = needs_of(
+            alloc,
+            &mut self.view,
+            &self.forest,
+            &self.tracks,
+            self.clocks,
+        )?;
+        Ok(self.next_time(&needs))
+    }
+
+    /// The same, by what the entries carry.
+    fn next_time(&self, needs: &Carried) -> Option<Next>
+        requires needs { length needs.now ≡ length self.now.forest.entries }
+        ensures { HasNeeds self.now.forest.entries self.now.tracks self.now.clocks needs.now → IsNext self.now result }
+    {
+        let now = second(self.clocks.at);
+        let margin = self.forest.margin();
+        let mut first = None;
+        for index in 0..self.forest.len() {
+            let track = self.track(index);
+            if is_timed(track, needs.need(index), now) {
+                let at = time(margin, self.forest.get(index), track);
+                first = earlier(first, at, index);
+            }
+        }
+        first
+    }
+}
