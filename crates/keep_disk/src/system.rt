@@ -45,13 +45,18 @@ impl<'a, R: Files<File = File> + AllocGlobal> SystemDisk<'a, R> {
         }
     }
 
-    /// Makes the folder at `path` with mode 0700 where there is none.
+    /// Makes the folder at `path` with mode 0700 where there is none, and puts its name on the disk: by the next loss of power it is
+    /// there, and so is what was synced in it.
     pub fn make_folder(&mut self, path: &str) -> Result<(), DiskFault>
         ensures cause { Tells (system_state self.old.faults self.old.fault) (system_state self.new.faults self.new.fault) result }
     {
         match DirBuilder::new().mode(FOLDER_MODE).create(self.rt, path) {
             Err(error) if error.kind() != ErrorKind::AlreadyExists => Err(self.fail(&error)),
-            _ => Ok(()),
+            // (One that was there may have been made by a start that was killed before the sync.)
+            _ => match self.sync_folder(path) {
+                Ok(()) => Ok(()),
+                Err(error) => Err(self.fail(&error)),
+            },
         }
     }
 
