@@ -7,3 +7,8 @@ pub mod Read
 pub mod Turned
 pub mod Run
 pub mod Stretch
+pub mod Heard
+pub mod OneWay
+pub mod Called
+pub mod Bounded
+pub mod Alike

@@ -1,14 +1,19 @@
 -- Laws: what holds of all turns. The contract of a public function without a body.
 -- Source: this project's own.
-use Rattle.std.specs.Prelude.{◌≡◌, ℕ, List, [], ◌∷◌}
+use Rattle.std.specs.Prelude.{◌≡◌, ℕ, ◌+◌, ◌-◌, ◌≤◌, Bool, true, List, [], ◌∷◌, Some, length}
+use Rattle.std.specs.List.{All}
 use Rattle.keep_agent.specs.Laws.{after_all}
+use Rattle.keep_clock.specs.declared.reading.Reading.{Reading}
 use Rattle.watch_machine.specs.History.{History}
 use Rattle.watch_machine.specs.History as histories
 use Rattle.watch_machine.specs.State.{State}
+use Rattle.watch_machine.specs.declared.command.Request.{Request}
 use Rattle.keep_serving.specs.Changes.{Made}
-use Rattle.keep_serving.specs.Held.{Side}
+use Rattle.keep_serving.specs.Held.{Held, Side}
+use Rattle.keep_serving.specs.Neighbours.{calls_in}
 use Rattle.keep_serving.specs.Runs.{AreTurns}
-use Rattle.keep_serving.specs.Turns.{Turned}
+use Rattle.keep_serving.specs.Turns.{IsTurn, Turned}
+use Rattle.keep_serving.specs.Words.{AllAreWordsOf, AllFollow, Suffices, Words}
 use Rattle.keep_serving.specs.declared.change.Change.{Change}
 use Rattle.keep_serving.specs.declared.change.Change.TheVariants.{Need, Begin, Serve}
 
@@ -34,3 +39,23 @@ LeadsTo old new = (turns : List histories.Turned) × (History old turns × (afte
 -- all such runs holds of it, whatever the neighbours do
 abbrev pub StretchLaw : Type 0
 StretchLaw = (port : ℕ) (old new : Side) (turns : List Turned) → AreTurns port old turns new → IsStretch turns → LeadsTo old.held.agent.machine new.held.agent.machine
+
+-- turns for which memory sufficed are what follows from words: their readings and changes, and the answers that came in them
+abbrev pub WordsLaw : Type 0
+WordsLaw =
+    (port : ℕ) (old new : Side) (turns : List Turned) → AreTurns port old turns new → All Suffices turns →
+    (words : List Words) × ((sent : List (List Request)) × (AllAreWordsOf turns words × AllFollow words old.held sent new.held))
+
+-- and from the same words and the same beginning the same follows: the requests that go out in each turn, and what is held after it
+abbrev pub OneWayLaw : Type 0
+OneWayLaw = (words : List Words) (old a b : Held) (sent out : List (List Request)) → AllFollow words old sent a → AllFollow words old out b → (out ≡ sent) × (b ≡ a)
+
+-- a turn waits for a second at most, and where the time was handed in never past the Watch's moment
+abbrev pub WaitLaw : Type 0
+WaitLaw =
+    (port : ℕ) (old new : Side) (t : Turned) → IsTurn port old t new →
+    (t.millis ≤ 1000) × ((r : Reading) → t.reading ≡ Some r → t.is_whole ≡ true → t.millis ≤ new.held.until - r.elapsed)
+
+-- and it calls its neighbours 19 times at most, and once more for each answer of which they hear
+abbrev pub CallsLaw : Type 0
+CallsLaw = (answers : ℕ) (is_handed : Bool) (t : Turned) → length (calls_in answers is_handed t) ≤ answers + 19

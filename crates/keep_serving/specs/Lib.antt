@@ -2,6 +2,9 @@ pub mod Held
 pub mod Changes
 pub mod Stages
 pub mod Turns
+pub mod Neighbours
 pub mod Runs
+pub mod Words
 pub mod code
 pub mod Laws
+pub mod Alike

@@ -3,6 +3,7 @@ ghost use Rattle.std.specs.Prelude.{◌≡◌, ◌≤◌, List, Result, length};
 ghost use Rattle.keep_agent.specs.Turns.{AgentTurn};
 ghost use Rattle.keep_serving.specs.Changes.{AllGiven, AreMade, IsMade, Made, changes_of};
 ghost use Rattle.keep_serving.specs.Held.{side};
+ghost use Rattle.keep_serving.specs.Neighbours.{AllCalled, changes_in};
 ghost use Rattle.keep_serving.specs.declared.change.Change.TheVariants.{Serve};
 ghost use Rattle.watch_machine.specs.declared.command.Output.{Output};
 ghost use Rattle.watch_machine.specs.declared.fault.WatchFault.{WatchFault};
@@ -30,7 +31,7 @@ impl Serving {
         lanes: &mut L,
         neighbours: &mut N,
     ) -> bool
-        ensures made { (made : List Made) × ((AreMade made (side self.old (⟦<L as SeenLanes>⟧.seen lanes.old)) (side self.new (⟦<L as SeenLanes>⟧.seen lanes.new))) × ((length made ≤ 8) × ((result ≡ is_some_change made) × AllGiven (changes_of made) (N.given neighbours.old) (N.given neighbours.new)))) }
+        ensures made { (made : List Made) × ((AreMade made (side self.old (⟦<L as SeenLanes>⟧.seen lanes.old)) (side self.new (⟦<L as SeenLanes>⟧.seen lanes.new))) × ((length made ≤ 8) × ((result ≡ is_some_change made) × (AllGiven (changes_of made) (N.given neighbours.old) (N.given neighbours.new) × AllCalled N.does (changes_in 8 made) neighbours.old neighbours.new)))) }
         ensures width { L.width lanes.new ≡ L.width lanes.old }
         ensures port { L.host_port lanes.new ≡ L.host_port lanes.old }
     {

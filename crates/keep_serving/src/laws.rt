@@ -1,8 +1,32 @@
 //! Laws of the loop.
-ghost use Rattle.keep_serving.specs.Laws.{StretchLaw};
+ghost use Rattle.keep_serving.specs.Alike.{AlikeLaw, RebuiltAlikeLaw};
+ghost use Rattle.keep_serving.specs.Laws.{CallsLaw, OneWayLaw, StretchLaw, WaitLaw, WordsLaw};
 
 /// The law that a stretch of turns in which one inventory is served is a run of its Watch: whatever the neighbours do, it was handed
 /// events, one after another, and nothing else was done to it.
 pub fn a_stretch_is_a_run()
     ensures { StretchLaw }
+{}
+
+/// The law that no neighbour is heard but by its words: what goes out in turns for which memory sufficed, and what is held after them,
+/// follows from what was held before, the readings, the answers that came and the changes that were taken, and from nothing else.
+pub fn nothing_else_is_heard()
+    ensures words { WordsLaw }
+    ensures one_way { OneWayLaw }
+{}
+
+/// The law that a turn is bounded: it makes one wait, of at most a second and, where the time was handed in, never past the Watch's
+/// moment; and it calls its neighbours 19 times at most, and once more for each answer of which they hear. Those are no more than there
+/// are lanes.
+pub fn a_turn_is_bounded()
+    ensures wait { WaitLaw }
+    ensures calls { CallsLaw }
+{}
+
+/// The law that credentials change no turn: of two agents that differ in credentials alone, with the same readings and changes and with
+/// answers of the same content, the same requests go out, and they differ in credentials alone after it. And so they do after another
+/// inventory is served, if the same is carried over.
+pub fn secrets_change_no_turn()
+    ensures turns { AlikeLaw }
+    ensures rebuilding { RebuiltAlikeLaw }
 {}

@@ -3,8 +3,10 @@
 //! The contract for the layer above: [`Serving::run`] makes turns (`specs/Turns`). Each hands in the answers that are there and
 //! the time, sends what the Watch commands, takes eight changes at most, and waits once: for a second at most, and never past
 //! the Watch's moment. What goes out follows from the inventory, the readings, the answers and the changes alone
-//! (`specs/Stages`, `specs/Changes`): no other word of a neighbour occurs there. A stretch of turns that serve one inventory is a
-//! run of its Watch ([`a_stretch_is_a_run`]), so each law of `watch_laws` holds of it. Begin with `neighbours`, then `turn`.
+//! (`specs/Stages`, `specs/Changes`), and from nothing else ([`nothing_else_is_heard`]); credentials change nothing of it
+//! ([`secrets_change_no_turn`]). A stretch of turns that serve one inventory is a run of its Watch ([`a_stretch_is_a_run`]), so each
+//! law of `watch_laws` holds of it. What a turn calls its neighbours for, and how often, is in `specs/Neighbours`, and that it is
+//! bounded ([`a_turn_is_bounded`]). Begin with `neighbours`, then `turn`.
 #![tactic(auto)]
 
 mod change;
@@ -20,6 +22,8 @@ mod taking;
 mod turn;
 
 pub use change::Change;
-pub use laws::a_stretch_is_a_run;
+pub use laws::{
+    a_stretch_is_a_run, a_turn_is_bounded, nothing_else_is_heard, secrets_change_no_turn,
+};
 pub use neighbours::{Happened, Neighbours};
 pub use serving::Serving;

@@ -1,6 +1,7 @@
 //! The neighbours of the loop besides its clock and its broker: clients, onlookers, the log, and the disk.
 ghost use Rattle.std.specs.Prelude.{◌≡◌, List, Option, option_to_list};
 ghost use Rattle.keep_serving.specs.Changes.{AllGiven};
+ghost use Rattle.keep_serving.specs.Neighbours.{Give, GoOn, Hear, NeighbourCall, Settle, thing_of};
 ghost use Rattle.keep_serving.specs.declared.change.Change.{Change};
 
 use crate::change::Change;
@@ -33,24 +34,31 @@ pub enum Happened<'a> {
 
 /// Clients, onlookers, the log and the disk. None of their calls waits, but that of a disk where a change is made.
 ///
-/// To contracts they are the changes that they have given.
+/// To contracts they are the changes that they have given, and what a call may do to them.
 pub trait Neighbours {
     /// The changes that were given so far, where that is known.
     ghost given: { Self → Option (List Change) };
 
+    /// What a call may do to them: what they are called for, what they were before it, and what they are after it.
+    ghost does: { NeighbourCall → Self → Self → Type 0 };
+
     /// Hears what has happened to the agent, which is handed over as it is after it.
     fn hear(&mut self, alloc: Global, agent: &Agent, happened: &Happened<'_>)
-        ensures { Self.given self.new ≡ Self.given self.old };
+        ensures given { Self.given self.new ≡ Self.given self.old }
+        ensures does { Self.does (Hear (thing_of happened.now)) self.old self.new };
 
     /// Goes on with clients and onlookers as far as it can without waiting. Whether more could be done at once.
     fn go_on(&mut self, alloc: Global, agent: &Agent, now: Reading) -> bool
-        ensures { Self.given self.new ≡ Self.given self.old };
+        ensures given { Self.given self.new ≡ Self.given self.old }
+        ensures does { Self.does (GoOn result) self.old self.new };
 
     /// The next change that is to be made, if there is one.
     fn change(&mut self, alloc: Global, agent: &Agent, now: Reading) -> Option<Change>
-        ensures { AllGiven (option_to_list result) (Self.given self.old) (Self.given self.new) };
+        ensures given { AllGiven (option_to_list result) (Self.given self.old) (Self.given self.new) }
+        ensures does { Self.does (Give result) self.old self.new };
 
     /// Whether the change that was given last was made. Where memory was wanting it was not, and is to be given again.
     fn settle(&mut self, alloc: Global, agent: &Agent, is_made: bool)
-        ensures { Self.given self.new ≡ Self.given self.old };
+        ensures given { Self.given self.new ≡ Self.given self.old }
+        ensures does { Self.does (Settle is_made) self.old self.new };
 }

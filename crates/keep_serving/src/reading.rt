@@ -1,5 +1,6 @@
 //! The time is handed in.
 ghost use Rattle.std.specs.Prelude.{◌≡◌, ◌-◌, [], is_ok};
+ghost use Rattle.keep_serving.specs.Neighbours.{AllCalled, Hear, Needs, heard_of_time};
 ghost use Rattle.keep_serving.specs.Stages.{IsSaid, Reads};
 
 use crate::neighbours::{Happened, Neighbours};
@@ -21,6 +22,7 @@ impl Serving {
         requires none { self.old.unsent ≡ [] }
         ensures reads { Reads reading self.old (is_ok result) self.new }
         ensures given { N.given neighbours.new ≡ N.given neighbours.old }
+        ensures heard { AllCalled N.does (heard_of_time (is_ok result)) neighbours.old neighbours.new }
     {
         let Reading { wall, elapsed } = reading;
         let Ok(output) = self.agent.turn(alloc, Event::Clock { wall, elapsed }) else {
@@ -54,6 +56,7 @@ impl Serving {
         ensures said { IsSaid self.old.agent self.new.agent }
         ensures rest { self.new ≡ record self.old { agent = self.new.agent } }
         ensures given { N.given neighbours.new ≡ N.given neighbours.old }
+        ensures heard { N.does (Hear Needs) neighbours.old neighbours.new }
     {
         match self.agent.say_shorts(alloc) {
             Ok(shorts) => neighbours.hear(alloc, &self.agent, &Happened::Shorts(&shorts)),

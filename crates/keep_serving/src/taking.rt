@@ -1,8 +1,9 @@
 //! Answers are handed in.
-ghost use Rattle.std.specs.Prelude.{◌≡◌, ◌≢◌, ◌<◌, OnErr, OnOk, ℕ, List, None, Some, is_ok, length};
+ghost use Rattle.std.specs.Prelude.{◌≡◌, ◌≢◌, ◌+◌, ◌<◌, OnErr, OnOk, ℕ, List, None, Some, is_ok, length, replicate};
 ghost use Rattle.keep_asking.specs.Handing.{out_of};
 ghost use Rattle.keep_lanes.specs.Out as lanes;
 ghost use Rattle.keep_serving.specs.Held.{IsInStep};
+ghost use Rattle.keep_serving.specs.Neighbours.{AllCalled, Answer, Hear};
 ghost use Rattle.keep_serving.specs.Stages.{Takes};
 ghost use Rattle.keep_serving.specs.code.Firsts.{TakesFirst};
 
@@ -22,6 +23,7 @@ impl Serving {
         requires in_step { (width : ℕ) × ((out : List lanes.Out) × IsInStep width out self.old) }
         ensures takes { Takes self.old (is_ok result) self.new }
         ensures given { N.given neighbours.new ≡ N.given neighbours.old }
+        ensures heard { (answers : ℕ) × ((answers + length self.new.pending ≡ length self.old.pending) × AllCalled N.does (replicate answers (Hear Answer)) neighbours.old neighbours.new) }
     {
         for _ in 0..self.pending.len() {
             self.take_first(alloc, neighbours)?;
@@ -40,6 +42,8 @@ impl Serving {
         ensures taken { OnOk result (TakesFirst self.old self.new) }
         ensures kept { OnErr result (self.new ≡ self.old) }
         ensures given { N.given neighbours.new ≡ N.given neighbours.old }
+        ensures heard { OnOk result (N.does (Hear Answer) neighbours.old neighbours.new) }
+        ensures unheard { OnErr result (neighbours.new ≡ neighbours.old) }
     {
         let answered = &self.pending[0];
         let entry = answered.index;

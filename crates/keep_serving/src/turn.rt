@@ -1,8 +1,9 @@
 //! One turn: the time is handed in, changes are taken, and one wait follows.
-ghost use Rattle.std.specs.Prelude.{◌≡◌, ◌||◌, [], Some, is_ok};
+ghost use Rattle.std.specs.Prelude.{◌≡◌, ◌+◌, ◌||◌, [], Some, is_ok, length};
 ghost use Rattle.keep_clock.specs.Seen.{AllMade};
 ghost use Rattle.keep_serving.specs.Changes.{AllGiven, changes_of};
 ghost use Rattle.keep_serving.specs.Held.{IsInStep, side};
+ghost use Rattle.keep_serving.specs.Neighbours.{AreCalled, AreHeard};
 ghost use Rattle.keep_serving.specs.Stages.{Commands, Goes, HandsIn, OnHeld, Takes, TakesUp, Then};
 ghost use Rattle.keep_serving.specs.Turns.{IsTurn, Turned, calls_of, wait_at, wait_by};
 
@@ -29,7 +30,7 @@ impl Serving {
         neighbours: &mut N,
     )
         requires in_step { IsInStep (L.width lanes.old) (L.out lanes.old) self.old }
-        ensures turn { (t : Turned) × (IsTurn (L.host_port lanes.old) (side self.old (⟦<L as SeenLanes>⟧.seen lanes.old)) t (side self.new (⟦<L as SeenLanes>⟧.seen lanes.new)) × (AllMade (calls_of t) (C.seen clock.old) (C.seen clock.new) × AllGiven (changes_of t.changes) (N.given neighbours.old) (N.given neighbours.new))) }
+        ensures turn { (t : Turned) × (IsTurn (L.host_port lanes.old) (side self.old (⟦<L as SeenLanes>⟧.seen lanes.old)) t (side self.new (⟦<L as SeenLanes>⟧.seen lanes.new)) × (AllMade (calls_of t) (C.seen clock.old) (C.seen clock.new) × (AllGiven (changes_of t.changes) (N.given neighbours.old) (N.given neighbours.new) × AreCalled N.does (L.width lanes.old) t neighbours.old neighbours.new))) }
         ensures in_step { IsInStep (L.width lanes.new) (L.out lanes.new) self.new }
         ensures width { L.width lanes.new ≡ L.width lanes.old }
         ensures port { L.host_port lanes.new ≡ L.host_port lanes.old }
@@ -52,7 +53,7 @@ impl Serving {
         neighbours: &mut N,
     ) -> u64
         requires in_step { IsInStep (L.width lanes.old) (L.out lanes.old) self.old }
-        ensures turn { (t : Turned) × ((t.reading ≡ Some reading) × ((t.millis ≡ result) × (IsTurn (L.host_port lanes.old) (side self.old (⟦<L as SeenLanes>⟧.seen lanes.old)) t (side self.new (⟦<L as SeenLanes>⟧.seen lanes.new)) × AllGiven (changes_of t.changes) (N.given neighbours.old) (N.given neighbours.new)))) }
+        ensures turn { (t : Turned) × ((t.reading ≡ Some reading) × ((t.millis ≡ result) × (IsTurn (L.host_port lanes.old) (side self.old (⟦<L as SeenLanes>⟧.seen lanes.old)) t (side self.new (⟦<L as SeenLanes>⟧.seen lanes.new)) × (AllGiven (changes_of t.changes) (N.given neighbours.old) (N.given neighbours.new) × AreCalled N.does (L.width lanes.old) t neighbours.old neighbours.new)))) }
         ensures in_step { IsInStep (L.width lanes.new) (L.out lanes.new) self.new }
         ensures width { L.width lanes.new ≡ L.width lanes.old }
         ensures port { L.host_port lanes.new ≡ L.host_port lanes.old }
@@ -78,6 +79,7 @@ impl Serving {
         ensures width { L.width lanes.new ≡ L.width lanes.old }
         ensures port { L.host_port lanes.new ≡ L.host_port lanes.old }
         ensures given { N.given neighbours.new ≡ N.given neighbours.old }
+        ensures heard { AreHeard N.does (L.width lanes.old) (is_ok result) neighbours.old neighbours.new }
     {
         self.send_all(alloc, lanes)?;
         self.hand_in_left(alloc, reading, lanes, neighbours)
@@ -97,6 +99,7 @@ impl Serving {
         ensures width { L.width lanes.new ≡ L.width lanes.old }
         ensures port { L.host_port lanes.new ≡ L.host_port lanes.old }
         ensures given { N.given neighbours.new ≡ N.given neighbours.old }
+        ensures heard { AreHeard N.does (length self.old.pending + length (L.out lanes.old)) (is_ok result) neighbours.old neighbours.new }
     {
         self.take_all(alloc, neighbours)?;
         self.take_up(alloc, reading, lanes, neighbours)
@@ -117,6 +120,7 @@ impl Serving {
         ensures width { L.width lanes.new ≡ L.width lanes.old }
         ensures port { L.host_port lanes.new ≡ L.host_port lanes.old }
         ensures given { N.given neighbours.new ≡ N.given neighbours.old }
+        ensures heard { AreHeard N.does (length (L.out lanes.old)) (is_ok result) neighbours.old neighbours.new }
     {
         self.come(alloc, lanes, reading.elapsed)?;
         self.hand_in_new(alloc, reading, lanes, neighbours)
@@ -136,6 +140,7 @@ impl Serving {
         ensures width { L.width lanes.new ≡ L.width lanes.old }
         ensures port { L.host_port lanes.new ≡ L.host_port lanes.old }
         ensures given { N.given neighbours.new ≡ N.given neighbours.old }
+        ensures heard { AreHeard N.does (length self.old.pending) (is_ok result) neighbours.old neighbours.new }
     {
         self.take_all(alloc, neighbours)?;
         self.command(alloc, reading, lanes, neighbours)
@@ -155,6 +160,7 @@ impl Serving {
         ensures width { L.width lanes.new ≡ L.width lanes.old }
         ensures port { L.host_port lanes.new ≡ L.host_port lanes.old }
         ensures given { N.given neighbours.new ≡ N.given neighbours.old }
+        ensures heard { AreHeard N.does 0 (is_ok result) neighbours.old neighbours.new }
     {
         self.read(alloc, reading, neighbours)?;
         self.send_all(alloc, lanes)

@@ -1,12 +1,12 @@
 //! Neighbours that give the changes of a script and count what they hear.
-ghost use Rattle.std.specs.Prelude.{None};
+ghost use Rattle.std.specs.Prelude.{◌≡◌, ◌+◌, None, min};
 
 use keep_agent::Agent;
 use keep_clock::Reading;
 use keep_serving::{Change, Happened, Neighbours};
 use std::alloc::Global;
 
-/// What was heard, and the changes to come, the last of them first.
+/// What was heard, the changes to come, the last of them first, and how often they were called.
 #[derive(Drop)]
 pub(crate) struct Beside {
     pub(crate) changes: Vec<Change>,
@@ -14,6 +14,7 @@ pub(crate) struct Beside {
     pub(crate) renewals: u32,
     pub(crate) answers: u32,
     pub(crate) made: u32,
+    pub(crate) calls: u64,
 }
 
 impl Beside {
@@ -24,6 +25,7 @@ impl Beside {
             renewals: 0,
             answers: 0,
             made: 0,
+            calls: 0,
         }
     }
 
@@ -40,23 +42,30 @@ impl Beside {
 impl Neighbours for Beside {
     ghost given = { λ _. None };
 
+    ghost does = { λ _ old new. new.calls ≡ min (old.calls + 1) 18446744073709551615 };
+
     fn hear(&mut self, _alloc: Global, _agent: &Agent, happened: &Happened<'_>) {
+        let calls = self.calls;
         match happened {
             Happened::Clocked { requests, .. } => self.count(requests),
             Happened::Answered { .. } => self.answers = self.answers.saturating_add(1),
             Happened::Shorts(_) | Happened::Refused => {}
         }
+        self.calls = calls.saturating_add(1);
     }
 
     fn go_on(&mut self, _alloc: Global, _agent: &Agent, _now: Reading) -> bool {
+        self.calls = self.calls.saturating_add(1);
         false
     }
 
     fn change(&mut self, _alloc: Global, _agent: &Agent, _now: Reading) -> Option<Change> {
+        self.calls = self.calls.saturating_add(1);
         self.changes.pop()
     }
 
     fn settle(&mut self, _alloc: Global, _agent: &Agent, is_made: bool) {
+        self.calls = self.calls.saturating_add(1);
         if is_made {
             self.made = self.made.saturating_add(1);
         }

@@ -22,6 +22,8 @@ fn a_turn_takes_eight_changes_and_does_not_wait(rt: HostRuntime) -> Result<(), F
     let mut play = play_of(alloc, WEB, &[1_000_000, 1_000_000, 1_000_000], changes)?;
     play.serving.run(alloc, &mut play.clock, &mut play.lanes, &mut play.beside, 1);
     assert!(rt; play.beside.made == 8);
+    // The time and what is short are heard of, they go on once, and eight changes are given and settled.
+    assert!(rt; play.beside.calls == 2 + 1 + 8 + 8);
     assert!(rt; waited(&play, 0) == Some(0));
     play.serving.run(alloc, &mut play.clock, &mut play.lanes, &mut play.beside, 1);
     assert!(rt; play.beside.made == 9);

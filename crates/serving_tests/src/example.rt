@@ -25,6 +25,8 @@ fn it_asks_at_the_moments_of_the_example(rt: HostRuntime) -> Result<(), Fail> {
     assert!(rt; play.beside.looks == 1);
     assert!(rt; play.beside.renewals == 3);
     assert!(rt; play.beside.answers == 4);
+    // In each turn the time and what is short are heard of, they go on once, and no change is given; and four answers are heard of.
+    assert!(rt; play.beside.calls == 8 * 4 + 4);
     Ok(())
 }
 
@@ -52,6 +54,7 @@ fn a_clock_that_cannot_be_read_costs_a_tenth_of_a_second(rt: HostRuntime) -> Res
     play.serving.run(alloc, &mut play.clock, &mut play.lanes, &mut play.beside, 3);
     assert!(rt; waited(&play, 0) == Some(100));
     assert!(rt; play.beside.looks == 1 && play.beside.answers == 1);
+    assert!(rt; play.beside.calls == 2 * 4 + 1);
     Ok(())
 }
 

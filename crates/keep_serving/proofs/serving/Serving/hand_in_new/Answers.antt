@@ -1,9 +1,10 @@
 -- Once the answers are handed in, what comes after follows.
-use Rattle.std.proofs.Common.{◌≡◌, ◌∙◌, is_ok, refl, subst, sym}
+use Rattle.std.proofs.Common.{◌≡◌, ◌∙◌, ◌+◌, ◌≤◌, arith, is_ok, length, refl, subst, sym}
 use Rattle.keep_asking.specs.Sending.{Lanes, lanes_of}
 use Rattle.keep_serving.specs.Held.{IsInStep, Side, side}
 use Rattle.keep_serving.specs.Stages.{Comes, Commands, Goes, HandsIn, OnHeld, Reads, Sends, Takes, TakesUp, Then}
 use Rattle.keep_serving.proofs.InStep.{in_step_come, in_step_gone, in_step_read, in_step_taken}
+use Rattle.keep_serving.proofs.Called.{heard_more, heard_some, not_ok}
 use Rattle.keep_serving.proofs.Staged.{then_on}
 use Rattle.keep_serving.proofs.serving.Serving.hand_in_new.Goals as goal
 
@@ -17,3 +18,15 @@ returns-clause-goes g c =
     let port = g.L.Lanes.host_port c.args.lanes.now in
     then_on (OnHeld Takes) (Commands port c.args.reading) (side c.args.self.now old) (side c.take_all.new.self old) (side c.command.new.self new) (is_ok c.command.result)
     (c.in_ok-take_all.ensures.takes, refl) c.command.ensures.goes
+
+pub returns-clause-heard : goal.returns-clause-heard
+returns-clause-heard g c =
+    let taken = c.in_ok-take_all.ensures.heard in
+    let all = taken.1.0 in
+    heard_more g.N.Neighbours.does taken.0 0 (length c.args.self.now.pending) (is_ok c.command.result) c.args.neighbours.now c.take_all.new.neighbours c.command.new.neighbours taken.1.1 c.command.ensures.heard (omega (arith, all))
+
+pub returns-in_err-take_all-clause-heard : goal.returns-in_err-take_all-clause-heard
+returns-in_err-take_all-clause-heard g c =
+    let taken = c.in_err-take_all.ensures.heard in
+    let all = taken.1.0 in
+    heard_some g.N.Neighbours.does taken.0 (length c.args.self.now.pending) (is_ok c.from_residual.result) c.args.neighbours.now c.take_all.new.neighbours (not_ok c.from_residual.result c.from_residual.ensures.0) (omega (arith, all)) taken.1.1

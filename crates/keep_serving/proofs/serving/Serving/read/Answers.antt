@@ -7,6 +7,8 @@ use Rattle.watch_machine.specs.declared.command.Command.TheVariants.{Go}
 use Rattle.watch_machine.specs.declared.command.Request.{Request}
 use Rattle.watch_machine.specs.declared.event.Event.TheVariants.{Clock}
 use Rattle.keep_serving.specs.Held.{Held}
+use Rattle.keep_serving.specs.Neighbours.{Hear, Needs, Time}
+use Rattle.keep_serving.proofs.Called.{called_twice}
 use Rattle.keep_serving.proofs.Read.{read_whole, ready_is}
 use Rattle.keep_serving.proofs.serving.Serving.read.Goals as goal
 
@@ -18,3 +20,7 @@ returns-clause-reads g c =
     read_whole c.args.reading c.args.self.now c.turn.new.self c.in-Go.requests c.in-Go.until c.in-Ok.output between c.say_shorts.new.self c.requires.none c.in-Go.is
     (subst (λ (a : Agent). AgentTurn a (Clock c.args.reading.wall c.args.reading.elapsed) (Ok c.in-Ok.output) c.turn.new.self) (ap (λ (h : Held). h.agent) c.self.view_is) c.in-Ok.ensures.turn)
     made c.say_shorts.ensures.said c.say_shorts.ensures.rest
+
+pub returns-clause-heard : goal.returns-clause-heard
+returns-clause-heard g c =
+    called_twice g.N.Neighbours.does (Hear Time) (Hear Needs) c.args.neighbours.now c.hear.new.self c.say_shorts.new.neighbours c.hear.ensures.does c.say_shorts.ensures.heard

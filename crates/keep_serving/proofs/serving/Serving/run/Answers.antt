@@ -3,15 +3,18 @@ use Rattle.std.proofs.Common.{◌≡◌, ◌∙◌, ◌++◌, ◌∷◌, [], ref
 use Rattle.keep_asking.specs.Sending.{Lanes, lanes_of}
 use Rattle.keep_clock.proofs.Joined.{none_law}
 use Rattle.keep_serving.specs.Held.{Side, side}
+use Rattle.keep_serving.specs.Neighbours.{AreCalled}
 use Rattle.keep_serving.specs.Turns.{IsTurn}
+use Rattle.keep_serving.proofs.Called.{turns_called}
 use Rattle.keep_serving.proofs.Run.{calls_on, changes_run, one_more, turns_on}
 use Rattle.keep_serving.proofs.Turned.{given_none}
 use Rattle.keep_serving.proofs.serving.Serving.run.Goals as goal
 
 pub loop-init : goal.loop-init
 loop-init g c = record {
-  turns = ([], (refl, (refl, (none_law (g.C.Clock.seen c.args.clock.now), given_none (g.N.Neighbours.given c.args.neighbours.now)))));
+  turns = ([], (refl, (refl, (none_law (g.C.Clock.seen c.args.clock.now), (given_none (g.N.Neighbours.given c.args.neighbours.now), refl)))));
   in_step = c.requires.in_step;
+  width = refl;
   port = refl;
 }
 
@@ -24,6 +27,7 @@ loop-preserved g c =
     let all = c.loop.invariant.turns in
     let one = c.turn.ensures.turn in
     let turn = subst (λ p. IsTurn p (side c.loop.self mid) one.0 (side c.turn.new.self new)) c.loop.invariant.port one.1.0 in
+    let called = subst (λ w. AreCalled g.N.Neighbours.does w one.0 c.loop.neighbours c.turn.new.neighbours) c.loop.invariant.width one.1.1.1.1 in
     record {
       turns = (
         all.0 ++ one.0 ∷ [],
@@ -33,11 +37,15 @@ loop-preserved g c =
             turns_on port all.0 one.0 (side c.args.self.now old) (side c.loop.self mid) (side c.turn.new.self new) all.1.1.0 turn,
             (
               calls_on all.0 one.0 (g.C.Clock.seen c.args.clock.now) (g.C.Clock.seen c.loop.clock) (g.C.Clock.seen c.turn.new.clock) all.1.1.1.0 one.1.1.0,
-              changes_run all.0 one.0 (g.N.Neighbours.given c.args.neighbours.now) (g.N.Neighbours.given c.loop.neighbours) (g.N.Neighbours.given c.turn.new.neighbours) all.1.1.1.1 one.1.1.1,
+              (
+                changes_run all.0 one.0 (g.N.Neighbours.given c.args.neighbours.now) (g.N.Neighbours.given c.loop.neighbours) (g.N.Neighbours.given c.turn.new.neighbours) all.1.1.1.1.0 one.1.1.1.0,
+                turns_called g.N.Neighbours.does (g.L.Lanes.width c.args.lanes.now) all.0 one.0 c.args.neighbours.now c.loop.neighbours c.turn.new.neighbours all.1.1.1.1.1 called,
+              ),
             ),
           ),
         ),
       );
       in_step = c.turn.ensures.in_step;
+      width = c.turn.ensures.width ∙ c.loop.invariant.width;
       port = c.turn.ensures.port ∙ c.loop.invariant.port;
     }

@@ -2,6 +2,7 @@
 use Rattle.std.proofs.Common.{◌≡◌, ◌∙◌, ◌+◌, ap, arith, length}
 use Rattle.keep_serving.specs.Held.{IsInStep}
 use Rattle.keep_serving.proofs.InStep.{in_step_taken}
+use Rattle.keep_serving.proofs.Called.{answers_on}
 use Rattle.keep_serving.proofs.Taken.{taken_on}
 use Rattle.keep_serving.proofs.serving.Serving.take_all.Goals as goal
 
@@ -20,4 +21,5 @@ loop-preserved g c =
       taken = taken_on c.args.self.now c.loop.self c.take_first.new.self c.loop.invariant.taken first;
       left = omega (arith, fewer, left);
       given = c.in_ok-take_first.ensures.given ∙ c.loop.invariant.given;
+      heard = answers_on g.N.Neighbours.does c.loop.counter c.args.neighbours.now c.loop.neighbours c.take_first.new.neighbours c.loop.invariant.heard c.in_ok-take_first.ensures.heard;
     }

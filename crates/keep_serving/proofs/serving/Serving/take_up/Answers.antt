@@ -1,9 +1,11 @@
 -- Once the answers came off their lanes, what comes after follows.
-use Rattle.std.proofs.Common.{◌≡◌, ◌∙◌, is_ok, refl, subst, sym}
+use Rattle.std.proofs.Common.{◌≡◌, ◌∙◌, ◌+◌, ◌≤◌, arith, is_ok, length, refl, subst, sym}
 use Rattle.keep_asking.specs.Sending.{Lanes, lanes_of}
+use Rattle.keep_asking.proofs.InStep.{parted_count}
 use Rattle.keep_serving.specs.Held.{IsInStep, Side, side}
 use Rattle.keep_serving.specs.Stages.{Comes, Commands, Goes, HandsIn, OnHeld, Reads, Sends, Takes, TakesUp, Then}
 use Rattle.keep_serving.proofs.InStep.{in_step_come, in_step_gone, in_step_read, in_step_taken}
+use Rattle.keep_serving.proofs.Called.{heard_more, heard_none, not_ok}
 use Rattle.keep_serving.proofs.Staged.{then_on}
 use Rattle.keep_serving.proofs.serving.Serving.take_up.Goals as goal
 
@@ -22,3 +24,13 @@ returns-clause-goes g c =
     let goes = subst (λ p. HandsIn p c.args.reading (side c.come.new.self mid) (is_ok c.hand_in_new.result) (side c.hand_in_new.new.self new)) c.in_ok-come.ensures.port c.hand_in_new.ensures.goes in
     then_on (Comes c.args.reading.elapsed) (HandsIn (g.L.Lanes.host_port c.args.lanes.now) c.args.reading) (side c.args.self.now old) (side c.come.new.self mid) (side c.hand_in_new.new.self new) (is_ok c.hand_in_new.result)
     c.in_ok-come.ensures.comes goes
+
+pub returns-clause-heard : goal.returns-clause-heard
+returns-clause-heard g c =
+    let parts = parted_count (g.L.Lanes.out c.args.lanes.now) c.come.new.self.pending (g.L.Lanes.out c.come.new.lanes) c.in_ok-come.ensures.comes.parted in
+    heard_more g.N.Neighbours.does 0 (length c.come.new.self.pending) (length (g.L.Lanes.out c.args.lanes.now)) (is_ok c.hand_in_new.result) c.args.neighbours.now c.args.neighbours.now c.hand_in_new.new.neighbours refl c.hand_in_new.ensures.heard
+    (omega (arith, parts))
+
+pub returns-in_err-come-clause-heard : goal.returns-in_err-come-clause-heard
+returns-in_err-come-clause-heard g c =
+    heard_none g.N.Neighbours.does (length (g.L.Lanes.out c.args.lanes.now)) (is_ok c.from_residual.result) c.args.neighbours.now c.args.neighbours.now (not_ok c.from_residual.result c.from_residual.ensures.0) refl

@@ -1,0 +1,228 @@
+-- Alike: agents that differ in credentials alone go the same way. For `secrets_change_no_turn`.
+use Rattle.std.proofs.Common.{◌≡◌, ◌∙◌, ℕ, zero, suc, ◌-◌, Bool, true, false, List, [], ◌∷◌, ◌++◌, Option, Some, None, Result, Ok, Err, ap, ap₂, length, map, refl, sym, subst}
+use Rattle.std.specs.List.{range_with_len}
+use Rattle.keep_agent.specs.Agent.{Agent}
+use Rattle.keep_agent.specs.Rebuilding.{AreHanded, IsHanded, carried_standing, carried_told}
+use Rattle.keep_agent.specs.Shorts.{all_said, said_standings}
+use Rattle.keep_agent.specs.Standings.{standings_after}
+use Rattle.keep_agent.specs.Turns.{AgentTurn, beginnings_after, inventory_after}
+use Rattle.keep_agent.specs.Turns as turns
+use Rattle.keep_agent.specs.declared.standing.Standing.{Standing}
+use Rattle.keep_agent.specs.declared.standing.Told.{Told}
+use Rattle.keep_asking.proofs.Once.{turn_once}
+use Rattle.keep_asking.specs.Handing.{out_of}
+use Rattle.keep_asking.specs.Sending.{Lanes}
+use Rattle.keep_asking.specs.Told.{event_as}
+use Rattle.keep_asking.specs.declared.told.Said.{Said}
+use Rattle.keep_clock.specs.declared.reading.Reading.{Reading}
+use Rattle.keep_inventory.specs.Inventories.{Inventory, with_need}
+use Rattle.keep_lanes.specs.declared.lanes.Answered.{Answered}
+use Rattle.keep_tree.specs.Forest.{Forest}
+use Rattle.watch_machine.specs.declared.command.Command.{Command}
+use Rattle.watch_machine.specs.declared.command.Command.TheVariants.{Go, Taken}
+use Rattle.watch_machine.specs.declared.command.Output.{Output}
+use Rattle.watch_machine.specs.declared.command.Request.{Request}
+use Rattle.watch_machine.specs.declared.event.Event.{Event}
+use Rattle.watch_machine.specs.declared.event.Event.TheVariants as events
+use Rattle.watch_machine.specs.declared.fault.WatchFault.{WatchFault}
+use Rattle.watch_machine.specs.declared.lanes.Out.{Out}
+use Rattle.watch_machine.specs.History.{Turn}
+use Rattle.watch_machine.specs.State.{State, opened}
+use Rattle.watch_machine.specs.Step.{MayWant}
+use Rattle.keep_serving.specs.Alike.{AlikeLaw, AreAgentsAlike, AreHeldAlike, AreInventoriesAlike, AreWordsAlike, Content, RebuiltAlikeLaw, contents_at, contents_in, contents_taken}
+use Rattle.keep_serving.specs.Changes.{AreMade, IsMade, IsTurned, Made}
+use Rattle.keep_serving.specs.Held.{Held, Side, side}
+use Rattle.keep_serving.specs.Laws.{KeepInventory, KeepsInventory}
+use Rattle.keep_serving.specs.Stages.{AreTaken, IsTaken}
+use Rattle.keep_serving.specs.Words.{Follows, HandsBy, HandsIn, SaysBy, Words}
+use Rattle.keep_serving.specs.declared.change.Change.{Change}
+use Rattle.keep_serving.specs.declared.change.Change.TheVariants.{Need, Begin, Serve}
+use Rattle.keep_serving.proofs.OneWay.{handed_same, not_both}
+
+-- ---- the agent
+
+need_alike : (s t : Inventory) (i need : ℕ) → AreInventoriesAlike s t → AreInventoriesAlike (with_need s i need) (with_need t i need)
+unfolding with_need
+need_alike s t i need alike = ap (λ (x : Inventory). with_need x i need) alike
+
+inventory_alike : (event : Event) (s t : Inventory) → AreInventoriesAlike s t → AreInventoriesAlike (inventory_after event s) (inventory_after event t)
+inventory_alike (events.Clock wall elapsed) s t alike = alike
+inventory_alike (events.Looked i reply terms) s t alike = alike
+inventory_alike (events.Renewed i reply) s t alike = alike
+inventory_alike (events.Need i until) s t alike = need_alike s t i _ alike
+inventory_alike events.Begin s t alike = alike
+inventory_alike (events.Known i end renewable) s t alike = alike
+
+same_agents : (old other a b : Agent) → a ≡ old → b ≡ other → AreAgentsAlike old other → AreAgentsAlike a b
+same_agents old other a b one two alike = subst (λ (x : Agent). AreAgentsAlike x b) (sym one) (subst (λ (y : Agent). AreAgentsAlike old y) (sym two) alike)
+
+-- what the machine takes
+taken_alike : (old other a b : Agent) (event : Event) (x y : Output) → AreAgentsAlike old other → turns.IsTaken old event x a → turns.IsTaken other event y b → (y ≡ x) × AreAgentsAlike a b
+taken_alike old other a b event x y alike one two =
+    let machine = turn_once old.machine a.machine b.machine event x y one.machine (subst (λ (m : State). Turn m event (Ok y) b.machine) alike.machine two.machine) in
+    let inventory = inventory_alike event old.inventory other.inventory alike.inventory in (
+      machine.0,
+      record {
+        machine = machine.1;
+        inventory = subst (λ (t : Inventory). AreInventoriesAlike a.inventory t) (sym two.inventory) (subst (λ (s : Inventory). AreInventoriesAlike s (inventory_after event other.inventory)) (sym one.inventory) inventory);
+        standings = two.standings ∙ ap₂ (λ (m : State) (xs : List Standing). standings_after m event xs) machine.1 alike.standings ∙ sym one.standings;
+        beginnings = two.beginnings ∙ ap₂ (λ (o : Output) (n : ℕ). beginnings_after o.notes.began n) machine.0 alike.beginnings ∙ sym one.beginnings;
+      },
+    )
+
+turned_alike : (old other a b : Agent) (event : Event) (x y : Result Output WatchFault) → (MayWant event → ⊥) → AreAgentsAlike old other → AgentTurn old event x a → AgentTurn other event y b → AreAgentsAlike a b
+turned_alike old other a b event (Ok x) (Ok y) wants alike one two = (taken_alike old other a b event x y alike one two).1
+turned_alike old other a b event (Ok x) (Err f) wants alike one two = absurd (not_both old.machine event x a.machine f wants one.machine (subst (λ (m : State). Turn m event (Err f) m) alike.machine two.0))
+turned_alike old other a b event (Err f) (Ok y) wants alike one two = absurd (not_both old.machine event y b.machine f wants (subst (λ (m : State). Turn m event (Ok y) b.machine) alike.machine two.machine) one.0)
+turned_alike old other a b event (Err f) (Err g) wants alike one two = same_agents old other a b one.1 two.1 alike
+
+-- ---- answers
+
+one_alike : (x y : Answered) (old other a b : Agent) → AreAgentsAlike old other → (one : IsTaken x old a) (two : IsTaken y other b) → y.index ≡ x.index → two.said ≡ one.said → AreAgentsAlike a b
+one_alike x y old other a b alike one two index said =
+    let found : Some two.request ≡ Some one.request = sym two.is_out ∙ ap₂ (λ (m : State) (i : ℕ). out_of m.out i) alike.machine index ∙ one.is_out in
+    let request : two.request ≡ one.request = cc in
+    let event : event_as two.request.operation y.index two.said.reply two.said.terms ≡ event_as one.request.operation x.index one.said.reply one.said.terms =
+    ap₂ (λ (r : Out) (s : Said). event_as r.operation y.index s.reply s.terms) request said ∙ ap (λ i. event_as one.request.operation i one.said.reply one.said.terms) index in
+    (taken_alike old other a b (event_as one.request.operation x.index one.said.reply one.said.terms) one.output two.output alike one.turn
+    (subst (λ (e : Event). turns.IsTaken other e two.output b) event two.turn)).1
+
+abbrev head_or : {X : Type 0} → X → List X → X
+head_or d [] = d
+head_or d (x ∷ xs) = x
+
+abbrev tail_of : {X : Type 0} → List X → List X
+tail_of [] = []
+tail_of (x ∷ xs) = xs
+
+answers_alike : (xs ys : List Answered) (old other a b : Agent) → AreAgentsAlike old other → (one : AreTaken xs old a) (two : AreTaken ys other b) → contents_taken ys other b two ≡ contents_taken xs old a one → AreAgentsAlike a b
+answers_alike [] [] old other a b alike one two same = same_agents old other a b one two alike
+answers_alike [] (y ∷ ys) old other a b alike one two same = absurd cc
+answers_alike (x ∷ xs) [] old other a b alike one two same = absurd cc
+answers_alike (x ∷ xs) (y ∷ ys) old other a b alike one two same =
+    let first : Content = record { index = x.index; said = one.1.0.said } in
+    let head = ap (head_or first) same in
+    let mid = one_alike x y old other one.0 two.0 alike one.1.0 two.1.0 (ap (λ (c : Content). c.index) head) (ap (λ (c : Content). c.said) head) in
+    answers_alike xs ys one.0 two.0 a b mid one.1.1 two.1.1 (ap tail_of same)
+
+-- ---- the time
+
+abbrev requests_by : Command → List Request
+requests_by (Go requests until) = requests
+requests_by Taken = []
+
+abbrev until_by : Command → ℕ
+until_by (Go requests until) = until
+until_by Taken = zero
+
+abbrev requests_in : Output → List Request
+requests_in o = requests_by o.command
+
+abbrev until_in : Output → ℕ
+until_in o = until_by o.command
+
+says_alike : (is_said : Bool) (mid other a b : Agent) → AreAgentsAlike mid other → SaysBy is_said mid a → SaysBy is_said other b → AreAgentsAlike a b
+says_alike true mid other a b alike one two =
+    same_agents (all_said mid) (all_said other) a b one two
+    (record { machine = alike.machine; inventory = alike.inventory; standings = ap₂ (λ (m : State) (xs : List Standing). said_standings m xs) alike.machine alike.standings; beginnings = alike.beginnings })
+says_alike false mid other a b alike one two = same_agents mid other a b one two alike
+
+hands_alike :
+    (r : Reading) (came more : List Answered) (is_said : Bool) (h k a b : Held) (sent out : List Request) → AreHeldAlike h k → (one : HandsIn r came is_said h sent a) (two : HandsIn r more is_said k out b) →
+    contents_taken (k.pending ++ more) k.agent two.told two.taken ≡ contents_taken (h.pending ++ came) h.agent one.told one.taken → (out ≡ sent) × AreHeldAlike a b
+hands_alike r came more is_said h k a b sent out alike one two same =
+    let told = answers_alike (h.pending ++ came) (k.pending ++ more) h.agent k.agent one.told two.told alike.agent one.taken two.taken same in
+    let turned = taken_alike one.told two.told one.mid two.mid (events.Clock r.wall r.elapsed) (record { command = Go one.commanded one.until; notes = one.notes }) (record { command = Go two.commanded two.until; notes = two.notes }) told one.turn two.turn in
+    let commanded : two.commanded ≡ one.commanded = ap requests_in turned.0 in
+    let until : two.until ≡ one.until = ap until_in turned.0 in
+    let at : two.until - two.mid.machine.clocks.phase ≡ one.until - one.mid.machine.clocks.phase = ap₂ (λ (n : ℕ) (m : State). n - m.clocks.phase) until turned.1.machine in (
+      two.sent_is ∙ ap₂ (λ (xs : List Request) (ys : List Request). xs ++ ys) alike.unsent commanded ∙ sym one.sent_is,
+      record {
+        agent = says_alike is_said one.mid two.mid a.agent b.agent turned.1 one.said two.said;
+        unsent = ap (λ (x : Held). x.unsent) two.held ∙ sym (ap (λ (x : Held). x.unsent) one.held);
+        asked = ap (λ (x : Held). x.asked) two.held ∙ sym (ap (λ (x : Held). x.asked) one.held);
+        until = ap (λ (x : Held). x.until) two.held ∙ at ∙ sym (ap (λ (x : Held). x.until) one.held);
+      },
+    )
+
+same_held : (h k a b : Held) → a ≡ h → b ≡ k → AreHeldAlike h k → AreHeldAlike a b
+same_held h k a b one two alike = subst (λ (x : Held). AreHeldAlike x b) (sym one) (subst (λ (y : Held). AreHeldAlike h y) (sym two) alike)
+
+-- the words of the second turn stand as those of the first, but for the answers
+abbrev HandsAlike : (w : Words) (reading : Option Reading) (is_said : Bool) (v : Words) (h k a b : Held) (sent out : List Request) → Type 0
+HandsAlike w reading is_said v h k a b sent out =
+    (one : HandsBy reading w.came is_said h sent a) (two : HandsBy reading v.came is_said k out b) → contents_at reading v.came is_said k out b two ≡ contents_at reading w.came is_said h sent a one → (out ≡ sent) × AreHeldAlike a b
+
+hands_by_alike : (w v : Words) (reading : Option Reading) (is_said : Bool) (h k a b : Held) (sent out : List Request) → AreHeldAlike h k → HandsAlike w reading is_said v h k a b sent out
+hands_by_alike w v None is_said h k a b sent out alike one two same = (two.0 ∙ sym one.0, same_held h k a b one.1 two.1 alike)
+hands_by_alike w v (Some r) is_said h k a b sent out alike one two same = hands_alike r w.came v.came is_said h k a b sent out alike one two same
+
+-- ---- changes
+
+event_alike : (event : Event) (h k : Held) (l m : Lanes) (a b : Side) → (MayWant event → ⊥) → AreHeldAlike h k → IsTurned event (side h l) a → IsTurned event (side k m) b → AreHeldAlike a.held b.held
+event_alike event h k l m a b wants alike one two = record {
+  agent = turned_alike h.agent k.agent a.held.agent b.held.agent event one.result two.result wants alike.agent one.turn two.turn;
+  unsent = ap (λ (x : Side). x.held.unsent) two.rest ∙ alike.unsent ∙ sym (ap (λ (x : Side). x.held.unsent) one.rest);
+  asked = ap (λ (x : Side). x.held.asked) two.rest ∙ alike.asked ∙ sym (ap (λ (x : Side). x.held.asked) one.rest);
+  until = ap (λ (x : Side). x.held.until) two.rest ∙ alike.until ∙ sym (ap (λ (x : Side). x.held.until) one.rest);
+}
+
+change_alike : (c : Change) (is_made : Bool) (h k : Held) (l m : Lanes) (a b : Side) → KeepsInventory c → AreHeldAlike h k → IsMade c is_made (side h l) a → IsMade c is_made (side k m) b → AreHeldAlike a.held b.held
+change_alike c false h k l m a b keep alike one two = same_held h k a.held b.held (ap (λ (x : Side). x.held) one) (ap (λ (x : Side). x.held) two) alike
+change_alike (Need i until) true h k l m a b keep alike one two = event_alike (events.Need i until) h k l m a b (λ wants. wants) alike one two
+change_alike Begin true h k l m a b keep alike one two = event_alike events.Begin h k l m a b (λ wants. wants) alike one two
+change_alike (Serve s) true h k l m a b keep alike one two = absurd keep
+
+changes_alike : (made : List Made) (h k : Held) (l m : Lanes) (a b : Side) → KeepInventory made → AreHeldAlike h k → AreMade made (side h l) a → AreMade made (side k m) b → AreHeldAlike a.held b.held
+changes_alike [] h k l m a b keep alike one two = same_held h k a.held b.held (ap (λ (x : Side). x.held) one) (ap (λ (x : Side). x.held) two) alike
+changes_alike (c ∷ rest) h k l m a b keep alike one two =
+    let mid = change_alike c.change c.is_made h k l m one.0 two.0 keep.0 alike one.1.0 two.1.0 in
+    changes_alike rest one.0.held two.0.held one.0.lanes two.0.lanes a b keep.1 mid one.1.1 two.1.1
+
+-- ---- turns
+
+follows_alike : (w v : Words) (h k a b : Held) (sent out : List Request) → AreHeldAlike h k → AreWordsAlike w v → (one : Follows w h sent a) (two : Follows v k out b) → contents_in v k out b two ≡ contents_in w h sent a one → (out ≡ sent) × AreHeldAlike a b
+follows_alike w v h k a b sent out alike words one two same =
+    let hands = by v.reading words.reading v.is_said words.is_said two.hands same in
+    (hands.0, changes_alike w.changes one.mid two.mid one.before two.before (side a one.after) (side b two.after) words.keep hands.1 one.changes (subst (λ made. AreMade made (side two.mid two.before) (side b two.after)) words.changes two.changes)) where
+      by : (reading : Option Reading) → reading ≡ w.reading → (is_said : Bool) → is_said ≡ w.is_said → (hands : HandsBy reading v.came is_said k out two.mid) →
+          contents_at reading v.came is_said k out two.mid hands ≡ contents_at w.reading w.came w.is_said h sent one.mid one.hands → (out ≡ sent) × AreHeldAlike one.mid two.mid
+      by reading read is_said said =
+          subst (λ (x : Option Reading). (hands : HandsBy x v.came is_said k out two.mid) → contents_at x v.came is_said k out two.mid hands ≡ contents_at w.reading w.came w.is_said h sent one.mid one.hands → (out ≡ sent) × AreHeldAlike one.mid two.mid) (sym read)
+          (subst (λ (y : Bool). (hands : HandsBy w.reading v.came y k out two.mid) → contents_at w.reading v.came y k out two.mid hands ≡ contents_at w.reading w.came w.is_said h sent one.mid one.hands → (out ≡ sent) × AreHeldAlike one.mid two.mid) (sym said)
+          (λ hands there. hands_by_alike w v w.reading w.is_said h k one.mid two.mid sent out alike one.hands hands there))
+
+pub alike_law : AlikeLaw
+alike_law [] [] h k new last sent out one two alike words same = (two.0 ∙ sym one.0, same_held h k new last one.1 two.1 alike)
+alike_law [] (v ∷ vs) h k new last sent out one two alike words same = absurd words
+alike_law (w ∷ ws) [] h k new last sent out one two alike words same = absurd words
+alike_law (w ∷ ws) (v ∷ vs) h k new last [] out one two alike words same = absurd one
+alike_law (w ∷ ws) (v ∷ vs) h k new last (s ∷ sent) [] one two alike words same = absurd two
+alike_law (w ∷ ws) (v ∷ vs) h k new last (s ∷ sent) (o ∷ out) one two alike words same =
+    let here = follows_alike w v h k one.0 two.0 s o alike words.0 one.1.0 two.1.0 (ap (head_or []) same) in
+    let later = alike_law ws vs one.0 two.0 new last sent out one.1.1 two.1.1 here.1 words.1 (ap tail_of same) in
+    (ap₂ (λ x xs. x ∷ xs) here.0 later.0, later.1)
+
+-- ---- a rebuilding
+
+handed_alike : (told other : ℕ → Option Told) (old : State) (n : ℕ) (a b : State) → ((i : ℕ) → other i ≡ told i) → AreHanded told old n a → AreHanded other old n b → b ≡ a
+handed_alike told other old zero a b same one two = two ∙ sym one
+handed_alike told other old (suc n) a b same one two =
+    let mid = handed_alike told other old n one.0 two.0 same one.1.0 two.1.0 in
+    handed_same (told n) n one.0 a b one.1.1 (subst (λ (t : Option Told). IsHanded n t one.0 b) (same n) (subst (λ (m : State). IsHanded n (other n) m b) mid two.1.1))
+
+map_alike : (f g : ℕ → Standing) (xs : List ℕ) → ((i : ℕ) → g i ≡ f i) → map g xs ≡ map f xs
+map_alike f g [] same = refl
+map_alike f g (x ∷ xs) same = ap₂ (λ y ys. y ∷ ys) (same x) (map_alike f g xs same)
+
+pub rebuilt_alike_law : RebuiltAlikeLaw
+rebuilt_alike_law a b new last s t width alike inventories carried one two =
+    let forest : t.forest ≡ s.forest = ap (λ (x : Inventory). x.forest) inventories in
+    let handed = subst (λ (f : Forest). AreHanded (carried_told b t) (opened f width) (length f.entries) last.machine) forest two.machine in
+    let standings = subst (λ (f : Forest). last.standings ≡ map (carried_standing b t) (range_with_len 0 (length f.entries))) forest two.standings in
+    record {
+      machine = handed_alike (carried_told a s) (carried_told b t) (opened s.forest width) (length s.forest.entries) new.machine last.machine (λ i. ap (λ (x : Standing). x.told) (carried i)) one.machine handed;
+      inventory = subst (λ (x : Inventory). AreInventoriesAlike x last.inventory) (sym one.inventory) (subst (λ (y : Inventory). AreInventoriesAlike s y) (sym two.inventory) inventories);
+      standings = standings ∙ map_alike (carried_standing a s) (carried_standing b t) (range_with_len 0 (length s.forest.entries)) carried ∙ sym one.standings;
+      beginnings = two.beginnings ∙ alike.beginnings ∙ sym one.beginnings;
+    }

@@ -1,0 +1,62 @@
+-- Bounded: a turn waits for a second at most, and calls its neighbours so often at most. For `a_turn_is_bounded`.
+use Rattle.std.proofs.Common.{◌∙◌, ℕ, zero, suc, ◌+◌, ◌-◌, ◌≤◌, Bool, true, false, ◌||◌, List, [], ◌∷◌, Option, None, Some, length, replicate, ap, arith}
+use Rattle.std.proofs.lemmas.List.{length-append, length-replicate}
+use Rattle.keep_clock.specs.declared.reading.Reading.{Reading}
+use Rattle.keep_serving.specs.Changes.{Made}
+use Rattle.keep_serving.specs.Laws.{CallsLaw, WaitLaw}
+use Rattle.keep_serving.specs.Neighbours.{Answer, GoOn, Hear, calls_at, changes_in, heard_in, heard_of_time}
+use Rattle.keep_serving.specs.Turns.{Turned, is_some_change, wait_by}
+
+-- ---- the wait
+
+a_second : (is_more is_whole : Bool) (until due : ℕ) (reading : Option Reading) → wait_by is_more is_whole until due reading ≤ 1000
+a_second true is_whole until due reading = omega arith
+a_second false is_whole until due None = omega arith
+a_second false true until due (Some r) = omega arith
+a_second false false until due (Some r) = omega arith
+
+in_time : (is_more : Bool) (until due : ℕ) (r : Reading) → wait_by is_more true until due (Some r) ≤ until - r.elapsed
+in_time true until due r = omega arith
+in_time false until due r = omega arith
+
+pub wait_law : WaitLaw
+wait_law port old new t h =
+    let is_more = is_some_change t.changes || t.is_busy in
+    let until = new.held.until in
+    let waits = h.waits in
+    let most = a_second is_more t.is_whole until t.due t.reading in (
+      omega (arith, waits, most),
+      λ r read whole.
+          (let is = waits ∙ ap (λ x. wait_by is_more t.is_whole until t.due x) read ∙ ap (λ w. wait_by is_more w until t.due (Some r)) whole in
+          let before = in_time is_more until t.due r in
+          omega (arith, is, before)),
+    )
+
+-- ---- the calls
+
+few_of_time : (is_handed : Bool) → length (heard_of_time is_handed) ≤ 2
+few_of_time true = omega arith
+few_of_time false = omega arith
+
+few_heard : (answers : ℕ) (is_handed : Bool) → length (heard_in answers is_handed) ≤ answers + 2
+few_heard answers is_handed =
+    let all = length-append (replicate answers (Hear Answer)) (heard_of_time is_handed) in
+    let first = length-replicate answers (Hear Answer) in
+    let last = few_of_time is_handed in
+    omega (arith, all, first, last)
+
+few_changes : (most : ℕ) (made : List Made) → length (changes_in most made) ≤ most + most
+few_changes zero made = omega arith
+few_changes (suc most) [] = omega arith
+few_changes (suc most) (m ∷ made) = (let rest = few_changes most made in omega (arith, rest))
+
+few_calls : (reading : Option Reading) (answers : ℕ) (is_handed : Bool) (t : Turned) → length (calls_at reading answers is_handed t) ≤ answers + 19
+few_calls None answers is_handed t = omega arith
+few_calls (Some r) answers is_handed t =
+    let all = length-append (heard_in answers is_handed) (GoOn t.is_busy ∷ changes_in 8 t.changes) in
+    let first = few_heard answers is_handed in
+    let last = few_changes 8 t.changes in
+    omega (arith, all, first, last)
+
+pub calls_law : CallsLaw
+calls_law answers is_handed t = few_calls t.reading answers is_handed t

@@ -1,0 +1,84 @@
+-- Alike: two agents whose inventories differ in credentials alone. The contract of a public function without a body.
+-- Source: this project's own.
+use Rattle.std.specs.Prelude.{◌≡◌, ◌++◌, ℕ, Bool, List, [], ◌∷◌, Option, None, Some}
+use Rattle.keep_agent.specs.Agent.{Agent}
+use Rattle.keep_agent.specs.Rebuilding.{IsRebuilt, carried_standing}
+use Rattle.keep_asking.specs.declared.told.Said.{Said}
+use Rattle.keep_clock.specs.declared.reading.Reading.{Reading}
+use Rattle.keep_inventory.specs.Inventories.{Inventory}
+use Rattle.keep_lanes.specs.declared.lanes.Answered.{Answered}
+use Rattle.watch_machine.specs.declared.command.Request.{Request}
+use Rattle.keep_serving.specs.Held.{Held}
+use Rattle.keep_serving.specs.Laws.{KeepInventory}
+use Rattle.keep_serving.specs.Stages.{AreTaken}
+use Rattle.keep_serving.specs.Words.{AllFollow, Follows, HandsBy, Words}
+
+-- ---- what is alike
+
+abbrev pub AreInventoriesAlike : Inventory → Inventory → Type 0
+AreInventoriesAlike s t = t ≡ record s { credentials = t.credentials }
+
+pub record AreAgentsAlike (a b : Agent) : Type 0 where
+  pub machine : b.machine ≡ a.machine
+  pub inventory : AreInventoriesAlike a.inventory b.inventory
+  pub standings : b.standings ≡ a.standings
+  pub beginnings : b.beginnings ≡ a.beginnings
+
+-- the answers that wait may be others
+pub record AreHeldAlike (h k : Held) : Type 0 where
+  pub agent : AreAgentsAlike h.agent k.agent
+  pub unsent : k.unsent ≡ h.unsent
+  pub asked : k.asked ≡ h.asked
+  pub until : k.until ≡ h.until
+
+-- the words of two turns in which the same inventory is served, but for the answers
+pub record AreWordsAlike (w v : Words) : Type 0 where
+  pub reading : v.reading ≡ w.reading
+  pub is_said : v.is_said ≡ w.is_said
+  pub changes : v.changes ≡ w.changes
+  pub keep : KeepInventory w.changes
+
+abbrev pub AllWordsAlike : List Words → List Words → Type 0
+AllWordsAlike [] [] = Unit {0}
+AllWordsAlike [] (v ∷ vs) = ⊥
+AllWordsAlike (w ∷ ws) [] = ⊥
+AllWordsAlike (w ∷ ws) (v ∷ vs) = AreWordsAlike w v × AllWordsAlike ws vs
+
+-- ---- the content of answers
+
+-- whom an answer is for, and what it says of the entry. It has no credential
+pub record Content : Type 0 where
+  pub index : ℕ
+  pub said : Said
+
+abbrev pub contents_taken : (answers : List Answered) (old new : Agent) → AreTaken answers old new → List Content
+contents_taken [] old new h = []
+contents_taken (a ∷ rest) old new h = record { index = a.index; said = h.1.0.said } ∷ contents_taken rest h.0 new h.1.1
+
+-- of those that are handed in in a turn, and in turns one after another
+abbrev pub contents_at : (reading : Option Reading) (came : List Answered) (is_said : Bool) (old : Held) (sent : List Request) (new : Held) → HandsBy reading came is_said old sent new → List Content
+contents_at None came is_said old sent new h = []
+contents_at (Some r) came is_said old sent new h = contents_taken (old.pending ++ came) old.agent h.told h.taken
+
+abbrev pub contents_in : (w : Words) (old : Held) (sent : List Request) (new : Held) → Follows w old sent new → List Content
+contents_in w old sent new h = contents_at w.reading w.came w.is_said old sent h.mid h.hands
+
+abbrev pub contents : (words : List Words) (old : Held) (sent : List (List Request)) (new : Held) → AllFollow words old sent new → List (List Content)
+contents [] old sent new h = []
+contents (w ∷ rest) old [] new h = []
+contents (w ∷ rest) old (s ∷ later) new h = contents_in w old s h.0 h.1.0 ∷ contents rest h.0 later new h.1.1
+
+-- ---- laws
+
+-- two agents whose inventories differ in credentials alone, with the same readings and changes, and answers of the same content: the
+-- same requests go out, of the same entries, and the agents differ in credentials alone again, in each turn
+abbrev pub AlikeLaw : Type 0
+AlikeLaw =
+    (words more : List Words) (h k new last : Held) (sent out : List (List Request)) (one : AllFollow words h sent new) (two : AllFollow more k out last) → AreHeldAlike h k → AllWordsAlike words more →
+    contents more k out last two ≡ contents words h sent new one → (out ≡ sent) × AreHeldAlike new last
+
+-- and so they do after a rebuilding, if what was said of the same entries is carried over
+abbrev pub RebuiltAlikeLaw : Type 0
+RebuiltAlikeLaw =
+    (a b new last : Agent) (s t : Inventory) (width : ℕ) → AreAgentsAlike a b → AreInventoriesAlike s t → ((i : ℕ) → carried_standing b t i ≡ carried_standing a s i) → IsRebuilt a s width new → IsRebuilt b t width last →
+    AreAgentsAlike new last
