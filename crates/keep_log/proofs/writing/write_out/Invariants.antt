@@ -1,0 +1,12 @@
+-- What was given so far, in how many tries.
+use Rattle.std.proofs.Common.{◌≡◌, ◌+◌, ◌≤◌, length, take}
+use Rattle.std.specs.Io.KnownBytes.{Appends}
+use Rattle.keep_log.proofs.writing.write_out.Given as goal
+
+abbrev pub invariant-loop-try : goal.invariant-loop-try
+invariant-loop-try g l = record {
+  within : l.taken ≤ length l.bytes;
+  given : Appends (g.S.LogSink.written l.fn.sink) (g.S.LogSink.written l.sink) (take l.taken l.bytes);
+  tries : g.S.LogSink.tries l.sink ≤ g.S.LogSink.tries l.fn.sink + l._try;
+  failures : g.S.LogSink.failures l.sink ≡ g.S.LogSink.failures l.fn.sink;
+}

@@ -1,0 +1,5 @@
+pub mod Lines
+pub mod Waiting
+pub mod Sinks
+pub mod Following
+pub mod Forms

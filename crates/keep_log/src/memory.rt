@@ -1,0 +1,130 @@
+ghost use Rattle.std.specs.Prelude.{◌≡◌, ◌<◌, ◌≤◌, [], IfOk, Some, length, take, drop};
+ghost use Rattle.std.specs.Io.KnownBytes.{Appends, Keeps};
+ghost use Rattle.keep_device.specs.Failures.{one_more};
+ghost use Rattle.keep_device.specs.Tries.{IfDone, MatchTried};
+ghost use Rattle.keep_device.specs.declared.tried.Tried.TheVariants.{Failed};
+ghost use Rattle.keep_log.specs.Sinks.{CountsFailure, next_answer};
+
+use crate::sink::LogSink;
+use keep_device::Tried;
+use std::alloc::Global;
+use std::marker::Model;
+
+/// What a sink in memory does at a try.
+#[derive(Clone, Copy, Debug, PartialEq, Eq)]
+pub enum Answer {
+    /// It takes so many bytes at most, and one at least.
+    Takes(usize),
+    /// It would have to wait.
+    Waits,
+    /// It fails.
+    Fails,
+}
+
+/// A sink that answers as it was told, one try after the other, and past that takes all. It keeps what it takes; where memory
+/// runs out it fails.
+#[derive(Debug, Drop)]
+pub struct MemorySink {
+    answers: Vec<Answer>,
+    next: usize,
+    taken: Vec<u8>,
+    tries: u64,
+    failures: u64,
+}
+
+impl Model for MemorySink {
+    ghost use Rattle.std.specs.Prelude.{◌≤◌, drop, vec_len};
+    ghost use Rattle.keep_log.specs.Sinks.{Script};
+
+    ghost Value = { Script };
+
+    ghost view = { λ s. record { to_come = drop s.next s.answers.items; written = s.taken.items; tries = s.tries; failures = s.failures } };
+
+    ghost invariant = { λ s. s.next ≤ vec_len s.answers };
+}
+
+impl MemorySink {
+    /// A sink with these answers to come.
+    pub fn new(alloc: Global, answers: Vec<Answer>) -> MemorySink
+        ensures { result ≡ record { to_come = answers.items; written = []; tries = 0; failures = 0 } }
+    {
+        MemorySink {
+            answers,
+            next: 0,
+            taken: Vec::new(alloc),
+            tries: 0,
+            failures: 0,
+        }
+    }
+
+    /// What it took.
+    pub fn written(&self) -> &[u8]
+        ensures { result.now ≡ self.now.written }
+    {
+        &self.taken
+    }
+
+    // The next of its answers, `None` past the last.
+    fn answer(&mut self) -> Option<Answer>
+        ensures answer { result ≡ next_answer self.old.to_come }
+        ensures rest { self.new ≡ record self.old { to_come = drop 1 self.old.to_come } }
+    {
+        if self.next == self.answers.len() {
+            return None;
+        }
+        let answer = self.answers[self.next];
+        self.next += 1;
+        Some(answer)
+    }
+
+    // Takes so many bytes.
+    fn take(&mut self, piece: &[u8], n: usize) -> Tried
+        requires { n ≤ length piece.now }
+        ensures bound { IfDone result (λ m. m ≡ n) }
+        ensures bytes { MatchTried result (λ m. Appends (Some self.old.written) (Some self.new.written) (take m piece.now))
+            (self.new.written ≡ self.old.written) }
+        ensures tries { self.new.tries ≡ self.old.tries }
+        ensures failures { CountsFailure result self.old.failures self.new.failures }
+        ensures to_come { self.new.to_come ≡ self.old.to_come }
+    {
+        match self.taken.extend_from_slice(&piece[..n]) {
+            Ok(()) => Tried::Done(n),
+            Err(_) => self.fail(),
+        }
+    }
+
+    // Counts one failure.
+    fn fail(&mut self) -> Tried
+        ensures result { result ≡ Failed }
+        ensures counted { self.new ≡ record self.old { failures = one_more self.old.failures } }
+    {
+        self.failures = self.failures.saturating_add(1);
+        Tried::Failed
+    }
+}
+
+impl LogSink for MemorySink {
+    ghost written = { λ s. Some s.written };
+
+    ghost tries = { λ s. s.tries };
+
+    ghost failures = { λ s. s.failures };
+
+    fn tries(&self) -> u64 {
+        self.tries
+    }
+
+    fn failures(&self) -> u64 {
+        self.failures
+    }
+
+    fn give(&mut self, piece: &[u8]) -> Tried {
+        self.tries = self.tries.saturating_add(1);
+        match self.answer() {
+            None => self.take(piece, piece.len()),
+            Some(Answer::Takes(n)) => self.take(piece, n.max(1).min(piece.len())),
+            Some(Answer::Waits) => Tried::Waits,
+            Some(Answer::Fails) => self.fail(),
+        }
+    }
+}
