@@ -1,0 +1,11 @@
+//! Tests alone, of what the guests of a running agent are answered: onlookers by page and by fault, clients, and the needs that they
+//! give. What `house_tests` needs too is public.
+#![tactic(auto)]
+
+#[cfg(test)]
+mod agents;
+#[cfg(test)]
+mod clients;
+#[cfg(test)]
+mod onlookers;
+pub mod peers;

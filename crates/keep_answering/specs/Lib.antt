@@ -1,0 +1,3 @@
+pub mod Onlooking
+pub mod Wanting
+pub mod Controlling

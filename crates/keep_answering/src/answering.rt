@@ -1,0 +1,31 @@
+//! What an onlooker is sent.
+ghost use Rattle.std.specs.Prelude.{◌≡◌, IfOk};
+ghost use Rattle.keep_answering.specs.Onlooking.{IsSent, bytes_of};
+
+use crate::heads::question_of;
+use keep_agent::Agent;
+use keep_onlook::{Answer, Surroundings, answer_to, board_of, read_question};
+use std::alloc::{AllocError, Global};
+
+/// What is sent to an onlooker that has sent these bytes. The only error is out of memory.
+pub(crate) fn sent_to(
+    alloc: Global,
+    agent: &Agent,
+    around: Surroundings,
+    bytes: &[u8],
+) -> Result<Vec<u8>, AllocError>
+    ensures { IfOk result (λ sent. IsSent agent.now around bytes.now sent.items) }
+{
+    let question = question_of(read_question(bytes));
+    let board = board_of(alloc, agent, around)?;
+    bytes_of(answer_to(alloc, &board, question)?)
+}
+
+/// The head, and then the body.
+fn bytes_of(answer: Answer) -> Result<Vec<u8>, AllocError>
+    ensures { IfOk result (λ sent. sent.items ≡ bytes_of answer) }
+{
+    let mut sent = answer.head.into_vec();
+    sent.extend_from_slice(answer.body.list())?;
+    Ok(sent)
+}

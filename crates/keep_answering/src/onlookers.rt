@@ -1,0 +1,85 @@
+//! The onlookers of an agent.
+ghost use Rattle.std.specs.Prelude.{◌≡◌, ◌&&◌};
+ghost use Rattle.keep_answering.specs.Onlooking.{GoesOn, OneIsSent, nobody};
+
+use crate::answering::sent_to;
+use crate::heads::Heads;
+use crate::went::Went;
+use keep_agent::Agent;
+use keep_clients::{Clients, Door, Limits, Talk};
+use keep_onlook::{HEAD_MAX, Surroundings};
+use std::alloc::{AllocError, Global};
+
+/// The most onlookers at a time.
+pub const MOST_ONLOOKERS: usize = 16;
+
+/// The onlookers of an agent, and the door by which they come in.
+#[derive(Debug, Drop)]
+pub struct Onlookers<T, D> {
+    pub clients: Clients<T, Heads>,
+    pub door: D,
+}
+
+impl<T: Talk, D: Door<T>> Onlookers<T, D> {
+    /// A door with nobody inside. It takes no memory.
+    pub fn new(alloc: Global, door: D) -> Onlookers<T, D>
+        ensures { result ≡ nobody door }
+    {
+        let limits = Limits {
+            guests: MOST_ONLOOKERS,
+            bytes: HEAD_MAX,
+        };
+        Onlookers {
+            clients: Clients::new(alloc, limits, Heads),
+            door,
+        }
+    }
+
+    /// Goes on with each onlooker by one call of its connection at most, and answers the first of those whose question is whole,
+    /// from the agent as it is now. `around` is what the agent does not know of itself, `now` a moment in milliseconds of a
+    /// clock that never steps.
+    ///
+    /// Where memory is wanting for an answer, that onlooker is sent nothing and its connection is closed.
+    pub fn go_on(&mut self, alloc: Global, agent: &Agent, around: Surroundings, now: u64) -> Went
+        ensures { GoesOn T.remaining T.written T.calls D.log agent.now around now result self.old self.new }
+    {
+        let is_turned = self.clients.turn(alloc, &mut self.door, now);
+        let is_answered = answer_one(alloc, &mut self.clients, agent, around, now);
+        Went {
+            is_busy: self.clients.is_busy(),
+            is_enough: both(is_turned, is_answered),
+        }
+    }
+}
+
+/// Answers the first of those whose question is whole, where there is one. Whether memory sufficed.
+fn answer_one<T: Talk>(
+    alloc: Global,
+    clients: &mut Clients<T, Heads>,
+    agent: &Agent,
+    around: Surroundings,
+    now: u64,
+) -> bool
+    ensures { OneIsSent agent.now around now result clients.old clients.new }
+{
+    let Some(bytes) = clients.first_request() else {
+        return true;
+    };
+    match sent_to(alloc, agent, around, bytes) {
+        Ok(sent) => {
+            let _is_there = clients.answer_first(sent, now);
+            true
+        }
+        Err(AllocError) => {
+            let _is_there = clients.answer_first(Vec::new(alloc), now);
+            false
+        }
+    }
+}
+
+/// Whether memory sufficed twice.
+fn both(first: bool, second: bool) -> bool
+    ensures { result ≡ (first && second) }
+{
+    first && second
+}

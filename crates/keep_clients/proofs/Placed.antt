@@ -1,0 +1,53 @@
+-- One of the guests gives its request, or is given its answer: for `take_request` and `answer`.
+use Rattle.std.proofs.Common.{◌≡◌, ℕ, suc, zero, ◌<◌, ◌∙◌, Bool, true, false, cond, List, [], ◌∷◌, length, get_or, set, Option, Some, None, refl, sym, subst, ap, arith}
+use Rattle.std.proofs.lemmas.List.Quantifiers.{position-Some}
+use Rattle.std.specs.List.{position, slice_get}
+use Rattle.keep_clients.specs.Guests.{asked_bytes, is_asked}
+use Rattle.keep_clients.specs.Tables.{AnswersAt, Table, Takes, TakesAt, TakesFrom, answered, asked_at, asked_of, first_asked}
+use Rattle.keep_clients.specs.declared.clients.Request.{Request}
+use Rattle.keep_clients.specs.declared.guest.Guest.{Guest}
+use Rattle.keep_clients.specs.declared.limits.Limits.{Limits}
+
+got : {X : Type 0} (xs : List X) (i : ℕ) (x : X) → i < length xs → x ≡ get_or xs i x → slice_get xs i ≡ Some x
+got [] i x within is = absurd (omega arith)
+got (y ∷ ys) zero x within is = ap Some (sym is)
+got (y ∷ ys) (suc i) x within is = got ys i x (omega arith) is
+
+true_false : {P : Type 0} → true ≡ false → P
+true_false e = absurd (subst (λ (b : Bool). cond b (Unit {0}) ⊥) e tt)
+
+module _ {T F : Type 0} (next : ℕ) (limits : Limits) (framing : F) where
+  abbrev table : List (Guest T) → Table T F
+  table xs = record { guests = xs; next = next; limits = limits; framing = framing }
+
+  pub answered_at : (test : Guest T → Bool) (now : ℕ) (answer : List ℕ) (old : Table T F) (xs ys : List (Guest T)) (i : ℕ) (found : Option ℕ) (g n : Guest T) → table xs ≡ old → ys ≡ xs
+      → found ≡ position test ys → found ≡ Some i → i < length ys → g ≡ get_or xs i g → n ≡ answered now answer g
+      → AnswersAt (position test old.guests) now answer true old (table (set xs i n))
+  answered_at test now answer old xs ys i found g n is same found_is some within here done =
+      let at : position test xs ≡ Some i = ap (position test) (sym same) ∙ sym found_is ∙ some in
+      let inside : i < length xs = subst (λ l. i < length l) same within in
+      subst (λ o. AnswersAt (position test o.guests) now answer true o (table (set xs i n))) is
+      (subst (λ o. AnswersAt o now answer true (table xs) (table (set xs i n))) (sym at) (refl, (g, (got xs i g inside here, ap (λ m. table (set xs i m)) done))))
+
+  asked_taken : (r : Option Request) (xs : List (Guest T)) (i : ℕ) (g n : Guest T) → is_asked g.stage ≡ true → slice_get xs i ≡ Some g → TakesFrom g r n
+      → TakesAt (Some i) (table xs) r (table (set xs i n))
+  asked_taken None xs i g n asked here h = true_false (sym asked ∙ h.0)
+  asked_taken (Some r) xs i g n asked here h = (g, (n, (here, (h, refl))))
+
+  pub taken_at : (r : Option Request) (old : Table T F) (xs ys : List (Guest T)) (i : ℕ) (found : Option ℕ) (g n : Guest T) → table xs ≡ old → ys ≡ xs
+      → found ≡ position (λ (it : Guest T). is_asked it.stage) ys → found ≡ Some i → i < length ys → g ≡ get_or xs i g → TakesFrom g r n → Takes old r (table (set xs i n))
+  taken_at r old xs ys i found g n is same found_is some within here done =
+      let at : position (λ (it : Guest T). is_asked it.stage) xs ≡ Some i = ap (position (λ (it : Guest T). is_asked it.stage)) (sym same) ∙ sym found_is ∙ some in
+      let inside : i < length xs = subst (λ l. i < length l) same within in
+      let first = position-Some (λ (it : Guest T). is_asked it.stage) xs i g at in
+      let asked : is_asked g.stage ≡ true = ap (λ (it : Guest T). is_asked it.stage) here ∙ first.1 in
+      subst (λ o. Takes o r (table (set xs i n))) is
+      (subst (λ o. TakesAt o (table xs) r (table (set xs i n))) (sym at) (asked_taken r xs i g n asked (got xs i g inside here) done))
+
+  -- the request that is found at a place
+  pub asked_here : (old : Table T F) (xs ys : List (Guest T)) (i : ℕ) (found : Option ℕ) (g : Guest T) (r : Option (List ℕ)) → table xs ≡ old → ys ≡ xs
+      → found ≡ position (λ (it : Guest T). is_asked it.stage) ys → found ≡ Some i → slice_get ys i ≡ Some g → r ≡ asked_bytes g.stage → r ≡ first_asked old
+  asked_here old xs ys i found g r is same found_is some here asked =
+      let at : position (λ (it : Guest T). is_asked it.stage) xs ≡ Some i = ap (position (λ (it : Guest T). is_asked it.stage)) (sym same) ∙ sym found_is ∙ some in
+      subst (λ (o : Table T F). r ≡ first_asked o) is
+      (asked ∙ ap (λ (o : Option (Guest T)). asked_of o) (sym here ∙ ap (λ l. slice_get l i) same) ∙ ap (λ (o : Option ℕ). asked_at o xs) (sym at))

@@ -1,0 +1,146 @@
+-- One guest: how far it has come, and what it becomes by one call of its connection.
+-- Source: this project's own.
+use Rattle.std.specs.Prelude.{◌≡◌, ℕ, zero, suc, ◌+◌, ◌-◌, ◌^◌, ◌<◌, ◌≤◌, min, nat_lt, List, [], ◌∷◌, ◌++◌, length, take, drop, Bool, true, false, not, ◌&&◌, ◌||◌, Option, Some, None, if◌then◌else◌}
+use Rattle.std.specs.Io.KnownBytes.{Appends, Consumes, IsAtEnd, Keeps}
+use Rattle.keep_device.specs.Tries.{MatchTried}
+use Rattle.keep_device.specs.declared.tried.Tried.{Tried}
+use Rattle.keep_device.specs.declared.tried.Tried.TheVariants.{Done, Waits, Failed}
+use Rattle.keep_clients.specs.Calls.{Logs}
+use Rattle.keep_clients.specs.declared.guest.Guest.{Guest}
+use Rattle.keep_clients.specs.declared.stage.Stage.{Stage}
+use Rattle.keep_clients.specs.declared.stage.Stage.TheVariants.{Reading, Asked, Waiting, Answering, Over}
+use Rattle.keep_clients.specs.declared.talk.Call.{Call}
+use Rattle.keep_clients.specs.declared.talk.Call.TheVariants.{Gave, Got}
+
+abbrev pub is_over : Stage → Bool
+is_over (Reading bytes) = false
+is_over (Asked bytes) = false
+is_over Waiting = false
+is_over (Answering left) = false
+is_over Over = true
+
+abbrev pub is_asked : Stage → Bool
+is_asked (Reading bytes) = false
+is_asked (Asked bytes) = true
+is_asked Waiting = false
+is_asked (Answering left) = false
+is_asked Over = false
+
+-- its request, where nobody has taken it yet
+abbrev pub asked_bytes : Stage → Option (List ℕ)
+asked_bytes (Reading bytes) = None
+asked_bytes (Asked bytes) = Some bytes
+asked_bytes Waiting = None
+asked_bytes (Answering left) = None
+asked_bytes Over = None
+
+abbrev pub is_waiting : Stage → Bool
+is_waiting (Reading bytes) = false
+is_waiting (Asked bytes) = false
+is_waiting Waiting = true
+is_waiting (Answering left) = false
+is_waiting Over = false
+
+-- it is read or written to
+abbrev pub is_busy : Stage → Bool
+is_busy (Reading bytes) = true
+is_busy (Asked bytes) = false
+is_busy Waiting = false
+is_busy (Answering left) = true
+is_busy Over = false
+
+-- it has to be read and written in time; what is done by others is not on its account
+abbrev pub in_time : ℕ → ℕ → Stage → Stage
+in_time now by (Reading bytes) = if nat_lt now by then Reading bytes else Over
+in_time now by (Asked bytes) = Asked bytes
+in_time now by Waiting = Waiting
+in_time now by (Answering left) = if nat_lt now by then Answering left else Over
+in_time now by Over = Over
+
+-- how many bytes a try has moved
+abbrev pub count : Tried → ℕ
+count (Done n) = n
+count Waits = 0
+count Failed = 0
+
+-- with these bytes so far, by a read: a request is handed on once it is whole, or longer than may be, or no more comes
+abbrev pub read_to : Tried → Bool → ℕ → List ℕ → Stage
+read_to (Done zero) whole most bytes = Asked bytes
+read_to (Done (suc n)) whole most bytes = if whole || nat_lt most (length bytes) then Asked bytes else Reading bytes
+read_to Waits whole most bytes = Reading bytes
+read_to Failed whole most bytes = Over
+
+-- with this left, by a write
+abbrev pub left_to : List ℕ → Stage
+left_to [] = Over
+left_to (b ∷ bs) = Answering (b ∷ bs)
+
+abbrev pub written_to : Tried → List ℕ → Stage
+written_to (Done n) left = left_to left
+written_to Waits left = left_to left
+written_to Failed left = Over
+
+-- the moment of the last progress
+abbrev pub moved_by : Tried → ℕ → ℕ → ℕ
+moved_by (Done zero) now moved = moved
+moved_by (Done (suc n)) now moved = now
+moved_by Waits now moved = moved
+moved_by Failed now moved = moved
+
+-- it came to nothing but that it would have to wait
+abbrev pub has_waited : Tried → Bool
+has_waited (Done n) = false
+has_waited Waits = true
+has_waited Failed = false
+
+-- one that has just come has 10 seconds for its request
+abbrev pub by_after : ℕ → ℕ
+by_after now = min (now + 10000) (2 ^ 64 - 1)
+
+abbrev pub newcomer : {T : Type 0} → ℕ → ℕ → T → Guest T
+newcomer now id talk = record { id = id; talk = talk; stage = Reading []; by = by_after now; moved = now; waits = false }
+
+-- one call more may come to something, although nobody told of it: the last one did, or there was none yet
+abbrev pub can_go_on : {T : Type 0} → Guest T → Bool
+can_go_on g = is_busy g.stage && not g.waits
+
+module _ {T : Type 0} (remaining written : T → Option (List ℕ)) (calls : T → Option (List Call)) where
+  -- it is read once: all that comes is kept, and handed on where it is told whole
+  pub record IsReadOn (tells : List ℕ → Bool → Type 0) (most now : ℕ) (bytes : List ℕ) (old new : Guest T) : Type 0 where
+    pub tried : Tried
+    pub came : List ℕ
+    pub whole : Bool
+    pub logged : Logs (calls old.talk) (calls new.talk) (Got tried)
+    pub silent : Keeps (written old.talk) (written new.talk)
+    pub counted : length came ≡ count tried
+    pub few : length came ≤ 4096
+    pub consumed : MatchTried tried (λ n. Consumes (remaining old.talk) (remaining new.talk) came × (n ≡ 0 → IsAtEnd (remaining new.talk))) (Keeps (remaining old.talk) (remaining new.talk))
+    pub told : 0 < length came → tells (bytes ++ came) whole
+    pub same : new ≡ record old { talk = new.talk; stage = in_time now old.by (read_to tried whole most (bytes ++ came)); moved = moved_by tried now old.moved; waits = has_waited tried }
+
+  -- it is written to once: the front of what is left of its answer, and nothing else
+  pub record IsWrittenOn (now : ℕ) (left : List ℕ) (old new : Guest T) : Type 0 where
+    pub tried : Tried
+    pub logged : Logs (calls old.talk) (calls new.talk) (Gave tried)
+    pub unread : Keeps (remaining old.talk) (remaining new.talk)
+    pub few : count tried ≤ 4096
+    pub appended : Appends (written old.talk) (written new.talk) (take (count tried) left)
+    pub same : new ≡ record old { talk = new.talk; stage = in_time now old.by (written_to tried (drop (count tried) left)); moved = moved_by tried now old.moved; waits = has_waited tried }
+
+  -- it goes on by one call at most
+  abbrev pub GoesOnFrom : (List ℕ → Bool → Type 0) → ℕ → ℕ → Stage → Guest T → Guest T → Type 0
+  GoesOnFrom tells most now (Reading bytes) old new = IsReadOn tells most now bytes old new
+  GoesOnFrom tells most now (Asked bytes) old new = new ≡ old
+  GoesOnFrom tells most now Waiting old new = new ≡ old
+  GoesOnFrom tells most now (Answering left) old new = IsWrittenOn now left old new
+  GoesOnFrom tells most now Over old new = new ≡ old
+
+  abbrev pub GoesOn : (List ℕ → Bool → Type 0) → ℕ → ℕ → Guest T → Guest T → Type 0
+  GoesOn tells most now old new = GoesOnFrom tells most now old.stage old new
+
+-- it is lost for want of memory, after one read: it was told nothing
+pub record IsLost {T : Type 0} (written : T → Option (List ℕ)) (calls : T → Option (List Call)) (old new : Guest T) : Type 0 where
+  pub tried : Tried
+  pub logged : Logs (calls old.talk) (calls new.talk) (Got tried)
+  pub silent : Keeps (written old.talk) (written new.talk)
+  pub over : new.stage ≡ Over

@@ -1,0 +1,5 @@
+pub mod Calls
+pub mod Doors
+pub mod Entrances
+pub mod Guests
+pub mod Tables
