@@ -1,0 +1,9 @@
+pub mod Lists
+pub mod Ready
+pub mod Faulty
+pub mod Entered
+pub mod Replayed
+pub mod Lawful
+pub mod Starting
+pub mod Taken
+pub mod Copied

@@ -1,0 +1,20 @@
+-- The rows go on being those of a replay; and the disk is the last that can refuse.
+use Rattle.std.proofs.Common.{sym, subst}
+use Rattle.keep_store.specs.declared.store.Store.{Store}
+use Rattle.keep_store.specs.Entering.{IsWhyNot}
+use Rattle.keep_store.proofs.Entered.{made_unrefused, unkept_why}
+use Rattle.keep_store.proofs.Taken.{goes_on_replaying}
+use Rattle.keep_store.proofs.store.Store.take.Goals as goal
+
+pub returns-in-Ok-clause-replayed : goal.returns-in-Ok-clause-replayed
+returns-in-Ok-clause-replayed g c =
+    let new : Store = record { alloc = c.args.self.now.alloc; journal = c.put.new.self; book = c.turn.new.self } in
+    goes_on_replaying c.args.self.now new c.args.name c.args.what c.in_ok-entered.entered c.in_ok-entered.ensures.entered c.turn.ensures c.in-Ok.ensures.acknowledged.0 c.requires.replayed
+
+pub returns-in-Err-clause-refused : goal.returns-in-Err-clause-refused
+returns-in-Err-clause-refused g c =
+    let b = c.args.self.now.book in
+    let is = c.in_ok-entered.ensures.entered in
+    subst (IsWhyNot b c.args.name c.args.what) (sym c.unkept.ensures)
+    (unkept_why b c.args.name c.args.what is.change c.in-Err.fault is.recorded.read
+    (made_unrefused b.file.margin b.rows c.in_ok-entered.entered.rows is.change.name is.change.what is.made.made))

@@ -1,0 +1,45 @@
+-- Words for the faults of the crates below, as this one tells them. No public clause cites them.
+-- Source: this project's own.
+use Rattle.std.specs.Prelude.{Option, Some, None}
+use Rattle.keep_change.specs.declared.change.Change.{Change}
+use Rattle.keep_change.specs.declared.change.Record.{Record}
+use Rattle.keep_change.specs.declared.change.Record.TheVariants.{Made, Settling}
+use Rattle.keep_change.specs.declared.fault.ChangeFault.{ChangeFault}
+use Rattle.keep_change.specs.declared.fault.ChangeFault.TheVariants as changes
+use Rattle.keep_disk.specs.declared.fault.DiskFault.{DiskFault}
+use Rattle.keep_disk.specs.declared.fault.DiskFault.TheVariants as disks
+use Rattle.keep_inventory.specs.declared.fault.InvFault.{InvFault}
+use Rattle.keep_inventory.specs.declared.fault.InvFault.TheVariants as inventories
+use Rattle.keep_settle.specs.declared.fault.SettleFault.{SettleFault}
+use Rattle.keep_settle.specs.declared.fault.SettleFault.TheVariants as settles
+use Rattle.keep_store.specs.declared.fault.FileFault.{FileFault}
+use Rattle.keep_store.specs.declared.fault.FileFault.TheVariants as files
+use Rattle.keep_store.specs.declared.fault.TakeFault.{TakeFault}
+use Rattle.keep_store.specs.declared.fault.TakeFault.TheVariants as takes
+
+-- want of memory is told as such, wherever it comes from
+abbrev pub unmade : ChangeFault → TakeFault
+unmade changes.OutOfMemory = takes.OutOfMemory
+unmade fault = takes.Refused fault
+
+abbrev pub unwritten : SettleFault → TakeFault
+unwritten settles.OutOfMemory = takes.OutOfMemory
+unwritten fault = takes.Unwritten fault
+
+abbrev pub unkept : DiskFault → TakeFault
+unkept disks.OutOfMemory = takes.OutOfMemory
+unkept fault = takes.Disk fault
+
+abbrev pub faulty : InvFault → FileFault
+faulty inventories.OutOfMemory = files.OutOfMemory
+faulty fault = files.Faulty fault
+
+abbrev pub unhanded : SettleFault → FileFault
+unhanded settles.OutOfMemory = files.OutOfMemory
+unhanded fault = files.Unwritten fault
+
+-- the change of a record, where it is one
+abbrev pub change_in : Option Record → Option Change
+change_in None = None
+change_in (Some (Made c)) = Some c
+change_in (Some (Settling mark)) = None

@@ -1,0 +1,130 @@
+ghost use Rattle.std.specs.Prelude.{◌≡◌};
+ghost use Rattle.keep_store.specs.declared.fault.FileFault.TheVariants as files;
+ghost use Rattle.keep_store.specs.declared.fault.TakeFault.TheVariants as takes;
+ghost use Rattle.keep_store.specs.code.Faults.{faulty, unhanded, unkept, unmade, unwritten};
+
+use keep_change::ChangeFault;
+use keep_disk::DiskFault;
+use keep_inventory::InvFault;
+use keep_settle::SettleFault;
+use std::alloc::{AllocError, AllocFailed};
+use thiserror::Error;
+
+/// Why a file is not served. None of them holds a credential.
+#[derive(Clone, Copy, Debug, PartialEq, Eq, Error)]
+pub enum FileFault {
+    /// Its bytes cannot be had, or it may not be served.
+    #[error("it cannot be had")]
+    Unread,
+    /// It is no inventory: its first fault.
+    #[error("{0}")]
+    Faulty(InvFault),
+    /// With the changes of the journal it cannot be written as one file.
+    #[error("with the changes of the journal: {0}")]
+    Unwritten(SettleFault),
+    /// Memory was refused.
+    #[error("out of memory")]
+    OutOfMemory,
+}
+
+/// Why a change is not taken: the first that applies, in this order. None of them holds a credential.
+#[derive(Clone, Copy, Debug, PartialEq, Eq, Error)]
+pub enum TakeFault {
+    /// No line of a journal can write it, as where a credential has a space.
+    #[error("no journal can write it")]
+    NoRecord,
+    /// It is refused by name.
+    #[error("{0}")]
+    Refused(ChangeFault),
+    /// After it the inventory could not be written as a file.
+    #[error("{0}")]
+    Unwritten(SettleFault),
+    /// It could not be written to the disk.
+    #[error("{0}")]
+    Disk(DiskFault),
+    /// Memory was refused.
+    #[error("out of memory")]
+    OutOfMemory,
+}
+
+impl From<AllocError> for FileFault {
+    ghost from_gives = { λ _ e. e ≡ files.OutOfMemory };
+
+    fn from(_e: AllocError) -> FileFault {
+        FileFault::OutOfMemory
+    }
+}
+
+impl<T: Drop> From<AllocFailed<T>> for FileFault {
+    ghost from_gives = { λ _ e. e ≡ files.OutOfMemory };
+
+    fn from(_e: AllocFailed<T>) -> FileFault {
+        FileFault::OutOfMemory
+    }
+}
+
+impl From<AllocError> for TakeFault {
+    ghost from_gives = { λ _ e. e ≡ takes.OutOfMemory };
+
+    fn from(_e: AllocError) -> TakeFault {
+        TakeFault::OutOfMemory
+    }
+}
+
+impl<T: Drop> From<AllocFailed<T>> for TakeFault {
+    ghost from_gives = { λ _ e. e ≡ takes.OutOfMemory };
+
+    fn from(_e: AllocFailed<T>) -> TakeFault {
+        TakeFault::OutOfMemory
+    }
+}
+
+/// Why a change is not taken that rows refuse.
+pub(crate) fn unmade(fault: ChangeFault) -> TakeFault
+    ensures { result ≡ unmade fault }
+{
+    match fault {
+        ChangeFault::OutOfMemory => TakeFault::OutOfMemory,
+        fault => TakeFault::Refused(fault),
+    }
+}
+
+/// Why a change is not taken after which no file would say what there is.
+pub(crate) fn unwritten(fault: SettleFault) -> TakeFault
+    ensures { result ≡ unwritten fault }
+{
+    match fault {
+        SettleFault::OutOfMemory => TakeFault::OutOfMemory,
+        fault => TakeFault::Unwritten(fault),
+    }
+}
+
+/// Why a change is not taken that a disk has not kept.
+pub(crate) fn unkept(fault: DiskFault) -> TakeFault
+    ensures { result ≡ unkept fault }
+{
+    match fault {
+        DiskFault::OutOfMemory => TakeFault::OutOfMemory,
+        fault => TakeFault::Disk(fault),
+    }
+}
+
+/// Why a file is not served that is no inventory.
+pub(crate) fn faulty(fault: InvFault) -> FileFault
+    ensures { result ≡ faulty fault }
+{
+    match fault {
+        InvFault::OutOfMemory => FileFault::OutOfMemory,
+        fault => FileFault::Faulty(fault),
+    }
+}
+
+/// Why a file is not served with whose changes no file would say what there is.
+pub(crate) fn unhanded(fault: SettleFault) -> FileFault
+    ensures { result ≡ unhanded fault }
+{
+    match fault {
+        SettleFault::OutOfMemory => FileFault::OutOfMemory,
+        fault => FileFault::Unwritten(fault),
+    }
+}

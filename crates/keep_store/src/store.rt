@@ -1,0 +1,158 @@
+use crate::book::{Book, read_if};
+use crate::entering::Entered;
+use crate::fault::{FileFault, TakeFault, unkept};
+use crate::records::records_in;
+use crate::secret::Secret;
+use keep_change::{Note, What};
+use keep_disk::{Disk, DiskFault, FILE_MODE, replace};
+use keep_inventory::Inventory;
+use keep_journal::Journal;
+use keep_moment::{Name, Text};
+use keep_settle::SettleFault;
+use std::alloc::{AllocError, Global};
+
+/// A book beside the journal of its changes. It has no `Debug`: a record of the journal may hold a secret.
+#[derive(Drop)]
+pub struct Store<'a> {
+    pub(crate) alloc: Global,
+    pub(crate) journal: Journal<'a>,
+    pub(crate) book: Book,
+}
+
+/// A store at a start.
+#[derive(Drop)]
+pub struct Opened<'a> {
+    /// What is kept.
+    pub store: Store<'a>,
+    /// A note on each change of the journal that was not made, by the place of its record.
+    pub notes: Vec<Note>,
+    /// Why the last good copy is served in place of the file; `None` where the file is.
+    pub fault: Option<FileFault>,
+}
+
+impl<'a> Store<'a> {
+    ghost use Rattle.std.specs.Prelude.{◌≡◌, Ok, IfErr, IfOk, OnErr, OnOk, IsTrue, false, option_copied};
+    ghost use Rattle.std.specs.Str.{bytes_eq};
+    ghost use Rattle.keep_disk.specs.State.{IsAfter, LeavesOnly, Tells};
+    ghost use Rattle.keep_disk.specs.Torn.{Moves};
+    ghost use Rattle.keep_journal.specs.Journals.{Holds, IsThere, IsWhole, KeepsOthers, Leaves};
+    ghost use Rattle.keep_journal.specs.Records.{IsBeforeOrAfter};
+    ghost use Rattle.keep_served.specs.ForGood.{inventory_for_good};
+    ghost use Rattle.keep_store.specs.Books.{HasSecrets, IsBookIf, IsFaultOf};
+    ghost use Rattle.keep_store.specs.Entering.{IsWhyNot, line_for};
+    ghost use Rattle.keep_store.specs.Records.{records_in};
+    ghost use Rattle.keep_store.specs.Stores.{IsReplayed, IsTaken, book_of, journal_of, lines_in, path_in};
+
+    /// What the file says, and what is served.
+    pub fn book(&self) -> &Book
+        ensures { result.now ≡ book_of self.now }
+    {
+        &self.book
+    }
+
+    /// The lines of the journal, in order.
+    pub fn lines(&self) -> &[Text]
+        ensures { result.now ≡ lines_in self.now }
+    {
+        self.journal.records()
+    }
+
+    /// Makes a change of the entry of that name. At `Ok` it is acknowledged: each crash from then on leaves a journal that has it.
+    /// `true` is a need, which the Watch takes by itself; any other change takes a rebuilding.
+    ///
+    /// # Errors
+    ///
+    /// The first in the order of [`TakeFault`]. All is as it was then, but that the disk may have the change where that has failed.
+    pub fn take<D: Disk>(&mut self, disk: &mut D, name: Name, what: What) -> Result<bool, TakeFault>
+        requires held { Holds D.is_known (journal_of self.old) (D.state disk.old) }
+        requires replayed { IsReplayed self.old }
+        ensures taken { IfOk result (λ need. IsTaken self.old name what need self.new) }
+        ensures acknowledged { OnOk result (IsTrue D.is_known → IsWhole (journal_of self.new) (D.state disk.new)) }
+        ensures refused { IfErr result (IsWhyNot (book_of self.old) name what) }
+        ensures book { OnErr result (book_of self.new ≡ book_of self.old) }
+        ensures lines { OnErr result (lines_in self.new ≡ lines_in self.old) }
+        ensures path { OnErr result (path_in self.new ≡ path_in self.old) }
+        ensures held { Holds D.is_known (journal_of self.new) (D.state disk.new) }
+        ensures replayed { IsReplayed self.new }
+
+        // A crash at any moment leaves the journal with the change or without it.
+        ensures any_moment { IsTrue D.is_known → LeavesOnly (D.state disk.old) (D.state disk.new)
+            (Leaves (path_in self.old) (IsBeforeOrAfter (lines_in self.old) (line_for (book_of self.old).file name what)) (D.state disk.old)) }
+        ensures others { IsTrue D.is_known → KeepsOthers (path_in self.old) (D.state disk.old) (D.state disk.new) }
+    {
+        let entered = self.book.enter(self.alloc, name, what)?;
+        let Entered {
+            line,
+            rows,
+            text,
+            is_need,
+        } = entered;
+        match self.journal.put(disk, line) {
+            Ok(()) => {
+                self.book.turn(rows, text);
+                Ok(is_need)
+            }
+            Err(fault) => Err(unkept(fault)),
+        }
+    }
+
+    /// Serves what a file with these bytes says from now on, with every change of the journal in order; a note on each of them that was
+    /// not made, by the place of its record. Where the file is refused, all is as it was.
+    ///
+    /// # Errors
+    ///
+    /// The fault of the file, or `OutOfMemory`.
+    #[tactic(auto, using(crate::proofs::Starting::no_memory, crate::proofs::Starting::rows_if))]
+    pub fn reload(&mut self, bytes: Option<&[u8]>) -> Result<Vec<Note>, FileFault>
+        requires replayed { IsReplayed self.old }
+        ensures reloaded { IfOk result (λ notes. IsBookIf (option_copied bytes.entry) (records_in (lines_in self.old)) (book_of self.old).secrets (book_of self.new) notes.items) }
+        ensures refused { IfErr result (IsFaultOf (option_copied bytes.entry)) }
+        ensures unchanged { OnErr result (book_of self.new ≡ book_of self.old) }
+        ensures journal { journal_of self.new ≡ journal_of self.old }
+        ensures replayed { IsReplayed self.new }
+    {
+        let records = records_in(self.alloc, self.journal.records())?;
+        let (book, notes) = read_if(self.alloc, bytes, &records, &self.book.secrets)?;
+        self.book = book;
+        Ok(notes)
+    }
+
+    /// Has from now on what these files of secrets have given. Where that cannot be handed on, as where two entries of a kind would have
+    /// one credential, all is as it was.
+    pub fn take_secrets(&mut self, secrets: Vec<Secret>) -> Result<(), SettleFault>
+        requires replayed { IsReplayed self.old }
+        ensures taken { OnOk result (HasSecrets (book_of self.old) secrets.items (book_of self.new)) }
+        ensures unchanged { OnErr result (book_of self.new ≡ book_of self.old) }
+        ensures journal { journal_of self.new ≡ journal_of self.old }
+        ensures replayed { IsReplayed self.new }
+    {
+        self.book.take_secrets(self.alloc, secrets)
+    }
+
+    /// Makes these bytes, which are those of a good file, the last good copy, at a path that is not the journal's.
+    pub fn keep_copy<D: Disk>(
+        &self,
+        disk: &mut D,
+        copy: &str,
+        bytes: &[u8],
+    ) -> Result<(), DiskFault>
+        requires apart { bytes_eq (path_in self.now) copy.now ≡ false }
+        requires held { Holds D.is_known (journal_of self.now) (D.state disk.old) }
+        ensures there { OnOk result (IsTrue D.is_known → IsThere copy.now (record { mode = FILE_MODE; bytes = bytes.now }) (D.state disk.new)) }
+        ensures held { Holds D.is_known (journal_of self.now) (D.state disk.new) }
+
+        // A crash at any moment leaves the old copy, or the new one whole; and so does a fault.
+        ensures any_moment { IsTrue D.is_known → LeavesOnly (D.state disk.old) (D.state disk.new)
+            (IsAfter (Moves copy.now (record { mode = FILE_MODE; bytes = bytes.now })) (D.state disk.old)) }
+        ensures cause { Tells (D.state disk.old) (D.state disk.new) result }
+    {
+        replace(disk, copy, FILE_MODE, bytes)
+    }
+
+    /// The inventory that is to be served. The only error is want of memory.
+    pub fn inventory(&self) -> Result<Inventory, AllocError>
+        ensures { IfOk result (λ inventory. inventory_for_good (book_of self.now).text ≡ Ok inventory) }
+    {
+        self.book.inventory(self.alloc)
+    }
+}

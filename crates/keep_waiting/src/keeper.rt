@@ -1,0 +1,131 @@
+use keep_agent::Waiting;
+use keep_change::{Note, What};
+use keep_disk::Disk;
+use keep_inventory::Inventory;
+use keep_moment::Name;
+use keep_settle::SettleFault;
+use keep_store::{FileFault, Secret, Store, TakeFault};
+use std::alloc::AllocError;
+use watch_machine::Millis;
+
+/// A store, and when the first of the changes came that wait for a rebuilding. Readings are of the clock that never steps, in
+/// milliseconds.
+#[derive(Drop)]
+pub struct Keeper<'a> {
+    store: Store<'a>,
+    waiting: Waiting,
+}
+
+impl<'a> Keeper<'a> {
+    ghost use Rattle.std.specs.Prelude.{◌≡◌, IfErr, IfOk, IsTrue, None, Ok, OnErr, OnOk, false, if◌then◌else◌, option_copied};
+    ghost use Rattle.keep_agent.specs.Waiting.{changed, is_due};
+    ghost use Rattle.keep_disk.specs.State.{LeavesOnly};
+    ghost use Rattle.keep_journal.specs.Journals.{Holds, IsWhole, KeepsOthers, Leaves};
+    ghost use Rattle.keep_journal.specs.Records.{IsBeforeOrAfter};
+    ghost use Rattle.keep_store.specs.Books.{HasSecrets, IsBookIf, IsFaultOf};
+    ghost use Rattle.keep_store.specs.Entering.{IsWhyNot, line_for};
+    ghost use Rattle.keep_waiting.specs.Keepers.{IsGiven, store_of, waiting_in};
+    ghost use Rattle.keep_store.specs.Records.{records_in};
+    ghost use Rattle.keep_store.specs.Stores.{IsReplayed, IsTaken, book_of, journal_of, lines_in, path_in};
+
+    /// A store of which no change waits.
+    pub fn new(store: Store<'a>) -> Keeper<'a>
+        ensures store { store_of result ≡ store.entry }
+        ensures waiting { waiting_in result ≡ None }
+    {
+        Keeper {
+            store,
+            waiting: Waiting::none(),
+        }
+    }
+
+    /// The store.
+    pub fn store(&self) -> &Store<'a>
+        ensures { result.now ≡ store_of self.now }
+    {
+        &self.store
+    }
+
+    /// Makes a change, as [`Store::take`] does. `true` is a need, which is for the Watch at once; any other change waits for a
+    /// rebuilding from now on.
+    pub fn take<D: Disk>(
+        &mut self,
+        disk: &mut D,
+        now: Millis,
+        name: Name,
+        what: What,
+    ) -> Result<bool, TakeFault>
+        requires held { Holds D.is_known (journal_of (store_of self.old)) (D.state disk.old) }
+        requires replayed { IsReplayed (store_of self.old) }
+        ensures taken { IfOk result (λ need. IsTaken (store_of self.old) name what need (store_of self.new)) }
+        ensures waiting { IfOk result (λ need. waiting_in self.new ≡ (if need then waiting_in self.old else changed (waiting_in self.old) now)) }
+        ensures acknowledged { OnOk result (IsTrue D.is_known → IsWhole (journal_of (store_of self.new)) (D.state disk.new)) }
+        ensures refused { IfErr result (IsWhyNot (book_of (store_of self.old)) name what) }
+        ensures book { OnErr result (book_of (store_of self.new) ≡ book_of (store_of self.old)) }
+        ensures lines { OnErr result (lines_in (store_of self.new) ≡ lines_in (store_of self.old)) }
+        ensures path { OnErr result (path_in (store_of self.new) ≡ path_in (store_of self.old)) }
+        ensures unchanged { OnErr result (waiting_in self.new ≡ waiting_in self.old) }
+        ensures held { Holds D.is_known (journal_of (store_of self.new)) (D.state disk.new) }
+        ensures replayed { IsReplayed (store_of self.new) }
+        ensures any_moment { IsTrue D.is_known → LeavesOnly (D.state disk.old) (D.state disk.new)
+            (Leaves (path_in (store_of self.old)) (IsBeforeOrAfter (lines_in (store_of self.old)) (line_for (book_of (store_of self.old)).file name what)) (D.state disk.old)) }
+        ensures others { IsTrue D.is_known → KeepsOthers (path_in (store_of self.old)) (D.state disk.old) (D.state disk.new) }
+    {
+        let is_need = self.store.take(disk, name, what)?;
+        if !is_need {
+            self.waiting = self.waiting.changed(now);
+        }
+        Ok(is_need)
+    }
+
+    /// Serves what a file says from now on, as [`Store::reload`] does; that waits for a rebuilding from now on.
+    pub fn reload(&mut self, now: Millis, bytes: Option<&[u8]>) -> Result<Vec<Note>, FileFault>
+        requires { IsReplayed (store_of self.old) }
+        ensures reloaded { IfOk result (λ notes. IsBookIf (option_copied bytes.entry) (records_in (lines_in (store_of self.old))) (book_of (store_of self.old)).secrets (book_of (store_of self.new)) notes.items) }
+        ensures waiting { OnOk result (waiting_in self.new ≡ changed (waiting_in self.old) now) }
+        ensures refused { IfErr result (IsFaultOf (option_copied bytes.entry)) }
+        ensures book { OnErr result (book_of (store_of self.new) ≡ book_of (store_of self.old)) }
+        ensures unchanged { OnErr result (waiting_in self.new ≡ waiting_in self.old) }
+        ensures journal { journal_of (store_of self.new) ≡ journal_of (store_of self.old) }
+        ensures replayed { IsReplayed (store_of self.new) }
+    {
+        let notes = self.store.reload(bytes)?;
+        self.waiting = self.waiting.changed(now);
+        Ok(notes)
+    }
+
+    /// Has what files of secrets have given from now on, as [`Store::take_secrets`] does; that waits for a rebuilding from now on.
+    pub fn take_secrets(&mut self, now: Millis, secrets: Vec<Secret>) -> Result<(), SettleFault>
+        requires { IsReplayed (store_of self.old) }
+        ensures taken { OnOk result (HasSecrets (book_of (store_of self.old)) secrets.items (book_of (store_of self.new))) }
+        ensures waiting { OnOk result (waiting_in self.new ≡ changed (waiting_in self.old) now) }
+        ensures book { OnErr result (book_of (store_of self.new) ≡ book_of (store_of self.old)) }
+        ensures unchanged { OnErr result (waiting_in self.new ≡ waiting_in self.old) }
+        ensures journal { journal_of (store_of self.new) ≡ journal_of (store_of self.old) }
+        ensures replayed { IsReplayed (store_of self.new) }
+    {
+        self.store.take_secrets(secrets)?;
+        self.waiting = self.waiting.changed(now);
+        Ok(())
+    }
+
+    /// The inventory that is to be served from now on, where a rebuilding is due: the first of the changes that wait for it came five
+    /// seconds ago. The only error is want of memory, and only there.
+    pub fn due(&self, now: Millis) -> Result<Option<Inventory>, AllocError>
+        ensures given { IfOk result (IsGiven (waiting_in self.now) now (book_of (store_of self.now)).text) }
+        ensures early { is_due (waiting_in self.now) now ≡ false → result ≡ Ok None }
+    {
+        if !self.waiting.is_due(now) {
+            return Ok(None);
+        }
+        Ok(Some(self.store.inventory()?))
+    }
+
+    /// The rebuilding was made: no change waits for it any more.
+    pub fn rebuilt(&mut self)
+        ensures waiting { waiting_in self.new ≡ None }
+        ensures store { store_of self.new ≡ store_of self.old }
+    {
+        self.waiting = Waiting::none();
+    }
+}
