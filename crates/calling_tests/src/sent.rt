@@ -1,0 +1,102 @@
+//! What is sent: the one line of each command.
+use crate::play::play_well;
+use keep_calling::{Ask, Ended};
+use std::process::Abort;
+use std::test::Fail;
+
+const WEB: Ask<'static> = Ask::Replace { name: "web" };
+
+/// What is asked, what standard input holds, the line that is sent, and how often standard input is read.
+const LINES: [(Ask<'static>, &str, &str, u64); 14] = [
+    (
+        Ask::Need {
+            name: "web",
+            when: "+6h",
+        },
+        "unread",
+        "[\"need\",\"web\",\"+6h\"]\n",
+        0,
+    ),
+    (
+        Ask::Need {
+            name: "a/b.c_d-e",
+            when: "2026-11-22T09:00:00Z",
+        },
+        "",
+        "[\"need\",\"a/b.c_d-e\",\"2026-11-22T09:00:00Z\"]\n",
+        0,
+    ),
+    (
+        Ask::Need {
+            name: "web",
+            when: "always",
+        },
+        "",
+        "[\"need\",\"web\",\"always\"]\n",
+        0,
+    ),
+    (
+        Ask::Need {
+            name: "web",
+            when: "1764000000",
+        },
+        "",
+        "[\"need\",\"web\",\"1764000000\"]\n",
+        0,
+    ),
+    (WEB, "s.1", "[\"replace\",\"web\",\"s.1\"]\n", 2),
+    (WEB, "s.1\n", "[\"replace\",\"web\",\"s.1\"]\n", 2),
+    (
+        WEB,
+        " \t\r\ns.1 \r\n\n",
+        "[\"replace\",\"web\",\"s.1\"]\n",
+        2,
+    ),
+    (WEB, "a\"b\\c", "[\"replace\",\"web\",\"a\\\"b\\\\c\"]\n", 2),
+    (
+        Ask::Add,
+        "[[token]]\nname = \"w\"\n",
+        "[\"add\",\"[[token]]\\nname = \\\"w\\\"\\n\"]\n",
+        2,
+    ),
+    (
+        Ask::Drop { name: "web" },
+        "unread",
+        "[\"drop\",\"web\"]\n",
+        0,
+    ),
+    (Ask::Status, "unread", "[\"status\"]\n", 0),
+    (Ask::Health, "unread", "[\"health\"]\n", 0),
+    (Ask::Settle, "unread", "[\"settle\"]\n", 0),
+    (Ask::Reload, "unread", "[\"reload\"]\n", 0),
+];
+
+#[test]
+fn lines(rt: HostRuntime) -> Result<(), Fail> {
+    for (ask, input, line, reads) in &LINES {
+        let played = play_well(rt.alloc(), *ask, input, "ok\ndone\n")?;
+        assert!(rt; played.sent() == line.as_bytes(), "{line}");
+        assert!(rt; played.reads() == *reads, "of {line}");
+    }
+    Ok(())
+}
+
+/// The greatest line that an agent reads is sent, and one byte more is not. (The words take 9 bytes around the table.)
+#[test]
+fn the_longest_line(rt: HostRuntime) -> Result<(), Fail> {
+    let alloc = rt.alloc();
+    let mut table = String::new(alloc);
+    for _ in 0..65_526u32 {
+        table.push('x')?;
+    }
+    let longest = play_well(alloc, Ask::Add, table.as_str(), "ok\n")?;
+    assert!(rt; longest.sent().len() == 65_537 && longest.ended == Ended::Done);
+    table.push('x')?;
+    let longer = play_well(alloc, Ask::Add, table.as_str(), "ok\n")?;
+    assert!(rt; longer.sent().is_empty() && longer.ended == Ended::Refused);
+    assert!(rt;
+        longer.told()
+            == b"leasekeep: add: a request is one line of at most 65536 bytes\n".as_slice()
+    );
+    Ok(())
+}

@@ -1,0 +1,67 @@
+-- Asking: the words that a call sends to a running agent, and the line that they make.
+-- Source: this project's own; what a line asks for is keep_control's, and JSON is that of RFC 8259.
+use Rattle.std.specs.Prelude.{ℕ, ◌-◌, List, [], ◌∷◌, ◌++◌, Bool, true, false, Result, Ok, codes, drop, length, take}
+use Rattle.std.specs.Char.{is_ascii_whitespace}
+use Rattle.std.specs.List.{prefix_len, suffix_len}
+use Rattle.std.specs.Str.{is_utf8}
+use Rattle.serde_json.specs.Data.{Data}
+use Rattle.serde_json.specs.Written.{compact_text}
+use Rattle.keep_control.specs.Answer.{◌>>=◌}
+use Rattle.keep_control.specs.Requests.{request_of}
+use Rattle.keep_control.specs.Words.{texted}
+use Rattle.keep_control.specs.declared.fault.RequestFault.{RequestFault}
+use Rattle.keep_calling.specs.declared.ask.Ask.{Ask}
+use Rattle.keep_calling.specs.declared.ask.Ask.TheVariants.{Need, Replace, Add, Drop, Status, Health, Settle, Reload}
+
+abbrev pub command_word : Ask → List ℕ
+command_word (Need name when) = codes "need"
+command_word (Replace name) = codes "replace"
+command_word Add = codes "add"
+command_word (Drop name) = codes "drop"
+command_word Status = codes "status"
+command_word Health = codes "health"
+command_word Settle = codes "settle"
+command_word Reload = codes "reload"
+
+-- whether it takes what standard input holds
+abbrev pub takes_input : Ask → Bool
+takes_input (Replace name) = true
+takes_input Add = true
+takes_input _ = false
+
+abbrev pub is_health : Ask → Bool
+is_health Health = true
+is_health _ = false
+
+-- a text without the ASCII white space around it
+abbrev pub stripped : List ℕ → List ℕ
+stripped text = let rest = drop (prefix_len is_ascii_whitespace text) text in take (length rest - suffix_len is_ascii_whitespace rest) rest
+
+-- its words: those of the command line, and what standard input held
+abbrev pub words_for : Ask → List ℕ → List (List ℕ)
+words_for (Need name when) input = codes "need" ∷ name.now ∷ when.now ∷ []
+words_for (Replace name) input = codes "replace" ∷ name.now ∷ stripped input ∷ []
+words_for Add input = codes "add" ∷ input ∷ []
+words_for (Drop name) input = codes "drop" ∷ name.now ∷ []
+words_for Status input = codes "status" ∷ []
+words_for Health input = codes "health" ∷ []
+words_for Settle input = codes "settle" ∷ []
+words_for Reload input = codes "reload" ∷ []
+
+-- what it takes of standard input is text, which JSON can write
+abbrev pub is_text : Ask → List ℕ → Bool
+is_text (Replace name) input = is_utf8 (stripped input)
+is_text Add input = is_utf8 input
+is_text _ input = true
+
+-- the array of its words
+unfoldable pub tree_for : Ask → List ℕ → Result Data RequestFault
+tree_for ask input = texted (is_text ask input) (words_for ask input)
+
+-- its words as a line of JSON
+unfoldable pub words_line : Ask → List ℕ → Result (List ℕ) RequestFault
+words_line ask input = tree_for ask input >>= (λ d. Ok (compact_text d))
+
+-- the line that it sends, with its line feed, where an agent reads a request in it; else why it does not
+unfoldable pub line_for : Ask → List ℕ → Result (List ℕ) RequestFault
+line_for ask input = words_line ask input >>= (λ line. request_of line >>= (λ request. Ok (line ++ 10 ∷ [])))

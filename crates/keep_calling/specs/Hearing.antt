@@ -1,0 +1,62 @@
+-- Hearing: what is sent over a connection, and what is made of the bytes that come.
+-- Source: this project's own; what an answer is is keep_control's.
+use Rattle.std.specs.Prelude.{◌≡◌, ◌⊎◌, ℕ, IsTrue, List, [], ◌∷◌, Option, Some, None, Result, Ok, Err}
+use Rattle.keep_device.specs.Failures.{HasFailed}
+use Rattle.keep_device.specs.Seen.{Change, ReceivesFront}
+use Rattle.keep_device.specs.declared.fault.InputFault.{InputFault}
+use Rattle.keep_device.specs.declared.fault.InputFault.TheVariants as inputs
+use Rattle.keep_device.specs.declared.fault.SinkFault.{SinkFault}
+use Rattle.keep_device.specs.declared.fault.SinkFault.TheVariants as sink
+use Rattle.keep_control.specs.Replies.{reply_of}
+use Rattle.keep_control.specs.declared.reply.Reply.{Reply}
+use Rattle.keep_report.specs.Sent.{IsAll}
+use Rattle.keep_calling.specs.Requesting.{Reads}
+use Rattle.keep_calling.specs.declared.fault.CallFault.{CallFault}
+use Rattle.keep_calling.specs.declared.fault.CallFault.TheVariants as faults
+use Rattle.keep_calling.specs.declared.limits.TheConstants.{ANSWER_MAX}
+
+-- ---- sending
+
+abbrev pub fault_of_write : SinkFault → CallFault
+fault_of_write sink.Failed = faults.NotSent
+fault_of_write sink.OutOfMemory = faults.Memory
+
+-- the request was sent whole, and nothing else; or the connection gave up after a front of it; nothing was read
+abbrev pub Sent : Result (Unit {0}) SinkFault → List ℕ → Change → Type 0
+Sent (Ok u) request line = IsAll request line × (line.new.input ≡ line.old.input) × (line.new.failed_calls ≡ line.old.failed_calls)
+Sent (Err sink.Failed) request line = ReceivesFront request line × (line.new.input ≡ line.old.input) × HasFailed line.old.failed_calls line.new.failed_calls
+Sent (Err sink.OutOfMemory) request line = ReceivesFront request line × (line.new.input ≡ line.old.input) × IsTrue line.is_in_memory
+
+-- ---- the answer
+
+abbrev pub fault_of_read : InputFault → CallFault
+fault_of_read inputs.ReadFailed = faults.NoAnswer
+fault_of_read inputs.TooLong = faults.LongAnswer
+fault_of_read inputs.OutOfMemory = faults.Memory
+
+abbrev pub or_cut : Option Reply → Result Reply CallFault
+or_cut None = Err faults.CutAnswer
+or_cut (Some reply) = Ok reply
+
+-- the answer that all bytes are which came
+abbrev pub heard_of : List ℕ → Result Reply CallFault
+heard_of [] = Err faults.NoAnswer
+heard_of (byte ∷ bytes) = or_cut (reply_of (byte ∷ bytes))
+
+abbrev pub heard_in : Result (List ℕ) InputFault → Result Reply CallFault
+heard_in (Ok bytes) = heard_of bytes
+heard_in (Err fault) = Err (fault_of_read fault)
+
+-- the connection was read to its end, and this is the answer, unless memory was refused
+abbrev pub Listens : Result Reply CallFault → Change → Type 0
+Listens heard line = (came : Result (List ℕ) InputFault) × (Reads ANSWER_MAX came line × ((heard_in came ≡ heard) ⊎ (heard ≡ Err faults.Memory)))
+
+-- ---- both
+
+-- the request was not sent whole, and nothing was read
+abbrev pub IsUnsent : List ℕ → Result Reply CallFault → Change → Type 0
+IsUnsent request heard line = (fault : SinkFault) × ((heard ≡ Err (fault_of_write fault)) × Sent (Err fault) request line)
+
+-- the request was not sent whole; or it was, and then the answer was read
+abbrev pub Hears : List ℕ → Result Reply CallFault → Change → Type 0
+Hears request heard line = IsUnsent request heard line ⊎ (IsAll request line × Listens heard line)

@@ -1,0 +1,35 @@
+-- Lines: what a call says to people when it fails.
+-- Source: this project's own.
+use Rattle.std.specs.Prelude.{◌≡◌, ℕ, List, [], ◌∷◌, ◌++◌, Option, Some, None, codes}
+use Rattle.keep_device.specs.Seen.{Change}
+use Rattle.keep_report.specs.FaultLine.{fault_line}
+use Rattle.keep_report.specs.Told.{Reports}
+use Rattle.keep_report.specs.declared.stop.Stop.TheVariants as stops
+use Rattle.keep_calling.specs.Asking.{command_word}
+use Rattle.keep_calling.specs.declared.call.Call.{Call}
+use Rattle.keep_calling.specs.declared.ended.Ended.{Ended}
+use Rattle.keep_calling.specs.declared.ended.Ended.TheVariants as endings
+
+abbrev pub before_colon : List ℕ → List ℕ
+before_colon text = text ++ codes ": "
+
+-- the program and the command
+unfoldable pub call_front : Call → List ℕ
+call_front call = before_colon call.program.now ++ before_colon (command_word call.ask)
+
+-- the socket and what is said of it
+unfoldable pub socket_rest : List ℕ → List ℕ → List ℕ
+socket_rest socket words = before_colon socket ++ (words ++ 10 ∷ [])
+
+-- `PROGRAM: COMMAND: WHY`
+unfoldable pub call_line : Call → List ℕ → List ℕ
+call_line call words = call_front call ++ (words ++ 10 ∷ [])
+
+-- `PROGRAM: COMMAND: SOCKET: WHY`
+unfoldable pub socket_line : Call → List ℕ → List ℕ
+socket_line call words = call_front call ++ socket_rest call.socket.now words
+
+-- what went wrong at the socket is told; where that was memory, it is told as leasekeep tells it
+abbrev pub TellsOf : Call → Option (List ℕ) → Ended → Change → Type 0
+TellsOf call None ended errors = (ended ≡ endings.Memory) × Reports (fault_line call.program.now stops.Memory) errors
+TellsOf call (Some words) ended errors = (ended ≡ endings.Refused) × Reports (socket_line call words) errors

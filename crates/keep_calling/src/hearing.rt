@@ -1,0 +1,69 @@
+ghost use Rattle.std.specs.Prelude.{◌≡◌, ◌⊎◌, IfOk, MatchResult, Ok, Err, Some};
+ghost use Rattle.keep_control.specs.Replies.{reply_of};
+ghost use Rattle.keep_calling.specs.Hearing.{Hears, Listens, Sent, heard_of};
+ghost use Rattle.keep_calling.specs.declared.fault.CallFault.TheVariants.{Memory};
+
+use crate::fault::CallFault;
+use crate::limits::ANSWER_MAX;
+use keep_control::{Reply, read_reply};
+use keep_device::{Sink, SinkFault, Source, Watched, read_all, write_all};
+use keep_moment::Text;
+use std::alloc::Global;
+
+/// What an agent answered: the bytes that came, and the reply that they are.
+#[derive(Drop)]
+pub(crate) struct Heard {
+    pub(crate) text: Text,
+    pub(crate) reply: Reply,
+}
+
+/// Sends a request, once, and reads the answer to its end.
+pub(crate) fn hear<L: Source + Sink>(
+    alloc: Global,
+    request: &[u8],
+    line: &mut L,
+) -> Result<Heard, CallFault>
+    ensures heard { MatchResult result
+        (λ h. Hears request.now (Ok h.reply) (⟦<L as Watched>⟧.change line.old line.new))
+        (λ fault. Hears request.now (Err fault) (⟦<L as Watched>⟧.change line.old line.new)) }
+    ensures text { IfOk result (λ h. reply_of h.text ≡ Some h.reply) }
+{
+    give(request, line)?;
+    listen(alloc, line)
+}
+
+// Sends it.
+fn give<L: Source + Sink>(request: &[u8], line: &mut L) -> Result<(), SinkFault>
+    ensures { Sent result request.now (⟦<L as Watched>⟧.change line.old line.new) }
+{
+    write_all(line, request)?;
+    line.flush()
+}
+
+// Reads the answer.
+fn listen<L: Source + Sink>(alloc: Global, line: &mut L) -> Result<Heard, CallFault>
+    ensures heard { MatchResult result
+        (λ h. Listens (Ok h.reply) (⟦<L as Watched>⟧.change line.old line.new))
+        (λ fault. Listens (Err fault) (⟦<L as Watched>⟧.change line.old line.new)) }
+    ensures text { IfOk result (λ h. reply_of h.text ≡ Some h.reply) }
+    ensures output { (L.seen line.new).output ≡ (L.seen line.old).output }
+{
+    let text = read_all(alloc, line, ANSWER_MAX)?;
+    reply_in(alloc, text)
+}
+
+// The reply that the bytes are which came.
+fn reply_in(alloc: Global, text: Text) -> Result<Heard, CallFault>
+    ensures heard { MatchResult result
+        (λ h. heard_of text ≡ Ok h.reply)
+        (λ fault. (heard_of text ≡ Err fault) ⊎ (fault ≡ Memory)) }
+    ensures text { IfOk result (λ h. reply_of h.text ≡ Some h.reply) }
+{
+    if text.list().is_empty() {
+        return Err(CallFault::NoAnswer);
+    }
+    match read_reply(alloc, text.list())? {
+        Some(reply) => Ok(Heard { text, reply }),
+        None => Err(CallFault::CutAnswer),
+    }
+}
