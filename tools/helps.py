@@ -25,8 +25,11 @@ class Option:
 
     @property
     def choices(self) -> list[str]:
-        """The values that the help lists; none where it lists none."""
-        return self.value[1:-1].split(",") if self.value.startswith("{") else []
+        """The values that the help lists, of argparse or of clap; none where it lists none."""
+        if self.value.startswith("{"):
+            return self.value[1:-1].split(",")
+        listed = re.search(r"\[possible values: ([^]]*)\]", self.help)
+        return listed[1].split(", ") if listed else []
 
 
 @dataclass(frozen=True)

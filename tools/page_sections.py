@@ -36,7 +36,20 @@ SECTIONS: dict[str, list[tuple[str, list[tuple[str, str]]]]] = {
             ("NOTIFY_SOCKET, WATCHDOG_USEC", "systemd's, for sd_notify and the watchdog"),
         ]),
     ],
-    "leasekeep": [("FILES", [_DOCUMENTS, _EXAMPLES])],
+    "leasekeep": [
+        ("FILES", [
+            ("/run/leasekeep/control.sock", "the control socket of a running agent (mode 0660), for the commands from need to reload"),
+            _DOCUMENTS, _EXAMPLES,
+        ]),
+        ("ENVIRONMENT", [
+            ("RUNTIME_DIRECTORY, XDG_RUNTIME_DIR", "the folders of systemd and of a user in which these commands look for control.sock, where "
+             "--control is not given"),
+        ]),
+        ("SIGNALS", [
+            ("SIGTERM, SIGINT, SIGHUP", "serve ends at once. What it keeps lives on until its end. (It does not read FILE again: start it "
+             "anew after a change)"),
+        ]),
+    ],
     "leasekeep-draw": [("FILES", [_DOCUMENTS, _EXAMPLES])],
     "minibroker": [("FILES", [_DOCUMENTS, _EXAMPLES])],
 }

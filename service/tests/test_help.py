@@ -115,10 +115,14 @@ class Help(unittest.TestCase):
 
     def test_commands_of_clap(self) -> None:
         made = written("leasekeep")
-        for command in ("ends", "plan", "reach", "check", "rehearse", "run"):
+        for command in ("ends", "plan", "margin", "reach", "check", "rehearse", "run", "watch", "serve"):
             self.assertIn(f'.SS "{command}"', made[""])
             self.assertRegex(made["bash"], rf"compgen -W '[^']*\b{command}\b")
         self.assertRegex(made[""], r"\\fB\\-\\-timeout\\fR \\fISECONDS\\fR")
+        self.assertIn(r"SIGTERM, SIGINT, SIGHUP", made[""].partition("SIGNALS")[2])
+        self.assertIn("compgen -W 'text json'", made["bash"])
+        self.assertIn("(text json)", made["zsh"])
+        self.assertRegex(made["fish"], r"-l log .*text json")
         self.assertNotIn('.SS "help"', made[""])
 
     def completed(self, shell: str, *words: str) -> list[str]:

@@ -1,5 +1,5 @@
-"""`lint` and `leasekeep` judge alike: random inventories with mistakes are refused by both or by neither, and what leasekeep names
-first is among what lint names."""
+"""`lint` and `leasekeep` judge alike: random inventories with mistakes, and such inventories with random changes of their bytes, are
+refused by both or by neither, and what leasekeep names first is among what lint names. CASES and SEED are how many, and which."""
 
 from __future__ import annotations
 
@@ -37,6 +37,25 @@ WHOLE = (f"token = [{{{TERMS},}}]\n", f"token = [{{\n{TERMS}\n, # a\n}},\n]\n", 
          f"token = {{{TERMS}}}\n", "token = [{}]\n", "lease = [\n]\n", '[[token]]\nname = "\\x61\\e"\n', '[[token]]\nname = "\\x6"\n',
          f'token = [{{{TERMS}, secret = "\\x41\\u0042", }}]\n', "[[token]]\n" + TERMS.replace(", ", "\n").replace('"a"', '"\\x61"') + "\n")
 """Documents of TOML 1.1, and what is nearly one."""
+
+
+PIECES = (b'"', b"'", b'"""', b"'''", b"\n", b"\r\n", b"\r", b"\t", b" ", b"#", b"=", b".", b",", b"[", b"]", b"[[", b"]]", b"{", b"}", b"\\", b"\\u00e9",
+          b"\\U0001F511", b"\\ud800", b"\\x00", b"\\e", b"\x00", b"\x1f", b"\x7f", b"\x85", b"\xc3\xa9", b"\xc3", b"\xef\xbb\xbf", b"0x10", b"0o17",
+          b"0b11", b"1_000", b"1__0", b"_1", b"00", b"-0", b"+1", b"1e3", b".5", b"5.", b"inf", b"-nan", b"true", b"False", b"07:32:00", b"07:32",
+          b"1979-05-27", b"1979-05-27 07:32:00Z", b"1979-05-27T07:32:00+24:00", b"9223372036854775807", b"9223372036854775808",
+          b"18446744073709551616", b"\nmargin = 5\n", b"\n[token]\n", b"\n[a.b]\n", b'\n"need" = 1\n', b"\nname.x = 1\n", b"\n[[token.x]]\n",
+          b"\n[[lease]]\n", b"\nneed = 1 # a\n", b"\nneed = 1 need = 2\n", b"max_ttl", b"name", b"= \"a\"")
+"""What is put into a text: what TOML has a meaning for, or nearly."""
+
+
+def mutated(chance: random.Random, text: bytes) -> bytes:
+    """The text with a few changes."""
+    for _ in range(chance.choice((1, 1, 1, 2, 3))):
+        at = chance.randint(0, len(text))
+        taken = chance.choice((0, 0, 1, 1, 2, 8, 30))
+        put = chance.choice((b"", chance.choice(PIECES), chance.choice(PIECES), bytes([chance.randrange(256)]), text[at:at + chance.randrange(40)] * 2))
+        text = text[:at] + put + text[at + taken:]
+    return text
 
 
 def a_table(chance: random.Random, kind: str, name: str, tokens: str) -> str:
@@ -81,6 +100,23 @@ def an_inventory(chance: random.Random) -> str:
     return text
 
 
+def faults(text: bytes) -> list[Finding]:
+    """What lint refuses as `leasekeep` does."""
+    return [one for one in lint(text, 0o600, 1, NOW, True, STRICT) if one.severity is Severity.FAULT and not of_serving(one)]
+
+
+def a_text(chance: random.Random) -> bytes:
+    """An inventory with mistakes, or one with few or none whose bytes are changed."""
+    text = an_inventory(chance).encode()
+    if chance.random() < 0.5:
+        return text
+    for _ in range(4):
+        if not faults(text):
+            break
+        text = an_inventory(chance).encode()
+    return mutated(chance, text)
+
+
 def named(key: str, found: list[Finding]) -> bool:
     """Whether a fault is about that key, or about a slip that was meant to be it."""
     return any(fault.key == key or f"did you mean {key}?" in fault.mend or f"write {key}," in fault.mend for fault in found)
@@ -104,15 +140,15 @@ class Agreement(unittest.TestCase):
                     for terms in ("issued = 1000\nend = 2000\n", "", "issued = 1000\n", "end = 2000\n", "issued = 0\nend = 0\n")]
             rare += WHOLE
             for case in range(CASES):
-                text = rare[case] if case < len(rare) else an_inventory(chance)
-                file.write_text(text, "utf-8")
+                text = rare[case].encode() if case < len(rare) else a_text(chance)
+                file.write_bytes(text)
                 ran = subprocess.run([program, "ends", str(file), "0"], capture_output=True, text=True, timeout=120 * SLOWER)
-                found = [one for one in lint(text.encode(), 0o600, 1, NOW, True, STRICT) if one.severity is Severity.FAULT and not of_serving(one)]
+                found = faults(text)
                 said = [one.text("f") for one in found]
-                self.assertEqual(ran.returncode == 1, bool(found), f"case {case}: {ran.stderr}{said}\n{text}")
+                self.assertEqual(ran.returncode == 1, bool(found), f"case {case}: {ran.stderr}{said}\n{text!r}")
                 words = ran.stderr.partition("\n")[0].split()
                 if "bad-value" in words or "missing-key" in words:
-                    self.assertTrue(named(words[-1], found), f"case {case}: {ran.stderr}{said}\n{text}")
+                    self.assertTrue(named(words[-1], found), f"case {case}: {ran.stderr}{said}\n{text!r}")
                 refused += ran.returncode == 1
         if CASES >= 100:
             self.assertGreater(refused, CASES // 4)

@@ -1,15 +1,20 @@
 //! `leasekeep`: keeps Vault tokens and leases alive with the fewest wake-ups. The program over `keep_engine` and
-//! `keep_watching`: words, files, standard streams and the exit status.
+//! `watch_lines`, of the agent over `keep_house`, and of its commands over `keep_calling`: words, files, standard streams and the exit status.
 #![tactic(auto)]
 
 use std::process::ExitCode;
 
+mod apart;
+mod call_commands;
+mod calling;
 mod commands;
 mod live;
 mod parser;
+mod serve;
+mod sockets;
 mod watch;
 mod words;
 
 fn main(rt: HostRuntime) -> ExitCode {
-    ExitCode::from(commands::run(&rt, rt.stdin(), rt.stderr()).code())
+    ExitCode::from(commands::run(&rt, rt.stdin(), rt.stdout(), rt.stderr()))
 }

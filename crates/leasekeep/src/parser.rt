@@ -1,3 +1,4 @@
+use crate::call_commands::with_calls;
 use clap::error::ErrorKind;
 use clap::{Arg, ArgAction, ArgMatches, Command, Error};
 use keep_engine::LIMIT;
@@ -160,19 +161,47 @@ Example (lines that begin with > are typed):
 
 Exit status: 0 the lines have ended, 1 inventory, 2 command line, 6 read, write or a malformed line, 7 memory";
 
+const SERVE_ABOUT: &str =
+    "Keeps the entries alive against a broker, by itself: the agent, with its log on standard output";
+
+const SERVE_AFTER: &str = "\
+It reads the clocks, sleeps, looks the entries up and renews them until it is ended; SIGTERM, SIGINT and SIGHUP end it, and the
+entries then live until their ends. The inventory needs a margin of at least four times the time-out, and a `secret` for each
+token and a `lease_id` for each lease, or a file that holds it (`secret_file`, `lease_id_file`), which is read at the start.
+
+Each event is one line on standard output, with its moment. The log never delays a renewal: up to 1 MiB of lines wait for their
+reader, and whole lines after that are dropped and counted.
+
+With --control it takes the commands `status`, `health` and `need`, and with --listen it shows how it stands to onlookers. Neither
+can delay a renewal, and it serves without a socket that it cannot have, with an alert. So far it keeps nothing over a restart:
+`leasekeepd serve` does. The broker is asked over plain HTTP, at a port of 127.0.0.1 or at a UNIX socket, which keeps strangers out.
+
+Example:
+  leasekeep serve fleet.toml /run/vault-proxy/vault.sock --control ./control.sock --listen 9105
+
+Exit status: 1 the inventory is refused, 2 command line, 6 read, 7 memory";
+
+const LOG_FORMS: &[&str] = &["text", "json"];
+
 const START_HELP: &str = "\
 The moment from which entries are kept, in whole seconds since 1970-01-01T00:00:00Z; $(date +%s) is now";
 
 /// The command line's words, read.
 pub fn parse<'a>(alloc: Global, words: &'a [String]) -> Result<ArgMatches<'a>, Error> {
-    leasekeep(alloc)?.try_get_matches_from(words)
+    whole(alloc)?.try_get_matches_from(words)
 }
 
 /// The mistake of a value that the parser takes as a word.
 pub fn mistake(alloc: Global, message: &str) -> Result<Error, AllocError> {
-    leasekeep(alloc)?.error(ErrorKind::ValueValidation, message)
+    whole(alloc)?.error(ErrorKind::ValueValidation, message)
 }
 
+/// All commands.
+fn whole<'a>(alloc: Global) -> Result<Command<'a>, AllocError> {
+    with_calls(alloc, leasekeep(alloc)?)
+}
+
+/// The commands that need no running agent.
 fn leasekeep<'a>(alloc: Global) -> Result<Command<'a>, AllocError> {
     Command::new(alloc, "leasekeep")
         .version("0.1.0")
@@ -186,7 +215,8 @@ fn leasekeep<'a>(alloc: Global) -> Result<Command<'a>, AllocError> {
         .subcommand(check(alloc)?)?
         .subcommand(rehearse(alloc)?)?
         .subcommand(run(alloc)?)?
-        .subcommand(watch(alloc)?)
+        .subcommand(watch(alloc)?)?
+        .subcommand(serve(alloc)?)
 }
 
 /// `ends FILE START [MOMENT..]`
@@ -325,22 +355,82 @@ fn watch<'a>(alloc: Global) -> Result<Command<'a>, AllocError> {
         .after_help(WATCH_AFTER)
         .arg(file(alloc))?
         .arg(broker(alloc))?
+        .arg(timeout_of_lanes(alloc))?
+        .arg(width(alloc))
+}
+
+/// `serve FILE PORT [--timeout SECONDS] [--width K] [--names-are-secrets] [--log text|json] [--control SOCKET] [--listen PLACE]`
+fn serve<'a>(alloc: Global) -> Result<Command<'a>, AllocError> {
+    Command::new(alloc, "serve")
+        .about(SERVE_ABOUT)
+        .after_help(SERVE_AFTER)
+        .arg(file(alloc))?
+        .arg(broker(alloc))?
+        .arg(timeout_of_lanes(alloc))?
+        .arg(width(alloc))?
         .arg(
-            Arg::new(alloc, "timeout")
-                .long("timeout")
-                .value_name("SECONDS")
+            Arg::new(alloc, "names-are-secrets")
+                .long("names-are-secrets")
                 .help(
-                    "How long the connects, writes and first reads of requests side by side may take, 1 to 60 seconds [default: 5]",
+                    "Sends the name of an entry in the place of a credential that is not written, for trials",
                 )
-                .value_parser(clap::value_parser!(u64).range(1..=60)),
+                .action(ArgAction::SetTrue),
         )?
         .arg(
-            Arg::new(alloc, "width")
-                .long("width")
-                .value_name("K")
-                .help("How many requests go out side by side at most, 1 to 32 [default: 8]")
-                .value_parser(clap::value_parser!(u64).range(1..=WIDTH_MAX as i64)),
+            Arg::new(alloc, "log")
+                .long("log")
+                .value_name("FORM")
+                .help("How the lines of the log are written: text or json [default: text]")
+                .value_parser(LOG_FORMS),
+        )?
+        .arg(
+            Arg::new(alloc, "control")
+                .long("control")
+                .value_name("SOCKET")
+                .help(
+                    "Takes commands at this UNIX socket, a path with a `/` in it, for its user and its group",
+                ),
+        )?
+        .arg(
+            Arg::new(alloc, "listen")
+                .long("listen")
+                .value_name("PLACE")
+                .help(
+                    "Shows /metrics, /health and /status over HTTP: a port of 127.0.0.1, ADDR:PORT, or the path of a UNIX socket, with a `/` in it",
+                ),
+        )?
+        .arg(
+            Arg::new(alloc, "name").long("name").value_name("NAME").help(
+                "This agent's name, for --spread [default: the machine's name and the path FILE]",
+            ),
+        )?
+        .arg(
+            Arg::new(alloc, "spread")
+                .long("spread")
+                .value_name("SECONDS")
+                .help(
+                    "Wakes up earlier by this agent's own part of so many seconds, 0 to 3600, so that agents are apart [default: 0]",
+                )
+                .value_parser(clap::value_parser!(u64).range(0..=3600)),
         )
+}
+
+fn timeout_of_lanes<'a>(alloc: Global) -> Arg<'a> {
+    Arg::new(alloc, "timeout")
+        .long("timeout")
+        .value_name("SECONDS")
+        .help(
+            "How long the connects, writes and first reads of requests side by side may take, 1 to 60 seconds [default: 5]",
+        )
+        .value_parser(clap::value_parser!(u64).range(1..=60))
+}
+
+fn width<'a>(alloc: Global) -> Arg<'a> {
+    Arg::new(alloc, "width")
+        .long("width")
+        .value_name("K")
+        .help("How many requests go out side by side at most, 1 to 32 [default: 8]")
+        .value_parser(clap::value_parser!(u64).range(1..=WIDTH_MAX as i64))
 }
 
 fn broker<'a>(alloc: Global) -> Arg<'a> {

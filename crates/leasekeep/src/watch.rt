@@ -3,9 +3,9 @@ use keep_device::{Place, Sink, Source, Streams};
 use keep_engine::{Exit, PROGRAM};
 use keep_lanes::{LanesOver, MOST_WIDTH};
 use keep_report::Stop;
-use keep_watching::watch_file;
 use std::net::Net;
 use std::rt::{Clock, Files};
+use watch_lines::watch_file;
 
 /// What the words of `watch` ask.
 #[derive(Debug, Drop)]

@@ -1,12 +1,18 @@
+use crate::call_commands::called;
+use crate::calling::Called;
 use crate::live::Live;
 use crate::parser::{mistake, parse};
+use crate::serve::Served;
+use crate::sockets::Socket;
 use crate::watch::Watched;
 use clap::error::ErrorKind;
 use clap::{ArgMatches, Error};
+use keep_clients::{Entrance, entrance_of};
 use keep_command::{number_or, place_to_ask, show};
 use keep_device::{Counted, Place, Sink};
 use keep_engine::{Command, Exit, MarginQuery, PROGRAM, Stop, tell};
 use keep_exchange::PATIENCE;
+use keep_house::Form;
 use keep_moment::{Moment, Text};
 use std::alloc::{AllocError, AllocFailed, Global};
 use std::io;
@@ -14,6 +20,12 @@ use watch_machine::WIDTH;
 
 const PORT_MISTAKE: &str =
     "invalid value for '<PORT>': a port is 1 to 65535, and the path of a UNIX socket has a `/` in it";
+
+const CONTROL_MISTAKE: &str =
+    "invalid value for '--control <SOCKET>': the path of a UNIX socket has a `/` in it";
+
+const LISTEN_MISTAKE: &str =
+    "invalid value for '--listen <PLACE>': a place is PORT, ADDR:PORT, or the path of a UNIX socket, which has a `/` in it";
 
 // What a moment is, after clap's own text: a date there is a common mistake.
 const MOMENT_TIP: &[u8] =
@@ -26,10 +38,36 @@ const UNREADABLE: &[u8] = b"error: a value of the command line is unreadable\n";
 pub enum Job<'a> {
     /// A command over files alone.
     Offline(Command),
+    /// A command of a running agent.
+    Call(Called<'a>),
     /// `run`, the agent.
     Live(Live<'a>),
     /// `watch`, the agent in real time.
     Watch(Watched<'a>),
+    /// `serve`, the agent that runs by itself.
+    Serve(Served<'a>),
+}
+
+/// A value that says a place.
+#[derive(Clone, Copy, Debug)]
+enum PlaceWord {
+    /// Where the broker listens.
+    Port,
+    /// Where commands come in.
+    Control,
+    /// Where onlookers come in.
+    Listen,
+}
+
+impl PlaceWord {
+    /// What is wrong where it says none.
+    fn mistake(self) -> &'static str {
+        match self {
+            PlaceWord::Port => PORT_MISTAKE,
+            PlaceWord::Control => CONTROL_MISTAKE,
+            PlaceWord::Listen => LISTEN_MISTAKE,
+        }
+    }
 }
 
 /// Why the matches of a command line give no command.
@@ -37,8 +75,8 @@ pub enum Job<'a> {
 enum Unread {
     /// A value is not there, or is not of its kind.
     Value,
-    /// The port is none, and no path.
-    Port,
+    /// A value says no place.
+    Place(PlaceWord),
     /// Memory was refused.
     Memory,
 }
@@ -68,7 +106,7 @@ pub fn read_command<'a, R: AllocGlobal + Print, E: Sink>(
     };
     match job_of(alloc, &matches) {
         Ok(job) => Ok(job),
-        Err(Unread::Port) => match mistake(alloc, PORT_MISTAKE) {
+        Err(Unread::Place(word)) => match mistake(alloc, word.mistake()) {
             Ok(error) => Err(show_with_tip(rt, &error, errors)),
             Err(_) => Err(Stop::Memory.report(PROGRAM, errors)),
         },
@@ -112,6 +150,9 @@ fn is_of_a_moment(alloc: Global, error: &Error) -> bool {
 
 /// What is asked, with all its values.
 fn job_of<'a>(alloc: Global, matches: &ArgMatches<'a>) -> Result<Job<'a>, Unread> {
+    if let Some(called) = call_of(matches) {
+        return Ok(Job::Call(called));
+    }
     match matches.subcommand() {
         Some(("run", matches)) => Ok(Job::Live(Live {
             file: matches.get_str("FILE").ok_or(Unread::Value)?,
@@ -125,13 +166,69 @@ fn job_of<'a>(alloc: Global, matches: &ArgMatches<'a>) -> Result<Job<'a>, Unread
             patience: number_or(matches, "timeout", PATIENCE).ok_or(Unread::Value)?,
             width: number_or(matches, "width", WIDTH as u64).ok_or(Unread::Value)?,
         })),
+        Some(("serve", matches)) => Ok(Job::Serve(served(matches)?)),
         _ => Ok(Job::Offline(command_of(alloc, matches)?)),
+    }
+}
+
+/// What `serve` asks.
+fn served<'a>(matches: &ArgMatches<'a>) -> Result<Served<'a>, Unread> {
+    Ok(Served {
+        file: matches.get_str("FILE").ok_or(Unread::Value)?,
+        place: place(matches)?,
+        patience: number_or(matches, "timeout", PATIENCE).ok_or(Unread::Value)?,
+        width: number_or(matches, "width", WIDTH as u64).ok_or(Unread::Value)?,
+        names_are_secrets: matches.get_flag("names-are-secrets"),
+        form: form(matches),
+        control: control(matches)?,
+        listen: listen(matches)?,
+        name: matches.get_str("name"),
+        spread: number_or(matches, "spread", 0).ok_or(Unread::Value)?,
+    })
+}
+
+/// Where commands come in, if a socket for them is asked for.
+fn control<'a>(matches: &ArgMatches<'a>) -> Result<Option<Socket<'a>>, Unread> {
+    let Some(word) = matches.get_str("control") else {
+        return Ok(None);
+    };
+    match entrance_of(word) {
+        Some(Entrance::Path(path)) => Ok(Some(Socket {
+            word,
+            entrance: Entrance::Path(path),
+        })),
+        _ => Err(Unread::Place(PlaceWord::Control)),
+    }
+}
+
+/// Where onlookers come in, if a socket for them is asked for.
+fn listen<'a>(matches: &ArgMatches<'a>) -> Result<Option<Socket<'a>>, Unread> {
+    let Some(word) = matches.get_str("listen") else {
+        return Ok(None);
+    };
+    match entrance_of(word) {
+        Some(entrance) => Ok(Some(Socket { word, entrance })),
+        None => Err(Unread::Place(PlaceWord::Listen)),
+    }
+}
+
+/// What is asked of a running agent, if one is asked.
+fn call_of<'a>(matches: &ArgMatches<'a>) -> Option<Called<'a>> {
+    let (command, matches) = matches.subcommand()?;
+    called(command, matches)
+}
+
+/// How the lines of a log are to be written: as text unless JSON is asked for.
+fn form(matches: &ArgMatches<'_>) -> Form {
+    match matches.get_str("log") {
+        Some("json") => Form::Json,
+        _ => Form::Text,
     }
 }
 
 fn place<'a>(matches: &ArgMatches<'a>) -> Result<Place<'a>, Unread> {
     let word = matches.get_str("PORT").ok_or(Unread::Value)?;
-    place_to_ask(word).ok_or(Unread::Port)
+    place_to_ask(word).ok_or(Unread::Place(PlaceWord::Port))
 }
 
 /// The command, with all its values. Behind this nothing asks for a value by its name.

@@ -1,0 +1,47 @@
+//! The example of docs/watch.md, line by line.
+use crate::loops::{Play, play_of, said};
+use keep_house::Form;
+use std::alloc::Global;
+use std::process::Abort;
+use std::test::Fail;
+
+/// Two turns at each moment at which something is asked: the request goes out, and its answer is there at once.
+const MOMENTS: [u64; 4] = [1_000_000, 1_000_000, 1_059_000, 1_059_000];
+
+const LINES: &str = "\
+1970-01-01T00:16:40Z begin start
+1970-01-01T00:16:40Z look web
+1970-01-01T00:16:40Z entry web 1970-01-01T00:17:40Z
+1970-01-01T00:17:39Z wake 1970-01-01T00:17:39Z web
+1970-01-01T00:17:39Z renew web
+1970-01-01T00:17:39Z told web 60
+";
+
+const OBJECTS: &str =
+    r#"{"moment": "1970-01-01T00:16:40Z", "level": "info", "event": "begin", "words": ["start"]}
+{"moment": "1970-01-01T00:16:40Z", "level": "info", "event": "look", "words": ["web"]}
+{"moment": "1970-01-01T00:16:40Z", "level": "info", "event": "entry", "words": ["web", "1060"]}
+{"moment": "1970-01-01T00:17:39Z", "level": "info", "event": "wake", "words": ["1059", "web"]}
+{"moment": "1970-01-01T00:17:39Z", "level": "info", "event": "renew", "words": ["web"]}
+{"moment": "1970-01-01T00:17:39Z", "level": "info", "event": "told", "words": ["web", "60"]}
+"#;
+
+fn played(alloc: Global, form: Form) -> Result<Play<'static>, Fail> {
+    let mut play = play_of(alloc, form, &MOMENTS, Vec::new(alloc))?;
+    play.run(alloc, 4);
+    Ok(play)
+}
+
+#[test]
+fn each_event_is_a_line(rt: HostRuntime) -> Result<(), Fail> {
+    let play = played(rt.alloc(), Form::Text)?;
+    assert!(rt; said(&play) == LINES.as_bytes());
+    Ok(())
+}
+
+#[test]
+fn each_event_is_an_object(rt: HostRuntime) -> Result<(), Fail> {
+    let play = played(rt.alloc(), Form::Json)?;
+    assert!(rt; said(&play) == OBJECTS.as_bytes());
+    Ok(())
+}

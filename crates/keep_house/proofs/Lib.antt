@@ -1,0 +1,9 @@
+pub mod Tries
+pub mod Behind
+pub mod Said
+pub mod Pieces
+pub mod Marking
+pub mod Filled
+pub mod Read
+pub mod Givers
+pub mod Deciding

@@ -1,0 +1,35 @@
+-- Alike: what is said of two agents that differ in credentials alone. The contract of a public function without a body.
+-- Source: this project's own.
+use Rattle.std.specs.Prelude.{◌≡◌, ℕ, List, Option}
+use Rattle.keep_agent.specs.Agent.{Agent}
+use Rattle.keep_agent.specs.declared.shorts.Short.{Short}
+use Rattle.keep_agent.specs.declared.standing.Trouble.{Trouble}
+use Rattle.keep_asking.specs.declared.told.Said.{Said}
+use Rattle.watch_machine.specs.declared.command.Request.{Request}
+use Rattle.watch_machine.specs.declared.event.Operation.{Operation}
+use Rattle.watch_machine.specs.declared.notes.Notes.{Notes}
+use Rattle.keep_house.specs.Answered.{answered_lines}
+use Rattle.keep_house.specs.Clocked.{clocked_lines, marks_clocked, short_lines}
+use Rattle.keep_house.specs.declared.mark.Mark.{Mark}
+
+-- two agents that differ in credentials alone, or in terms or beginnings
+pub record AreAlike (a b : Agent) : Type 0 where
+  pub machine : b.machine ≡ a.machine
+  pub forest : b.inventory.forest ≡ a.inventory.forest
+  pub standings : b.standings ≡ a.standings
+
+-- when the time is handed in, the lines are the same, and so are the marks that are left
+abbrev pub ClockedAlike : Type 0
+ClockedAlike =
+    (a b : Agent) → AreAlike a b → (notes : Notes) (requests : List Request) (marks : List Mark) →
+    (clocked_lines b notes requests marks ≡ clocked_lines a notes requests marks) × (marks_clocked b marks ≡ marks_clocked a marks)
+
+-- of needs that are past what their entries reach
+abbrev pub ShortsAlike : Type 0
+ShortsAlike = (a b : Agent) → AreAlike a b → (shorts : List Short) → short_lines b shorts ≡ short_lines a shorts
+
+-- and of what came of a request
+abbrev pub AnsweredAlike : Type 0
+AnsweredAlike =
+    (a b : Agent) → AreAlike a b → (i : ℕ) (operation : Operation) (said : Said) (notes : Notes) (before : Option Trouble) →
+    answered_lines b i operation said notes before ≡ answered_lines a i operation said notes before

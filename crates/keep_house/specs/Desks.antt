@@ -1,0 +1,85 @@
+-- Desks: where it is said what happens to an agent: the room of its log, and what was said last of each entry.
+-- Source: this project's own; docs/running.md, "What the operator sees".
+use Rattle.std.specs.Prelude.{◌≡◌, ◌⊎◌, ◌≤◌, ℕ, Bool, true, false, not, ◌&&◌, List, [], ◌∷◌, Option, length, min, nat_eq, nat_lt, replicate, take}
+use Rattle.std.specs.Io.KnownBytes.{Appends}
+use Rattle.keep_agent.specs.Agent.{Agent}
+use Rattle.keep_agent.specs.declared.shorts.Short.{Short}
+use Rattle.keep_asking.specs.declared.told.Said.{Said}
+use Rattle.keep_clock.specs.declared.reading.Reading.{Reading}
+use Rattle.keep_log.specs.Waiting.{Waiting, after_turn, closed_if, giving, with_notice}
+use Rattle.keep_log.specs.declared.room.TheConstants.{LOG_ROOM}
+use Rattle.watch_machine.specs.declared.command.Request.{Request}
+use Rattle.watch_machine.specs.declared.event.Operation.{Operation}
+use Rattle.watch_machine.specs.declared.notes.Notes.{Notes}
+use Rattle.keep_house.specs.Answered.{answered_lines, trouble_after}
+use Rattle.keep_house.specs.Clocked.{clocked_lines, marks_clocked, memory_line, short_lines}
+use Rattle.keep_house.specs.Lines.{AreSaid, IsSaid, Line, TellsDropped, now_of, second_of}
+use Rattle.keep_house.specs.Marks.{fresh_mark, mark_at, with_trouble}
+use Rattle.keep_house.specs.Sockets.{need_line, socket_line}
+use Rattle.keep_house.specs.declared.form.Form.{Form}
+use Rattle.keep_house.specs.declared.giving.TheConstants.{MOST_GIVEN}
+use Rattle.keep_house.specs.declared.given.GivenNeed.{GivenNeed}
+use Rattle.keep_house.specs.declared.mark.Mark.{Mark}
+
+-- how lines are written, those that wait, and a mark for each entry
+pub record Desk : Type 0 where
+  pub form : Form
+  pub room : Waiting
+  pub marks : List Mark
+
+-- nothing was said yet of so many entries
+abbrev pub begun_desk : Form → ℕ → Desk
+begun_desk form count = record { form = form; room = record { bytes = []; room = LOG_ROOM; is_begun = false; untold = 0; dropped = 0 }; marks = replicate count fresh_mark }
+
+-- these lines are said of the agent as it is, and these marks are left
+pub record Says (a : Agent) (lines : List Line) (marks : List Mark) (old new : Desk) : Type 0 where
+  pub said : AreSaid old.form (now_of a.machine) lines old.room new.room
+  pub rest : new ≡ record { form = old.form; room = new.room; marks = marks }
+
+abbrev pub HearsClock : Agent → Notes → List Request → Desk → Desk → Type 0
+HearsClock a notes requests old new = Says a (clocked_lines a notes requests old.marks) (marks_clocked a old.marks) old new
+
+abbrev pub HearsShorts : Agent → List Short → Desk → Desk → Type 0
+HearsShorts a shorts old new = Says a (short_lines a shorts) old.marks old new
+
+abbrev pub HearsAnswer : Agent → ℕ → Operation → Said → Notes → Desk → Desk → Type 0
+HearsAnswer a i operation said notes old new =
+    Says a (answered_lines a i operation said notes (mark_at old.marks i).trouble) (with_trouble i (trouble_after (mark_at old.marks i).trouble operation said.reply) old.marks) old new
+
+abbrev pub HearsRefusal : Agent → Desk → Desk → Type 0
+HearsRefusal a old new = Says a (memory_line ∷ []) old.marks old new
+
+abbrev pub HearsWant : Agent → Bool → Desk → Desk → Type 0
+HearsWant a true old new = new ≡ old
+HearsWant a false old new = HearsRefusal a old new
+
+abbrev pub HearsNeed : Agent → GivenNeed → Bool → Desk → Desk → Type 0
+HearsNeed a need true old new = Says a (need_line a need ∷ []) old.marks old new
+HearsNeed a need false old new = new ≡ old
+
+-- a socket cannot be had, for this reason, and what that costs. The agent may have heard no clock yet
+pub record HearsNoSocket (now : Reading) (socket why cost : List ℕ) (old new : Desk) : Type 0 where
+  pub said : IsSaid old.form (second_of now.wall) (socket_line socket why cost) old.room new.room
+  pub rest : new ≡ record old { room = new.room }
+
+-- ---- what is given to the log's reader
+
+-- once the reader took something, lines that were dropped are told of where there is room for that, unless memory is wanting for it
+abbrev pub MayTell : Form → ℕ → Waiting → Waiting → Type 0
+MayTell form moment old new = (new ≡ old) ⊎ ((notice : List ℕ) × (TellsDropped form moment old.untold notice × (new ≡ with_notice notice old)))
+
+-- only where that may be
+abbrev pub TellsIf : Bool → Form → ℕ → Waiting → Waiting → Type 0
+TellsIf true form moment old new = MayTell form moment old new
+TellsIf false form moment old new = new ≡ old
+
+-- in a turn the reader took so many bytes from the front of what waits, and then its sink failed or did not; what it was given before
+-- and after, and the failures of its sink. Lines that were dropped may be told of where it took something and its sink did not fail
+pub record IsGiven (form : Form) (moment : ℕ) (old new : Waiting) (before after : Option (List ℕ)) (failures_before failures_after : ℕ) (goes_on : Bool) : Type 0 where
+  pub taken : ℕ
+  pub failed : Bool
+  pub most : taken ≤ min MOST_GIVEN (length old.bytes)
+  pub given : Appends before after (take taken old.bytes)
+  pub failures : failures_after ≡ after_turn failed failures_before
+  pub room : TellsIf (nat_lt 0 taken && not failed) form moment (closed_if failed (giving taken old)) new
+  pub more : goes_on ≡ (nat_eq taken MOST_GIVEN && not failed)

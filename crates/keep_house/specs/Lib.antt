@@ -1,0 +1,14 @@
+pub mod Lines
+pub mod Marks
+pub mod Clocked
+pub mod Answered
+pub mod Sockets
+pub mod Desks
+pub mod Houses
+pub mod Faults
+pub mod Starts
+pub mod Filling
+pub mod Reading
+pub mod Refusing
+pub mod Tried
+pub mod Alike

@@ -1,0 +1,76 @@
+-- Lines: what is said of an agent, and what becomes of it in the room of its log.
+-- Source: docs/running.md, "What the operator sees".
+use Rattle.std.specs.Prelude.{◌≡◌, ◌⊎◌, ℕ, ◌+◌, ◌-◌, ◌/◌, List, [], ◌∷◌, codes, min}
+use Rattle.keep_lanes.specs.declared.loss.Loss.{Loss}
+use Rattle.keep_lanes.specs.declared.loss.Loss.TheVariants as losses
+use Rattle.keep_log.specs.Forms.{IsLineJson, IsLineText}
+use Rattle.keep_log.specs.Waiting.{Waiting, dropping, with_line}
+use Rattle.keep_log.specs.declared.level.Level.{Level}
+use Rattle.keep_log.specs.declared.level.Level.TheVariants.{Warning}
+use Rattle.keep_log.specs.declared.line.Word.{Word}
+use Rattle.keep_log.specs.declared.line.Word.TheVariants as words
+use Rattle.keep_moment.specs.declared.moment.TheConstants.{LAST}
+use Rattle.watch_machine.specs.State.{State}
+use Rattle.keep_house.specs.declared.form.Form.{Form}
+use Rattle.keep_house.specs.declared.form.Form.TheVariants.{Text, Json}
+
+-- ---- a line
+
+-- how much it matters, what happened, and the words that belong to it
+pub record Line : Type 0 where
+  pub level : Level
+  pub event : List ℕ
+  pub words : List Word
+
+abbrev pub line : Level → List ℕ → List Word → Line
+line level event ws = record { level = level; event = event; words = ws }
+
+-- a number as the program holds it: no greater than 2^64 - 1
+abbrev pub cut : ℕ → ℕ
+cut n = min n 18446744073709551615
+
+-- a moment, no later than the last one
+abbrev pub moment_word : ℕ → Word
+moment_word seconds = words.Moment (min seconds LAST)
+
+-- the second that a wall clock shows at so many milliseconds, no later than the last moment
+abbrev pub second_of : ℕ → ℕ
+second_of millis = min (millis / 1000) LAST
+
+-- the moment of a line: what the wall's clock shows, as the machine has it, at the moment that was handed in last
+abbrev pub now_of : State → ℕ
+now_of m = second_of (cut (m.clocks.at + m.clocks.wall.there) - m.clocks.wall.here)
+
+-- why a request counts as lost
+abbrev pub loss_word : Loss → Word
+loss_word losses.Connect = words.Text (codes "connect")
+loss_word losses.Timeout = words.Text (codes "timeout")
+loss_word losses.Closed = words.Text (codes "closed")
+loss_word losses.Reply = words.Text (codes "reply")
+loss_word (losses.Status status) = words.Number status
+
+-- ---- what becomes of it
+
+abbrev pub IsWritten : Form → ℕ → Line → List ℕ → Type 0
+IsWritten Text moment l text = IsLineText moment l.level l.event l.words text
+IsWritten Json moment l text = IsLineJson moment l.level l.event l.words text
+
+-- the line that tells how many were dropped before it
+abbrev pub dropped_line : ℕ → Line
+dropped_line n = line Warning (codes "log") (words.Text (codes "dropped") ∷ words.Number n ∷ words.Text (codes "lines") ∷ [])
+
+abbrev pub TellsDropped : Form → ℕ → ℕ → List ℕ → Type 0
+TellsDropped form moment untold notice = (untold ≡ 0) ⊎ IsWritten form moment (dropped_line untold) notice
+
+-- it is put where there is room for it, and before it the line that tells of those that were dropped
+abbrev pub IsPut : Form → ℕ → Line → Waiting → Waiting → Type 0
+IsPut form moment l old new = (notice : List ℕ) × ((text : List ℕ) × (TellsDropped form moment old.untold notice × (IsWritten form moment l text × (new ≡ with_line notice text old))))
+
+-- a line is said at a moment; where memory is wanting for it, it is dropped and counted
+unfoldable pub IsSaid : Form → ℕ → Line → Waiting → Waiting → Type 0
+IsSaid form moment l old new = IsPut form moment l old new ⊎ (new ≡ dropping 1 old)
+
+-- lines are said, one after another
+abbrev pub AreSaid : Form → ℕ → List Line → Waiting → Waiting → Type 0
+AreSaid form moment [] old new = new ≡ old
+AreSaid form moment (l ∷ ls) old new = (mid : Waiting) × (IsSaid form moment l old mid × AreSaid form moment ls mid new)

@@ -1,0 +1,175 @@
+//! Where it is said what happens to an agent.
+ghost use Rattle.std.specs.Prelude.{◌≡◌, IfOk, true};
+ghost use Rattle.keep_house.specs.Desks.{HearsAnswer, HearsClock, HearsNeed, HearsNoSocket, HearsRefusal, HearsShorts, HearsWant, begun_desk};
+ghost use Rattle.keep_house.specs.Lines.{now_of};
+
+use crate::answered::{say_answered, trouble_after};
+use crate::clocked::{say_clocked, say_memory, say_shorts};
+use crate::ended::mark_ended;
+use crate::form::Form;
+use crate::given::GivenNeed;
+use crate::mark::{Mark, fresh_marks, mark_at, set_trouble};
+use crate::moments::{now_of, second_of};
+use crate::saying::Stamp;
+use crate::sockets::{say_need, say_no_socket};
+use keep_agent::{Agent, Short};
+use keep_asking::Said;
+use keep_clock::Reading;
+use keep_log::{LOG_ROOM, LogRoom};
+use std::alloc::{AllocError, Global};
+use std::marker::Model;
+use watch_machine::{Notes, Operation, Request};
+
+/// How lines are written, those that wait, and what was said last of each entry. Want of memory costs the line for which it is
+/// wanting: that is dropped and counted.
+#[derive(Debug, Drop)]
+pub struct Desk {
+    pub(crate) form: Form,
+    pub(crate) room: LogRoom,
+    pub(crate) marks: Vec<Mark>,
+}
+
+impl Model for Desk {
+    ghost use Rattle.keep_house.specs.Desks.{Desk};
+
+    ghost Value = { Desk };
+
+    ghost view = { λ d. record { form = d.form; room = d.room; marks = d.marks.items } };
+}
+
+impl Desk {
+    /// A desk for so many entries, at which nothing was said. The only error is want of memory.
+    pub fn new(alloc: Global, form: Form, count: u32) -> Result<Desk, AllocError>
+        ensures { IfOk result (λ desk. desk ≡ begun_desk form count) }
+    {
+        Ok(Desk {
+            form,
+            room: LogRoom::new(alloc, LOG_ROOM)?,
+            marks: fresh_marks(alloc, count)?,
+        })
+    }
+
+    /// The lines that wait.
+    pub fn room(&self) -> &LogRoom
+        ensures { result.now ≡ self.now.room }
+    {
+        &self.room
+    }
+
+    /// Says what is noted of the time that was handed in, whom is asked what, and whose ends are past.
+    pub fn hear_clock(&mut self, alloc: Global, agent: &Agent, notes: &Notes, requests: &[Request])
+        ensures { HearsClock agent.now notes.now requests.now self.old self.new }
+    {
+        let stamp = self.stamp(agent);
+        say_clocked(
+            alloc,
+            &stamp,
+            agent,
+            notes,
+            requests,
+            &self.marks,
+            &mut self.room,
+        );
+        mark_ended(agent, &mut self.marks);
+    }
+
+    /// Says which needs are past what their entries reach.
+    pub fn hear_shorts(&mut self, alloc: Global, agent: &Agent, shorts: &[Short])
+        ensures { HearsShorts agent.now shorts.now self.old self.new }
+    {
+        let stamp = self.stamp(agent);
+        say_shorts(alloc, &stamp, agent, shorts, &mut self.room);
+    }
+
+    /// Says what came of a request of the entry at an index, and what is noted of that.
+    pub fn hear_answer(
+        &mut self,
+        alloc: Global,
+        agent: &Agent,
+        entry: u32,
+        operation: Operation,
+        said: Said,
+        notes: &Notes,
+    )
+        ensures { HearsAnswer agent.now entry operation said notes.now self.old self.new }
+    {
+        let stamp = self.stamp(agent);
+        let before = mark_at(&self.marks, entry).trouble;
+        say_answered(
+            alloc,
+            &stamp,
+            agent,
+            entry,
+            operation,
+            said,
+            notes,
+            before,
+            &mut self.room,
+        );
+        let trouble = trouble_after(before, operation, said.reply);
+        set_trouble(&mut self.marks, entry, trouble);
+    }
+
+    /// Says that memory was refused.
+    pub fn hear_refusal(&mut self, alloc: Global, agent: &Agent)
+        ensures { HearsRefusal agent.now self.old self.new }
+    {
+        let stamp = self.stamp(agent);
+        say_memory(alloc, &stamp, &mut self.room);
+    }
+
+    /// Says that memory was refused, where it did not suffice.
+    pub(crate) fn hear_want(&mut self, alloc: Global, agent: &Agent, is_enough: bool)
+        ensures { HearsWant agent.now is_enough self.old self.new }
+    {
+        if !is_enough {
+            self.hear_refusal(alloc, agent);
+        }
+    }
+
+    /// Says that a client has set another need, where it was made.
+    pub(crate) fn hear_need(&mut self, alloc: Global, agent: &Agent, need: GivenNeed, is_made: bool)
+        ensures { HearsNeed agent.now need is_made self.old self.new }
+    {
+        if is_made {
+            self.hear_made_need(alloc, agent, need);
+        }
+    }
+
+    #[tactic(auto, using(crate::proofs::Said::one_said))]
+    fn hear_made_need(&mut self, alloc: Global, agent: &Agent, need: GivenNeed)
+        ensures { HearsNeed agent.now need true self.old self.new }
+    {
+        let stamp = self.stamp(agent);
+        say_need(alloc, &stamp, agent, need, &mut self.room);
+    }
+
+    /// Says that a socket cannot be had, why, and what that costs, at a moment at which the agent may have heard no clock yet.
+    pub fn hear_no_socket(
+        &mut self,
+        alloc: Global,
+        now: Reading,
+        socket: &[u8],
+        why: &[u8],
+        cost: &[u8],
+    )
+        ensures { HearsNoSocket now socket.now why.now cost.now self.old self.new }
+    {
+        let stamp = Stamp {
+            form: self.form,
+            moment: second_of(now.wall),
+        };
+        say_no_socket(alloc, &stamp, socket, why, cost, &mut self.room);
+    }
+
+    // How lines are written now.
+    fn stamp(&self, agent: &Agent) -> Stamp
+        ensures form { result.form ≡ self.now.form }
+        ensures moment { result.moment ≡ now_of agent.now.machine }
+    {
+        Stamp {
+            form: self.form,
+            moment: now_of(agent.watch()),
+        }
+    }
+}

@@ -1,0 +1,106 @@
+//! A command of a running agent: it is sent over the agent's control socket.
+use keep_calling::{Ask, Call, Ended, connect, request_for, talk, tell_unreached};
+use keep_device::{Counted, Sink};
+use keep_engine::{PROGRAM, Stop};
+use std::alloc::{AllocError, Global};
+use std::env::{self, VarError};
+use std::fs::{self, File};
+use std::io::{self, Read};
+use std::net::Net;
+use std::rt::{Clock, Env, Files};
+
+/// Where a service of the system has its sockets.
+const SYSTEM: &str = "/run/leasekeep";
+
+/// What the words of the command line ask of a running agent.
+#[derive(Clone, Copy, Debug)]
+pub struct Called<'a> {
+    pub ask: Ask<'a>,
+    /// The path of its control socket, if it is given.
+    pub control: Option<&'a str>,
+}
+
+/// Asks it, and shows the answer.
+pub fn call<R, I, E>(rt: &R, called: &Called<'_>, input: I, errors: &mut E) -> Ended
+where
+    R: Env + Files<File = File> + AllocGlobal + Print + Net + Clock,
+    I: Read + Drop,
+    E: Sink,
+{
+    let alloc = rt.alloc();
+    let Ok(socket) = socket(rt, called.control) else {
+        let _exit = Stop::Memory.report(PROGRAM, errors);
+        return Ended::Memory;
+    };
+    let call = Call {
+        program: PROGRAM,
+        ask: called.ask,
+        socket: socket.as_str(),
+    };
+    let request = match request_for(alloc, &call, &mut Counted::new(input), errors) {
+        Ok(request) => request,
+        Err(ended) => return ended,
+    };
+    let _held = [null(rt), null(rt), null(rt)];
+    match connect(rt, call.socket) {
+        Ok(mut line) => talk(
+            alloc,
+            &call,
+            request.list(),
+            &mut line,
+            &mut Counted::new(io::writer(rt)),
+            errors,
+        ),
+        Err(why) => tell_unreached(&call, why, errors),
+    }
+}
+
+/// A file that takes the number of a standard stream which is closed: else the connection would, and what is shown or told would be
+/// sent to the agent.
+fn null<R: Files<File = File>>(rt: &R) -> Option<File> {
+    fs::open(rt, "/dev/null").ok()
+}
+
+/// The path of the control socket: the one that is given, else the one of the user's own folder, or that of the system's where
+/// the first is not there and the second is. The only error is out of memory.
+fn socket<R: Env + Files + AllocGlobal>(rt: &R, given: Option<&str>) -> Result<String, AllocError> {
+    let alloc = rt.alloc();
+    if let Some(path) = given {
+        return String::from_str(alloc, path);
+    }
+    let own = in_folder(alloc, own_folder(rt)?.as_str())?;
+    let of_the_system = in_folder(alloc, SYSTEM)?;
+    if fs::metadata(rt, own.as_str()).is_err() && fs::metadata(rt, of_the_system.as_str()).is_ok() {
+        return Ok(of_the_system);
+    }
+    Ok(own)
+}
+
+fn in_folder(alloc: Global, folder: &str) -> Result<String, AllocError> {
+    format!(in alloc; "{folder}/control.sock")
+}
+
+/// The first folder that the service manager names, else that of the user, else that of the system.
+fn own_folder<R: Env + AllocGlobal>(rt: &R) -> Result<String, AllocError> {
+    let alloc = rt.alloc();
+    if let Some(folders) = variable(rt, "RUNTIME_DIRECTORY")? {
+        let first = match folders.find(':') {
+            None => folders.as_str(),
+            Some(end) => &folders[..end],
+        };
+        return String::from_str(alloc, first);
+    }
+    match variable(rt, "XDG_RUNTIME_DIR")? {
+        Some(folder) => format!(in alloc; "{folder}/leasekeep"),
+        None => String::from_str(alloc, SYSTEM),
+    }
+}
+
+/// A variable of the environment, if it is there and says something.
+fn variable<R: Env + AllocGlobal>(rt: &R, name: &str) -> Result<Option<String>, AllocError> {
+    match env::var(rt, name) {
+        Ok(value) if !value.is_empty() => Ok(Some(value)),
+        Err(VarError::OutOfMemory) => Err(AllocError),
+        _ => Ok(None),
+    }
+}

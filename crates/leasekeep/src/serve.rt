@@ -1,0 +1,200 @@
+use crate::apart::earlier_by;
+use crate::sockets::{Socket, open_control, open_listener};
+use keep_clock::{Clock as _, Reading, SystemClock};
+use keep_command::SystemFiles;
+use keep_device::{Place, Sink};
+use keep_engine::{Exit, PROGRAM, Stop, tell};
+use keep_files::Inputs;
+use keep_house::{Demands, Desk, Form, House, StartFault, line_of_fault, read_to_serve};
+use keep_inventory::{Inventory, MOST_INVENTORY, read_served};
+use keep_lanes::{LanesOver, MOST_WIDTH};
+use keep_log::StandardOutput;
+use keep_moment::Text;
+use keep_onlook::FileReading;
+use keep_serving::Serving;
+use keep_tree::MARGIN_MAX;
+use std::fs::{self, File};
+use std::io::Stdout;
+use std::net::Net;
+use std::os::unix::fs::MetadataExt;
+use std::rt::{Clock, Files};
+
+/// What the words of `serve` ask.
+#[derive(Debug, Drop)]
+pub struct Served<'a> {
+    /// The path of the inventory.
+    pub file: &'a str,
+    /// Where the broker listens.
+    pub place: Place<'a>,
+    /// How long the connect, write and first read of a request may take, in seconds.
+    pub patience: u64,
+    /// How many requests are out at once at most.
+    pub width: u64,
+    /// Whether the name of an entry may be sent as its credential.
+    pub names_are_secrets: bool,
+    /// How the lines of the log are written.
+    pub form: Form,
+    /// Where commands come in.
+    pub control: Option<Socket<'a>>,
+    /// Where onlookers come in.
+    pub listen: Option<Socket<'a>>,
+    /// The agent's own name, where it is given one.
+    pub name: Option<&'a str>,
+    /// The seconds over which agents are spread that would wake up together.
+    pub spread: u64,
+}
+
+impl<'a> Served<'a> {
+    fn demands(&self, earlier: u32) -> Demands {
+        Demands {
+            timeout: self.patience.min(60) as u32,
+            names_are_secrets: self.names_are_secrets,
+            earlier,
+        }
+    }
+}
+
+/// Serves an inventory, with the log on standard output. It ends where the start is refused, which it tells; else after 2^64 - 1
+/// turns.
+pub fn serve<R, E>(rt: &R, served: &Served<'_>, output: Stdout, errors: &mut E) -> Exit
+where
+    R: Files<File = File> + AllocGlobal + Net + Clock,
+    E: Sink,
+{
+    // Before any file is opened, which would else take the number of a standard output that is closed.
+    let log = StandardOutput::new(rt, output);
+    if let Some(exit) = refuse_mode(rt, served.file, errors) {
+        return exit;
+    }
+    let alloc = rt.alloc();
+    let mut files = SystemFiles::new(rt);
+    let bytes = match files.read(alloc, served.file, MOST_INVENTORY) {
+        Ok(bytes) => bytes,
+        Err(fault) => {
+            let exit = Stop::from(fault).report(PROGRAM, errors);
+            files.advise(PROGRAM, exit, served.file, errors);
+            return exit;
+        }
+    };
+    let folder = folder_of(served.file);
+    let spread = served.spread.min(u64::from(MARGIN_MAX)) as u32;
+    let Ok(earlier) = earlier_by(alloc, &mut files, served.name, served.file, spread) else {
+        return Stop::Memory.report(PROGRAM, errors);
+    };
+    let demands = served.demands(earlier);
+    match read_to_serve(alloc, bytes.list(), demands, folder, &mut files) {
+        Ok(inventory) => match run(rt, served, inventory, log) {
+            Ok(()) => Exit::Done,
+            Err(stop) => stop.report(PROGRAM, errors),
+        },
+        Err(StartFault::Inventory(fault)) => {
+            let exit = Stop::from(fault).report(PROGRAM, errors);
+            files.advise(PROGRAM, exit, served.file, errors);
+            exit
+        }
+        Err(fault) => refuse(rt, demands, &bytes, fault, errors),
+    }
+}
+
+/// What stands before a path that starts at the folder of the file: its own path up to its last slash.
+fn folder_of(file: &str) -> &str {
+    match file.rfind('/') {
+        None => "",
+        Some(end) => &file[..end + 1],
+    }
+}
+
+/// Refuses a file that is no regular one, or that others may read or write. One that is not there is read, which tells why.
+fn refuse_mode<R: Files + AllocGlobal, E: Sink>(
+    rt: &R,
+    file: &str,
+    errors: &mut E,
+) -> Option<Exit> {
+    let Ok(found) = fs::metadata(rt, file) else {
+        return None;
+    };
+    let alloc = rt.alloc();
+    let said = if !found.is_file() && !found.is_dir() {
+        format!(in alloc; "{PROGRAM}: {file}: is not a regular file; name one\n")
+    } else if found.is_file() && found.mode() & 0o006 != 0 {
+        let mode = found.mode() & 0o7777;
+        format!(in alloc;
+            "{PROGRAM}: {file}: others may read or write this file (mode {mode:04o}); chmod o-rwx it: it holds secrets\n"
+        )
+    } else {
+        return None;
+    };
+    match said {
+        Ok(line) => {
+            tell(errors, line.as_bytes());
+            Some(Exit::Inventory)
+        }
+        Err(_) => Some(Stop::Memory.report(PROGRAM, errors)),
+    }
+}
+
+/// Tells why the start is refused.
+fn refuse<R: AllocGlobal, E: Sink>(
+    rt: &R,
+    demands: Demands,
+    bytes: &Text,
+    fault: StartFault,
+    errors: &mut E,
+) -> Exit {
+    let alloc = rt.alloc();
+    let Ok(read) = read_served(alloc, bytes.list()) else {
+        return Stop::Memory.report(PROGRAM, errors);
+    };
+    let forest = read.inventory().forest();
+    match line_of_fault(alloc, PROGRAM, demands, forest, fault) {
+        Ok(line) if fault != StartFault::OutOfMemory => {
+            tell(errors, &line);
+            Exit::Inventory
+        }
+        _ => Stop::Memory.report(PROGRAM, errors),
+    }
+}
+
+/// Serves it. The only error is want of memory at the start.
+fn run<R>(
+    rt: &R,
+    served: &Served<'_>,
+    inventory: Inventory,
+    log: StandardOutput,
+) -> Result<(), Stop>
+where
+    R: Files + AllocGlobal + Net + Clock,
+{
+    let alloc = rt.alloc();
+    let seconds = served.patience.min(60) as u32;
+    let width = served.width.min(u64::from(MOST_WIDTH)) as u32;
+    let mut clock = SystemClock::new(alloc, rt)?;
+    let registry = match clock.registry() {
+        None => None,
+        Some(registry) => registry.try_clone().ok(),
+    };
+    let mut lanes = LanesOver::over_registry(alloc, rt, served.place, seconds, width, registry)?;
+    let now = clock.read().unwrap_or(Reading {
+        wall: 0,
+        elapsed: 0,
+    });
+    let desk = Desk::new(alloc, served.form, inventory.forest().len())?;
+    let mut house = House::new(desk, log, read_at(now));
+    open_control(rt, &clock, now, served.control, &mut house);
+    open_listener(rt, &clock, now, served.listen, &mut house);
+    let Ok(mut serving) = Serving::begin(alloc, inventory, &lanes) else {
+        return Err(Stop::Memory);
+    };
+    serving.run(alloc, &mut clock, &mut lanes, &mut house, u64::MAX);
+    Ok(())
+}
+
+/// The file was read at this moment, and was good.
+fn read_at(now: Reading) -> FileReading {
+    let seconds = Some(now.wall / 1000);
+    FileReading {
+        is_good: true,
+        at: seconds,
+        good_at: seconds,
+    }
+}
