@@ -147,7 +147,9 @@ class Agreement(unittest.TestCase):
                 said = [one.text("f") for one in found]
                 self.assertEqual(ran.returncode == 1, bool(found), f"case {case}: {ran.stderr}{said}\n{text!r}")
                 words = ran.stderr.partition("\n")[0].split()
-                if "bad-value" in words or "missing-key" in words:
+                # A bare time without seconds is TOML 1.1, which no key takes: lint, which reads TOML 1.0, refuses the file for it.
+                is_read = not any("is not a TOML document" in one.problem for one in found)
+                if is_read and ("bad-value" in words or "missing-key" in words):
                     self.assertTrue(named(words[-1], found), f"case {case}: {ran.stderr}{said}\n{text!r}")
                 refused += ran.returncode == 1
         if CASES >= 100:
