@@ -26,7 +26,7 @@ impl fmt::Debug for Asked {
     }
 }
 
-/// What the body of a call asks, `None` where it is not as the call wants it. The only error is want of memory.
+/// What the body of a call asks, `None` where it is not as the call wants it. The only error is out of memory.
 #[tactic(auto, unfolding(crate::specs::Request::asked))]
 pub(crate) fn read_asked(
     alloc: Global,

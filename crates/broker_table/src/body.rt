@@ -9,7 +9,7 @@ use keep_moment::{Moment, Span, Text};
 use std::alloc::{AllocError, Global};
 use vault_json::{LookedToken, looked_lease, looked_self, renewed_lease, renewed_self};
 
-/// The body of the reply that tells a call of a row with that end. The only error is want of memory.
+/// The body of the reply that tells a call of a row with that end. The only error is out of memory.
 #[tactic(auto, unfolding(crate::specs::Step::IsBody))]
 pub(crate) fn body_of(
     alloc: Global,

@@ -22,7 +22,7 @@ pub struct Grant {
     pub end: u64,
 }
 
-/// What a renewal request with that fault comes to. The only error is want of memory.
+/// What a renewal request with that fault comes to. The only error is out of memory.
 #[tactic(auto, unfolding(crate::specs::Renewing::renewal))]
 pub(crate) fn renewal(
     alloc: Global,

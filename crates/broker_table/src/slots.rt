@@ -36,7 +36,7 @@ impl Model for Slots {
 }
 
 impl Slots {
-    /// The slots of an inventory. The only error is want of memory.
+    /// The slots of an inventory. The only error is out of memory.
     pub(crate) fn load(alloc: Global, inventory: &Inventory) -> Result<Slots, AllocError>
         ensures { IfOk result (λ slots. slots ≡ slots_of inventory.now) }
     {

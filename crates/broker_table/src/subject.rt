@@ -19,7 +19,7 @@ pub struct Found {
     pub increment: Option<Span>,
 }
 
-/// Of which row a request speaks, or why it is refused. The only error is want of memory.
+/// Of which row a request speaks, or why it is refused. The only error is out of memory.
 #[tactic(auto, unfolding(crate::specs::Subject::subject))]
 pub(crate) fn subject(
     alloc: Global,

@@ -45,7 +45,7 @@ impl Model for Table {
 }
 
 impl Table {
-    /// The rows of an inventory, with no faults and no request counted. The only error is want of memory.
+    /// The rows of an inventory, with no faults and no request counted. The only error is out of memory.
     pub fn load(alloc: Global, inventory: &Inventory) -> Result<Table, AllocError>
         ensures { IfOk result (λ table. table ≡ record { rows = rows_of inventory.now; faults = []; count = 0 }) }
     {

@@ -31,7 +31,7 @@ impl Model for Agent {
     ghost invariant = { λ a. IsAgent (record { machine = a.watch; inventory = a.inventory; standings = a.standings.items; beginnings = a.beginnings }) };
 }
 
-/// The standings of so many entries of which nothing was told yet. The only error is want of memory.
+/// The standings of so many entries of which nothing was told yet. The only error is out of memory.
 fn fresh_standings(alloc: Global, count: u32) -> Result<Vec<Standing>, AllocError>
     ensures { IfOk result (λ standings. standings.items ≡ replicate count fresh_standing) }
 {
@@ -44,7 +44,7 @@ fn fresh_standings(alloc: Global, count: u32) -> Result<Vec<Standing>, AllocErro
 
 impl Agent {
     /// An agent that serves an inventory from now on, of which at most `width` requests are out at once, 1 to
-    /// [`WIDTH_MAX`](watch_machine::WIDTH_MAX). The only error is want of memory.
+    /// [`WIDTH_MAX`](watch_machine::WIDTH_MAX). The only error is out of memory.
     #[tactic(auto, using(crate::proofs::Fresh::fresh_is_agent))]
     pub fn new(alloc: Global, inventory: Inventory, width: u32) -> Result<Agent, WatchFault>
         ensures fresh { IfOk result (λ agent. agent ≡ fresh inventory width) }

@@ -29,7 +29,7 @@ pub struct KnownEnd {
 
 /// The line that keeps an end, without a line feed. There is no credential in it.
 ///
-/// The only error is want of memory.
+/// The only error is out of memory.
 #[tactic(auto, unfolding(crate::specs::Ends::end_text))]
 pub fn end_text(alloc: Global, end: &KnownEnd) -> Result<Text, AllocError>
     ensures { IfOk result (λ text. text ≡ end_text end.now) }
@@ -47,7 +47,7 @@ pub fn end_text(alloc: Global, end: &KnownEnd) -> Result<Text, AllocError>
 /// The end that a line keeps, where it was told in this boot; `None` where it keeps none, or was told in another. The line has no
 /// line feed.
 ///
-/// The only error is want of memory.
+/// The only error is out of memory.
 #[tactic(auto, unfolding(crate::specs::Ends::end_of_text))]
 pub fn read_end(alloc: Global, boot: &[u8], line: &[u8]) -> Result<Option<KnownEnd>, AllocError>
     ensures { IfOk result (λ read. read ≡ in_boot boot.now (end_of_text line.now)) }

@@ -18,7 +18,7 @@ impl Agent {
     ///
     /// An entry that was served before, by its name, of the same kind and with the same credential, keeps its standing, and its end,
     /// where it was told in this boot, is handed to the new Watch before anything else. Requests that are out are forgotten: their
-    /// answers are to be dropped. The only error is want of memory.
+    /// answers are to be dropped. The only error is out of memory.
     pub fn rebuilt(
         &self,
         alloc: Global,
@@ -40,7 +40,7 @@ impl Agent {
         })
     }
 
-    /// What is said of each entry of another inventory from then on. The only error is want of memory.
+    /// What is said of each entry of another inventory from then on. The only error is out of memory.
     fn carried(&self, alloc: Global, inventory: &Inventory) -> Result<Vec<Standing>, AllocError>
         ensures value { IfOk result (λ standings. standings.items ≡ map (carried_standing self.now inventory.now) (range_with_len 0 (length inventory.now.forest.entries))) }
         ensures bounds { IfOk result (λ standings. All IsStanding standings.items) }
@@ -102,7 +102,7 @@ fn is_same_kind(one: Kind, other: Kind) -> bool
     }
 }
 
-/// Hands the ends that were told to a Watch, by index. The only error is want of memory.
+/// Hands the ends that were told to a Watch, by index. The only error is out of memory.
 fn hand_all(alloc: Global, watch: &mut Watch, standings: &[Standing]) -> Result<(), WatchFault>
     requires { length standings.now ≡ length watch.old.forest.entries }
     ensures handed { OnOk result (AreHanded (λ i. (standing_in standings.now i).told) watch.old (length standings.now) watch.new) }
@@ -114,7 +114,7 @@ fn hand_all(alloc: Global, watch: &mut Watch, standings: &[Standing]) -> Result<
     Ok(())
 }
 
-/// Hands the end of an entry to a Watch, where it was told. The only error is want of memory.
+/// Hands the end of an entry to a Watch, where it was told. The only error is out of memory.
 #[tactic(auto, using(crate::proofs::Left::known_free, crate::proofs::Left::turn_entries))]
 fn hand(alloc: Global, watch: &mut Watch, entry: u32, told: Option<Told>) -> Result<(), WatchFault>
     requires { entry < length watch.old.forest.entries }

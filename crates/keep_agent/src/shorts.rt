@@ -22,7 +22,7 @@ pub struct Short {
 impl Agent {
     /// The needs that are to be said to be past what their entries reach, by entry; they count as said from then on. A reach is said
     /// where none was, or where it differs by the margin or more from what was said last; of a need that never ends no sooner than a day
-    /// before it. To be asked after each clock. The only error is want of memory, and then nothing counts as said.
+    /// before it. To be asked after each clock. The only error is out of memory, and then nothing counts as said.
     pub fn say_shorts(&mut self, alloc: Global) -> Result<Vec<Short>, AllocError>
         ensures shorts { IfOk result (λ shorts. shorts.items ≡ shorts_of self.old) }
         ensures said { OnOk result (self.new ≡ all_said self.old) }
@@ -34,7 +34,7 @@ impl Agent {
     }
 }
 
-/// All that is to be said, by entry. The only error is want of memory.
+/// All that is to be said, by entry. The only error is out of memory.
 fn shorts_of(alloc: Global, watch: &Watch, standings: &[Standing]) -> Result<Vec<Short>, AllocError>
     requires { length standings.now ≡ length watch.now.forest.entries }
     ensures { IfOk result (λ shorts. shorts.items ≡ shorts_in watch.now standings.now) }
@@ -47,7 +47,7 @@ fn shorts_of(alloc: Global, watch: &Watch, standings: &[Standing]) -> Result<Vec
     Ok(shorts)
 }
 
-/// Appends the reach of an entry, where it is to be said. The only error is want of memory.
+/// Appends the reach of an entry, where it is to be said. The only error is out of memory.
 fn push_short(entry: u32, news: Option<u64>, shorts: &mut Vec<Short>) -> Result<(), AllocError>
     ensures { OnOk result (shorts.new.items ≡ shorts.old.items ++ short_at entry news) }
 {

@@ -14,7 +14,7 @@ use std::alloc::{AllocError, Global};
 
 /// The text of a certificate of version 2 over a forest: its start, and its wake-ups or the pair that cannot be kept.
 ///
-/// The only error is want of memory.
+/// The only error is out of memory.
 pub fn text_of(
     alloc: Global,
     forest: &Forest,

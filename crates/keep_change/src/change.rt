@@ -39,7 +39,7 @@ pub enum Record {
 }
 
 impl What {
-    /// The same once more. The only error is want of memory.
+    /// The same once more. The only error is out of memory.
     pub fn copy(&self) -> Result<What, AllocError>
         ensures { IfOk result (λ what. what ≡ self.now) }
     {

@@ -8,7 +8,7 @@ use std::alloc::{AllocError, Global};
 /// Of each record, whether a later one makes it void: a need that is given again beside the same word of the file. A replay of
 /// the others gives the same inventory on every file.
 ///
-/// The only error is want of memory.
+/// The only error is out of memory.
 pub fn voids(alloc: Global, records: &[Record]) -> Result<Vec<bool>, AllocError>
     ensures { IfOk result (λ outs. outs.items ≡ voids records.now) }
 {

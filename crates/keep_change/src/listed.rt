@@ -10,7 +10,7 @@ use keep_moment::{Moment, Name, Text};
 use keep_tree::Forest;
 use std::alloc::{AllocError, Global};
 
-/// The rows of what is served, one for each entry, in order. The only error is want of memory.
+/// The rows of what is served, one for each entry, in order. The only error is out of memory.
 #[tactic(auto, using(crate::proofs::Rowed::rows_none, crate::proofs::Rowed::rows_more), unfolding(crate::specs::Listed::rows_of))]
 pub fn rows_of(alloc: Global, served: &Served) -> Result<Rows, AllocError>
     ensures { IfOk result (λ rows. rows ≡ rows_of served.now) }

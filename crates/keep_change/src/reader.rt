@@ -11,7 +11,7 @@ use std::alloc::{AllocError, Global};
 
 /// The record that a line writes, `None` where it writes none. The line has no line feed.
 ///
-/// The only error is want of memory.
+/// The only error is out of memory.
 #[tactic(auto, unfolding(crate::specs::Records::record_of))]
 pub fn read_record(alloc: Global, text: &[u8]) -> Result<Option<Record>, AllocError>
     ensures { IfOk result (λ read. read ≡ record_of text.now) }

@@ -125,7 +125,7 @@ impl Replayed {
 /// what it said when the change was made; where it says something else, the file wins. After a record that this file is to
 /// hold all changes before it, the file alone counts.
 ///
-/// The only error is want of memory.
+/// The only error is out of memory.
 #[tactic(auto, unfolding(crate::specs::Replay::replayed))]
 pub fn replay(alloc: Global, file: &File, records: &[Record]) -> Result<Replayed, AllocError>
     ensures { IfOk result (λ r. r ≡ replayed file.now records.now) }

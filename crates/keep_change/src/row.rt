@@ -41,7 +41,7 @@ impl fmt::Debug for Row {
 }
 
 impl Row {
-    /// Another row with the same fields. The only error is want of memory.
+    /// Another row with the same fields. The only error is out of memory.
     pub fn copy(&self) -> Result<Row, AllocError>
         ensures { IfOk result (λ row. row ≡ self.now) }
     {

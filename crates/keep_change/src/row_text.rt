@@ -52,7 +52,7 @@ pub(crate) struct Sent {
     pub(crate) file: Option<Text>,
 }
 
-/// The row that a line writes, `None` where it writes none. The only error is want of memory.
+/// The row that a line writes, `None` where it writes none. The only error is out of memory.
 #[tactic(auto, unfolding(crate::specs::RowText::row_of))]
 pub(crate) fn read_row(alloc: Global, line: &[u8]) -> Result<Option<Row>, AllocError>
     ensures { IfOk result (λ row. row ≡ row_of line.now) }

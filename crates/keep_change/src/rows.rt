@@ -50,7 +50,7 @@ impl fmt::Debug for Rows {
 }
 
 impl Rows {
-    /// These rows. The only error is want of memory.
+    /// These rows. The only error is out of memory.
     pub fn of(alloc: Global, items: Vec<Row>) -> Result<Rows, AllocError>
         ensures { IfOk result (λ rows. rows ≡ items.items) }
     {
@@ -94,7 +94,7 @@ impl Rows {
         place_of(&self.items, &self.places, self.is_apart, name)
     }
 
-    /// The same rows once more. The only error is want of memory.
+    /// The same rows once more. The only error is out of memory.
     pub fn copy(&self, alloc: Global) -> Result<Rows, AllocError>
         ensures { IfOk result (λ rows. rows ≡ self.now) }
     {

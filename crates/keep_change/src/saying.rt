@@ -12,7 +12,7 @@ use std::alloc::{AllocError, Global};
 /// a whole entry, the fingerprint of that; and `absent` where no entry has the name. A change stands beside what the file
 /// says so when the change is made.
 ///
-/// The only error is want of memory.
+/// The only error is out of memory.
 #[tactic(auto, unfolding(crate::specs::Said::said))]
 pub fn said(alloc: Global, rows: &Rows, name: &[u8], what: &What) -> Result<Text, AllocError>
     ensures { IfOk result (λ word. word ≡ said rows.now name.now what.now) }

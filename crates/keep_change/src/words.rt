@@ -9,7 +9,7 @@ use keep_words::{number_up_to, push_number};
 use sha2::{Digest, Sha256};
 use std::alloc::{AllocError, Global};
 
-/// What bytes are known by: their SHA-256 in 64 hexadecimal digits. The only error is want of memory.
+/// What bytes are known by: their SHA-256 in 64 hexadecimal digits. The only error is out of memory.
 ///
 /// Source: FIPS 180-4.
 #[tactic(auto, unfolding(crate::specs::Words::fingerprint))]

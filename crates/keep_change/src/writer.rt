@@ -9,7 +9,7 @@ use std::alloc::{AllocError, Global};
 
 /// The line that writes a record, without a line feed. It may hold a credential.
 ///
-/// The only error is want of memory.
+/// The only error is out of memory.
 #[tactic(auto, unfolding(crate::specs::Records::record_text))]
 pub fn text_of(alloc: Global, record: &Record) -> Result<Text, AllocError>
     ensures { IfOk result (λ text. text ≡ record_text «record».now) }

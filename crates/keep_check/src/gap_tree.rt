@@ -24,7 +24,7 @@ pub(crate) enum GapTree {
 }
 
 impl GapTree {
-    /// The tree over runs. The only error is want of memory, which is in proportion to the runs.
+    /// The tree over runs. The only error is out of memory, which is in proportion to the runs.
     pub(crate) fn over(alloc: Global, runs: &[Run]) -> Result<GapTree, AllocError>
         requires { (n : ℕ) × AllFit n runs.now }
         ensures { IfOk result (λ t. HasMarks t × (gaps_in t ≡ gaps_of runs.now)) }

@@ -31,7 +31,7 @@ impl<'a> Model for RisingRuns<'a> {
 }
 
 impl<'a> RisingRuns<'a> {
-    /// These runs. The only error is want of memory, which is in proportion to them.
+    /// These runs. The only error is out of memory, which is in proportion to them.
     pub(crate) fn over(
         alloc: Global,
         start: u64,

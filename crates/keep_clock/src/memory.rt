@@ -37,7 +37,7 @@ impl Model for MemoryClock {
 
 impl MemoryClock {
     /// A clock with these readings to come, `None` for one that fails; past the last of them each fails. It keeps its first
-    /// `room` calls. The only error is want of memory.
+    /// `room` calls. The only error is out of memory.
     pub fn new(
         alloc: Global,
         readings: Vec<Option<Reading>>,

@@ -33,7 +33,7 @@ pub struct SystemClock<'a, R> {
 }
 
 impl<'a, R: Net + std::time::Clock> SystemClock<'a, R> {
-    /// The clocks of the system. The only error is want of memory.
+    /// The clocks of the system. The only error is out of memory.
     pub fn new(alloc: Global, rt: &'a R) -> Result<SystemClock<'a, R>, AllocError>
         ensures { IfOk result (λ clock. ⟦<SystemClock<'a, R> as Clock>⟧.seen clock ≡ outside 0) }
     {

@@ -24,7 +24,7 @@ use std::alloc::Global;
 ///
 /// # Errors
 ///
-/// The first fault in the order of [`RequestFault`], or want of memory. A line that is too long is refused before any memory is
+/// The first fault in the order of [`RequestFault`], or out of memory. A line that is too long is refused before any memory is
 /// asked for.
 #[tactic(auto, unfolding(crate::specs::Requests::request_of))]
 pub fn read_request(alloc: Global, line: &[u8]) -> Result<Request, RequestFault>

@@ -46,7 +46,7 @@ pub enum Reply {
 
 /// The lines of a reply: `ok` and the lines that tell more, or `error: WHY`, each with its line feed.
 ///
-/// The only error is want of memory.
+/// The only error is out of memory.
 #[tactic(auto, unfolding(crate::specs::Replies::reply_text))]
 pub fn write_reply(alloc: Global, reply: &Reply) -> Result<Text, AllocError>
     ensures { IfOk result (λ text. text ≡ reply_text reply.now) }

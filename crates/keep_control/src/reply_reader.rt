@@ -9,7 +9,7 @@ use std::alloc::{AllocError, Global};
 /// The reply that the bytes are which came before the connection was closed; `None` where they are none, or a part of one that
 /// ends within a line.
 ///
-/// The only error is want of memory.
+/// The only error is out of memory.
 #[tactic(auto, unfolding(crate::specs::Replies::reply_of))]
 pub fn read_reply(alloc: Global, bytes: &[u8]) -> Result<Option<Reply>, AllocError>
     ensures { IfOk result (λ reply. reply ≡ reply_of bytes.now) }

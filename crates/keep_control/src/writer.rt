@@ -20,7 +20,7 @@ use std::alloc::{AllocError, Global};
 ///
 /// # Errors
 ///
-/// `NotWords` where a text of it is not UTF-8, `TooLong`, or want of memory.
+/// `NotWords` where a text of it is not UTF-8, `TooLong`, or out of memory.
 #[tactic(auto, unfolding(crate::specs::Requests::text_of))]
 pub fn write_request(alloc: Global, request: &Request) -> Result<Text, RequestFault>
     ensures { Gives (λ text. text) result (text_of request.now) }

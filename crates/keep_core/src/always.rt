@@ -17,7 +17,7 @@ pub const YEAR: u64 = 31_536_000;
 /// entry the least reach over it, or a year from `start` where nothing limits it, and no later than the last moment; of another
 /// its own. `always` has a place for each entry.
 ///
-/// The only error is want of memory.
+/// The only error is out of memory.
 pub fn needs_always(
     alloc: Global,
     forest: &Forest,

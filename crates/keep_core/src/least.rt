@@ -8,7 +8,7 @@ use keep_tree::Forest;
 use std::alloc::{AllocError, Global};
 
 /// The least reach from `at` of each entry, in seconds since 1970-01-01T00:00:00Z, `None` for no limit. One pass, since a
-/// parent stands before its child. The only error is want of memory.
+/// parent stands before its child. The only error is out of memory.
 pub(crate) fn least_reaches(
     alloc: Global,
     forest: &Forest,

@@ -25,7 +25,7 @@ pub(crate) struct Opening {
 }
 
 /// What opens a round at `at`, where no wake-up of the plan comes before; `None` where the first comes after, or there is
-/// none. Then it costs nothing that grows with the entries. The only error is want of memory.
+/// none. Then it costs nothing that grows with the entries. The only error is out of memory.
 pub(crate) fn opening_at(
     alloc: Global,
     forest: &Forest,
@@ -60,7 +60,7 @@ pub(crate) fn opening_at(
     }))
 }
 
-/// For each of so many entries whether it is among these. The only error is want of memory.
+/// For each of so many entries whether it is among these. The only error is out of memory.
 fn flags(alloc: Global, entries: u32, asked: &[u32]) -> Result<Vec<bool>, AllocError>
     requires { asks_past entries asked.now ≡ false }
     ensures { IfOk result (λ flags. AreFlags entries asked.now flags.items) }

@@ -60,7 +60,7 @@ impl<'a, R: Files<File = File> + AllocGlobal> SystemDisk<'a, R> {
         }
     }
 
-    /// Counts a call that failed, but for want of memory.
+    /// Counts a call that failed, unless it failed because memory ran out.
     fn fail(&mut self, error: &io::Error) -> DiskFault
         ensures { Tells (system_state self.old.faults self.old.fault) (system_state self.new.faults self.new.fault) (refused result) }
     {
@@ -150,7 +150,7 @@ impl<'a, R: Files<File = File> + AllocGlobal> SystemDisk<'a, R> {
     }
 }
 
-/// Counts a call that failed, but for want of memory.
+/// Counts a call that failed, unless it failed because memory ran out.
 fn count(faults: &mut u64, fault: &mut Why, error: &io::Error) -> DiskFault
     ensures { Tells (system_state faults.old fault.old) (system_state faults.new fault.new) (refused result) }
 {

@@ -32,7 +32,7 @@ pub(crate) fn check_text(
     judge_text(alloc, inventory.forest(), certificate, asked)
 }
 
-/// The start that a certificate's text states, 0 where it states none. The only error is want of memory.
+/// The start that a certificate's text states, 0 where it states none. The only error is out of memory.
 #[tactic(auto, unfolding(crate::specs::CheckRun::stated_start))]
 fn stated_start(certificate: &[u8]) -> Result<Moment, Stop>
     ensures start { IfOk result (λ start. start ≡ stated_start certificate.now) }

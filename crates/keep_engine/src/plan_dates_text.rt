@@ -72,7 +72,7 @@ fn dates_of(
     }
 }
 
-/// The start, a line for each run, and the number of their wake-ups. The only error is want of memory.
+/// The start, a line for each run, and the number of their wake-ups. The only error is out of memory.
 #[tactic(auto, using(crate::proofs::Dated::runs_are))]
 fn runs_in_dates(
     alloc: Global,
@@ -91,7 +91,7 @@ fn runs_in_dates(
     Ok(spell_runs(alloc, date.list(), lines.list(), count)?)
 }
 
-/// The start, and the pair that cannot be kept. The only error is want of memory.
+/// The start, and the pair that cannot be kept. The only error is out of memory.
 #[tactic(auto, using(crate::proofs::Dated::pair_is))]
 fn pair_in_dates(
     alloc: Global,
@@ -109,7 +109,7 @@ fn pair_in_dates(
     Ok(spell_pair(alloc, forest, date.list(), entry, needed)?)
 }
 
-/// The line of each run. The only error is want of memory.
+/// The line of each run. The only error is out of memory.
 #[tactic(auto, using(crate::proofs::Dated::lines_all))]
 fn run_lines(alloc: Global, forest: &Forest, runs: &[Run]) -> Result<Text, Stop>
     requires { All (IsAmong (length forest.now.entries)) runs.now }
@@ -124,7 +124,7 @@ fn run_lines(alloc: Global, forest: &Forest, runs: &[Run]) -> Result<Text, Stop>
     Ok(Text::from_vec(lines))
 }
 
-/// `run DATE STEP COUNT ENTRY NEEDED` and a line feed. The only error is want of memory.
+/// `run DATE STEP COUNT ENTRY NEEDED` and a line feed. The only error is out of memory.
 #[tactic(auto, using(crate::proofs::Dated::run_is))]
 fn run_line(alloc: Global, forest: &Forest, run: Run) -> Result<Text, Stop>
     requires { IsAmong (length forest.now.entries) run }

@@ -45,7 +45,7 @@ fn reaches_text(alloc: Global, forest: &Forest, start: Moment, dates: bool) -> R
     })
 }
 
-/// Whether some plan from `start` on keeps. The only error is want of memory.
+/// Whether some plan from `start` on keeps. The only error is out of memory.
 fn is_kept(alloc: Global, forest: &Forest, start: Moment) -> Result<bool, Stop>
     ensures kept { IfOk result (λ kept. IsKept forest.now start kept) }
     ensures memory { IfErr result (λ stop. stop ≡ Memory) }
@@ -56,7 +56,7 @@ fn is_kept(alloc: Global, forest: &Forest, start: Moment) -> Result<bool, Stop>
     }
 }
 
-/// Writes the line of each entry. The only error is want of memory.
+/// Writes the line of each entry. The only error is out of memory.
 fn push_lines(
     alloc: Global,
     forest: &Forest,
@@ -75,7 +75,7 @@ fn push_lines(
     Ok(())
 }
 
-/// `NAME UNTIL BY NEED` and a line feed. The only error is want of memory.
+/// `NAME UNTIL BY NEED` and a line feed. The only error is out of memory.
 #[tactic(auto, using(crate::proofs::Reaching::line_of))]
 fn reach_line(
     alloc: Global,

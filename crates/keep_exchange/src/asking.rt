@@ -12,7 +12,7 @@ use std::alloc::{AllocError, Global};
 use vault_http::Reply;
 
 /// Asks the broker to renew an entry, by a request that names the exchange's port, and gives its reply; `None` where no reply
-/// came, or none that could be read. The only error is want of memory.
+/// came, or none that could be read. The only error is out of memory.
 ///
 /// Where the broker's table is known, the reply is that of the Broker step at `t`, and the table is as that step leaves it.
 /// Known or not, nothing but `None` comes of an exchange that has failed: no connection, no whole request, or a read that failed.

@@ -81,8 +81,9 @@ fn refused<T>(status: u16, date: Option<Moment>) -> Heard<T>
     }
 }
 
-/// What the body of a renewal tells of the entry; `None` where it cannot be read, or is of another lease.
-fn renewed_in(
+/// What the body of a reply to the renewal of an entry of that kind and credential tells; `None` where it cannot be read, or is of
+/// another lease (Vault, HTTP API: `auth/token`, "Renew a token (self)"; `sys/leases`, "Renew lease"). The only error is out of memory.
+pub fn renewed_in(
     alloc: Global,
     kind: Kind,
     id: &[u8],

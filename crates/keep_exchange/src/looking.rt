@@ -19,7 +19,7 @@ use vault_json::{Lookup, ReplyFault, lookup_body, read_lookup_lease, read_lookup
 
 /// Looks an entry up at `t` with the broker, by a request that names the exchange's port, and makes of it what the broker says.
 /// `false`: no reply came, or none with status 200 that can be read, or it says what is not applied to this entry; the inventory
-/// is then as it was. The only error is want of memory. No lookup changes the number of entries.
+/// is then as it was. The only error is out of memory. No lookup changes the number of entries.
 ///
 /// Whatever the exchange, the inventory is what some reply makes of it. Where the broker's table is known, that reply is the one
 /// of the Broker step, and the table is as that step leaves it. Known or not, nothing but `false` comes of an exchange that has
@@ -54,7 +54,7 @@ pub fn look_up<E: Exchange>(
 }
 
 /// The request that looks an entry up, to a broker at that port: a token with its own credential, a lease with that of the
-/// token it belongs to. The only error is want of memory.
+/// token it belongs to. The only error is out of memory.
 #[tactic(auto, unfolding(crate::specs::Requests::lookup_of))]
 pub fn lookup_for(
     alloc: Global,

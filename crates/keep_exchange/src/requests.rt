@@ -11,7 +11,7 @@ use vault_http::Request;
 use vault_json::{lease_body, renew_body};
 
 /// The request that renews an entry, to a broker at that port: a token is asked with its own credential, a lease with that
-/// of the token that it belongs to; each for its fixed step. The only error is want of memory.
+/// of the token that it belongs to; each for its fixed step. The only error is out of memory.
 #[tactic(auto, unfolding(crate::specs::Requests::request_of))]
 pub fn request_for(
     alloc: Global,

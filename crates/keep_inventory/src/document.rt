@@ -22,7 +22,7 @@ use toml::Table;
 ///
 /// # Errors
 ///
-/// The first fault in the order of [`InvFault`], or want of memory.
+/// The first fault in the order of [`InvFault`], or out of memory.
 #[tactic(auto, unfolding(crate::specs::Inventory::read_served))]
 pub fn read_served(alloc: Global, bytes: &[u8]) -> Result<Served, InvFault>
     ensures { Gives (λ served. served) result (read_served bytes.now) }

@@ -21,7 +21,7 @@ pub type SocketLanes<'a, R> = LanesOver<SocketWires<'a, R>>;
 
 impl<'a, R: Net + Clock> LanesOver<SocketWires<'a, R>> {
     /// So many lanes, at most 32 and at least one, to the broker that listens there, with time-outs of so many seconds. Nothing is
-    /// out, and it connects to nothing yet. The only error is want of memory.
+    /// out, and it connects to nothing yet. The only error is out of memory.
     pub fn over_sockets(
         alloc: Global,
         rt: &'a R,

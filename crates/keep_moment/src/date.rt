@@ -34,7 +34,7 @@ pub fn read_rfc3339(text: &str) -> Result<Moment, TimeFault>
 
 /// The text of a moment by RFC 3339: `YYYY-MM-DDTHH:MM:SSZ`, with `T`, `Z` and no fraction.
 ///
-/// The only error is want of memory.
+/// The only error is out of memory.
 pub fn date_text(alloc: Global, moment: Moment) -> Result<Text, TimeFault>
     ensures text { IfOk result (λ t. IsDateText t moment) }
     ensures memory { IfErr result (λ fault. fault ≡ TimeFault.OutOfMemory) }

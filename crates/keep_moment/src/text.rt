@@ -31,7 +31,7 @@ impl Model for Text {
 }
 
 impl Text {
-    /// The text with these bytes. The only error is want of memory.
+    /// The text with these bytes. The only error is out of memory.
     pub fn of(alloc: Global, bytes: &[u8]) -> Result<Text, AllocError>
         ensures { IfOk result (λ t. t ≡ bytes.now) }
     {

@@ -51,7 +51,7 @@ impl Carried {
 }
 
 /// What each entry of the forest carries from `start` on. The work is in proportion to the number of entries, however deep
-/// they stand. The only error is want of memory.
+/// they stand. The only error is out of memory.
 ///
 /// Source: Vault, "Tokens" (a token's end ends its children and its leases); needs are this project's own.
 pub fn carry(alloc: Global, forest: &Forest, start: Moment) -> Result<Carried, NeedsFault>

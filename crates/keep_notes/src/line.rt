@@ -7,7 +7,7 @@ use keep_moment::Text;
 use std::alloc::{AllocError, Global};
 
 /// The line about a change of a journal that was not made again, for that reason, in an inventory of that margin in seconds: what it
-/// would change, the name of its entry, and why it was not. The only error is want of memory.
+/// would change, the name of its entry, and why it was not. The only error is out of memory.
 #[tactic(auto, unfolding(crate::specs::Lines::note_line))]
 pub fn note_line(alloc: Global, margin: u32, change: &Change, why: Why) -> Result<Text, AllocError>
     ensures { IfOk result (λ line. line ≡ note_line margin change.now why) }

@@ -9,7 +9,7 @@ use keep_words::push_number;
 use std::alloc::{AllocError, Global};
 
 /// Why a change of the entry of that name cannot be made, in an inventory of that margin in seconds: words for the one who asked for
-/// it. The only error is want of memory.
+/// it. The only error is out of memory.
 pub fn why(
     alloc: Global,
     margin: u32,

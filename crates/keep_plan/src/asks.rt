@@ -12,7 +12,7 @@ use keep_tree::{Forest, Indices};
 use std::alloc::{AllocError, Global};
 
 /// The Asks at `at`, where the next moment is `next`, `None` for none, and the entries carry `carried`: one pass over the
-/// entries, and a look at those that are over each that cannot wait. The only error is want of memory.
+/// entries, and a look at those that are over each that cannot wait. The only error is out of memory.
 pub fn asks_before(
     alloc: Global,
     forest: &Forest,

@@ -5,7 +5,7 @@ ghost use Rattle.keep_plan.specs.code.Collecting.{IsOverlong, IsWhole};
 use keep_schedule::{LIMIT, QueueSchedule, Run};
 use std::alloc::{AllocError, Global};
 
-/// The runs of the schedule's list, `None` where it is longer than [`LIMIT`]. The only error is want of memory.
+/// The runs of the schedule's list, `None` where it is longer than [`LIMIT`]. The only error is out of memory.
 pub(crate) fn collect(
     alloc: Global,
     schedule: &mut QueueSchedule,

@@ -90,7 +90,7 @@ impl Plan {
 
     /// The entries to ask at `at`, by rising index: those that are alive then, end before a need that they carry, gain by
     /// a renewal, and cannot wait for the plan's first moment after `at`. What the entries carry from the plan's start on
-    /// has to be what it was planned by. The only error is want of memory.
+    /// has to be what it was planned by. The only error is out of memory.
     ///
     /// Source: Vault, "Lease, renew, and revoke".
     pub fn asks(&self, forest: &Forest, at: Moment) -> Result<Indices, PlanFault>

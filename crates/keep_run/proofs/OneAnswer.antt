@@ -2,16 +2,13 @@
 use Rattle.std.proofs.Common.{◌≡◌, ℕ, ◌++◌, Bool, true, false, cond, List, Option, Some, None, IfSome, Result, Ok, Err, bytes_eq, refl, ap, ◌∙◌, sym, subst, ◌==◌}
 use Rattle.std.proofs.lemmas.List.{append_assoc}
 use Rattle.keep_tree.specs.declared.entry.Kind.{Kind}
-use Rattle.keep_tree.specs.declared.entry.Kind.TheVariants.{Token, Lease}
-use Rattle.vault_json.specs.declared.fault.ReplyFault.{ReplyFault}
 use Rattle.vault_json.specs.declared.renewed.Renewed.{Renewed}
-use Rattle.vault_json.specs.declared.renewed.RenewedLease.{RenewedLease}
-use Rattle.vault_json.specs.Renewed.{renew_lease_answer, renew_self_answer}
 use Rattle.vault_http.specs.declared.reply.Reply.{Reply}
 use Rattle.vault_http.specs.declared.request.Request.{Request}
 use Rattle.broker_table.specs.Step.{step}
 use Rattle.broker_table.specs.Table.{Table}
 use Rattle.keep_exchange.specs.Exchanges.{Behind, wire_of}
+use Rattle.keep_exchange.specs.Heard.{renewed_in}
 use Rattle.keep_exchange.specs.Requests.{IsAsked, request_of}
 use Rattle.keep_core.specs.LawsOfSteps.{IsShaped}
 use Rattle.keep_core.specs.declared.event.Event.{Event}
@@ -22,7 +19,7 @@ use Rattle.keep_core.specs.State.{State}
 use Rattle.keep_core.proofs.Shaped.{shape}
 use Rattle.keep_run.specs.Closed.{event_in, taken}
 use Rattle.keep_run.specs.code.Playing.{Answers}
-use Rattle.keep_run.specs.Replies.{IsAnswerOf, event_for, event_of, of_lease, of_token, told_by}
+use Rattle.keep_run.specs.Replies.{IsAnswerOf, event_for, event_of, told_of}
 use Rattle.keep_run.specs.Stops.{both}
 use Rattle.keep_run.specs.Text.{answer_line, answer_text, short_lines}
 use Rattle.keep_run.proofs.Texts.{same_shorts}
@@ -33,22 +30,14 @@ either : (i : ℕ) (b : Bool) (x y : Event) → IsAnswerOf i x → IsAnswerOf i 
 either i true x y a c = a
 either i false x y a c = c
 
-token_for : (i : ℕ) (x : Result Renewed ReplyFault) → IsAnswerOf i (of_token i x)
-token_for i (Ok r) = (tt, refl)
-token_for i (Err e) = (tt, refl)
-
-lease_for : (id : List ℕ) (i : ℕ) (x : Result RenewedLease ReplyFault) → IsAnswerOf i (of_lease id i x)
-lease_for id i (Ok r) = either i (bytes_eq r.lease_id id) (Told i r.seconds r.renewable) (Lost i) (tt, refl) (tt, refl)
-lease_for id i (Err e) = (tt, refl)
-
-told_for : (kind : Kind) (id : List ℕ) (i : ℕ) (body : List ℕ) → IsAnswerOf i (told_by kind id i body)
-told_for Token id i body = token_for i (renew_self_answer body)
-told_for Lease id i body = lease_for id i (renew_lease_answer body)
+told_for : (i : ℕ) (x : Option Renewed) → IsAnswerOf i (told_of i x)
+told_for i (Some r) = (tt, refl)
+told_for i None = (tt, refl)
 
 pub answers_for : (kind : Kind) (id : List ℕ) (i : ℕ) (reply : Option Reply) → IsAnswerOf i (event_of kind id i reply)
 unfolding event_of
 answers_for kind id i None = (tt, refl)
-answers_for kind id i (Some r) = either i (r.status == 200) _ _ (told_for kind id i r.body) (either i _ (Refused i) (Lost i) (tt, refl) (tt, refl))
+answers_for kind id i (Some r) = either i (r.status == 200) _ _ (told_for i (renewed_in kind id r.body)) (either i _ (Refused i) (Lost i) (tt, refl) (tt, refl))
 
 -- ---- the exchange
 

@@ -1,5 +1,5 @@
 -- The reply to a renewal that was granted: the keeper is told the renewal rule's end.
-use Rattle.std.proofs.Common.{◌≡◌, ◌==◌, ℕ, ◌-◌, ◌<◌, ◌≤◌, true, List, Some, IsUtf8, bytes_eq, length, min, refl, ap, ◌∙◌, arith}
+use Rattle.std.proofs.Common.{◌≡◌, ◌==◌, ℕ, ◌-◌, ◌<◌, ◌≤◌, true, List, Option, Some, None, IsUtf8, bytes_eq, length, min, refl, ap, ◌∙◌, arith}
 use Rattle.std.proofs.lemmas.Bool.{cond-true}
 use Rattle.std.specs.Cmp.Lexicographic.{bytes_decides}
 use Rattle.keep_moment.specs.declared.moment.TheConstants.{LAST}
@@ -19,7 +19,8 @@ use Rattle.broker_table.specs.declared.served.Served.TheVariants as served
 use Rattle.broker_table.specs.Rows.{row_of}
 use Rattle.broker_table.specs.Step.{IsBody, Says, Tells, seconds_to, tells}
 use Rattle.keep_core.specs.declared.event.Event.TheVariants.{Told, Refused, Lost}
-use Rattle.keep_run.specs.Replies.{event_of, of_lease, of_token, refuses, told_by}
+use Rattle.keep_run.specs.Replies.{event_of, refuses, told_by, told_of}
+use Rattle.keep_exchange.specs.Heard.{of_lease, of_token}
 use Rattle.keep_exchange.specs.Requests.{reply_in}
 use Rattle.keep_run.proofs.Mirroring.{renewal_within}
 use Rattle.broker_table.specs.Granted.{call_for}
@@ -35,13 +36,13 @@ body_told :
 unfolding IsBody
 body_told Token id i t row body same text is =
     let n = seconds_to row.end t in
-    ap (λ b. of_token i (renew_self_answer b)) is ∙ ap (of_token i) (renewed_self_is_read n row.renewable (omega arith))
+    ap (λ b. told_of i (of_token (renew_self_answer b))) is ∙ ap (λ r. told_of i (of_token r)) (renewed_self_is_read n row.renewable (omega arith))
 body_told Lease id i t row body same text is =
     let n = seconds_to row.end t in
-    ap (λ b. of_lease id i (renew_lease_answer b)) is
-    ∙ ap (λ c. of_lease id i (renew_lease_answer (renewed_lease_text c n row.renewable))) same
-    ∙ ap (of_lease id i) (renewed_lease_is_read id n row.renewable (text refl) (omega arith))
-    ∙ cond-true (bytes_eq id id) (Told i n row.renewable) (Lost i) ((bytes_decides id id).1 refl)
+    ap (λ b. told_of i (of_lease id (renew_lease_answer b))) is
+    ∙ ap (λ c. told_of i (of_lease id (renew_lease_answer (renewed_lease_text c n row.renewable)))) same
+    ∙ ap (λ r. told_of i (of_lease id r)) (renewed_lease_is_read id n row.renewable (text refl) (omega arith))
+    ∙ ap (told_of i) (cond-true (bytes_eq id id) (Some (record { seconds = n; renewable = row.renewable })) None ((bytes_decides id id).1 refl))
 
 pub sent_told :
     (kind : Kind) (id : List ℕ) (i t : ℕ) (row : Row) → row.credential ≡ id → (kind ≡ Lease → IsUtf8 id) → (sent : Served) → Tells t (call_for kind) row sent →

@@ -1,33 +1,24 @@
 -- Replies: the event that a reply to a renewal gives.
--- Source: Vault, HTTP API: `auth/token`, "Renew a token (self)"; `sys/leases`, "Renew lease". Which status means what is this
--- project's own.
-use Rattle.std.specs.Prelude.{◌≡◌, ℕ, ◌==◌, ◌&&◌, not, List, Option, Some, None, Result, Ok, Err, bytes_eq, nat_le, nat_lt, if◌then◌else◌}
+-- Source: Vault, HTTP API, for what a body tells (keep_exchange's). Which status means what is this project's own.
+use Rattle.std.specs.Prelude.{◌≡◌, ℕ, ◌==◌, ◌&&◌, not, List, Option, Some, None, nat_le, nat_lt, if◌then◌else◌}
 use Rattle.keep_tree.specs.declared.entry.Kind.{Kind}
-use Rattle.keep_tree.specs.declared.entry.Kind.TheVariants.{Token, Lease}
 use Rattle.keep_tree.specs.Forest.{Forest, entry_at}
 use Rattle.keep_inventory.specs.Inventories.{credential_at}
 use Rattle.keep_core.specs.declared.event.Event.{Event}
 use Rattle.keep_core.specs.declared.event.Event.TheVariants.{Told, Refused, Lost}
 use Rattle.keep_core.specs.LawsOfHistories.{IsAnswer}
 use Rattle.keep_core.specs.Step.{of_entry}
+use Rattle.keep_exchange.specs.Heard.{renewed_in}
 use Rattle.vault_http.specs.declared.reply.Reply.{Reply}
-use Rattle.vault_json.specs.declared.fault.ReplyFault.{ReplyFault}
 use Rattle.vault_json.specs.declared.renewed.Renewed.{Renewed}
-use Rattle.vault_json.specs.declared.renewed.RenewedLease.{RenewedLease}
-use Rattle.vault_json.specs.Renewed.{renew_lease_answer, renew_self_answer}
 
-abbrev pub of_token : ℕ → Result Renewed ReplyFault → Event
-of_token i (Ok r) = Told i r.seconds r.renewable
-of_token i (Err fault) = Lost i
-
--- of a lease, with the lease id that was asked
-abbrev pub of_lease : List ℕ → ℕ → Result RenewedLease ReplyFault → Event
-of_lease id i (Ok r) = if bytes_eq r.lease_id id then Told i r.seconds r.renewable else Lost i
-of_lease id i (Err fault) = Lost i
+-- what the body tells, if it is read and is of the entry that was asked for
+abbrev pub told_of : ℕ → Option Renewed → Event
+told_of i None = Lost i
+told_of i (Some r) = Told i r.seconds r.renewable
 
 abbrev pub told_by : Kind → List ℕ → ℕ → List ℕ → Event
-told_by Token id i body = of_token i (renew_self_answer body)
-told_by Lease id i body = of_lease id i (renew_lease_answer body)
+told_by kind id i body = told_of i (renewed_in kind id body)
 
 -- 400 to 499 but 429
 abbrev pub refuses : ℕ → Event → Event → Event

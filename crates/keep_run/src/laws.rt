@@ -42,7 +42,7 @@ pub fn end_law()
     ensures { EndLaw }
 {}
 
-/// The law of answers: without faults no answer of a round is refused but for want of memory.
+/// The law of answers: without faults no answer of a round is refused, unless memory runs out.
 pub fn answers_taken_law()
     ensures { AnswersTakenLaw }
 {}

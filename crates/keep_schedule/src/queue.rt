@@ -51,7 +51,7 @@ impl<'a> Model for QueueSchedule<'a> {
 impl<'a> QueueSchedule<'a> {
     /// The schedule of the forest from `start` on, where `carried` is what its entries carry from there and no pair of them
     /// is unkeepable: its list is that of the forces from `start` on, whose moments are least and latest. Its runs are fewer
-    /// than twice the entries. It makes room for every entry at once. The only error is want of memory.
+    /// than twice the entries. It makes room for every entry at once. The only error is out of memory.
     pub fn new(
         alloc: Global,
         forest: &'a Forest,

@@ -28,7 +28,7 @@ pub fn read_for_good(alloc: Global, bytes: &[u8]) -> Result<Inventory, InvFault>
     Ok(inventory)
 }
 
-/// Which entries are needed as long as they can be kept, by what their tables leave open. The only error is want of memory.
+/// Which entries are needed as long as they can be kept, by what their tables leave open. The only error is out of memory.
 #[tactic(auto, using(crate::proofs::ForGood::marks_none, crate::proofs::ForGood::marks_more, crate::proofs::ForGood::marks_all))]
 pub fn marks(alloc: Global, notes: &[Note]) -> Result<Vec<bool>, AllocError>
     ensures { IfOk result (λ always. always.items ≡ marks notes.now) }

@@ -7,7 +7,7 @@ use keep_change::{Row, Rows};
 use keep_tree::Kind;
 use std::alloc::{AllocError, Global};
 
-/// The rows as the tables of a file stand: tokens before leases, and each kind in its order. The only error is want of memory.
+/// The rows as the tables of a file stand: tokens before leases, and each kind in its order. The only error is out of memory.
 #[tactic(auto, unfolding(crate::specs::Order::in_order))]
 pub fn in_order(alloc: Global, rows: &Rows) -> Result<Rows, AllocError>
     ensures { IfOk result (λ ordered. ordered ≡ in_order rows.now) }

@@ -29,7 +29,7 @@ pub fn read_at(alloc: Global, bytes: &[u8], start: Moment) -> Result<Inventory, 
 /// Gives each of the entries that `always` marks, which has a place for each entry, the need that it has from `start` on: the
 /// least reach over it, or a year from `start` where nothing limits it, and no later than the last moment. The others keep theirs.
 ///
-/// The only error is want of memory, which leaves the inventory as it was.
+/// The only error is out of memory, which leaves the inventory as it was.
 #[tactic(auto, using(crate::proofs::Started::needs_for_each, crate::proofs::Started::needs_set))]
 pub fn need_always(
     alloc: Global,

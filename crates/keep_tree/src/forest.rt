@@ -93,7 +93,7 @@ impl Forest {
         }
     }
 
-    /// Another forest with the same entries, names and margin. The only error is want of memory.
+    /// Another forest with the same entries, names and margin. The only error is out of memory.
     pub fn copy(&self) -> Result<Forest, AllocError>
         ensures { IfOk result (λ g. g ≡ self.now) }
     {
@@ -329,7 +329,7 @@ impl Forest {
     }
 }
 
-/// An entry with the same fields. The only error is want of memory.
+/// An entry with the same fields. The only error is out of memory.
 fn copy_entry(entry: &Entry) -> Result<Entry, AllocError>
     ensures { IfOk result (λ e. e ≡ entry.now) }
 {
@@ -345,7 +345,7 @@ fn copy_entry(entry: &Entry) -> Result<Entry, AllocError>
     })
 }
 
-/// Entries with the same fields. The only error is want of memory.
+/// Entries with the same fields. The only error is out of memory.
 fn copy_entries(alloc: Global, entries: &[Entry]) -> Result<Vec<Entry>, AllocError>
     ensures { IfOk result (λ copies. copies.items ≡ entries.now) }
 {

@@ -18,7 +18,7 @@ impl<T> Model for Listed<T> {
 }
 
 impl<T: Copy> Listed<T> {
-    /// The list of these values. The only error is want of memory.
+    /// The list of these values. The only error is out of memory.
     pub fn of(alloc: Global, items: &[T]) -> Result<Listed<T>, AllocError>
         ensures { IfOk result (λ x. x ≡ items.now) }
     {

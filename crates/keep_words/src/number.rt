@@ -19,7 +19,7 @@ pub fn number_up_to(word: &[u8], most: u64) -> Option<u64>
 
 /// Appends a number in its one spelling.
 ///
-/// The only error is want of memory, which leaves the text as it was.
+/// The only error is out of memory, which leaves the text as it was.
 pub fn push_number(alloc: Global, number: u64, text: &mut Vec<u8>) -> Result<(), AllocError>
     ensures appended { OnOk result (text.new.items ≡ text.old.items ++ decimal number) }
     ensures unchanged { OnErr result (text.new.items ≡ text.old.items) }

@@ -36,7 +36,7 @@ pub fn renewed_self(alloc: Global, seconds: Span, renewable: bool) -> Result<Tex
 
 /// The body of a broker's reply to a lease's renewal, as
 /// `{"lease_duration":60,"lease_id":"db/creds/app/1","renewable":true}` (Vault, HTTP API `sys/leases`, "Renew lease").
-/// The id must be UTF-8. The only error is want of memory.
+/// The id must be UTF-8. The only error is out of memory.
 pub fn renewed_lease(
     alloc: Global,
     id: &[u8],
@@ -69,7 +69,7 @@ pub fn looked_self(alloc: Global, token: LookedToken) -> Result<Text, AllocError
 
 /// The body of a broker's reply to a lease's lookup, as
 /// `{"data":{"id":"db/creds/app/1","issue_time":"1970-01-01T00:15:00Z","renewable":true,"ttl":60}}` (Vault, HTTP API
-/// `sys/leases`, "Read lease"). The id must be UTF-8. The only error is want of memory.
+/// `sys/leases`, "Read lease"). The id must be UTF-8. The only error is out of memory.
 pub fn looked_lease(
     alloc: Global,
     id: &[u8],
@@ -91,7 +91,7 @@ pub fn looked_lease(
 }
 
 /// The body of a broker's reply that refuses a request, as `{"errors":["permission denied"]}` (Vault, HTTP API, "Error
-/// response"). The only error is want of memory.
+/// response"). The only error is out of memory.
 pub fn errors(alloc: Global, text: &str) -> Result<Text, AllocError>
     ensures { IfOk result (λ t. t ≡ errors_text text.now) }
 {

@@ -9,7 +9,7 @@ use serde_json::{Value, json};
 use std::alloc::{AllocError, Global};
 
 /// The body of a request to renew the own token by `step` seconds, as `{"increment":60}` (Vault, HTTP API
-/// `auth/token`, "Renew a token (self)"). The only error is want of memory.
+/// `auth/token`, "Renew a token (self)"). The only error is out of memory.
 pub fn renew_body(alloc: Global, step: Span) -> Result<Text, AllocError>
     ensures { IfOk result (λ t. t ≡ renew_text step) }
 {
@@ -27,7 +27,7 @@ pub fn lease_body(alloc: Global, id: &[u8], step: Span) -> Result<Text, AllocErr
 }
 
 /// The body of a request to look up a lease, as `{"lease_id":"db/creds/app/1"}` (Vault, HTTP API `sys/leases`, "Read
-/// lease"). The id must be UTF-8. The only error is want of memory.
+/// lease"). The id must be UTF-8. The only error is out of memory.
 pub fn lookup_body(alloc: Global, id: &[u8]) -> Result<Text, AllocError>
     requires { IsUtf8 id.now }
     ensures { IfOk result (λ t. t ≡ lookup_text id.now) }

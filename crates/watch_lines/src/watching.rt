@@ -88,7 +88,7 @@ impl Watching {
         self.inventory.forest()
     }
 
-    /// One turn of the machine, by an event that it does not refuse. The only error is want of memory.
+    /// One turn of the machine, by an event that it does not refuse. The only error is out of memory.
     pub(crate) fn turn(&mut self, alloc: Global, event: Event) -> Result<Output, AllocError>
         requires { refusal self.old.machine event ≡ None }
         ensures turned { IfOk result (λ output. Turn self.old.machine event (Ok output) self.new.machine) }
@@ -103,7 +103,7 @@ impl Watching {
     /// Takes a line, and appends the lines that answer it. The requests of a clock go out on the lanes before this answers.
     ///
     /// The last line is `wait ELAPSED` or `clock`. A name that no entry has is `fault unknown-name`, and an end that is known
-    /// after a clock is `fault after-clock`; both change nothing. The only error is want of memory.
+    /// after a clock is `fault after-clock`; both change nothing. The only error is out of memory.
     #[tactic(auto, using(crate::proofs::Taking::heard_need, crate::proofs::Taking::heard_begin, crate::proofs::Taking::heard_known, crate::proofs::Taking::heard_unknown, crate::proofs::Taking::abreast_need, crate::proofs::Taking::abreast_begin))]
     pub(crate) fn take<L: Lanes>(
         &mut self,

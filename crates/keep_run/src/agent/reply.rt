@@ -1,13 +1,14 @@
 //! The event that a reply to a renewal gives.
 ghost use Rattle.std.specs.Prelude.{◌≡◌, IfOk};
 ghost use Rattle.keep_core.specs.Refusal.{TellsSpan};
-ghost use Rattle.keep_run.specs.Replies.{event_of, told_by};
+ghost use Rattle.keep_run.specs.Replies.{event_of, told_of};
 
 use keep_core::Event;
+use keep_exchange::renewed_in;
 use keep_tree::Kind;
 use std::alloc::{AllocError, Global};
 use vault_http::Reply;
-use vault_json::{ReplyFault, read_renew_lease, read_renew_self};
+use vault_json::Renewed;
 
 /// The event that a reply to the request for an entry gives; `None`: no reply came, or none that could be read. The only
 /// error is want of memory.
@@ -26,7 +27,7 @@ pub fn event_from(
         return Ok(Event::Lost(i));
     };
     if reply.status == 200 {
-        return told_by(alloc, kind, id, i, reply.body.list());
+        return Ok(told_of(i, renewed_in(alloc, kind, id, reply.body.list())?));
     }
     if (400 <= reply.status) & (reply.status < 500) & (reply.status != 429) {
         return Ok(Event::Refused(i));
@@ -34,34 +35,17 @@ pub fn event_from(
     Ok(Event::Lost(i))
 }
 
-fn told_by(alloc: Global, kind: Kind, id: &[u8], i: u32, body: &[u8]) -> Result<Event, AllocError>
-    ensures is { IfOk result (λ event. event ≡ told_by kind id.now i body.now) }
-    ensures span { IfOk result TellsSpan }
+// The event of what a body tells of the entry, if it tells something.
+fn told_of(i: u32, renewed: Option<Renewed>) -> Event
+    ensures is { result ≡ told_of i renewed }
+    ensures span { TellsSpan result }
 {
-    match kind {
-        Kind::Token => match read_renew_self(alloc, body) {
-            Ok(renewed) => Ok(Event::Told {
-                i,
-                seconds: renewed.seconds as u64,
-                renewable: renewed.renewable,
-            }),
-            Err(ReplyFault::OutOfMemory) => Err(AllocError),
-            Err(_) => Ok(Event::Lost(i)),
+    match renewed {
+        Some(renewed) => Event::Told {
+            i,
+            seconds: renewed.seconds as u64,
+            renewable: renewed.renewable,
         },
-        Kind::Lease => match read_renew_lease(alloc, body) {
-            Ok(renewed) => {
-                if renewed.lease_id.list() == id {
-                    Ok(Event::Told {
-                        i,
-                        seconds: renewed.seconds as u64,
-                        renewable: renewed.renewable,
-                    })
-                } else {
-                    Ok(Event::Lost(i))
-                }
-            }
-            Err(ReplyFault::OutOfMemory) => Err(AllocError),
-            Err(_) => Ok(Event::Lost(i)),
-        },
+        None => Event::Lost(i),
     }
 }
