@@ -22,7 +22,7 @@ apart_back path other apart = ⊎_elim
 at_path : (path : List ℕ) (file : File) (image : Image) → placed path file image path ≡ Some file
 at_path path file image = ap (λ (b : Bool). if b then Some file else image path) ((bytes_eq-Decides path path).1 refl)
 
-moves_elsewhere : (copy : List ℕ) (file : File) (a b : Image) → Moves copy file a b → SameElsewhere copy a b
+pub moves_elsewhere : (copy : List ℕ) (file : File) (a b : Image) → Moves copy file a b → SameElsewhere copy a b
 moves_elsewhere copy file a b (inl same) other apart = ap (λ (image : Image). image other) same
 moves_elsewhere copy file a b (inr moved) other apart = ap (λ (image : Image). image other) moved ∙ cond-false (bytes_eq copy other) (Some file) (a other) apart
 

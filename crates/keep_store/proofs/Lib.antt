@@ -7,3 +7,7 @@ pub mod Lawful
 pub mod Starting
 pub mod Taken
 pub mod Copied
+pub mod Digits
+pub mod Marked
+pub mod MovedOn
+pub mod Undamaged

@@ -1,15 +1,21 @@
 -- Laws of what is kept. Each is the contract of a public function without a body.
-use Rattle.std.specs.Prelude.{◌≡◌, ℕ, List}
+use Rattle.std.specs.Prelude.{◌≡◌, ℕ, false, List, [], ◌∷◌, ◌++◌}
+use Rattle.std.specs.Str.{bytes_eq}
 use Rattle.keep_change.specs.declared.change.Change.{Change}
 use Rattle.keep_change.specs.declared.change.What.{What}
 use Rattle.keep_change.specs.declared.replaying.File.{File}
 use Rattle.keep_change.specs.declared.replaying.Note.{Note}
 use Rattle.keep_change.specs.Records.{IsRecord}
+use Rattle.keep_change.specs.Replay.{replayed}
 use Rattle.keep_change.specs.Said.{said}
+use Rattle.keep_change.specs.Words.{fingerprint}
+use Rattle.keep_inventory.specs.Served.{Served}
+use Rattle.keep_settle.specs.Laws.{GivesRows}
 use Rattle.keep_store.specs.declared.secret.Secret.{Secret}
 use Rattle.keep_store.specs.declared.store.Store.{Store}
-use Rattle.keep_store.specs.Books.{Book, IsBookOf}
+use Rattle.keep_store.specs.Books.{Book, IsBookOf, file_of}
 use Rattle.keep_store.specs.Entering.{IsReadAs, record_for}
+use Rattle.keep_store.specs.Moved.{Says, mark_line}
 use Rattle.keep_store.specs.Records.{records_in}
 use Rattle.keep_store.specs.Stores.{IsReplayed, book_of, lines_in}
 
@@ -22,3 +28,13 @@ abbrev pub RestartLaw : Type 0
 RestartLaw =
     (store : Store) → IsReplayed store → (bytes : List ℕ) (secrets : List Secret) (b : Book) (notes : List Note)
     → IsBookOf bytes (records_in (lines_in store)) secrets b notes → b.file ≡ (book_of store).file → b.rows ≡ (book_of store).rows
+
+-- Once a file has the text that says all that is kept, it gives those rows in the order of a file, without a note: with the lines and
+-- the mark of that text, and with none. As long as the old file is there, the mark changes nothing of the rows.
+abbrev pub MovedLaw : Type 0
+MovedLaw =
+    (store : Store) → IsReplayed store → (text : List ℕ) (v : Served) → Says (book_of store) text v
+    → GivesRows (file_of text v) (book_of store).rows (records_in (lines_in store ++ mark_line text ∷ []))
+    × GivesRows (file_of text v) (book_of store).rows (records_in [])
+    × (bytes_eq (fingerprint text) (book_of store).file.mark ≡ false
+    → (replayed (book_of store).file (records_in (lines_in store ++ mark_line text ∷ []))).rows ≡ (book_of store).rows)

@@ -3,5 +3,7 @@ pub mod Books
 pub mod Entering
 pub mod Records
 pub mod Stores
+pub mod Moved
+pub mod Compacted
 pub mod Laws
 pub mod code

@@ -1,7 +1,7 @@
 ghost use Rattle.std.specs.Prelude.{◌≡◌, IfErr, IfOk, OnErr, OnOk, Ok, option_copied, string_bytes};
 ghost use Rattle.keep_served.specs.ForGood.{inventory_for_good};
 ghost use Rattle.keep_store.specs.Books.{HasSecrets, IsBook, IsBookIf, IsBookOf, IsFault, IsFaultOf, IsFileOf, IsTextOf, file_of};
-ghost use Rattle.keep_store.specs.declared.fault.FileFault.TheVariants.{OutOfMemory};
+ghost use Rattle.keep_store.specs.Moved.{IsMovedBook, Says};
 
 use crate::fault::{FileFault, faulty, unhanded};
 use crate::handing::handed;
@@ -94,6 +94,13 @@ impl Book {
         &self.rows
     }
 
+    /// The text of a file that says what is handed to a watch.
+    pub fn text(&self) -> &str
+        ensures { result.now ≡ self.now.text }
+    {
+        self.text.as_str()
+    }
+
     /// Has these rows, and the text of what is handed of them, from now on.
     pub(crate) fn turn(&mut self, rows: Rows, text: String)
         requires { IsTextOf self.old.file.margin self.old.secrets rows (string_bytes text) }
@@ -115,6 +122,28 @@ impl Book {
         Ok(())
     }
 
+    /// The book once its file has this text, of which that is read.
+    pub(crate) fn moved(
+        &self,
+        alloc: Global,
+        text: &str,
+        served: &Served,
+    ) -> Result<Book, SettleFault>
+        requires { Says self.now text.now served.now }
+        ensures { IfOk result (IsMovedBook self.now text.now served.now) }
+    {
+        let file = file_with(alloc, text.as_bytes(), served)?;
+        let rows = rows_of(alloc, served)?;
+        let secrets = copy_secrets(alloc, &self.secrets)?;
+        let text = text_of(alloc, file.margin, &secrets, &rows)?;
+        Ok(Book {
+            file,
+            rows,
+            secrets,
+            text,
+        })
+    }
+
     /// The inventory that is handed to a watch. The only error is want of memory.
     pub fn inventory(&self, alloc: Global) -> Result<Inventory, AllocError>
         ensures { IfOk result (λ inventory. inventory_for_good self.now.text ≡ Ok inventory) }
@@ -133,14 +162,14 @@ fn read_file(alloc: Global, bytes: &[u8]) -> Result<File, FileFault>
     ensures refused { IfErr result (IsFault bytes.now) }
 {
     match read_served(alloc, bytes) {
-        Ok(served) => file_with(alloc, bytes, &served),
+        Ok(served) => Ok(file_with(alloc, bytes, &served)?),
         Err(fault) => Err(faulty(fault)),
     }
 }
 
-fn file_with(alloc: Global, bytes: &[u8], served: &Served) -> Result<File, FileFault>
-    ensures read { IfOk result (λ file. file ≡ file_of bytes.now served.now) }
-    ensures refused { IfErr result (λ fault. fault ≡ OutOfMemory) }
+// The only error is want of memory.
+fn file_with(alloc: Global, bytes: &[u8], served: &Served) -> Result<File, AllocError>
+    ensures { IfOk result (λ file. file ≡ file_of bytes.now served.now) }
 {
     Ok(File {
         rows: rows_of(alloc, served)?,

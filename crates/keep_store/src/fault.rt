@@ -1,7 +1,8 @@
 ghost use Rattle.std.specs.Prelude.{◌≡◌};
 ghost use Rattle.keep_store.specs.declared.fault.FileFault.TheVariants as files;
 ghost use Rattle.keep_store.specs.declared.fault.TakeFault.TheVariants as takes;
-ghost use Rattle.keep_store.specs.code.Faults.{faulty, unhanded, unkept, unmade, unwritten};
+ghost use Rattle.keep_store.specs.declared.fault.Unsettled.TheVariants as unsettles;
+ghost use Rattle.keep_store.specs.code.Faults.{faulty, unhanded, unkept, unmade, unmoved, unsaid, unwritten};
 
 use keep_change::ChangeFault;
 use keep_disk::DiskFault;
@@ -47,6 +48,23 @@ pub enum TakeFault {
     OutOfMemory,
 }
 
+/// Why a file does not become what is kept: the first that applies, in this order. None of them holds a credential.
+#[derive(Clone, Copy, Debug, PartialEq, Eq, Error)]
+pub enum Unsettled {
+    /// Its bytes are not those that were read last.
+    #[error("the file has changed since it was read: read it anew first")]
+    Changed,
+    /// What is kept cannot be written as one file.
+    #[error("{0}")]
+    Unwritten(SettleFault),
+    /// It could not be written to the disk.
+    #[error("{0}")]
+    Disk(DiskFault),
+    /// Memory was refused.
+    #[error("out of memory")]
+    OutOfMemory,
+}
+
 impl From<AllocError> for FileFault {
     ghost from_gives = { λ _ e. e ≡ files.OutOfMemory };
 
@@ -76,6 +94,44 @@ impl<T: Drop> From<AllocFailed<T>> for TakeFault {
 
     fn from(_e: AllocFailed<T>) -> TakeFault {
         TakeFault::OutOfMemory
+    }
+}
+
+impl From<AllocError> for Unsettled {
+    ghost from_gives = { λ _ e. e ≡ unsettles.OutOfMemory };
+
+    fn from(_e: AllocError) -> Unsettled {
+        Unsettled::OutOfMemory
+    }
+}
+
+impl<T: Drop> From<AllocFailed<T>> for Unsettled {
+    ghost from_gives = { λ _ e. e ≡ unsettles.OutOfMemory };
+
+    fn from(_e: AllocFailed<T>) -> Unsettled {
+        Unsettled::OutOfMemory
+    }
+}
+
+impl From<SettleFault> for Unsettled {
+    ghost from_gives = { λ fault e. e ≡ unsaid fault };
+
+    fn from(fault: SettleFault) -> Unsettled {
+        match fault {
+            SettleFault::OutOfMemory => Unsettled::OutOfMemory,
+            fault => Unsettled::Unwritten(fault),
+        }
+    }
+}
+
+impl From<DiskFault> for Unsettled {
+    ghost from_gives = { λ fault e. e ≡ unmoved fault };
+
+    fn from(fault: DiskFault) -> Unsettled {
+        match fault {
+            DiskFault::OutOfMemory => Unsettled::OutOfMemory,
+            fault => Unsettled::Disk(fault),
+        }
     }
 }
 

@@ -3,7 +3,7 @@ use crate::entering::Entered;
 use crate::fault::{FileFault, TakeFault, unkept};
 use crate::records::records_in;
 use crate::secret::Secret;
-use keep_change::{Note, What};
+use keep_change::{Note, Record, What};
 use keep_disk::{Disk, DiskFault, FILE_MODE, replace};
 use keep_inventory::Inventory;
 use keep_journal::Journal;
@@ -33,7 +33,7 @@ pub struct Opened<'a> {
 impl<'a> Store<'a> {
     ghost use Rattle.std.specs.Prelude.{◌≡◌, Ok, IfErr, IfOk, OnErr, OnOk, IsTrue, false, option_copied};
     ghost use Rattle.std.specs.Str.{bytes_eq};
-    ghost use Rattle.keep_disk.specs.State.{IsAfter, LeavesOnly, Tells};
+    ghost use Rattle.keep_disk.specs.State.{Follows, IsAfter, LeavesOnly, Tells};
     ghost use Rattle.keep_disk.specs.Torn.{Moves};
     ghost use Rattle.keep_journal.specs.Journals.{Holds, IsThere, IsWhole, KeepsOthers, Leaves};
     ghost use Rattle.keep_journal.specs.Records.{IsBeforeOrAfter};
@@ -55,6 +55,13 @@ impl<'a> Store<'a> {
         ensures { result.now ≡ lines_in self.now }
     {
         self.journal.records()
+    }
+
+    /// The records that the lines write, in order. The only error is want of memory.
+    pub fn records(&self) -> Result<Vec<Record>, AllocError>
+        ensures { IfOk result (λ records. records.items ≡ records_in (lines_in self.now)) }
+    {
+        records_in(self.alloc, self.journal.records())
     }
 
     /// Makes a change of the entry of that name. At `Ok` it is acknowledged: each crash from then on leaves a journal that has it.
@@ -140,6 +147,8 @@ impl<'a> Store<'a> {
         requires held { Holds D.is_known (journal_of self.now) (D.state disk.old) }
         ensures there { OnOk result (IsTrue D.is_known → IsThere copy.now (record { mode = FILE_MODE; bytes = bytes.now }) (D.state disk.new)) }
         ensures held { Holds D.is_known (journal_of self.now) (D.state disk.new) }
+        ensures others { IsTrue D.is_known → KeepsOthers copy.now (D.state disk.old) (D.state disk.new) }
+        ensures crash { IsTrue D.is_known → Follows (Moves copy.now (record { mode = FILE_MODE; bytes = bytes.now })) (D.state disk.old) (D.state disk.new) }
 
         // A crash at any moment leaves the old copy, or the new one whole; and so does a fault.
         ensures any_moment { IsTrue D.is_known → LeavesOnly (D.state disk.old) (D.state disk.new)

@@ -1,10 +1,10 @@
 use keep_agent::Waiting;
 use keep_change::{Note, What};
-use keep_disk::Disk;
+use keep_disk::{Disk, DiskFault};
 use keep_inventory::Inventory;
 use keep_moment::Name;
 use keep_settle::SettleFault;
-use keep_store::{FileFault, Secret, Store, TakeFault};
+use keep_store::{FileFault, Secret, Store, TakeFault, Unsettled};
 use std::alloc::AllocError;
 use watch_machine::Millis;
 
@@ -17,13 +17,16 @@ pub struct Keeper<'a> {
 }
 
 impl<'a> Keeper<'a> {
-    ghost use Rattle.std.specs.Prelude.{◌≡◌, IfErr, IfOk, IsTrue, None, Ok, OnErr, OnOk, false, if◌then◌else◌, option_copied};
+    ghost use Rattle.std.specs.Prelude.{◌≡◌, IfErr, IfOk, IsTrue, None, Ok, OnErr, OnOk, false, if◌then◌else◌, option_copied, option_map, string_bytes};
+    ghost use Rattle.std.specs.Str.{bytes_eq};
     ghost use Rattle.keep_agent.specs.Waiting.{changed, is_due};
     ghost use Rattle.keep_disk.specs.State.{LeavesOnly};
     ghost use Rattle.keep_journal.specs.Journals.{Holds, IsWhole, KeepsOthers, Leaves};
-    ghost use Rattle.keep_journal.specs.Records.{IsBeforeOrAfter};
+    ghost use Rattle.keep_journal.specs.Records.{IsBeforeOrAfter, StandsFor};
     ghost use Rattle.keep_store.specs.Books.{HasSecrets, IsBookIf, IsFaultOf};
+    ghost use Rattle.keep_store.specs.Compacted.{compacted_lines, is_worth};
     ghost use Rattle.keep_store.specs.Entering.{IsWhyNot, line_for};
+    ghost use Rattle.keep_store.specs.Moved.{HasMarkAtMost, IsMovedIf, IsWhyUnsettled, LeftByMove};
     ghost use Rattle.keep_waiting.specs.Keepers.{IsGiven, store_of, waiting_in};
     ghost use Rattle.keep_store.specs.Records.{records_in};
     ghost use Rattle.keep_store.specs.Stores.{IsReplayed, IsTaken, book_of, journal_of, lines_in, path_in};
@@ -107,6 +110,49 @@ impl<'a> Keeper<'a> {
         self.store.take_secrets(secrets)?;
         self.waiting = self.waiting.changed(now);
         Ok(())
+    }
+
+    /// Makes the file at `target` what is kept, as [`Store::settle`] does. What waits goes on waiting.
+    pub fn settle<D: Disk>(
+        &mut self,
+        disk: &mut D,
+        target: &str,
+        mode: u32,
+        present: &[u8],
+    ) -> Result<Option<String>, Unsettled>
+        requires apart { bytes_eq (path_in (store_of self.old)) target.now ≡ false }
+        requires held { Holds D.is_known (journal_of (store_of self.old)) (D.state disk.old) }
+        requires replayed { IsReplayed (store_of self.old) }
+        ensures settled { IfOk result (λ text. IsMovedIf D.is_known (store_of self.old) target.now mode (option_map string_bytes text) (store_of self.new) (D.state disk.new)) }
+        ensures waiting { waiting_in self.new ≡ waiting_in self.old }
+        ensures refused { IfErr result (IsWhyUnsettled (book_of (store_of self.old)) present.now) }
+        ensures book { OnErr result (book_of (store_of self.new) ≡ book_of (store_of self.old)) }
+        ensures lines { OnErr result (HasMarkAtMost (store_of self.old) (store_of self.new)) }
+        ensures path { path_in (store_of self.new) ≡ path_in (store_of self.old) }
+        ensures held { Holds D.is_known (journal_of (store_of self.new)) (D.state disk.new) }
+        ensures replayed { IsReplayed (store_of self.new) }
+        ensures any_moment { IsTrue D.is_known → LeavesOnly (D.state disk.old) (D.state disk.new) (LeftByMove (store_of self.old) target.now mode (D.state disk.old)) }
+    {
+        self.store.settle(disk, target, mode, present)
+    }
+
+    /// Takes void records out of the journal, as [`Store::compact`] does. What waits goes on waiting.
+    pub fn compact<D: Disk>(&mut self, disk: &mut D) -> Result<bool, DiskFault>
+        requires held { Holds D.is_known (journal_of (store_of self.old)) (D.state disk.old) }
+        requires replayed { IsReplayed (store_of self.old) }
+        ensures worth { IfOk result (λ done. done ≡ is_worth (lines_in (store_of self.old))) }
+        ensures lines { IfOk result (λ done. lines_in (store_of self.new) ≡ (if done then compacted_lines (lines_in (store_of self.old)) else lines_in (store_of self.old))) }
+        ensures waiting { waiting_in self.new ≡ waiting_in self.old }
+        ensures refused { OnErr result (lines_in (store_of self.new) ≡ lines_in (store_of self.old)) }
+        ensures book { book_of (store_of self.new) ≡ book_of (store_of self.old) }
+        ensures path { path_in (store_of self.new) ≡ path_in (store_of self.old) }
+        ensures held { Holds D.is_known (journal_of (store_of self.new)) (D.state disk.new) }
+        ensures replayed { IsReplayed (store_of self.new) }
+        ensures any_moment { IsTrue D.is_known → LeavesOnly (D.state disk.old) (D.state disk.new)
+            (Leaves (path_in (store_of self.old)) (λ file. StandsFor file (compacted_lines (lines_in (store_of self.old)))) (D.state disk.old)) }
+        ensures others { IsTrue D.is_known → KeepsOthers (path_in (store_of self.old)) (D.state disk.old) (D.state disk.new) }
+    {
+        self.store.compact(disk)
     }
 
     /// The inventory that is to be served from now on, where a rebuilding is due: the first of the changes that wait for it came five

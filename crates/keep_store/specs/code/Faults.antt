@@ -16,6 +16,8 @@ use Rattle.keep_store.specs.declared.fault.FileFault.{FileFault}
 use Rattle.keep_store.specs.declared.fault.FileFault.TheVariants as files
 use Rattle.keep_store.specs.declared.fault.TakeFault.{TakeFault}
 use Rattle.keep_store.specs.declared.fault.TakeFault.TheVariants as takes
+use Rattle.keep_store.specs.declared.fault.Unsettled.{Unsettled}
+use Rattle.keep_store.specs.declared.fault.Unsettled.TheVariants as unsettles
 
 -- want of memory is told as such, wherever it comes from
 abbrev pub unmade : ChangeFault → TakeFault
@@ -37,6 +39,14 @@ faulty fault = files.Faulty fault
 abbrev pub unhanded : SettleFault → FileFault
 unhanded settles.OutOfMemory = files.OutOfMemory
 unhanded fault = files.Unwritten fault
+
+abbrev pub unsaid : SettleFault → Unsettled
+unsaid settles.OutOfMemory = unsettles.OutOfMemory
+unsaid fault = unsettles.Unwritten fault
+
+abbrev pub unmoved : DiskFault → Unsettled
+unmoved disks.OutOfMemory = unsettles.OutOfMemory
+unmoved fault = unsettles.Disk fault
 
 -- the change of a record, where it is one
 abbrev pub change_in : Option Record → Option Change

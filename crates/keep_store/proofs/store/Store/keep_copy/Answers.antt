@@ -1,7 +1,7 @@
 -- The copy is in its place, and the journal is left alone.
 use Rattle.keep_disk.specs.Image.{File}
 use Rattle.keep_journal.specs.Journals.{lines_of, path_of}
-use Rattle.keep_store.proofs.Copied.{in_place, on_ok, rest_past}
+use Rattle.keep_store.proofs.Copied.{in_place, moves_elsewhere, on_ok, rest_past}
 use Rattle.keep_store.proofs.store.Store.keep_copy.Goals as goal
 
 pub returns-clause-there : goal.returns-clause-there
@@ -23,3 +23,10 @@ returns-clause-held g c =
           rest_past (path_of journal) copy file (s c.args.disk.now) (s c.replace.new.disk) (c.replace.ensures.seen known) (c.replace.ensures.sound known) (c.replace.ensures.crash known)
           (lines_of journal) journal.size c.requires.apart (c.requires.held.whole known yes);
     }
+
+pub returns-clause-others : goal.returns-clause-others
+returns-clause-others g c known =
+    let s = g.D.Disk.state in
+    let copy = c.args.copy.now in
+    let file : File = record { mode = 384; bytes = c.args.bytes.now } in
+    record { seen = moves_elsewhere copy file (s c.args.disk.now).seen (s c.replace.new.disk).seen (c.replace.ensures.seen known); sound = c.replace.ensures.sound known }

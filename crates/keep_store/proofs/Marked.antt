@@ -1,0 +1,45 @@
+-- The line that says that a file holds every change, and what a journal with it gives.
+use Rattle.std.proofs.Common.{◌≡◌, ℕ, ◌<◌, Bool, true, false, List, [], ◌∷◌, ◌++◌, Option, Some, option_to_list, length, refl, sym, ap, ◌∙◌}
+use Rattle.std.specs.Cmp.Lexicographic.{bytes_decides}
+use Rattle.std.specs.Str.{bytes_eq}
+use Rattle.keep_change.specs.declared.change.Record.{Record}
+use Rattle.keep_change.specs.declared.change.Record.TheVariants.{Settling}
+use Rattle.keep_change.specs.declared.replaying.File.{File}
+use Rattle.keep_change.specs.Records.{record_of, record_text}
+use Rattle.keep_change.specs.Replay.{State, replayed}
+use Rattle.keep_change.specs.RowText.{is_word}
+use Rattle.keep_change.specs.Words.{fingerprint}
+use Rattle.keep_change.proofs.ReadBack.{line_law, written_is_read}
+use Rattle.keep_change.proofs.Settling.{unsettled}
+use Rattle.keep_journal.specs.Records.{IsLine}
+use Rattle.keep_settle.proofs.Staying.{stays}
+use Rattle.keep_store.specs.Laws.{MovedLaw}
+use Rattle.keep_store.specs.Moved.{mark_line}
+use Rattle.keep_store.specs.Books.{file_of}
+use Rattle.keep_store.specs.Records.{records_in}
+use Rattle.keep_store.specs.Stores.{book_of, lines_in}
+use Rattle.keep_store.proofs.Entered.{lacking}
+use Rattle.keep_store.proofs.Lists.{records_none, records_push}
+use Rattle.keep_store.proofs.Digits.{mark_is_word}
+
+mark_read : (text : List ℕ) → record_of (mark_line text) ≡ Some (Settling (fingerprint text))
+mark_read text = written_is_read (Settling (fingerprint text)) (mark_is_word text)
+
+pub mark_is_line : (text : List ℕ) → IsLine (mark_line text)
+mark_is_line text = lacking (mark_line text) (line_law (Settling (fingerprint text)) (mark_is_word text))
+
+records_marked : (lines : List (List ℕ)) (text : List ℕ) → records_in (lines ++ mark_line text ∷ []) ≡ records_in lines ++ Settling (fingerprint text) ∷ []
+records_marked lines text = records_push lines (mark_line text) ∙ ap (λ (o : Option Record). records_in lines ++ option_to_list o) (mark_read text)
+
+pub moved_law : MovedLaw
+moved_law store so text v says =
+    let b = book_of store in
+    let rs = records_in (lines_in store) in
+    let gives = stays (Some b.file.margin) _ b.rows text v says (file_of text v) refl refl rs in (
+      ap (replayed (file_of text v)) (records_marked (lines_in store) text) ∙ gives.0,
+      ap (replayed (file_of text v)) records_none ∙ gives.1,
+      λ other. ap (λ (s : State). s.rows) (ap (replayed b.file) (records_marked (lines_in store) text) ∙ unsettled b.file rs (fingerprint text) other) ∙ so,
+    )
+
+pub same_texts : (a b : List ℕ) → bytes_eq a b ≡ true → a ≡ b
+same_texts a b same = (bytes_decides a b).0 same

@@ -1,0 +1,29 @@
+-- Compacted: the lines of a journal without those whose records later ones make void, and without those that write no record.
+-- Source: this project's own.
+use Rattle.std.specs.Prelude.{ℕ, Bool, ◌&&◌, ◌==◌, List, is_none, length, map, nat_le}
+use Rattle.std.specs.List.{list_any}
+use Rattle.keep_change.specs.Compaction.{voids}
+use Rattle.keep_change.specs.Records.{record_of}
+use Rattle.keep_journal.specs.declared.exchange.TheConstants.{COMPACT_AT}
+use Rattle.keep_journal.specs.Records.{kept}
+use Rattle.keep_store.specs.Records.{records_in}
+
+-- each line writes a record
+abbrev pub are_records : List (List ℕ) → Bool
+are_records lines = length (records_in lines) == length lines
+
+-- the lines without those whose records later ones make void; of lines that are all records
+unfoldable pub compacted_lines : List (List ℕ) → List (List ℕ)
+compacted_lines lines = kept lines (voids (records_in lines))
+
+-- there are so many lines that it is worth while, each is a record, and some is void
+unfoldable pub is_worth : List (List ℕ) → Bool
+is_worth lines = nat_le COMPACT_AT (length lines) && (are_records lines && list_any (λ void. void) (voids (records_in lines)))
+
+-- of each line, whether it writes no record
+unfoldable pub damages : List (List ℕ) → List Bool
+damages lines = map (λ line. is_none (record_of line)) lines
+
+-- the lines that write records
+abbrev pub undamaged : List (List ℕ) → List (List ℕ)
+undamaged lines = kept lines (damages lines)

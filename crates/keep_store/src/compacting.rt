@@ -1,0 +1,76 @@
+ghost use Rattle.std.specs.Prelude.{◌≡◌, IfOk, MatchOption, false, true};
+ghost use Rattle.std.specs.List.{list_any};
+ghost use Rattle.keep_change.specs.Compaction.{voids};
+ghost use Rattle.keep_store.specs.Compacted.{is_worth};
+ghost use Rattle.keep_store.specs.Records.{records_in};
+
+use crate::records::records_in;
+use crate::store::Store;
+use keep_change::voids;
+use keep_disk::{Disk, DiskFault};
+use keep_journal::COMPACT_AT;
+use keep_moment::Text;
+use std::alloc::{AllocError, Global};
+
+impl<'a> Store<'a> {
+    ghost use Rattle.std.specs.Prelude.{◌≡◌, IfOk, IsTrue, OnErr, if◌then◌else◌};
+    ghost use Rattle.keep_disk.specs.State.{LeavesOnly};
+    ghost use Rattle.keep_journal.specs.Journals.{Holds, KeepsOthers, Leaves};
+    ghost use Rattle.keep_journal.specs.Records.{StandsFor};
+    ghost use Rattle.keep_store.specs.Compacted.{compacted_lines, is_worth};
+    ghost use Rattle.keep_store.specs.Stores.{IsReplayed, book_of, journal_of, lines_in, path_in};
+
+    /// Takes out of the journal each record that a later one makes void, where there are [`COMPACT_AT`] lines or more, each of them
+    /// writes a record, and some is void: `true` then. What is kept stays as it is, and so does what any file gives with the journal.
+    #[tactic(auto, using(crate::proofs::Undamaged::compacted_is))]
+    pub fn compact<D: Disk>(&mut self, disk: &mut D) -> Result<bool, DiskFault>
+        requires held { Holds D.is_known (journal_of self.old) (D.state disk.old) }
+        requires replayed { IsReplayed self.old }
+        ensures worth { IfOk result (λ done. done ≡ is_worth (lines_in self.old)) }
+        ensures lines { IfOk result (λ done. lines_in self.new ≡ (if done then compacted_lines (lines_in self.old) else lines_in self.old)) }
+        ensures refused { OnErr result (lines_in self.new ≡ lines_in self.old) }
+        ensures book { book_of self.new ≡ book_of self.old }
+        ensures path { path_in self.new ≡ path_in self.old }
+        ensures held { Holds D.is_known (journal_of self.new) (D.state disk.new) }
+        ensures replayed { IsReplayed self.new }
+
+        // A crash at any moment leaves the lines, or those that stay.
+        ensures any_moment { IsTrue D.is_known → LeavesOnly (D.state disk.old) (D.state disk.new)
+            (Leaves (path_in self.old) (λ file. StandsFor file (compacted_lines (lines_in self.old))) (D.state disk.old)) }
+        ensures others { IsTrue D.is_known → KeepsOthers (path_in self.old) (D.state disk.old) (D.state disk.new) }
+    {
+        let Some(voids) = worth(self.alloc, self.journal.records())? else {
+            return Ok(false);
+        };
+        self.journal.compact(disk, &voids)?;
+        Ok(true)
+    }
+}
+
+// Of each line, whether a later one makes its record void, where it is worth while to take those out.
+#[tactic(auto, unfolding(crate::specs::Compacted::is_worth))]
+fn worth(alloc: Global, lines: &[Text]) -> Result<Option<Vec<bool>>, AllocError>
+    ensures { IfOk result (λ found. MatchOption found (is_worth lines.now ≡ false)
+        (λ outs. (outs.items ≡ voids (records_in lines.now)) × (is_worth lines.now ≡ true))) }
+{
+    if lines.len() < COMPACT_AT {
+        return Ok(None);
+    }
+    let records = records_in(alloc, lines)?;
+    if records.len() != lines.len() {
+        return Ok(None);
+    }
+    let outs = voids(alloc, &records)?;
+    if some_is(&outs) {
+        Ok(Some(outs))
+    } else {
+        Ok(None)
+    }
+}
+
+// Whether some of these is true.
+fn some_is(outs: &[bool]) -> bool
+    ensures { result ≡ list_any (λ void. void) outs.now }
+{
+    outs.iter().any(|void| *void)
+}

@@ -1,0 +1,77 @@
+ghost use Rattle.std.specs.Prelude.{◌≡◌, ◌-◌, ◌++◌, IfOk, IsTrue, OnErr, OnOk, false, length, is_none};
+ghost use Rattle.std.specs.Str.{bytes_eq};
+ghost use Rattle.keep_change.specs.Records.{record_of};
+ghost use Rattle.keep_disk.specs.State.{LeavesOnly, Tells};
+ghost use Rattle.keep_journal.specs.Journals.{Exchanging, Holds, IsThere, IsWhole, bytes_of, lines_of, path_of};
+ghost use Rattle.keep_journal.specs.Records.{StandsFor, taken};
+ghost use Rattle.keep_store.specs.Compacted.{damages, undamaged};
+ghost use Rattle.keep_store.specs.Records.{records_in};
+
+use crate::records::records_in;
+use keep_change::read_record;
+use keep_disk::{Disk, DiskFault};
+use keep_journal::Journal;
+use keep_moment::Text;
+use std::alloc::{AllocError, Global};
+
+/// How many lines of a journal write no record, as no command has made them. The only error is want of memory.
+pub fn count_damaged(alloc: Global, journal: &Journal<'_>) -> Result<usize, AllocError>
+    ensures { IfOk result (λ count. count ≡ length (lines_of journal.now) - length (records_in (lines_of journal.now))) }
+{
+    let lines = journal.records();
+    let records = records_in(alloc, lines)?;
+    Ok(lines.len().saturating_sub(records.len()))
+}
+
+/// Takes the lines out of a journal that write no record, once they are in the file at `aside` after what was there. The records are as
+/// before.
+///
+/// `TooLong`: one of the two files has more than 128 MiB.
+#[tactic(auto, using(crate::proofs::Undamaged::same_records))]
+pub fn set_damaged_aside<D: Disk>(
+    alloc: Global,
+    disk: &mut D,
+    journal: &mut Journal<'_>,
+    aside: &str,
+) -> Result<(), DiskFault>
+    requires apart { bytes_eq (path_of journal.old) aside.now ≡ false }
+    requires held { Holds D.is_known journal.old (D.state disk.old) }
+    ensures taken_out { OnOk result ((lines_of journal.new ≡ undamaged (lines_of journal.old)) × (IsTrue D.is_known → IsWhole journal.new (D.state disk.new))) }
+    ensures there { OnOk result (IsTrue D.is_known → IsThere aside.now
+        (record { mode = 384; bytes = bytes_of ((D.state disk.old).seen aside.now) ++ taken (lines_of journal.old) (damages (lines_of journal.old)) }) (D.state disk.new)) }
+    ensures refused { OnErr result (lines_of journal.new ≡ lines_of journal.old) }
+    ensures records { records_in (lines_of journal.new) ≡ records_in (lines_of journal.old) }
+    ensures path { path_of journal.new ≡ path_of journal.old }
+    ensures held { Holds D.is_known journal.new (D.state disk.new) }
+
+    // A crash at any moment leaves the damaged lines in the journal, or in the file aside, or in both.
+    ensures any_moment { IsTrue D.is_known → LeavesOnly (D.state disk.old) (D.state disk.new) (Exchanging (path_of journal.old) aside.now
+        (record { mode = 384; bytes = bytes_of ((D.state disk.old).seen aside.now) ++ taken (lines_of journal.old) (damages (lines_of journal.old)) })
+        (λ file. StandsFor file (undamaged (lines_of journal.old))) (D.state disk.old)) }
+    ensures cause { Tells (D.state disk.old) (D.state disk.new) result }
+{
+    let damages = damages(alloc, journal.records())?;
+    journal.set_aside(disk, aside, &damages)
+}
+
+// Of each line, whether it writes no record.
+#[tactic(auto, using(crate::proofs::Undamaged::damages_none, crate::proofs::Undamaged::damages_more, crate::proofs::Undamaged::damages_all))]
+fn damages(alloc: Global, lines: &[Text]) -> Result<Vec<bool>, AllocError>
+    ensures { IfOk result (λ outs. outs.items ≡ damages lines.now) }
+{
+    let mut outs = Vec::new(alloc);
+    for line in lines {
+        outs.push(is_damaged(alloc, line.list())?)?;
+    }
+    Ok(outs)
+}
+
+// Whether a line writes no record.
+fn is_damaged(alloc: Global, line: &[u8]) -> Result<bool, AllocError>
+    ensures { IfOk result (λ damaged. damaged ≡ is_none (record_of line.now)) }
+{
+    match read_record(alloc, line)? {
+        None => Ok(true),
+        Some(_) => Ok(false),
+    }
+}
