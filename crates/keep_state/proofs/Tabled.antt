@@ -1,0 +1,68 @@
+-- What a table that stands alone gives, step by step.
+use Rattle.std.proofs.Common.{◌≡◌, ◌≢◌, ℕ, List, [], ◌∷◌, Option, Result, Ok, Err, get_or, length, refl, sym, ap, subst, ◌∙◌, arith}
+use Rattle.toml.specs.Data.{Members}
+use Rattle.toml.specs.View.{items_view, view}
+use Rattle.toml.specs.declared.value.Value.{Value}
+use Rattle.keep_change.specs.declared.row.Row.{Row}
+use Rattle.keep_inventory.specs.declared.fault.InvFault.{InvFault}
+use Rattle.keep_inventory.specs.declared.fault.InvFault.TheVariants as inventories
+use Rattle.keep_inventory.specs.declared.key.Key.{Key}
+use Rattle.keep_inventory.specs.Answers.{Fails}
+use Rattle.keep_inventory.specs.Inventory.{read_served, tree_of}
+use Rattle.keep_inventory.specs.Served.{Served}
+use Rattle.keep_state.specs.declared.fault.TableFault.{TableFault}
+use Rattle.keep_state.specs.declared.fault.TableFault.TheVariants.{NotToml, NotOne, Missing, Unknown, Bad, Tree, OutOfMemory}
+use Rattle.keep_state.specs.Tables.{GivesOr, beside, entry_in, entry_of, entry_under, over_entry, over_item, over_items, place_of, row_of_table, table_fault}
+
+pub gives_err : (fault : TableFault) (answer : Result Row TableFault) → Err fault ≡ answer → GivesOr (Err fault) answer
+gives_err NotToml answer e = e
+gives_err NotOne answer e = e
+gives_err (Missing key) answer e = e
+gives_err Unknown answer e = e
+gives_err (Bad key) answer e = e
+gives_err (Tree fault) answer e = e
+gives_err OutOfMemory answer e = tt
+
+-- a fault of what is read, or want of memory
+fails_with : (f : Result Members InvFault → Result Row TableFault) (fault : InvFault) (answer : Result Members InvFault) → ((other : InvFault) → f (Err other) ≡ Err (table_fault other)) → Fails fault answer → GivesOr (Err (table_fault fault)) (f answer)
+fails_with f inventories.NotToml answer is fails = sym (ap f fails ∙ is inventories.NotToml)
+fails_with f (inventories.MissingKey i k) answer is fails = sym (ap f fails ∙ is (inventories.MissingKey i k))
+fails_with f (inventories.UnknownKey i) answer is fails = sym (ap f fails ∙ is (inventories.UnknownKey i))
+fails_with f (inventories.BadValue i k) answer is fails = sym (ap f fails ∙ is (inventories.BadValue i k))
+fails_with f (inventories.Tree i t) answer is fails = sym (ap f fails ∙ is (inventories.Tree i t))
+fails_with f inventories.OutOfMemory answer is fails = tt
+
+pub no_tree : (bytes : List ℕ) (fault : InvFault) → Fails fault (tree_of bytes) → GivesOr (Err (table_fault fault)) (row_of_table bytes)
+unfolding row_of_table
+no_tree bytes fault fails = fails_with (entry_in bytes) fault (tree_of bytes) (λ other. refl) fails
+
+pub no_over : (bytes : List ℕ) (ms : Members) (fault : TableFault) → tree_of bytes ≡ Ok ms → over_entry ms ≡ Err fault → GivesOr (Err fault) (row_of_table bytes)
+unfolding row_of_table
+no_over bytes ms fault tree is = gives_err fault (entry_in bytes (tree_of bytes)) (sym (ap (entry_in bytes) tree ∙ ap (entry_under bytes) is))
+
+pub by_steps : (bytes : List ℕ) (ms : Members) (over : Option (List ℕ)) (r : Result Row TableFault) → tree_of bytes ≡ Ok ms → over_entry ms ≡ Ok over → GivesOr r (entry_of (place_of over) (read_served (beside over bytes))) → GivesOr r (row_of_table bytes)
+unfolding row_of_table
+by_steps bytes ms over r tree is gives = subst (GivesOr r) (sym (ap (entry_in bytes) tree ∙ ap (entry_under bytes) is)) gives
+
+pub not_served : (place : ℕ) (text : List ℕ) (fault : InvFault) → Fails fault (read_served text) → GivesOr (Err (table_fault fault)) (entry_of place (read_served text))
+not_served place text inventories.NotToml fails = sym (ap (entry_of place) fails)
+not_served place text (inventories.MissingKey i k) fails = sym (ap (entry_of place) fails)
+not_served place text (inventories.UnknownKey i) fails = sym (ap (entry_of place) fails)
+not_served place text (inventories.BadValue i k) fails = sym (ap (entry_of place) fails)
+not_served place text (inventories.Tree i t) fails = sym (ap (entry_of place) fails)
+not_served place text inventories.OutOfMemory fails = tt
+
+pub served_so : (place : ℕ) (text : List ℕ) (v : Served) (r : Result Row TableFault) → read_served text ≡ Ok v → GivesOr r (entry_of place (Ok v)) → GivesOr r (entry_of place (read_served text))
+served_so place text v r is gives = subst (λ (o : Result Served InvFault). GivesOr r (entry_of place o)) (sym is) gives
+
+-- ---- an array of one table
+
+pub one_item : (key : Key) (items : List Value) (x : Value) (r : Result (Option (List ℕ)) TableFault) → length items ≡ 1 → x ≡ get_or items 0 x → over_item key (view x) ≡ r → over_items key (items_view items) ≡ r
+one_item key [] x r one is so = absurd (omega (arith, one))
+one_item key (y ∷ []) x r one is so = ap (λ (v : Value). over_item key (view v)) (sym is) ∙ so
+one_item key (y ∷ z ∷ items) x r one is so = absurd (omega (arith, one))
+
+pub other_items : (key : Key) (items : List Value) → length items ≢ 1 → over_items key (items_view items) ≡ Err NotOne
+other_items key [] other = refl
+other_items key (y ∷ []) other = absurd (other refl)
+other_items key (y ∷ z ∷ items) other = refl

@@ -1,0 +1,46 @@
+-- What was recovered, and the store over it, with the copy of the file that is served.
+use Rattle.std.proofs.Common.{◌≡◌, ℕ, IsTrue, List, option_copied, refl, sym, ap, subst, ◌∙◌}
+use Rattle.keep_disk.specs.Image.{File, SameElsewhere}
+use Rattle.keep_disk.specs.State.{IsAfter, LeavesOnly}
+use Rattle.keep_change.specs.declared.change.Record.{Record}
+use Rattle.keep_journal.specs.declared.journal.Journal.{Journal}
+use Rattle.keep_journal.specs.Journals.{KeepsOthers, bytes_of, lines_of}
+use Rattle.keep_journal.specs.Records.{taken}
+use Rattle.keep_store.specs.Compacted.{damages}
+use Rattle.keep_store.specs.declared.store.Store.{Store}
+use Rattle.keep_store.specs.Records.{records_in}
+use Rattle.keep_store.specs.Stores.{IsFrom, book_of, lines_in}
+use Rattle.keep_state.specs.Opens.{IsCopyOf}
+use Rattle.keep_state.specs.Recovers.{IsAside}
+use Rattle.keep_state.proofs.Served.{aside_records, put_past}
+use Rattle.keep_state.proofs.Starting.{copied}
+use Rattle.keep_state.proofs.state.State.open.Goals as goal
+
+pub returns-clause-opened : goal.returns-clause-opened
+returns-clause-opened g c =
+    let s = g.D.Disk.state in
+    let p = c.args.paths.now in
+    let old = s c.args.disk in
+    let t = s c.recover.new.disk in
+    let u = s c.keep_good-copy.new.disk in
+    let file = option_copied c.args.file in
+    let copy = option_copied c.args.copy in
+    let r = c.in_ok-journal.ensures.recovered in
+    let o = c.in_ok-opened.ensures.opened in
+    let run : IsTrue g.D.Disk.is_known → LeavesOnly t u (IsAfter (SameElsewhere p.copy) t) = λ known. subst (λ (q : List ℕ). LeavesOnly t u (IsAfter (SameElsewhere q) t)) c.copy.ensures.value (c.keep_good-copy.ensures.any_moment known) in
+    record {
+      lines = r.lines;
+      read = r.read;
+      over = record {
+        book = subst (λ (st : Store). IsFrom file copy c.in_ok-opened.opened.fault (records_in r.lines) (book_of st) c.in_ok-opened.opened.notes.items) (sym c.new.ensures.store)
+            (subst (λ (rs : List Record). IsFrom file copy c.in_ok-opened.opened.fault rs (book_of c.in_ok-opened.opened.store) c.in_ok-opened.opened.notes.items) (aside_records r.lines _ _ r.aside) o.book);
+        damaged = r.damaged;
+        aside = subst (λ (st : Store). IsAside r.lines c.in_ok-journal.field-0.aside (lines_in st)) (sym c.new.ensures.store) (subst (λ (j : Journal). IsAside r.lines c.in_ok-journal.field-0.aside (lines_of j)) (sym o.journal_is) r.aside);
+        put = λ known none some. put_past p.copy p.aside (record { mode = 384; bytes = _ }) t u c.copy.ensures.apart.copy_aside
+            (subst (λ (q : List ℕ). KeepsOthers q t u) c.copy.ensures.value (c.keep_good-copy.ensures.others known)) (run known) (g.met.D.Disk.counts_now c.keep_good-copy.new.disk) (r.put known none some);
+        copied = subst (λ (q : List ℕ). IsCopyOf g.D.Disk.is_known q file c.in_ok-opened.opened.fault c.keep_good-copy.result u) c.copy.ensures.value c.keep_good-copy.ensures.copied;
+        waiting = c.new.ensures.waiting;
+        places_are = refl;
+      };
+      any_moment = λ known. copied r.lines p old t u (c.recover.ensures.any_moment known r.lines (r.read known)) (g.met.D.Disk.counts_now c.recover.new.disk) c.copy.ensures.apart.journal_copy (run known);
+    }

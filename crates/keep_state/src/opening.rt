@@ -1,0 +1,112 @@
+ghost use Rattle.std.specs.Prelude.{◌≡◌, IsTrue, false, option_copied};
+ghost use Rattle.std.specs.Str.{bytes_eq};
+ghost use Rattle.keep_disk.specs.Image.{SameElsewhere};
+ghost use Rattle.keep_disk.specs.State.{IsAfter, LeavesOnly};
+ghost use Rattle.keep_journal.specs.Journals.{Holds, KeepsOthers};
+ghost use Rattle.keep_store.specs.Stores.{journal_of, path_in};
+ghost use Rattle.keep_state.specs.Opens.{IsCopyOf};
+
+use crate::fault::OpenFault;
+use crate::paths::Paths;
+use crate::recovering::{Recovered, recover};
+use crate::state::State;
+use keep_change::Note;
+use keep_disk::{Disk, DiskFault};
+use keep_store::{FileFault, Store};
+use keep_waiting::Keeper;
+use std::alloc::Global;
+
+/// A state at a start.
+#[derive(Drop)]
+pub struct Opened<'a, D: Disk> {
+    /// What is kept.
+    pub state: State<'a, D>,
+    /// A note on each change of the journal that was not made, by the place of its record.
+    pub notes: Vec<Note>,
+    /// Why the last good copy is served in place of FILE; `None` where FILE is.
+    pub fault: Option<FileFault>,
+    /// How many lines of the journal wrote no record, as no command has made them. They count for nothing.
+    pub damaged: usize,
+    /// Why those are in the journal still; `None` where they are aside, or there were none.
+    pub aside: Option<DiskFault>,
+    /// Why FILE's good copy could not be kept; `None` where it is, or FILE is not served.
+    pub copy: Option<DiskFault>,
+}
+
+impl<'a, D: Disk + Drop> State<'a, D> {
+    ghost use Rattle.std.specs.Prelude.{◌≡◌, IfErr, IfOk, IsTrue, option_copied};
+    ghost use Rattle.keep_disk.specs.State.{IsKept};
+    ghost use Rattle.keep_state.specs.Opens.{IsOpenedState, IsWhyUnopened};
+
+    /// What is kept from a start on, by the journal of the folder, which is held from then on: the file with these bytes and every
+    /// change of the journal in order; or, where the file cannot be had or is not served, its last good copy with them. Lines of the
+    /// journal that no command has made go aside first. The file that is served is the last good copy then.
+    ///
+    /// # Errors
+    ///
+    /// The first in the order of [`OpenFault`].
+    pub fn open(
+        alloc: Global,
+        disk: D,
+        paths: &'a Paths,
+        file: Option<&[u8]>,
+        copy: Option<&[u8]>,
+    ) -> Result<Opened<'a, D>, OpenFault>
+        // After a restart, what is read is what is on the disk.
+        requires { IsTrue D.is_known → IsKept paths.now.journal (D.state disk) }
+        ensures opened { IfOk result (λ o. IsOpenedState D.is_known (option_copied file.entry) (option_copied copy.entry) paths.now (D.state disk) (D.state o.state.disk) o) }
+        ensures refused { IfErr result (IsWhyUnopened (option_copied file.entry)) }
+    {
+        let mut disk = disk;
+        let Recovered {
+            journal,
+            damaged,
+            aside,
+        } = recover(alloc, &mut disk, paths)?;
+        let opened = Store::open(alloc, journal, file, copy)?;
+        let keep_store::Opened {
+            store,
+            notes,
+            fault,
+        } = opened;
+        let copy = keep_good(&mut disk, &store, paths.copy(), fault, file);
+        Ok(Opened {
+            state: State {
+                alloc,
+                keeper: Keeper::new(store),
+                disk,
+                paths,
+            },
+            notes,
+            fault,
+            damaged,
+            aside,
+            copy,
+        })
+    }
+}
+
+// Makes the file with these bytes, where it is served, the last good copy at that path; why it could not be kept.
+#[tactic(auto, using(crate::proofs::Served::copy_elsewhere, crate::proofs::Served::nothing_copied, keep_store::proofs::Taken::others_stay))]
+fn keep_good<D: Disk>(
+    disk: &mut D,
+    store: &Store<'_>,
+    copy: &str,
+    fault: Option<FileFault>,
+    file: Option<&[u8]>,
+) -> Option<DiskFault>
+    requires apart { bytes_eq (path_in store.now) copy.now ≡ false }
+    requires held { Holds D.is_known (journal_of store.now) (D.state disk.old) }
+    ensures copied { IsCopyOf D.is_known copy.now (option_copied file.entry) fault result (D.state disk.new) }
+    ensures held { Holds D.is_known (journal_of store.now) (D.state disk.new) }
+
+    ensures others { IsTrue D.is_known → KeepsOthers copy.now (D.state disk.old) (D.state disk.new) }
+
+    // A crash at any moment leaves all but the copy as it might have been left before.
+    ensures any_moment { IsTrue D.is_known → LeavesOnly (D.state disk.old) (D.state disk.new) (IsAfter (SameElsewhere copy.now) (D.state disk.old)) }
+{
+    match (fault, file) {
+        (None, Some(bytes)) => store.keep_copy(disk, copy, bytes).err(),
+        _ => None,
+    }
+}

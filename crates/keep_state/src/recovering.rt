@@ -1,0 +1,68 @@
+ghost use Rattle.std.specs.Prelude.{IfErr, IfOk, IsTrue, List, ℕ};
+ghost use Rattle.keep_disk.specs.State.{IsKept, LeavesOnly};
+ghost use Rattle.keep_journal.specs.Journals.{bytes_of};
+ghost use Rattle.keep_journal.specs.Records.{StandsFor};
+ghost use Rattle.keep_state.specs.Opens.{IsOfFolder};
+ghost use Rattle.keep_state.specs.Recovers.{IsRecovered, LeftByStart};
+
+use crate::fault::OpenFault;
+use crate::paths::Paths;
+use keep_disk::{Disk, DiskFault};
+use keep_journal::{Journal, records_are_read_back};
+use keep_store::{count_damaged, set_damaged_aside};
+use std::alloc::Global;
+
+/// The journal of a state folder at a start. It has no `Debug`: a record may hold a secret.
+#[derive(Drop)]
+pub struct Recovered<'a> {
+    /// The journal.
+    pub journal: Journal<'a>,
+    /// How many of its lines wrote no record, as no command has made them. They count for nothing.
+    pub damaged: usize,
+    /// Why those are in the journal still; `None` where they are aside, or there were none.
+    pub aside: Option<DiskFault>,
+}
+
+/// The journal of the folder, which is held from then on. Lines that no command has made go to the file aside first. It may crash too, at
+/// any moment.
+///
+/// # Errors
+///
+/// The first in the order of [`OpenFault`], but no `File`.
+#[tactic(auto, using(crate::proofs::Served::of_folder))]
+pub fn recover<'a, D: Disk>(
+    alloc: Global,
+    disk: &mut D,
+    paths: &'a Paths,
+) -> Result<Recovered<'a>, OpenFault>
+    // After a restart, what is read is what is on the disk.
+    requires { IsTrue D.is_known → IsKept paths.now.journal (D.state disk.old) }
+    ensures recovered { IfOk result (IsRecovered D.is_known paths.now (D.state disk.old) (D.state disk.new)) }
+
+    ensures refused { IfErr result IsOfFolder }
+
+    // A crash at any moment leaves the same records.
+    ensures any_moment { IsTrue D.is_known → (lines : List (List ℕ)) → StandsFor (bytes_of ((D.state disk.old).seen paths.now.journal)) lines
+        → LeavesOnly (D.state disk.old) (D.state disk.new) (LeftByStart lines paths.now (D.state disk.old)) }
+{
+    if !disk.lock(paths.lock())? {
+        return Err(OpenFault::Held);
+    }
+    let mut journal = Journal::open(alloc, disk, paths.journal())?;
+    let damaged = count_damaged(alloc, &journal)?;
+    if damaged == 0 {
+        return Ok(Recovered {
+            journal,
+            damaged,
+            aside: None,
+        });
+    }
+    // What the journal holds are the records that its file stands for, and no others.
+    records_are_read_back();
+    let aside = set_damaged_aside(alloc, disk, &mut journal, paths.aside()).err();
+    Ok(Recovered {
+        journal,
+        damaged,
+        aside,
+    })
+}

@@ -1,0 +1,244 @@
+ghost use Rattle.std.specs.Prelude.{◌≡◌};
+
+use crate::fault::ReadFault;
+use crate::noting::note_lines;
+use crate::paths::Paths;
+use crate::reading::{FileRead, read_file};
+use keep_change::{File, Note, Record, Rows, What};
+use keep_disk::{Disk, DiskFault};
+use keep_inventory::Inventory;
+use keep_moment::{Name, Text};
+use keep_settle::SettleFault;
+use keep_store::{FileFault, Secret, TakeFault};
+use keep_waiting::Keeper;
+use std::alloc::{AllocError, Global};
+use std::marker::Model;
+use watch_machine::Millis;
+
+/// A keeper beside its disk and the paths of its files. It has no `Debug`: it may hold secrets.
+#[derive(Drop)]
+pub struct State<'a, D: Disk> {
+    pub(crate) alloc: Global,
+    pub(crate) keeper: Keeper<'a>,
+    pub(crate) disk: D,
+    pub(crate) paths: &'a Paths,
+}
+
+impl<'a, D: Disk> Model for State<'a, D> {
+    ghost use Rattle.keep_state.specs.States.{IsKeeping, Kept};
+
+    ghost Value = { Kept D };
+
+    ghost view = { λ s. record { keeper = s.keeper; disk = s.disk; places = s.paths.now } };
+
+    ghost invariant = { λ s. IsKeeping D.is_known s.keeper s.paths.now (D.state s.disk) };
+}
+
+/// What a file that was read anew has brought.
+#[derive(Debug, Drop)]
+pub struct Reloaded {
+    /// A note on each change of the journal that was not made, by the place of its record.
+    pub notes: Vec<Note>,
+    /// Why the good copy could not be kept; `None` where it was.
+    pub copy: Option<DiskFault>,
+}
+
+impl<'a, D: Disk> State<'a, D> {
+    ghost use Rattle.std.specs.Prelude.{◌≡◌, IfErr, IfOk, IsTrue, None, Ok, OnErr, OnOk, Some, false, if◌then◌else◌};
+    ghost use Rattle.keep_agent.specs.Waiting.{changed, is_due};
+    ghost use Rattle.keep_disk.specs.State.{IsAfter, LeavesAlone, LeavesOnly};
+    ghost use Rattle.keep_disk.specs.Torn.{Moves};
+    ghost use Rattle.keep_journal.specs.Journals.{IsWhole, KeepsOthers, Leaves};
+    ghost use Rattle.keep_journal.specs.Records.{IsBeforeOrAfter, StandsFor};
+    ghost use Rattle.keep_served.specs.ForGood.{inventory_for_good};
+    ghost use Rattle.keep_store.specs.Books.{HasSecrets, IsBookIf, IsFaultOf};
+    ghost use Rattle.keep_store.specs.Compacted.{compacted_lines, is_worth};
+    ghost use Rattle.keep_store.specs.Entering.{IsWhyNot, line_for};
+    ghost use Rattle.keep_store.specs.Records.{records_in};
+    ghost use Rattle.keep_store.specs.Stores.{IsTaken, journal_of, lines_in, path_in};
+    ghost use Rattle.keep_waiting.specs.Keepers.{IsGiven, waiting_in};
+    ghost use Rattle.keep_state.specs.Noted.{note_lines};
+    ghost use Rattle.keep_state.specs.Reading.{IsFileAt, IsWhyUnread};
+    ghost use Rattle.keep_state.specs.Settles.{IsCopied, copy_with};
+    ghost use Rattle.keep_state.specs.States.{IsKeeping, book_in, store_in};
+
+    /// Makes a change of the entry of that name. At `Ok` it is on the disk, and each crash from then on leaves a journal that has it.
+    /// `true` is a need, which is for the Watch at once; any other change waits for a rebuilding from now on. `now` is in milliseconds
+    /// of the clock that never steps.
+    ///
+    /// # Errors
+    ///
+    /// The first in the order of [`TakeFault`]. All is as it was then, but that the disk may have the change where that has failed.
+    pub fn take(&mut self, now: Millis, name: Name, what: What) -> Result<bool, TakeFault>
+        ensures taken { IfOk result (λ need. IsTaken (store_in self.old) name what need (store_in self.new)) }
+        ensures waiting { IfOk result (λ need. waiting_in self.new.keeper ≡ (if need then waiting_in self.old.keeper else changed (waiting_in self.old.keeper) now)) }
+        ensures acknowledged { OnOk result (IsTrue D.is_known → IsWhole (journal_of (store_in self.new)) (D.state self.new.disk)) }
+        ensures refused { IfErr result (IsWhyNot (book_in self.old) name what) }
+        ensures book { OnErr result (book_in self.new ≡ book_in self.old) }
+        ensures lines { OnErr result (lines_in (store_in self.new) ≡ lines_in (store_in self.old)) }
+        ensures unchanged { OnErr result (waiting_in self.new.keeper ≡ waiting_in self.old.keeper) }
+        ensures places { self.new.places ≡ self.old.places }
+
+        // A crash at any moment leaves the journal with the change or without it.
+        ensures any_moment { IsTrue D.is_known → LeavesOnly (D.state self.old.disk) (D.state self.new.disk)
+            (Leaves (path_in (store_in self.old)) (IsBeforeOrAfter (lines_in (store_in self.old)) (line_for (book_in self.old).file name what)) (D.state self.old.disk)) }
+        ensures others { IsTrue D.is_known → KeepsOthers (path_in (store_in self.old)) (D.state self.old.disk) (D.state self.new.disk) }
+    {
+        self.keeper.take(&mut self.disk, now, name, what)
+    }
+
+    /// Serves what these bytes say, which are those of FILE, with every change of the journal in order; that waits for a rebuilding from
+    /// now on. They are the last good copy then.
+    ///
+    /// # Errors
+    ///
+    /// The fault of the file, or `OutOfMemory`. All is as it was then.
+    pub fn reload(&mut self, now: Millis, bytes: &[u8]) -> Result<Reloaded, FileFault>
+        ensures reloaded { IfOk result (λ r. IsBookIf (Some bytes.now) (records_in (lines_in (store_in self.old))) (book_in self.old).secrets (book_in self.new) r.notes.items) }
+        ensures waiting { OnOk result (waiting_in self.new.keeper ≡ changed (waiting_in self.old.keeper) now) }
+        ensures copied { IfOk result (λ r. IsCopied D.is_known self.old.places bytes.now r.copy (D.state self.new.disk)) }
+        ensures refused { IfErr result (IsFaultOf (Some bytes.now)) }
+        ensures book { OnErr result (book_in self.new ≡ book_in self.old) }
+        ensures unchanged { OnErr result (waiting_in self.new.keeper ≡ waiting_in self.old.keeper) }
+        ensures journal { journal_of (store_in self.new) ≡ journal_of (store_in self.old) }
+        ensures places { self.new.places ≡ self.old.places }
+
+        // A crash at any moment leaves the old copy, or the new one whole.
+        ensures any_moment { IsTrue D.is_known → LeavesOnly (D.state self.old.disk) (D.state self.new.disk)
+            (IsAfter (Moves self.old.places.copy (copy_with bytes.now)) (D.state self.old.disk)) }
+    {
+        let notes = self.keeper.reload(now, Some(bytes))?;
+        let kept = self
+            .keeper
+            .store()
+            .keep_copy(&mut self.disk, self.paths.copy(), bytes);
+        Ok(Reloaded {
+            notes,
+            copy: kept.err(),
+        })
+    }
+
+    /// Has from now on what these files of secrets have given; that waits for a rebuilding from now on. Where that cannot be handed on,
+    /// as where two entries of a kind would have one credential, all is as it was.
+    pub fn take_secrets(&mut self, now: Millis, secrets: Vec<Secret>) -> Result<(), SettleFault>
+        ensures taken { OnOk result (HasSecrets (book_in self.old) secrets.items (book_in self.new)) }
+        ensures waiting { OnOk result (waiting_in self.new.keeper ≡ changed (waiting_in self.old.keeper) now) }
+        ensures book { OnErr result (book_in self.new ≡ book_in self.old) }
+        ensures unchanged { OnErr result (waiting_in self.new.keeper ≡ waiting_in self.old.keeper) }
+        ensures journal { journal_of (store_in self.new) ≡ journal_of (store_in self.old) }
+        ensures disk { self.new.disk ≡ self.old.disk }
+        ensures places { self.new.places ≡ self.old.places }
+    {
+        self.keeper.take_secrets(now, secrets)
+    }
+
+    /// Takes out of the journal each record that a later one makes void, where that is worth while: `true` then. What is kept stays as
+    /// it is, and so does what any file gives with the journal.
+    pub fn compact(&mut self) -> Result<bool, DiskFault>
+        ensures worth { IfOk result (λ done. done ≡ is_worth (lines_in (store_in self.old))) }
+        ensures lines { IfOk result (λ done. lines_in (store_in self.new) ≡ (if done then compacted_lines (lines_in (store_in self.old)) else lines_in (store_in self.old))) }
+        ensures refused { OnErr result (lines_in (store_in self.new) ≡ lines_in (store_in self.old)) }
+        ensures book { book_in self.new ≡ book_in self.old }
+        ensures waiting { waiting_in self.new.keeper ≡ waiting_in self.old.keeper }
+        ensures places { self.new.places ≡ self.old.places }
+
+        // A crash at any moment leaves the lines, or those that stay.
+        ensures any_moment { IsTrue D.is_known → LeavesOnly (D.state self.old.disk) (D.state self.new.disk)
+            (Leaves (path_in (store_in self.old)) (λ file. StandsFor file (compacted_lines (lines_in (store_in self.old)))) (D.state self.old.disk)) }
+        ensures others { IsTrue D.is_known → KeepsOthers (path_in (store_in self.old)) (D.state self.old.disk) (D.state self.new.disk) }
+    {
+        self.keeper.compact(&mut self.disk)
+    }
+
+    /// FILE as it may be served.
+    ///
+    /// # Errors
+    ///
+    /// The first in the order of [`ReadFault`].
+    pub fn read_file(&mut self) -> Result<FileRead, ReadFault>
+        ensures read { IfOk result (λ read. IsTrue D.is_known → IsFileAt self.old.places.file (D.state self.old.disk) read) }
+        ensures refused { IfErr result (λ fault. IsTrue D.is_known → IsWhyUnread self.old.places.file (D.state self.old.disk) fault) }
+        ensures alone { IsTrue D.is_known → LeavesAlone (D.state self.old.disk) (D.state self.new.disk) }
+        ensures keeper { self.new.keeper ≡ self.old.keeper }
+        ensures places { self.new.places ≡ self.old.places }
+    {
+        read_file(self.alloc, &mut self.disk, self.paths.file())
+    }
+
+    /// The inventory that is to be served from now on, where a rebuilding is due: the first of the changes that wait for it came five
+    /// seconds ago. The only error is want of memory, and only there.
+    pub fn due(&self, now: Millis) -> Result<Option<Inventory>, AllocError>
+        ensures given { IfOk result (IsGiven (waiting_in self.now.keeper) now (book_in self.now).text) }
+        ensures early { is_due (waiting_in self.now.keeper) now ≡ false → result ≡ Ok None }
+    {
+        self.keeper.due(now)
+    }
+
+    /// The rebuilding was made: no change waits for it any more.
+    pub fn rebuilt(&mut self)
+        ensures waiting { waiting_in self.new.keeper ≡ None }
+        ensures store { store_in self.new ≡ store_in self.old }
+        ensures disk { self.new.disk ≡ self.old.disk }
+        ensures places { self.new.places ≡ self.old.places }
+    {
+        self.keeper.rebuilt();
+    }
+
+    /// The inventory that is served now. The only error is want of memory.
+    pub fn inventory(&self) -> Result<Inventory, AllocError>
+        ensures { IfOk result (λ inventory. inventory_for_good (book_in self.now).text ≡ Ok inventory) }
+    {
+        self.keeper.store().inventory()
+    }
+
+    /// What FILE says.
+    pub fn file(&self) -> &File
+        ensures { result.now ≡ (book_in self.now).file }
+    {
+        self.keeper.store().book().file()
+    }
+
+    /// The rows of FILE after every change.
+    pub fn rows(&self) -> &Rows
+        ensures { result.now ≡ (book_in self.now).rows }
+    {
+        self.keeper.store().book().rows()
+    }
+
+    /// The text of the inventory that is served: a file that says it, with FILE's margin.
+    pub fn text(&self) -> &str
+        ensures { result.now ≡ (book_in self.now).text }
+    {
+        self.keeper.store().book().text()
+    }
+
+    /// The records of the journal, in order. The only error is want of memory.
+    pub fn records(&self) -> Result<Vec<Record>, AllocError>
+        ensures { IfOk result (λ records. records.items ≡ records_in (lines_in (store_in self.now))) }
+    {
+        self.keeper.store().records()
+    }
+
+    /// The disk.
+    pub fn disk(&self) -> &D
+        ensures { result.now ≡ self.now.disk }
+    {
+        &self.disk
+    }
+
+    /// The paths of what is kept.
+    pub fn paths(&self) -> &Paths
+        ensures value { result.now ≡ self.now.places }
+        ensures sound { IsKeeping D.is_known self.now.keeper self.now.places (D.state self.now.disk) }
+    {
+        self.paths
+    }
+
+    /// The lines about these changes of the journal that were not made again. The only error is want of memory.
+    pub fn note_lines(&self, notes: &[Note]) -> Result<Vec<Text>, AllocError>
+        ensures { IfOk result (λ lines. lines.items ≡ note_lines (book_in self.now).file.margin (records_in (lines_in (store_in self.now))) notes.now) }
+    {
+        let records = self.records()?;
+        note_lines(self.alloc, self.file().margin, &records, notes)
+    }
+}

@@ -1,0 +1,206 @@
+ghost use Rattle.std.specs.Prelude.{◌≡◌, ◌⊎◌, Err, IfErr, IfOk, MatchResult, Ok, option_copied, option_map, string_bytes};
+ghost use Rattle.std.specs.List.{list_all};
+ghost use Rattle.std.specs.BTreeMap.{keys as map_keys};
+ghost use Rattle.toml.specs.Data.{get_member};
+ghost use Rattle.toml.specs.Errors.{IsMemory};
+ghost use Rattle.toml.specs.View.{items_view, table_view, view};
+ghost use Rattle.keep_tree.specs.Push.{is_name, is_name_byte};
+ghost use Rattle.keep_inventory.specs.Answers.{Gives};
+ghost use Rattle.keep_inventory.specs.declared.fault.InvFault.TheVariants as inventories;
+ghost use Rattle.keep_inventory.specs.Inventory.{read_served, tree_of};
+ghost use Rattle.keep_inventory.specs.Keys.{all_keys, is_one_of, key_text};
+ghost use Rattle.keep_state.specs.Tables.{GivesOr, beside, entry_of, if_name, name_in, over_entry, over_in, over_item, over_items, over_of, place_of, row_of_table};
+
+use crate::fault::TableFault;
+use keep_change::{Row, rows_of};
+use keep_inventory::{InvFault, Key, Served, read_served};
+use keep_moment::Text;
+use keep_tree::NAME_MAX;
+use std::alloc::{AllocError, Global};
+use toml::{Table, Value};
+
+/// The entry that a text writes: one table `[[token]]` or `[[lease]]` of an inventory, whatever it stands under.
+///
+/// # Errors
+///
+/// The first in the order of [`TableFault`].
+#[tactic(auto, unfolding(crate::specs::Tables::row_of_table))]
+pub fn read_table(alloc: Global, table: &[u8]) -> Result<Row, TableFault>
+    ensures { GivesOr result (row_of_table table.now) }
+{
+    let tree = read_tree(alloc, table)?;
+    let over = over_entry(&tree)?;
+    let text = beside(alloc, over, table)?;
+    match read_served(alloc, text.list()) {
+        Ok(served) => entry_at(alloc, &served, place_of(over)),
+        Err(fault) => Err(TableFault::from(fault)),
+    }
+}
+
+// The tree of a document.
+#[tactic(auto, unfolding(keep_inventory::specs::Inventory::tree_of))]
+fn read_tree(alloc: Global, bytes: &[u8]) -> Result<Table, InvFault>
+    ensures { Gives table_view result (tree_of bytes.now) }
+{
+    let Ok(text) = std::str::from_utf8(bytes) else {
+        return Err(InvFault::NotToml);
+    };
+    judged(toml::table_from_str(alloc, text))
+}
+
+// The tree that was read; and why there is none: memory ran out only where the reader says so.
+fn judged(read: Result<Table, toml::de::Error>) -> Result<Table, InvFault>
+    ensures tree { IfOk read (λ table. result ≡ Ok table) }
+    ensures none { IfErr read (λ error. (IsMemory error × (result ≡ Err inventories.OutOfMemory)) ⊎ ((¬ IsMemory error) × (result ≡ Err inventories.NotToml))) }
+{
+    match read {
+        Ok(table) => Ok(table),
+        Err(error) if error.is_memory() => Err(InvFault::OutOfMemory),
+        Err(_) => Err(InvFault::NotToml),
+    }
+}
+
+// The name of the token over the one entry of a document.
+#[tactic(auto, unfolding(crate::specs::Tables::over_entry))]
+fn over_entry(tree: &Table) -> Result<Option<&[u8]>, TableFault>
+    ensures { MatchResult result (λ over. over_entry (table_view tree.now) ≡ Ok (option_copied over)) (λ fault. over_entry (table_view tree.now) ≡ Err fault) }
+{
+    if !has_only(tree, &[Key::Token, Key::Lease]) {
+        return Err(TableFault::NotOne);
+    }
+    match (at(tree, Key::Token), at(tree, Key::Lease)) {
+        (Some(tokens), None) => over_in(Key::Parent, tokens),
+        (None, Some(leases)) => over_in(Key::Token, leases),
+        _ => Err(TableFault::NotOne),
+    }
+}
+
+// The name at a key of the one table of an array.
+fn over_in(key: Key, tables: &Value) -> Result<Option<&[u8]>, TableFault>
+    ensures { MatchResult result (λ over. over_in key (view tables.now) ≡ Ok (option_copied over)) (λ fault. over_in key (view tables.now) ≡ Err fault) }
+{
+    match tables {
+        Value::Array(items) => over_items(key, items.as_slice()),
+        _ => Err(TableFault::NotOne),
+    }
+}
+
+#[tactic(auto, using(crate::proofs::Tabled::one_item, crate::proofs::Tabled::other_items))]
+fn over_items(key: Key, items: &[Value]) -> Result<Option<&[u8]>, TableFault>
+    ensures { MatchResult result (λ over. over_items key (items_view items.now) ≡ Ok (option_copied over)) (λ fault. over_items key (items_view items.now) ≡ Err fault) }
+{
+    if items.len() != 1 {
+        return Err(TableFault::NotOne);
+    }
+    over_item(key, &items[0])
+}
+
+fn over_item(key: Key, item: &Value) -> Result<Option<&[u8]>, TableFault>
+    ensures { MatchResult result (λ over. over_item key (view item.now) ≡ Ok (option_copied over)) (λ fault. over_item key (view item.now) ≡ Err fault) }
+{
+    match item {
+        Value::Table(table) => Ok(name_at(table, key)),
+        _ => Err(TableFault::NotOne),
+    }
+}
+
+fn name_at(table: &Table, key: Key) -> Option<&[u8]>
+    ensures { option_copied result ≡ name_in (get_member (key_text key) (table_view table.now)) }
+{
+    match at(table, key) {
+        Some(Value::String(name)) => if_name(name.as_bytes()),
+        _ => None,
+    }
+}
+
+// The bytes, where they are a name that an entry may have.
+fn if_name(bytes: &[u8]) -> Option<&[u8]>
+    ensures { option_copied result ≡ if_name bytes.now }
+{
+    if is_name(bytes) { Some(bytes) } else { None }
+}
+
+#[tactic(auto, unfolding(keep_tree::specs::Push::is_name))]
+fn is_name(bytes: &[u8]) -> bool
+    ensures { result ≡ is_name bytes.now }
+{
+    !bytes.is_empty() && bytes.len() <= NAME_MAX && has_name_bytes(bytes)
+}
+
+fn has_name_bytes(bytes: &[u8]) -> bool
+    ensures { result ≡ list_all is_name_byte bytes.now }
+{
+    bytes.iter().all(|b| b.is_ascii_alphanumeric()
+        || *b == b'-'
+        || *b == b'_'
+        || *b == b'.'
+        || *b == b'/')
+}
+
+// The value at a key.
+fn at(table: &Table, key: Key) -> Option<&Value>
+    ensures { option_map (λ v. view v.now) result ≡ get_member (key_text key) (table_view table.now) }
+{
+    table.get(key.text())
+}
+
+// Whether a table has no other key than these.
+fn has_only(table: &Table, keys: &[Key]) -> bool
+    ensures { result ≡ all_keys (is_one_of keys.now) (table_view table.now) }
+{
+    are_known(table, keys)
+}
+
+fn are_known(table: &Table, keys: &[Key]) -> bool
+    ensures { result ≡ list_all (λ k. is_one_of keys.now (string_bytes k)) (map_keys table.now) }
+{
+    table.keys().all(|key| is_one_of(keys, key.as_str()))
+}
+
+// Whether this is the text of one of the keys.
+fn is_one_of(keys: &[Key], text: &str) -> bool
+    ensures { result ≡ is_one_of keys.now text.now }
+{
+    keys.iter().any(|key| key.text() == text)
+}
+
+// The table, with a token of that name before it.
+#[tactic(auto, unfolding(crate::specs::Tables::beside))]
+fn beside(alloc: Global, over: Option<&[u8]>, table: &[u8]) -> Result<Text, AllocError>
+    ensures { IfOk result (λ text. text ≡ beside (option_copied over.entry) table.now) }
+{
+    let mut text = Vec::new(alloc);
+    if let Some(name) = over {
+        text.extend_from_slice(b"[[token]]")?;
+        text.push(b'\n')?;
+        text.extend_from_slice(b"name = '")?;
+        text.extend_from_slice(name)?;
+        text.push(b'\'')?;
+        text.push(b'\n')?;
+        text.extend_from_slice(b"secret = '-'")?;
+        text.push(b'\n')?;
+    }
+    text.extend_from_slice(table)?;
+    Ok(Text::from_vec(text))
+}
+
+// The place of the entry, after the token over it.
+fn place_of(over: Option<&[u8]>) -> usize
+    ensures { result ≡ place_of (option_copied over.entry) }
+{
+    match over {
+        None => 0,
+        Some(_) => 1,
+    }
+}
+
+// The row of the entry at a place.
+fn entry_at(alloc: Global, served: &Served, place: usize) -> Result<Row, TableFault>
+    ensures { GivesOr result (entry_of place (Ok served.now)) }
+{
+    let rows = rows_of(alloc, served)?;
+    match rows.list().get(place) {
+        None => Err(TableFault::NotOne),
+        Some(row) => Ok(row.copy()?),
+    }
+}
