@@ -5,9 +5,8 @@ use Rattle.std.proofs.lemmas.List.{append-nil, flat_map_more, take_all, take_mor
 use Rattle.std.specs.List.{flat_map, range_with_len}
 use Rattle.keep_tree.proofs.Ranges.{range_more}
 use Rattle.keep_agent.specs.declared.ends.KnownEnd.{KnownEnd}
-use Rattle.keep_agent.specs.Agent.{Agent}
 use Rattle.keep_inventory.specs.Inventories.{Inventory}
-use Rattle.keep_ends.specs.Ends.{end_at, event_for, events_for}
+use Rattle.keep_ends.specs.Ends.{event_for, events_for}
 
 -- one entry more of an agent
 pub told_more : (f : ℕ → List KnownEnd) (n : ℕ) → flat_map f (range_with_len 0 n) ++ f n ≡ flat_map f (range_with_len 0 (n + 1))

@@ -1,17 +1,16 @@
 -- The lines of a file of ends.
-use Rattle.std.proofs.Common.{◌≡◌, ℕ, ◌+◌, ◌<◌, ◌≤◌, ◌==◌, Bool, true, false, not, ◌&&◌, List, [], ◌∷◌, ◌++◌, Option, Some, None, append_assoc, append-nil, cond, length, take, get_or, refl, sym, ap, subst, ◌∙◌}
+use Rattle.std.proofs.Common.{◌≡◌, ℕ, ◌+◌, ◌<◌, ◌≤◌, ◌==◌, Bool, true, false, not, List, [], ◌∷◌, ◌++◌, Option, Some, None, append_assoc, append-nil, cond, length, take, get_or, refl, sym, ap, ◌∙◌}
 use Rattle.std.specs.Prelude.{option_to_list}
-use Rattle.std.proofs.lemmas.Bool.{and_parts, cond-false, cond-true}
+use Rattle.std.proofs.lemmas.Bool.{and_parts, cond-false}
 use Rattle.std.proofs.lemmas.List.{flat_map_more, take_all, take_more}
 use Rattle.std.specs.Cmp.Lexicographic.{bytes_decides}
 use Rattle.std.specs.List.{flat_map, list_all, onto_first, slice_split}
-use Rattle.std.specs.Str.{bytes_eq}
 use Rattle.keep_words.specs.Laws.{Lacks}
-use Rattle.keep_words.specs.Pieces.{parted, pieces}
+use Rattle.keep_words.specs.Pieces.{pieces}
 use Rattle.keep_agent.specs.declared.ends.KnownEnd.{KnownEnd}
 use Rattle.keep_agent.specs.Ends.{IsKnownEnd, LineLaw, WrittenIsRead, end_of_text, end_text, in_boot}
 use Rattle.keep_ends.specs.Ends.{end_in, ends_in, ends_text, line_of}
-use Rattle.keep_ends.specs.Laws.{AreOf, ReadBackLaw}
+use Rattle.keep_ends.specs.Laws.{ReadBackLaw}
 
 -- ---- as they are written
 

@@ -1,2 +1,3 @@
 pub mod Ends
+pub mod Files
 pub mod Laws

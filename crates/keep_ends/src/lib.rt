@@ -7,10 +7,12 @@
 
 mod disk;
 mod events;
+mod file;
 mod laws;
 mod text;
 
 pub use disk::{MOST_ENDS, keep_ends, load_ends};
 pub use events::{ends_of, known_events};
+pub use file::EndsFile;
 pub use laws::ends_are_kept;
 pub use text::{ends_text, read_ends};

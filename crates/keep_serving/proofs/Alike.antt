@@ -36,7 +36,7 @@ use Rattle.keep_serving.specs.Laws.{KeepInventory, KeepsInventory}
 use Rattle.keep_serving.specs.Stages.{AreTaken, IsTaken}
 use Rattle.keep_serving.specs.Words.{Follows, HandsBy, HandsIn, SaysBy, Words}
 use Rattle.keep_serving.specs.declared.change.Change.{Change}
-use Rattle.keep_serving.specs.declared.change.Change.TheVariants.{Need, Begin, Serve}
+use Rattle.keep_serving.specs.declared.change.Change.TheVariants.{Need, Begin, Serve, Kept}
 use Rattle.keep_serving.proofs.OneWay.{handed_same, not_both}
 
 -- ---- the agent
@@ -172,6 +172,7 @@ change_alike c false h k l m a b keep alike one two = same_held h k a.held b.hel
 change_alike (Need i until) true h k l m a b keep alike one two = event_alike (events.Need i until) h k l m a b (λ wants. wants) alike one two
 change_alike Begin true h k l m a b keep alike one two = event_alike events.Begin h k l m a b (λ wants. wants) alike one two
 change_alike (Serve s) true h k l m a b keep alike one two = absurd keep
+change_alike Kept true h k l m a b keep alike one two = same_held h k a.held b.held (ap (λ (x : Side). x.held) one) (ap (λ (x : Side). x.held) two) alike
 
 changes_alike : (made : List Made) (h k : Held) (l m : Lanes) (a b : Side) → KeepInventory made → AreHeldAlike h k → AreMade made (side h l) a → AreMade made (side k m) b → AreHeldAlike a.held b.held
 changes_alike [] h k l m a b keep alike one two = same_held h k a.held b.held (ap (λ (x : Side). x.held) one) (ap (λ (x : Side). x.held) two) alike

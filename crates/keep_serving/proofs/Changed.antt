@@ -1,9 +1,9 @@
 -- Changed: changes are made one after another, and each leaves what is held in step with the lanes. For `make_changes` and the turn.
-use Rattle.std.proofs.Common.{◌≡◌, ◌∙◌, ℕ, zero, suc, ◌+◌, ◌≤◌, Bool, true, false, List, [], ◌∷◌, ◌++◌, Option, Some, None, IfSome, Result, Ok, Err, append_assoc, length, map, refl, sym, ap, subst, arith}
+use Rattle.std.proofs.Common.{◌≡◌, ◌∙◌, ℕ, zero, suc, ◌+◌, ◌≤◌, Bool, true, false, List, [], ◌∷◌, ◌++◌, Option, Some, None, Result, Ok, Err, append_assoc, length, map, refl, sym, ap, subst, arith}
 use Rattle.std.proofs.lemmas.List.{length-append}
 use Rattle.keep_agent.specs.declared.standing.Told.{Told}
 use Rattle.keep_agent.specs.Agent.{Agent}
-use Rattle.keep_agent.specs.Rebuilding.{AreHanded, IsHanded, IsRebuilt, carried_told}
+use Rattle.keep_agent.specs.Rebuilding.{AreHanded, IsHanded, carried_told}
 use Rattle.keep_agent.specs.Turns.{AgentTurn}
 use Rattle.keep_asking.specs.InStep.{IsSound, times}
 use Rattle.keep_asking.proofs.InStep.{abreast_new}
@@ -16,11 +16,11 @@ use Rattle.watch_machine.specs.declared.event.Event.TheVariants as events
 use Rattle.watch_machine.specs.declared.fault.WatchFault.{WatchFault}
 use Rattle.watch_machine.specs.declared.lanes.Out.{Out}
 use Rattle.watch_machine.specs.State.{State, opened}
-use Rattle.keep_serving.specs.Changes.{AllGiven, AreMade, IsMade, IsServed, IsTurned, Made, changes_of}
+use Rattle.keep_serving.specs.Changes.{AllGiven, AreMade, IsMade, IsServed, Made, changes_of}
 use Rattle.keep_serving.specs.Held.{Held, IsInStep, Side}
 use Rattle.keep_serving.specs.Turns.{is_some_change}
 use Rattle.keep_serving.specs.declared.change.Change.{Change}
-use Rattle.keep_serving.specs.declared.change.Change.TheVariants.{Need, Begin, Serve}
+use Rattle.keep_serving.specs.declared.change.Change.TheVariants.{Need, Begin, Serve, Kept}
 
 -- ---- one after another
 
@@ -73,7 +73,7 @@ quiet_in_step width out h new quiet step =
       each = λ i. step.each i ∙ sym (ap (λ (o : List Out). times i (map (λ (r : Out). r.entry) o)) quiet.out);
     }
 
-turned_in_step : (width : ℕ) (out : List lanes.Out) (event : Event) (h : Held) (new : Agent) → ((output : Output) → AgentTurn h.agent event (Ok output) new → IsQuiet h.agent.machine new.machine) → (result : Result Output WatchFault) → AgentTurn h.agent event result new →
+pub turned_in_step : (width : ℕ) (out : List lanes.Out) (event : Event) (h : Held) (new : Agent) → ((output : Output) → AgentTurn h.agent event (Ok output) new → IsQuiet h.agent.machine new.machine) → (result : Result Output WatchFault) → AgentTurn h.agent event result new →
     IsInStep width out h → IsInStep width out (record h { agent = new })
 turned_in_step width out event h new quiet (Ok output) turn step = quiet_in_step width out h new (quiet output turn) step
 turned_in_step width out event h new quiet (Err fault) turn step = subst (λ (a : Agent). IsInStep width out (record h { agent = a })) (sym turn.1) step
@@ -118,6 +118,7 @@ made_one width Begin true old new h step =
     subst (λ (s : Side). IsInStep width s.lanes.out s.held) (sym h.rest)
     (turned_in_step width old.lanes.out events.Begin old.held new.held.agent (λ output turn. turn_begin old.held.agent.machine new.held.agent.machine output turn.machine step.sound) h.result h.turn step)
 made_one width (Serve s) true old new h step = served_in_step width s old new h step
+made_one width Kept true old new h step = subst (λ (s : Side). IsInStep width s.lanes.out s.held) (sym h) step
 
 pub made_keeps : (width : ℕ) (made : List Made) (old new : Side) → AreMade made old new → IsInStep width old.lanes.out old.held → IsInStep width new.lanes.out new.held
 made_keeps width [] old new h step = subst (λ (s : Side). IsInStep width s.lanes.out s.held) (sym h) step

@@ -7,10 +7,9 @@ use Rattle.keep_lanes.specs.declared.lanes.Answered.{Answered}
 use Rattle.watch_machine.specs.declared.command.Request.{Request}
 use Rattle.keep_serving.specs.Held.{Held, Side}
 use Rattle.keep_serving.specs.Laws.{WordsLaw}
-use Rattle.keep_serving.specs.Runs.{AreTurns}
 use Rattle.keep_serving.specs.Stages.{AreTaken, Comes, Commands, Goes, HandsIn as HandsStage, HaveTaken, IsRead, IsSaid, OnHeld, Reads, Sends, Takes, TakesUp, Then}
 use Rattle.keep_serving.specs.Turns.{Hears, IsTurn, Turned}
-use Rattle.keep_serving.specs.Words.{AllAreWordsOf, AllFollow, Follows, HandsBy, HandsIn, SaysBy, Suffices, SufficesBy, Words}
+use Rattle.keep_serving.specs.Words.{Follows, HandsIn, SaysBy, Suffices, SufficesBy, Words}
 
 taken_join : (xs ys : List Answered) (a b c : Agent) → AreTaken xs a b → AreTaken ys b c → AreTaken (xs ++ ys) a c
 taken_join [] ys a b c h k = subst (λ (x : Agent). AreTaken ys x c) h k

@@ -1,11 +1,10 @@
 -- InStep: what each stage leaves is in step with the lanes. For the stages, and the turn over them.
-use Rattle.std.proofs.Common.{◌≡◌, ◌≢◌, ◌∙◌, ℕ, ◌+◌, ◌<◌, ◌≤◌, List, [], ◌∷◌, ◌++◌, None, Ok, drop, length, map, slice_index_or, refl, sym, ap, subst, arith, inl, inr}
+use Rattle.std.proofs.Common.{◌≡◌, ◌≢◌, ◌∙◌, ℕ, ◌<◌, List, [], ◌∷◌, ◌++◌, None, drop, length, slice_index_or, refl, sym, ap, subst, arith, inl, inr}
 use Rattle.std.proofs.lemmas.List.{length-append}
 use Rattle.keep_agent.specs.Agent.{Agent}
-use Rattle.keep_agent.specs.Shorts.{all_said}
 use Rattle.keep_agent.specs.Turns.{inventory_after}
 use Rattle.keep_asking.specs.Handing.{AreHandedIn, out_of}
-use Rattle.keep_asking.specs.InStep.{AreOut, entries_of, entries_on, entries_out, times}
+use Rattle.keep_asking.specs.InStep.{AreOut, entries_of, entries_out, times}
 use Rattle.keep_asking.specs.Told.{event_as}
 use Rattle.keep_asking.proofs.AnswersOut.{are_over, out_within, some_out}
 use Rattle.keep_asking.proofs.InStep.{parted_count, parted_times, sent_all}

@@ -3,6 +3,7 @@ pub mod Sent
 pub mod Taken
 pub mod Staged
 pub mod Changed
+pub mod Resumed
 pub mod Read
 pub mod Turned
 pub mod Run

@@ -1,5 +1,5 @@
 -- OneWay: from the same words and the same beginning the same follows.
-use Rattle.std.proofs.Common.{◌≡◌, ◌∙◌, ℕ, zero, suc, ◌-◌, Bool, true, false, List, [], ◌∷◌, ◌++◌, Option, Some, None, Result, Ok, Err, ap, ap₂, length, refl, sym, subst}
+use Rattle.std.proofs.Common.{◌≡◌, ◌∙◌, ℕ, zero, suc, ◌-◌, Bool, true, false, List, [], ◌∷◌, ◌++◌, Option, Some, None, Result, Ok, Err, ap, ap₂, length, sym, subst}
 use Rattle.keep_agent.specs.Agent.{Agent}
 use Rattle.keep_agent.specs.Rebuilding.{AreHanded, IsHanded, IsRebuilt, carried_told}
 use Rattle.keep_agent.specs.Shorts.{all_said}
@@ -9,7 +9,6 @@ use Rattle.keep_agent.specs.Turns as turns
 use Rattle.keep_agent.specs.declared.standing.Standing.{Standing}
 use Rattle.keep_agent.specs.declared.standing.Told.{Told}
 use Rattle.keep_asking.proofs.Once.{turn_once}
-use Rattle.keep_asking.specs.Handing.{out_of}
 use Rattle.keep_asking.specs.Sending.{Lanes}
 use Rattle.keep_asking.specs.Told.{event_as, said_to}
 use Rattle.keep_asking.specs.declared.told.Said.{Said}
@@ -34,7 +33,7 @@ use Rattle.keep_serving.specs.Laws.{OneWayLaw}
 use Rattle.keep_serving.specs.Stages.{AreTaken, IsTaken}
 use Rattle.keep_serving.specs.Words.{AllFollow, Follows, HandsBy, HandsIn, SaysBy, Words}
 use Rattle.keep_serving.specs.declared.change.Change.{Change}
-use Rattle.keep_serving.specs.declared.change.Change.TheVariants.{Need, Begin, Serve}
+use Rattle.keep_serving.specs.declared.change.Change.TheVariants.{Need, Begin, Serve, Kept}
 
 -- ---- the agent
 
@@ -145,6 +144,7 @@ change_same c false h l k a b one two = ap (λ (x : Side). x.held) two ∙ sym (
 change_same (Need i until) true h l k a b one two = event_same (events.Need i until) h l k a b (λ wants. wants) one two
 change_same Begin true h l k a b one two = event_same events.Begin h l k a b (λ wants. wants) one two
 change_same (Serve s) true h l k a b one two = served_same s h l k a b one two
+change_same Kept true h l k a b one two = ap (λ (x : Side). x.held) two ∙ sym (ap (λ (x : Side). x.held) one)
 
 changes_same : (made : List Made) (h : Held) (l k : Lanes) (a b : Side) → AreMade made (side h l) a → AreMade made (side h k) b → b.held ≡ a.held
 changes_same [] h l k a b one two = ap (λ (x : Side). x.held) two ∙ sym (ap (λ (x : Side). x.held) one)

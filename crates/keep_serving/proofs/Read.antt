@@ -1,5 +1,5 @@
 -- Read: the time was handed in. For `read`.
-use Rattle.std.proofs.Common.{◌≡◌, ◌∙◌, ℕ, ◌-◌, List, [], Ok, ap, refl, subst, sym}
+use Rattle.std.proofs.Common.{◌≡◌, ◌∙◌, ℕ, ◌-◌, List, [], Ok, ap, subst, sym}
 use Rattle.keep_agent.specs.Agent.{Agent}
 use Rattle.keep_agent.specs.Turns.{AgentTurn}
 use Rattle.keep_lanes.specs.declared.lanes.Answered.{Answered}

@@ -2,7 +2,6 @@
 use Rattle.std.proofs.Common.{◌≡◌, ◌∙◌, ℕ, ◌+◌, List, [], ◌∷◌, ◌++◌, Option, append_assoc, length, refl, sym, ap, subst, arith}
 use Rattle.std.proofs.lemmas.List.{length-append}
 use Rattle.keep_clock.specs.Seen.{AllMade, Seen}
-use Rattle.keep_clock.specs.declared.call.Call.{Call}
 use Rattle.keep_clock.proofs.Joined.{joined_law}
 use Rattle.keep_serving.specs.Changes.{AllGiven, changes_of}
 use Rattle.keep_serving.specs.Held.{Side}

@@ -1,8 +1,8 @@
 -- Staged: one stage after another; and that each leaves what is held in step with the lanes. For the parts of a turn.
-use Rattle.std.proofs.Common.{◌≡◌, ◌∙◌, ℕ, Bool, true, false, List, refl, sym, ap, subst, inl, inr}
+use Rattle.std.proofs.Common.{◌≡◌, ℕ, Bool, true, false, List, refl, sym, subst, inl, inr}
 use Rattle.keep_clock.specs.declared.reading.Reading.{Reading}
 use Rattle.keep_lanes.specs.Out as lanes
-use Rattle.keep_serving.specs.Held.{Held, IsInStep, Side}
+use Rattle.keep_serving.specs.Held.{IsInStep, Side}
 use Rattle.keep_serving.specs.Stages.{Comes, Commands, Goes, HandsIn, OnHeld, Reads, Sends, Takes, TakesUp, Then}
 use Rattle.keep_serving.proofs.InStep.{in_step_come, in_step_gone, in_step_kept, in_step_read, in_step_taken}
 

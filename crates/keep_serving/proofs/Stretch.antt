@@ -15,13 +15,12 @@ use Rattle.watch_machine.specs.History.{History, Turn, Turned}
 use Rattle.watch_machine.specs.State.{State}
 use Rattle.keep_serving.specs.Changes.{AreMade, IsMade, Made}
 use Rattle.keep_serving.specs.Held.{Held, Side}
-use Rattle.keep_serving.specs.Laws.{KeepInventory, KeepsInventory, IsStretch, LeadsTo, StretchLaw}
-use Rattle.keep_serving.specs.Runs.{AreTurns}
-use Rattle.keep_serving.specs.Stages.{AreTaken, Comes, Commands, Goes, HandsIn, IsSaid, OnHeld, Reads, Sends, Takes, TakesUp, Then}
+use Rattle.keep_serving.specs.Laws.{KeepInventory, KeepsInventory, LeadsTo, StretchLaw}
+use Rattle.keep_serving.specs.Stages.{AreTaken, Comes, Commands, Goes, HandsIn, OnHeld, Reads, Sends, Takes, TakesUp, Then}
 use Rattle.keep_serving.specs.Turns as turns
 use Rattle.keep_serving.specs.Turns.{Hears, IsTurn}
 use Rattle.keep_serving.specs.declared.change.Change.{Change}
-use Rattle.keep_serving.specs.declared.change.Change.TheVariants.{Need, Begin, Serve}
+use Rattle.keep_serving.specs.declared.change.Change.TheVariants.{Need, Begin, Serve, Kept}
 use Rattle.keep_serving.proofs.InStep.{said_machine}
 
 nowhere : (old new : State) → new ≡ old → LeadsTo old new
@@ -90,6 +89,7 @@ by_change c false old new keeps h = nowhere old.held.agent.machine new.held.agen
 by_change (Need i until) true old new keeps h = by_event (events.Need i until) old.held.agent new.held.agent h.result h.turn
 by_change Begin true old new keeps h = by_event events.Begin old.held.agent new.held.agent h.result h.turn
 by_change (Serve s) true old new keeps h = absurd keeps
+by_change Kept true old new keeps h = nowhere old.held.agent.machine new.held.agent.machine (ap (λ (s : Side). s.held.agent.machine) h)
 
 by_changes : (made : List Made) (old new : Side) → KeepInventory made → AreMade made old new → LeadsTo old.held.agent.machine new.held.agent.machine
 by_changes [] old new keeps h = nowhere old.held.agent.machine new.held.agent.machine (ap (λ (s : Side). s.held.agent.machine) h)

@@ -1,5 +1,5 @@
 -- Taken: answers are handed in one after another. For `take_all`.
-use Rattle.std.proofs.Common.{◌≡◌, ◌∙◌, ℕ, ◌∷◌, [], ◌++◌, List, append_assoc, refl, sym, ap, subst}
+use Rattle.std.proofs.Common.{◌∙◌, ◌∷◌, [], ◌++◌, List, append_assoc, refl, sym, ap, subst}
 use Rattle.keep_agent.specs.Agent.{Agent}
 use Rattle.keep_lanes.specs.declared.lanes.Answered.{Answered}
 use Rattle.keep_serving.specs.Held.{Held}

@@ -1,8 +1,8 @@
 -- Turned: one turn is what its parts were. For `turn` and `turn_at`.
-use Rattle.std.proofs.Common.{◌≡◌, ◌∙◌, ℕ, ◌≤◌, Bool, false, ◌||◌, List, [], ◌∷◌, ◌++◌, Option, Some, None, IfSome, length, ap, refl, subst, sym, arith}
+use Rattle.std.proofs.Common.{◌≡◌, ℕ, ◌≤◌, Bool, false, ◌||◌, List, [], ◌∷◌, ◌++◌, Option, Some, None, length, ap, refl, sym, arith}
 use Rattle.keep_clock.specs.declared.reading.Reading.{Reading}
 use Rattle.keep_serving.specs.Changes.{AllGiven, AreMade, Made}
-use Rattle.keep_serving.specs.Held.{Held, Side}
+use Rattle.keep_serving.specs.Held.{Side}
 use Rattle.keep_serving.specs.Stages.{Goes}
 use Rattle.keep_serving.specs.Turns.{IsTurn, Turned, is_some_change, wait_by}
 use Rattle.keep_serving.specs.declared.change.Change.{Change}

@@ -8,9 +8,9 @@ use Rattle.watch_machine.specs.declared.command.Output.{Output}
 use Rattle.watch_machine.specs.declared.event.Event.{Event}
 use Rattle.watch_machine.specs.declared.event.Event.TheVariants as events
 use Rattle.watch_machine.specs.declared.fault.WatchFault.{WatchFault}
-use Rattle.keep_serving.specs.Held.{Held, Side}
+use Rattle.keep_serving.specs.Held.{Side}
 use Rattle.keep_serving.specs.declared.change.Change.{Change}
-use Rattle.keep_serving.specs.declared.change.Change.TheVariants.{Need, Begin, Serve}
+use Rattle.keep_serving.specs.declared.change.Change.TheVariants.{Need, Begin, Serve, Kept}
 
 -- the agent takes an event of its own; one of no entry leaves it as it was
 pub record IsTurned (event : Event) (old new : Side) : Type 0 where
@@ -29,6 +29,7 @@ abbrev pub Makes : Change → Side → Side → Type 0
 Makes (Need i until) old new = IsTurned (events.Need i until) old new
 Makes Begin old new = IsTurned events.Begin old new
 Makes (Serve s) old new = IsServed s old new
+Makes Kept old new = new ≡ old
 
 -- a change that was taken, and whether memory sufficed to make it; where it did not, all is as it was, and it is to be given again
 pub record Made : Type 0 where

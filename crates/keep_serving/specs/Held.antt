@@ -1,9 +1,8 @@
 -- Held: what the agent holds between two turns, and that it is in step with its lanes.
 -- Source: this project's own.
 use Rattle.std.specs.Prelude.{◌≡◌, ℕ, ◌+◌, ◌≤◌, List, [], length, map}
-use Rattle.keep_agent.specs.Agent.{Agent, fresh}
+use Rattle.keep_agent.specs.Agent.{Agent}
 use Rattle.keep_clock.specs.declared.reading.Reading.{Reading}
-use Rattle.keep_inventory.specs.Inventories.{Inventory}
 use Rattle.keep_lanes.specs.Out as lanes
 use Rattle.keep_lanes.specs.declared.lanes.Answered.{Answered}
 use Rattle.keep_asking.specs.InStep.{IsSound, entries_of, entries_on, entries_out, times}

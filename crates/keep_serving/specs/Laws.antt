@@ -15,13 +15,14 @@ use Rattle.keep_serving.specs.Runs.{AreTurns}
 use Rattle.keep_serving.specs.Turns.{IsTurn, Turned}
 use Rattle.keep_serving.specs.Words.{AllAreWordsOf, AllFollow, Suffices, Words}
 use Rattle.keep_serving.specs.declared.change.Change.{Change}
-use Rattle.keep_serving.specs.declared.change.Change.TheVariants.{Need, Begin, Serve}
+use Rattle.keep_serving.specs.declared.change.Change.TheVariants.{Need, Begin, Serve, Kept}
 
 -- the same inventory is served after a change, after all changes of a turn, and after some turns
 abbrev pub KeepsInventory : Change → Type 0
 KeepsInventory (Need i until) = Unit {0}
 KeepsInventory Begin = Unit {0}
 KeepsInventory (Serve s) = ⊥
+KeepsInventory Kept = Unit {0}
 
 abbrev pub KeepInventory : List Made → Type 0
 KeepInventory [] = Unit {0}

@@ -1,7 +1,9 @@
 pub mod Held
 pub mod Changes
+pub mod Resuming
 pub mod Stages
 pub mod Turns
+pub mod Outlook
 pub mod Neighbours
 pub mod Runs
 pub mod Words

@@ -18,7 +18,7 @@ pub data Thing : Type 0 where
 
 -- where memory is wanting to say which needs are short, that is heard
 abbrev pub thing_of : Happened → Thing
-thing_of (happened.Clocked notes requests) = Time
+thing_of (happened.Clocked notes requests next) = Time
 thing_of (happened.Shorts shorts) = Needs
 thing_of (happened.Answered entry operation said notes) = Answer
 thing_of happened.Refused = Needs

@@ -1,13 +1,13 @@
 -- Stages: the parts of a turn in which the time is handed in, one after another. Where memory is wanting in one, those after it
 -- are left out, and what is left over is held until the next turn.
 -- Source: this project's own.
-use Rattle.std.specs.Prelude.{◌≡◌, ◌⊎◌, ℕ, ◌/◌, ◌-◌, ◌++◌, Bool, true, false, List, [], ◌∷◌, Option, Some, Ok, IfSome, min}
+use Rattle.std.specs.Prelude.{◌≡◌, ◌⊎◌, ℕ, ◌/◌, ◌-◌, ◌++◌, Bool, true, false, List, [], ◌∷◌, Some, Ok, IfSome, min}
 use Rattle.keep_agent.specs.Agent.{Agent}
 use Rattle.keep_agent.specs.Shorts.{all_said}
 use Rattle.keep_agent.specs.Turns.{AgentTurn}
 use Rattle.keep_asking.specs.Asking.{ask_of}
 use Rattle.keep_asking.specs.Handing.{out_of}
-use Rattle.keep_asking.specs.Sending.{GoOut, Lanes}
+use Rattle.keep_asking.specs.Sending.{GoOut}
 use Rattle.keep_asking.specs.Told.{event_as, said_to}
 use Rattle.keep_asking.specs.declared.told.Said.{Said}
 use Rattle.keep_clock.specs.declared.reading.Reading.{Reading}

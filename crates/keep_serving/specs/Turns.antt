@@ -6,7 +6,7 @@ use Rattle.keep_clock.specs.declared.call.Call.{Call}
 use Rattle.keep_clock.specs.declared.call.Call.TheVariants.{Wait}
 use Rattle.keep_clock.specs.declared.reading.Reading.{Reading}
 use Rattle.keep_serving.specs.Changes.{AreMade, Made}
-use Rattle.keep_serving.specs.Held.{Held, Side}
+use Rattle.keep_serving.specs.Held.{Side}
 use Rattle.keep_serving.specs.Stages.{Goes}
 
 -- what a turn read, where it could; whether memory sufficed to hand the time in; the changes that it took; whether a neighbour

@@ -10,4 +10,6 @@ pub enum Change {
     Begin,
     /// This inventory is served from now on.
     Serve(Inventory),
+    /// It is kept, and nothing is made of it now: a rebuilding takes it up later.
+    Kept,
 }

@@ -63,11 +63,12 @@ impl Serving {
                 true
             }
             Change::Serve(inventory) => self.serve_instead(alloc, lanes, inventory),
+            Change::Kept => true,
         }
     }
 
     /// The agent takes an event of its own. One of no entry leaves it as it was.
-    fn take(&mut self, alloc: Global, event: Event)
+    pub(crate) fn take(&mut self, alloc: Global, event: Event)
         ensures turned { (result : Result Output WatchFault) × AgentTurn self.old.agent event result self.new.agent }
         ensures rest { self.new ≡ record self.old { agent = self.new.agent } }
     {

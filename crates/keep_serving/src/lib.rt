@@ -15,6 +15,7 @@ mod coming;
 mod laws;
 mod neighbours;
 mod reading;
+mod resuming;
 mod running;
 mod sending;
 mod serving;

@@ -2,6 +2,7 @@
 ghost use Rattle.std.specs.Prelude.{◌≡◌, List, Option, option_to_list};
 ghost use Rattle.keep_serving.specs.Changes.{AllGiven};
 ghost use Rattle.keep_serving.specs.Neighbours.{Give, GoOn, Hear, NeighbourCall, Settle, thing_of};
+ghost use Rattle.keep_serving.specs.Outlook.{IsToldNext};
 ghost use Rattle.keep_serving.specs.declared.change.Change.{Change};
 
 use crate::change::Change;
@@ -9,15 +10,18 @@ use keep_agent::{Agent, Short};
 use keep_asking::Said;
 use keep_clock::Reading;
 use std::alloc::Global;
-use watch_machine::{Notes, Operation, Request};
+use watch_machine::{Next, Notes, Operation, Request};
 
 /// What has happened, for the log.
 #[derive(Debug, Drop)]
 pub enum Happened<'a> {
-    /// The time was handed in: what is noted of it, and the requests that go out at once.
+    /// The time was handed in: what is noted of it, and the requests that go out at once; and where nothing is out then, the first
+    /// time of the entries that are wanted and whose end is ahead, `Some(None)` where there is none. Where something is out, or
+    /// memory is wanting for it, the next time is `None`.
     Clocked {
         notes: &'a Notes,
         requests: &'a [Request],
+        next: Option<Option<Next>>,
     },
     /// Needs were found to be past what their entries reach.
     Shorts(&'a [Short]),
@@ -42,8 +46,10 @@ pub trait Neighbours {
     /// What a call may do to them: what they are called for, what they were before it, and what they are after it.
     ghost does: { NeighbourCall → Self → Self → Type 0 };
 
-    /// Hears what has happened to the agent, which is handed over as it is after it.
+    /// Hears what has happened to the agent, which is handed over as it is after it. The next time that it is told is that of
+    /// the Watch.
     fn hear(&mut self, alloc: Global, agent: &Agent, happened: &Happened<'_>)
+        requires next { IsToldNext agent.now.machine happened.now }
         ensures given { Self.given self.new ≡ Self.given self.old }
         ensures does { Self.does (Hear (thing_of happened.now)) self.old self.new };
 

@@ -1,14 +1,16 @@
 //! The time is handed in.
-ghost use Rattle.std.specs.Prelude.{◌≡◌, ◌-◌, [], is_ok};
+ghost use Rattle.std.specs.Prelude.{◌≡◌, ◌-◌, [], IfSome, is_ok};
 ghost use Rattle.keep_serving.specs.Neighbours.{AllCalled, Hear, Needs, heard_of_time};
+ghost use Rattle.keep_serving.specs.Outlook.{IsOutlook};
 ghost use Rattle.keep_serving.specs.Stages.{IsSaid, Reads};
 
 use crate::neighbours::{Happened, Neighbours};
 use crate::serving::Serving;
+use keep_agent::Agent;
 use keep_clock::Reading;
 use std::alloc::{AllocError, Global};
 use std::collections::VecDeque;
-use watch_machine::{Command, Event, Output};
+use watch_machine::{Command, Event, Next, Output};
 
 impl Serving {
     /// Hands in the readings of both clocks; what the Watch commands is then to be sent. The only error is out of memory: all is
@@ -35,6 +37,7 @@ impl Serving {
         let happened = Happened::Clocked {
             notes: &notes,
             requests: requests.list(),
+            next: outlook(alloc, &mut self.agent),
         };
         neighbours.hear(alloc, &self.agent, &happened);
         self.until = self.here(until);
@@ -62,5 +65,19 @@ impl Serving {
             Ok(shorts) => neighbours.hear(alloc, &self.agent, &Happened::Shorts(&shorts)),
             Err(_) => neighbours.hear(alloc, &self.agent, &Happened::Refused),
         }
+    }
+}
+
+/// The next time of an entry, where nothing is out. Where memory is wanting for it, it is not told.
+fn outlook(alloc: Global, agent: &mut Agent) -> Option<Option<Next>>
+    ensures next { IfSome result (IsOutlook agent.old.machine) }
+    ensures unchanged { agent.new ≡ agent.old }
+{
+    if !agent.watch().out().is_empty() {
+        return None;
+    }
+    match agent.next(alloc) {
+        Ok(next) => Some(next),
+        Err(_) => None,
     }
 }

@@ -5,6 +5,7 @@ use keep_agent::Agent;
 use keep_clock::Reading;
 use keep_serving::{Change, Happened, Neighbours};
 use std::alloc::Global;
+use watch_machine::Next;
 
 /// What was heard, the changes to come, the last of them first, and how often they were called.
 #[derive(Drop)]
@@ -15,6 +16,10 @@ pub(crate) struct Beside {
     pub(crate) answers: u32,
     pub(crate) made: u32,
     pub(crate) calls: u64,
+    /// The next time that was told last; `None` where none was told yet.
+    pub(crate) next: Option<Option<Next>>,
+    /// How often it was told.
+    pub(crate) outlooks: u32,
 }
 
 impl Beside {
@@ -26,6 +31,8 @@ impl Beside {
             answers: 0,
             made: 0,
             calls: 0,
+            next: None,
+            outlooks: 0,
         }
     }
 
@@ -39,6 +46,15 @@ impl Beside {
     }
 }
 
+impl Beside {
+    fn look_ahead(&mut self, next: Option<Option<Next>>) {
+        if let Some(next) = next {
+            self.next = Some(next);
+            self.outlooks = self.outlooks.saturating_add(1);
+        }
+    }
+}
+
 impl Neighbours for Beside {
     ghost given = { λ _. None };
 
@@ -47,7 +63,10 @@ impl Neighbours for Beside {
     fn hear(&mut self, _alloc: Global, _agent: &Agent, happened: &Happened<'_>) {
         let calls = self.calls;
         match happened {
-            Happened::Clocked { requests, .. } => self.count(requests),
+            Happened::Clocked { requests, next, .. } => {
+                self.count(requests);
+                self.look_ahead(*next);
+            }
             Happened::Answered { .. } => self.answers = self.answers.saturating_add(1),
             Happened::Shorts(_) | Happened::Refused => {}
         }

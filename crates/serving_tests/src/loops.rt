@@ -10,6 +10,7 @@ use keep_lanes::{LaneFault, MemoryLanes};
 use keep_serving::{Change, Serving};
 use std::alloc::{AllocError, Global};
 use std::test::Fail;
+use watch_machine::Event;
 
 /// The example of docs/watch.md: one token that ends at 1060, and is needed until 1200.
 pub(crate) const WEB: &str =
@@ -33,9 +34,22 @@ pub(crate) fn play_of(
 ) -> Result<Play, Fail>
     ensures { IfOk result (λ play. IsInStep play.lanes.width play.lanes.out play.serving) }
 {
+    play_known(alloc, text, moments, changes, &[])
+}
+
+/// The same, where these ends were told before.
+pub(crate) fn play_known(
+    alloc: Global,
+    text: &str,
+    moments: &[u64],
+    changes: Vec<Change>,
+    known: &[Event],
+) -> Result<Play, Fail>
+    ensures { IfOk result (λ play. IsInStep play.lanes.width play.lanes.out play.serving) }
+{
     let inventory = read(alloc, text.as_bytes())?;
     let lanes = MemoryLanes::new(alloc, Table::load(alloc, &inventory)?, 5, 8);
-    let serving = Serving::begin(alloc, inventory, &lanes)?;
+    let serving = Serving::resume(alloc, inventory, &lanes, known)?;
     let clock = MemoryClock::new(alloc, readings(alloc, moments)?, 256)?;
     Ok(Play {
         serving,

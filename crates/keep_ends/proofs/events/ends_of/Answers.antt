@@ -1,5 +1,5 @@
 -- One entry more.
-use Rattle.std.proofs.Common.{◌≡◌, ap, ◌∙◌}
+use Rattle.std.proofs.Common.{ap, ◌∙◌}
 use Rattle.keep_agent.specs.declared.standing.Standing.{Standing}
 use Rattle.keep_inventory.specs.Inventories.{Inventory}
 use Rattle.keep_ends.specs.Ends.{end_at, end_with}

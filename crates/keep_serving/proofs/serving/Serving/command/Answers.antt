@@ -1,11 +1,7 @@
 -- Once the time is handed in, what is commanded goes out.
-use Rattle.std.proofs.Common.{◌≡◌, ◌∙◌, is_ok, refl, subst, sym}
-use Rattle.keep_asking.specs.Sending.{Lanes, lanes_of}
-use Rattle.keep_serving.specs.Held.{IsInStep, Side, side}
-use Rattle.keep_serving.specs.Stages.{Comes, Commands, Goes, HandsIn, OnHeld, Reads, Sends, Takes, TakesUp, Then}
-use Rattle.keep_serving.proofs.InStep.{in_step_come, in_step_gone, in_step_read, in_step_taken}
+use Rattle.std.proofs.Common.{is_ok}
+use Rattle.keep_serving.proofs.InStep.{in_step_read}
 use Rattle.keep_serving.proofs.Called.{heard_none, heard_time, not_ok}
-use Rattle.keep_serving.proofs.Staged.{then_on}
 use Rattle.keep_serving.proofs.serving.Serving.command.Goals as goal
 
 pub send_all-requires : goal.send_all-requires

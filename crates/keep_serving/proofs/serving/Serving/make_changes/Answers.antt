@@ -1,8 +1,8 @@
 -- One change more is made.
-use Rattle.std.proofs.Common.{◌≡◌, ◌∙◌, ◌+◌, ◌≤◌, ◌<◌, ◌++◌, ◌∷◌, [], Some, arith, length, option_to_list, ap, refl, subst, sym}
+use Rattle.std.proofs.Common.{◌∙◌, ◌++◌, ◌∷◌, [], arith, refl}
 use Rattle.keep_asking.specs.Sending.{Lanes, lanes_of}
-use Rattle.keep_serving.specs.Changes.{AllGiven, Made, changes_of}
-use Rattle.keep_serving.specs.Held.{Side, side}
+use Rattle.keep_serving.specs.Changes.{Made, changes_of}
+use Rattle.keep_serving.specs.Held.{side}
 use Rattle.keep_serving.proofs.Called.{called_for_all, called_for_fewer, given_none_yet, given_one, one_given}
 use Rattle.keep_serving.proofs.Changed.{given_end, given_on, made_on, one_more, some_made}
 use Rattle.keep_serving.proofs.Turned.{given_none}

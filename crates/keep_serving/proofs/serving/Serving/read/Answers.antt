@@ -1,10 +1,7 @@
 -- The time was handed in: what is commanded is to be sent, and what is short was said.
-use Rattle.std.proofs.Common.{◌≡◌, ◌∙◌, ◌-◌, Ok, ap, refl, subst, sym}
+use Rattle.std.proofs.Common.{◌∙◌, Ok, ap, subst, sym}
 use Rattle.keep_agent.specs.Agent.{Agent}
 use Rattle.keep_agent.specs.Turns.{AgentTurn}
-use Rattle.watch_machine.specs.declared.command.Command.{Command}
-use Rattle.watch_machine.specs.declared.command.Command.TheVariants.{Go}
-use Rattle.watch_machine.specs.declared.command.Request.{Request}
 use Rattle.watch_machine.specs.declared.event.Event.TheVariants.{Clock}
 use Rattle.keep_serving.specs.Held.{Held}
 use Rattle.keep_serving.specs.Neighbours.{Hear, Needs, Time}
@@ -14,11 +11,13 @@ use Rattle.keep_serving.proofs.serving.Serving.read.Goals as goal
 
 pub returns-clause-reads : goal.returns-clause-reads
 returns-clause-reads g c =
-    let between : Held = record { agent = c.turn.new.self; pending = c.self.inside.pending.items; unsent = c.from_vec.result.items; asked = c.args.reading; until = c.here-self-inside.result } in
-    let made = ready_is c.args.reading c.args.self.now c.turn.new.self c.in-Go.requests c.in-Go.until c.here-self-inside.result c.self.inside.pending.items c.from_vec.result.items (ap (λ (h : Held). h.pending) c.self.view_is)
+    let mid : Agent = c.outlook.new.agent in
+    let between : Held = record { agent = mid; pending = c.self.inside.pending.items; unsent = c.from_vec.result.items; asked = c.args.reading; until = c.here-self-inside.result } in
+    let made = ready_is c.args.reading c.args.self.now mid c.in-Go.requests c.in-Go.until c.here-self-inside.result c.self.inside.pending.items c.from_vec.result.items (ap (λ (h : Held). h.pending) c.self.view_is)
     (c.from_vec.ensures.items ∙ c.into_vec.ensures) c.here-self-inside.ensures in
-    read_whole c.args.reading c.args.self.now c.turn.new.self c.in-Go.requests c.in-Go.until c.in-Ok.output between c.say_shorts.new.self c.requires.none c.in-Go.is
-    (subst (λ (a : Agent). AgentTurn a (Clock c.args.reading.wall c.args.reading.elapsed) (Ok c.in-Ok.output) c.turn.new.self) (ap (λ (h : Held). h.agent) c.self.view_is) c.in-Ok.ensures.turn)
+    read_whole c.args.reading c.args.self.now mid c.in-Go.requests c.in-Go.until c.in-Ok.output between c.say_shorts.new.self c.requires.none c.in-Go.is
+    (subst (λ (a : Agent). AgentTurn c.args.self.now.agent (Clock c.args.reading.wall c.args.reading.elapsed) (Ok c.in-Ok.output) a) (sym c.outlook.ensures.unchanged)
+    (subst (λ (a : Agent). AgentTurn a (Clock c.args.reading.wall c.args.reading.elapsed) (Ok c.in-Ok.output) c.turn.new.self) (ap (λ (h : Held). h.agent) c.self.view_is) c.in-Ok.ensures.turn))
     made c.say_shorts.ensures.said c.say_shorts.ensures.rest
 
 pub returns-clause-heard : goal.returns-clause-heard

@@ -1,8 +1,8 @@
 -- One turn more is made.
-use Rattle.std.proofs.Common.{◌≡◌, ◌∙◌, ◌++◌, ◌∷◌, [], refl, subst}
+use Rattle.std.proofs.Common.{◌∙◌, ◌++◌, ◌∷◌, [], refl, subst}
 use Rattle.keep_asking.specs.Sending.{Lanes, lanes_of}
 use Rattle.keep_clock.proofs.Joined.{none_law}
-use Rattle.keep_serving.specs.Held.{Side, side}
+use Rattle.keep_serving.specs.Held.{side}
 use Rattle.keep_serving.specs.Neighbours.{AreCalled}
 use Rattle.keep_serving.specs.Turns.{IsTurn}
 use Rattle.keep_serving.proofs.Called.{turns_called}

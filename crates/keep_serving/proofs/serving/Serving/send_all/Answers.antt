@@ -1,8 +1,7 @@
 -- One request more goes out.
-use Rattle.std.proofs.Common.{◌≡◌, ◌∙◌, ◌+◌, ap, arith, length, subst, sym}
+use Rattle.std.proofs.Common.{◌∙◌, ap, arith, length, subst, sym}
 use Rattle.keep_asking.specs.Sending.{Lanes, lanes_of}
-use Rattle.keep_lanes.specs.Out as lanes
-use Rattle.keep_serving.specs.Held.{IsInStep, Side, side}
+use Rattle.keep_serving.specs.Held.{IsInStep, side}
 use Rattle.keep_serving.specs.code.Firsts.{GoesFirst}
 use Rattle.keep_serving.proofs.InStep.{in_step_gone}
 use Rattle.keep_serving.proofs.Sent.{gone_on}

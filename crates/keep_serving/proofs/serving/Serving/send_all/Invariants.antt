@@ -1,5 +1,5 @@
 -- The requests so far have gone out.
-use Rattle.std.proofs.Common.{◌≡◌, ◌+◌, ◌≤◌, length}
+use Rattle.std.proofs.Common.{◌≡◌, ◌+◌, length}
 use Rattle.keep_asking.specs.Sending.{lanes_of}
 use Rattle.keep_serving.specs.Held.{side}
 use Rattle.keep_serving.specs.Stages.{HaveGone}

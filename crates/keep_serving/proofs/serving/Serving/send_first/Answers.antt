@@ -1,5 +1,5 @@
 -- The first request that was not sent is of an entry, and finds a lane; where memory is wanting for it nothing was done.
-use Rattle.std.proofs.Common.{◌≡◌, ◌∙◌, ◌<◌, OnErr, length, ap, arith, slice_index_or}
+use Rattle.std.proofs.Common.{◌≡◌, length, ap, arith, slice_index_or}
 use Rattle.keep_asking.specs.Sending.{lanes_of}
 use Rattle.keep_serving.specs.Held.{Held}
 use Rattle.keep_serving.proofs.InStep.{first_within}

@@ -1,6 +1,5 @@
 -- One answer more is handed in.
-use Rattle.std.proofs.Common.{◌≡◌, ◌∙◌, ◌+◌, ap, arith, length}
-use Rattle.keep_serving.specs.Held.{IsInStep}
+use Rattle.std.proofs.Common.{◌∙◌, ap, arith, length}
 use Rattle.keep_serving.proofs.InStep.{in_step_taken}
 use Rattle.keep_serving.proofs.Called.{answers_on}
 use Rattle.keep_serving.proofs.Taken.{taken_on}

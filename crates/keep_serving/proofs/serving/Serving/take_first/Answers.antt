@@ -1,5 +1,5 @@
 -- The first answer that waits is to a request that is out, and that is of an entry.
-use Rattle.std.proofs.Common.{◌≡◌, ◌≢◌, ◌∙◌, ◌<◌, None, arith, length, ap, slice_index_or, subst, sym}
+use Rattle.std.proofs.Common.{◌≡◌, ◌≢◌, None, arith, length, ap, slice_index_or, subst, sym}
 use Rattle.keep_asking.specs.Handing.{out_of}
 use Rattle.keep_asking.proofs.AnswersOut.{out_within}
 use Rattle.keep_serving.specs.Held.{Held}

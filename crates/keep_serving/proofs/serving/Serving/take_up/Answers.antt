@@ -1,10 +1,10 @@
 -- Once the answers came off their lanes, what comes after follows.
-use Rattle.std.proofs.Common.{◌≡◌, ◌∙◌, ◌+◌, ◌≤◌, arith, is_ok, length, refl, subst, sym}
+use Rattle.std.proofs.Common.{arith, is_ok, length, refl, subst, sym}
 use Rattle.keep_asking.specs.Sending.{Lanes, lanes_of}
 use Rattle.keep_asking.proofs.InStep.{parted_count}
-use Rattle.keep_serving.specs.Held.{IsInStep, Side, side}
-use Rattle.keep_serving.specs.Stages.{Comes, Commands, Goes, HandsIn, OnHeld, Reads, Sends, Takes, TakesUp, Then}
-use Rattle.keep_serving.proofs.InStep.{in_step_come, in_step_gone, in_step_read, in_step_taken}
+use Rattle.keep_serving.specs.Held.{IsInStep, side}
+use Rattle.keep_serving.specs.Stages.{Comes, HandsIn}
+use Rattle.keep_serving.proofs.InStep.{in_step_come}
 use Rattle.keep_serving.proofs.Called.{heard_more, heard_none, not_ok}
 use Rattle.keep_serving.proofs.Staged.{then_on}
 use Rattle.keep_serving.proofs.serving.Serving.take_up.Goals as goal

@@ -1,12 +1,11 @@
 -- Where the clocks could not be read nothing is handed in.
-use Rattle.std.proofs.Common.{◌≡◌, [], ◌∷◌, false, None, arith, refl}
+use Rattle.std.proofs.Common.{[], ◌∷◌, false, None, arith, refl}
 use Rattle.keep_asking.specs.Sending.{Lanes, lanes_of}
 use Rattle.keep_clock.specs.Seen.{read_call}
 use Rattle.keep_clock.specs.declared.call.Call.TheVariants.{Wait}
 use Rattle.keep_clock.proofs.Joined.{joined_law}
-use Rattle.keep_serving.specs.Held.{Side, side}
+use Rattle.keep_serving.specs.Held.{side}
 use Rattle.keep_serving.specs.Neighbours.{AreCalled}
-use Rattle.keep_serving.specs.Turns.{Turned}
 use Rattle.keep_serving.proofs.Turned.{given_none, unread, unread_turn}
 use Rattle.keep_serving.proofs.serving.Serving.turn.Goals as goal
 

@@ -2,7 +2,7 @@
 use Rattle.std.proofs.Common.{◌≡◌, ◌∙◌, ◌∷◌, ◌||◌, Some, ap, is_ok, refl, subst, sym}
 use Rattle.keep_asking.specs.Sending.{Lanes, lanes_of}
 use Rattle.keep_serving.specs.Changes.{AllGiven, changes_of}
-use Rattle.keep_serving.specs.Held.{Held, IsInStep, Side, side}
+use Rattle.keep_serving.specs.Held.{Held, IsInStep, side}
 use Rattle.keep_serving.specs.Neighbours.{GoOn, changes_in, heard_in}
 use Rattle.keep_serving.specs.Turns.{is_some_change, wait_by}
 use Rattle.keep_serving.proofs.Called.{called_join}
