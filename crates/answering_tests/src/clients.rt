@@ -1,10 +1,9 @@
-//! Clients of the control socket: what they are told, and the needs that they give.
+//! Clients of the control socket: what they are told, and what they ask to be done.
 use crate::agents::{AROUND, NOW, agent};
 use crate::peers::{Peer, PeerDoor, Seen, control_with, prompt};
 use keep_agent::Agent;
-use keep_answering::Control;
-use keep_moment::LAST;
-use keep_serving::Change;
+use keep_answering::{Asked, Control};
+use keep_inventory::Need;
 use std::alloc::Global;
 use std::process::Abort;
 use std::test::Fail;
@@ -24,108 +23,214 @@ fn turns<'a>(
     is_enough
 }
 
-/// The need of a change: its entry, and until when.
-fn need_of(change: Option<Change>) -> Option<(u32, u64)> {
-    match change {
-        Some(Change::Need { entry, until }) => Some((entry, until)),
-        Some(Change::Begin) => None,
-        Some(Change::Serve(_)) => None,
-        None => None,
+/// What is asked to be done, in words.
+fn words_of(alloc: Global, asked: Option<Asked>) -> Result<Vec<u8>, Fail> {
+    match &asked {
+        None => joined(alloc, b"nothing", b""),
+        Some(Asked::Need { name, need }) => need_words(alloc, name.list(), *need),
+        Some(Asked::Replace { name, credential }) => {
+            let front = joined(alloc, b"replace ", name.list())?;
+            let back = joined(alloc, b" ", credential.list())?;
+            joined(alloc, &front, &back)
+        }
+        Some(Asked::Add { table }) => joined(alloc, b"add ", table.list()),
+        Some(Asked::Drop { name }) => joined(alloc, b"drop ", name.list()),
+        Some(Asked::Settle) => joined(alloc, b"settle", b""),
+        Some(Asked::Reload) => joined(alloc, b"reload", b""),
     }
 }
 
-/// The next need that is given, at the moment of the tests.
-fn next<'a>(
-    alloc: Global,
-    control: &mut Control<Peer<'a>, PeerDoor<'a>>,
-    agent: &Agent,
-) -> Result<Option<(u32, u64)>, Fail> {
-    Ok(need_of(control.change(alloc, agent, NOW)?))
+/// One text after another.
+fn joined(alloc: Global, front: &[u8], back: &[u8]) -> Result<Vec<u8>, Fail> {
+    let mut text = Vec::from_slice(alloc, front)?;
+    text.extend_from_slice(back)?;
+    Ok(text)
 }
 
-/// What a client sends, and the need that it gives.
-const NEEDS: [(&str, Option<(u32, u64)>); 6] = [
-    ("[\"need\",\"web\",\"+1h\"]\n", Some((0, 4600))),
-    ("[\"need\",\"job\",\"0\"]\n", Some((1, 0))),
-    ("[\"need\",\"job\",\"always\"]\n", Some((1, LAST))),
+/// A need of the entry of this name, in words.
+fn need_words(alloc: Global, name: &[u8], need: Need) -> Result<Vec<u8>, Fail> {
+    let until = match need {
+        Need::Until(moment) => moment.get().to_string(alloc)?,
+        Need::Always => String::from_str(alloc, "always")?,
+    };
+    let front = joined(alloc, b"need ", name)?;
+    let back = joined(alloc, b" ", until.as_bytes())?;
+    joined(alloc, &front, &back)
+}
+
+/// What is asked next, at the moment of the tests, in words.
+fn next<'a>(alloc: Global, control: &mut Control<Peer<'a>, PeerDoor<'a>>) -> Result<Vec<u8>, Fail> {
+    let asked = control.asked(alloc, NOW)?;
+    words_of(alloc, asked)
+}
+
+/// What a client sends, and what it asks to be done.
+const LINES: [(&str, &str); 14] = [
+    ("[\"need\",\"web\",\"+1h\"]\n", "need web 4600"),
+    ("[\"need\",\"job\",\"0\"]\n", "need job 0"),
+    ("[\"need\",\"nobody\",\"always\"]\n", "need nobody always"),
     (
         "[\"need\",\"job\",\"2026-11-22T09:00:00Z\"]\n",
-        Some((1, 1_795_338_000)),
+        "need job 1795338000",
     ),
-    ("[\"need\",\"nobody\",\"+1h\"]\n", None),
-    ("[\"status\"]\n", None),
+    ("[\"replace\",\"web\",\"s.2\"]\n", "replace web s.2"),
+    ("[\"replace\",\"nobody\",\"s.2\"]\n", "replace nobody s.2"),
+    (
+        "[\"add\",\"[[token]]\\nname = 1\"]\n",
+        "add [[token]]\nname = 1",
+    ),
+    ("[\"drop\",\"job\"]\n", "drop job"),
+    ("[\"settle\"]\n", "settle"),
+    ("[\"reload\"]\n", "reload"),
+    ("[\"need\",\"web\",\"+253402300799\"]\n", "nothing"),
+    ("[\"replace\",\"web\",\"\"]\n", "nothing"),
+    ("[\"status\"]\n", "nothing"),
+    ("[\"follow\"]\n", "nothing"),
 ];
 
-/// The need that a client gives that sends this line.
-fn given(alloc: Global, text: &'static str) -> Result<Option<(u32, u64)>, Fail> {
+/// What a client asks to be done that sends this line.
+fn asked_by(alloc: Global, text: &'static str) -> Result<Vec<u8>, Fail> {
     let agent = agent(alloc)?;
     let seen = Seen::new();
-    let mut control = control_with(alloc, prompt(text, "ok\n"), &seen)?;
+    let mut control = control_with(alloc, prompt(text, ""), &seen)?;
     let _is_enough = turns(alloc, &mut control, &agent, 2);
-    next(alloc, &mut control, &agent)
+    next(alloc, &mut control)
 }
 
 #[test]
-fn a_need_is_that_of_its_line(rt: HostRuntime) -> Result<(), Fail> {
-    for (text, need) in &NEEDS {
-        assert!(rt; given(rt.alloc(), text)? == *need, "{text}");
+fn what_is_asked_is_that_of_its_line(rt: HostRuntime) -> Result<(), Fail> {
+    for (text, words) in &LINES {
+        assert!(rt;
+            asked_by(rt.alloc(), text)?.as_slice() == words.as_bytes(),
+            "{text}"
+        );
     }
     Ok(())
 }
 
-/// Whether a client whose need is settled so is told what it expects, after none is given before that.
-fn is_told(alloc: Global, is_made: bool, expects: &'static str) -> Result<bool, Fail> {
+/// What a client sends that asks for nothing to be done, and what it is told at once.
+const REFUSED: [(&str, &str); 3] = [
+    (
+        "[\"need\",\"web\",\"+253402300799\"]\n",
+        "error: WHEN is after 9999-12-31T23:59:59Z\n",
+    ),
+    ("[\"follow\"]\n", "error: this command is not served yet\n"),
+    (
+        "[\"replace\",\"web\",\"\"]\n",
+        "error: a secret or lease id is 1 to 256 printable ASCII characters without a space\n",
+    ),
+];
+
+/// Whether a client is told this at once.
+fn is_refused(alloc: Global, text: &'static str, expects: &'static str) -> Result<bool, Fail> {
     let agent = agent(alloc)?;
     let seen = Seen::new();
-    let part = prompt("[\"need\",\"web\",\"+1h\"]\n", expects);
+    let mut control = control_with(alloc, prompt(text, expects), &seen)?;
+    let is_enough = turns(alloc, &mut control, &agent, 4);
+    Ok(is_enough && seen.was_sent(expects))
+}
+
+#[test]
+fn what_is_not_done_is_refused(rt: HostRuntime) -> Result<(), Fail> {
+    for (text, expects) in &REFUSED {
+        assert!(rt; is_refused(rt.alloc(), text, expects)?, "{text}");
+    }
+    Ok(())
+}
+
+/// Whether a client that is given this answer is told it and nothing else, after nobody is asked again before that.
+fn is_told(alloc: Global, answer: &'static str) -> Result<bool, Fail> {
+    let agent = agent(alloc)?;
+    let seen = Seen::new();
+    let part = prompt("[\"need\",\"web\",\"+1h\"]\n", answer);
     let mut control = control_with(alloc, part, &seen)?;
     let is_enough = turns(alloc, &mut control, &agent, 2);
-    let first = next(alloc, &mut control, &agent)?;
-    let again = next(alloc, &mut control, &agent)?;
+    let first = next(alloc, &mut control)?;
+    let again = next(alloc, &mut control)?;
     let has_waited = seen.was_sent("");
-    control.settle(alloc, is_made, NOW.elapsed);
+    let text = Vec::from_slice(alloc, answer.as_bytes())?;
+    control.answer(text, NOW.elapsed);
     let is_enough = turns(alloc, &mut control, &agent, 2) && is_enough;
     Ok(
         is_enough
             && has_waited
-            && first == Some((0, 4600))
-            && again.is_none()
-            && seen.was_sent(expects),
+            && first.as_slice() == b"need web 4600".as_slice()
+            && again.as_slice() == b"nothing".as_slice()
+            && seen.was_sent(answer),
     )
 }
 
 #[test]
-fn a_need_that_was_made_is_told(rt: HostRuntime) -> Result<(), Fail> {
-    assert!(rt; is_told(rt.alloc(), true, "ok\n")?);
+fn the_one_that_asks_is_told(rt: HostRuntime) -> Result<(), Fail> {
+    assert!(rt; is_told(rt.alloc(), "ok\nweb is needed always\n")?);
     Ok(())
 }
 
 #[test]
-fn of_a_need_that_was_not_made_nothing_is_told(rt: HostRuntime) -> Result<(), Fail> {
-    assert!(rt; is_told(rt.alloc(), false, "")?);
+fn an_empty_answer_tells_nothing(rt: HostRuntime) -> Result<(), Fail> {
+    assert!(rt; is_told(rt.alloc(), "")?);
     Ok(())
 }
 
-/// The second waits until the first is settled; both are told, each of its own.
+/// Gives the one that asks `ok`.
+fn say_ok<'a>(alloc: Global, control: &mut Control<Peer<'a>, PeerDoor<'a>>) -> Result<(), Fail> {
+    control.answer(Vec::from_slice(alloc, b"ok\n")?, NOW.elapsed);
+    Ok(())
+}
+
+/// The second waits until the first is answered; both are told, each of its own.
 #[test]
-fn two_clients_that_need_are_told_one_after_the_other(rt: HostRuntime) -> Result<(), Fail> {
+fn two_clients_that_ask_are_told_one_after_the_other(rt: HostRuntime) -> Result<(), Fail> {
     let alloc = rt.alloc();
     let agent = agent(alloc)?;
     let last = Seen::new();
     let first = Seen::new();
-    let part = prompt("[\"need\",\"web\",\"+1h\"]\n", "ok\n");
+    let part = prompt("[\"drop\",\"web\"]\n", "ok\n");
     let mut control = control_with(alloc, part, &last)?;
     control
         .door
-        .bring(prompt("[\"need\",\"job\",\"0\"]\n", "ok\n"), &first)?;
+        .bring(prompt("[\"settle\"]\n", "ok\n"), &first)?;
     assert!(rt; turns(alloc, &mut control, &agent, 2));
-    assert!(rt; next(alloc, &mut control, &agent)? == Some((1, 0)));
-    control.settle(alloc, true, NOW.elapsed);
-    assert!(rt; next(alloc, &mut control, &agent)? == Some((0, 4600)));
+    assert!(rt; next(alloc, &mut control)?.as_slice() == b"settle".as_slice());
+    say_ok(alloc, &mut control)?;
+    assert!(rt; next(alloc, &mut control)?.as_slice() == b"drop web".as_slice());
     assert!(rt; turns(alloc, &mut control, &agent, 2));
     assert!(rt; first.was_sent("ok\n") && last.was_sent(""));
-    control.settle(alloc, true, NOW.elapsed);
+    say_ok(alloc, &mut control)?;
     assert!(rt; turns(alloc, &mut control, &agent, 2));
     assert!(rt; last.was_sent("ok\n"));
+    Ok(())
+}
+
+/// An answer where nobody's request was taken goes to nobody.
+#[test]
+fn an_answer_without_a_request_tells_nobody(rt: HostRuntime) -> Result<(), Fail> {
+    let alloc = rt.alloc();
+    let agent = agent(alloc)?;
+    let seen = Seen::new();
+    let mut control = control_with(alloc, prompt("[\"settle\"]\n", ""), &seen)?;
+    assert!(rt; turns(alloc, &mut control, &agent, 2));
+    say_ok(alloc, &mut control)?;
+    assert!(rt; turns(alloc, &mut control, &agent, 2));
+    assert!(rt; seen.was_sent(""));
+    assert!(rt; next(alloc, &mut control)?.as_slice() == b"settle".as_slice());
+    Ok(())
+}
+
+/// A command does not wait for time to pass: as long as one can be asked for, the next turn is to come at once.
+#[test]
+fn the_loop_is_told_that_one_asks(rt: HostRuntime) -> Result<(), Fail> {
+    let alloc = rt.alloc();
+    let agent = agent(alloc)?;
+    let seen = Seen::new();
+    let mut control = control_with(alloc, prompt("[\"settle\"]\n", "ok\n"), &seen)?;
+    assert!(rt; control.go_on(alloc, &agent, AROUND, NOW).is_busy);
+    assert!(rt; control.go_on(alloc, &agent, AROUND, NOW).is_busy);
+    assert!(rt; next(alloc, &mut control)?.as_slice() == b"settle".as_slice());
+    // Nobody can go on before the answer is there.
+    assert!(rt; !control.go_on(alloc, &agent, AROUND, NOW).is_busy);
+    say_ok(alloc, &mut control)?;
+    assert!(rt; !control.go_on(alloc, &agent, AROUND, NOW).is_busy);
+    assert!(rt; seen.was_sent("ok\n"));
     Ok(())
 }

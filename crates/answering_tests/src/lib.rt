@@ -1,5 +1,5 @@
-//! Tests alone, of what the guests of a running agent are answered: onlookers by page and by fault, clients, and the needs that they
-//! give. What `house_tests` needs too is public.
+//! Tests alone, of what the guests of a running agent are answered: onlookers by page and by fault, clients, and what they
+//! ask to be done. What `house_tests` needs too is public.
 #![tactic(auto)]
 
 #[cfg(test)]

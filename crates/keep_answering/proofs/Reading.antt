@@ -1,6 +1,5 @@
 -- Reading: what is wanted by a line, and by one that was not read. For `wanted_by_line` and `wanted_of`.
 use Rattle.std.proofs.Common.{◌≡◌, ◌≢◌, ◌∙◌, ℕ, List, Ok, Err, IfOk, Result, ap, refl, sym, take}
-use Rattle.keep_agent.specs.Agent.{Agent}
 use Rattle.keep_control.specs.Answer.{Fails}
 use Rattle.keep_control.specs.Front.{IsFront}
 use Rattle.keep_control.specs.Requests.{request_of}
@@ -13,23 +12,23 @@ use Rattle.keep_answering.specs.declared.wanted.Wanted.{Wanted}
 use Rattle.keep_answering.specs.declared.wanted.Wanted.TheVariants as wanted
 use Rattle.keep_answering.specs.declared.wanted.Why.TheVariants as whys
 
-refused_by : (agent : Agent) (now : ℕ) (fault : RequestFault) (read : Result Request RequestFault) → Fails fault read → fault ≢ faults.OutOfMemory → wanted.Refused (whys.Fault fault) ≡ wanted_if agent now read
-refused_by agent now faults.OutOfMemory read fails not = absurd (not refl)
-refused_by agent now faults.TooLong read fails not = ap (wanted_if agent now) (sym fails)
-refused_by agent now faults.NotWords read fails not = ap (wanted_if agent now) (sym fails)
-refused_by agent now faults.NoCommand read fails not = ap (wanted_if agent now) (sym fails)
-refused_by agent now faults.BadName read fails not = ap (wanted_if agent now) (sym fails)
-refused_by agent now faults.BadWhen read fails not = ap (wanted_if agent now) (sym fails)
-refused_by agent now faults.BadCredential read fails not = ap (wanted_if agent now) (sym fails)
+refused_by : (now : ℕ) (fault : RequestFault) (read : Result Request RequestFault) → Fails fault read → fault ≢ faults.OutOfMemory → wanted.Refused (whys.Fault fault) ≡ wanted_if now read
+refused_by now faults.OutOfMemory read fails not = absurd (not refl)
+refused_by now faults.TooLong read fails not = ap (wanted_if now) (sym fails)
+refused_by now faults.NotWords read fails not = ap (wanted_if now) (sym fails)
+refused_by now faults.NoCommand read fails not = ap (wanted_if now) (sym fails)
+refused_by now faults.BadName read fails not = ap (wanted_if now) (sym fails)
+refused_by now faults.BadWhen read fails not = ap (wanted_if now) (sym fails)
+refused_by now faults.BadCredential read fails not = ap (wanted_if now) (sym fails)
 
 -- one that was not read is refused, unless memory was wanting
-pub not_read : {E : Type 0} (agent : Agent) (now : ℕ) (fault : RequestFault) (read : Result Request RequestFault) (result : Result Wanted E) → Fails fault read →
-    IfOk result (λ it. (fault ≢ faults.OutOfMemory) × (it ≡ wanted.Refused (whys.Fault fault))) → IfOk result (λ it. it ≡ wanted_if agent now read)
-not_read agent now fault read (Ok it) fails is = is.1 ∙ refused_by agent now fault read fails is.0
-not_read agent now fault read (Err e) fails is = tt
+pub not_read : {E : Type 0} (now : ℕ) (fault : RequestFault) (read : Result Request RequestFault) (result : Result Wanted E) → Fails fault read →
+    IfOk result (λ it. (fault ≢ faults.OutOfMemory) × (it ≡ wanted.Refused (whys.Fault fault))) → IfOk result (λ it. it ≡ wanted_if now read)
+not_read now fault read (Ok it) fails is = is.1 ∙ refused_by now fault read fails is.0
+not_read now fault read (Err e) fails is = tt
 
 -- what is wanted by the first line is wanted
-pub by_line : {E : Type 0} (agent : Agent) (now n : ℕ) (bytes : List ℕ) (result : Result Wanted E) → IsFront bytes (fronts.Whole n) →
-    IfOk result (λ it. it ≡ wanted_if agent now (request_of (take n bytes))) → IfOk result (λ it. Wants agent now bytes it)
-by_line agent now n bytes (Ok it) front is = (fronts.Whole n, (front, is))
-by_line agent now n bytes (Err e) front is = tt
+pub by_line : {E : Type 0} (now n : ℕ) (bytes : List ℕ) (result : Result Wanted E) → IsFront bytes (fronts.Whole n) →
+    IfOk result (λ it. it ≡ wanted_if now (request_of (take n bytes))) → IfOk result (λ it. Wants now bytes it)
+by_line now n bytes (Ok it) front is = (fronts.Whole n, (front, is))
+by_line now n bytes (Err e) front is = tt

@@ -1,7 +1,8 @@
 //! The clients of an agent's control socket.
 ghost use Rattle.std.specs.Prelude.{◌≡◌, ◌&&◌, IfOk};
-ghost use Rattle.keep_answering.specs.Controlling.{ControlGoesOn, Gives, OneIsReplied, Settles, nobody_asks, refused_text, shown_text};
+ghost use Rattle.keep_answering.specs.Controlling.{AnswersAsked, ControlGoesOn, Gives, OneIsReplied, can_be_asked, nobody_asks, refused_text, shown_text};
 
+use crate::asked::Asked;
 use crate::lines::RequestLines;
 use crate::wanted::{Wanted, Why, wanted_of};
 use crate::went::Went;
@@ -9,29 +10,20 @@ use keep_agent::Agent;
 use keep_clients::{Clients, Door, Limits, Talk};
 use keep_clock::Reading;
 use keep_control::LINE_MAX;
-use keep_moment::Text;
 use keep_onlook::{Method, Page, Question, Surroundings, answer_to, board_of};
-use keep_serving::Change;
 use std::alloc::{AllocError, Global};
 use std::mem;
 
 /// The most clients at a time.
 pub const MOST_CLIENTS: usize = 32;
 
-/// A client whose change was given, and what it is told once that is made.
-#[derive(Debug, Drop)]
-pub struct Asking {
-    pub id: u64,
-    pub done: Text,
-}
-
-/// The clients of an agent's control socket, the door by which they come in, and the one whose change was given last, as long as
-/// it is not settled.
+/// The clients of an agent's control socket, and the door by which they come in.
 #[derive(Debug, Drop)]
 pub struct Control<T, D> {
     pub clients: Clients<T, RequestLines>,
     pub door: D,
-    pub asking: Option<Asking>,
+    /// The number of the client whose request was taken last, as long as it is not answered.
+    pub asking: Option<u64>,
 }
 
 impl<T: Talk, D: Door<T>> Control<T, D> {
@@ -51,7 +43,7 @@ impl<T: Talk, D: Door<T>> Control<T, D> {
     }
 
     /// Goes on with each client by one call of its connection at most, and answers the first of those whose line has ended,
-    /// where it asks for no change. `around` is what the agent does not know of itself.
+    /// where it asks for nothing to be done. `around` is what the agent does not know of itself.
     ///
     /// Where memory is wanting for an answer, that client is sent nothing and its connection is closed.
     pub fn go_on(
@@ -66,20 +58,22 @@ impl<T: Talk, D: Door<T>> Control<T, D> {
         let is_turned = self.clients.turn(alloc, &mut self.door, now.elapsed);
         let is_answered = reply_to_one(alloc, &mut self.clients, agent, around, now);
         Went {
-            is_busy: self.clients.is_busy(),
+            is_busy: self.clients.is_busy() || self.can_be_asked(),
             is_enough: both(is_turned, is_answered),
         }
     }
 
-    /// The change that the first of those asks for whose line has ended, where it asks for one and the last one is settled. It
-    /// waits then until that is settled too. The only error is out of memory: it is left for another call then.
-    pub fn change(
-        &mut self,
-        alloc: Global,
-        agent: &Agent,
-        now: Reading,
-    ) -> Result<Option<Change>, AllocError>
-        ensures { Gives agent.now now self.old result self.new }
+    /// Whether a request is there that may be taken.
+    fn can_be_asked(&self) -> bool
+        ensures { result ≡ can_be_asked self.now }
+    {
+        self.asking.is_none() && self.clients.first_request().is_some()
+    }
+
+    /// What the first of those asks for whose line has ended, where it asks for something to be done and the last one is
+    /// answered. It waits then until that is answered too. The only error is out of memory: it is left for another call then.
+    pub fn asked(&mut self, alloc: Global, now: Reading) -> Result<Option<Asked>, AllocError>
+        ensures { Gives now self.old result self.new }
     {
         if self.asking.is_some() {
             return Ok(None);
@@ -87,40 +81,29 @@ impl<T: Talk, D: Door<T>> Control<T, D> {
         let Some(bytes) = self.clients.first_request() else {
             return Ok(None);
         };
-        let wanted = wanted_of(alloc, agent, now.wall / 1000, bytes)?;
-        let Wanted::Need { entry, until } = wanted else {
+        let Wanted::Do(asked) = wanted_of(alloc, now.wall / 1000, bytes)? else {
             return Ok(None);
         };
-        let done = Text::of(alloc, b"ok\n")?;
         let Some(request) = self.clients.take_request() else {
             return Ok(None);
         };
-        self.asking = Some(Asking {
-            id: request.id,
-            done,
-        });
-        Ok(Some(Change::Need { entry, until }))
+        self.asking = Some(request.id);
+        Ok(Some(asked))
     }
 
-    /// Tells the client whose change was given last that it is made; where it was not, it is sent nothing and its connection is
-    /// closed. `now` is in milliseconds of the clock that never steps.
-    pub fn settle(&mut self, alloc: Global, is_made: bool, now: u64)
-        ensures { Settles is_made now self.old self.new }
+    /// Sends the client whose request was taken last this answer, and closes its connection after it; an empty answer closes it
+    /// at once. Where none was taken, or it was answered, nothing is done. `now` is in milliseconds of the clock that never steps.
+    pub fn answer(&mut self, answer: Vec<u8>, now: u64)
+        ensures { AnswersAsked answer.items now self.old self.new }
     {
-        let Some(asking) = mem::replace(&mut self.asking, None) else {
+        let Some(id) = mem::replace(&mut self.asking, None) else {
             return;
-        };
-        let Asking { id, done } = asking;
-        let answer = if is_made {
-            done.into_vec()
-        } else {
-            Vec::new(alloc)
         };
         let _is_there = self.clients.answer(id, answer, now);
     }
 }
 
-/// Answers the first of those whose line has ended, where there is one and it asks for no change. Whether memory sufficed.
+/// Answers the first of those whose line has ended, where there is one and it asks for nothing to be done. Whether memory sufficed.
 fn reply_to_one<T: Talk>(
     alloc: Global,
     clients: &mut Clients<T, RequestLines>,
@@ -133,12 +116,12 @@ fn reply_to_one<T: Talk>(
     let Some(bytes) = clients.first_request() else {
         return true;
     };
-    let Ok(wanted) = wanted_of(alloc, agent, now.wall / 1000, bytes) else {
+    let Ok(wanted) = wanted_of(alloc, now.wall / 1000, bytes) else {
         let _is_there = clients.answer_first(Vec::new(alloc), now.elapsed);
         return false;
     };
     let reply = match wanted {
-        Wanted::Need { .. } => return true,
+        Wanted::Do(_) => return true,
         Wanted::Show(page) => shown(alloc, agent, around, page),
         Wanted::Refused(why) => refused(alloc, why),
     };
