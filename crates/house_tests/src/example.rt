@@ -12,18 +12,22 @@ const LINES: &str = "\
 1970-01-01T00:16:40Z begin start
 1970-01-01T00:16:40Z look web
 1970-01-01T00:16:40Z entry web 1970-01-01T00:17:40Z
+1970-01-01T00:16:40Z next 1970-01-01T00:17:39Z web
 1970-01-01T00:17:39Z wake 1970-01-01T00:17:39Z web
 1970-01-01T00:17:39Z renew web
 1970-01-01T00:17:39Z told web 60
+1970-01-01T00:17:39Z next 1970-01-01T00:18:38Z web
 ";
 
 const OBJECTS: &str =
     r#"{"moment": "1970-01-01T00:16:40Z", "level": "info", "event": "begin", "words": ["start"]}
 {"moment": "1970-01-01T00:16:40Z", "level": "info", "event": "look", "words": ["web"]}
 {"moment": "1970-01-01T00:16:40Z", "level": "info", "event": "entry", "words": ["web", "1060"]}
+{"moment": "1970-01-01T00:16:40Z", "level": "info", "event": "next", "words": ["1059", "web"]}
 {"moment": "1970-01-01T00:17:39Z", "level": "info", "event": "wake", "words": ["1059", "web"]}
 {"moment": "1970-01-01T00:17:39Z", "level": "info", "event": "renew", "words": ["web"]}
 {"moment": "1970-01-01T00:17:39Z", "level": "info", "event": "told", "words": ["web", "60"]}
+{"moment": "1970-01-01T00:17:39Z", "level": "info", "event": "next", "words": ["1118", "web"]}
 "#;
 
 fn played(alloc: Global, form: Form) -> Result<Play<'static>, Fail> {

@@ -16,9 +16,11 @@ const LINES: &str = "\
 1970-01-01T00:16:40Z begin start
 1970-01-01T00:16:40Z look web
 1970-01-01T00:16:40Z entry web 1970-01-01T00:17:40Z
+1970-01-01T00:16:40Z next 1970-01-01T00:17:39Z web
 1970-01-01T00:17:39Z wake 1970-01-01T00:17:39Z web
 1970-01-01T00:17:39Z renew web
 1970-01-01T00:17:39Z told web 60
+1970-01-01T00:17:39Z next 1970-01-01T00:18:38Z web
 ";
 
 /// The loop with a client of the control socket.
@@ -43,7 +45,7 @@ fn with_onlooker<'a>(alloc: Global, part: Part, seen: &'a Seen) -> Result<Play<'
 const ASKED: [(&str, &str); 6] = [
     (
         "[\"status\"]\n",
-        "ok\n{\"now\":1000,\"next_wake\":null,\"beginnings\":1,\"margin\":1,\"entries\":[{\"name\":\"web\",\"kind\":\"token\",\"state\":\"kept\",\"wrong\":null,\"end\":1060,\"need\":1200,\"carried\":1200,\"in_force\":1200,\"last_success\":null,\"granted\":0,\"refused\":0,\"lost\":0}]}\n",
+        "ok\n{\"now\":1000,\"next_wake\":1059,\"beginnings\":1,\"margin\":1,\"entries\":[{\"name\":\"web\",\"kind\":\"token\",\"state\":\"kept\",\"wrong\":null,\"end\":1060,\"need\":1200,\"carried\":1200,\"in_force\":1200,\"last_success\":null,\"granted\":0,\"refused\":0,\"lost\":0}]}\n",
     ),
     ("[\"health\"]\n", "ok\nevery needed entry is kept\n"),
     (
@@ -52,7 +54,7 @@ const ASKED: [(&str, &str); 6] = [
     ),
     (
         "[\"drop\",\"web\"]\n",
-        "error: this command is not served yet\n",
+        "error: this agent keeps no changes; start it with --state FOLDER\n",
     ),
     (
         "[\"need\",\"web\",\"soon\"]\n",
@@ -89,12 +91,18 @@ fn an_onlooker_is_answered_and_changes_nothing(rt: HostRuntime) -> Result<(), Fa
     Ok(())
 }
 
+const NO_NEED: &str = "ok\nweb has no need\n";
+
+const ALWAYS: &str = "ok\nweb is needed always\n";
+
 /// After the client no longer needs it, nothing is asked.
 const NEED_LINES: &str = "\
 1970-01-01T00:16:40Z begin start
 1970-01-01T00:16:40Z look web
 1970-01-01T00:16:40Z entry web 1970-01-01T00:17:40Z
+1970-01-01T00:16:40Z next 1970-01-01T00:17:39Z web
 1970-01-01T00:16:40Z need web 1970-01-01T00:00:00Z
+1970-01-01T00:16:40Z next none
 ";
 
 #[test]
@@ -102,10 +110,10 @@ fn what_a_client_no_longer_needs_is_renewed_no_more(rt: HostRuntime) -> Result<(
     let seen = Seen::new();
     let play = with_client(
         rt.alloc(),
-        prompt("[\"need\",\"web\",\"0\"]\n", "ok\n"),
+        prompt("[\"need\",\"web\",\"0\"]\n", NO_NEED),
         &seen,
     )?;
-    assert!(rt; seen.was_sent("ok\n"));
+    assert!(rt; seen.was_sent(NO_NEED));
     assert!(rt; said(&play) == NEED_LINES.as_bytes());
     Ok(())
 }
@@ -114,10 +122,12 @@ const ALWAYS_LINES: &str = "\
 1970-01-01T00:16:40Z begin start
 1970-01-01T00:16:40Z look web
 1970-01-01T00:16:40Z entry web 1970-01-01T00:17:40Z
+1970-01-01T00:16:40Z next 1970-01-01T00:17:39Z web
 1970-01-01T00:16:40Z need web always
 1970-01-01T00:17:39Z wake 1970-01-01T00:17:39Z web
 1970-01-01T00:17:39Z renew web
 1970-01-01T00:17:39Z told web 60
+1970-01-01T00:17:39Z next 1970-01-01T00:18:38Z web
 ";
 
 #[test]
@@ -125,10 +135,10 @@ fn a_need_that_lasts_is_said_so(rt: HostRuntime) -> Result<(), Fail> {
     let seen = Seen::new();
     let play = with_client(
         rt.alloc(),
-        prompt("[\"need\",\"web\",\"always\"]\n", "ok\n"),
+        prompt("[\"need\",\"web\",\"always\"]\n", ALWAYS),
         &seen,
     )?;
-    assert!(rt; seen.was_sent("ok\n"));
+    assert!(rt; seen.was_sent(ALWAYS));
     assert!(rt; said(&play) == ALWAYS_LINES.as_bytes());
     Ok(())
 }
@@ -146,9 +156,9 @@ fn with_two_clients<'a>(alloc: Global, part: Part, seen: &'a [Seen; 2]) -> Resul
 #[test]
 fn two_clients_that_need_are_both_told(rt: HostRuntime) -> Result<(), Fail> {
     let seen = [Seen::new(), Seen::new()];
-    let need = prompt("[\"need\",\"web\",\"always\"]\n", "ok\n");
+    let need = prompt("[\"need\",\"web\",\"always\"]\n", ALWAYS);
     let _play = with_two_clients(rt.alloc(), need, &seen)?;
-    assert!(rt; seen[0].was_sent("ok\n") && seen[1].was_sent("ok\n"));
+    assert!(rt; seen[0].was_sent(ALWAYS) && seen[1].was_sent(ALWAYS));
     Ok(())
 }
 

@@ -1,13 +1,19 @@
 //! Tests alone, of the neighbours of an agent that serves: its log with the example of the watch line by line, troubles that go on, and a
-//! reader that does not read or is away; clients and onlookers that ask, are slow or fail; and starts that are refused.
+//! reader that does not read or is away; clients and onlookers that ask, are slow or fail; ends that are kept; and starts that are refused.
 #![tactic(auto)]
 
+#[cfg(test)]
+mod ends;
 #[cfg(test)]
 mod example;
 #[cfg(test)]
 mod guests;
 #[cfg(test)]
+mod kept;
+#[cfg(test)]
 mod loops;
+#[cfg(test)]
+mod notebooks;
 #[cfg(test)]
 mod readers;
 #[cfg(test)]

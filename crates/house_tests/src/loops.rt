@@ -2,10 +2,13 @@
 ghost use Rattle.std.specs.Prelude.{IfOk};
 ghost use Rattle.keep_serving.specs.Held.{IsInStep};
 
+use crate::notebooks::Notebook;
 use answering_tests::peers::{Peer, PeerDoor};
 use broker_table::Table;
 use keep_answering::{Control, Onlookers};
 use keep_clock::{MemoryClock, Reading};
+use keep_disk::MemoryDisk;
+use keep_ends::EndsFile;
 use keep_house::{Desk, Form, House};
 use keep_inventory::read;
 use keep_lanes::{LaneFault, MemoryLanes};
@@ -32,7 +35,7 @@ pub(crate) struct Play<'a> {
     pub(crate) serving: Serving,
     pub(crate) clock: MemoryClock,
     pub(crate) lanes: MemoryLanes,
-    pub(crate) house: House<MemorySink, Peer<'a>, PeerDoor<'a>>,
+    pub(crate) house: House<MemorySink, Peer<'a>, PeerDoor<'a>, Notebook, MemoryDisk>,
 }
 
 /// A loop over the example, whose clocks read these moments, in milliseconds, and whose reader answers so. It has no sockets.
@@ -47,6 +50,13 @@ pub(crate) fn play_of<'a>(
     play_with(alloc, form, moments, answers, None, None)
 }
 
+/// What is kept over a restart.
+#[derive(Drop)]
+pub(crate) struct Kept {
+    pub(crate) state: Option<Notebook>,
+    pub(crate) ends: Option<EndsFile<MemoryDisk>>,
+}
+
 /// The same, with the clients of a control socket and the onlookers, where there are some.
 pub(crate) fn play_with<'a>(
     alloc: Global,
@@ -58,6 +68,26 @@ pub(crate) fn play_with<'a>(
 ) -> Result<Play<'a>, Fail>
     ensures { IfOk result (λ play. IsInStep play.lanes.width play.lanes.out play.serving) }
 {
+    let kept = Kept {
+        state: None,
+        ends: None,
+    };
+    play_keeping(alloc, form, moments, answers, control, onlookers, kept)
+}
+
+/// The same, with what is kept over a restart.
+pub(crate) fn play_keeping<'a>(
+    alloc: Global,
+    form: Form,
+    moments: &[u64],
+    answers: Vec<Answer>,
+    control: Option<Control<Peer<'a>, PeerDoor<'a>>>,
+    onlookers: Option<Onlookers<Peer<'a>, PeerDoor<'a>>>,
+    kept: Kept,
+) -> Result<Play<'a>, Fail>
+    ensures { IfOk result (λ play. IsInStep play.lanes.width play.lanes.out play.serving) }
+{
+    let Kept { state, ends } = kept;
     let inventory = read(alloc, WEB.as_bytes())?;
     let lanes = MemoryLanes::new(alloc, Table::load(alloc, &inventory)?, 5, 8);
     let house = House {
@@ -66,7 +96,10 @@ pub(crate) fn play_with<'a>(
         control,
         onlookers,
         file: READ,
+        state,
         given: None,
+        next: None,
+        ends,
     };
     let serving = Serving::begin(alloc, inventory, &lanes)?;
     let clock = MemoryClock::new(alloc, readings(alloc, moments)?, 256)?;

@@ -12,6 +12,7 @@ const FIRST: &str = "\
 1970-01-01T00:16:40Z begin start
 1970-01-01T00:16:40Z look web
 1970-01-01T00:16:40Z entry web 1970-01-01T00:17:40Z
+1970-01-01T00:16:40Z next 1970-01-01T00:17:39Z web
 ";
 
 /// Two turns with a reader that gives this answer first.
@@ -41,6 +42,7 @@ fn a_piece_that_was_taken_is_not_given_again(rt: HostRuntime) -> Result<(), Fail
 const LATER: &str = "\
 1970-01-01T00:16:40Z warning: log dropped 2 lines
 1970-01-01T00:16:40Z entry web 1970-01-01T00:17:40Z
+1970-01-01T00:16:40Z next 1970-01-01T00:17:39Z web
 ";
 
 #[test]

@@ -24,6 +24,7 @@ const LOST: &str = "\
 1970-01-01T00:16:40Z look web
 1970-01-01T00:16:40Z warning: lost web closed
 1970-01-01T00:16:40Z warning: away closed
+1970-01-01T00:16:40Z next none
 1970-01-01T00:16:41Z renew web
 1970-01-01T00:16:41Z note: lost web closed
 ";

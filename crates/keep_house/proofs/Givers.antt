@@ -1,67 +1,228 @@
--- Givers: which changes are given in a turn: none but those that clients ask for; and when the log's reader is tried. For the impl of
--- Neighbours.
-use Rattle.std.proofs.Common.{◌≡◌, ◌∙◌, ℕ, ◌+◌, ◌≤◌, Bool, List, [], Option, Some, None, Result, Ok, ap, refl, subst, sym}
-use Rattle.std.specs.Prelude.{option_to_list}
+-- Givers: which changes are given in a turn: none but those that clients ask for and that are kept; and when the log's reader is
+-- tried. For the impl of Neighbours.
+use Rattle.std.proofs.Common.{◌≡◌, ◌∙◌, ℕ, ◌+◌, ◌≤◌, Bool, true, false, List, [], Option, Some, None, Result, Ok, Err, ap, refl, subst, sym}
+use Rattle.std.proofs.lemmas.Bool.{true≢false}
+use Rattle.std.specs.Prelude.{◌||◌, Vec, is_some, option_to_list}
 use Rattle.std.specs.declared.alloc.AllocError.{AllocError}
+use Rattle.std.specs.declared.alloc.Global.{Global}
 use Rattle.keep_agent.specs.Agent.{Agent}
+use Rattle.keep_answering.specs.declared.asked.Asked.{Asked}
+use Rattle.keep_answering.specs.declared.asked.Asked.TheVariants as asked
 use Rattle.keep_answering.specs.declared.control.Control.{Control}
 use Rattle.keep_answering.specs.declared.went.Went.{Went}
+use Rattle.keep_change.specs.Rows.{named}
+use Rattle.keep_change.specs.declared.change.What.TheVariants as what
+use Rattle.keep_change.specs.declared.row.Row.{Row}
 use Rattle.keep_clients.specs.Doors.{Log}
 use Rattle.keep_clients.specs.declared.talk.Call.{Call}
 use Rattle.keep_clock.specs.declared.reading.Reading.{Reading}
+use Rattle.keep_inventory.specs.Inventories.{Inventory}
+use Rattle.keep_inventory.specs.declared.need.Need.{Need}
 use Rattle.keep_log.specs.declared.writing.TheConstants.{MOST_TRIES}
 use Rattle.keep_onlook.specs.declared.board.Surroundings.{Surroundings}
 use Rattle.keep_serving.specs.Changes.{AllGiven}
 use Rattle.keep_serving.specs.declared.change.Change.{Change}
-use Rattle.keep_house.specs.Houses.{AsksFor, Attends, ClientIsTold, ClientsGive, ClientsGoOn, SettlesGiven, changes_given, given_of}
+use Rattle.keep_house.specs.Commands.{Adds, AddsIf, AddsRow, AsksFor, AsksIf, CarriesIf, CarriesOut, ClosesClient, Drops, GivesNeed, IsDue, IsKept, IsRebuilt, Lacks, Needs, NeedsIf, Reloads, Replaces, RereadBy, ServesClients, Settles, SettlesAnswer, SettlesBy, SettlesGiven, SettlesNeed, SettlesServed, TellsNeed, TellsReload, end_named, until_of}
+use Rattle.keep_house.specs.Houses.{Attends, ClientIsAnswered, ClientsAsk, ClientsGoOn, Concludes, Sends, WillTell, bytes_sent, changes_given, given_where}
+use Rattle.keep_house.specs.Keeping.{Comes, KeepCall, Outcome, Settle, Take, Why}
+use Rattle.keep_house.specs.Telling.{IsAddLine, IsDropLine, replace_line, settle_line}
+use Rattle.keep_house.specs.Lines.{Line}
+use Rattle.keep_house.specs.declared.given.Given.{Given}
+use Rattle.keep_house.specs.declared.given.Given.TheVariants as givens
 use Rattle.keep_house.specs.declared.given.GivenNeed.{GivenNeed}
 use Rattle.keep_house.specs.declared.house.House.{House}
+use Rattle.keep_house.specs.declared.keeping.Reread.{Reread}
+use Rattle.keep_house.specs.declared.mark.Mark.{Mark}
+
+-- ---- who is there stays there, and the log's reader is left alone
+
+record AreSame {S T D K E : Type 0} (old new : House S T D K E) : Type 0 where
+  sink : new.sink ≡ old.sink
+  control : is_some new.control ≡ is_some old.control
+  state : is_some new.state ≡ is_some old.state
+
+answered : {T D : Type 0} (answer : List ℕ) (now : ℕ) (old new : Option (Control T D)) → ClientIsAnswered answer now old new → is_some new ≡ is_some old
+answered answer now None new h = ap is_some h
+answered answer now (Some old) None h = absurd h
+answered answer now (Some old) (Some new) h = refl
+
+clients_asked : {T D : Type 0} (now : Reading) (result : Result (Option Asked) AllocError) (old new : Option (Control T D)) → ClientsAsk now result old new → is_some new ≡ is_some old
+clients_asked now result None new h = ap is_some h.1
+clients_asked now result (Some old) None h = absurd h
+clients_asked now result (Some old) (Some new) h = refl
+
+comes : {K : Type 0} (does : KeepCall → K → K → Type 0) (call : Result (Unit {0}) Why → KeepCall) (Says : K → List ℕ → Type 0) (outcome : Outcome) (old new : Option K) → Comes does call Says outcome old new → is_some new ≡ is_some old
+comes does call Says outcome None new h = ap is_some h.0
+comes does call Says outcome (Some old) None h = absurd h
+comes does call Says outcome (Some old) (Some new) h = refl
+
+kept : {K : Type 0} (does : KeepCall → K → K → Type 0) (agent : Agent) (now : Reading) (name : List ℕ) (need : Need) (result : Result (Unit {0}) Why) (old new : Option K) → IsKept does agent now name need result old new → is_some new ≡ is_some old
+kept does agent now name need result None new h = ap is_some h.1
+kept does agent now name need result (Some old) None h = absurd h
+kept does agent now name need result (Some old) (Some new) h = refl
+
+reread : {K : Type 0} (does : KeepCall → K → K → Type 0) (now : Reading) (result : Option (Result Reread Why)) (old new : Option K) → RereadBy does now result old new → is_some new ≡ is_some old
+reread does now None None new h = ap is_some h
+reread does now None (Some old) new h = absurd h
+reread does now (Some result) None new h = absurd h
+reread does now (Some result) (Some old) None h = absurd h
+reread does now (Some result) (Some old) (Some new) h = refl
+
+rebuilt : {K : Type 0} (does : KeepCall → K → K → Type 0) (old new : Option K) → IsRebuilt does old new → is_some new ≡ is_some old
+rebuilt does None new h = ap is_some h
+rebuilt does (Some old) None h = absurd h
+rebuilt does (Some old) (Some new) h = refl
+
+some_is_none : {X : Type 0} (x : X) (a : Result (Option X) AllocError) → a ≡ Ok (Some x) → a ≡ Ok None → ⊥
+some_is_none x a one other = cc
+
+module _ {S T D K E : Type 0} where
+  same : (old new : House S T D K E) → new ≡ old → AreSame old new
+  same old new is = record { sink = ap (λ h. h.sink) is; control = ap (λ h. is_some h.control) is; state = ap (λ h. is_some h.state) is }
+
+  -- from a house with another state, or another desk
+  after_state : (state : Option K) (old new : House S T D K E) → is_some state ≡ is_some old.state → AreSame (record old { state = state }) new → AreSame old new
+  after_state state old new is h = record { sink = h.sink; control = h.control; state = h.state ∙ is }
+
+  sent : (agent : Agent) (text : Option (List ℕ)) (now : ℕ) (old new : House S T D K E) → Sends agent text now old new → AreSame old new
+  sent agent text now old new h = record {
+    sink = ap (λ x. x.sink) h.rest;
+    control = answered (bytes_sent text) now old.control new.control h.client;
+    state = ap (λ x. is_some x.state) h.rest;
+  }
+
+  will_tell : (outcome : Outcome) (now : ℕ) (old new : House S T D K E) → WillTell outcome now old new → AreSame old new
+  will_tell outcome now old new h = record { sink = ap (λ x. x.sink) h.rest; control = ap (λ x. is_some x.control) h.rest; state = ap (λ x. is_some x.state) h.rest }
+
+  concluded : (agent : Agent) (l : Line) (outcome : Outcome) (now : ℕ) (old new : House S T D K E) → Concludes agent l outcome now old new → AreSame old new
+  concluded agent l outcome now old new h = let all = will_tell outcome now (record old { desk = h.desk }) new h.will in record { sink = all.sink; control = all.control; state = all.state }
+
+  -- ---- what clients ask for
+
+  need_given : (agent : Agent) (now : Reading) (name : List ℕ) (until : ℕ) (i : Option ℕ) (change : Change) (old new : House S T D K E) → GivesNeed agent now name until i change old new → AreSame old new
+  need_given agent now name until (Some i) change old new h = record { sink = ap (λ x. x.sink) h.1; control = ap (λ x. is_some x.control) h.1; state = ap (λ x. is_some x.state) h.1 }
+  need_given agent now name until None change old new h = concluded agent _ _ _ old new h.1.1.1
+
+  need_if : (agent : Agent) (now : Reading) (name : List ℕ) (until : ℕ) (result : Result (Unit {0}) Why) (change : Change) (old new : House S T D K E) → NeedsIf agent now name until result change old new → AreSame old new
+  need_if agent now name until (Ok x) change old new h = need_given agent now name until _ change old new h
+  need_if agent now name until (Err why) change old new h = will_tell (Err why) now.elapsed old new h.1
+
+  add_if : (does : KeepCall → K → K → Type 0) (agent : Agent) (now : Reading) (read : Result Row Why) (old new : House S T D K E) → AddsIf does agent now read old new → AreSame old new
+  add_if does agent now (Ok row) old new h = after_state h.state old new (comes does (λ done. Take now.elapsed row.name (what.Add row) done) (λ k line. IsAddLine row.name (until_of row.need) line) h.outcome old.state h.state h.comes) (concluded agent _ h.outcome now.elapsed (record old { state = h.state }) new h.concludes)
+  add_if does agent now (Err why) old new h = will_tell (Err why) now.elapsed old new h
+
+  reload_told : (path : K → List ℕ) (agent : Agent) (now : Reading) (result : Option (Result Reread Why)) (old new : House S T D K E) → TellsReload path agent now result old new → AreSame old new
+  reload_told path agent now None old new h = will_tell (Err h.why) now.elapsed old new h.will
+  reload_told path agent now (Some (Ok r)) old new h = let all = will_tell (Ok h.line) now.elapsed _ new h.will in record { sink = all.sink; control = all.control; state = all.state }
+  reload_told path agent now (Some (Err why)) old new h = let all = will_tell (Err why) now.elapsed _ new h.will in record { sink = all.sink; control = all.control; state = all.state }
+
+module _ {S T D K E : Type 0} (does : KeepCall → K → K → Type 0) (rows : K → List Row) (path : K → List ℕ) (reads : List ℕ → Result Row Why → Type 0)
+    (gives : ℕ → Result (Option Inventory) AllocError → K → Type 0) (agent : Agent) (now : Reading) where
+  carried_out : (a : Asked) (change : Change) (old new : House S T D K E) → CarriesOut does rows path reads gives agent now a change old new → AreSame old new
+  carried_out (asked.Need name need) change old new h =
+      after_state h.state old new (kept does agent now name need h.result old.state h.state h.kept) (need_if agent now name _ h.result change (record old { state = h.state }) new h.then)
+  carried_out (asked.Replace name credential) change old new h =
+      after_state h.1.state old new (comes does (λ done. Take now.elapsed name (what.Replace credential) done) (λ k line. line ≡ replace_line name (named (rows k) name)) h.1.outcome old.state h.1.state h.1.comes) (concluded agent _ h.1.outcome now.elapsed (record old { state = h.1.state }) new h.1.concludes)
+  carried_out (asked.Add table) change old new h = add_if does agent now h.1.read old new h.1.then
+  carried_out (asked.Drop name) change old new h =
+      after_state h.1.state old new (comes does (λ done. Take now.elapsed name what.Drop done) (λ k line. IsDropLine name (end_named agent name) line) h.1.outcome old.state h.1.state h.1.comes) (concluded agent _ h.1.outcome now.elapsed (record old { state = h.1.state }) new h.1.concludes)
+  carried_out asked.Settle change old new h =
+      after_state h.1.state old new (comes does Settle (λ k line. line ≡ settle_line (path k)) h.1.outcome old.state h.1.state h.1.comes) (concluded agent _ h.1.outcome now.elapsed (record old { state = h.1.state }) new h.1.concludes)
+  carried_out asked.Reload change old new h =
+      after_state h.1.state old new (reread does now h.1.result old.state h.1.state h.1.asks) (reload_told path agent now h.1.result (record old { state = h.1.state }) new h.1.tells)
+
+  lacked : (change : Option Change) (old new : House S T D K E) → Lacks does rows path reads gives agent now change old new → AreSame old new
+  lacked change old new h = record { sink = ap (λ x. x.sink) h.1.1; control = ap (λ x. is_some x.control) h.1.1; state = ap (λ x. is_some x.state) h.1.1 }
+
+  carried_if : (a : Result (Option Asked) AllocError) (change : Option Change) (old new : House S T D K E) → CarriesIf does rows path reads gives agent now a change old new → AreSame old new
+  carried_if (Ok None) change old new h = same old new h.1
+  carried_if (Ok (Some a)) None old new h = absurd h
+  carried_if (Ok (Some a)) (Some change) old new h = carried_out a change old new h
+  carried_if (Err e) change old new h = lacked change old new h
+
+  served_clients : (change : Option Change) (old new : House S T D K E) → ServesClients does rows path reads gives agent now change old new → AreSame old new
+  served_clients change old new h =
+      let all = carried_if h.asked change (record old { control = h.control }) new h.then in
+      record { sink = all.sink; control = all.control ∙ clients_asked now h.asked old.control h.control h.clients; state = all.state }
+
+  asked_for : (due : Result (Option (Inventory × Vec Mark Global)) AllocError) (change : Option Change) (old new : House S T D K E) → AsksIf does rows path reads gives agent now due change old new → AreSame old new
+  asked_for (Ok None) change old new h = served_clients change old new h
+  asked_for (Ok (Some p)) change old new h = record { sink = ap (λ x. x.sink) h.1; control = ap (λ x. is_some x.control) h.1; state = ap (λ x. is_some x.state) h.1 }
+  asked_for (Err e) change old new h = lacked change old new h
+
+  -- nobody asks, and nothing is kept: none is given
+  no_client : (a : Result (Option Asked) AllocError) (change : Option Change) (old new : House S T D K E) → a ≡ Ok None → CarriesIf does rows path reads gives agent now a change old new → change ≡ None
+  no_client (Ok None) change old new is h = h.0
+  no_client (Ok (Some a)) change old new is h = absurd (some_is_none a (Ok (Some a)) refl is)
+  no_client (Err e) change old new is h = h.0
+
+  none_of : (due : Result (Option (Inventory × Vec Mark Global)) AllocError) (change : Option Change) (old new : House S T D K E) (control : Option (Control T D)) (state : Option K) → old.control ≡ control → old.state ≡ state →
+      (is_some control || is_some state) ≡ false → IsDue gives now due state → AsksIf does rows path reads gives agent now due change old new → change ≡ None
+  none_of due change old new (Some control) state c s is is_due h = absurd (true≢false is)
+  none_of due change old new None (Some state) c s is is_due h = absurd (true≢false is)
+  none_of (Ok None) change old new None None c s is is_due h =
+      no_client h.asked change (record old { control = h.control }) new (subst (λ (o : Option (Control T D)). ClientsAsk now h.asked o h.control) c h.clients).0 h.then
+  none_of (Ok (Some p)) change old new None None c s is is_due h = absurd is_due
+  none_of (Err e) change old new None None c s is is_due h = h.0
+
+-- ---- by what is there
+
+given_as : {S T D K E : Type 0} (old new : House S T D K E) → AreSame old new → changes_given new.control new.state ≡ changes_given old.control old.state
+given_as old new h = ap (λ b. given_where (b || is_some new.state)) h.control ∙ ap (λ b. given_where (is_some old.control || b)) h.state
+
+by_case : (b : Bool) (change : Option Change) → (b ≡ false → change ≡ None) → AllGiven (option_to_list change) (given_where b) (given_where b)
+by_case true change none = tt
+by_case false change none = subst (λ (c : Option Change). AllGiven (option_to_list c) (Some []) (Some [])) (sym (none refl)) ([], (refl, refl))
 
 -- ---- a turn gives none
 
 same_goers : {T D : Type 0} (remaining written : T → Option (List ℕ)) (calls : T → Option (List Call)) (log : D → Option (Log T)) (agent : Agent) (around : Surroundings) (now : Reading) (went : Went)
-    (old new : Option (Control T D)) → ClientsGoOn remaining written calls log agent around now went old new → changes_given new ≡ changes_given old
-same_goers remaining written calls log agent around now went None new h = ap changes_given h.1
+    (old new : Option (Control T D)) → ClientsGoOn remaining written calls log agent around now went old new → is_some new ≡ is_some old
+same_goers remaining written calls log agent around now went None new h = ap is_some h.1
 same_goers remaining written calls log agent around now went (Some old) None h = absurd h
 same_goers remaining written calls log agent around now went (Some old) (Some new) h = refl
 
-pub none_by_attending : {S T D : Type 0} (given : S → Option (List ℕ)) (failures tries : S → ℕ) (remaining written : T → Option (List ℕ)) (calls : T → Option (List Call)) (log : D → Option (Log T))
-    (agent : Agent) (now : Reading) (goes_on : Bool) (old new : House S T D) → Attends given failures tries remaining written calls log agent now goes_on old new → changes_given new.control ≡ changes_given old.control
-none_by_attending given failures tries remaining written calls log agent now goes_on old new h = same_goers remaining written calls log agent _ now h.answered old.control new.control h.clients
+pub none_by_attending : {S T D K E : Type 0} (given : S → Option (List ℕ)) (failures tries : S → ℕ) (remaining written : T → Option (List ℕ)) (calls : T → Option (List Call)) (log : D → Option (Log T))
+    (agent : Agent) (now : Reading) (goes_on : Bool) (old new : House S T D K E) → Attends given failures tries remaining written calls log agent now goes_on old new → changes_given new.control new.state ≡ changes_given old.control old.state
+none_by_attending given failures tries remaining written calls log agent now goes_on old new h =
+    ap (λ b. given_where (b || is_some new.state)) (same_goers remaining written calls log agent _ now h.answered old.control new.control h.clients)
+    ∙ ap (λ x. given_where (is_some old.control || is_some x.state)) h.rest
 
--- ---- a client gives one
+-- ---- a client gives one, or a rebuilding is given
 
-given_one : {T D : Type 0} (agent : Agent) (now : Reading) (result : Result (Option Change) AllocError) (change : Option Change) (old new : Option (Control T D)) → ClientsGive agent now result old new → change ≡ given_of result →
-    AllGiven (option_to_list change) (changes_given old) (changes_given new)
-given_one agent now result change None new h is =
-    subst (λ (c : Option Change). AllGiven (option_to_list c) (Some []) (changes_given new)) (sym (is ∙ ap given_of h.0))
-    (subst (λ n. AllGiven [] (Some []) (changes_given n)) (sym h.1) ([], (refl, refl)))
-given_one agent now result change (Some old) None h is = absurd h
-given_one agent now result change (Some old) (Some new) h is = tt
-
-pub one_by_asking : {S T D : Type 0} (agent : Agent) (now : Reading) (change : Option Change) (old new : House S T D) → AsksFor agent now change old new → AllGiven (option_to_list change) (changes_given old.control) (changes_given new.control)
-one_by_asking agent now change old new h = given_one agent now h.result change old.control new.control h.clients h.given
+pub one_by_asking : {S T D K E : Type 0} (does : KeepCall → K → K → Type 0) (rows : K → List Row) (path : K → List ℕ) (reads : List ℕ → Result Row Why → Type 0) (gives : ℕ → Result (Option Inventory) AllocError → K → Type 0)
+    (agent : Agent) (now : Reading) (change : Option Change) (old new : House S T D K E) → AsksFor does rows path reads gives agent now change old new →
+    AllGiven (option_to_list change) (changes_given old.control old.state) (changes_given new.control new.state)
+one_by_asking does rows path reads gives agent now change old new h =
+    subst (λ g. AllGiven (option_to_list change) (changes_given old.control old.state) g) (sym (given_as old new (asked_for does rows path reads gives agent now h.0 change old new h.1.1)))
+    (by_case (is_some old.control || is_some old.state) change (λ none. none_of does rows path reads gives agent now h.0 change old new old.control old.state refl refl none h.1.0 h.1.1))
 
 -- ---- settling gives none
 
-same_told : {T D : Type 0} (is_made : Bool) (now : ℕ) (old new : Option (Control T D)) → ClientIsTold is_made now old new → changes_given new ≡ changes_given old
-same_told is_made now None new h = ap changes_given h
-same_told is_made now (Some old) None h = absurd h
-same_told is_made now (Some old) (Some new) h = refl
+settled_by : {S T D K E : Type 0} (does : KeepCall → K → K → Type 0) (agent : Agent) (is_made : Bool) (given : Option Given) (old new : House S T D K E) → SettlesBy does agent is_made given old new → AreSame old new
+settled_by does agent is_made None old new h = same old new h
+settled_by does agent true (Some (givens.Need need)) old new h = let all = sent agent h.sent need.at (record old { desk = h.desk }) new h.sends in record { sink = all.sink; control = all.control; state = all.state }
+settled_by does agent false (Some (givens.Need need)) old new h = record { sink = ap (λ x. x.sink) h.1; control = answered [] need.at old.control new.control h.0; state = ap (λ x. is_some x.state) h.1 }
+settled_by does agent true (Some (givens.Answer text at)) old new h = sent agent text at old new h
+settled_by does agent false (Some (givens.Answer text at)) old new h = record { sink = ap (λ x. x.sink) h.1; control = answered [] at old.control new.control h.0; state = ap (λ x. is_some x.state) h.1 }
+settled_by does agent true (Some (givens.Served marks)) old new h = record { sink = ap (λ x. x.sink) h.1; control = ap (λ x. is_some x.control) h.1; state = rebuilt does old.state new.state h.0 }
+settled_by does agent false (Some (givens.Served marks)) old new h = same old new h
 
-pub none_by_telling : {S T D : Type 0} (agent : Agent) (is_made : Bool) (given : Option GivenNeed) (old new : House S T D) → SettlesGiven agent is_made given old new → changes_given new.control ≡ changes_given old.control
-none_by_telling agent is_made None old new h = ap (λ house. changes_given house.control) h
-none_by_telling agent is_made (Some need) old new h = same_told is_made need.at old.control new.control h.client
+settled_given : {S T D K E : Type 0} (does : KeepCall → K → K → Type 0) (agent : Agent) (is_made : Bool) (old new : House S T D K E) → SettlesGiven does agent is_made old new → AreSame old new
+settled_given does agent is_made old new h = let all = settled_by does agent is_made old.given (record old { given = None }) new h in record { sink = all.sink; control = all.control; state = all.state }
+
+pub none_by_settling : {S T D K E : Type 0} (does : KeepCall → K → K → Type 0) (agent : Agent) (is_made : Bool) (old new : House S T D K E) → SettlesGiven does agent is_made old new → changes_given new.control new.state ≡ changes_given old.control old.state
+none_by_settling does agent is_made old new h = given_as old new (settled_given does agent is_made old new h)
 
 -- ---- the log's reader is tried in a turn, and left alone by a change and its settling
 
-pub reader_by_attending : {S T D : Type 0} (given : S → Option (List ℕ)) (failures tries : S → ℕ) (remaining written : T → Option (List ℕ)) (calls : T → Option (List Call)) (log : D → Option (Log T))
-    (agent : Agent) (now : Reading) (goes_on : Bool) (old new : House S T D) → Attends given failures tries remaining written calls log agent now goes_on old new → tries new.sink ≤ tries old.sink + MOST_TRIES
+pub reader_by_attending : {S T D K E : Type 0} (given : S → Option (List ℕ)) (failures tries : S → ℕ) (remaining written : T → Option (List ℕ)) (calls : T → Option (List Call)) (log : D → Option (Log T))
+    (agent : Agent) (now : Reading) (goes_on : Bool) (old new : House S T D K E) → Attends given failures tries remaining written calls log agent now goes_on old new → tries new.sink ≤ tries old.sink + MOST_TRIES
 reader_by_attending given failures tries remaining written calls log agent now goes_on old new h = h.few
 
-pub reader_by_asking : {S T D : Type 0} (agent : Agent) (now : Reading) (change : Option Change) (old new : House S T D) → AsksFor agent now change old new → new.sink ≡ old.sink
-reader_by_asking agent now change old new h = ap (λ house. house.sink) h.rest
+pub reader_by_asking : {S T D K E : Type 0} (does : KeepCall → K → K → Type 0) (rows : K → List Row) (path : K → List ℕ) (reads : List ℕ → Result Row Why → Type 0) (gives : ℕ → Result (Option Inventory) AllocError → K → Type 0)
+    (agent : Agent) (now : Reading) (change : Option Change) (old new : House S T D K E) → AsksFor does rows path reads gives agent now change old new → new.sink ≡ old.sink
+reader_by_asking does rows path reads gives agent now change old new h = (asked_for does rows path reads gives agent now h.0 change old new h.1.1).sink
 
-pub reader_by_telling : {S T D : Type 0} (agent : Agent) (is_made : Bool) (given : Option GivenNeed) (old new : House S T D) → SettlesGiven agent is_made given old new → new.sink ≡ old.sink
-reader_by_telling agent is_made None old new h = ap (λ house. house.sink) h
-reader_by_telling agent is_made (Some need) old new h = ap (λ house. house.sink) h.rest
+pub reader_by_settling : {S T D K E : Type 0} (does : KeepCall → K → K → Type 0) (agent : Agent) (is_made : Bool) (old new : House S T D K E) → SettlesGiven does agent is_made old new → new.sink ≡ old.sink
+reader_by_settling does agent is_made old new h = (settled_given does agent is_made old new h).sink

@@ -1,9 +1,11 @@
 pub mod Tries
 pub mod Behind
 pub mod Said
+pub mod Told
 pub mod Pieces
 pub mod Marking
 pub mod Filled
+pub mod Gathered
 pub mod Read
 pub mod Givers
 pub mod Deciding

@@ -8,8 +8,10 @@ use Rattle.keep_asking.specs.declared.told.Said.{Said}
 use Rattle.watch_machine.specs.declared.command.Request.{Request}
 use Rattle.watch_machine.specs.declared.event.Operation.{Operation}
 use Rattle.watch_machine.specs.declared.notes.Notes.{Notes}
+use Rattle.watch_machine.specs.declared.outlook.Next.{Next}
 use Rattle.keep_house.specs.Answered.{answered_lines}
 use Rattle.keep_house.specs.Clocked.{clocked_lines, marks_clocked, short_lines}
+use Rattle.keep_house.specs.Nexts.{next_lines, next_there}
 use Rattle.keep_house.specs.declared.mark.Mark.{Mark}
 
 -- two agents that differ in credentials alone, or in terms or beginnings
@@ -23,6 +25,12 @@ abbrev pub ClockedAlike : Type 0
 ClockedAlike =
     (a b : Agent) → AreAlike a b → (notes : Notes) (requests : List Request) (marks : List Mark) →
     (clocked_lines b notes requests marks ≡ clocked_lines a notes requests marks) × (marks_clocked b marks ≡ marks_clocked a marks)
+
+-- of the next time of an entry
+abbrev pub NextAlike : Type 0
+NextAlike =
+    (a b : Agent) → AreAlike a b → (last : Option (Option Next)) (next : Option Next) →
+    next_lines b last (next_there b.machine next) ≡ next_lines a last (next_there a.machine next)
 
 -- of needs that are past what their entries reach
 abbrev pub ShortsAlike : Type 0

@@ -2,9 +2,10 @@
 -- Source: docs/running.md, "What the operator sees".
 use Rattle.std.specs.Prelude.{ℕ, ◌+◌, Bool, true, false, not, ◌&&◌, if◌then◌else◌, List, [], ◌∷◌, ◌++◌, Option, Some, None, codes, flat_map, length, map, nat_lt}
 use Rattle.std.specs.List.{list_any, range_with_len}
-use Rattle.keep_agent.specs.Agent.{Agent}
+use Rattle.keep_agent.specs.Agent.{Agent, standing_at}
 use Rattle.keep_agent.specs.Status.{status_of}
 use Rattle.keep_agent.specs.declared.shorts.Short.{Short}
+use Rattle.keep_agent.specs.declared.standing.Trouble.{Trouble}
 use Rattle.keep_agent.specs.declared.status.Condition.{Condition}
 use Rattle.keep_agent.specs.declared.status.Condition.TheVariants as conditions
 use Rattle.keep_agent.specs.declared.status.Status.{Status}
@@ -92,6 +93,19 @@ with_ended a i mark = record mark { is_ended = has_ended a i }
 
 unfoldable pub marks_clocked : Agent → List Mark → List Mark
 marks_clocked a marks = map (λ i. with_ended a i (mark_at marks i)) (range_with_len 0 (length marks))
+
+-- ---- another inventory is served from now on
+
+-- what is wrong with an entry, by the last answer about it, of those that there are
+abbrev pub trouble_at : Agent → ℕ → Option Trouble
+trouble_at a i = if nat_lt i (length a.inventory.forest.entries) then (standing_at a i).trouble else None
+
+-- what was said of an entry is carried over with it
+abbrev pub carried_mark : Agent → ℕ → Mark
+carried_mark a i = record { trouble = trouble_at a i; is_ended = has_ended a i }
+
+unfoldable pub marks_anew : Agent → ℕ → List Mark
+marks_anew a count = map (carried_mark a) (range_with_len 0 count)
 
 -- ---- all of it
 

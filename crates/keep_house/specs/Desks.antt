@@ -7,18 +7,19 @@ use Rattle.keep_agent.specs.declared.shorts.Short.{Short}
 use Rattle.keep_asking.specs.declared.told.Said.{Said}
 use Rattle.keep_clock.specs.declared.reading.Reading.{Reading}
 use Rattle.keep_log.specs.Waiting.{Waiting, after_turn, closed_if, giving, with_notice}
+use Rattle.keep_log.specs.declared.level.Level.{Level}
+use Rattle.keep_log.specs.declared.line.Word.TheVariants as words
 use Rattle.keep_log.specs.declared.room.TheConstants.{LOG_ROOM}
 use Rattle.watch_machine.specs.declared.command.Request.{Request}
 use Rattle.watch_machine.specs.declared.event.Operation.{Operation}
 use Rattle.watch_machine.specs.declared.notes.Notes.{Notes}
 use Rattle.keep_house.specs.Answered.{answered_lines, trouble_after}
 use Rattle.keep_house.specs.Clocked.{clocked_lines, marks_clocked, memory_line, short_lines}
-use Rattle.keep_house.specs.Lines.{AreSaid, IsSaid, Line, TellsDropped, now_of, second_of}
+use Rattle.keep_house.specs.Lines.{AreSaid, IsSaid, Line, TellsDropped, line, now_of, second_of}
 use Rattle.keep_house.specs.Marks.{fresh_mark, mark_at, with_trouble}
-use Rattle.keep_house.specs.Sockets.{need_line, socket_line}
+use Rattle.keep_house.specs.Sockets.{socket_line}
 use Rattle.keep_house.specs.declared.form.Form.{Form}
 use Rattle.keep_house.specs.declared.giving.TheConstants.{MOST_GIVEN}
-use Rattle.keep_house.specs.declared.given.GivenNeed.{GivenNeed}
 use Rattle.keep_house.specs.declared.mark.Mark.{Mark}
 
 -- how lines are written, those that wait, and a mark for each entry
@@ -53,13 +54,22 @@ abbrev pub HearsWant : Agent → Bool → Desk → Desk → Type 0
 HearsWant a true old new = new ≡ old
 HearsWant a false old new = HearsRefusal a old new
 
-abbrev pub HearsNeed : Agent → GivenNeed → Bool → Desk → Desk → Type 0
-HearsNeed a need true old new = Says a (need_line a need ∷ []) old.marks old new
-HearsNeed a need false old new = new ≡ old
+-- this line alone is said; or it is where something was done
+abbrev pub HearsLine : Agent → Line → Desk → Desk → Type 0
+HearsLine a l old new = Says a (l ∷ []) old.marks old new
+
+abbrev pub HearsIf : Bool → Agent → Line → Desk → Desk → Type 0
+HearsIf true a l old new = HearsLine a l old new
+HearsIf false a l old new = new ≡ old
 
 -- a socket cannot be had, for this reason, and what that costs. The agent may have heard no clock yet
 pub record HearsNoSocket (now : Reading) (socket why cost : List ℕ) (old new : Desk) : Type 0 where
   pub said : IsSaid old.form (second_of now.wall) (socket_line socket why cost) old.room new.room
+  pub rest : new ≡ record old { room = new.room }
+
+-- something is said of the state folder or the file, in one text
+pub record HearsAtStart (now : Reading) (level : Level) (event text : List ℕ) (old new : Desk) : Type 0 where
+  pub said : IsSaid old.form (second_of now.wall) (line level event (words.Text text ∷ [])) old.room new.room
   pub rest : new ≡ record old { room = new.room }
 
 -- ---- what is given to the log's reader

@@ -64,3 +64,16 @@ abbrev pub IsToServe : Demands → Files → List ℕ → List ℕ → Result In
 IsToServe d known folder bytes (Ok inventory) =
     (v : Served) × ((read_served bytes ≡ Ok v) × ((first_fault d v ≡ None) × ((text : List ℕ) × (IsServedText d.earlier known folder bytes v text × (inventory_for_good text ≡ Ok inventory)))))
 IsToServe d known folder bytes (Err fault) = (fault ≡ faults.OutOfMemory) ⊎ (IsNoInventory bytes fault ⊎ IsNotServed d known folder bytes fault)
+
+-- ---- an inventory that is served already, with a wider margin
+
+-- a text that says what that one says, but for the margin
+pub record IsWideText (earlier : ℕ) (text wide : List ℕ) : Type 0 where
+  pub v : Served
+  pub reads : read_served text ≡ Ok v
+  pub settled : Served
+  pub is_settled : IsSettled (Some (margin_for earlier v)) None (rows_of v) wide settled
+
+-- the inventory of such a text; or as it was, where nothing is demanded, or no text says that
+abbrev pub IsWide : ℕ → List ℕ → Inventory → Inventory → Type 0
+IsWide earlier text narrow inventory = (inventory ≡ narrow) ⊎ ((wide : List ℕ) × (IsWideText earlier text wide × (inventory_for_good wide ≡ Ok inventory)))

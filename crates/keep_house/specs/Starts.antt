@@ -1,6 +1,7 @@
 -- Starts: why an inventory that can be read is not served.
 -- Source: this project's own; docs/commands/serve.md.
 use Rattle.std.specs.Prelude.{◌≡◌, ℕ, ◌+◌, ◌*◌, Bool, not, ◌&&◌, if◌then◌else◌, List, [], ◌∷◌, ◌++◌, Option, Some, None, bytes_eq, codes, decimal, is_none, nat_lt}
+use Rattle.keep_change.specs.declared.row.Row.{Row}
 use Rattle.keep_inventory.specs.Inventories.{credential_at}
 use Rattle.keep_inventory.specs.Served.{Served}
 use Rattle.keep_inventory.specs.declared.note.Note.{Note}
@@ -12,6 +13,10 @@ use Rattle.keep_house.specs.declared.fault.StartFault.TheVariants.{NoMargin, Sma
 -- an entry has neither a credential of its own, so that its name stands for one, nor a file with one
 abbrev pub is_bare : Served → ℕ → Note → Bool
 is_bare v i note = is_none note.file && bytes_eq (credential_at v.inventory.credentials i) (name_of v.inventory.forest i)
+
+-- the same of a row
+abbrev pub is_bare_row : Row → Bool
+is_bare_row row = is_none row.file && bytes_eq row.credential row.name
 
 -- the first of these entries, which are those from this index on, that is bare
 abbrev pub first_bare : Served → ℕ → List Note → Option ℕ

@@ -3,6 +3,7 @@ ghost use Rattle.std.specs.Prelude.{◌≡◌, ◌&&◌};
 ghost use Rattle.keep_house.specs.Houses.{Attends, ClientsGoOn, OnlookersGoOn, around_of, idle};
 
 use crate::house::House;
+use crate::next::next_wake_of;
 use keep_agent::Agent;
 use keep_answering::{Control, Onlookers, Went};
 use keep_clients::{Door, Talk};
@@ -11,7 +12,7 @@ use keep_log::LogSink;
 use keep_onlook::Surroundings;
 use std::alloc::Global;
 
-impl<S: LogSink, T: Talk, D: Door<T>> House<S, T, D> {
+impl<S: LogSink, T: Talk, D: Door<T>, K, E> House<S, T, D, K, E> {
     /// Gives the log's reader what it takes, and then goes on with each onlooker and each client by one call of its connection at
     /// most, and answers one of each. The agent is read alone. Where memory was wanting for an onlooker or a client, that is said.
     /// Whether more could be done at once.
@@ -29,14 +30,14 @@ impl<S: LogSink, T: Talk, D: Door<T>> House<S, T, D> {
     }
 }
 
-impl<S, T, D> House<S, T, D> {
+impl<S, T, D, K, E> House<S, T, D, K, E> {
     /// What is around the agent at a moment.
     fn around(&self, now: Reading) -> Surroundings
-        ensures { result ≡ around_of self.now.file self.now.desk.room.dropped now.wall }
+        ensures { result ≡ around_of self.now.next self.now.file self.now.desk.room.dropped now.wall }
     {
         Surroundings {
             wall: now.wall / 1000,
-            next_wake: None,
+            next_wake: next_wake_of(self.next),
             file: self.file,
             dropped_lines: self.desk.room().dropped(),
             dropped_alerts: 0,

@@ -1,27 +1,37 @@
-//! The changes that clients give, and what their clients are told.
-ghost use Rattle.std.specs.Prelude.{◌≡◌};
-ghost use Rattle.keep_house.specs.Houses.{AsksFor, ClientIsTold, ClientsGive, SettlesGiven, given_after, given_by};
+//! What clients ask for is carried out, and what is given of it to the loop is settled.
+ghost use Rattle.keep_house.specs.Commands.{AsksFor, CarriesOut, IsDue, IsRebuilt, ServesClients, SettlesAnswer, SettlesGiven, SettlesNeed, SettlesServed, TellsNeed};
+ghost use Rattle.keep_house.specs.Houses.{ClientsAsk};
+ghost use Rattle.keep_lines.specs.Text.{name_of};
 
-use crate::given::GivenNeed;
+use crate::answering::answer;
+use crate::given::{Given, GivenNeed};
 use crate::house::House;
+use crate::keeping::Keeping;
+use crate::mark::{Mark, fresh_marks};
+use crate::telling::{done_reply, need_line};
 use keep_agent::Agent;
-use keep_answering::Control;
+use keep_answering::{Asked, Control};
 use keep_clients::{Door, Talk};
 use keep_clock::Reading;
+use keep_inventory::Inventory;
+use keep_lines::name_of;
+use keep_moment::Text;
 use keep_serving::Change;
 use std::alloc::{AllocError, Global};
 use std::mem;
 
-impl<S, T: Talk, D: Door<T>> House<S, T, D> {
-    /// The change that the first of the clients asks for whose line has ended, where it asks for one and the last one is settled.
-    /// Where memory was wanting, it is left for another call, and that is said.
+impl<S, T: Talk, D: Door<T>, K: Keeping, E> House<S, T, D, K, E> {
+    /// The next change that the loop is to make: the inventory of a rebuilding that is due; else what the first of the clients asks for
+    /// whose line has ended is carried out. Its client is told what came of it once the change is settled. Where memory was wanting,
+    /// there is no change, and that is said.
     pub fn next_change(&mut self, alloc: Global, agent: &Agent, now: Reading) -> Option<Change>
-        ensures { AsksFor agent.now now result self.old self.new }
+        ensures { AsksFor K.does K.rows K.path K.reads K.gives agent.now now result self.old self.new }
     {
-        match change_of(alloc, &mut self.control, agent, now) {
-            Ok(change) => {
-                self.given = given_after(&change, now.elapsed, self.given);
-                change
+        match due_with_marks(alloc, &self.state, now) {
+            Ok(None) => self.serve_clients(alloc, agent, now),
+            Ok(Some((inventory, marks))) => {
+                self.given = Some(Given::Served(marks));
+                Some(Change::Serve(inventory))
             }
             Err(AllocError) => {
                 self.desk.hear_refusal(alloc, agent);
@@ -30,68 +40,134 @@ impl<S, T: Talk, D: Door<T>> House<S, T, D> {
         }
     }
 
-    /// The client whose need was given last is told that it is made, and the log too; where it was not made the client is told
-    /// nothing, and its connection is closed.
-    pub fn tell_client(&mut self, alloc: Global, agent: &Agent, is_made: bool)
-        ensures { SettlesGiven agent.now is_made self.old.given self.old self.new }
+    // What the first of the clients asks for is carried out.
+    fn serve_clients(&mut self, alloc: Global, agent: &Agent, now: Reading) -> Option<Change>
+        ensures { ServesClients K.does K.rows K.path K.reads K.gives agent.now now result self.old self.new }
     {
-        let Some(given) = mem::replace(&mut self.given, None) else {
-            return;
-        };
-        settle(alloc, &mut self.control, is_made, given.at);
-        self.desk.hear_need(alloc, agent, given, is_made);
+        match asked_of(alloc, &mut self.control, now) {
+            Ok(None) => None,
+            Ok(Some(asked)) => Some(self.carry_out(alloc, agent, now, asked)),
+            Err(AllocError) => {
+                self.desk.hear_refusal(alloc, agent);
+                None
+            }
+        }
+    }
+
+    // Carries out what a client asks for.
+    fn carry_out(&mut self, alloc: Global, agent: &Agent, now: Reading, asked: Asked) -> Change
+        ensures { CarriesOut K.does K.rows K.path K.reads K.gives agent.now now asked result self.old self.new }
+    {
+        match asked {
+            Asked::Need { name, need } => return self.need(alloc, agent, now, name.list(), &need),
+            Asked::Replace { name, credential } => {
+                self.replace(alloc, agent, now, name.list(), credential)
+            }
+            Asked::Add { table } => self.add(alloc, agent, now, table.list()),
+            Asked::Drop { name } => self.drop_entry(alloc, agent, now, name.list()),
+            Asked::Settle => self.settle_file(alloc, agent, now),
+            Asked::Reload => self.reload(alloc, agent, now),
+        }
+        Change::Kept
+    }
+
+    /// What was given last is settled: its client is told what came of it; where it was not made, it is told nothing, and its
+    /// connection is closed. From a rebuilding on no change waits for it.
+    pub fn settle_given(&mut self, alloc: Global, agent: &Agent, is_made: bool)
+        ensures { SettlesGiven K.does agent.now is_made self.old self.new }
+    {
+        match mem::replace(&mut self.given, None) {
+            None => {}
+            Some(Given::Need(need)) => self.settle_need(alloc, agent, need, is_made),
+            Some(Given::Answer { sent, at }) => self.settle_answer(alloc, agent, sent, at, is_made),
+            Some(Given::Served(marks)) => self.settle_served(agent, marks, is_made),
+        }
+    }
+
+    fn settle_need(&mut self, alloc: Global, agent: &Agent, need: GivenNeed, is_made: bool)
+        ensures { SettlesNeed agent.now is_made need self.old self.new }
+    {
+        if is_made {
+            self.tell_need(alloc, agent, need);
+        } else {
+            answer(&mut self.control, Vec::new(alloc), need.at);
+        }
+    }
+
+    // The log says that the entry is needed until then, and its client is told.
+    fn tell_need(&mut self, alloc: Global, agent: &Agent, need: GivenNeed)
+        ensures { TellsNeed agent.now (name_of agent.now.inventory.forest need.entry) need.until need.at self.old self.new }
+    {
+        let name = name_of(agent.inventory().forest(), need.entry);
+        let line = need_line(alloc, name, need.until).ok();
+        self.desk.hear_need(alloc, agent, name, need.until);
+        self.send(alloc, agent, done_reply(alloc, line), need.at);
+    }
+
+    fn settle_answer(
+        &mut self,
+        alloc: Global,
+        agent: &Agent,
+        sent: Option<Text>,
+        now: u64,
+        is_made: bool,
+    )
+        ensures { SettlesAnswer agent.now is_made sent now self.old self.new }
+    {
+        if is_made {
+            self.send(alloc, agent, sent, now);
+        } else {
+            answer(&mut self.control, Vec::new(alloc), now);
+        }
+    }
+
+    fn settle_served(&mut self, agent: &Agent, marks: Vec<Mark>, is_made: bool)
+        ensures { SettlesServed K.does agent.now is_made marks.items self.old self.new }
+    {
+        if is_made {
+            rebuilt(&mut self.state);
+            self.desk.serve(agent, marks);
+        }
     }
 }
 
-// The change of the clients, where there is a control socket. The only error is out of memory.
-fn change_of<T: Talk, D: Door<T>>(
+// The inventory of a rebuilding that is due, and fresh marks for its entries. The only error is out of memory.
+fn due_with_marks<K: Keeping>(
+    alloc: Global,
+    state: &Option<K>,
+    now: Reading,
+) -> Result<Option<(Inventory, Vec<Mark>)>, AllocError>
+    ensures { IsDue K.gives now result state.now }
+{
+    let Some(state) = state else {
+        return Ok(None);
+    };
+    let Some(inventory) = state.due(alloc, now.elapsed)? else {
+        return Ok(None);
+    };
+    let marks = fresh_marks(alloc, inventory.forest().len())?;
+    Ok(Some((inventory, marks)))
+}
+
+// What the clients ask for, where there is a control socket. The only error is out of memory.
+fn asked_of<T: Talk, D: Door<T>>(
     alloc: Global,
     control: &mut Option<Control<T, D>>,
-    agent: &Agent,
     now: Reading,
-) -> Result<Option<Change>, AllocError>
-    ensures { ClientsGive agent.now now result control.old control.new }
+) -> Result<Option<Asked>, AllocError>
+    ensures { ClientsAsk now result control.old control.new }
 {
     match control {
         None => Ok(None),
-        Some(control) => control.change(alloc, agent, now),
+        Some(control) => control.asked(alloc, now),
     }
 }
 
-// Settles the change that was given last, where there is a control socket.
-fn settle<T: Talk, D: Door<T>>(
-    alloc: Global,
-    control: &mut Option<Control<T, D>>,
-    is_made: bool,
-    now: u64,
-)
-    ensures { ClientIsTold is_made now control.old control.new }
+// The rebuilding was made, where something keeps changes.
+fn rebuilt<K: Keeping>(state: &mut Option<K>)
+    ensures { IsRebuilt K.does state.old state.new }
 {
-    if let Some(control) = control {
-        control.settle(alloc, is_made, now);
-    }
-}
-
-// The need that is not settled after a change was given, or none was.
-fn given_after(change: &Option<Change>, now: u64, before: Option<GivenNeed>) -> Option<GivenNeed>
-    ensures { result ≡ given_after change.now now before }
-{
-    match change {
-        None => before,
-        Some(change) => given_by(change, now, before),
-    }
-}
-
-fn given_by(change: &Change, now: u64, before: Option<GivenNeed>) -> Option<GivenNeed>
-    ensures { result ≡ given_by change.now now before }
-{
-    match change {
-        Change::Need { entry, until } => Some(GivenNeed {
-            entry: *entry,
-            until: *until,
-            at: now,
-        }),
-        Change::Begin => before,
-        Change::Serve(_) => before,
+    if let Some(state) = state {
+        state.rebuilt();
     }
 }

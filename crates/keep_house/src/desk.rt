@@ -1,21 +1,26 @@
 //! Where it is said what happens to an agent.
-ghost use Rattle.std.specs.Prelude.{◌≡◌, IfOk, true};
-ghost use Rattle.keep_house.specs.Desks.{HearsAnswer, HearsClock, HearsNeed, HearsNoSocket, HearsRefusal, HearsShorts, HearsWant, begun_desk};
+ghost use Rattle.std.specs.Prelude.{◌≡◌, IfOk, length};
+ghost use Rattle.keep_house.specs.Changed.{entry_line, fault_lines, reread_lines, settled_line};
+ghost use Rattle.keep_house.specs.Clocked.{marks_anew};
+ghost use Rattle.keep_house.specs.Desks.{HearsAnswer, HearsAtStart, HearsClock, HearsLine, HearsNoSocket, HearsRefusal, HearsShorts, HearsWant, Says, begun_desk};
 ghost use Rattle.keep_house.specs.Lines.{now_of};
+ghost use Rattle.keep_house.specs.Sockets.{need_line};
 
 use crate::answered::{say_answered, trouble_after};
+use crate::changed::{say_entry, say_fault, say_reread, say_settled};
 use crate::clocked::{say_clocked, say_memory, say_shorts};
-use crate::ended::mark_ended;
+use crate::ended::{mark_anew, mark_ended};
 use crate::form::Form;
-use crate::given::GivenNeed;
+use crate::keeping::Reread;
 use crate::mark::{Mark, fresh_marks, mark_at, set_trouble};
 use crate::moments::{now_of, second_of};
-use crate::saying::Stamp;
+use crate::saying::{Stamp, say_text};
 use crate::sockets::{say_need, say_no_socket};
 use keep_agent::{Agent, Short};
 use keep_asking::Said;
 use keep_clock::Reading;
-use keep_log::{LOG_ROOM, LogRoom};
+use keep_log::{LOG_ROOM, Level, LogRoom};
+use keep_moment::Text;
 use std::alloc::{AllocError, Global};
 use std::marker::Model;
 use watch_machine::{Notes, Operation, Request};
@@ -127,21 +132,79 @@ impl Desk {
         }
     }
 
-    /// Says that a client has set another need, where it was made.
-    pub(crate) fn hear_need(&mut self, alloc: Global, agent: &Agent, need: GivenNeed, is_made: bool)
-        ensures { HearsNeed agent.now need is_made self.old self.new }
-    {
-        if is_made {
-            self.hear_made_need(alloc, agent, need);
-        }
-    }
-
+    /// Says that a client has set another need.
     #[tactic(auto, using(crate::proofs::Said::one_said))]
-    fn hear_made_need(&mut self, alloc: Global, agent: &Agent, need: GivenNeed)
-        ensures { HearsNeed agent.now need true self.old self.new }
+    pub(crate) fn hear_need(&mut self, alloc: Global, agent: &Agent, name: &[u8], until: u64)
+        ensures { HearsLine agent.now (need_line name.now until) self.old self.new }
     {
         let stamp = self.stamp(agent);
-        say_need(alloc, &stamp, agent, need, &mut self.room);
+        say_need(alloc, &stamp, name, until, &mut self.room);
+    }
+
+    /// Says that an entry has another credential, is added, or is dropped, as the event has it.
+    #[tactic(auto, using(crate::proofs::Said::one_said))]
+    pub(crate) fn hear_entry(
+        &mut self,
+        alloc: Global,
+        agent: &Agent,
+        event: &'static str,
+        name: &[u8],
+    )
+        ensures { HearsLine agent.now (entry_line event.now name.now) self.old self.new }
+    {
+        let stamp = self.stamp(agent);
+        say_entry(alloc, &stamp, event, name, &mut self.room);
+    }
+
+    /// Says that the file holds every change.
+    #[tactic(auto, using(crate::proofs::Said::one_said))]
+    pub(crate) fn hear_settled(&mut self, alloc: Global, agent: &Agent)
+        ensures { HearsLine agent.now settled_line self.old self.new }
+    {
+        let stamp = self.stamp(agent);
+        say_settled(alloc, &stamp, &mut self.room);
+    }
+
+    /// Says that the file was read anew, and which changes do not hold any more.
+    pub(crate) fn hear_reread(&mut self, alloc: Global, agent: &Agent, reread: &Reread)
+        ensures { Says agent.now (reread_lines reread.now) self.old.marks self.old self.new }
+    {
+        let stamp = self.stamp(agent);
+        say_reread(alloc, &stamp, reread, &mut self.room);
+    }
+
+    /// Says why the file is not served, where memory sufficed for the reason.
+    pub(crate) fn hear_fault(&mut self, alloc: Global, agent: &Agent, why: &Option<Text>)
+        ensures { Says agent.now (fault_lines why.now) self.old.marks self.old self.new }
+    {
+        let stamp = self.stamp(agent);
+        say_fault(alloc, &stamp, why, &mut self.room);
+    }
+
+    /// The agent serves another inventory from now on: these marks are made those of its entries.
+    pub(crate) fn serve(&mut self, agent: &Agent, marks: Vec<Mark>)
+        ensures { self.new ≡ record self.old { marks = marks_anew agent.now (length marks.items) } }
+    {
+        self.marks = marks;
+        mark_anew(agent, &mut self.marks);
+    }
+
+    /// Says something of the state folder or the file at a moment at which the agent may have heard no clock yet.
+    pub fn hear_at_start(
+        &mut self,
+        alloc: Global,
+        now: Reading,
+        level: Level,
+        event: &'static str,
+        text: &[u8],
+    )
+        ensures { HearsAtStart now level event.now text.now self.old self.new }
+    {
+        let stamp = Stamp {
+            form: self.form,
+            moment: second_of(now.wall),
+        };
+        say_text(alloc, &stamp, level, event, text, &mut self.room);
     }
 
     /// Says that a socket cannot be had, why, and what that costs, at a moment at which the agent may have heard no clock yet.
@@ -163,7 +226,7 @@ impl Desk {
     }
 
     // How lines are written now.
-    fn stamp(&self, agent: &Agent) -> Stamp
+    pub(crate) fn stamp(&self, agent: &Agent) -> Stamp
         ensures form { result.form ≡ self.now.form }
         ensures moment { result.moment ≡ now_of agent.now.machine }
     {

@@ -1,12 +1,12 @@
 //! Ends that are past while their entries are needed.
 ghost use Rattle.std.specs.Prelude.{◌≡◌, ◌<◌, length};
-ghost use Rattle.keep_house.specs.Clocked.{end_in, ended_line, ended_lines, has_ended, is_ended, is_past_end, marks_clocked, with_ended};
+ghost use Rattle.keep_house.specs.Clocked.{end_in, ended_line, ended_lines, has_ended, is_ended, is_past_end, carried_mark, marks_anew, marks_clocked, trouble_at, with_ended};
 ghost use Rattle.keep_house.specs.Lines.{AreSaid};
 
 use crate::mark::Mark;
 use crate::moments::moment_word;
 use crate::saying::{Stamp, say_of};
-use keep_agent::{Agent, Condition};
+use keep_agent::{Agent, Condition, Trouble};
 use keep_lines::name_of;
 use keep_log::{Level, LogRoom};
 use std::alloc::Global;
@@ -94,6 +94,35 @@ pub(crate) fn mark_ended(agent: &Agent, marks: &mut [Mark])
     for entry in 0..marks.len() {
         marks[entry] = with_ended(agent, entry, marks[entry]);
     }
+}
+
+/// Makes these the marks of an agent that serves another inventory from now on: what was said of an entry that it served before is
+/// carried over.
+pub(crate) fn mark_anew(agent: &Agent, marks: &mut [Mark])
+    ensures { marks.new ≡ marks_anew agent.now (length marks.old) }
+{
+    for entry in 0..marks.len() {
+        marks[entry] = carried_mark(agent, entry);
+    }
+}
+
+fn carried_mark(agent: &Agent, entry: usize) -> Mark
+    ensures { result ≡ carried_mark agent.now entry }
+{
+    Mark {
+        trouble: trouble_at(agent, entry),
+        is_ended: has_ended(agent, entry),
+    }
+}
+
+// What is wrong with an entry, of those that there are.
+fn trouble_at(agent: &Agent, entry: usize) -> Option<Trouble>
+    ensures { result ≡ trouble_at agent.now entry }
+{
+    if entry >= agent.inventory().forest().len() as usize {
+        return None;
+    }
+    agent.standing(entry as u32).trouble
 }
 
 fn with_ended(agent: &Agent, entry: usize, mark: Mark) -> Mark

@@ -28,6 +28,7 @@ pub(crate) fn fill_all<I: Inputs>(
 ) -> Result<Vec<Row>, StartFault>
     ensures filled { IfOk result (λ filled. AreFilled (I.bytes_at inputs.old) folder.now rows.now filled.items) }
     ensures unfilled { IfErr result (λ fault. (fault ≡ OutOfMemory) ⊎ FirstUnfilled (I.bytes_at inputs.old) folder.now 0 rows.now fault) }
+    ensures same { (path : List ℕ) → I.bytes_at inputs.new path ≡ I.bytes_at inputs.old path }
 {
     let mut filled = Vec::new(alloc);
     for entry in 0..rows.len() {
@@ -56,6 +57,23 @@ fn fill<I: Inputs>(
         filled.file = None;
     }
     Ok(filled)
+}
+
+/// The credential that the file at a path holds, which starts at `folder` where it does not begin with `/`.
+///
+/// The error is that it gives none, or want of memory.
+pub(crate) fn credential_at<I: Inputs>(
+    alloc: Global,
+    folder: &[u8],
+    path: &[u8],
+    inputs: &mut I,
+) -> Result<Text, StartFault>
+    ensures held { IfOk result (λ credential. Holds (I.bytes_at inputs.old) (placed folder.now path.now) credential) }
+    ensures wanted { IfErr result (λ fault. (fault ≡ OutOfMemory) ⊎ Wants (I.bytes_at inputs.old) (placed folder.now path.now) 0 fault) }
+    ensures same { (other : List ℕ) → I.bytes_at inputs.new other ≡ I.bytes_at inputs.old other }
+{
+    let path = placed(alloc, folder, path)?;
+    credential_in(alloc, 0, &path, inputs)
 }
 
 // The path of a file.

@@ -15,7 +15,7 @@ use std::alloc::Global;
 /// The bytes that the log's reader is given in one turn at most.
 pub const MOST_GIVEN: usize = 65_536;
 
-impl<S: LogSink, T, D> House<S, T, D> {
+impl<S: LogSink, T, D, K, E> House<S, T, D, K, E> {
     /// Gives the log's reader what it takes without waiting. Where it took something, lines that were dropped are told of, if there
     /// is room for that. Whether more could be given at once.
     #[tactic(auto, using(crate::proofs::Deciding::tells_by))]

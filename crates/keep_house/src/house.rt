@@ -2,20 +2,24 @@
 ghost use Rattle.std.specs.Prelude.{◌≡◌, None};
 
 use crate::desk::Desk;
-use crate::given::GivenNeed;
+use crate::given::{Given, is_served};
+use crate::keeping::Keeping;
 use keep_agent::Agent;
 use keep_answering::{Control, Onlookers};
 use keep_clients::{Door, Talk};
 use keep_clock::Reading;
+use keep_disk::Disk;
+use keep_ends::EndsFile;
 use keep_log::LogSink;
 use keep_onlook::FileReading;
 use keep_serving::{Change, Happened, Neighbours};
 use std::alloc::Global;
+use watch_machine::Next;
 
-/// The log and its reader, the clients of the control socket, and the onlookers. None of them waits, and none can stop the agent:
-/// either socket may be absent.
-#[derive(Debug, Drop)]
-pub struct House<S, T, D> {
+/// The log and its reader, the clients of the control socket, the onlookers, what keeps the changes that clients give, and the file of
+/// the ends. None of them waits but a disk, and none can stop the agent: all but the log may be absent.
+#[derive(Drop)]
+pub struct House<S, T, D, K, E> {
     /// Where it is said what happens.
     pub desk: Desk,
     /// Who reads it.
@@ -26,14 +30,20 @@ pub struct House<S, T, D> {
     pub onlookers: Option<Onlookers<T, D>>,
     /// How the inventory's file was last read.
     pub file: FileReading,
-    /// The need that a client gave last, as long as it is not settled.
-    pub given: Option<GivenNeed>,
+    /// What keeps changes over a restart, where something does.
+    pub state: Option<K>,
+    /// What was given to the loop last, as long as it is not settled.
+    pub given: Option<Given>,
+    /// What was said last of the next time of an entry, by the broker's clock; `None` where nothing was said yet.
+    pub next: Option<Option<Next>>,
+    /// Where ends are kept over a restart, if they are.
+    pub ends: Option<EndsFile<E>>,
 }
 
-impl<S, T, D> House<S, T, D> {
-    /// The log alone: with no control socket, and none for onlookers.
-    pub fn new(desk: Desk, sink: S, file: FileReading) -> House<S, T, D>
-        ensures { result ≡ record { desk = desk; sink = sink; control = None; onlookers = None; file = file; given = None } }
+impl<S, T, D, K, E> House<S, T, D, K, E> {
+    /// The log alone: with no control socket, none for onlookers, and nothing that is kept.
+    pub fn new(desk: Desk, sink: S, file: FileReading) -> House<S, T, D, K, E>
+        ensures { result ≡ record { desk = desk; sink = sink; control = None; onlookers = None; file = file; state = None; given = None; next = None; ends = None } }
     {
         House {
             desk,
@@ -41,23 +51,31 @@ impl<S, T, D> House<S, T, D> {
             control: None,
             onlookers: None,
             file,
+            state: None,
             given: None,
+            next: None,
+            ends: None,
         }
     }
 }
 
-impl<S: LogSink, T: Talk, D: Door<T>> Neighbours for House<S, T, D> {
+impl<S: LogSink, T: Talk, D: Door<T>, K: Keeping, E: Disk> Neighbours for House<S, T, D, K, E> {
     ghost use Rattle.keep_house.specs.Houses.{changes_given};
     ghost use Rattle.keep_house.specs.Tried.{DoesToReader};
 
-    ghost given = { λ h. changes_given h.control };
+    ghost given = { λ h. changes_given h.control h.state };
 
     ghost does = { λ call old new. DoesToReader S.tries call old.sink new.sink };
 
     fn hear(&mut self, alloc: Global, agent: &Agent, happened: &Happened<'_>) {
         match happened {
-            Happened::Clocked { notes, requests } => {
-                self.desk.hear_clock(alloc, agent, notes, requests)
+            Happened::Clocked {
+                notes,
+                requests,
+                next,
+            } => {
+                self.desk.hear_clock(alloc, agent, notes, requests);
+                self.hear_next(alloc, agent, *next);
             }
             Happened::Shorts(shorts) => self.desk.hear_shorts(alloc, agent, shorts),
             Happened::Answered {
@@ -65,15 +83,18 @@ impl<S: LogSink, T: Talk, D: Door<T>> Neighbours for House<S, T, D> {
                 operation,
                 said,
                 notes,
-            } => self
-                .desk
-                .hear_answer(alloc, agent, *entry, *operation, *said, notes),
+            } => {
+                self.hear_end(said.reply);
+                self.desk
+                    .hear_answer(alloc, agent, *entry, *operation, *said, notes);
+            }
             Happened::Refused => self.desk.hear_refusal(alloc, agent),
         }
     }
 
     #[tactic(auto, using(crate::proofs::Givers::none_by_attending, crate::proofs::Givers::reader_by_attending))]
     fn go_on(&mut self, alloc: Global, agent: &Agent, now: Reading) -> bool {
+        self.keep_ends(alloc, agent, now);
         self.attend(alloc, agent, now)
     }
 
@@ -82,8 +103,11 @@ impl<S: LogSink, T: Talk, D: Door<T>> Neighbours for House<S, T, D> {
         self.next_change(alloc, agent, now)
     }
 
-    #[tactic(auto, using(crate::proofs::Givers::none_by_telling, crate::proofs::Givers::reader_by_telling))]
+    #[tactic(auto, using(crate::proofs::Givers::none_by_settling, crate::proofs::Givers::reader_by_settling))]
     fn settle(&mut self, alloc: Global, agent: &Agent, is_made: bool) {
-        self.tell_client(alloc, agent, is_made)
+        if is_made && is_served(&self.given) {
+            self.hear_served();
+        }
+        self.settle_given(alloc, agent, is_made)
     }
 }

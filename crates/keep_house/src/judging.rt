@@ -2,10 +2,11 @@
 ghost use Rattle.std.specs.Prelude.{◌≡◌, ◌<◌, bytes_eq, length};
 ghost use Rattle.keep_inventory.specs.Inventories.{credential_at};
 ghost use Rattle.keep_lines.specs.Text.{name_of};
-ghost use Rattle.keep_house.specs.Starts.{bare_fault, first_bare, first_fault, is_bare};
+ghost use Rattle.keep_house.specs.Starts.{bare_fault, first_bare, first_fault, is_bare, is_bare_row};
 
 use crate::demands::Demands;
 use crate::fault::StartFault;
+use keep_change::Row;
 use keep_inventory::{Inventory, Note, Served};
 
 /// The first fault of what is served.
@@ -67,4 +68,11 @@ fn is_sent_by_name(inventory: &Inventory, entry: usize) -> bool
     }
     let entry = entry as u32;
     inventory.credential(entry) == names.get(entry).name.list()
+}
+
+/// Whether a row writes neither a credential of its own nor a file with one.
+pub(crate) fn is_bare_row(row: &Row) -> bool
+    ensures { result ≡ is_bare_row row.now }
+{
+    row.file.is_none() && row.credential.list() == row.name.list()
 }

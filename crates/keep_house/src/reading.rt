@@ -5,7 +5,7 @@ ghost use Rattle.keep_inventory.specs.Inventory.{read_served};
 ghost use Rattle.keep_inventory.specs.Served.{Served};
 ghost use Rattle.keep_served.specs.ForGood.{inventory_for_good};
 ghost use Rattle.keep_house.specs.Filling.{names_no_file};
-ghost use Rattle.keep_house.specs.Reading.{IsFilledText, IsToServe, IsUnfilled, NotTogether, is_as_written};
+ghost use Rattle.keep_house.specs.Reading.{IsFilledText, IsToServe, IsUnfilled, IsWide, IsWideText, NotTogether, is_as_written};
 ghost use Rattle.keep_house.specs.declared.fault.StartFault.TheVariants.{OutOfMemory};
 
 use crate::demands::Demands;
@@ -18,7 +18,7 @@ use keep_inventory::{Inventory, Note, Served, read_served};
 use keep_served::read_for_good;
 use keep_settle::settle;
 use keep_spread::margin_with;
-use std::alloc::Global;
+use std::alloc::{AllocError, Global};
 
 /// What is served by the text of an inventory: its entries, with what the files of their credentials hold, where a need that is
 /// `always` lasts to the last moment. A path of a file that does not begin with `/` starts at `folder`, which ends in one, or is
@@ -36,7 +36,8 @@ pub fn read_to_serve<I: Inputs>(
     folder: &str,
     inputs: &mut I,
 ) -> Result<Inventory, StartFault>
-    ensures { IsToServe demands (I.bytes_at inputs.old) folder.now bytes.now result }
+    ensures served { IsToServe demands (I.bytes_at inputs.old) folder.now bytes.now result }
+    ensures same { (path : List ℕ) → I.bytes_at inputs.new path ≡ I.bytes_at inputs.old path }
 {
     let earlier = demands.earlier;
     let served = read_served(alloc, bytes)?;
@@ -85,11 +86,46 @@ fn filled_text<I: Inputs>(
 ) -> Result<String, StartFault>
     ensures filled { IfOk result (λ text. IsFilledText (I.bytes_at inputs.old) folder.now earlier served.now (string_bytes text)) }
     ensures unfilled { IfErr result (λ fault. (fault ≡ OutOfMemory) ⊎ (IsUnfilled (I.bytes_at inputs.old) folder.now served.now fault ⊎ NotTogether (I.bytes_at inputs.old) folder.now served.now fault)) }
+    ensures same { (path : List ℕ) → I.bytes_at inputs.new path ≡ I.bytes_at inputs.old path }
 {
     let rows = rows_of(alloc, served)?;
     let filled = fill_all(alloc, rows.list(), folder.as_bytes(), inputs)?;
     let filled = Rows::of(alloc, filled)?;
     let margin = margin_with(served.inventory().forest(), earlier);
     let settled = settle(alloc, Some(margin), None, &filled)?;
+    Ok(settled.text)
+}
+
+/// The inventory of a text, with a margin as much wider as it is demanded that the agent wakes up earlier; where no text says that, as
+/// it is. The only error is out of memory.
+pub(crate) fn wide(
+    alloc: Global,
+    earlier: u32,
+    text: &str,
+    inventory: Inventory,
+) -> Result<Inventory, AllocError>
+    ensures { IfOk result (IsWide earlier text.now inventory) }
+{
+    if earlier == 0 {
+        return Ok(inventory);
+    }
+    match wide_text(alloc, earlier, text.as_bytes()) {
+        Ok(text) => match read_for_good(alloc, text.as_bytes()) {
+            Ok(wide) => Ok(wide),
+            Err(_) => Err(AllocError),
+        },
+        Err(StartFault::OutOfMemory) => Err(AllocError),
+        Err(_) => Ok(inventory),
+    }
+}
+
+// A text that says the same, but for the margin.
+fn wide_text(alloc: Global, earlier: u32, text: &[u8]) -> Result<String, StartFault>
+    ensures { IfOk result (λ wide. IsWideText earlier text.now (string_bytes wide)) }
+{
+    let served = read_served(alloc, text)?;
+    let rows = rows_of(alloc, &served)?;
+    let margin = margin_with(served.inventory().forest(), earlier);
+    let settled = settle(alloc, Some(margin), None, &rows)?;
     Ok(settled.text)
 }

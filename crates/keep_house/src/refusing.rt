@@ -32,8 +32,9 @@ pub fn line_of_fault(
     Ok(text)
 }
 
+/// Appends why a start is refused.
 #[tactic(auto, unfolding(crate::specs::Refusing::start_words))]
-fn push_start(
+pub(crate) fn push_start(
     alloc: Global,
     demands: Demands,
     forest: &Forest,

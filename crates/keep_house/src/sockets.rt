@@ -4,29 +4,19 @@ ghost use Rattle.keep_log.specs.declared.line.Word.TheVariants as kinds;
 ghost use Rattle.keep_house.specs.Lines.{IsSaid};
 ghost use Rattle.keep_house.specs.Sockets.{need_line, need_word, socket_line};
 
-use crate::given::GivenNeed;
 use crate::moments::moment_word;
 use crate::saying::{Stamp, say, say_of};
 use crate::wording::text_word;
-use keep_agent::Agent;
-use keep_lines::name_of;
 use keep_log::{Level, LogRoom, Word};
 use keep_moment::{LAST, Text};
 use std::alloc::{AllocError, Global};
 
 /// Says that a client has set another need.
 #[tactic(auto, using(crate::proofs::Said::missed))]
-pub(crate) fn say_need(
-    alloc: Global,
-    stamp: &Stamp,
-    agent: &Agent,
-    need: GivenNeed,
-    room: &mut LogRoom,
-)
-    ensures { IsSaid stamp.now.form stamp.now.moment (need_line agent.now need) room.old room.new }
+pub(crate) fn say_need(alloc: Global, stamp: &Stamp, name: &[u8], until: u64, room: &mut LogRoom)
+    ensures { IsSaid stamp.now.form stamp.now.moment (need_line name.now until) room.old room.new }
 {
-    let name = name_of(agent.inventory().forest(), need.entry);
-    match need_word(alloc, need.until) {
+    match need_word(alloc, until) {
         Ok(until) => say_of(alloc, stamp, Level::Info, "need", name, until, room),
         Err(_) => room.miss(),
     }

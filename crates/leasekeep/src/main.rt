@@ -8,6 +8,8 @@ mod apart;
 mod call_commands;
 mod calling;
 mod commands;
+mod ends;
+mod folder;
 mod live;
 mod parser;
 mod serve;

@@ -172,14 +172,17 @@ token and a `lease_id` for each lease, or a file that holds it (`secret_file`, `
 Each event is one line on standard output, with its moment. The log never delays a renewal: up to 1 MiB of lines wait for their
 reader, and whole lines after that are dropped and counted.
 
-With --control it takes the commands `status`, `health` and `need`, and with --listen it shows how it stands to onlookers. Neither
-can delay a renewal, and it serves without a socket that it cannot have, with an alert. So far it keeps nothing over a restart:
-`leasekeepd serve` does. The broker is asked over plain HTTP, at a port of 127.0.0.1 or at a UNIX socket, which keeps strangers out.
+With --control it takes commands (`leasekeep status`, `need` and so on), and with --listen it shows how it stands to onlookers. Neither
+can delay a renewal, and it serves without a socket that it cannot have, with an alert. With --state it keeps what commands change: what
+was acknowledged holds over a restart, and over a crash at any moment. Without it a need alone is taken, and is forgotten at a restart.
+A command that changes something waits for the disk, and so does the agent. A start in the same boot renews by the ends that were known
+before, if they are kept (--runtime, or beside SOCKET). The broker is asked over plain HTTP, at a port of 127.0.0.1 or at a UNIX
+socket, which keeps strangers out.
 
 Example:
-  leasekeep serve fleet.toml /run/vault-proxy/vault.sock --control ./control.sock --listen 9105
+  leasekeep serve fleet.toml /run/vault-proxy/vault.sock --state ./state --control ./control.sock --listen 9105
 
-Exit status: 1 the inventory is refused, 2 command line, 6 read, 7 memory";
+Exit status: 1 the inventory is refused, or another agent holds FOLDER, 2 command line, 6 read, 7 memory";
 
 const LOG_FORMS: &[&str] = &["text", "json"];
 
@@ -359,7 +362,8 @@ fn watch<'a>(alloc: Global) -> Result<Command<'a>, AllocError> {
         .arg(width(alloc))
 }
 
-/// `serve FILE PORT [--timeout SECONDS] [--width K] [--names-are-secrets] [--log text|json] [--control SOCKET] [--listen PLACE]`
+/// `serve FILE PORT [--timeout SECONDS] [--width K] [--names-are-secrets] [--log text|json] [--state FOLDER] [--control SOCKET]
+/// [--listen PLACE] [--runtime FOLDER] [--spread SECONDS] [--name NAME]`
 fn serve<'a>(alloc: Global) -> Result<Command<'a>, AllocError> {
     Command::new(alloc, "serve")
         .about(SERVE_ABOUT)
@@ -384,6 +388,14 @@ fn serve<'a>(alloc: Global) -> Result<Command<'a>, AllocError> {
                 .value_parser(LOG_FORMS),
         )?
         .arg(
+            Arg::new(alloc, "state")
+                .long("state")
+                .value_name("FOLDER")
+                .help(
+                    "Keeps the changes that commands make in this folder, which one agent alone may use; it is made where there is none",
+                ),
+        )?
+        .arg(
             Arg::new(alloc, "control")
                 .long("control")
                 .value_name("SOCKET")
@@ -397,6 +409,14 @@ fn serve<'a>(alloc: Global) -> Result<Command<'a>, AllocError> {
                 .value_name("PLACE")
                 .help(
                     "Shows /metrics, /health and /status over HTTP: a port of 127.0.0.1, ADDR:PORT, or the path of a UNIX socket, with a `/` in it",
+                ),
+        )?
+        .arg(
+            Arg::new(alloc, "runtime")
+                .long("runtime")
+                .value_name("FOLDER")
+                .help(
+                    "Keeps the ends in this folder for a restart in the same boot, in the file `ends` [default: the folder of SOCKET]",
                 ),
         )?
         .arg(

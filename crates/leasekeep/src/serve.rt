@@ -1,5 +1,8 @@
 use crate::apart::earlier_by;
-use crate::sockets::{Socket, open_control, open_listener};
+use crate::ends::{Room, ends_file, folder_of, taken_over};
+use crate::folder::{NotBegun, Said, SystemLedger, begin, paths_of, refuse_changes, refuse_held};
+use crate::sockets::{CLIENTS, ONLOOKERS, Socket, open_door};
+use keep_answering::{Control, Onlookers};
 use keep_clock::{Clock as _, Reading, SystemClock};
 use keep_command::SystemFiles;
 use keep_device::{Place, Sink};
@@ -38,8 +41,12 @@ pub struct Served<'a> {
     pub control: Option<Socket<'a>>,
     /// Where onlookers come in.
     pub listen: Option<Socket<'a>>,
+    /// Where the ends are kept over a restart.
+    pub room: Option<Room<'a>>,
     /// The agent's own name, where it is given one.
     pub name: Option<&'a str>,
+    /// The folder in which changes are kept over a restart, where there is one.
+    pub state: Option<&'a str>,
     /// The seconds over which agents are spread that would wake up together.
     pub spread: u64,
 }
@@ -63,8 +70,126 @@ where
 {
     // Before any file is opened, which would else take the number of a standard output that is closed.
     let log = StandardOutput::new(rt, output);
+    let alloc = rt.alloc();
+    let mut files = SystemFiles::new(rt);
+    let spread = served.spread.min(u64::from(MARGIN_MAX)) as u32;
+    let Ok(earlier) = earlier_by(alloc, &mut files, served.name, served.file, spread) else {
+        return Stop::Memory.report(PROGRAM, errors);
+    };
+    let demands = served.demands(earlier);
+    match served.state {
+        None => serve_file(rt, served, demands, None, log, errors),
+        Some(folder) => serve_with_state(rt, served, demands, folder, log, errors),
+    }
+}
+
+/// Serves the file with the changes of a state folder; without it, where that cannot be used.
+fn serve_with_state<R, E>(
+    rt: &R,
+    served: &Served<'_>,
+    demands: Demands,
+    folder: &str,
+    log: StandardOutput,
+    errors: &mut E,
+) -> Exit
+where
+    R: Files<File = File> + AllocGlobal + Net + Clock,
+    E: Sink,
+{
+    let paths = match paths_of(rt.alloc(), served.file, folder) {
+        Ok(paths) => paths,
+        Err(why) => return serve_without(rt, served, demands, why, log, errors),
+    };
+    let begun = match begin(rt, &paths, folder, demands) {
+        Ok(begun) => begun,
+        Err(why) => return serve_without(rt, served, demands, why, log, errors),
+    };
+    let start = Start {
+        inventory: begun.inventory,
+        ledger: Some(begun.ledger),
+        is_good: begun.is_good,
+        said: begun.said,
+    };
+    ended(run(rt, served, start, log), errors)
+}
+
+/// Serves the file without its state folder, where that cannot be used; or tells why nothing is served.
+fn serve_without<R, E>(
+    rt: &R,
+    served: &Served<'_>,
+    demands: Demands,
+    why: NotBegun,
+    log: StandardOutput,
+    errors: &mut E,
+) -> Exit
+where
+    R: Files<File = File> + AllocGlobal + Net + Clock,
+    E: Sink,
+{
+    match why {
+        NotBegun::Unused(said) => serve_file(rt, served, demands, Some(said), log, errors),
+        NotBegun::Held => refuse_held(rt.alloc(), served.state.unwrap_or(""), errors),
+        NotBegun::Refused => match read_inventory(rt, served, demands, errors) {
+            Ok(_) => refuse_changes(rt.alloc(), served.state.unwrap_or(""), errors),
+            Err(exit) => exit,
+        },
+        NotBegun::Memory => Stop::Memory.report(PROGRAM, errors),
+    }
+}
+
+/// Serves the file alone; this is said before anything else.
+fn serve_file<R, E>(
+    rt: &R,
+    served: &Served<'_>,
+    demands: Demands,
+    first: Option<Said>,
+    log: StandardOutput,
+    errors: &mut E,
+) -> Exit
+where
+    R: Files<File = File> + AllocGlobal + Net + Clock,
+    E: Sink,
+{
+    let inventory = match read_inventory(rt, served, demands, errors) {
+        Ok(inventory) => inventory,
+        Err(exit) => return exit,
+    };
+    let mut said = Vec::new(rt.alloc());
+    if let Some(first) = first {
+        if said.push(first).is_err() {
+            return Stop::Memory.report(PROGRAM, errors);
+        }
+    }
+    let start = Start {
+        inventory,
+        ledger: None,
+        is_good: true,
+        said,
+    };
+    ended(run(rt, served, start, log), errors)
+}
+
+/// The exit of an agent that has ended.
+fn ended<E: Sink>(ran: Result<(), Stop>, errors: &mut E) -> Exit {
+    match ran {
+        Ok(()) => Exit::Done,
+        Err(stop) => stop.report(PROGRAM, errors),
+    }
+}
+
+/// What is served of the file; or the exit, once it was told why the start is refused.
+fn read_inventory<R, E>(
+    rt: &R,
+    served: &Served<'_>,
+    demands: Demands,
+    errors: &mut E,
+) -> Result<Inventory, Exit>
+where
+    R: Files<File = File> + AllocGlobal,
+    E: Sink,
+{
     if let Some(exit) = refuse_mode(rt, served.file, errors) {
-        return exit;
+        return Err(exit);
     }
     let alloc = rt.alloc();
     let mut files = SystemFiles::new(rt);
@@ -73,34 +198,18 @@ where
         Err(fault) => {
             let exit = Stop::from(fault).report(PROGRAM, errors);
             files.advise(PROGRAM, exit, served.file, errors);
-            return exit;
+            return Err(exit);
         }
     };
     let folder = folder_of(served.file);
-    let spread = served.spread.min(u64::from(MARGIN_MAX)) as u32;
-    let Ok(earlier) = earlier_by(alloc, &mut files, served.name, served.file, spread) else {
-        return Stop::Memory.report(PROGRAM, errors);
-    };
-    let demands = served.demands(earlier);
     match read_to_serve(alloc, bytes.list(), demands, folder, &mut files) {
-        Ok(inventory) => match run(rt, served, inventory, log) {
-            Ok(()) => Exit::Done,
-            Err(stop) => stop.report(PROGRAM, errors),
-        },
+        Ok(inventory) => Ok(inventory),
         Err(StartFault::Inventory(fault)) => {
             let exit = Stop::from(fault).report(PROGRAM, errors);
             files.advise(PROGRAM, exit, served.file, errors);
-            exit
+            Err(exit)
         }
-        Err(fault) => refuse(rt, demands, &bytes, fault, errors),
-    }
-}
-
-/// What stands before a path that starts at the folder of the file: its own path up to its last slash.
-fn folder_of(file: &str) -> &str {
-    match file.rfind('/') {
-        None => "",
-        Some(end) => &file[..end + 1],
+        Err(fault) => Err(refuse(rt, demands, &bytes, fault, errors)),
     }
 }
 
@@ -155,15 +264,24 @@ fn refuse<R: AllocGlobal, E: Sink>(
     }
 }
 
-/// Serves it. The only error is want of memory at the start.
-fn run<R>(
-    rt: &R,
-    served: &Served<'_>,
+/// What is served from the start on.
+#[derive(Drop)]
+struct Start<'a, R: Files<File = File> + AllocGlobal> {
     inventory: Inventory,
+    ledger: Option<SystemLedger<'a, R>>,
+    is_good: bool,
+    said: Vec<Said>,
+}
+
+/// Serves it. The only error is want of memory at the start.
+fn run<'a, R>(
+    rt: &'a R,
+    served: &Served<'_>,
+    start: Start<'a, R>,
     log: StandardOutput,
 ) -> Result<(), Stop>
 where
-    R: Files + AllocGlobal + Net + Clock,
+    R: Files<File = File> + AllocGlobal + Net + Clock,
 {
     let alloc = rt.alloc();
     let seconds = served.patience.min(60) as u32;
@@ -178,23 +296,41 @@ where
         wall: 0,
         elapsed: 0,
     });
-    let desk = Desk::new(alloc, served.form, inventory.forest().len())?;
-    let mut house = House::new(desk, log, read_at(now));
-    open_control(rt, &clock, now, served.control, &mut house);
-    open_listener(rt, &clock, now, served.listen, &mut house);
-    let Ok(mut serving) = Serving::begin(alloc, inventory, &lanes) else {
+    let Start {
+        inventory,
+        ledger,
+        is_good,
+        said,
+    } = start;
+    let mut desk = Desk::new(alloc, served.form, inventory.forest().len())?;
+    for line in said {
+        desk.hear_at_start(alloc, now, line.level, line.event, line.text.list());
+    }
+    let clients = open_door(rt, &clock, now, served.control, CLIENTS, &mut desk);
+    let onlookers = open_door(rt, &clock, now, served.listen, ONLOOKERS, &mut desk);
+    let mut file = ends_file(rt, served.room, now, &mut desk)?;
+    let known = match &mut file {
+        None => Vec::new(alloc),
+        Some(file) => taken_over(alloc, file, &inventory, now, &mut desk)?,
+    };
+    let mut house = House::new(desk, log, read_at(now, is_good));
+    house.control = clients.map(|door| Control::new(alloc, door));
+    house.onlookers = onlookers.map(|door| Onlookers::new(alloc, door));
+    house.state = ledger;
+    house.ends = file;
+    let Ok(mut serving) = Serving::resume(alloc, inventory, &lanes, &known) else {
         return Err(Stop::Memory);
     };
     serving.run(alloc, &mut clock, &mut lanes, &mut house, u64::MAX);
     Ok(())
 }
 
-/// The file was read at this moment, and was good.
-fn read_at(now: Reading) -> FileReading {
+/// The file was read at this moment, and was good or was not.
+fn read_at(now: Reading, is_good: bool) -> FileReading {
     let seconds = Some(now.wall / 1000);
     FileReading {
-        is_good: true,
+        is_good,
         at: seconds,
-        good_at: seconds,
+        good_at: if is_good { seconds } else { None },
     }
 }

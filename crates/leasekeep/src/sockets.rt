@@ -1,19 +1,12 @@
 //! The sockets of `serve`: where commands come in, and where onlookers do. Neither can stop it: one that cannot be had is an alert.
-use keep_answering::{Control, Onlookers};
-use keep_clients::{Entrance, SocketDoor, SocketTalk};
+use keep_clients::{Entrance, SocketDoor};
 use keep_clock::{Reading, SystemClock};
-use keep_house::{Desk, House};
+use keep_house::Desk;
 use keep_lanes::MOST_WIDTH;
-use keep_log::StandardOutput;
 use std::alloc::Global;
 use std::io;
 use std::net::Net;
 use std::rt::{Clock, Files};
-
-/// The neighbours that the wait tells of, after the lanes to the broker.
-const CONTROL: u32 = MOST_WIDTH;
-
-const LISTENER: u32 = MOST_WIDTH + 1;
 
 /// Where guests come in, and the word of the command line that says so.
 #[derive(Clone, Copy, Debug)]
@@ -22,56 +15,43 @@ pub struct Socket<'a> {
     pub entrance: Entrance<'a>,
 }
 
-/// The neighbours of an agent that serves over the sockets of the system.
-pub type SystemHouse = House<StandardOutput, SocketTalk, SocketDoor>;
-
-/// Lets clients in, where a control socket is asked for.
-pub fn open_control<R: Files + AllocGlobal + Net + Clock>(
-    rt: &R,
-    clock: &SystemClock<'_, R>,
-    now: Reading,
-    socket: Option<Socket<'_>>,
-    house: &mut SystemHouse,
-) {
-    let Some(socket) = socket else {
-        return;
-    };
-    let alloc = rt.alloc();
-    match door(rt, clock, socket, CONTROL) {
-        Ok(door) => house.control = Some(Control::new(alloc, door)),
-        Err(error) => tell(
-            alloc,
-            &mut house.desk,
-            now,
-            socket,
-            &error,
-            b"no command can be given",
-        ),
-    }
+/// Guests of the agent.
+#[derive(Clone, Copy, Debug)]
+pub struct Guests {
+    /// The number under which the wait tells of their door: after those of the lanes to the broker.
+    number: u32,
+    /// What it costs where their socket cannot be had.
+    cost: &'static str,
 }
 
-/// Lets onlookers in, where a socket for them is asked for.
-pub fn open_listener<R: Files + AllocGlobal + Net + Clock>(
+/// Those that give commands.
+pub const CLIENTS: Guests = Guests {
+    number: MOST_WIDTH,
+    cost: "no command can be given",
+};
+
+/// Those that look on.
+pub const ONLOOKERS: Guests = Guests {
+    number: MOST_WIDTH + 1,
+    cost: "nobody can look on",
+};
+
+/// The door of these guests, where a socket is asked for; one that cannot be had is an alert.
+pub fn open_door<R: Files + AllocGlobal + Net + Clock>(
     rt: &R,
     clock: &SystemClock<'_, R>,
     now: Reading,
     socket: Option<Socket<'_>>,
-    house: &mut SystemHouse,
-) {
-    let Some(socket) = socket else {
-        return;
-    };
-    let alloc = rt.alloc();
-    match door(rt, clock, socket, LISTENER) {
-        Ok(door) => house.onlookers = Some(Onlookers::new(alloc, door)),
-        Err(error) => tell(
-            alloc,
-            &mut house.desk,
-            now,
-            socket,
-            &error,
-            b"nobody can look on",
-        ),
+    guests: Guests,
+    desk: &mut Desk,
+) -> Option<SocketDoor> {
+    let socket = socket?;
+    match door(rt, clock, socket, guests.number) {
+        Ok(door) => Some(door),
+        Err(error) => {
+            tell(rt.alloc(), desk, now, socket, &error, guests.cost);
+            None
+        }
     }
 }
 
@@ -96,9 +76,9 @@ fn tell(
     now: Reading,
     socket: Socket<'_>,
     error: &io::Error,
-    cost: &[u8],
+    cost: &str,
 ) {
-    let socket = socket.word.as_bytes();
+    let (socket, cost) = (socket.word.as_bytes(), cost.as_bytes());
     match format!(in alloc; "{error}") {
         Ok(text) => desk.hear_no_socket(alloc, now, socket, reason(&text).as_bytes(), cost),
         Err(_) => desk.hear_no_socket(alloc, now, socket, b"out of memory", cost),

@@ -1,5 +1,6 @@
 use crate::call_commands::called;
 use crate::calling::Called;
+use crate::ends::Room;
 use crate::live::Live;
 use crate::parser::{mistake, parse};
 use crate::serve::Served;
@@ -182,7 +183,9 @@ fn served<'a>(matches: &ArgMatches<'a>) -> Result<Served<'a>, Unread> {
         form: form(matches),
         control: control(matches)?,
         listen: listen(matches)?,
+        room: room(matches),
         name: matches.get_str("name"),
+        state: matches.get_str("state"),
         spread: number_or(matches, "spread", 0).ok_or(Unread::Value)?,
     })
 }
@@ -198,6 +201,14 @@ fn control<'a>(matches: &ArgMatches<'a>) -> Result<Option<Socket<'a>>, Unread> {
             entrance: Entrance::Path(path),
         })),
         _ => Err(Unread::Place(PlaceWord::Control)),
+    }
+}
+
+/// Where the ends are kept over a restart: in the folder that is given, else beside the control socket, if there is one.
+fn room<'a>(matches: &ArgMatches<'a>) -> Option<Room<'a>> {
+    match matches.get_str("runtime") {
+        Some(folder) => Some(Room::Folder(folder)),
+        None => Some(Room::Beside(matches.get_str("control")?)),
     }
 }
 

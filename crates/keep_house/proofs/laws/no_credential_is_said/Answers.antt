@@ -9,6 +9,7 @@ use Rattle.watch_machine.specs.declared.notes.Notes.{Notes}
 use Rattle.keep_house.specs.Alike.{AreAlike}
 use Rattle.keep_house.specs.Answered.{answered_lines}
 use Rattle.keep_house.specs.Clocked.{clocked_lines, marks_clocked, short_lines}
+use Rattle.keep_house.specs.Nexts.{next_lines, next_there}
 use Rattle.keep_house.specs.declared.mark.Mark.{Mark}
 use Rattle.keep_house.proofs.laws.no_credential_is_said.Goals as goal
 
@@ -29,6 +30,9 @@ marks_same marks a b h = same (λ m f xs. marks_clocked (bare m f xs) marks) a b
 
 pub returns-clause-clocked : goal.returns-clause-clocked
 returns-clause-clocked c = λ a b h notes requests marks. (clocked_same notes requests marks a b h, marks_same marks a b h)
+
+pub returns-clause-next : goal.returns-clause-next
+returns-clause-next c = λ a b h last next. same (λ m f xs. next_lines (bare m f xs) last (next_there m next)) a b h
 
 pub returns-clause-shorts : goal.returns-clause-shorts
 unfolding short_lines

@@ -1,0 +1,66 @@
+-- Telling: what the client of a command is told, in words.
+-- Source: docs/commands/calls.md.
+use Rattle.std.specs.Prelude.{◌≡◌, ℕ, ◌==◌, Bool, true, false, if◌then◌else◌, List, [], ◌∷◌, ◌++◌, Option, Some, None, Result, Ok, Err, codes, min}
+use Rattle.keep_change.specs.Rows.{is_lease_if}
+use Rattle.keep_change.specs.declared.row.Row.{Row}
+use Rattle.keep_control.specs.Replies.{reply_text}
+use Rattle.keep_control.specs.declared.reply.Reply.TheVariants as replies
+use Rattle.keep_moment.specs.Rfc3339.{IsDateText}
+use Rattle.keep_moment.specs.declared.moment.TheConstants.{LAST}
+use Rattle.keep_house.specs.Keeping.{Outcome, Why}
+
+-- ---- the lines
+
+-- words with a date after them, no later than the last moment
+abbrev pub IsDated : List ℕ → ℕ → List ℕ → Type 0
+IsDated front moment text = (date : List ℕ) × (IsDateText date (min moment LAST) × (text ≡ front ++ date))
+
+-- until when an entry is needed: not at all, always, or until a moment
+abbrev pub IsNeededBy : Bool → Bool → ℕ → List ℕ → Type 0
+IsNeededBy true always until text = text ≡ codes "has no need"
+IsNeededBy false true until text = text ≡ codes "is needed always"
+IsNeededBy false false until text = IsDated (codes "is needed until ") until text
+
+unfoldable pub IsNeeded : ℕ → List ℕ → Type 0
+IsNeeded until text = IsNeededBy (until == 0) (until == LAST) until text
+
+-- `NAME is needed until ..`
+abbrev pub IsNeedLine : List ℕ → ℕ → List ℕ → Type 0
+IsNeedLine name until line = (needed : List ℕ) × (IsNeeded until needed × (line ≡ name ++ (codes " " ++ needed)))
+
+abbrev pub IsAddLine : List ℕ → ℕ → List ℕ → Type 0
+IsAddLine name until line = (needed : List ℕ) × (IsNeeded until needed × (line ≡ name ++ (codes " is kept from now on: it " ++ needed)))
+
+abbrev pub replace_line : List ℕ → Option Row → List ℕ
+replace_line name row = name ++ (if is_lease_if row then codes " has a new lease id" else codes " has a new secret")
+
+-- and its end, no later than the last moment, where it is known
+abbrev pub IsEndedLine : List ℕ → ℕ → List ℕ → Type 0
+IsEndedLine name end line = (date : List ℕ) × (IsDateText date (min end LAST) × (line ≡ name ++ (codes " is no longer kept, and ends at " ++ date)))
+
+abbrev pub IsDropLine : List ℕ → Option ℕ → List ℕ → Type 0
+IsDropLine name None line = line ≡ name ++ codes " is no longer kept"
+IsDropLine name (Some end) line = IsEndedLine name end line
+
+abbrev pub settle_line : List ℕ → List ℕ
+settle_line path = path ++ codes " holds every change"
+
+abbrev pub reload_line : List ℕ → List ℕ
+reload_line path = path ++ codes " was read anew"
+
+-- ---- what is sent
+
+-- `ok` and the line, or `error: WHY`; None where memory was wanting for it
+abbrev pub IsDoneReply : Option (List ℕ) → Option (List ℕ) → Type 0
+IsDoneReply None sent = sent ≡ None
+IsDoneReply (Some line) None = Unit {0}
+IsDoneReply (Some line) (Some text) = text ≡ reply_text (replies.Done (line ∷ []))
+
+abbrev pub IsRefusedReply : Why → Option (List ℕ) → Type 0
+IsRefusedReply None sent = sent ≡ None
+IsRefusedReply (Some why) None = Unit {0}
+IsRefusedReply (Some why) (Some text) = text ≡ reply_text (replies.Refused why)
+
+abbrev pub IsReplyTo : Outcome → Option (List ℕ) → Type 0
+IsReplyTo (Ok line) sent = IsDoneReply line sent
+IsReplyTo (Err why) sent = IsRefusedReply why sent

@@ -1,0 +1,74 @@
+//! What keeps the changes that clients give.
+ghost use Rattle.std.specs.Prelude.{◌≡◌, List, Option, Result, ℕ, option_map};
+ghost use Rattle.std.specs.declared.alloc.AllocError.{AllocError};
+ghost use Rattle.keep_change.specs.Rows.{named};
+ghost use Rattle.keep_change.specs.declared.row.Row.{Row};
+ghost use Rattle.keep_inventory.specs.Inventories.{Inventory};
+ghost use Rattle.keep_house.specs.Keeping.{KeepCall, Rebuilt, Reload, Settle, Take, Why};
+
+use keep_change::{Row, What};
+use keep_inventory::Inventory;
+use keep_moment::Text;
+use std::alloc::{AllocError, Global};
+
+/// What is said of a file that was read anew.
+#[derive(Debug, Drop)]
+pub struct Reread {
+    /// What is said of each change that does not hold any more.
+    pub notes: Vec<Text>,
+    /// What is said of its copy, where that could not be kept.
+    pub unkept: Option<Text>,
+}
+
+/// Keeps the changes that clients give, over a restart too. A reason why something was not done is in words for the one who asked,
+/// without a credential, and `None` where memory was wanting for them.
+///
+/// To contracts it is what each call did to it, what it has from then on, and the inventories that it gives.
+pub trait Keeping {
+    /// What a call did to it: what it was asked for and what came of it, what it was before, and what it is after.
+    ghost does: { KeepCall → Self → Self → Type 0 };
+
+    /// The entries after every change.
+    ghost rows: { Self → List Row };
+
+    /// The path of the file.
+    ghost path: { Self → List ℕ };
+
+    /// Whether this is the row of a table, or why there is none.
+    ghost reads: { List ℕ → Result Row Why → Type 0 };
+
+    /// What is to be served from a moment on, where a rebuilding is due.
+    ghost gives: { ℕ → Result (Option Inventory) AllocError → Self → Type 0 };
+
+    /// Makes a change of the entry of that name. `now` is in milliseconds of the clock that never steps. At `Ok` it holds over a restart.
+    fn take(&mut self, alloc: Global, now: u64, name: &[u8], what: What) -> Result<(), Option<Text>>
+        ensures { Self.does (Take now name.now what result) self.old self.new };
+
+    /// Makes the file hold every change.
+    fn settle(&mut self, alloc: Global) -> Result<(), Option<Text>>
+        ensures { Self.does (Settle result) self.old self.new };
+
+    /// Reads the file anew.
+    fn reload(&mut self, alloc: Global, now: u64) -> Result<Reread, Option<Text>>
+        ensures { Self.does (Reload now result) self.old self.new };
+
+    /// The row that a table `[[token]]` or `[[lease]]` in TOML writes.
+    fn read_row(&self, alloc: Global, table: &[u8]) -> Result<Row, Option<Text>>
+        ensures { Self.reads table.now result };
+
+    /// The inventory that is to be served from now on, where a rebuilding is due. The only error is out of memory.
+    fn due(&self, alloc: Global, now: u64) -> Result<Option<Inventory>, AllocError>
+        ensures { Self.gives now result self.now };
+
+    /// The rebuilding was made.
+    fn rebuilt(&mut self)
+        ensures { Self.does Rebuilt self.old self.new };
+
+    /// The entry of that name.
+    fn named(&self, name: &[u8]) -> Option<&Row>
+        ensures { option_map (λ row. row.now) result ≡ named (Self.rows self.now) name.now };
+
+    /// The path of the file.
+    fn path(&self) -> &[u8]
+        ensures { result.now ≡ Self.path self.now };
+}

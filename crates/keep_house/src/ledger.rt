@@ -1,0 +1,313 @@
+//! The state of an agent on a disk.
+ghost use Rattle.std.specs.Prelude.{◌≡◌, ℕ, List, IfErr, IfOk, IfSome, None, OnErr, OnOk, Ok, Some, true};
+ghost use Rattle.keep_agent.specs.Waiting.{changed};
+ghost use Rattle.keep_change.specs.declared.replaying.Note.{Note};
+ghost use Rattle.keep_inventory.specs.Inventories.{Inventory};
+ghost use Rattle.keep_served.specs.ForGood.{inventory_for_good};
+ghost use Rattle.keep_state.specs.States.{book_in, store_in};
+ghost use Rattle.keep_store.specs.Books.{IsBookIf};
+ghost use Rattle.keep_store.specs.Entering.{IsWhyNot};
+ghost use Rattle.keep_store.specs.Records.{records_in};
+ghost use Rattle.keep_store.specs.Stores.{lines_in};
+ghost use Rattle.keep_waiting.specs.Keepers.{waiting_in};
+ghost use Rattle.keep_house.specs.Ledgers.{FilledWith, IsAsItWas, IsFilledOn, IsTakenOn};
+ghost use Rattle.keep_house.specs.Reading.{IsToServe, IsWide};
+ghost use Rattle.keep_house.specs.Reasons.{bare_words, left_words, table_words};
+ghost use Rattle.keep_house.specs.Starts.{is_bare_row};
+
+use crate::demands::Demands;
+use crate::fault::StartFault;
+use crate::gathering::{Gathered, gather};
+use crate::judging::is_bare_row;
+use crate::keeping::{Keeping, Reread};
+use crate::reading::{read_to_serve, wide};
+use crate::reasons::{
+    after, bare_words, book_words, disk_words, file_words, inventory_words, settle_words,
+    table_words, take_words, unread_words,
+};
+use keep_change::{Note, Row, What};
+use keep_disk::Disk;
+use keep_files::Inputs;
+use keep_inventory::{Inventory, read_served};
+use keep_moment::{Name, Text};
+use keep_state::{Reloaded, State, TableFault, read_table};
+use keep_store::{Secret, TakeFault};
+use keep_words::push_number;
+use std::alloc::{AllocError, Global};
+
+/// The notes of a file that are said at most; what is left is counted in one more.
+const MOST_NOTES: usize = 100;
+
+/// The state of an agent on a disk, and what is demanded of the file that is served.
+#[derive(Drop)]
+pub struct Ledger<'a, D: Disk, I> {
+    /// The changes that clients give.
+    pub state: State<'a, D>,
+    /// What is demanded of the file.
+    pub demands: Demands,
+    /// The folder at which a path of a file starts that does not begin with `/`: it ends in one, or is empty.
+    pub folder: &'a str,
+    /// The files of credentials.
+    pub inputs: I,
+}
+
+impl<'a, D: Disk, I: Inputs> Ledger<'a, D, I> {
+    /// What is served now. The margin is as much wider as it is demanded that the agent wakes up earlier. The only error is out of memory.
+    pub fn inventory(&self, alloc: Global) -> Result<Inventory, AllocError>
+        ensures { IfOk result (λ inventory. (narrow : Inventory) × ((inventory_for_good (book_in self.now.state).text ≡ Ok narrow) × IsWide self.now.demands.earlier (book_in self.now.state).text narrow inventory)) }
+    {
+        let inventory = self.state.inventory()?;
+        wide(alloc, self.demands.earlier, self.state.text(), inventory)
+    }
+
+    /// Has from now on what the files of credentials hold; and what is said of each entry whose file holds none: it is left out. The
+    /// only error is out of memory.
+    pub fn fill(&mut self, alloc: Global, now: u64) -> Result<Vec<Text>, AllocError>
+        ensures filled { IsFilledOn (I.bytes_at self.old.inputs) self.old.folder.now now self.old.state self.new.state }
+        ensures demands { self.new.demands ≡ self.old.demands }
+    {
+        let folder = self.folder;
+        let (mut said, is_taken) = fill_state(
+            alloc,
+            &mut self.state,
+            folder,
+            &mut self.inputs,
+            now,
+        )?;
+        if !is_taken {
+            said.push(Text::of(
+                alloc,
+                b"what the files of credentials hold does not go together: the old ones stay",
+            )?)?;
+        }
+        Ok(said)
+    }
+
+    // The file at its path, where it may be served; otherwise why not, in words.
+    fn judged(&mut self, alloc: Global) -> Result<Text, Option<Text>>
+        ensures served { IfOk result (λ bytes. (inventory : Inventory) × IsToServe self.old.demands (I.bytes_at self.old.inputs) self.old.folder.now bytes (Ok inventory)) }
+        ensures keeper { self.new.state.keeper ≡ self.old.state.keeper }
+        ensures same { (path : List ℕ) → I.bytes_at self.new.inputs path ≡ I.bytes_at self.old.inputs path }
+        ensures demands { self.new.demands ≡ self.old.demands }
+        ensures folder { self.new.folder ≡ self.old.folder }
+    {
+        let bytes = match self.state.read_file() {
+            Ok(read) => read.bytes,
+            Err(fault) => return Err(unread_words(alloc, fault).ok()),
+        };
+        let demands = self.demands;
+        match read_to_serve(alloc, bytes.list(), demands, self.folder, &mut self.inputs) {
+            Ok(_) => Ok(bytes),
+            Err(fault) => Err(why_not_served(alloc, demands, bytes.list(), fault)),
+        }
+    }
+
+    /// What is said of these changes of the journal that are not made any more: a hundred lines, and how many more there are. The only
+    /// error is out of memory.
+    pub fn note_lines(&self, alloc: Global, notes: &[Note]) -> Result<Vec<Text>, AllocError> {
+        let most = notes.len().min(MOST_NOTES);
+        let mut lines = self.state.note_lines(&notes[..most])?;
+        if notes.len() > most {
+            lines.push(left_words(alloc, notes.len() - most)?)?;
+        }
+        Ok(lines)
+    }
+
+    // Serves these bytes of the file from now on.
+    fn reloaded(&mut self, alloc: Global, now: u64, bytes: &[u8]) -> Result<Reread, Option<Text>>
+        ensures reloaded { IfOk result (λ r. (notes : List Note) × IsBookIf (Some bytes.now) (records_in (lines_in (store_in self.old.state))) (book_in self.old.state).secrets (book_in self.new.state) notes) }
+        ensures waiting { OnOk result (waiting_in self.new.state.keeper ≡ changed (waiting_in self.old.state.keeper) now) }
+        ensures refused { OnErr result (IsAsItWas self.old.state self.new.state) }
+        ensures inputs { self.new.inputs ≡ self.old.inputs }
+        ensures demands { self.new.demands ≡ self.old.demands }
+        ensures folder { self.new.folder ≡ self.old.folder }
+    {
+        let Reloaded { notes, copy } = match self.state.reload(now, bytes) {
+            Ok(reloaded) => reloaded,
+            Err(fault) => return Err(book_words(alloc, fault).ok()),
+        };
+        // (Where memory is wanting, nothing is said of them.)
+        let notes = self
+            .note_lines(alloc, &notes)
+            .unwrap_or_else(|_| Vec::new(alloc));
+        let unkept = match copy {
+            None => None,
+            Some(fault) => after(alloc, b"of the file could not be kept: ", disk_words(fault)).ok(),
+        };
+        Ok(Reread { notes, unkept })
+    }
+}
+
+// Has from now on what the files of credentials hold; what is said of those that hold none, and whether it can be handed on.
+#[tactic(auto, using(crate::proofs::Gathered::filled_on))]
+fn fill_state<D: Disk, I: Inputs>(
+    alloc: Global,
+    state: &mut State<'_, D>,
+    folder: &str,
+    inputs: &mut I,
+    now: u64,
+) -> Result<(Vec<Text>, bool), AllocError>
+    ensures { IsFilledOn (I.bytes_at inputs.old) folder.now now state.old state.new }
+{
+    let Gathered { secrets, said } = gather(alloc, state.rows().list(), folder.as_bytes(), inputs)?;
+    let is_taken = fill_with(state, now, secrets);
+    Ok((said, is_taken))
+}
+
+// Has from now on what files have given, where they have given anything. Whether that can be handed on.
+fn fill_with<D: Disk>(state: &mut State<'_, D>, now: u64, secrets: Vec<Secret>) -> bool
+    ensures { FilledWith now secrets.items state.old state.new }
+{
+    if secrets.is_empty() {
+        return true;
+    }
+    state.take_secrets(now, secrets).is_ok()
+}
+
+// Takes a change, and then takes out of the journal the records that are void, where that is worth while.
+fn take_on<D: Disk>(
+    state: &mut State<'_, D>,
+    now: u64,
+    name: Name,
+    what: What,
+) -> Result<(), TakeFault>
+    ensures taken { OnOk result (IsTakenOn D.is_known D.state now name what state.old state.new) }
+    ensures refused { IfErr result (IsWhyNot (book_in state.old) name what) }
+    ensures unchanged { OnErr result (IsAsItWas state.old state.new) }
+{
+    state.take(now, name, what)?;
+    // (Where that fails, the journal has more records than it needs.)
+    let _compacted = state.compact();
+    Ok(())
+}
+
+// The row, unless its entry has no credential and its name may not be sent.
+fn not_bare(alloc: Global, row: Row, names_are_secrets: bool) -> Result<Row, Option<Text>>
+    ensures ok { IfOk result (λ r. r ≡ row) }
+    ensures bare { IfErr result (λ why. IfSome why (λ text. (is_bare_row row ≡ true) × (text ≡ bare_words row))) }
+{
+    if !names_are_secrets && is_bare_row(&row) {
+        return Err(bare_words(alloc, &row).ok());
+    }
+    Ok(row)
+}
+
+// Why a table is no entry, in words; `None` where memory was wanting.
+fn why_no_row(alloc: Global, fault: TableFault) -> Option<Text>
+    ensures memory { fault ≡ TableFault.OutOfMemory → result ≡ None }
+    ensures words { IfSome result (λ text. text ≡ table_words fault) }
+{
+    match fault {
+        TableFault::OutOfMemory => None,
+        _ => table_words(alloc, fault).ok(),
+    }
+}
+
+/// Why a file with these bytes is not served, in words; `None` where memory was wanting for them.
+pub fn why_not_served(
+    alloc: Global,
+    demands: Demands,
+    bytes: &[u8],
+    fault: StartFault,
+) -> Option<Text> {
+    if let StartFault::Inventory(fault) = fault {
+        return inventory_words(alloc, fault).ok();
+    }
+    let served = read_served(alloc, bytes).ok()?;
+    file_words(alloc, demands, served.inventory().forest(), fault).ok()
+}
+
+// How many notes are left where no more are said than may be, in words.
+fn left_words(alloc: Global, left: usize) -> Result<Text, AllocError>
+    ensures { IfOk result (λ text. text ≡ left_words left) }
+{
+    let mut text = Vec::new(alloc);
+    push_number(alloc, left as u64, &mut text)?;
+    text.extend_from_slice(b" more changes do not hold")?;
+    Ok(Text::from_vec(text))
+}
+
+// Appends texts, as far as memory suffices.
+fn push_all(said: Vec<Text>, notes: &mut Vec<Text>) {
+    for line in said {
+        let _put = notes.push(line);
+    }
+}
+
+impl<'a, D: Disk, I: Inputs> Keeping for Ledger<'a, D, I> {
+    ghost use Rattle.keep_change.specs.declared.row.Row.{Row};
+    ghost use Rattle.keep_house.specs.Ledgers.{DoesLedger, GivesLedger, ReadsTable};
+    ghost use Rattle.keep_state.specs.States.{book_in};
+
+    ghost does = { DoesLedger D.is_known D.state I.bytes_at };
+
+    ghost rows = { λ l. (book_in l.state).rows };
+
+    ghost path = { λ l. l.state.places.file };
+
+    ghost reads = { ReadsTable };
+
+    ghost gives = { GivesLedger };
+
+    fn take(
+        &mut self,
+        alloc: Global,
+        now: u64,
+        name: &[u8],
+        what: What,
+    ) -> Result<(), Option<Text>> {
+        let Ok(of) = Name::of(alloc, name) else {
+            return Err(None);
+        };
+        let Ok(asked) = what.copy() else {
+            return Err(None);
+        };
+        let margin = self.state.file().margin;
+        match take_on(&mut self.state, now, of, what) {
+            Ok(()) => Ok(()),
+            Err(fault) => Err(take_words(alloc, margin, name, &asked, fault).ok()),
+        }
+    }
+
+    fn settle(&mut self, alloc: Global) -> Result<(), Option<Text>> {
+        match self.state.settle() {
+            Ok(_) => Ok(()),
+            Err(fault) => Err(settle_words(alloc, fault).ok()),
+        }
+    }
+
+    fn reload(&mut self, alloc: Global, now: u64) -> Result<Reread, Option<Text>> {
+        let bytes = self.judged(alloc)?;
+        let mut reread = self.reloaded(alloc, now, bytes.list())?;
+        if let Ok(said) = self.fill(alloc, now) {
+            push_all(said, &mut reread.notes);
+        }
+        Ok(reread)
+    }
+
+    fn read_row(&self, alloc: Global, table: &[u8]) -> Result<Row, Option<Text>> {
+        match read_table(alloc, table) {
+            Ok(row) => not_bare(alloc, row, self.demands.names_are_secrets),
+            Err(fault) => Err(why_no_row(alloc, fault)),
+        }
+    }
+
+    fn due(&self, alloc: Global, now: u64) -> Result<Option<Inventory>, AllocError> {
+        let Some(inventory) = self.state.due(now)? else {
+            return Ok(None);
+        };
+        Ok(Some(wide(alloc, self.demands.earlier, self.state.text(), inventory)?))
+    }
+
+    fn rebuilt(&mut self) {
+        self.state.rebuilt();
+    }
+
+    fn named(&self, name: &[u8]) -> Option<&Row> {
+        self.state.rows().named(name)
+    }
+
+    fn path(&self) -> &[u8] {
+        self.state.paths().file().as_bytes()
+    }
+}
