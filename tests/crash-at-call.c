@@ -1,0 +1,352 @@
+/* Preloaded into a program, ends it at the disk call whose number, from 1, stands in CRASH_AT. CRASH_HOW says how:
+     before  it is killed, and the call is not made
+     half    it is killed in the midst of the call: of a write the first half is made, of another call nothing
+     after   it is killed once the call is made
+     lost    it is killed before the call, and all is undone that no sync has put on the disk, as where the machine loses its power
+     mixed   so too, but CRASH_SEED says which of the calls are undone, and of a write which piece of its bytes
+     fail    the call fails (EIO), and the program goes on
+   Disk calls: what makes, writes, cuts, syncs, moves or removes a file or a folder; standard streams are none. Where CRASH_LOG
+   names a file, each is written there, a word and a line feed. */
+#define _GNU_SOURCE
+#include <errno.h>
+#include <fcntl.h>
+#include <limits.h>
+#include <signal.h>
+#include <stdarg.h>
+#include <stdio.h>
+#include <stdlib.h>
+#include <string.h>
+#include <sys/stat.h>
+#include <sys/syscall.h>
+#include <unistd.h>
+
+#define MOST 4096
+
+enum kind { BYTES, MADE, MOVED };
+
+/* What undoes one call: the file's bytes as they were, a file that was not there, or the file that stood where one was moved to. A
+   sync puts it on the disk of that file, or, of a name, of the folder in which it stands. */
+struct undo {
+    enum kind kind;
+    int fd;
+    dev_t device;
+    ino_t inode;
+    off_t at, size;
+    char *old;
+    size_t count;
+    char from[PATH_MAX], path[PATH_MAX];
+    mode_t mode;
+    int is_there;
+};
+
+static struct undo *undos[MOST];
+static int undo_count;
+static long next_number;
+
+static void *room_of(size_t size) {
+    void *room = calloc(1, size);
+    if (!room) abort();
+    return room;
+}
+
+static int is_how(const char *how) {
+    const char *text = getenv("CRASH_HOW");
+    return text && strcmp(text, how) == 0;
+}
+
+/* ---- what a crash of the machine loses */
+
+static void add(struct undo *undo) {
+    if (undo_count == MOST) abort();
+    undos[undo_count++] = undo;
+}
+
+static void forget(int index) {
+    struct undo *undo = undos[index];
+    if (undo->kind == BYTES) syscall(SYS_close, undo->fd);
+    free(undo->old);
+    free(undo);
+    undo_count -= 1;
+    memmove(undos + index, undos + index + 1, (undo_count - index) * sizeof *undos);
+}
+
+static char *bytes_of(int fd, off_t at, size_t count) {
+    char *bytes = room_of(count + 1);
+    size_t got = 0;
+    while (got < count) {
+        ssize_t n = syscall(SYS_pread64, fd, bytes + got, count - got, at + got);
+        if (n <= 0) break;
+        got += n;
+    }
+    return bytes;
+}
+
+/* Before bytes of a file are changed. The descriptor may be for writing alone, so the file is opened anew. */
+static void keep_bytes(int fd, off_t at, size_t count) {
+    char name[64];
+    struct stat seen;
+    snprintf(name, sizeof name, "/proc/self/fd/%d", fd);
+    int own = syscall(SYS_openat, AT_FDCWD, name, O_RDWR | O_CLOEXEC, 0);
+    if (own < 0 || fstat(own, &seen) < 0) abort();
+    struct undo *undo = room_of(sizeof *undo);
+    undo->kind = BYTES;
+    undo->fd = own;
+    undo->device = seen.st_dev;
+    undo->inode = seen.st_ino;
+    undo->at = at;
+    undo->size = seen.st_size;
+    undo->count = count;
+    undo->old = bytes_of(own, at, count);
+    add(undo);
+}
+
+/* The folder in which its path stands. */
+static void keep_folder(struct undo *undo) {
+    char folder[PATH_MAX];
+    struct stat seen;
+    strcpy(folder, undo->path);
+    char *slash = strrchr(folder, '/');
+    if (slash) slash[slash == folder] = 0;
+    if (stat(slash ? folder : ".", &seen) < 0) abort();
+    undo->device = seen.st_dev;
+    undo->inode = seen.st_ino;
+}
+
+static void keep_made(const char *path) {
+    struct undo *undo = room_of(sizeof *undo);
+    undo->kind = MADE;
+    snprintf(undo->path, sizeof undo->path, "%s", path);
+    keep_folder(undo);
+    add(undo);
+}
+
+static void keep_moved(const char *from, const char *path) {
+    struct stat seen;
+    struct undo *undo = room_of(sizeof *undo);
+    undo->kind = MOVED;
+    snprintf(undo->from, sizeof undo->from, "%s", from);
+    snprintf(undo->path, sizeof undo->path, "%s", path);
+    keep_folder(undo);
+    int fd = syscall(SYS_openat, AT_FDCWD, path, O_RDONLY | O_CLOEXEC, 0);
+    if (fd >= 0 && fstat(fd, &seen) == 0) {
+        undo->is_there = 1;
+        undo->mode = seen.st_mode & 07777;
+        undo->count = seen.st_size;
+        undo->old = bytes_of(fd, 0, seen.st_size);
+        syscall(SYS_close, fd);
+    }
+    add(undo);
+}
+
+/* A file is on the disk, or the names in a folder are. */
+static void synced(int fd) {
+    struct stat seen;
+    if (fstat(fd, &seen) < 0) abort();
+    for (int index = undo_count - 1; index >= 0; index--) {
+        if (undos[index]->device == seen.st_dev && undos[index]->inode == seen.st_ino) forget(index);
+    }
+}
+
+static unsigned drawn;
+
+/* The next number that CRASH_SEED gives, less than `most`. */
+static size_t draw(size_t most) {
+    drawn = drawn * 1103515245u + 12345u;
+    return (drawn >> 16) % most;
+}
+
+/* Of a write: all of its bytes and the file's size, or a piece of its bytes, and the size or not. */
+static void take_back_bytes(struct undo *undo) {
+    size_t from = is_how("lost") || undo->count < 2 ? 0 : draw(undo->count);
+    size_t count = is_how("lost") || undo->count < 2 ? undo->count : 1 + draw(undo->count - from);
+    syscall(SYS_pwrite64, undo->fd, undo->old + from, count, undo->at + from);
+    if (is_how("lost") || !draw(4)) syscall(SYS_ftruncate, undo->fd, undo->size);
+}
+
+static void take_back(struct undo *undo) {
+    if (undo->kind == BYTES) {
+        take_back_bytes(undo);
+    } else if (undo->kind == MADE) {
+        syscall(SYS_unlinkat, AT_FDCWD, undo->path, 0);
+    } else {
+        syscall(SYS_renameat, AT_FDCWD, undo->path, AT_FDCWD, undo->from);
+        if (!undo->is_there) return;
+        int fd = syscall(SYS_openat, AT_FDCWD, undo->path, O_WRONLY | O_CREAT | O_TRUNC, undo->mode);
+        syscall(SYS_write, fd, undo->old, undo->count);
+        syscall(SYS_fchmod, fd, undo->mode);
+    }
+}
+
+static void lose(void) {
+    const char *text = getenv("CRASH_SEED");
+    drawn = text ? atoi(text) : 0;
+    for (int index = undo_count - 1; index >= 0; index--)
+        if (is_how("lost") || draw(2)) take_back(undos[index]);
+}
+
+/* ---- the call whose turn it is */
+
+static void note(const char *word) {
+    const char *name = getenv("CRASH_LOG");
+    char line[64];
+    if (!name) return;
+    int fd = syscall(SYS_openat, AT_FDCWD, name, O_WRONLY | O_CREAT | O_APPEND, 0600);
+    int size = snprintf(line, sizeof line, "%s\n", word);
+    syscall(SYS_write, fd, line, size);
+    syscall(SYS_close, fd);
+}
+
+static void die(void) {
+    kill(getpid(), SIGKILL);
+    for (;;) pause();
+}
+
+/* Counts a call: 1 where it is the one. */
+static int is_turn(const char *word) {
+    const char *text = getenv("CRASH_AT");
+    note(word);
+    next_number += 1;
+    return text && next_number == atol(text);
+}
+
+/* What happens before the call whose turn it is; 1 where it is to fail. */
+static int stops(int turn) {
+    if (!turn) return 0;
+    if (is_how("lost") || is_how("mixed")) lose();
+    if (is_how("before") || is_how("half") || is_how("lost") || is_how("mixed")) die();
+    if (is_how("fail")) {
+        errno = EIO;
+        return 1;
+    }
+    return 0;
+}
+
+static void ended(int turn) {
+    if (turn && is_how("after")) die();
+}
+
+/* ---- the calls */
+
+static ssize_t write_bytes(int fd, const void *bytes, size_t count, off_t at, int is_at_place) {
+    int turn = is_turn("write");
+    if (turn && is_how("half")) {
+        syscall(SYS_pwrite64, fd, bytes, count / 2, at);
+        die();
+    }
+    if (stops(turn)) return -1;
+    keep_bytes(fd, at, count);
+    ssize_t n = is_at_place ? syscall(SYS_pwrite64, fd, bytes, count, at) : syscall(SYS_write, fd, bytes, count);
+    ended(turn);
+    return n;
+}
+
+static int is_file(int fd) {
+    struct stat seen;
+    return fd > 2 && fstat(fd, &seen) == 0 && S_ISREG(seen.st_mode);
+}
+
+ssize_t write(int fd, const void *bytes, size_t count) {
+    if (!is_file(fd)) return syscall(SYS_write, fd, bytes, count);
+    return write_bytes(fd, bytes, count, syscall(SYS_lseek, fd, 0, SEEK_CUR), 0);
+}
+
+ssize_t pwrite(int fd, const void *bytes, size_t count, off_t at) {
+    return write_bytes(fd, bytes, count, at, 1);
+}
+
+ssize_t pwrite64(int fd, const void *bytes, size_t count, off_t at) {
+    return write_bytes(fd, bytes, count, at, 1);
+}
+
+int ftruncate(int fd, off_t size) {
+    struct stat seen;
+    int turn = is_turn("cut");
+    if (stops(turn)) return -1;
+    if (fstat(fd, &seen) == 0) keep_bytes(fd, size, seen.st_size > size ? seen.st_size - size : 0);
+    int done = syscall(SYS_ftruncate, fd, size);
+    ended(turn);
+    return done;
+}
+
+int ftruncate64(int fd, off_t size) {
+    return ftruncate(fd, size);
+}
+
+int fsync(int fd) {
+    int turn = is_turn("sync");
+    if (stops(turn)) return -1;
+    int done = syscall(SYS_fsync, fd);
+    if (done == 0) synced(fd);
+    ended(turn);
+    return done;
+}
+
+int fdatasync(int fd) {
+    return fsync(fd);
+}
+
+int rename(const char *from, const char *path) {
+    int turn = is_turn("move");
+    if (stops(turn)) return -1;
+    keep_moved(from, path);
+    int done = syscall(SYS_renameat, AT_FDCWD, from, AT_FDCWD, path);
+    ended(turn);
+    return done;
+}
+
+int unlink(const char *path) {
+    int turn = is_turn("remove");
+    if (stops(turn)) return -1;
+    int done = syscall(SYS_unlinkat, AT_FDCWD, path, 0);
+    int error = errno;
+    ended(turn);
+    errno = error;
+    return done;
+}
+
+int fchmod(int fd, mode_t mode) {
+    int turn = is_turn("mode");
+    if (stops(turn)) return -1;
+    int done = syscall(SYS_fchmod, fd, mode);
+    ended(turn);
+    return done;
+}
+
+int mkdir(const char *path, mode_t mode) {
+    int turn = is_turn("folder");
+    if (stops(turn)) return -1;
+    int done = syscall(SYS_mkdirat, AT_FDCWD, path, mode);
+    int error = errno;
+    ended(turn);
+    errno = error;
+    return done;
+}
+
+static int open_file(int folder, const char *path, int flags, mode_t mode) {
+    if (!(flags & O_CREAT)) return syscall(SYS_openat, folder, path, flags, mode);
+    int was = faccessat(folder, path, F_OK, AT_SYMLINK_NOFOLLOW);
+    int turn = is_turn("make");
+    if (stops(turn)) return -1;
+    int fd = syscall(SYS_openat, folder, path, flags, mode);
+    int error = errno;
+    if (fd >= 0 && was < 0) keep_made(path);
+    ended(turn);
+    errno = error;
+    return fd;
+}
+
+int open(const char *path, int flags, ...) {
+    va_list more;
+    va_start(more, flags);
+    mode_t mode = flags & O_CREAT ? va_arg(more, mode_t) : 0;
+    va_end(more);
+    return open_file(AT_FDCWD, path, flags, mode);
+}
+
+int open64(const char *path, int flags, ...) {
+    va_list more;
+    va_start(more, flags);
+    mode_t mode = flags & O_CREAT ? va_arg(more, mode_t) : 0;
+    va_end(more);
+    return open_file(AT_FDCWD, path, flags, mode);
+}
