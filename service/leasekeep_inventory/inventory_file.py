@@ -13,6 +13,7 @@ from .findings import Finding, Severity
 from .inventory import END_MAX, SYSTEM_MAX, Entry, Inventory, Kind
 from .near import Near, Slip
 from .rfc3339 import LAST
+from .room import USUAL_TIMEOUT
 from .toml_text import Lines, SyntaxFault, decoded, parsed
 from .tree import Row, judge_rows, shown, sound_entries
 from .values import ABOVE, CREDENTIAL_FORM, FILE_FORM, FLAG, NAME, NAME_FORM, Form, moment, tables
@@ -123,8 +124,8 @@ class _Table:
         return absent if value is None else value
 
 
-def read_inventory(data: bytes, dialect: Dialect = STRICT) -> Reading:
-    """The inventory that the bytes write, with every fault."""
+def read_inventory(data: bytes, dialect: Dialect = STRICT, timeout: int = USUAL_TIMEOUT) -> Reading:
+    """The inventory that the bytes write, with every fault, and advice for that time-out."""
     reading = Reading(dialect)
     top = _document(data, reading)
     if top is None:
@@ -139,7 +140,7 @@ def read_inventory(data: bytes, dialect: Dialect = STRICT) -> Reading:
     reading.has_margin = is_written
     reading.rows = list(_rows(table))
     whole = Inventory((), reading.margin or 1, system_max or SYSTEM_MAX)
-    reading.findings += judge_rows(reading.rows, whole, reading.margin, reading.lines)
+    reading.findings += judge_rows(reading.rows, whole, reading.margin, reading.lines, timeout)
     reading.sound = Inventory(sound_entries(reading.rows), whole.margin, whole.system_max)
     reading.inventory = None if reading.faults else reading.sound
     return reading

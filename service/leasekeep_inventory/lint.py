@@ -6,6 +6,7 @@ import math
 from pathlib import Path
 
 from .dialect import SERVED, Dialect
+from .durations import duration_text
 from .findings import Finding, Severity
 from .inventory import ALWAYS, Entry, Inventory, Kind
 from .inventory_file import Reading, read_inventory
@@ -15,7 +16,8 @@ from .secret_files import SecretFault, is_open_to_others, read_secret
 from .tree import TOKEN_VALUE, shown
 
 _YEAR_3000 = 32503680000
-_LONG_STEP = 90 * 86400
+_DAY = 86400
+_LONG_STEP = 90 * _DAY
 AT_ONCE = 8
 """How many requests go out side by side, unless `--width` says otherwise."""
 
@@ -36,7 +38,7 @@ def lint(data: bytes, mode: int, timeout: int, now: float, names_are_secrets: bo
          dialect: Dialect = SERVED, folder: Path | None = None) -> list[Finding]:
     """Everything that is wrong or doubtful: faults first to last line, doubts among them. What is said of the whole
     inventory is said where no entry is at fault. The files of secrets are looked at where their folder is given."""
-    reading = read_inventory(data, dialect)
+    reading = read_inventory(data, dialect, timeout)
     found = reading.findings + refusals(reading, timeout, names_are_secrets, mode)
     doubts = _Doubts(reading)
     is_past = False
@@ -48,6 +50,7 @@ def lint(data: bytes, mode: int, timeout: int, now: float, names_are_secrets: bo
         _doubt_entry(reading.sound, entry, doubts, now)
         _doubt_time(entry, doubts, now, is_past)
         _doubt_need(reading.sound, entry, doubts, now)
+        _doubt_always(reading.sound, entry, doubts)
         if folder is not None and entry.credential_file is not None:
             _doubt_file(entry, folder / entry.credential_file, doubts)
         if not entry.period and reading.lacks(entry.name, "increment"):
@@ -102,10 +105,11 @@ def _doubt_entry(inventory: Inventory, entry: Entry, doubts: _Doubts, now: float
             doubts.doubt(name, key, "is past the year 3000", "are these milliseconds? moments are whole seconds")
     for key, seconds in (("increment", entry.increment or 0), ("period", entry.period)):
         if seconds > _LONG_STEP and seconds % 1000 == 0:
-            doubts.doubt(name, key, f"is {seconds} s, over {seconds // 86400} days",
+            doubts.doubt(name, key, f"is {seconds} s, over {seconds // _DAY} days",
                          "are these milliseconds? durations are whole seconds")
     if entry.increment and not entry.period and entry.max_ttl and entry.increment > entry.max_ttl:
-        doubts.doubt(name, "increment", f"is {_long(entry.increment)}, longer than its maximum TTL of {_long(entry.max_ttl)}",
+        doubts.doubt(name, "increment",
+                     f"is {duration_text(entry.increment)}, longer than its maximum TTL of {duration_text(entry.max_ttl)}",
                      "no renewal grants more than that: ask for less, or correct max_ttl")
     if entry.increment and entry.period and entry.increment != entry.period:
         doubts.doubt(name, "increment", "has no effect next to a period", "remove one of the two")
@@ -169,10 +173,24 @@ def _doubt_need(inventory: Inventory, entry: Entry, doubts: _Doubts, now: float)
             return
 
 
+def _doubt_always(inventory: Inventory, entry: Entry, doubts: _Doubts) -> None:
+    """A need of `always` under a ceiling that is never further ahead than the day from which on it is called `short`."""
+    if entry.need != ALWAYS:
+        return
+    for over in inventory.over(entry.name):
+        life = inventory.ceiling(over, 0, over.period, over.explicit_max_ttl)
+        if life is not None and life <= _DAY:
+            whose = "its" if over is entry else f"{shown(over.name)}'s"
+            doubts.doubt(entry.name, "need", f"is always, and {whose} maximum TTL of {duration_text(life)} is a day or less",
+                         "it is `short`, and not healthy, from its issue on: write the moment by which you issue it afresh")
+            return
+
+
 def _long(seconds: int) -> str:
-    for size, word in ((86400, "d"), (3600, "h"), (60, "min")):
+    """Rounded down, so that it is that or more."""
+    for size, word in ((_DAY, "d"), (3600, "h"), (60, "min")):
         if seconds >= size:
-            return f"{math.ceil(seconds / size)} {word}"
+            return f"{seconds // size} {word}"
     return f"{seconds} s"
 
 

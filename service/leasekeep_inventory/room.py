@@ -8,6 +8,7 @@ from typing import Iterable
 from .inventory import MARGIN_MAX
 
 TIMEOUTS_IN_MARGIN = 4
+USUAL_TIMEOUT = 5
 PART_OF_STEP = 3, 4
 """The greatest part of a step that a margin may be: with more, a renewal would be due almost as soon as the last one came."""
 
@@ -20,6 +21,16 @@ def margin_for(step: int) -> int:
 def step_for(margin: int) -> int:
     """The least step that leaves room for a margin."""
     return -(-margin * PART_OF_STEP[1] // PART_OF_STEP[0])
+
+
+def instead_of_step(step: int, timeout: int) -> str:
+    """The margin to write in place of a longer step, and the time-out where it leaves no room for this one; empty where no margin
+    leaves room for any."""
+    most = margin_for(step)
+    shorter = most // TIMEOUTS_IN_MARGIN
+    if shorter == 0:
+        return ""
+    return f", or {f'give --timeout {shorter} and ' if shorter < timeout else ''}lower margin to {most}"
 
 
 @dataclass(frozen=True)

@@ -9,7 +9,7 @@ from typing import Iterator
 
 from .findings import Finding, Severity
 from .inventory import END_MAX, MAX_DEPTH, MAX_ENTRIES, Entry, Inventory, Kind
-from .room import margin_for, step_for
+from .room import USUAL_TIMEOUT, instead_of_step, step_for
 from .toml_text import Lines
 
 TOKEN_VALUE = re.compile(r"(hvs|hvb|hvr|s|b)\.[A-Za-z0-9_\-]{8,}", re.ASCII)
@@ -58,9 +58,10 @@ class Row:
         return self.credential if self.is_written else self.name
 
 
-def judge_rows(rows: list[Row], whole: Inventory, margin: int | None, lines: Lines) -> list[Finding]:
-    """The faults of rows beside each other. `whole` has the system's maximum; a margin of None could not be read."""
-    return list(_Judge(rows, whole, margin, lines).findings())
+def judge_rows(rows: list[Row], whole: Inventory, margin: int | None, lines: Lines, timeout: int = USUAL_TIMEOUT) -> list[Finding]:
+    """The faults of rows beside each other. `whole` has the system's maximum; a margin of None could not be read. Advice is for that
+    time-out."""
+    return list(_Judge(rows, whole, margin, lines, timeout).findings())
 
 
 def sound_entries(rows: list[Row]) -> tuple[Entry, ...]:
@@ -79,8 +80,8 @@ def sound_entries(rows: list[Row]) -> tuple[Entry, ...]:
 class _Judge:
     """Goes over the rows in their order, with those before each."""
 
-    def __init__(self, rows: list[Row], whole: Inventory, margin: int | None, lines: Lines) -> None:
-        self._rows, self._whole, self._margin, self._lines = rows, whole, margin, lines
+    def __init__(self, rows: list[Row], whole: Inventory, margin: int | None, lines: Lines, timeout: int) -> None:
+        self._rows, self._whole, self._margin, self._lines, self._timeout = rows, whole, margin, lines, timeout
         self._first: dict[str, tuple[int, Row]] = {}
         for at, row in enumerate(rows):
             if row.name is not None:
@@ -109,7 +110,7 @@ class _Judge:
         if self._margin is not None and step is not None and step <= self._margin:
             key = "period" if entry is not None and entry.period else "increment"
             yield (key, f"is not greater than the margin of {self._margin} s",
-                   f"ask for {step_for(self._margin)} or more{f', or lower margin to {margin_for(step)}' if step > 1 else ''}")
+                   f"ask for {step_for(self._margin)} or more{instead_of_step(step, self._timeout)}")
         if entry is not None:
             ceiling = self._whole.ceiling(entry, entry.issued, entry.period, entry.explicit_max_ttl)
             if ceiling is not None and ceiling > END_MAX:

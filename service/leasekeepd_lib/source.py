@@ -57,8 +57,8 @@ class Source:
             data, mode = self.read()
         except OSError as error:
             raise SourceFault(f"{self.path}: {error.strerror}") from None
-        reading = read_inventory(data, SERVED)
-        faults = reading.faults + refusals(reading, self.timeout, self.names_are_secrets, mode)
+        reading = read_inventory(data, SERVED, self.timeout)
+        faults = sorted(reading.faults + refusals(reading, self.timeout, self.names_are_secrets, mode), key=lambda fault: fault.line)
         if faults or reading.inventory is None:
             raise SourceFault("\n".join(finding.text(str(self.path)) for finding in faults))
         self.last = Loaded(data, reading.inventory)

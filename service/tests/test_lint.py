@@ -86,7 +86,7 @@ class Lint(unittest.TestCase):
             (old('secret = "hvs.app-secret"\n', ""), 0o600, "f:2: fault: app secret: is missing; the entry's name would be sent to Vault as the credential"),
             (old("margin = 20", "margin = 19"), 0o600, "f:1: fault: margin: is 19 s, under four times the time-out"),
             (old("margin = 20", "margin = 1000"), 0o600, "f:6: fault: app increment: is not greater than the margin"),
-            (old("need = 1050000", "need = 9050000", 1), 0o600, "f:7: doubt: app need: is 62 d past its maximum TTL"),
+            (old("need = 1050000", "need = 9050000", 1), 0o600, "f:7: doubt: app need: is 61 d past its maximum TTL"),
             (old("issued = 999000", "issued = 999000\nrenewable = false", 1), 0o600,
              "doubt: db need: is past app's end, which cannot be renewed"),
             (old("margin = 20", "margin = = 20"), 0o600, "f:1: fault: the file is not a TOML document"),
@@ -285,6 +285,17 @@ class Slips(unittest.TestCase):
                       linted("margin = 1000\n" + text))
         self.assertEqual(linted("margin = 450\n" + text), [])
         self.assertEqual(linted("margin = 1000\n" + text.replace("600", "1334")), [])
+
+    def test_a_margin_that_no_time_out_fits_is_not_advised(self) -> None:
+        said = "f:6: fault: a increment: is not greater than the margin of 40 s; ask for 54 or more"
+        for step, timeout, more in ((30, 5, ", or lower margin to 22"), (30, 6, ", or give --timeout 5 and lower margin to 22"),
+                                    (15, 5, ", or give --timeout 2 and lower margin to 11"), (5, 5, ""), (6, 1, ", or lower margin to 4")):
+            text = table("token", "a").replace("increment = 900", f"increment = {step}")
+            self.assertEqual(linted("margin = 40\n" + text, timeout=timeout), [said + more])
+            if more:
+                shorter = re.search(r"--timeout (\d+)", more)
+                margin = more.rpartition(" ")[2]
+                self.assertEqual(linted(f"margin = {margin}\n" + text, timeout=int(shorter[1]) if shorter else timeout), [])
 
     def test_a_step_of_nothing(self) -> None:
         """`leasekeep` refuses it (step-too-small), written or by a period of 0."""

@@ -124,8 +124,8 @@ class Slips(unittest.TestCase):
         self.assertEqual(self.linted(), [])
 
     def test_a_step_beyond_the_maximum(self) -> None:
-        (said,) = self.linted(('"1h"', "3600000"), ('"30d"', '"24h"'))
-        self.assertEqual(said, "f:5: doubt: app increment: is 42 d, longer than its maximum TTL of 1 d; no renewal grants more than"
+        said, _ = self.linted(('"1h"', "3600000"), ('"30d"', '"24h"'))
+        self.assertEqual(said, "f:5: doubt: app increment: is 41d16h, longer than its maximum TTL of 1d; no renewal grants more than"
                          " that: ask for less, or correct max_ttl")
         self.assertEqual(self.linted(('"1h"', '"30d"')), [])
 
@@ -138,6 +138,21 @@ class Slips(unittest.TestCase):
         under = '[[lease]]\nname = "db"\ntoken = "app"\nincrement = "1h"\nlease_id = "db/1"\nneed = %d\n'
         said = self.linted(('"hvs.app-secret"\n', '"hvs.app-secret"\n' + under % (NOW + 32 * 86400)))[-1]
         self.assertIn("db need: is 2 d or more past app's maximum TTL", said)
+
+    def test_how_far_past_is_rounded_down(self) -> None:
+        (said,) = self.linted(('"always"', str(int(NOW) + 30 * 86400 + 6 * 3600 + 540)))
+        self.assertIn("app need: is 6 h or more past its maximum TTL", said)
+
+    def test_always_under_a_ceiling_of_a_day(self) -> None:
+        """It is called short from a day before its ceiling on, so from the first minute."""
+        (said,) = self.linted(('"30d"', '"24h"'))
+        self.assertEqual(said, "f:7: doubt: app need: is always, and its maximum TTL of 1d is a day or less; it is `short`, and not healthy,"
+                         " from its issue on: write the moment by which you issue it afresh")
+        self.assertEqual(self.linted(('"30d"', '"1d1s"')), [])
+        self.assertEqual(self.linted(('"30d"', '"24h"'), ('"always"', str(int(NOW) + 3600))), [])
+        under = '[[lease]]\nname = "db"\ntoken = "app"\nincrement = "1h"\nlease_id = "db/1"\nmax_ttl = "2d"\nneed = "always"\n'
+        said = self.linted(('"hvs.app-secret"\n', '"hvs.app-secret"\n' + under), ('"30d"', '"20m"'), ('"1h"', '"10m"'))[-1]
+        self.assertIn("doubt: db need: is always, and app's maximum TTL of 20m is a day or less; ", said)
 
     def test_a_margin_as_long_as_the_step_is_a_fault_alone(self) -> None:
         (said,) = self.linted(('"1h"', '"1m"'))

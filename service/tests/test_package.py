@@ -79,6 +79,13 @@ class Package(unittest.TestCase):
                 with self.subTest(page=file.name, document=document):
                     self.assertTrue((self.root / "usr/share/doc/leasekeep" / document).is_file())
 
+    def test_each_link_of_a_document_leads_somewhere(self) -> None:
+        documents = self.root / "usr/share/doc/leasekeep"
+        for file in sorted(documents.rglob("*.md")):
+            for target in re.findall(r"\]\(([^)\s#]+)", file.read_text()):
+                with self.subTest(document=str(file.relative_to(documents)), target=target):
+                    self.assertTrue("://" in target or (file.parent / target).exists())
+
     def test_its_news_has_its_version(self) -> None:
         news = gzip.decompress((self.root / "usr/share/doc/leasekeep/NEWS.md.gz").read_bytes()).decode()
         self.assertRegex(news, rf"(?m)^## {re.escape(VERSION)}, of commit [0-9a-f]+ of \d{{4}}-\d\d-\d\d$")

@@ -32,8 +32,8 @@ max_ttl = "1d"
 need = "2026-12-01T00:00:00Z"
 lease_id = "db/creds/1"
 """
-WELL = SHORT.replace('"2026-12-01T00:00:00Z"', '"always"')
-"""(A lease of a day is not kept for years.)"""
+WELL = SHORT.replace('"2026-12-01T00:00:00Z"', '"always"').replace('"1d"', '"2d"')
+"""(A lease of a day is not kept for years, and is short from its issue on.)"""
 PLAIN = """system_max = 2764800
 margin = 60
 
@@ -186,7 +186,7 @@ class Lint(unittest.TestCase):
 
     def test_a_need_without_end_is_past_no_ceiling(self) -> None:
         whole = SHORT.replace('max_ttl = "30d"\n', 'max_ttl = "30d"\nissued = 999000\nend = 1000900\nincrement = "1h"\n')
-        self.assertEqual(linted(whole.replace('"2026-12-01T00:00:00Z"', '"always"')), [])
+        self.assertEqual(linted(whole.replace('"2026-12-01T00:00:00Z"', '"always"').replace('"1d"', '"2d"')), [])
         self.assertIn("need: is ", "\n".join(linted(whole)))  # (That of db is past the ceiling of app.)
 
     def test_strictly(self) -> None:

@@ -8,6 +8,7 @@ import re
 import ssl
 import time
 from pathlib import Path
+from typing import Callable
 
 CONNECTIONS = 1_000_000
 TALK_SECONDS = 30.0
@@ -60,7 +61,7 @@ class LiveBroker:
 
 class Relay:
     """Listens at a UNIX socket, or with a certificate at a port of 127.0.0.1, and has each request served by the broker, `delay`
-    seconds after it came."""
+    seconds after it came. What `own_answer` gives for a request is the reply in place of the broker's."""
 
     def __init__(self, path: Path, certificate: ssl.SSLContext | None = None) -> None:
         self._path, self._certificate = path, certificate
@@ -68,6 +69,7 @@ class Relay:
         self.port = 0
         self.last_head = b""
         self.broker: LiveBroker | None = None
+        self.own_answer: Callable[[bytes], bytes | None] = lambda request: None
         self._server: asyncio.Server | None = None
         self.served = 0
 
@@ -91,7 +93,7 @@ class Relay:
                 self.last_head = request.partition(b"\r\n\r\n")[0]
                 await asyncio.sleep(self.delay)
                 if self.broker is not None:
-                    writer.write(await self.broker.exchange(request))
+                    writer.write(self.own_answer(request) or await self.broker.exchange(request))
                     await writer.drain()
                     self.served += 1
         except (OSError, ValueError, TimeoutError, asyncio.IncompleteReadError, asyncio.LimitOverrunError):

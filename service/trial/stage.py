@@ -1,4 +1,4 @@
-"""A trial: minibroker behind the relay, an inventory with short leases, and leasekeepd on it."""
+"""A trial: minibroker behind the relay, an inventory with short leases, and an agent on it: leasekeepd, or `leasekeep serve`."""
 
 from __future__ import annotations
 
@@ -32,13 +32,15 @@ def short_leases(now: int, seconds: int) -> Inventory:
 
 
 class Trial:
-    """The parts of a trial, in one folder."""
+    """The parts of a trial, in one folder; the broker's socket may be elsewhere."""
 
-    def __init__(self, folder: Path, leasekeep: str, minibroker: str, inventory: Inventory, timeout: int = 1) -> None:
-        self.folder, self.inventory = folder, inventory
+    def __init__(self, folder: Path, leasekeep: str, minibroker: str, inventory: Inventory, timeout: int = 1,
+                 by_itself: bool = False, socket: Path | None = None) -> None:
+        self.folder, self.inventory, self._by_itself = folder, inventory, by_itself
+        self.control = folder / "run" / "control.sock"
         self._leasekeep, self._minibroker, self._timeout = leasekeep, minibroker, timeout
         self.file = folder / "inventory.toml"
-        self.socket = folder / "broker.sock"
+        self.socket = socket or folder / "broker.sock"
         self.relay = Relay(self.socket)
         self._own = Relay(folder / "own.sock")
         self.daemon: asyncio.subprocess.Process | None = None
@@ -61,18 +63,25 @@ class Trial:
             self.relay.broker = self._own.broker = None
 
     async def start_daemon(self, log: Path, address: str = "") -> None:
-        """Starts leasekeepd on the inventory; its log is added to the file."""
+        """Starts the agent on the inventory; its log is added to the file."""
         if not self.file.exists():
             self.file.touch(mode=0o600)
             self.file.write_text(inventory_text(self.inventory))
         with open(log, "ab") as output:
             self.daemon = await asyncio.create_subprocess_exec(
-                str(LEASEKEEPD), "serve", str(self.file), address or str(self.socket), "--timeout",
-                str(self._timeout), "--leasekeep", self._leasekeep, "--state", str(self.folder / "state"),
-                "--runtime", str(self.folder / "run"), stdout=output, stderr=output)
+                *self._words(), str(self.file), address or str(self.socket), "--timeout", str(self._timeout),
+                stdout=output, stderr=output)
+
+    def _words(self) -> list[str]:
+        """The agent's program and its first words; its folders are there after it."""
+        if self._by_itself:
+            self.control.parent.mkdir(exist_ok=True)
+            return [self._leasekeep, "serve", "--control", str(self.control)]
+        return [str(LEASEKEEPD), "serve", "--leasekeep", self._leasekeep, "--state", str(self.folder / "state"),
+                "--runtime", str(self.control.parent)]
 
     async def stop_daemon(self, kill: bool = False) -> int:
-        """Ends leasekeepd, as a crash would where `kill` is true; its exit."""
+        """Ends the agent, as a crash would where `kill` is true; its exit."""
         if self.daemon is None or self.daemon.returncode is not None:
             return -1
         self.daemon.kill() if kill else self.daemon.terminate()
