@@ -25,7 +25,7 @@ TOKEN_AND_LEASE = (
     b'[[token]]\nname = "T"\nissued = 1000\nend = 1100\nincrement = 100\nmax_ttl = 9000\n'
     b'[[lease]]\nname = "L"\ntoken = "T"\nissued = 1000\nend = 1060\nincrement = 60\nmax_ttl = 9000\nneed = 1200\n'
 )
-"""The examples of docs/definitions.md, of which every script knows by hand what has to come out."""
+"""Two small inventories, of which every script knows by hand what has to come out."""
 
 
 def built(words: list[str]) -> tuple[Path, Path]:

@@ -17,7 +17,7 @@ MORE = "also-fail"
 """Where those lie that break a clause for which another one stands already."""
 
 HEADER = re.compile(r"^( *)(?:pub(?:\([^)]*\))? )?(?:const )?fn (\w+)", re.M)
-OWNER = re.compile(r"^(?:pub )?impl(?:<[^>]*>)? (?:(?:\w+::)*(\w+)(?:<(\w+).*?>)? for )?(?:\w+::)*(\w+)", re.M)
+OWNER = re.compile(r"^(?:pub )?impl(?:<(?:[^<>]|<[^<>]*>)*>)? (?:(?:\w+::)*(\w+)(?:<(\w+).*?>)? for )?(?:\w+::)*(\w+)", re.M)
 
 
 class BadEdit(Exception):
