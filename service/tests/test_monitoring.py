@@ -1,10 +1,11 @@
-"""The alert rules and the dashboard that are shipped: by promtool, and in a real Prometheus beside a real service."""
+"""The alert rules and the dashboard that are shipped: by promtool, and in a real Prometheus beside each of the real agents."""
 
 from __future__ import annotations
 
 import http.server
 import json
 import re
+import socket
 import subprocess
 import tempfile
 import threading
@@ -19,7 +20,7 @@ from typing import Any
 from leasekeep_inventory.inventory import Entry, Kind
 from trial.programs import SLOWER
 
-from .test_process import SERVICE, Daemon, WithBroker
+from .test_process import SERVICE, Daemon, WithBroker, write_inventory
 from .test_status import EXPECTED
 
 MONITORING = SERVICE / "monitoring"
@@ -108,6 +109,9 @@ class Rules(unittest.TestCase):
         tests = [
             case({WRITTEN: "0+15x4 60x40"}, ("LeasekeepdDown", "105", 0), ("LeasekeepdDown", "135", 1)),
             case({}, ("LeasekeepdDown", "15", 1)),
+            case({WRITTEN + '{job="a",instance="1"}': "0+15x4 stale", WRITTEN + '{job="a",instance="2"}': "0+15x100",
+                  'up{job="a",instance="1"}': "1x4 0x40", 'up{job="a",instance="2"}': "1x4 0x2 1x100", 'up{job="b",instance="1"}': "0x100"},
+                 ("LeasekeepdDown", "165", 0), ("LeasekeepdDown", "195", 1), ("LeasekeepdDown", "600", 1)),
             *(case({**needed, state(name): "0x4 1x10 0x20"}, (alert, "45", 0), (alert, "75", 1), (alert, "300", 0))
               for name, alert in (("gone", "LeasekeepdEntryGone"), ("ended", "LeasekeepdEntryEnded"),
                                   ("short", "LeasekeepdEntryShort"))),
@@ -178,19 +182,25 @@ class InPrometheus(WithBroker):
             self.assertLess(time.monotonic(), end, log.read_text())
             time.sleep(0.1)
         self.port = int(listens[1])
+        # (it listens before it answers)
+        while not self.is_ready():
+            self.assertLess(time.monotonic(), end, log.read_text())
+            time.sleep(0.1)
 
-    def test_a_rule_fires_and_every_panel_has_an_answer(self) -> None:
+    def is_ready(self) -> bool:
+        try:
+            with urllib.request.urlopen(f"http://127.0.0.1:{self.port}/-/ready", timeout=5):
+                return True
+        except OSError:
+            return False
+
+    def setUp(self) -> None:
+        super().setUp()
         gone = Entry("nobody", Kind.LEASE, "app", 1000, 1060, increment=16, need=self.inventory.entries[0].need,
                      credential="db/creds/nobody")
-        metrics = self.folder / "leasekeepd.prom"
-        handler = type("Handler", (_Metrics,), {"file": metrics})
-        exporter = http.server.ThreadingHTTPServer(("127.0.0.1", 0), handler)
-        threading.Thread(target=exporter.serve_forever, daemon=True).start()
-        self.addCleanup(exporter.shutdown)
-        self.start_prometheus(exporter.server_address[1])
         self.inventory = type(self.inventory)((*self.inventory.entries, gone), 12)
-        daemon: Daemon = self.daemon("--metrics", str(metrics), environment={"WATCHDOG_USEC": "1500000"})
-        daemon.wait_for("alert: gone nobody")
+
+    def one_rule_fires_and_every_panel_has_an_answer(self) -> None:
         end = time.monotonic() + 40 * SLOWER
         while not (fired := {(alert["labels"]["alertname"], alert["labels"].get("entry")) for alert in
                              self.asked("alerts")["alerts"] if alert["state"] == "firing"
@@ -204,6 +214,43 @@ class InPrometheus(WithBroker):
                 time.sleep(0.2)
             if "state=\"gone\"" in expression and " or vector(0)" in expression:
                 self.assertEqual(found[0]["value"][1], "1")
+
+    def test_over_the_file_of_leasekeepd(self) -> None:
+        metrics = self.folder / "leasekeepd.prom"
+        handler = type("Handler", (_Metrics,), {"file": metrics})
+        exporter = http.server.ThreadingHTTPServer(("127.0.0.1", 0), handler)
+        threading.Thread(target=exporter.serve_forever, daemon=True).start()
+        self.addCleanup(exporter.server_close)
+        self.addCleanup(exporter.shutdown)
+        self.start_prometheus(exporter.server_address[1])
+        daemon: Daemon = self.daemon("--metrics", str(metrics), environment={"WATCHDOG_USEC": "1500000"})
+        daemon.wait_for("alert: gone nobody")
+        self.one_rule_fires_and_every_panel_has_an_answer()
+
+    def test_over_the_page_of_leasekeep_serve(self) -> None:
+        port = self.serve()
+        self.start_prometheus(port)
+        self.one_rule_fires_and_every_panel_has_an_answer()
+        with urllib.request.urlopen(f"http://127.0.0.1:{port}/metrics", timeout=5) as reply:
+            page = reply.read()
+        self.assertEqual(set(re.findall(r"# TYPE (\w+)", page.decode())), set(re.findall(r"# TYPE (\w+)", EXPECTED)))
+        checked = subprocess.run(["promtool", "check", "metrics"], input=page, capture_output=True, timeout=60)
+        self.assertEqual((checked.returncode, checked.stdout + checked.stderr), (0, b""))
+        for word in (b"s.app-secret", b"db/creds"):
+            self.assertNotIn(word, page)
+
+    def serve(self) -> int:
+        """The port of the pages of a running agent."""
+        with socket.create_server(("127.0.0.1", 0)) as free:
+            port = int(free.getsockname()[1])
+        file = self.folder / "served.toml"
+        write_inventory(file, self.inventory)
+        with open(self.folder / "log", "wb") as log:
+            process = subprocess.Popen([self.program, "serve", str(file), self.server.word, "--timeout", "1", "--listen", str(port)],
+                                       stdout=log, stderr=log)
+        self.addCleanup(process.wait)
+        self.addCleanup(process.kill)
+        return port
 
 
 if __name__ == "__main__":

@@ -52,6 +52,7 @@ class Package(unittest.TestCase):
         for file, mode in (
             ("usr/bin/leasekeep", 0o755), ("usr/bin/minibroker", 0o755), ("usr/lib/leasekeep/leasekeepd", 0o755),
             ("usr/lib/leasekeep/leasekeep-draw", 0o755), ("lib/systemd/system/leasekeep.service", 0o644),
+            ("lib/systemd/system/leasekeep@.service", 0o644), ("lib/systemd/system/leasekeepd.service", 0o644),
             ("usr/lib/sysusers.d/leasekeep.conf", 0o644), ("usr/lib/tmpfiles.d/leasekeep.conf", 0o644),
             ("usr/share/man/man1/leasekeepd.1.gz", 0o644), ("usr/share/man/man1/leasekeep.1.gz", 0o644),
             ("usr/share/bash-completion/completions/leasekeepd", 0o644), ("usr/share/zsh/vendor-completions/_leasekeep", 0o644),
@@ -65,9 +66,10 @@ class Package(unittest.TestCase):
         self.assertFalse((self.root / "usr/local").exists())
 
     def test_nothing_in_it_speaks_of_usr_local_or_of_the_clone(self) -> None:
-        unit = (self.root / "lib/systemd/system/leasekeep.service").read_text()
-        self.assertIn("ExecStart=/usr/bin/leasekeepd serve ", unit)
-        self.assertIn("--leasekeep /usr/bin/leasekeep ", unit)
+        for unit, program in (("leasekeep", "leasekeep"), ("leasekeep@", "leasekeep"), ("leasekeepd", "leasekeepd")):
+            text = (self.root / f"lib/systemd/system/{unit}.service").read_text()
+            self.assertIn(f"ExecStart=/usr/bin/{program} serve ", text)
+            self.assertNotIn("/usr/local/", re.sub(r"(?m)^#.*$", "", text))
         for file in self.root.rglob("*"):
             if file.is_file() and not file.is_symlink() and file.suffix not in (".gz", ".md5sums"):
                 self.assertNotIn(str(TOP).encode(), file.read_bytes(), file)
@@ -112,9 +114,9 @@ class Package(unittest.TestCase):
             owners = {(member.uid, member.gid) for member in archive}
             unit = archive.extractfile(f"leasekeep-{VERSION}/lib/systemd/system/leasekeep.service")
             assert unit is not None
-            self.assertIn(b"ExecStart=/usr/local/bin/leasekeepd serve ", unit.read())
+            self.assertIn(b"ExecStart=/usr/local/bin/leasekeep serve ", unit.read())
         self.assertEqual(owners, {(0, 0)})
-        for file in ("bin/leasekeep", "bin/leasekeepd", "lib/sysusers.d/leasekeep.conf", "share/man/man1/leasekeep-draw.1",
+        for file in ("bin/leasekeep", "bin/leasekeepd", "lib/sysusers.d/leasekeep.conf", "lib/systemd/system/leasekeep@.service", "share/man/man1/leasekeep-draw.1",
                      "share/leasekeep/installed"):
             self.assertIn(f"leasekeep-{VERSION}/{file}", names)
 

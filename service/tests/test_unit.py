@@ -1,4 +1,4 @@
-"""The unit for systemd, and the installed program."""
+"""The units for systemd, and the installed programs."""
 
 from __future__ import annotations
 
@@ -13,55 +13,81 @@ from pathlib import Path
 from trial.programs import SLOWER
 
 TOP = Path(__file__).resolve().parents[2]
-UNIT = TOP / "service" / "leasekeep.service"
+SERVE, FLEET, STANDBY = (TOP / "service" / name for name in ("leasekeep.service", "leasekeep@.service", "leasekeepd.service"))
+UNITS = SERVE, FLEET, STANDBY
 SYSUSERS = TOP / "service" / "leasekeep.sysusers"
 TMPFILES = TOP / "service" / "leasekeep.tmpfiles"
 
 
-class Unit(unittest.TestCase):
+class Units(unittest.TestCase):
     def setUp(self) -> None:
         self.folder = Path(tempfile.mkdtemp())
         self.addCleanup(shutil.rmtree, self.folder, True)
 
     @unittest.skipIf(shutil.which("systemd-analyze") is None, "systemd-analyze is not installed")
-    def test_systemd_takes_it_without_a_word(self) -> None:
-        unit = self.folder / "leasekeep.service"
-        unit.write_text(UNIT.read_text().replace("ExecStart=/usr/local/bin/leasekeepd",
-                                                 f"ExecStart={TOP}/service/leasekeepd"))
-        said = subprocess.run(["systemd-analyze", "verify", "--man=no", str(unit)], capture_output=True, text=True,
-                              timeout=60 * SLOWER)
-        about_it = [line for line in (said.stdout + said.stderr).splitlines() if "leasekeep" in line]
-        self.assertEqual((said.returncode, about_it), (0, []))
+    def test_systemd_takes_each_without_a_word(self) -> None:
+        for unit in UNITS:
+            with self.subTest(unit=unit.name):
+                copy = self.folder / unit.name
+                text = unit.read_text()
+                for program in ("leasekeepd", "leasekeep"):
+                    # (a program has to be there: another one stands for it)
+                    text = text.replace(f"=/usr/local/bin/{program} ", f"={shutil.which('true')} ")
+                copy.write_text(text)
+                said = subprocess.run(["systemd-analyze", "verify", "--man=no", str(copy)], capture_output=True, text=True,
+                                      timeout=60 * SLOWER)
+                about_it = [line for line in (said.stdout + said.stderr).splitlines() if "leasekeep" in line]
+                self.assertEqual((said.returncode, about_it), (0, []))
 
-    def test_what_lives_depend_on_stands_in_it(self) -> None:
-        lines = UNIT.read_text().splitlines()
-        for line in ("Type=notify", "Restart=always", "RestartSec=1", "StartLimitIntervalSec=0", "WatchdogSec=60",
-                     "ExecReload=/bin/sh -c 'kill -HUP \"$MAINPID\"'", "NoNewPrivileges=yes", "ProtectSystem=strict",
-                     "User=leasekeep", "Environment=BOOT_ID=%b"):
-            self.assertIn(line, lines)
+    def test_what_lives_depend_on_stands_in_each(self) -> None:
+        for unit in UNITS:
+            lines = unit.read_text().splitlines()
+            for line in ("Restart=always", "RestartSec=1", "StartLimitIntervalSec=0", "NoNewPrivileges=yes", "ProtectSystem=strict",
+                         "User=leasekeep", "IPAddressDeny=any", "IPAddressAllow=localhost", "SocketBindDeny=any",
+                         "MemoryDenyWriteExecute=yes", "SystemCallErrorNumber=EPERM"):
+                with self.subTest(unit=unit.name, line=line):
+                    self.assertIn(line, lines)
 
-    def test_it_reaches_this_machine_alone_and_listens_at_no_port(self) -> None:
-        lines = UNIT.read_text().splitlines()
-        for line in ("IPAddressDeny=any", "IPAddressAllow=localhost", "SocketBindDeny=any", "MemoryDenyWriteExecute=yes",
-                     "ProcSubset=pid", "SystemCallErrorNumber=EPERM"):
+    def test_serve_keeps_its_ends_while_it_is_stopped_and_reads_the_id_of_the_boot(self) -> None:
+        for unit in (SERVE, FLEET):
+            text = unit.read_text()
+            for line in ("Type=exec", "ExecReload=/usr/local/bin/leasekeep reload", "RuntimeDirectoryPreserve=yes"):
+                self.assertIn(line, text.splitlines())
+            self.assertNotIn("\nProcSubset=", text)
+            self.assertNotIn("Watchdog", text)
+
+    def test_a_fleet_is_the_same_unit_with_folders_of_its_own(self) -> None:
+        def settings(unit: Path) -> list[str]:
+            return [line for line in unit.read_text().splitlines() if "=" in line and not line.startswith("#")]
+        own = ("Description=", "Environment=", "ExecStart=", "    --", "StateDirectory=", "RuntimeDirectory=", "ReadWritePaths=",
+               "SocketBindAllow=")
+        one, many = ([line for line in settings(unit) if not line.startswith(own)] for unit in (SERVE, FLEET))
+        self.assertEqual(one, many)
+        for line in ("StateDirectory=leasekeep/%i", "RuntimeDirectory=leasekeep/%i", "ReadWritePaths=-/etc/leasekeep/%i"):
+            self.assertIn(line, settings(FLEET))
+
+    def test_leasekeepd_stands_by_and_never_beside_serve(self) -> None:
+        lines = STANDBY.read_text().splitlines()
+        for line in ("Conflicts=leasekeep.service", "Type=notify", "WatchdogSec=60", "ExecReload=/bin/sh -c 'kill -HUP \"$MAINPID\"'",
+                     "Environment=BOOT_ID=%b", "ProcSubset=pid"):
             self.assertIn(line, lines)
+        self.assertIn(" --standby ${STANDBY} ", STANDBY.read_text())
 
     @unittest.skipIf(shutil.which("systemd-analyze") is None, "systemd-analyze is not installed")
-    def test_how_exposed_it_is(self) -> None:
-        """At most 1.5 of 10, as systemd counts (before: 1.7)."""
-        said = subprocess.run(["systemd-analyze", "security", "--offline=true", "--threshold=15", str(UNIT)], capture_output=True,
-                              text=True, timeout=60 * SLOWER)
-        self.assertEqual(said.returncode, 0, said.stdout[-300:])
+    def test_how_exposed_each_is(self) -> None:
+        """At most 1.5 of 10, as systemd counts."""
+        for unit in UNITS:
+            said = subprocess.run(["systemd-analyze", "security", "--offline=true", "--threshold=15", str(unit)], capture_output=True,
+                                  text=True, timeout=60 * SLOWER)
+            self.assertEqual(said.returncode, 0, said.stdout[-300:])
 
     def test_its_user_and_folders_are_made(self) -> None:
-        unit = UNIT.read_text()
         users, folders = SYSUSERS.read_text(), TMPFILES.read_text()
         self.assertRegex(users, r"(?m)^u leasekeep ")
-        for path, mode, owner in (("/etc/leasekeep", "0750", "leasekeep"), ("/run/vault-proxy", "0750", "root"),
-                                  ("/var/lib/prometheus/node-exporter", "1775", "root")):
-            self.assertIn(path, unit)
+        for path, mode, owner in (("/etc/leasekeep", "0750", "leasekeep"), ("/run/vault-proxy", "0750", "root")):
+            for unit in UNITS:
+                self.assertIn(path, unit.read_text())
             self.assertRegex(folders, rf"(?m)^d {path} {mode} {owner} leasekeep -$")
-
 
 
 def install(folder: Path, *words: str) -> str:
@@ -82,17 +108,18 @@ class Installed(unittest.TestCase):
     def setUpClass(cls) -> None:
         cls.folder = Path(tempfile.mkdtemp())
         cls.addClassCleanup(shutil.rmtree, cls.folder, True)
-        # A metrics' folder that is there already and root's, as on Debian.
-        for folder in ("etc", "var/lib/prometheus/node-exporter"):
-            (cls.folder / folder).mkdir(parents=True)
+        (cls.folder / "etc").mkdir()
         cls.said = install(cls.folder, "--service")
         cls.local = cls.folder / "usr" / "local"
 
     def test_the_service_lies_where_systemd_looks(self) -> None:
         self.assertIn("systemd-sysusers leasekeep.conf && systemd-tmpfiles --create leasekeep.conf", self.said)
-        for place, source in (("lib/systemd/system/leasekeep.service", UNIT), ("lib/sysusers.d/leasekeep.conf", SYSUSERS),
+        self.assertIn("systemctl enable --now leasekeepd\n", self.said)
+        for place, source in (("lib/systemd/system/leasekeepd.service", STANDBY), ("lib/sysusers.d/leasekeep.conf", SYSUSERS),
                               ("lib/tmpfiles.d/leasekeep.conf", TMPFILES)):
             self.assertEqual((self.local / place).read_text(), source.read_text())
+        # (without the program that it runs no unit is installed)
+        self.assertFalse((self.local / "lib/systemd/system/leasekeep.service").exists())
 
     @unittest.skipIf(shutil.which("systemd-sysusers") is None or os.getuid() != 0, "systemd or root is missing")
     def test_systemd_makes_user_and_folders(self) -> None:
@@ -101,8 +128,7 @@ class Installed(unittest.TestCase):
             self.assertEqual(made.returncode, 0, made.stderr)
         users = [line.split(":") for line in (self.folder / "etc/passwd").read_text().splitlines()]
         number, group = next((int(user[2]), int(user[3])) for user in users if user[0] == "leasekeep")
-        for path, mode, owner in (("etc/leasekeep", 0o750, number), ("var/lib/prometheus/node-exporter", 0o1775, 0),
-                                  ("run/vault-proxy", 0o750, 0)):
+        for path, mode, owner in (("etc/leasekeep", 0o750, number), ("run/vault-proxy", 0o750, 0)):
             folder = (self.folder / path).stat()
             self.assertEqual((stat.S_IMODE(folder.st_mode), folder.st_uid, folder.st_gid), (mode, owner, group), path)
 
@@ -147,7 +173,7 @@ class InstalledBelowAHome(unittest.TestCase):
     def test_no_unit_is_installed_and_install_says_so(self) -> None:
         with tempfile.TemporaryDirectory() as room:
             said = install(Path(room), "--service", "/home/nobody/.local")
-            self.assertIn("the unit for systemd is left out", said)
+            self.assertIn("the units for systemd are left out", said)
             self.assertIn("/usr/local", said)
             self.assertEqual([str(file) for file in Path(room).rglob("*.service")], [])
             self.assertTrue((Path(room) / "home/nobody/.local/bin/leasekeepd").exists())

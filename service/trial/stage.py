@@ -18,15 +18,16 @@ LEASEKEEPD = Path(os.environ.get("LEASEKEEPD", Path(__file__).resolve().parents[
 
 
 def short_leases(now: int, seconds: int) -> Inventory:
-    """An inventory in which everything ends within seconds unless it is renewed."""
-    until = now + seconds
+    """An inventory in which everything ends within seconds unless it is renewed. The first ends leave some more for a busy machine,
+    on which broker and agent take long to start."""
+    until, first = now + seconds, now + 6
     return Inventory((
-        Entry("app", Kind.TOKEN, None, now, now + 9, increment=12, max_ttl=86400, need=until, credential="s.app"),
-        Entry("pay", Kind.TOKEN, None, now, now + 8, period=10, need=until, credential="s.pay"),
-        Entry("job", Kind.TOKEN, "app", now, now + 8, increment=9, max_ttl=86400, need=until, credential="s.job"),
-        Entry("app-db", Kind.LEASE, "app", now, now + 7, increment=8, max_ttl=86400, need=until,
+        Entry("app", Kind.TOKEN, None, now, first + 9, increment=12, max_ttl=86400, need=until, credential="s.app"),
+        Entry("pay", Kind.TOKEN, None, now, first + 8, period=10, need=until, credential="s.pay"),
+        Entry("job", Kind.TOKEN, "app", now, first + 8, increment=9, max_ttl=86400, need=until, credential="s.job"),
+        Entry("app-db", Kind.LEASE, "app", now, first + 7, increment=8, max_ttl=86400, need=until,
               credential="database/creds/app/1"),
-        Entry("pay-cert", Kind.LEASE, "pay", now, now + 8, increment=11, max_ttl=86400, need=until,
+        Entry("pay-cert", Kind.LEASE, "pay", now, first + 8, increment=11, max_ttl=86400, need=until,
               credential="pki/issue/pay/1"),
     ), 4)
 
