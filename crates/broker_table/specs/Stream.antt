@@ -63,7 +63,7 @@ pub record IsStreamed (stream : Change) (l : Table) (t : ℕ) (after : Table) : 
   pub sent : Receives (sent_of done.done) stream
   pub flushed : IsFlushed done.done stream.new.output.is_flushed
 
--- what want of memory leaves of the table: what it was where the message was not read or is refused, and what a sweep leaves
+-- what lack of memory leaves of the table: what it was where the message was not read or is refused, and what a sweep leaves
 -- where it is a request. No reply to a message that stream too soon is made, so none wants memory
 abbrev pub WantsMemory : Table → ℕ → Result Request HttpFault → Table → Type 0
 WantsMemory l t (Ok r) after = after ≡ after_sweep l t

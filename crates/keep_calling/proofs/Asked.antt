@@ -144,7 +144,7 @@ unsent_is_refused ask input fault is e =
     (λ (second : (line : List ℕ) × ((words_line ask input ≡ Ok line) × (request_of line >>= (λ request. Ok (line ++ 10 ∷ [])) ≡ Err fault))). inr (unread ask input second.0 fault is second.1.0 second.1.1))
     (then_err (words_line ask input) (λ line. request_of line >>= (λ request. Ok (line ++ 10 ∷ []))) fault e)
 
--- ---- a fault that is not want of memory
+-- ---- a fault that is not lack of memory
 
 pub fault_is : {A : Type 0} (fault : RequestFault) (answer : Result A RequestFault) → (fault ≡ faults.OutOfMemory → ⊥) → Fails fault answer → answer ≡ Err fault
 fault_is faults.TooLong answer other is = is

@@ -12,7 +12,7 @@ ended_code endings.Refused = 1
 ended_code endings.Device = 6
 ended_code endings.Memory = 7
 
--- where a device or want of memory stopped it
+-- where a device or lack of memory stopped it
 abbrev pub ended_of : Stop → Ended
 ended_of stops.Memory = endings.Memory
 ended_of stop = endings.Device

@@ -29,7 +29,7 @@ impl Ended {
         }
     }
 
-    /// How a call ended that a device or want of memory stopped.
+    /// How a call ended that a device or lack of memory stopped.
     pub(crate) fn of(stop: &Stop) -> Ended
         ensures { result ≡ ended_of stop.now }
     {

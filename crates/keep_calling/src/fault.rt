@@ -22,7 +22,7 @@ pub enum CallFault {
 }
 
 impl CallFault {
-    /// What is said of it; `None` is want of memory.
+    /// What is said of it; `None` is lack of memory.
     #[tactic(auto, unfolding(crate::specs::Showing::fault_words))]
     pub(crate) fn words(self) -> Option<&'static str>
         ensures { option_map (λ words. words.now) result ≡ fault_words self }

@@ -17,7 +17,7 @@ pub(crate) fn tell_of_call<E: Sink>(errors: &mut E, call: &Call<'_>, words: &[u8
     let _ = errors.flush();
 }
 
-/// Tells what went wrong at the socket of a call, `None` being want of memory.
+/// Tells what went wrong at the socket of a call, `None` being lack of memory.
 pub(crate) fn tell_of_socket<E: Sink>(call: &Call<'_>, words: Option<&str>, errors: &mut E) -> Ended
     ensures { TellsOf call.now (option_map (λ w. w.now) words.entry) result (⟦<E as Watched>⟧.change errors.old errors.new) }
 {

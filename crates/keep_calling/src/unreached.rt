@@ -40,7 +40,7 @@ impl Unreached {
         }
     }
 
-    // What is said of it; `None` is want of memory.
+    // What is said of it; `None` is lack of memory.
     #[tactic(auto, unfolding(crate::specs::Reaching::unreached_words))]
     fn words(self) -> Option<&'static str>
         ensures { option_map (λ words. words.now) result ≡ unreached_words self }

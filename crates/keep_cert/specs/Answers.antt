@@ -9,7 +9,7 @@ abbrev pub ◌>>=◌ : {A B : Type 0} → Result A CertFault → (A → Result B
 (Ok x) >>= f = f x
 (Err e) >>= f = Err e
 
--- the call's fault is that of the definition, or want of memory
+-- the call's fault is that of the definition, or lack of memory
 abbrev pub Fails : {Y : Type 0} → CertFault → Result Y CertFault → Type 0
 Fails OutOfMemory answer = Unit {0}
 Fails BadHeader answer = answer ≡ Err BadHeader

@@ -91,7 +91,7 @@ impl Replayed {
         }
     }
 
-    // Notes why a change cannot be made, unless its entry was dropped. Want of memory is told.
+    // Notes why a change cannot be made, unless its entry was dropped. Lack of memory is told.
     fn note_refused(&mut self, at: usize, fault: ChangeFault) -> Result<(), AllocError>
         ensures { OnOk result ((fault ≢ ChangeFault.OutOfMemory) × (self.new ≡ record self.old { notes = self.old.notes ++ refused_note at fault })) }
     {

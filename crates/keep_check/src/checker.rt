@@ -21,7 +21,7 @@ use keep_tree::Forest;
 use std::alloc::{AllocError, Global};
 
 /// Whether what the certificate claims of the forest, from its own start on, holds; or the first test that it fails. The
-/// only error is want of memory.
+/// only error is lack of memory.
 ///
 /// Of runs it is the answer of a walk over the wake-ups that they mean: for each in turn, whether it is at or after the
 /// start and after the one before it, and whether the named pair forces it; then, for each entry by rising index, whether

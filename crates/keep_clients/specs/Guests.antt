@@ -138,7 +138,7 @@ module _ {T : Type 0} (remaining written : T → Option (List ℕ)) (calls : T �
   abbrev pub GoesOn : (List ℕ → Bool → Type 0) → ℕ → ℕ → Guest T → Guest T → Type 0
   GoesOn tells most now old new = GoesOnFrom tells most now old.stage old new
 
--- it is lost for want of memory, after one read: it was told nothing
+-- it is lost for lack of memory, after one read: it was told nothing
 pub record IsLost {T : Type 0} (written : T → Option (List ℕ)) (calls : T → Option (List Call)) (old new : Guest T) : Type 0 where
   pub tried : Tried
   pub logged : Logs (calls old.talk) (calls new.talk) (Got tried)

@@ -23,7 +23,7 @@ module _ (answer : Result Value RequestFault) (tree : Option Data) where
       let other : ¬ IsMemory e = λ m. (let both = sym is ∙ m in cc) in
       subst (λ (a : Result Value RequestFault). Gives view a (or_not_words tree)) (sym (malformed other)) (ap or_not_words (none other))
 
-  -- the tree that was read, or fails words, or want of memory where serde_json says so
+  -- the tree that was read, or fails words, or lack of memory where serde_json says so
   pub as_read : (r : Result Value Error) → IfOk r (λ v. tree ≡ Some (view v)) → IfErr r (λ e. ¬ IsMemory e → tree ≡ None) → IfOk r (λ v. answer ≡ Ok v) →
       IfErr r (λ e. IsMemory e → answer ≡ Err faults.OutOfMemory) → IfErr r (λ e. ¬ IsMemory e → answer ≡ Err faults.NotWords) → Gives view answer (or_not_words tree)
   as_read (Ok v) read none given memory malformed = subst (λ (a : Result Value RequestFault). Gives view a (or_not_words tree)) (sym given) (ap or_not_words read)

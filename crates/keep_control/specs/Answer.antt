@@ -1,4 +1,4 @@
--- The answer of a reader: a value, or the first fault. Definitions never answer want of memory, which only code can meet.
+-- The answer of a reader: a value, or the first fault. Definitions never answer lack of memory, which only code can meet.
 use Rattle.std.specs.Prelude.{◌≡◌, Result, Ok, Err}
 use Rattle.keep_control.specs.declared.fault.RequestFault.{RequestFault}
 use Rattle.keep_control.specs.declared.fault.RequestFault.TheVariants.{TooLong, NotWords, NoCommand, BadName, BadWhen, BadCredential, OutOfMemory}
@@ -9,7 +9,7 @@ abbrev pub ◌>>=◌ : {A B : Type 0} → Result A RequestFault → (A → Resul
 (Ok x) >>= f = f x
 (Err e) >>= f = Err e
 
--- the answer is this fault; of want of memory nothing is said
+-- the answer is this fault; of lack of memory nothing is said
 abbrev pub Fails : {Y : Type 0} → RequestFault → Result Y RequestFault → Type 0
 Fails OutOfMemory answer = Unit {0}
 Fails TooLong answer = answer ≡ Err TooLong

@@ -95,7 +95,7 @@ pub answer_fits :
 answer_fits h last p r event keeper taken long =
     last_fits h (moments_of (to_come p)) (shown r) event (keeper.open_round r refl).opened taken.within (waits_in_round r event taken) (answered_keeper h last p r event keeper taken) long
 
--- a fault of planning anew that is not too long is want of memory
+-- a fault of planning anew that is not too long is lack of memory
 pub only_memory : (g : Forest) (t : ℕ) (fault : StepFault) → PlanFails g t fault → (ReplanTooLong g t → ⊥) → fault ≡ OutOfMemory
 only_memory g t OutOfMemory fails fits = refl
 only_memory g t TooLong fails fits = absurd (fits fails)

@@ -9,7 +9,7 @@ use Rattle.keep_core.specs.Refusal.{refusal}
 use Rattle.keep_core.specs.State.{State}
 use Rattle.keep_core.specs.Step.{MayWant, Step, StepTooLong}
 
--- what an event gives: a step; or a refusal, which leaves the state. Want of memory may take the place of a step
+-- what an event gives: a step; or a refusal, which leaves the state. Lack of memory may take the place of a step
 abbrev pub Turn : State → Event → Result Output StepFault → State → Type 0
 Turn old event (Ok output) new = (refusal old event ≡ None) × Step old event output new
 Turn old event (Err TooLong) new = (refusal old event ≡ None) × (StepTooLong old event × (new ≡ old))

@@ -29,7 +29,7 @@ abbrev pub left_by : Round → List Event → List ℕ
 left_by round [] = round.unanswered
 left_by round (event ∷ events) = left_by (left round (of_entry event)) events
 
--- none is refused for want of memory
+-- none is refused for lack of memory
 abbrev pub NoneWants : List (Result Output StepFault) → Type 0
 NoneWants [] = Unit {0}
 NoneWants (result ∷ results) = (result ≢ Err OutOfMemory) × NoneWants results
@@ -40,7 +40,7 @@ AllTaken [] = Unit {0}
 AllTaken (Ok output ∷ results) = AllTaken results
 AllTaken (Err fault ∷ results) = ⊥
 
--- such answers are taken, want of memory aside; and where nobody is left, they close the round
+-- such answers are taken, lack of memory aside; and where nobody is left, they close the round
 abbrev pub ClosesLaw : Type 0
 ClosesLaw =
     (old new : State) (round : Round) (events : List Event) (results : List (Result Output StepFault)) → IsState old → old.round ≡ Some round → AnswerEach round events →
@@ -51,7 +51,7 @@ unfoldable pub answer_for : List Event → ℕ → Option Event
 answer_for [] i = None
 answer_for (event ∷ events) i = if of_entry event == i then Some event else answer_for events i
 
--- two orders of the same such answers end in equal states, want of memory aside. No entry has two answers; so "the same
+-- two orders of the same such answers end in equal states, lack of memory aside. No entry has two answers; so "the same
 -- answers" is "the same for each entry"
 abbrev pub OrderLaw : Type 0
 OrderLaw =

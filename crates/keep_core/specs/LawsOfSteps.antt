@@ -63,7 +63,7 @@ AskLaw =
     (old new : State) (event : Event) (asked : List ℕ) → IsState old → Turn old event (Ok (out.Ask asked)) new →
     (t : ℕ) × ((event ≡ Tick t) × IsAskedAt old t asked new)
 
--- an event gives one result and one state, want of memory aside
+-- an event gives one result and one state, lack of memory aside
 abbrev pub OnceLaw : Type 0
 OnceLaw =
     (old x y : State) (event : Event) (result other : Result Output StepFault) → result ≢ Err OutOfMemory → other ≢ Err OutOfMemory → Turn old event result x →

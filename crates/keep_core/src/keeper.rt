@@ -48,7 +48,7 @@ impl Model for Keeper {
 
 impl Keeper {
     /// A keeper of this forest, planned anew from `start`, which is its last moment. Refused, because the plan would have
-    /// more than 10,000,000 wake-ups or for want of memory, it hands the forest back as it was.
+    /// more than 10,000,000 wake-ups or for lack of memory, it hands the forest back as it was.
     pub fn new(alloc: Global, forest: Forest, start: Moment) -> Result<Keeper, (StepFault, Forest)>
         ensures opened { IfOk result (λ keeper. Replan (unplanned forest) start keeper) }
         ensures refused { IfErr result (λ refused. PlanFails forest start refused.0 × (refused.1 ≡ forest)) }

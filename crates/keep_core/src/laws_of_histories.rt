@@ -7,7 +7,7 @@ pub fn closes_law()
 {}
 
 /// The law of the order of answers: two orders of the same answers to one round, of entries that are waited for and one of
-/// each, end in equal states, want of memory aside.
+/// each, end in equal states, lack of memory aside.
 pub fn order_law()
     ensures { OrderLaw }
 {}

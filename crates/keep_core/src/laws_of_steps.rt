@@ -26,7 +26,7 @@ pub fn ask_law()
     ensures { AskLaw }
 {}
 
-/// The law of one answer: want of memory aside, an event gives one result, and leaves one state.
+/// The law of one answer: lack of memory aside, an event gives one result, and leaves one state.
 pub fn once_law()
     ensures { OnceLaw }
 {}

@@ -43,7 +43,7 @@ pub(crate) fn replan(
 }
 
 /// Shortens, in the forest, the needs that no plan from `at` can keep, notes them after those of before, and gives the needs
-/// as they were. Refused, which is for want of memory alone, the forest and the list are as they were.
+/// as they were. Refused, which is for lack of memory alone, the forest and the list are as they were.
 pub(crate) fn shorten(
     alloc: Global,
     forest: &mut Forest,

@@ -10,7 +10,7 @@ use keep_tree::Kind;
 use std::alloc::{AllocError, Global};
 use watch_machine::Event;
 
-/// The ends that were told in this boot, of the entries that an agent serves, by index. The only error is want of memory.
+/// The ends that were told in this boot, of the entries that an agent serves, by index. The only error is lack of memory.
 #[tactic(auto, unfolding(crate::specs::Ends::ends_of))]
 pub fn ends_of(alloc: Global, agent: &Agent, boot: &[u8]) -> Result<Vec<KnownEnd>, AllocError>
     ensures { IfOk result (λ ends. ends.items ≡ ends_of agent.now boot.now) }
@@ -83,7 +83,7 @@ fn kind_word(kind: Kind) -> &'static [u8]
 }
 
 /// The events that hand these ends to a Watch over this inventory: of each entry of which one was told, where its name, its kind and its
-/// credential are as they were then. The only error is want of memory.
+/// credential are as they were then. The only error is lack of memory.
 #[tactic(auto, using(crate::proofs::Gathered::events_none, crate::proofs::Gathered::events_more, crate::proofs::Gathered::events_all))]
 pub fn known_events(
     alloc: Global,

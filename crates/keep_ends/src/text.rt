@@ -7,7 +7,7 @@ use std::alloc::{AllocError, Global};
 
 /// The text of a file that keeps these ends: a line for each. There is no credential in it.
 ///
-/// The only error is want of memory.
+/// The only error is lack of memory.
 #[tactic(auto, using(crate::proofs::Lines::text_none, crate::proofs::Lines::text_more, crate::proofs::Lines::text_all))]
 pub fn ends_text(alloc: Global, ends: &[KnownEnd]) -> Result<Vec<u8>, AllocError>
     ensures { IfOk result (λ text. text.items ≡ ends_text ends.now) }
@@ -23,7 +23,7 @@ pub fn ends_text(alloc: Global, ends: &[KnownEnd]) -> Result<Vec<u8>, AllocError
 
 /// The ends of this boot that a text keeps. A line that keeps none, or one of another boot, counts for nothing.
 ///
-/// The only error is want of memory.
+/// The only error is lack of memory.
 #[tactic(auto, unfolding(crate::specs::Ends::ends_in))]
 pub fn read_ends(alloc: Global, boot: &[u8], text: &[u8]) -> Result<Vec<KnownEnd>, AllocError>
     ensures { IfOk result (λ ends. ends.items ≡ ends_in boot.now text.now) }

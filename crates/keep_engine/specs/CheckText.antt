@@ -22,7 +22,7 @@ no_line es (NotForced k) = numbered (codes "no not-forced ") k
 no_line es (NotKept i) = not_kept (entry_at es i).name
 no_line es NotUnkeepable = codes "no not-unkeepable\n"
 
--- the line of a text that is no certificate: the fault of the first line at fault; want of memory has none
+-- the line of a text that is no certificate: the fault of the first line at fault; lack of memory has none
 unfoldable pub unreadable_line : CertFault → Option (List ℕ)
 unreadable_line BadHeader = Some (codes "unreadable bad-header\n")
 unreadable_line (BadLine n) = Some (numbered (codes "unreadable bad-line ") n)

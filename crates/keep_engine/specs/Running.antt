@@ -18,7 +18,7 @@ use Rattle.keep_report.specs.Told.{Reports}
 abbrev pub Texts : Type 1
 Texts = Forest → Exit → List ℕ → Type 0
 
--- the reasons for which it writes none, but for a text that is no inventory, and want of memory
+-- the reasons for which it writes none, but for a text that is no inventory, and lack of memory
 abbrev pub Halts : Type 1
 Halts = Forest → Stop → Type 0
 

@@ -25,7 +25,7 @@ pub(crate) fn no_line(alloc: Global, forest: &Forest, cause: Cause) -> Result<Te
     }
 }
 
-/// The line of a text that is no certificate: the fault of its first line at fault. Want of memory has no line.
+/// The line of a text that is no certificate: the fault of its first line at fault. Lack of memory has no line.
 #[tactic(auto, unfolding(crate::specs::CheckText::unreadable_line))]
 pub(crate) fn unreadable_line(alloc: Global, fault: CertFault) -> Result<Text, Stop>
     ensures line { IfOk result (λ line. unreadable_line fault ≡ Some line) }

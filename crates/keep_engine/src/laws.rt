@@ -32,7 +32,7 @@ pub fn no_secret_shows()
 
 /// The law of secrecy over bytes. Of two good inventories whose documents differ in the keys `secret` and `lease_id` and
 /// their values alone, and with the same other arguments, each run writes a front of one text on `out`; and where no device
-/// and no want of memory cuts them short, the runs have one exit, write that text, and report by one fault line, or none. So it
+/// and no lack of memory cuts them short, the runs have one exit, write that text, and report by one fault line, or none. So it
 /// is of `rehearse` too, whatever its FAULT words make the broker do.
 pub fn secrets_change_no_run()
     ensures ends { EndsSecrecy }

@@ -30,7 +30,7 @@ portless l t r heard is = ap (step l t) is ∙ port_unread l t r
 pub may_send : (l : Table) (t : ℕ) (r : Request) (done : Served) → Says t (step l t r).answer done → MaySend done
 may_send l t r done says = handled_sent l t (Ok r) (step l t r).table done (says, refl)
 
--- what is received is no want of memory
+-- what is received is no lack of memory
 received_some : (sent : Served) → ◌≡◌ {A = Result Reply ExchangeFault} (Err OutOfMemory) (received sent) → ⊥
 received_some served.Dropped e = cc
 received_some (served.Reply reply) e = by_length (nat_le (length (reply_text reply)) MOST_MESSAGE) reply e
@@ -86,7 +86,7 @@ given_up old table t r heard wire result is after none gives =
     } in
     subst (λ (x : Result Reply ExchangeFault). Exchanges old t r x new) (sym gives) left
 
--- a fault that is want of memory
+-- a fault that is lack of memory
 pub is_memory : (result : Result Reply ExchangeFault) (fault : ExchangeFault) → IsErr result → IsErrAnd result (λ e. e ≡ fault) → fault ≡ OutOfMemory → result ≡ Err OutOfMemory
 is_memory (Ok x) fault wrong made is = let no' : false ≡ true = wrong in cc
 is_memory (Err e) fault wrong made is = ap (λ (f : ExchangeFault). Err f) (made ∙ is)

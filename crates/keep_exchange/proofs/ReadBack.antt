@@ -15,7 +15,7 @@ use Rattle.vault_http.specs.RoundTrip.{ReadsBackReply, is_sent}
 use Rattle.vault_http.specs.RoundTripRequest.{IsSendable, IsWritable, ReadsBackRequest, without_port}
 use Rattle.vault_http.specs.Written.{reply_text, request_text}
 
--- the message, or want of memory
+-- the message, or lack of memory
 abbrev pub Reads : {A : Type 0} → A → Result A HttpFault → Type 0
 Reads message (Ok x) = x ≡ message
 Reads message (Err fault) = fault ≡ https.OutOfMemory
@@ -87,7 +87,7 @@ reply_read source now r law sent short is none result count said =
     read_back _ (IsReply 1048576) source.bytes (Some now.bytes) (reads_needed source) (reads_needed now) r
     (few_reads source.bytes (reply_text r) source.pieces is none short) one result count said
 
--- want of memory, as the fault of an exchange
+-- lack of memory, as the fault of an exchange
 pub memory_of : {X : Type 0} (fault : HttpFault) → fault ≡ https.OutOfMemory → (result : Result X ExchangeFault) → IsErrAnd result (λ e. e ≡ exchange_fault fault) → IsOkUnless result OutOfMemory
 memory_of fault is (Ok x) made = tt
 memory_of fault is (Err e) made = made ∙ ap exchange_fault is

@@ -30,7 +30,7 @@ good : (text : List ℕ) (v : Served) → read_served text ≡ Ok v → (invento
 unfolding inventory_for_good
 good text v reads = (_, ap (λ read. read >>= λ (w : Served). Ok (with_needs w.inventory (needs_for_good w.inventory.forest (marks w.notes)))) reads)
 
--- it has no fault but want of memory
+-- it has no fault but lack of memory
 pub only_memory : (text : List ℕ) (v : Served) (fault : InvFault) → read_served text ≡ Ok v → Fails fault (inventory_for_good text) → start_of_inventory fault ≡ OutOfMemory
 only_memory text v inventories.OutOfMemory reads h = refl
 only_memory text v inventories.NotToml reads h = let g = good text v reads in absurd (is_no_fault g.0 inventories.NotToml (sym g.1 ∙ h))

@@ -34,7 +34,7 @@ file_line why = line Alert (codes "file") (words.Text why ∷ [])
 unfoldable pub reread_lines : Reread → List Line
 reread_lines reread = copy_lines reread.unkept ++ (reread_line ∷ map note_line reread.notes.items)
 
--- and of one that is not served, but for want of memory
+-- and of one that is not served, but for lack of memory
 abbrev pub fault_lines : Option (List ℕ) → List Line
 fault_lines None = []
 fault_lines (Some why) = file_line why ∷ []

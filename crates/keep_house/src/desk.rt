@@ -25,7 +25,7 @@ use std::alloc::{AllocError, Global};
 use std::marker::Model;
 use watch_machine::{Notes, Operation, Request};
 
-/// How lines are written, those that wait, and what was said last of each entry. Want of memory costs the line for which it is
+/// How lines are written, those that wait, and what was said last of each entry. Lack of memory costs the line for which it is
 /// wanting: that is dropped and counted.
 #[derive(Debug, Drop)]
 pub struct Desk {
@@ -43,7 +43,7 @@ impl Model for Desk {
 }
 
 impl Desk {
-    /// A desk for so many entries, at which nothing was said. The only error is want of memory.
+    /// A desk for so many entries, at which nothing was said. The only error is lack of memory.
     pub fn new(alloc: Global, form: Form, count: u32) -> Result<Desk, AllocError>
         ensures { IfOk result (λ desk. desk ≡ begun_desk form count) }
     {

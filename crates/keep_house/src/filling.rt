@@ -19,7 +19,7 @@ pub const MOST_SECRET: usize = 4096;
 
 /// The rows with what their files hold. A path that does not begin with `/` starts at `folder`, which ends in one, or is empty.
 ///
-/// The error is the first row's whose file gives nothing, or want of memory.
+/// The error is the first row's whose file gives nothing, or lack of memory.
 pub(crate) fn fill_all<I: Inputs>(
     alloc: Global,
     rows: &[Row],
@@ -61,7 +61,7 @@ fn fill<I: Inputs>(
 
 /// The credential that the file at a path holds, which starts at `folder` where it does not begin with `/`.
 ///
-/// The error is that it gives none, or want of memory.
+/// The error is that it gives none, or lack of memory.
 pub(crate) fn credential_at<I: Inputs>(
     alloc: Global,
     folder: &[u8],

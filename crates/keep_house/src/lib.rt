@@ -3,7 +3,7 @@
 //! a restart.
 //!
 //! The contract for the layers above: [`read_to_serve`] gives what is served by the text of an inventory, or the first fault of the
-//! start (`specs/Reading`, `specs/Starts`); a [`Desk`] says what happens to the agent, line by line (`specs/Desks`), and want of memory
+//! start (`specs/Reading`, `specs/Starts`); a [`Desk`] says what happens to the agent, line by line (`specs/Desks`), and lack of memory
 //! costs the line alone; and a [`House`] gives each neighbour its bounded part of a turn: [`House::attend`] what each is sent
 //! (`specs/Houses`), [`House::next_change`] carries out what a client asks for, and [`House::settle_given`] tells what came of a change
 //! (`specs/Commands`); [`House::keep_ends`] what the file of the ends keeps (`specs/Ends`), and [`House::hear_next`] what is said of the

@@ -23,7 +23,7 @@ pub(crate) fn fresh_mark() -> Mark
     }
 }
 
-/// The marks of so many entries of which nothing was said yet. The only error is want of memory.
+/// The marks of so many entries of which nothing was said yet. The only error is lack of memory.
 pub(crate) fn fresh_marks(alloc: Global, count: u32) -> Result<Vec<Mark>, AllocError>
     ensures { IfOk result (λ marks. marks.items ≡ replicate count fresh_mark) }
 {

@@ -65,7 +65,7 @@ fn names_no_file(notes: &[Note]) -> bool
     notes.iter().all(|note| note.file.is_none())
 }
 
-// What is served by a text that can be read. The only error is want of memory.
+// What is served by a text that can be read. The only error is lack of memory.
 #[tactic(auto, using(crate::proofs::Read::only_memory))]
 fn serve_text(alloc: Global, text: &[u8]) -> Result<Inventory, StartFault>
     requires { (v : Served) × (read_served text.now ≡ Ok v) }

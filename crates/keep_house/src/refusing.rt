@@ -14,7 +14,7 @@ use keep_words::push_number;
 use std::alloc::{AllocError, Global};
 
 /// What is said of a start that is refused, a line with the program's name in front: the entry, the key and the remedy. `forest` is
-/// that of the inventory. The only error is want of memory.
+/// that of the inventory. The only error is lack of memory.
 #[tactic(auto, using(crate::proofs::Pieces::four_pieces))]
 pub fn line_of_fault(
     alloc: Global,

@@ -54,7 +54,7 @@ fn texts_of(
     Ok((notice, text))
 }
 
-/// The line that tells how many were dropped; nothing where none were. The only error is want of memory.
+/// The line that tells how many were dropped; nothing where none were. The only error is lack of memory.
 pub(crate) fn notice_of(alloc: Global, stamp: &Stamp, untold: u64) -> Result<Vec<u8>, AllocError>
     ensures { IfOk result (λ notice. TellsDropped stamp.now.form stamp.now.moment untold notice.items) }
 {

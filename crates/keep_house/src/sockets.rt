@@ -22,7 +22,7 @@ pub(crate) fn say_need(alloc: Global, stamp: &Stamp, name: &[u8], until: u64, ro
     }
 }
 
-// Until when an entry is needed. The only error is want of memory, here and in what follows.
+// Until when an entry is needed. The only error is lack of memory, here and in what follows.
 fn need_word(alloc: Global, until: u64) -> Result<Word, AllocError>
     ensures { IfOk result (λ w. w ≡ need_word until) }
 {

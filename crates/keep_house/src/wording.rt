@@ -14,7 +14,7 @@ use keep_tree::Forest;
 use std::alloc::{AllocError, Global};
 use watch_machine::{Operation, Request};
 
-/// A text as a word. The only error is want of memory, here and in all that follows.
+/// A text as a word. The only error is lack of memory, here and in all that follows.
 pub(crate) fn text_word(alloc: Global, text: &[u8]) -> Result<Word, AllocError>
     ensures { IfOk result (λ w. w ≡ kinds.Text text.now) }
 {

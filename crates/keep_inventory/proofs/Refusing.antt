@@ -1,4 +1,4 @@
--- Refusing: a forest that refuses an entry never names want of memory, so that this refusal is told.
+-- Refusing: a forest that refuses an entry never names lack of memory, so that this refusal is told.
 use Rattle.std.proofs.Common.{◌≡◌, ◌≢◌, ℕ, Bool, true, false, cond, List, length, Option, Some, None, IfSome, IsOkUnless, Result, Ok, Err, refl, sym, ap, ◌∙◌, subst}
 use Rattle.keep_tree.specs.declared.entry.Entry.{Entry}
 use Rattle.keep_tree.specs.declared.fault.TreeFault.{TreeFault}

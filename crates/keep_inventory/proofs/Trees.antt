@@ -28,7 +28,7 @@ tree_of_text bytes text same utf8 =
 abbrev Tree : Type 0
 Tree = BTreeMap (String Global) Value
 
--- the tree that was read, or no TOML, or want of memory where the reader says so
+-- the tree that was read, or no TOML, or lack of memory where the reader says so
 pub as_read : (answer : Result Tree InvFault) (tree : Option Members) (r : Result Tree Error) → IfOk r (λ t. tree ≡ Some (table_view t)) → IfErr r (λ e. ¬ IsMemory e → tree ≡ None) →
     IfOk r (λ t. answer ≡ Ok t) → IfErr r (λ e. (IsMemory e × (answer ≡ Err OutOfMemory)) ⊎ ((¬ IsMemory e) × (answer ≡ Err NotToml))) → Gives table_view answer (or_not_toml tree)
 as_read answer tree (Ok t) read none given said = subst (λ (a : Result Tree InvFault). Gives table_view a (or_not_toml tree)) (sym given) (ap or_not_toml read)

@@ -17,7 +17,7 @@ pub struct Follower {
 }
 
 impl Follower {
-    /// One for whom nothing waits yet. The only error is want of memory.
+    /// One for whom nothing waits yet. The only error is lack of memory.
     pub fn new(alloc: Global, alerts_alone: bool) -> Result<Follower, AllocError>
         ensures { IfOk result (λ f. (f.alerts_alone ≡ alerts_alone) × (f.room ≡ record { bytes = []; room = FOLLOWER_ROOM; is_begun = false; untold = 0; dropped = 0 })) }
     {

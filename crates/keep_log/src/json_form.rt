@@ -6,7 +6,7 @@ use crate::text_form::push_date;
 use keep_words::push_number;
 use std::alloc::{AllocError, Global};
 
-/// The line as an object of JSON, with its line feed. The only error is want of memory.
+/// The line as an object of JSON, with its line feed. The only error is lack of memory.
 pub fn json_of_line(alloc: Global, line: &LogLine) -> Result<Vec<u8>, AllocError>
     ensures { IfOk result (λ text. IsLineJson line.now.moment line.now.level line.now.event.now line.now.words.items text.items) }
 {

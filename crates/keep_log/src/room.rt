@@ -36,7 +36,7 @@ impl Model for LogRoom {
 }
 
 impl LogRoom {
-    /// A room for so many bytes, in which nothing waits. The only error is want of memory.
+    /// A room for so many bytes, in which nothing waits. The only error is lack of memory.
     pub fn new(alloc: Global, room: usize) -> Result<LogRoom, AllocError>
         ensures { IfOk result (λ r. r ≡ record { bytes = []; room = room; is_begun = false; untold = 0; dropped = 0 }) }
     {
@@ -96,7 +96,7 @@ impl LogRoom {
         }
     }
 
-    /// Counts a line that could not be made, for want of memory, as dropped.
+    /// Counts a line that could not be made, for lack of memory, as dropped.
     pub fn miss(&mut self)
         ensures { self.new ≡ dropping 1 self.old }
     {

@@ -6,7 +6,7 @@ use keep_moment::{Moment, date_text};
 use keep_words::push_number;
 use std::alloc::{AllocError, Global};
 
-/// The line for people, with its line feed. The only error is want of memory.
+/// The line for people, with its line feed. The only error is lack of memory.
 pub fn text_of_line(alloc: Global, line: &LogLine) -> Result<Vec<u8>, AllocError>
     ensures { IfOk result (λ text. IsLineText line.now.moment line.now.level line.now.event.now line.now.words.items text.items) }
 {

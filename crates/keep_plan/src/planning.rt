@@ -18,7 +18,7 @@ use std::alloc::Global;
 /// The decision for the needs of the forest from `start` on. `Keep`: the plan's moments are least and latest, each with its
 /// force; with their Asks they keep, by the fewest requests at these moments. `Unkeepable`: the pair of [`shortfall`], and
 /// no plan keeps. `TooLong`: some plan keeps, and each that does has more than [`LIMIT`](crate::LIMIT) wake-ups. The only
-/// error is want of memory.
+/// error is lack of memory.
 ///
 /// Source: Vault, "Lease, renew, and revoke"; Vault, "Tokens".
 pub fn plan(alloc: Global, forest: &Forest, start: Moment) -> Result<Decision, PlanFault>

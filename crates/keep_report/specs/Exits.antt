@@ -35,7 +35,7 @@ exit_of (stops.Broker name) = exits.Device
 exit_of (stops.Line number) = exits.Device
 exit_of stops.Memory = exits.Memory
 
--- a fault of a layer below, of which each tells want of memory apart
+-- a fault of a layer below, of which each tells lack of memory apart
 abbrev pub stop_of_inventory : InvFault → Stop
 stop_of_inventory inventory.OutOfMemory = stops.Memory
 stop_of_inventory fault = stops.Inventory fault

@@ -15,7 +15,7 @@ use std::alloc::{AllocError, Global};
 /// one wake-up asks are judged by the ends before it.
 ///
 /// Refused is the first wake-up that is before `start`, less than the one before it, or asks past the entries; the other
-/// answer is want of memory. A wake-up costs one pass over the entries.
+/// answer is lack of memory. A wake-up costs one pass over the entries.
 ///
 /// Source: Vault, "Lease, renew, and revoke"; Vault, "Tokens".
 pub fn ends_after(

@@ -1,4 +1,4 @@
--- In a run, whatever the broker does, the keeper refuses nothing that the loop hands it, but for want of memory.
+-- In a run, whatever the broker does, the keeper refuses nothing that the loop hands it, but for lack of memory.
 use Rattle.std.specs.Prelude.{◌≢◌}
 use Rattle.std.proofs.Common.{◌≡◌, ℕ, ◌+◌, ◌<◌, ◌≤◌, true, false, List, [], ◌∷◌, ◌++◌, Option, Some, None, Result, Ok, Err, drop, get_or, length, map, nat_le, nat_lt, refl, sym, ap, ◌∙◌, subst, arith}
 use Rattle.std.proofs.lemmas.Bool.{cond-true, cond-false}
@@ -119,7 +119,7 @@ pub answer_taken :
     (result : Result Output StepFault) (new : State) → Turn s event result new → IsTaken result
 answer_taken s i event within waits of span = free_taken s event (answer_free s i event within waits of span) (answer_short s event of.0)
 
--- what is refused for want of memory alone stops a run as just that
+-- what is refused for lack of memory alone stops a run as just that
 pub taken_stop : (fault : StepFault) → IsTaken (Err fault) → IsPlanFault fault × (stop_of fault ≡ stops.Memory)
 taken_stop OutOfMemory is = (tt, refl)
 taken_stop TooLong is = absurd is
@@ -129,7 +129,7 @@ taken_stop NotAsked is = absurd is
 taken_stop BadIndex is = absurd is
 taken_stop OutOfRange is = absurd is
 
--- a new need is refused because the plan would be too long, or for want of memory
+-- a new need is refused because the plan would be too long, or for lack of memory
 pub need_fault :
     (s : State) (i until : ℕ) (fault : StepFault) (new : State) → i < length s.forest.entries → until ≤ LAST → s.round ≡ None → Turn s (Need i until) (Err fault) new → IsPlanFault fault
 unfolding refusal

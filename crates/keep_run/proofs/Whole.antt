@@ -123,7 +123,7 @@ stands inventory w t rest next r awaits m i from later needed =
 
 -- ---- the next tick
 
--- an event that may give a step is refused for want of memory alone
+-- an event that may give a step is refused for lack of memory alone
 taken_turn : (old new other : State) (event : Event) (output : Output) → Turn old event (Ok output) other → (result : Result Output StepFault) → Turn old event result new → IsTaken result
 taken_turn old new other event output known (Ok x) turn = tt
 taken_turn old new other event output known (Err OutOfMemory) turn = tt

@@ -76,13 +76,13 @@ EndLaw =
 
 -- ---- no refusals
 
--- a step that is refused at most for want of memory
+-- a step that is refused at most for lack of memory
 abbrev pub IsTaken : Result Output StepFault → Type 0
 IsTaken (Ok output) = Unit {0}
 IsTaken (Err OutOfMemory) = Unit {0}
 IsTaken (Err fault) = ⊥
 
--- whatever the broker does, the keeper refuses neither the next tick nor the next answer of a round, but for want of memory
+-- whatever the broker does, the keeper refuses neither the next tick nor the next answer of a round, but for lack of memory
 abbrev pub NeverRefusedLaw : Type 0
 NeverRefusedLaw =
     (inventory : Inventory) (faults : List NumberedFault) (start port : ℕ) (short : List ShortNeed) (opening final : World) (beats : List Beat) (t : ℕ) → start ≤ LAST → IsOpening inventory faults start short opening →

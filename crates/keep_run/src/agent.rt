@@ -91,7 +91,7 @@ impl Agent {
     }
 
     /// Asks the broker to renew an entry, and gives its reply; `None` where no reply came, or none that could be read. The only
-    /// error is want of memory.
+    /// error is lack of memory.
     pub(crate) fn ask<E: Exchange>(
         &self,
         alloc: Global,

@@ -69,7 +69,7 @@ pub fn stands_law()
 {}
 
 /// The law of a planned rehearsal: where [`plan`](keep_plan::plan) keeps with at most 100,000 wake-ups, the rehearsal without
-/// FAULT words comes to its end but for a writer that fails and want of memory, and makes exactly these wake-ups.
+/// FAULT words comes to its end but for a writer that fails and lack of memory, and makes exactly these wake-ups.
 pub fn planned_rehearsal_law()
     ensures { PlannedRehearsalLaw }
 {}

@@ -23,7 +23,7 @@ gives_err (Bad key) answer e = e
 gives_err (Tree fault) answer e = e
 gives_err OutOfMemory answer e = tt
 
--- a fault of what is read, or want of memory
+-- a fault of what is read, or lack of memory
 fails_with : (f : Result Members InvFault → Result Row TableFault) (fault : InvFault) (answer : Result Members InvFault) → ((other : InvFault) → f (Err other) ≡ Err (table_fault other)) → Fails fault answer → GivesOr (Err (table_fault fault)) (f answer)
 fails_with f inventories.NotToml answer is fails = sym (ap f fails ∙ is inventories.NotToml)
 fails_with f (inventories.MissingKey i k) answer is fails = sym (ap f fails ∙ is (inventories.MissingKey i k))

@@ -20,7 +20,7 @@ use Rattle.keep_state.specs.Recovers.{IsAside, IsPutAside, LeftByStart, damage_o
 use Rattle.keep_state.specs.Settles.{IsCopiedTo}
 use Rattle.keep_state.specs.States.{Kept, book_in, store_in}
 
--- want of memory is told as such
+-- lack of memory is told as such
 abbrev pub unheld : DiskFault → OpenFault
 unheld disks.OutOfMemory = OutOfMemory
 unheld fault = Disk fault

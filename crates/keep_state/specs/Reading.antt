@@ -22,7 +22,7 @@ IsWhyUnread path s (ForOthers mode) = (file : File) × (s.seen path ≡ Some fil
 IsWhyUnread path s (Disk fault) = Unit {0}
 IsWhyUnread path s OutOfMemory = Unit {0}
 
--- want of memory is told as such
+-- lack of memory is told as such
 abbrev pub unread : DiskFault → ReadFault
 unread disks.OutOfMemory = OutOfMemory
 unread fault = Disk fault

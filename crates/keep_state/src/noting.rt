@@ -7,7 +7,7 @@ use keep_notes::note_line;
 use std::alloc::{AllocError, Global};
 
 /// The lines about these changes of a journal that were not made again, by the places of their records, in an inventory of that margin
-/// in seconds. A note of no change has none. The only error is want of memory.
+/// in seconds. A note of no change has none. The only error is lack of memory.
 #[tactic(auto, using(crate::proofs::Noticed::lines_none, crate::proofs::Noticed::lines_more, crate::proofs::Noticed::lines_all))]
 pub(crate) fn note_lines(
     alloc: Global,

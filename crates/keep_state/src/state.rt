@@ -166,7 +166,7 @@ impl<'a, D: Disk> State<'a, D> {
     }
 
     /// The inventory that is to be served from now on, where a rebuilding is due: the first of the changes that wait for it came five
-    /// seconds ago. The only error is want of memory, and only there.
+    /// seconds ago. The only error is lack of memory, and only there.
     pub fn due(&self, now: Millis) -> Result<Option<Inventory>, AllocError>
         ensures given { IfOk result (IsGiven (waiting_in self.now.keeper) now (book_in self.now).text) }
         ensures early { is_due (waiting_in self.now.keeper) now ≡ false → result ≡ Ok None }
@@ -184,7 +184,7 @@ impl<'a, D: Disk> State<'a, D> {
         self.keeper.rebuilt();
     }
 
-    /// The inventory that is served now. The only error is want of memory.
+    /// The inventory that is served now. The only error is lack of memory.
     pub fn inventory(&self) -> Result<Inventory, AllocError>
         ensures { IfOk result (λ inventory. inventory_for_good (book_in self.now).text ≡ Ok inventory) }
     {
@@ -212,7 +212,7 @@ impl<'a, D: Disk> State<'a, D> {
         self.keeper.store().book().text()
     }
 
-    /// The records of the journal, in order. The only error is want of memory.
+    /// The records of the journal, in order. The only error is lack of memory.
     pub fn records(&self) -> Result<Vec<Record>, AllocError>
         ensures { IfOk result (λ records. records.items ≡ records_in (lines_in (store_in self.now))) }
     {
@@ -234,7 +234,7 @@ impl<'a, D: Disk> State<'a, D> {
         self.paths
     }
 
-    /// The lines about these changes of the journal that were not made again. The only error is want of memory.
+    /// The lines about these changes of the journal that were not made again. The only error is lack of memory.
     pub fn note_lines(&self, notes: &[Note]) -> Result<Vec<Text>, AllocError>
         ensures { IfOk result (λ lines. lines.items ≡ note_lines (book_in self.now).file.margin (records_in (lines_in (store_in self.now))) notes.now) }
     {

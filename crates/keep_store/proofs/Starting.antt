@@ -16,7 +16,7 @@ pub no_memory : (file : Option (List ℕ)) → IsFaultOf file OutOfMemory
 no_memory None = tt
 no_memory (Some bytes) = tt
 
--- the fault of the file, or want of memory
+-- the fault of the file, or lack of memory
 pub or_memory : (file : Option (List ℕ)) (fault why : FileFault) → IsFaultOf file fault → (why ≡ fault) ⊎ (why ≡ OutOfMemory) → IsFaultOf file why
 or_memory file fault why is (inl same) = subst (IsFaultOf file) (sym same) is
 or_memory file fault why is (inr same) = subst (IsFaultOf file) (sym same) (no_memory file)

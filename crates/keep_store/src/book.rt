@@ -144,7 +144,7 @@ impl Book {
         })
     }
 
-    /// The inventory that is handed to a watch. The only error is want of memory.
+    /// The inventory that is handed to a watch. The only error is lack of memory.
     pub fn inventory(&self, alloc: Global) -> Result<Inventory, AllocError>
         ensures { IfOk result (λ inventory. inventory_for_good self.now.text ≡ Ok inventory) }
     {
@@ -167,7 +167,7 @@ fn read_file(alloc: Global, bytes: &[u8]) -> Result<File, FileFault>
     }
 }
 
-// The only error is want of memory.
+// The only error is lack of memory.
 fn file_with(alloc: Global, bytes: &[u8], served: &Served) -> Result<File, AllocError>
     ensures { IfOk result (λ file. file ≡ file_of bytes.now served.now) }
 {

@@ -14,7 +14,7 @@ use keep_journal::Journal;
 use keep_moment::Text;
 use std::alloc::{AllocError, Global};
 
-/// How many lines of a journal write no record, as no command has made them. The only error is want of memory.
+/// How many lines of a journal write no record, as no command has made them. The only error is lack of memory.
 pub fn count_damaged(alloc: Global, journal: &Journal<'_>) -> Result<usize, AllocError>
     ensures { IfOk result (λ count. count ≡ length (lines_of journal.now) - length (records_in (lines_of journal.now))) }
 {

@@ -8,7 +8,7 @@ use keep_tree::MAX_DEPTH;
 use std::alloc::{AllocError, Global};
 
 /// The rows that are handed to a watch: with what their files have given, and without those whose file has given nothing yet and all
-/// under them. The only error is want of memory.
+/// under them. The only error is lack of memory.
 #[tactic(auto, unfolding(crate::specs::Handed::handed))]
 pub(crate) fn handed(alloc: Global, secrets: &[Secret], rows: &Rows) -> Result<Rows, AllocError>
     ensures { IfOk result (λ left. left ≡ handed secrets.now rows.now) }

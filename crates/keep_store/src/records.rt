@@ -5,7 +5,7 @@ use keep_change::{Record, read_record};
 use keep_moment::Text;
 use std::alloc::{AllocError, Global};
 
-/// The records that lines write, without the lines that write none. The only error is want of memory.
+/// The records that lines write, without the lines that write none. The only error is lack of memory.
 #[tactic(auto, using(crate::proofs::Lists::records_none, crate::proofs::Lists::record_found, crate::proofs::Lists::record_not, crate::proofs::Lists::records_all))]
 pub(crate) fn records_in(alloc: Global, lines: &[Text]) -> Result<Vec<Record>, AllocError>
     ensures { IfOk result (λ records. records.items ≡ records_in lines.now) }

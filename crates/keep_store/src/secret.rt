@@ -26,7 +26,7 @@ impl fmt::Debug for Secret {
 }
 
 impl Secret {
-    /// The same once more. The only error is want of memory.
+    /// The same once more. The only error is lack of memory.
     pub fn copy(&self) -> Result<Secret, AllocError>
         ensures { IfOk result (λ secret. secret ≡ self.now) }
     {
@@ -38,7 +38,7 @@ impl Secret {
     }
 }
 
-/// The same once more. The only error is want of memory.
+/// The same once more. The only error is lack of memory.
 pub(crate) fn copy_secrets(alloc: Global, secrets: &[Secret]) -> Result<Vec<Secret>, AllocError>
     ensures { IfOk result (λ copies. copies.items ≡ secrets.now) }
 {

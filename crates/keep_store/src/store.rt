@@ -57,7 +57,7 @@ impl<'a> Store<'a> {
         self.journal.records()
     }
 
-    /// The records that the lines write, in order. The only error is want of memory.
+    /// The records that the lines write, in order. The only error is lack of memory.
     pub fn records(&self) -> Result<Vec<Record>, AllocError>
         ensures { IfOk result (λ records. records.items ≡ records_in (lines_in self.now)) }
     {
@@ -158,7 +158,7 @@ impl<'a> Store<'a> {
         replace(disk, copy, FILE_MODE, bytes)
     }
 
-    /// The inventory that is to be served. The only error is want of memory.
+    /// The inventory that is to be served. The only error is lack of memory.
     pub fn inventory(&self) -> Result<Inventory, AllocError>
         ensures { IfOk result (λ inventory. inventory_for_good (book_of self.now).text ≡ Ok inventory) }
     {

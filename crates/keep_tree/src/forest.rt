@@ -183,7 +183,7 @@ impl Forest {
     }
 
     /// Appends the entry and gives its index. A refused entry is dropped and the forest stays as it was; the answer is
-    /// the first refusal in the order of [`TreeFault`], and want of memory only where none of them applies.
+    /// the first refusal in the order of [`TreeFault`], and lack of memory only where none of them applies.
     pub fn push(&mut self, entry: Entry) -> Result<u32, TreeFault>
         ensures taken { IfOk result (λ i. (refusal self.old entry ≡ None) × (i ≡ length self.old.entries)
             × (self.new ≡ record self.old { entries = self.old.entries ++ entry ∷ [] })) }

@@ -156,7 +156,7 @@ impl<'a> Keeper<'a> {
     }
 
     /// The inventory that is to be served from now on, where a rebuilding is due: the first of the changes that wait for it came five
-    /// seconds ago. The only error is want of memory, and only there.
+    /// seconds ago. The only error is lack of memory, and only there.
     pub fn due(&self, now: Millis) -> Result<Option<Inventory>, AllocError>
         ensures given { IfOk result (IsGiven (waiting_in self.now) now (book_of (store_of self.now)).text) }
         ensures early { is_due (waiting_in self.now) now ≡ false → result ≡ Ok None }

@@ -26,7 +26,7 @@ pub enum Room<'a> {
 }
 
 impl<'a> Room<'a> {
-    /// The path of the file. The only error is want of memory.
+    /// The path of the file. The only error is lack of memory.
     fn path(self, alloc: Global) -> Result<String, AllocError> {
         match self {
             Room::Folder(folder) => Ok(format!(in alloc; "{folder}/ends")?),
@@ -47,7 +47,7 @@ pub fn folder_of(file: &str) -> &str {
 }
 
 /// The file of the ends in this room; `None` where there is no room for it, or no id of this boot, which the desk is told. The only
-/// error is want of memory.
+/// error is lack of memory.
 pub fn ends_file<'a, R: Files<File = File> + AllocGlobal>(
     rt: &'a R,
     room: Option<Room<'_>>,
@@ -83,7 +83,7 @@ fn boot_id<R: Files<File = File> + AllocGlobal>(
 }
 
 /// The events that hand the ends of this boot that a file keeps to an agent of this inventory. Where they cannot be read the desk is
-/// told, and there are none. The only error is want of memory.
+/// told, and there are none. The only error is lack of memory.
 pub fn taken_over<R: Files<File = File> + AllocGlobal>(
     alloc: Global,
     file: &mut EndsFile<SystemDisk<'_, R>>,

@@ -273,7 +273,7 @@ struct Start<'a, R: Files<File = File> + AllocGlobal> {
     said: Vec<Said>,
 }
 
-/// Serves it. The only error is want of memory at the start.
+/// Serves it. The only error is lack of memory at the start.
 fn run<'a, R>(
     rt: &'a R,
     served: &Served<'_>,

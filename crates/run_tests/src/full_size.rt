@@ -1,5 +1,5 @@
 //! The whole way at its full size: an inventory of as many entries as there may be, and a certificate of as many lines. No
-//! contract forbids a call to give up for want of memory past some size: these tests would see it.
+//! contract forbids a call to give up for lack of memory past some size: these tests would see it.
 
 use crate::margins::margins;
 use agent_tests::moments::moment;

@@ -98,7 +98,7 @@ pub record IsHeadedRequest (max : ℕ) (bytes : List ℕ) (answer : Result Reque
 abbrev pub IsRequest : ℕ → List ℕ → Result Request HttpFault → Type 0
 IsRequest max bytes answer = ((fault : HttpFault) × IsHeadless IsOpenRequest (RequestOverflows MOST_FIELDS) max bytes fault × (answer ≡ Err fault)) ⊎ IsHeadedRequest max bytes answer
 
--- said of every answer but want of memory
+-- said of every answer but lack of memory
 abbrev pub UnlessMemory : {A : Type 0} → Result A HttpFault → Type 0 → Type 0
 UnlessMemory (Ok x) P = P
 UnlessMemory (Err OutOfMemory) P = Unit {0}

@@ -1,4 +1,4 @@
--- A body's answer: a value, or the first fault. Definitions never answer want of memory, which only code can meet.
+-- A body's answer: a value, or the first fault. Definitions never answer lack of memory, which only code can meet.
 use Rattle.std.specs.Prelude.{◌≡◌, Result, Ok, Err, Option, Some, None}
 use Rattle.vault_json.specs.declared.field.Field.{Field}
 use Rattle.vault_json.specs.declared.fault.ReplyFault.{ReplyFault}
@@ -10,7 +10,7 @@ abbrev pub ◌>>=◌ : {A B : Type 0} → Result A ReplyFault → (A → Result 
 (Ok x) >>= f = f x
 (Err e) >>= f = Err e
 
--- the answer is this fault; of want of memory nothing is said
+-- the answer is this fault; of lack of memory nothing is said
 abbrev pub Fails : {Y : Type 0} → ReplyFault → Result Y ReplyFault → Type 0
 Fails OutOfMemory answer = Unit {0}
 Fails NotJson answer = answer ≡ Err NotJson

@@ -179,7 +179,7 @@ pub(crate) fn date(object: &Value, field: Field) -> Result<Moment, ReplyFault>
     }
 }
 
-/// A text that must be there. Want of memory is told apart.
+/// A text that must be there. Lack of memory is told apart.
 #[tactic(auto, unfolding(crate::specs::Field::required))]
 pub(crate) fn text(alloc: Global, object: &Value, field: Field) -> Result<Text, ReplyFault>
     ensures { Gives (λ t. t) result (required field as_str (view object.now)) }

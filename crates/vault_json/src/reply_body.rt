@@ -27,7 +27,7 @@ pub struct LookedToken {
 
 /// The body of a broker's reply to a token's renewal, as `{"auth":{"lease_duration":60,"renewable":true}}`: the seconds
 /// to its end, and whether it can be renewed again (Vault, HTTP API `auth/token`, "Renew a token (self)"). The only
-/// error is want of memory.
+/// error is lack of memory.
 pub fn renewed_self(alloc: Global, seconds: Span, renewable: bool) -> Result<Text, AllocError>
     ensures { IfOk result (λ t. t ≡ renewed_self_text seconds renewable) }
 {

@@ -18,7 +18,7 @@ pub fn renew_body(alloc: Global, step: Span) -> Result<Text, AllocError>
 
 /// The body of a request to renew a lease by `step` seconds, as `{"increment":60,"lease_id":"db/creds/app/1"}` (Vault,
 /// HTTP API `sys/leases`, "Renew lease"). A JSON text holds no id that is not UTF-8, so it must be. The only error is
-/// want of memory.
+/// lack of memory.
 pub fn lease_body(alloc: Global, id: &[u8], step: Span) -> Result<Text, AllocError>
     requires { IsUtf8 id.now }
     ensures { IfOk result (λ t. t ≡ lease_text id.now step) }

@@ -16,7 +16,7 @@ use Rattle.watch_machine.specs.State.{State}
 use Rattle.watch_machine.specs.Step.{MayWant, Step}
 use Rattle.watch_machine.proofs.Cases.{if_both}
 
--- no event is refused for want of memory
+-- no event is refused for lack of memory
 abbrev pub NotMemory : Option WatchFault → Type 0
 NotMemory o = o ≡ Some OutOfMemory → ⊥
 

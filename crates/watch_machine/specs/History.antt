@@ -10,7 +10,7 @@ use Rattle.watch_machine.specs.Refusal.{refusal}
 use Rattle.watch_machine.specs.State.{State, opened}
 use Rattle.watch_machine.specs.Step.{MayWant, Step}
 
--- what an event gives: a step; or a refusal, which leaves the state. Want of memory may take the place of a step
+-- what an event gives: a step; or a refusal, which leaves the state. Lack of memory may take the place of a step
 abbrev pub Turn : State → Event → Result Output WatchFault → State → Type 0
 Turn old event (Ok output) new = (refusal old event ≡ None) × Step old event output new
 Turn old event (Err OutOfMemory) new = (refusal old event ≡ None) × (MayWant event × (new ≡ old))

@@ -79,7 +79,7 @@ impl Watch {
         }
     }
 
-    /// The two clocks, in milliseconds. Refused, for want of memory alone, it leaves the watch as it was.
+    /// The two clocks, in milliseconds. Refused, for lack of memory alone, it leaves the watch as it was.
     pub(crate) fn clock(
         &mut self,
         alloc: Global,
@@ -150,7 +150,7 @@ impl Watch {
     }
 }
 
-/// Looks everything up anew where there is a reason, and gives what the entries carry. The only error is want of memory.
+/// Looks everything up anew where there is a reason, and gives what the entries carry. The only error is lack of memory.
 fn begin(
     alloc: Global,
     view: &mut Forest,
@@ -176,7 +176,7 @@ fn begin(
     }
 }
 
-/// Looks everything up anew, and gives what the entries carry. The only error is want of memory.
+/// Looks everything up anew, and gives what the entries carry. The only error is lack of memory.
 fn begin_anew(
     alloc: Global,
     view: &mut Forest,
@@ -209,7 +209,7 @@ fn begin_anew(
     Ok(needs)
 }
 
-/// Writes the view, and gives what the entries carry. The only error is want of memory.
+/// Writes the view, and gives what the entries carry. The only error is lack of memory.
 pub(crate) fn needs_of(
     alloc: Global,
     view: &mut Forest,
@@ -229,7 +229,7 @@ pub(crate) fn needs_of(
     Ok(carry(alloc, view, moment_at(second(clocks.at)))?)
 }
 
-/// Presses those whose time has come, and those whom a round asks. The only error is want of memory.
+/// Presses those whose time has come, and those whom a round asks. The only error is lack of memory.
 fn press(
     alloc: Global,
     view: &mut Forest,

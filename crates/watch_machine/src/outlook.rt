@@ -89,7 +89,7 @@ impl Watch {
     }
 
     /// The first time of the entries that are wanted and whose end is ahead, `None` where there is none; of an entry that is
-    /// asked and not yet granted it may be past. The only error is want of memory.
+    /// asked and not yet granted it may be past. The only error is lack of memory.
     pub fn next(&mut self, alloc: Global) -> Result<Option<Next>, WatchFault>
         ensures next { IfOk result (λ next. IsNext self.old next) }
         ensures refused { IfErr result (λ fault. fault ≡ OutOfMemory) }

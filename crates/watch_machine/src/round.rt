@@ -190,7 +190,7 @@ fn second_round(view: &Forest, needs: &Carried, now: Moment) -> Option<Moment>
 }
 
 /// The round that opens now: whom it asks; `None` where none opens. The view is written as it is seen, and `needs` has what its
-/// entries carry. The only error is want of memory.
+/// entries carry. The only error is lack of memory.
 pub(crate) fn round(
     alloc: Global,
     view: &mut Forest,

@@ -46,7 +46,7 @@ fn place_of(away: bool, now: u64, entry: u32, track: Track) -> Place
     }
 }
 
-/// Those of `count` entries that may go out now, by index. The only error is want of memory.
+/// Those of `count` entries that may go out now, by index. The only error is lack of memory.
 fn due(
     alloc: Global,
     presence: Presence,
@@ -131,7 +131,7 @@ fn request_of(presence: Presence, partial: bool, entry: u32, track: Track) -> Re
     }
 }
 
-/// The requests of these places. The only error is want of memory.
+/// The requests of these places. The only error is lack of memory.
 fn requests(
     alloc: Global,
     presence: Presence,
@@ -222,7 +222,7 @@ fn out_at(at: Millis, request: Request) -> Out
     }
 }
 
-/// The requests that are out, with those that go out now. The only error is want of memory.
+/// The requests that are out, with those that go out now. The only error is lack of memory.
 pub(crate) fn out_with(
     alloc: Global,
     out: &[Out],

@@ -175,7 +175,7 @@ fn settled_track(margin: u32, at: Millis, track: Track) -> Track
     Track { attempt, ..track }
 }
 
-/// The tracks, with the pauses of those that failed since the last clock. The only error is want of memory.
+/// The tracks, with the pauses of those that failed since the last clock. The only error is lack of memory.
 pub(crate) fn settled_tracks(
     alloc: Global,
     margin: u32,

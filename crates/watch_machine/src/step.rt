@@ -70,7 +70,7 @@ impl Watch {
         }
     }
 
-    /// Takes the answer to a lookup. The only error is want of memory, where the request is out.
+    /// Takes the answer to a lookup. The only error is lack of memory, where the request is out.
     fn take_looked(&mut self, entry: u32, reply: Reply, terms: Terms) -> Result<Output, WatchFault>
         requires { entry < length self.old.forest.entries }
         ensures step { IfOk result (λ output. StepLooked self.old (request_out self.old.out entry Look) reply terms output self.new) }
@@ -86,7 +86,7 @@ impl Watch {
         Ok(taken(Notes { link, ..notes }))
     }
 
-    /// Takes the answer to a renewal. The only error is want of memory, where the request is out.
+    /// Takes the answer to a renewal. The only error is lack of memory, where the request is out.
     fn take_renewed(&mut self, entry: u32, reply: Reply) -> Result<Output, WatchFault>
         requires { entry < length self.old.forest.entries }
         ensures step { IfOk result (λ output. StepRenewed self.old (request_out self.old.out entry Renew) reply output self.new) }
@@ -106,7 +106,7 @@ impl Watch {
         }))
     }
 
-    /// Notes an answer until the next clock. The only error is want of memory.
+    /// Notes an answer until the next clock. The only error is lack of memory.
     fn note(&mut self, request: Out, reply: Reply) -> Result<(), WatchFault>
         ensures value { IfOk result (λ _. self.new ≡ noted self.old request reply) }
         ensures refused { IfErr result (λ fault. fault ≡ OutOfMemory) }

@@ -71,7 +71,7 @@ fn fresh_track(entry: &Entry) -> Track
     }
 }
 
-/// What is known of the entries of a forest that is watched from now on. The only error is want of memory.
+/// What is known of the entries of a forest that is watched from now on. The only error is lack of memory.
 fn fresh_tracks(alloc: Global, forest: &Forest) -> Result<Vec<Track>, AllocError>
     ensures value { IfOk result (λ tracks. tracks.items ≡ map fresh_track forest.now.entries) }
     ensures bounds { IfOk result (λ tracks. All IsTrack tracks.items) }
@@ -111,7 +111,7 @@ fn known(track: Track, end: u64, renewable: bool) -> Track
 
 impl Watch {
     /// A watch over this forest, of which at most `width` requests are out at once, 1 to [`WIDTH_MAX`]. No end is known yet. The
-    /// only error is want of memory.
+    /// only error is lack of memory.
     pub fn new(alloc: Global, forest: Forest, width: u32) -> Result<Watch, WatchFault>
         ensures opened { IfOk result (λ watch. watch ≡ opened forest width) }
         ensures refused { IfErr result (λ fault. fault ≡ OutOfMemory) }

@@ -11,7 +11,7 @@ use vault_http::Reply;
 use vault_json::Renewed;
 
 /// The event that a reply to the request for an entry gives; `None`: no reply came, or none that could be read. The only
-/// error is want of memory.
+/// error is lack of memory.
 #[tactic(auto, unfolding(crate::specs::Replies::event_of))]
 pub fn event_from(
     alloc: Global,

@@ -19,7 +19,7 @@ use Rattle.keep_store.specs.declared.fault.TakeFault.TheVariants as takes
 use Rattle.keep_store.specs.declared.fault.Unsettled.{Unsettled}
 use Rattle.keep_store.specs.declared.fault.Unsettled.TheVariants as unsettles
 
--- want of memory is told as such, wherever it comes from
+-- lack of memory is told as such, wherever it comes from
 abbrev pub unmade : ChangeFault → TakeFault
 unmade changes.OutOfMemory = takes.OutOfMemory
 unmade fault = takes.Refused fault

@@ -1,4 +1,4 @@
--- The text of a reply is read as that reply, and nothing but want of memory can stand in the way.
+-- The text of a reply is read as that reply, and nothing but lack of memory can stand in the way.
 use Rattle.std.proofs.Common.{◌≡◌, ◌∙◌, Ok, Err}
 use Rattle.vault_http.specs.declared.http_fault.HttpFault.TheVariants as https
 use Rattle.keep_exchange.proofs.ReadBack.{reply_read, memory_of}

@@ -1,4 +1,4 @@
--- What a reply means is an answer of the entry that asked, which is refused only for want of memory.
+-- What a reply means is an answer of the entry that asked, which is refused only for lack of memory.
 use Rattle.std.proofs.Common.{◌≡◌, ap, ◌∙◌, ◌++◌, Err, length, sym, subst}
 use Rattle.keep_tree.specs.declared.entry.Entry.{Entry}
 use Rattle.keep_tree.specs.Forest.{Forest, entry_at}

@@ -1,4 +1,4 @@
--- The shortened needs of a tick are of the forest, and only want of memory refuses one.
+-- The shortened needs of a tick are of the forest, and only lack of memory refuses one.
 use Rattle.std.proofs.Common.{ap, ◌∙◌, ◌≤◌, Err, Ok, arith, length, sym, subst}
 use Rattle.keep_tree.specs.Forest.{Forest}
 use Rattle.keep_core.specs.State.{State}
