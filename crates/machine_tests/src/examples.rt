@@ -1,11 +1,12 @@
 // The machine: the example of the watch's page, refusals, widths, and as many entries as there may be.
 
-use crate::tokens::{Token, clock, looked, renewed, told, watch_of};
+use crate::tokens::{Token, clock, entry, looked, renewed, told, watch_of};
+use keep_tree::{Entry, Forest};
 use std::alloc::Global;
 use std::process::Abort;
 use std::test::Fail;
 use watch_machine::{
-    Command, End, Event, Operation, Patience, Reply, WIDTH_MAX, Watch, WatchFault, Why,
+    Command, End, Event, Operation, Patience, Reply, Terms, WIDTH_MAX, Watch, WatchFault, Why,
 };
 
 // It is needed until 1200, with a step of 60 seconds.
@@ -173,7 +174,7 @@ fn what_never_ends_is_left_alone(rt: HostRuntime) -> Result<(), Fail> {
             renewable: false,
             date: None,
         },
-        terms: watch_machine::Terms {
+        terms: Terms {
             step: None,
             ceiling: None,
             orphan: false,
@@ -184,6 +185,54 @@ fn what_never_ends_is_left_alone(rt: HostRuntime) -> Result<(), Fail> {
     assert!(rt; taken.notes.endless);
     waits(&rt, alloc, &mut watch, 1_000_000, 1_001_000)?;
     next_is(&rt, alloc, &mut watch, None)
+}
+
+// A watch over the only entry, whose ceiling is 1100, after its lookup was answered so.
+fn looked_up(alloc: Global, reply: Reply) -> Result<Watch, Fail> {
+    let mut forest = Forest::with_margin(alloc, 1);
+    forest.push(Entry {
+        ceiling: Some(1100),
+        ..entry(alloc, 0, WEB)?
+    })?;
+    let mut watch = Watch::new(alloc, forest, 8)?;
+    watch.step(alloc, clock(1_000_000))?;
+    let terms = Terms {
+        step: None,
+        ceiling: Some(1100),
+        orphan: false,
+        endless: false,
+    };
+    let looked = Event::Looked {
+        entry: 0,
+        reply,
+        terms,
+    };
+    watch.step(alloc, looked)?;
+    watch.step(alloc, clock(1_000_010))?;
+    Ok(watch)
+}
+
+// What the only entry falls short of.
+fn short_of(watch: &Watch) -> Option<u64> {
+    if watch.forest().len() == 0 {
+        return None;
+    }
+    watch.short_of(0)
+}
+
+// Its ceiling counts once its end is known. Before that it falls short of nothing.
+#[test]
+fn nothing_is_short_of_which_nothing_is_known(rt: HostRuntime) -> Result<(), Fail> {
+    let alloc = rt.alloc();
+    let refused = Reply::Refused {
+        status: 403,
+        date: None,
+    };
+    let unknown = looked_up(alloc, refused)?;
+    assert!(rt; short_of(&unknown) == None);
+    let known = looked_up(alloc, told(60))?;
+    assert!(rt; short_of(&known) == Some(1100));
+    Ok(())
 }
 
 // As many lookups go out as lanes are free, and each is answered.

@@ -15,7 +15,8 @@ pub(crate) struct Token {
     pub(crate) need: u64,
 }
 
-fn entry(alloc: Global, number: usize, token: Token) -> Result<Entry, Fail> {
+/// A token of unknown end, without a ceiling.
+pub(crate) fn entry(alloc: Global, number: usize, token: Token) -> Result<Entry, Fail> {
     let name = format!(in alloc; "e{number}")?;
     Ok(Entry {
         name: Name::of(alloc, name.as_bytes())?,

@@ -1,7 +1,7 @@
 -- Shortness: which needs are past what their entries can reach.
 -- Source: Vault, "Tokens" (explicit max TTL; a token's end ends its children and its leases); Vault, "Lease, renew, and revoke"
 -- (maximum TTL).
-use Rattle.std.specs.Prelude.{ℕ, Bool, not, ◌&&◌, ◌||◌, if◌then◌else◌, Option, Some, None, map, nat_lt}
+use Rattle.std.specs.Prelude.{ℕ, ◌==◌, Bool, not, ◌&&◌, ◌||◌, if◌then◌else◌, Option, Some, None, map, nat_lt}
 use Rattle.std.specs.List.{list_any}
 use Rattle.std.specs.Option.{unwrap_or}
 use Rattle.keep_rule.specs.Reach.{reach_of}
@@ -23,11 +23,15 @@ there s Never = END_MAX
 unfoldable pub is_led : State → ℕ → Bool
 is_led s i = is_unknown (track_at s i).end || (is_alive (second s) (track_at s i) && not (is_fixed (track_at s i)))
 
+-- nothing is known of i: nobody has told its end, and the inventory does not say it, nor when it was issued
+unfoldable pub is_untold : State → ℕ → Bool
+is_untold s i = is_unknown (track_at s i).end && (entry_of s i).end == 0
+
 -- how far they can lead it by itself, by the broker's clock: its end, where they lead it no more, else the greater of its end and
--- its ceiling; past every need where there is no limit
+-- its ceiling; past every need where there is no limit, or where nothing is known of it
 unfoldable pub own_reach : State → ℕ → ℕ
 own_reach s i =
-    if is_never (track_at s i).end then END_MAX
+    if is_never (track_at s i).end || is_untold s i then END_MAX
     else unwrap_or (reach_of (record (entry_of s i) { renewable = is_led s i }) 0 0 (there s (track_at s i).end)) END_MAX
 
 -- the least of these over an entry, its own among them

@@ -1,7 +1,7 @@
 //! Needs that are past what their entries reach.
 ghost use Rattle.std.specs.Prelude.{◌≡◌, ◌<◌, length, map};
 ghost use Rattle.keep_tree.specs.Over.{chain};
-ghost use Rattle.watch_machine.specs.Shortness.{is_led, is_owed_over, own_reach, short_of, there};
+ghost use Rattle.watch_machine.specs.Shortness.{is_led, is_owed_over, is_untold, own_reach, short_of, there};
 ghost use Rattle.watch_machine.specs.Wanted.{least};
 
 use crate::reading::second;
@@ -32,14 +32,24 @@ impl Watch {
         is_unknown(track.end) || (is_alive(track, second(self.clocks.at)) && !is_fixed(track))
     }
 
-    /// How far renewals can lead an entry by itself, by the broker's clock, past every need where there is no limit.
+    /// Whether nothing is known of an entry: nobody has told its end, and the inventory does not say it.
+    #[tactic(auto, unfolding(crate::specs::Shortness::is_untold))]
+    fn is_untold(&self, index: u32) -> bool
+        requires { index < length self.now.forest.entries }
+        ensures { result ≡ is_untold self.now index }
+    {
+        is_unknown(self.track(index).end) && self.forest.get(index).end == 0
+    }
+
+    /// How far renewals can lead an entry by itself, by the broker's clock, past every need where there is no limit, or where
+    /// nothing is known of it.
     #[tactic(auto, unfolding(crate::specs::Shortness::own_reach, keep_rule::specs::Reach::reach_of))]
     fn own_reach(&self, index: u32) -> u64
         requires { index < length self.now.forest.entries }
         ensures { result ≡ own_reach self.now index }
     {
         let end = self.track(index).end;
-        if is_never(end) {
+        if is_never(end) || self.is_untold(index) {
             return END_MAX;
         }
         let end = self.there(end);
