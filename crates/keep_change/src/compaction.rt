@@ -1,60 +1,65 @@
-ghost use Rattle.std.specs.Prelude.{◌≡◌, ◌≤◌, IfOk, drop, length};
-ghost use Rattle.std.specs.List.{list_any};
-ghost use Rattle.keep_change.specs.Compaction.{is_need, is_need_of, is_void, voids};
+ghost use Rattle.std.specs.Prelude.{◌≡◌, ◌∷◌, IfOk, List};
+ghost use Rattle.keep_change.specs.declared.change.Record.{Record};
+ghost use Rattle.keep_change.specs.declared.change.Record.TheVariants.{Made};
+ghost use Rattle.keep_change.specs.Compaction.{is_need, is_void, voids};
+ghost use Rattle.keep_change.specs.code.Needed.{AreNeedsOf};
 
-use crate::change::{Record, What};
+use crate::change::{Change, Record, What};
+use keep_moment::{Name, Text};
 use std::alloc::{AllocError, Global};
+use std::collections::BTreeSet;
+
+// A need of the entry of that name, beside what the file said of it.
+#[derive(PartialEq, Eq, PartialOrd, Ord, Drop)]
+struct Needed {
+    name: Name,
+    was: Text,
+}
 
 /// Of each record, whether a later one makes it void: a need that is given again beside the same word of the file. A replay of
 /// the others gives the same inventory on every file.
 ///
 /// The only error is out of memory.
+#[tactic(auto, using(crate::proofs::Later::outs_none, crate::proofs::Later::needs_end, crate::proofs::Later::outs_more, crate::proofs::Later::needs_next, crate::proofs::Later::outs_all))]
 pub fn voids(alloc: Global, records: &[Record]) -> Result<Vec<bool>, AllocError>
     ensures { IfOk result (λ outs. outs.items ≡ voids records.now) }
 {
     let mut outs = Vec::new(alloc);
-    for (index, record) in records.iter().enumerate() {
-        outs.push(is_void(record, after(records, index + 1)))?;
+    let mut later = BTreeSet::new(alloc);
+    let mut index = records.len();
+    while index > 0 {
+        index -= 1;
+        outs.push(is_void(&mut later, &records[index])?)?;
     }
+    outs.reverse();
     Ok(outs)
 }
 
-// The records from a place on.
-fn after(records: &[Record], at: usize) -> &[Record]
-    requires { at ≤ length records.now }
-    ensures { result.now ≡ drop at records.now }
-{
-    &records[at..]
-}
-
-// Whether one of the later records makes this one void.
-fn is_void(record: &Record, later: &[Record]) -> bool
-    ensures { result ≡ is_void «record».now later.now }
+// Whether one of the later records makes this one void; it is among the later ones from then on.
+#[tactic(auto, using(crate::proofs::Later::given_settling))]
+fn is_void(later: &mut BTreeSet<Needed>, record: &Record) -> Result<bool, AllocError>
+    ensures { IfOk result (λ void. (records : List Record) → AreNeedsOf later.old records → (void ≡ is_void «record».now records) × AreNeedsOf later.new («record».now ∷ records)) }
 {
     match record {
-        Record::Made(change) => {
-            is_need(&change.what) && is_needed_again(change.name.list(), change.was.list(), later)
-        }
-        Record::Settling(_) => false,
+        Record::Made(change) => is_given_again(later, change),
+        Record::Settling(_) => Ok(false),
     }
 }
 
-fn is_needed_again(name: &[u8], was: &[u8], later: &[Record]) -> bool
-    ensures { result ≡ list_any (is_need_of name.now was.now) later.now }
+// The same of a change.
+#[tactic(auto, using(crate::proofs::Later::given_not, crate::proofs::Later::given_again))]
+fn is_given_again(later: &mut BTreeSet<Needed>, change: &Change) -> Result<bool, AllocError>
+    ensures { IfOk result (λ void. (records : List Record) → AreNeedsOf later.old records → (void ≡ is_void (Made change.now) records) × AreNeedsOf later.new (Made change.now ∷ records)) }
 {
-    later.iter().any(|record| is_need_of(name, was, record))
-}
-
-// Whether it is a need of that name, beside that word of the file.
-fn is_need_of(name: &[u8], was: &[u8], record: &Record) -> bool
-    ensures { result ≡ is_need_of name.now was.now «record».now }
-{
-    match record {
-        Record::Made(change) => {
-            is_need(&change.what) && change.name.list() == name && change.was.list() == was
-        }
-        Record::Settling(_) => false,
+    if !is_need(&change.what) {
+        return Ok(false);
     }
+    let need = Needed {
+        name: change.name.clone()?,
+        was: change.was.clone()?,
+    };
+    let is_new = later.insert(need)?;
+    Ok(!is_new)
 }
 
 fn is_need(what: &What) -> bool

@@ -2,17 +2,15 @@
 use Rattle.std.proofs.Common.{◌≡◌, ℕ, suc, ◌+◌, ◌<◌, ◌≤◌, Bool, true, false, ◌&&◌, nat_le, List, [], ◌∷◌, ◌++◌, Option, Some, None, is_none, length, map, take, get_or, option_to_list, refl, sym, ap, ◌∙◌, arith}
 use Rattle.std.proofs.lemmas.Bool.{and_parts, eqb-true}
 use Rattle.std.proofs.lemmas.List.{map_more, take_all}
-use Rattle.std.specs.List.{list_any}
 use Rattle.keep_change.specs.declared.change.Record.{Record}
 use Rattle.keep_change.specs.Compaction as changes
 use Rattle.keep_change.specs.Records.{record_of}
 use Rattle.keep_change.specs.Replay.{replayed}
 use Rattle.keep_change.proofs.Compacting.{compaction}
-use Rattle.keep_journal.specs.declared.exchange.TheConstants.{COMPACT_AT}
 use Rattle.keep_journal.specs.Records.{kept}
 use Rattle.keep_store.specs.declared.store.Store.{Store}
 use Rattle.keep_store.specs.Books.{Book}
-use Rattle.keep_store.specs.Compacted.{are_records, compacted_lines, damages, is_worth, undamaged}
+use Rattle.keep_store.specs.Compacted.{are_records, compacted_lines, damages, is_time, is_worth, undamaged, void_count}
 use Rattle.keep_store.specs.Records.{record_in, records_in}
 use Rattle.keep_store.specs.Stores.{IsReplayed, book_of, lines_in}
 
@@ -81,8 +79,8 @@ compacted_records lines e = kept_records lines e (changes.voids (records_in line
 pub worth_records : (lines : List (List ℕ)) → is_worth lines ≡ true → length (records_in lines) ≡ length lines
 unfolding is_worth
 worth_records lines is =
-    let some = and_parts (nat_le COMPACT_AT (length lines)) (are_records lines && list_any (λ (void : Bool). void) (changes.voids (records_in lines))) is in
-    let all = and_parts (are_records lines) (list_any (λ (void : Bool). void) (changes.voids (records_in lines))) some.1 in
+    let some = and_parts (is_time lines) (are_records lines && nat_le 1000 (void_count lines)) is in
+    let all = and_parts (are_records lines) (nat_le 1000 (void_count lines)) some.1 in
     eqb-true (length (records_in lines)) (length lines) all.0
 
 pub compacted_is : (lines : List (List ℕ)) (outs : List Bool) → outs ≡ changes.voids (records_in lines) → kept lines outs ≡ compacted_lines lines

@@ -1,10 +1,8 @@
 -- Compacted: the lines of a journal without those whose records later ones make void, and without those that write no record.
 -- Source: this project's own.
-use Rattle.std.specs.Prelude.{ℕ, Bool, ◌&&◌, ◌==◌, List, is_none, length, map, nat_le}
-use Rattle.std.specs.List.{list_any}
+use Rattle.std.specs.Prelude.{ℕ, ◌%◌, Bool, ◌&&◌, ◌==◌, List, filter, is_none, length, map, nat_le}
 use Rattle.keep_change.specs.Compaction.{voids}
 use Rattle.keep_change.specs.Records.{record_of}
-use Rattle.keep_journal.specs.declared.exchange.TheConstants.{COMPACT_AT}
 use Rattle.keep_journal.specs.Records.{kept}
 use Rattle.keep_store.specs.Records.{records_in}
 
@@ -16,9 +14,17 @@ are_records lines = length (records_in lines) == length lines
 unfoldable pub compacted_lines : List (List ℕ) → List (List ℕ)
 compacted_lines lines = kept lines (voids (records_in lines))
 
--- there are so many lines that it is worth while, each is a record, and some is void
+-- of how many lines a later one makes the record void; of lines that are all records
+abbrev pub void_count : List (List ℕ) → ℕ
+void_count lines = length (filter (λ void. void) (voids (records_in lines)))
+
+-- so many lines that it is time to look: once in a thousand, so that a line more costs the same however many there are
+abbrev pub is_time : List (List ℕ) → Bool
+is_time lines = length lines % 1000 == 0
+
+-- it is time to look, each line is a record, and a thousand or more are void
 unfoldable pub is_worth : List (List ℕ) → Bool
-is_worth lines = nat_le COMPACT_AT (length lines) && (are_records lines && list_any (λ void. void) (voids (records_in lines)))
+is_worth lines = is_time lines && (are_records lines && nat_le 1000 (void_count lines))
 
 -- of each line, whether it writes no record
 unfoldable pub damages : List (List ℕ) → List Bool

@@ -1,5 +1,4 @@
-ghost use Rattle.std.specs.Prelude.{◌≡◌, IfOk, MatchOption, false, true};
-ghost use Rattle.std.specs.List.{list_any};
+ghost use Rattle.std.specs.Prelude.{◌≡◌, IfOk, MatchOption, false, filter, length, true};
 ghost use Rattle.keep_change.specs.Compaction.{voids};
 ghost use Rattle.keep_store.specs.Compacted.{is_worth};
 ghost use Rattle.keep_store.specs.Records.{records_in};
@@ -12,6 +11,9 @@ use keep_journal::COMPACT_AT;
 use keep_moment::Text;
 use std::alloc::{AllocError, Global};
 
+/// Once in so many lines it is time to look whether a compaction is worth while.
+const LOOK_EVERY: usize = 1000;
+
 impl<'a> Store<'a> {
     ghost use Rattle.std.specs.Prelude.{◌≡◌, IfOk, IsTrue, OnErr, if◌then◌else◌};
     ghost use Rattle.keep_disk.specs.State.{LeavesOnly};
@@ -20,8 +22,11 @@ impl<'a> Store<'a> {
     ghost use Rattle.keep_store.specs.Compacted.{compacted_lines, is_worth};
     ghost use Rattle.keep_store.specs.Stores.{IsReplayed, book_of, journal_of, lines_in, path_in};
 
-    /// Takes out of the journal each record that a later one makes void, where there are [`COMPACT_AT`] lines or more, each of them
-    /// writes a record, and some is void: `true` then. What is kept stays as it is, and so does what any file gives with the journal.
+    /// Takes out of the journal each record that a later one makes void, where that is worth while: [`COMPACT_AT`] or more are void, and
+    /// each line writes a record. `true` then. What is kept stays as it is, and so does what any file gives with the journal.
+    ///
+    /// It looks only where the number of lines is a multiple of 1,000, so that it may be called after each change. The only errors are
+    /// those of the disk, and lack of memory; the lines are as they were then.
     #[tactic(auto, using(crate::proofs::Undamaged::compacted_is))]
     pub fn compact<D: Disk>(&mut self, disk: &mut D) -> Result<bool, DiskFault>
         requires held { Holds D.is_known (journal_of self.old) (D.state disk.old) }
@@ -53,7 +58,7 @@ fn worth(alloc: Global, lines: &[Text]) -> Result<Option<Vec<bool>>, AllocError>
     ensures { IfOk result (λ found. MatchOption found (is_worth lines.now ≡ false)
         (λ outs. (outs.items ≡ voids (records_in lines.now)) × (is_worth lines.now ≡ true))) }
 {
-    if lines.len() < COMPACT_AT {
+    if lines.len() % LOOK_EVERY != 0 {
         return Ok(None);
     }
     let records = records_in(alloc, lines)?;
@@ -61,16 +66,15 @@ fn worth(alloc: Global, lines: &[Text]) -> Result<Option<Vec<bool>>, AllocError>
         return Ok(None);
     }
     let outs = voids(alloc, &records)?;
-    if some_is(&outs) {
-        Ok(Some(outs))
-    } else {
-        Ok(None)
+    if count_of(&outs) < COMPACT_AT {
+        return Ok(None);
     }
+    Ok(Some(outs))
 }
 
-// Whether some of these is true.
-fn some_is(outs: &[bool]) -> bool
-    ensures { result ≡ list_any (λ void. void) outs.now }
+// How many of these are true.
+fn count_of(outs: &[bool]) -> usize
+    ensures { result ≡ length (filter (λ void. void) outs.now) }
 {
-    outs.iter().any(|void| *void)
+    outs.iter().filter(|void| **void).count()
 }

@@ -1,22 +1,20 @@
--- Each answer is that of its record, and behind the last none is left.
-use Rattle.std.proofs.Common.{◌≡◌, ◌+◌, ◌<◌, ◌≤◌, List, [], ◌∷◌, ◌++◌, append_assoc, append-nil, drop, length, sym, ap, ◌∙◌, arith}
-use Rattle.keep_change.specs.Compaction.{is_void, voids}
-use Rattle.keep_change.proofs.Later.{voids_end, voids_next}
+-- One record more in front of those that were answered.
+use Rattle.std.proofs.Common.{◌≡◌, ◌+◌, ◌-◌, ◌<◌, arith, drop, length}
+use Rattle.keep_change.proofs.Later.{needs_next, outs_more}
 use Rattle.keep_change.proofs.compaction.voids.Goals as goal
 
 pub loop-index-preserved : goal.loop-index-preserved
 loop-index-preserved c =
     let rs = c.args.records.now in
-    let i = c.loop-index.index in
+    let k = c.loop-index.index in
     let x = c.index-records-index.result in
-    let outs = c.loop-index.outs.items in
-    let out : c.is_void.result ≡ is_void x (drop (i + 1) rs) = c.is_void.ensures ∙ ap (is_void x) c.after.ensures in
-    let pushed : c.push.new.self.items ≡ outs ++ is_void x (drop (i + 1) rs) ∷ [] = c.in_ok-push.ensures.items ∙ ap (λ b. outs ++ b ∷ []) out in
-    ap (λ l. l ++ voids (drop (i + 1) rs)) pushed ∙ append_assoc outs (is_void x (drop (i + 1) rs) ∷ []) (voids (drop (i + 1) rs))
-    ∙ ap (λ l. outs ++ l) (sym (voids_next rs i x c.loop-index-test.true c.index-records-index.is)) ∙ c.loop-index.invariant
-
-pub returns : goal.returns
-returns c =
-    let rs = c.args.records.now in
-    let outs = c.loop-index.outs.items in
-    sym (append-nil outs) ∙ ap (λ l. outs ++ l) (sym (voids_end rs c.loop-index.index c.loop-index-test.false)) ∙ c.loop-index.invariant
+    let more = c.loop-index-test.true in
+    let within = c.loop-index.invariant.within in
+    let one : k ≡ k - 1 + 1 = omega (arith, more) in
+    let h : k - 1 < length rs = omega (arith, more, within) in
+    let given = c.in_ok-is_void.ensures (drop k rs) c.loop-index.invariant.needs in
+    record {
+      within = omega (arith, within);
+      outs = outs_more rs k (k - 1) x c.loop-index.outs.items c.push.new.self.items c.in_ok-is_void.field-0 one h c.index-records-index.is given.0 c.in_ok-push.ensures.items c.loop-index.invariant.outs;
+      needs = needs_next c.is_void.new.later rs k (k - 1) x one h c.index-records-index.is given.1;
+    }
