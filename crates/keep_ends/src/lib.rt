@@ -14,5 +14,5 @@ mod text;
 pub use disk::{MOST_ENDS, keep_ends, load_ends};
 pub use events::{ends_of, known_events};
 pub use file::EndsFile;
-pub use laws::ends_are_kept;
+pub use laws::{ends_are_kept, only_what_is_told_is_kept};
 pub use text::{ends_text, read_ends};
