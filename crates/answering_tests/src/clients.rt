@@ -3,6 +3,7 @@ use crate::agents::{AROUND, NOW, agent};
 use crate::peers::{Peer, PeerDoor, Seen, control_with, prompt};
 use keep_agent::Agent;
 use keep_answering::{Asked, Control};
+use keep_clients::Fed;
 use keep_inventory::Need;
 use std::alloc::Global;
 use std::process::Abort;
@@ -37,6 +38,8 @@ fn words_of(alloc: Global, asked: Option<Asked>) -> Result<Vec<u8>, Fail> {
         Some(Asked::Drop { name }) => joined(alloc, b"drop ", name.list()),
         Some(Asked::Settle) => joined(alloc, b"settle", b""),
         Some(Asked::Reload) => joined(alloc, b"reload", b""),
+        Some(Asked::Follow { alerts: true }) => joined(alloc, b"follow ", b"alerts"),
+        Some(Asked::Follow { alerts: false }) => joined(alloc, b"follow", b""),
     }
 }
 
@@ -65,7 +68,7 @@ fn next<'a>(alloc: Global, control: &mut Control<Peer<'a>, PeerDoor<'a>>) -> Res
 }
 
 /// What a client sends, and what it asks to be done.
-const LINES: [(&str, &str); 14] = [
+const LINES: [(&str, &str); 15] = [
     ("[\"need\",\"web\",\"+1h\"]\n", "need web 4600"),
     ("[\"need\",\"job\",\"0\"]\n", "need job 0"),
     ("[\"need\",\"nobody\",\"always\"]\n", "need nobody always"),
@@ -85,7 +88,8 @@ const LINES: [(&str, &str); 14] = [
     ("[\"need\",\"web\",\"+253402300799\"]\n", "nothing"),
     ("[\"replace\",\"web\",\"\"]\n", "nothing"),
     ("[\"status\"]\n", "nothing"),
-    ("[\"follow\"]\n", "nothing"),
+    ("[\"follow\"]\n", "follow"),
+    ("[\"follow\",\"alerts\"]\n", "follow alerts"),
 ];
 
 /// What a client asks to be done that sends this line.
@@ -109,12 +113,11 @@ fn what_is_asked_is_that_of_its_line(rt: HostRuntime) -> Result<(), Fail> {
 }
 
 /// What a client sends that asks for nothing to be done, and what it is told at once.
-const REFUSED: [(&str, &str); 3] = [
+const REFUSED: [(&str, &str); 2] = [
     (
         "[\"need\",\"web\",\"+253402300799\"]\n",
         "error: WHEN is after 9999-12-31T23:59:59Z\n",
     ),
-    ("[\"follow\"]\n", "error: this command is not served yet\n"),
     (
         "[\"replace\",\"web\",\"\"]\n",
         "error: a secret or lease id is 1 to 256 printable ASCII characters without a space\n",
@@ -232,5 +235,45 @@ fn the_loop_is_told_that_one_asks(rt: HostRuntime) -> Result<(), Fail> {
     say_ok(alloc, &mut control)?;
     assert!(rt; !control.go_on(alloc, &agent, AROUND, NOW).is_busy);
     assert!(rt; seen.was_sent("ok\n"));
+    Ok(())
+}
+
+/// The client that asked follows from now on: the number of its connection.
+fn follows<'a>(
+    alloc: Global,
+    control: &mut Control<Peer<'a>, PeerDoor<'a>>,
+) -> Result<Option<u64>, Fail> {
+    Ok(control.follow(Vec::from_slice(alloc, b"ok\n")?))
+}
+
+/// What came of a line for that connection.
+fn fed<'a>(
+    control: &mut Control<Peer<'a>, PeerDoor<'a>>,
+    id: u64,
+    line: &[u8],
+) -> Result<Fed, Fail> {
+    Ok(control.clients.feed(id, line)?)
+}
+
+/// One whose answer goes on is given what comes, and has all the time to read it.
+#[test]
+fn one_that_follows_is_given_what_comes(rt: HostRuntime) -> Result<(), Fail> {
+    let alloc = rt.alloc();
+    let agent = agent(alloc)?;
+    let seen = Seen::new();
+    let part = prompt("[\"follow\"]\n", "ok\none\ntwo\n");
+    let mut control = control_with(alloc, part, &seen)?;
+    assert!(rt; turns(alloc, &mut control, &agent, 2));
+    assert!(rt; next(alloc, &mut control)?.as_slice() == b"follow".as_slice());
+    assert!(rt; follows(alloc, &mut control)? == Some(0));
+    // The first of its answer is not written yet.
+    assert!(rt; fed(&mut control, 0, b"one\n")? == Fed::Full);
+    assert!(rt; turns(alloc, &mut control, &agent, 1));
+    assert!(rt; fed(&mut control, 0, b"one\n")? == Fed::Taken(4));
+    assert!(rt; turns(alloc, &mut control, &agent, 2));
+    assert!(rt; fed(&mut control, 0, b"two\n")? == Fed::Taken(4));
+    assert!(rt; turns(alloc, &mut control, &agent, 2));
+    assert!(rt; seen.was_sent("ok\none\ntwo\n"));
+    assert!(rt; fed(&mut control, 1, b"three\n")? == Fed::Gone);
     Ok(())
 }

@@ -9,6 +9,8 @@ mod cut;
 #[cfg(test)]
 mod failing;
 #[cfg(test)]
+mod follows;
+#[cfg(test)]
 mod play;
 #[cfg(test)]
 mod refused;

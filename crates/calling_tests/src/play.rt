@@ -1,5 +1,5 @@
 //! A call over devices in memory.
-use keep_calling::{Ask, Call, Ended, request_for, talk};
+use keep_calling::{Ask, Call, Ended, follow, request_for, talk};
 use keep_device::{MemoryPair, MemorySink, MemorySource};
 use std::alloc::Global;
 use std::test::Fail;
@@ -99,7 +99,39 @@ pub(crate) fn play(
     })
 }
 
-/// The same, where nothing fails.
+/// Follows an agent that answers so, in pieces of these lengths and then whole.
+pub(crate) fn play_follow(
+    alloc: Global,
+    answer: &[u8],
+    pieces: &[usize],
+    failing: Failing,
+) -> Result<Played, Fail> {
+    let input = source(alloc, b"", None)?;
+    let bytes = Vec::from_slice(alloc, answer)?;
+    let pieces = Vec::from_slice(alloc, pieces)?;
+    let answer = MemorySource::new(bytes, pieces, failing.reads);
+    let mut line = MemoryPair::new(answer, MemorySink::new(alloc, failing.writes));
+    let mut out = MemorySink::new(alloc, failing.out);
+    let mut errors = MemorySink::new(alloc, failing.errors);
+    let call = call_for(Ask::Follow { alerts: false });
+    let ended = follow(
+        alloc,
+        &call,
+        b"[\"follow\"]\n",
+        &mut line,
+        &mut out,
+        &mut errors,
+    );
+    Ok(Played {
+        ended,
+        input,
+        line,
+        out,
+        errors,
+    })
+}
+
+/// A call where nothing fails.
 pub(crate) fn play_well(
     alloc: Global,
     ask: Ask<'_>,

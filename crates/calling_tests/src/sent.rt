@@ -7,7 +7,14 @@ use std::test::Fail;
 const WEB: Ask<'static> = Ask::Replace { name: "web" };
 
 /// What is asked, what standard input holds, the line that is sent, and how often standard input is read.
-const LINES: [(Ask<'static>, &str, &str, u64); 14] = [
+const LINES: [(Ask<'static>, &str, &str, u64); 16] = [
+    (Ask::Follow { alerts: false }, "unread", "[\"follow\"]\n", 0),
+    (
+        Ask::Follow { alerts: true },
+        "",
+        "[\"follow\",\"alerts\"]\n",
+        0,
+    ),
     (
         Ask::Need {
             name: "web",

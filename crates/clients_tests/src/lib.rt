@@ -8,6 +8,8 @@ mod busy;
 #[cfg(test)]
 mod entrances;
 #[cfg(test)]
+mod following;
+#[cfg(test)]
 mod peers;
 #[cfg(test)]
 mod places;

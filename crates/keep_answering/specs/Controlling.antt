@@ -1,11 +1,11 @@
 -- Controlling: what the clients of an agent's control socket are answered, and what they ask to be done.
 -- Source: this project's own.
-use Rattle.std.specs.Prelude.{◌≡◌, ◌⊎◌, ◌/◌, ℕ, List, [], ◌∷◌, ◌++◌, Bool, true, false, ◌&&◌, ◌||◌, Option, Some, None, is_none, is_some, Result, Ok, Err, codes}
+use Rattle.std.specs.Prelude.{◌≡◌, ◌≢◌, ◌⊎◌, ◌/◌, ℕ, List, [], ◌∷◌, ◌++◌, Bool, true, false, ◌&&◌, ◌||◌, Option, Some, None, is_none, is_some, Result, Ok, Err, codes, if◌then◌else◌}
 use Rattle.std.specs.List.{list_any}
 use Rattle.keep_agent.specs.Agent.{Agent}
 use Rattle.keep_clients.specs.Doors.{Log}
 use Rattle.keep_clients.specs.Guests.{can_go_on}
-use Rattle.keep_clients.specs.Tables.{Answers, AnswersFirst, Table, Takes, Turns, first_asked}
+use Rattle.keep_clients.specs.Tables.{Answers, AnswersFirst, Follows, Table, Takes, Turns, first_asked}
 use Rattle.keep_clients.specs.declared.clients.Request.{Request}
 use Rattle.keep_clients.specs.declared.talk.Call.{Call}
 use Rattle.keep_clock.specs.declared.reading.Reading.{Reading}
@@ -117,3 +117,12 @@ AnswersAsking (Some id) answer now old new =
 
 abbrev pub AnswersAsked : {T D : Type 0} → List ℕ → ℕ → Control T D → Control T D → Type 0
 AnswersAsked answer now old new = AnswersAsking old.asking answer now old new
+
+-- the client whose request was taken last is sent this, and its answer goes on under its number; where none was taken nothing is done
+abbrev pub FollowsAsking : {T D : Type 0} → Option ℕ → List ℕ → Option ℕ → Control T D → Control T D → Type 0
+FollowsAsking None answer number old new = (number ≡ None) × (new ≡ old)
+FollowsAsking (Some id) answer number old new =
+    (given : Bool) × (Follows id answer given old.clients new.clients × ((number ≡ (if given then Some id else None)) × (new ≡ record old { clients = new.clients; asking = None })))
+
+abbrev pub FollowsAsked : {T D : Type 0} → List ℕ → Option ℕ → Control T D → Control T D → Type 0
+FollowsAsked answer number old new = FollowsAsking old.asking answer number old new

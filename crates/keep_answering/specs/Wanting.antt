@@ -31,14 +31,13 @@ TellsLine bytes whole = (front : Front) × (IsFront bytes front × (whole ≡ is
 unfoldable pub why_text : Why → List ℕ
 why_text (whys.Fault fault) = why_of fault
 why_text whys.TooLate = codes "WHEN is after 9999-12-31T23:59:59Z"
-why_text whys.NotHere = codes "this command is not served yet"
 
 -- a need of the entry of that name, of which nobody has looked whether there is one
 abbrev pub needed : List ℕ → Option Need → Wanted
 needed name None = wanted.Refused whys.TooLate
 needed name (Some need) = wanted.Do (asked.Need name need)
 
--- what a request wants: to follow the log is not served, and anything else is done or shown
+-- what a request wants
 abbrev pub wanted_now : ℕ → Request → Wanted
 wanted_now now (requests.Need name when) = needed name (need_at now when)
 wanted_now now (requests.Replace name credential) = wanted.Do (asked.Replace name credential)
@@ -48,7 +47,7 @@ wanted_now now requests.Settle = wanted.Do asked.Settle
 wanted_now now requests.Reload = wanted.Do asked.Reload
 wanted_now now requests.Status = wanted.Show pages.Listing
 wanted_now now requests.Health = wanted.Show pages.Health
-wanted_now now (requests.Follow alerts) = wanted.Refused whys.NotHere
+wanted_now now (requests.Follow alerts) = wanted.Do (asked.Follow alerts)
 
 abbrev pub wanted_if : ℕ → Result Request RequestFault → Wanted
 wanted_if now (Ok request) = wanted_now now request

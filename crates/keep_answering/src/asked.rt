@@ -35,4 +35,9 @@ pub enum Asked {
     Settle,
     /// The file is to be read anew.
     Reload,
+    /// The log's lines from now on.
+    Follow {
+        /// Whether only warnings and alerts are wanted.
+        alerts: bool,
+    },
 }

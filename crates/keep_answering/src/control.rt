@@ -1,6 +1,6 @@
 //! The clients of an agent's control socket.
 ghost use Rattle.std.specs.Prelude.{◌≡◌, ◌&&◌, IfOk};
-ghost use Rattle.keep_answering.specs.Controlling.{AnswersAsked, ControlGoesOn, Gives, OneIsReplied, can_be_asked, nobody_asks, refused_text, shown_text};
+ghost use Rattle.keep_answering.specs.Controlling.{AnswersAsked, ControlGoesOn, FollowsAsked, Gives, OneIsReplied, can_be_asked, nobody_asks, refused_text, shown_text};
 
 use crate::asked::Asked;
 use crate::lines::RequestLines;
@@ -100,6 +100,19 @@ impl<T: Talk, D: Door<T>> Control<T, D> {
             return;
         };
         let _is_there = self.clients.answer(id, answer, now);
+    }
+
+    /// Sends the client whose request was taken last the first of an answer that goes on, and says under which number it is given
+    /// more (`Clients::feed`); `None` where none was taken, or it was answered.
+    pub fn follow(&mut self, answer: Vec<u8>) -> Option<u64>
+        ensures { FollowsAsked answer.items result self.old self.new }
+    {
+        let id = mem::replace(&mut self.asking, None)?;
+        if self.clients.follow(id, answer) {
+            Some(id)
+        } else {
+            None
+        }
     }
 }
 

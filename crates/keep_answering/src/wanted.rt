@@ -32,8 +32,6 @@ pub enum Why {
     Fault(RequestFault),
     /// The time from now ends after [`LAST`](keep_moment::LAST).
     TooLate,
-    /// It is not done while this agent runs.
-    NotHere,
 }
 
 impl Why {
@@ -45,7 +43,6 @@ impl Why {
         match self {
             Why::Fault(fault) => fault.why(),
             Why::TooLate => "WHEN is after 9999-12-31T23:59:59Z",
-            Why::NotHere => "this command is not served yet",
         }
     }
 }
@@ -102,7 +99,7 @@ fn wanted_now(now: u64, request: Request) -> Wanted
         Request::Reload => Wanted::Do(Asked::Reload),
         Request::Status => Wanted::Show(Page::Listing),
         Request::Health => Wanted::Show(Page::Health),
-        Request::Follow { .. } => Wanted::Refused(Why::NotHere),
+        Request::Follow { alerts } => Wanted::Do(Asked::Follow { alerts }),
     }
 }
 

@@ -24,7 +24,7 @@ use Rattle.keep_control.proofs.WordTrees.{AllUtf8, line_read, line_text, words_b
 use Rattle.keep_calling.specs.Asking.{is_text, line_for, stripped, tree_for, words_for, words_line}
 use Rattle.keep_calling.specs.Laws.{AreText, IsTooLong, SaysOnly, SentIsAsked, UnsentIsRefused}
 use Rattle.keep_calling.specs.declared.ask.Ask.{Ask}
-use Rattle.keep_calling.specs.declared.ask.Ask.TheVariants.{Need, Replace, Add, Drop, Status, Health, Settle, Reload}
+use Rattle.keep_calling.specs.declared.ask.Ask.TheVariants.{Need, Replace, Add, Drop, Status, Health, Settle, Reload, Follow}
 
 pub stripped_is : (text rest : List ℕ) → IsTrimAscii text rest → rest ≡ stripped text
 stripped_is text rest is = trim_ascii_is text rest _ refl is
@@ -40,6 +40,8 @@ all_utf8 Status input is text = (IsUtf8-are_ascii _ refl, tt)
 all_utf8 Health input is text = (IsUtf8-are_ascii _ refl, tt)
 all_utf8 Settle input is text = (IsUtf8-are_ascii _ refl, tt)
 all_utf8 Reload input is text = (IsUtf8-are_ascii _ refl, tt)
+all_utf8 (Follow false) input is text = (IsUtf8-are_ascii _ refl, tt)
+all_utf8 (Follow true) input is text = (IsUtf8-are_ascii _ refl, (IsUtf8-are_ascii _ refl, tt))
 
 are_words : (ask : Ask) (input : List ℕ) → words_in (tree_of_words (words_for ask input)) ≡ Some (words_for ask input)
 are_words (Need name when) input = words_back _ _
@@ -50,6 +52,8 @@ are_words Status input = words_back _ _
 are_words Health input = words_back _ _
 are_words Settle input = words_back _ _
 are_words Reload input = words_back _ _
+are_words (Follow false) input = words_back _ _
+are_words (Follow true) input = words_back _ _
 
 line_is : (ask : Ask) (input line : List ℕ) → words_line ask input ≡ Ok line → (is_text ask input ≡ true) × (line ≡ compact_text (tree_of_words (words_for ask input)))
 unfolding words_line tree_for

@@ -11,7 +11,7 @@ use Rattle.keep_control.specs.Requests.{request_of}
 use Rattle.keep_control.specs.Words.{texted}
 use Rattle.keep_control.specs.declared.fault.RequestFault.{RequestFault}
 use Rattle.keep_calling.specs.declared.ask.Ask.{Ask}
-use Rattle.keep_calling.specs.declared.ask.Ask.TheVariants.{Need, Replace, Add, Drop, Status, Health, Settle, Reload}
+use Rattle.keep_calling.specs.declared.ask.Ask.TheVariants.{Need, Replace, Add, Drop, Status, Health, Settle, Reload, Follow}
 
 abbrev pub command_word : Ask → List ℕ
 command_word (Need name when) = codes "need"
@@ -22,12 +22,18 @@ command_word Status = codes "status"
 command_word Health = codes "health"
 command_word Settle = codes "settle"
 command_word Reload = codes "reload"
+command_word (Follow alerts) = codes "follow"
 
 -- whether it takes what standard input holds
 abbrev pub takes_input : Ask → Bool
 takes_input (Replace name) = true
 takes_input Add = true
 takes_input _ = false
+
+-- whether its answer goes on
+abbrev pub is_follow : Ask → Bool
+is_follow (Follow alerts) = true
+is_follow _ = false
 
 abbrev pub is_health : Ask → Bool
 is_health Health = true
@@ -47,6 +53,8 @@ words_for Status input = codes "status" ∷ []
 words_for Health input = codes "health" ∷ []
 words_for Settle input = codes "settle" ∷ []
 words_for Reload input = codes "reload" ∷ []
+words_for (Follow false) input = codes "follow" ∷ []
+words_for (Follow true) input = codes "follow" ∷ codes "alerts" ∷ []
 
 -- what it takes of standard input is text, which JSON can write
 abbrev pub is_text : Ask → List ℕ → Bool

@@ -5,4 +5,5 @@ pub mod Requesting
 pub mod Reaching
 pub mod Hearing
 pub mod Showing
+pub mod Following
 pub mod Laws

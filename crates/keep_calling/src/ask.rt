@@ -1,5 +1,5 @@
 ghost use Rattle.std.specs.Prelude.{◌≡◌};
-ghost use Rattle.keep_calling.specs.Asking.{command_word, is_health, takes_input};
+ghost use Rattle.keep_calling.specs.Asking.{command_word, is_follow, is_health, takes_input};
 
 /// What is asked of a running agent, as the command line says it.
 #[derive(Clone, Copy, Debug)]
@@ -31,6 +31,11 @@ pub enum Ask<'a> {
     Settle,
     /// The inventory's file is to be read again.
     Reload,
+    /// The log's lines from now on.
+    Follow {
+        /// Whether warnings and alerts alone are wanted.
+        alerts: bool,
+    },
 }
 
 impl<'a> Ask<'a> {
@@ -47,6 +52,7 @@ impl<'a> Ask<'a> {
             Ask::Health => "health",
             Ask::Settle => "settle",
             Ask::Reload => "reload",
+            Ask::Follow { .. } => "follow",
         }
     }
 
@@ -55,6 +61,13 @@ impl<'a> Ask<'a> {
         ensures { result ≡ takes_input self.now }
     {
         matches!(self, Ask::Replace { .. } | Ask::Add)
+    }
+
+    /// Whether its answer goes on.
+    pub fn is_follow(&self) -> bool
+        ensures { result ≡ is_follow self.now }
+    {
+        matches!(self, Ask::Follow { .. })
     }
 
     /// Whether it asks which needed entries are not kept.

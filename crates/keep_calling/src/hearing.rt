@@ -32,8 +32,8 @@ pub(crate) fn hear<L: Source + Sink>(
     listen(alloc, line)
 }
 
-// Sends it.
-fn give<L: Source + Sink>(request: &[u8], line: &mut L) -> Result<(), SinkFault>
+/// Sends it.
+pub(crate) fn give<L: Source + Sink>(request: &[u8], line: &mut L) -> Result<(), SinkFault>
     ensures { Sent result request.now (⟦<L as Watched>⟧.change line.old line.new) }
 {
     write_all(line, request)?;
@@ -52,8 +52,8 @@ fn listen<L: Source + Sink>(alloc: Global, line: &mut L) -> Result<Heard, CallFa
     reply_in(alloc, text)
 }
 
-// The reply that the bytes are which came.
-fn reply_in(alloc: Global, text: Text) -> Result<Heard, CallFault>
+/// The reply that the bytes are which came.
+pub(crate) fn reply_in(alloc: Global, text: Text) -> Result<Heard, CallFault>
     ensures heard { MatchResult result
         (λ h. heard_of text ≡ Ok h.reply)
         (λ fault. (heard_of text ≡ Err fault) ⊎ (fault ≡ Memory)) }

@@ -53,6 +53,8 @@ fn tree_for(alloc: Global, ask: &Ask<'_>, input: &[u8]) -> Result<Value, Request
         Ask::Health => Ok(one(alloc, "health")?),
         Ask::Settle => Ok(one(alloc, "settle")?),
         Ask::Reload => Ok(one(alloc, "reload")?),
+        Ask::Follow { alerts: false } => Ok(one(alloc, "follow")?),
+        Ask::Follow { alerts: true } => Ok(two(alloc, "follow", "alerts")?),
     }
 }
 

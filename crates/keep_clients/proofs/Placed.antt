@@ -1,10 +1,11 @@
 -- One of the guests gives its request, or is given its answer: for `take_request` and `answer`.
-use Rattle.std.proofs.Common.{◌≡◌, ℕ, suc, zero, ◌<◌, ◌∙◌, Bool, true, false, cond, List, [], ◌∷◌, length, get_or, set, Option, Some, None, refl, sym, subst, ap, arith}
+use Rattle.std.proofs.Common.{◌≡◌, ℕ, suc, zero, ◌<◌, ◌∙◌, Bool, true, false, cond, List, [], ◌∷◌, length, get_or, set, Option, Some, None, Result, refl, sym, subst, ap, arith}
 use Rattle.std.proofs.lemmas.List.Quantifiers.{position-Some}
 use Rattle.std.specs.List.{position, slice_get}
-use Rattle.keep_clients.specs.Guests.{asked_bytes, is_asked}
-use Rattle.keep_clients.specs.Tables.{AnswersAt, Table, Takes, TakesAt, TakesFrom, answered, asked_at, asked_of, first_asked}
+use Rattle.keep_clients.specs.Guests.{IsFed, asked_bytes, is_asked}
+use Rattle.keep_clients.specs.Tables.{BecomesAt, Feeds, FeedsAt, Table, Takes, TakesAt, TakesFrom, asked_at, asked_of, first_asked, follows_as}
 use Rattle.keep_clients.specs.declared.clients.Request.{Request}
+use Rattle.keep_clients.specs.declared.fed.Fed.{Fed}
 use Rattle.keep_clients.specs.declared.guest.Guest.{Guest}
 use Rattle.keep_clients.specs.declared.limits.Limits.{Limits}
 
@@ -20,14 +21,22 @@ module _ {T F : Type 0} (next : ℕ) (limits : Limits) (framing : F) where
   abbrev table : List (Guest T) → Table T F
   table xs = record { guests = xs; next = next; limits = limits; framing = framing }
 
-  pub answered_at : (test : Guest T → Bool) (now : ℕ) (answer : List ℕ) (old : Table T F) (xs ys : List (Guest T)) (i : ℕ) (found : Option ℕ) (g n : Guest T) → table xs ≡ old → ys ≡ xs
-      → found ≡ position test ys → found ≡ Some i → i < length ys → g ≡ get_or xs i g → n ≡ answered now answer g
-      → AnswersAt (position test old.guests) now answer true old (table (set xs i n))
-  answered_at test now answer old xs ys i found g n is same found_is some within here done =
+  pub became_at : (test : Guest T → Bool) (change : Guest T → Guest T) (old : Table T F) (xs ys : List (Guest T)) (i : ℕ) (found : Option ℕ) (g n : Guest T) → table xs ≡ old → ys ≡ xs
+      → found ≡ position test ys → found ≡ Some i → i < length ys → g ≡ get_or xs i g → n ≡ change g
+      → BecomesAt (position test old.guests) change true old (table (set xs i n))
+  became_at test change old xs ys i found g n is same found_is some within here done =
       let at : position test xs ≡ Some i = ap (position test) (sym same) ∙ sym found_is ∙ some in
       let inside : i < length xs = subst (λ l. i < length l) same within in
-      subst (λ o. AnswersAt (position test o.guests) now answer true o (table (set xs i n))) is
-      (subst (λ o. AnswersAt o now answer true (table xs) (table (set xs i n))) (sym at) (refl, (g, (got xs i g inside here, ap (λ m. table (set xs i m)) done))))
+      subst (λ o. BecomesAt (position test o.guests) change true o (table (set xs i n))) is
+      (subst (λ o. BecomesAt o change true (table xs) (table (set xs i n))) (sym at) (refl, (g, (got xs i g inside here, ap (λ m. table (set xs i m)) done))))
+
+  pub fed_at : {E : Type 0} (id : ℕ) (bytes : List ℕ) (fed : Result Fed E) (old : Table T F) (xs ys : List (Guest T)) (i : ℕ) (found : Option ℕ) (g n : Guest T) → table xs ≡ old → ys ≡ xs
+      → found ≡ position (follows_as id) ys → found ≡ Some i → i < length ys → g ≡ get_or xs i g → IsFed bytes fed g n → Feeds id bytes fed old (table (set xs i n))
+  fed_at id bytes fed old xs ys i found g n is same found_is some within here done =
+      let at : position (follows_as id) xs ≡ Some i = ap (position (follows_as id)) (sym same) ∙ sym found_is ∙ some in
+      let inside : i < length xs = subst (λ l. i < length l) same within in
+      subst (λ o. Feeds id bytes fed o (table (set xs i n))) is
+      (subst (λ o. FeedsAt o bytes fed (table xs) (table (set xs i n))) (sym at) (g, (n, (got xs i g inside here, (done, refl)))))
 
   asked_taken : (r : Option Request) (xs : List (Guest T)) (i : ℕ) (g n : Guest T) → is_asked g.stage ≡ true → slice_get xs i ≡ Some g → TakesFrom g r n
       → TakesAt (Some i) (table xs) r (table (set xs i n))

@@ -3,13 +3,15 @@
 use Rattle.std.specs.Prelude.{◌≡◌, ℕ, ◌+◌, ◌-◌, ◌^◌, ◌≤◌, ◌⊎◌, min, nat_lt, nat_eq, List, [], ◌∷◌, ◌++◌, length, filter, not, Bool, true, false, ◌&&◌, Option, Some, None, Result, Ok, Err, if◌then◌else◌}
 use Rattle.std.specs.List.{position, remove, slice_get, slice_set}
 use Rattle.keep_clients.specs.Doors.{AskedFor, Log}
-use Rattle.keep_clients.specs.Guests.{GoesOn, IsLost, asked_bytes, by_after, is_asked, is_busy, is_over, is_waiting, newcomer}
+use Rattle.keep_clients.specs.Guests.{GoesOn, IsFed, IsLost, asked_bytes, by_after, is_asked, is_busy, is_following, is_over, is_waiting, newcomer}
 use Rattle.keep_clients.specs.declared.clients.Came.{Came}
 use Rattle.keep_clients.specs.declared.clients.Came.TheVariants.{One, Nobody, NoPlace}
 use Rattle.keep_clients.specs.declared.clients.Request.{Request}
+use Rattle.keep_clients.specs.declared.fed.Fed.{Fed}
+use Rattle.keep_clients.specs.declared.fed.Fed.TheVariants.{Gone}
 use Rattle.keep_clients.specs.declared.guest.Guest.{Guest}
 use Rattle.keep_clients.specs.declared.limits.Limits.{Limits}
-use Rattle.keep_clients.specs.declared.stage.Stage.TheVariants.{Asked, Answering, Waiting}
+use Rattle.keep_clients.specs.declared.stage.Stage.TheVariants.{Asked, Answering, Following, Waiting}
 use Rattle.keep_clients.specs.declared.talk.Call.{Call}
 
 -- the guests, the first to come first; the number of the next; how many may be there and how long a request may be; what tells
@@ -27,7 +29,7 @@ abbrev pub earlier : ℕ → Option ℕ → ℕ
 earlier n None = n
 earlier n (Some m) = min n m
 
--- since when the one has been idle that has been so longest, of those that are read or written to
+-- since when the one has been idle that has been so longest, of those that have to be read or written by a moment
 abbrev pub idle_since : {T : Type 0} → List (Guest T) → Option ℕ
 idle_since [] = None
 idle_since (g ∷ gs) = if is_busy g.stage then Some (earlier g.moved (idle_since gs)) else idle_since gs
@@ -136,14 +138,37 @@ waits_as id g = is_waiting g.stage && nat_eq g.id id
 abbrev pub answered : {T : Type 0} → ℕ → List ℕ → Guest T → Guest T
 answered now answer g = record g { stage = Answering answer; by = by_after now; moved = now; waits = false }
 
--- the guest is given its answer; where nobody waits under that number nobody is given it
-abbrev pub AnswersAt : {T F : Type 0} → Option ℕ → ℕ → List ℕ → Bool → Table T F → Table T F → Type 0
-AnswersAt None now answer given old new = (given ≡ false) × (new ≡ old)
-AnswersAt {T} (Some i) now answer given old new = (given ≡ true) × ((g : Guest T) × ((slice_get old.guests i ≡ Some g) × (new ≡ record old { guests = slice_set old.guests i (answered now answer g) })))
+-- the guest at this place becomes another; where there is no place nothing changes
+abbrev pub BecomesAt : {T F : Type 0} → Option ℕ → (Guest T → Guest T) → Bool → Table T F → Table T F → Type 0
+BecomesAt None change found old new = (found ≡ false) × (new ≡ old)
+BecomesAt {T} (Some i) change found old new = (found ≡ true) × ((g : Guest T) × ((slice_get old.guests i ≡ Some g) × (new ≡ record old { guests = slice_set old.guests i (change g) })))
 
+-- the guest is given its answer; where nobody waits under that number nobody is given it
 abbrev pub Answers : {T F : Type 0} → ℕ → ℕ → List ℕ → Bool → Table T F → Table T F → Type 0
-Answers id now answer given old new = AnswersAt (position (waits_as id) old.guests) now answer given old new
+Answers id now answer given old new = BecomesAt (position (waits_as id) old.guests) (answered now answer) given old new
 
 -- the guest of the first request that nobody has taken yet is given its answer
 abbrev pub AnswersFirst : {T F : Type 0} → ℕ → List ℕ → Bool → Table T F → Table T F → Type 0
-AnswersFirst now answer given old new = AnswersAt (position (λ g. is_asked g.stage) old.guests) now answer given old new
+AnswersFirst now answer given old new = BecomesAt (position (λ g. is_asked g.stage) old.guests) (answered now answer) given old new
+
+-- ---- answers that go on
+
+-- with the first of an answer that goes on
+abbrev pub following : {T : Type 0} → List ℕ → Guest T → Guest T
+following answer g = record g { stage = Following answer; waits = false }
+
+-- the guest is given the first of an answer that goes on; where nobody waits under that number nobody is given it
+abbrev pub Follows : {T F : Type 0} → ℕ → List ℕ → Bool → Table T F → Table T F → Type 0
+Follows id answer given old new = BecomesAt (position (waits_as id) old.guests) (following answer) given old new
+
+-- the guest whose answer goes on under this number
+abbrev pub follows_as : {T : Type 0} → ℕ → Guest T → Bool
+follows_as id g = is_following g.stage && nat_eq g.id id
+
+-- the guest is given of these bytes what one call writes; where nobody follows under that number it is said that it has gone
+abbrev pub FeedsAt : {T F E : Type 0} → Option ℕ → List ℕ → Result Fed E → Table T F → Table T F → Type 0
+FeedsAt None bytes fed old new = (fed ≡ Ok Gone) × (new ≡ old)
+FeedsAt {T} (Some i) bytes fed old new = (g : Guest T) × ((n : Guest T) × ((slice_get old.guests i ≡ Some g) × (IsFed bytes fed g n × (new ≡ record old { guests = slice_set old.guests i n }))))
+
+abbrev pub Feeds : {T F E : Type 0} → ℕ → List ℕ → Result Fed E → Table T F → Table T F → Type 0
+Feeds id bytes fed old new = FeedsAt (position (follows_as id) old.guests) bytes fed old new

@@ -2,9 +2,10 @@
 ghost use Rattle.std.specs.Prelude.{◌≡◌, ◌<◌, ◌&&◌, [], IfSome, filter, length, not, option_map};
 ghost use Rattle.std.specs.List.{list_any, position};
 ghost use Rattle.keep_clients.specs.Guests.{can_go_on, is_asked, is_over};
-ghost use Rattle.keep_clients.specs.Tables.{Answers, AnswersFirst, EachGoesOn, LetsIn, LetsOneIn, Takes, Turns, first_asked, waits_as};
+ghost use Rattle.keep_clients.specs.Tables.{Answers, AnswersFirst, EachGoesOn, Feeds, Follows, LetsIn, LetsOneIn, Takes, Turns, first_asked, follows_as, waits_as};
 
 use crate::door::Door;
+use crate::fed::Fed;
 use crate::framing::Framing;
 use crate::guest::Guest;
 use crate::letting::{idle_since, make_place};
@@ -164,6 +165,31 @@ impl<T: Talk, F: Framing + Drop> Clients<T, F> {
         }
     }
 
+    /// Gives the guest that waits under that number the first of an answer that goes on: [`Clients::feed`] gives it more, as it
+    /// comes, and it has all the time to read it. It says whether there is one. It takes no memory.
+    pub fn follow(&mut self, id: u64, answer: Vec<u8>) -> bool
+        ensures { Follows id answer.items result self.old self.new }
+    {
+        match place_of(&self.guests, id) {
+            Some(place) => {
+                self.guests[place].set_following(answer);
+                true
+            }
+            None => false,
+        }
+    }
+
+    /// Gives the guest whose answer goes on under that number of these bytes what one call writes, where all that it was given
+    /// before is written. The only error is out of memory: it is given nothing then.
+    pub fn feed(&mut self, id: u64, bytes: &[u8]) -> Result<Fed, AllocError>
+        ensures { Feeds id bytes.now result self.old self.new }
+    {
+        match place_following(&self.guests, id) {
+            Some(place) => self.guests[place].feed(bytes),
+            None => Ok(Fed::Gone),
+        }
+    }
+
     /// Whether a turn could go on at once: a guest is to be read or written to whose last call did not come to that it would
     /// have to wait. Where none could, the next turn is due once a guest or the door is told of, or time has passed.
     pub fn is_busy(&self) -> bool
@@ -189,6 +215,16 @@ fn place_of<T>(guests: &[Guest<T>], id: u64) -> Option<usize>
     guests
         .iter()
         .position(|guest| guest.stage.is_waiting() && guest.id == id)
+}
+
+/// The place of the guest whose answer goes on under that number.
+fn place_following<T>(guests: &[Guest<T>], id: u64) -> Option<usize>
+    ensures place { result ≡ position (follows_as id) guests.now }
+    ensures within { IfSome result (λ i. i < length guests.now) }
+{
+    guests
+        .iter()
+        .position(|guest| guest.stage.is_following() && guest.id == id)
 }
 
 /// Each goes on by one call of its connection at most. It says whether memory sufficed.

@@ -1,14 +1,16 @@
 //! One guest, and what it becomes by one call of its connection.
-ghost use Rattle.std.specs.Prelude.{◌≡◌, ◌++◌, ◌<◌, ◌≤◌, OnErr, OnOk, drop, length, take, vec_len};
-ghost use Rattle.keep_clients.specs.Guests.{GoesOn, IsLost, IsReadOn, IsWrittenOn, can_go_on, newcomer};
-ghost use Rattle.keep_clients.specs.Tables.{TakesFrom, answered};
+ghost use Rattle.std.specs.Prelude.{◌≡◌, ◌++◌, ◌<◌, ◌≤◌, [], OnErr, OnOk, drop, length, take, vec_len};
+ghost use Rattle.keep_clients.specs.Guests.{AddsFront, FeedsOn, GoesOn, IsFed, IsListenedTo, IsLost, IsReadOn, IsToldOn, IsWritten, IsWrittenOn, can_go_on, count, newcomer};
+ghost use Rattle.keep_clients.specs.Tables.{TakesFrom, answered, following};
 ghost use Rattle.keep_clients.specs.declared.stage.Stage.TheVariants.{Over};
 
 use crate::clients::Request;
+use crate::fed::Fed;
 use crate::framing::Framing;
 use crate::limits::{MOST_PIECE, PATIENCE};
-use crate::stage::{Stage, count, has_waited, moved_by, read_to, written_to};
+use crate::stage::{Stage, count, has_waited, heard_to, moved_by, read_to, told_to, written_to};
 use crate::talk::Talk;
+use keep_device::Tried;
 use keep_moment::Text;
 use std::alloc::{AllocError, Global};
 use std::mem;
@@ -66,11 +68,42 @@ impl<T> Guest<T> {
         self.waits = false;
     }
 
+    /// Is given the first of an answer that goes on.
+    pub(crate) fn set_following(&mut self, answer: Vec<u8>)
+        ensures { self.new ≡ following answer.items self.old }
+    {
+        self.stage = Stage::Following(Text::from_vec(answer));
+        self.waits = false;
+    }
+
+    /// Is given of these bytes what one call writes, where its answer goes on and all that it was given so far is written. The
+    /// only error is out of memory.
+    pub(crate) fn feed(&mut self, bytes: &[u8]) -> Result<Fed, AllocError>
+        ensures { IsFed bytes.now result self.old self.new }
+    {
+        match mem::replace(&mut self.stage, Stage::Waiting) {
+            Stage::Following(left) => self.feed_on(left.into_vec(), bytes),
+            stage => {
+                self.stage = stage;
+                Ok(Fed::Gone)
+            }
+        }
+    }
+
+    /// The same where this is left of what it was given.
+    fn feed_on(&mut self, mut left: Vec<u8>, bytes: &[u8]) -> Result<Fed, AllocError>
+        ensures { FeedsOn bytes.now left.items result self.old self.new }
+    {
+        let fed = add_front(&mut left, bytes);
+        self.stage = Stage::Following(Text::from_vec(left));
+        fed
+    }
+
     /// Whether one call more may come to something, although nobody told of it.
     pub(crate) fn can_go_on(&self) -> bool
         ensures { result ≡ can_go_on self.now }
     {
-        self.stage.is_busy() && !self.waits
+        (self.stage.is_busy() || self.stage.is_following()) && !self.waits
     }
 }
 
@@ -93,6 +126,10 @@ impl<T: Talk> Guest<T> {
             Stage::Reading(bytes) => self.read_on(room, framing, most, bytes.into_vec(), now),
             Stage::Answering(answer) => {
                 self.write_on(answer.into_vec(), now);
+                Ok(())
+            }
+            Stage::Following(left) => {
+                self.tell_on(room, left.into_vec(), now);
                 Ok(())
             }
             stage => {
@@ -131,11 +168,45 @@ impl<T: Talk> Guest<T> {
     fn write_on(&mut self, mut left: Vec<u8>, now: u64)
         ensures { IsWrittenOn T.remaining T.written T.calls now left.items self.old self.new }
     {
-        let tried = self.talk.give(piece(&left));
-        drop_front(&mut left, count(tried));
+        let tried = self.write(&mut left, now);
+        self.stage = written_to(tried, left).in_time(now, self.by);
+    }
+
+    /// Goes on where its answer goes on, and this is left of what it was given. `room` is what a read is offered.
+    fn tell_on(&mut self, room: &mut [u8], mut left: Vec<u8>, now: u64)
+        requires { length room.old ≡ 4096 }
+        ensures room { length room.new ≡ 4096 }
+        ensures on { IsToldOn T.remaining T.written T.calls now left.items self.old self.new }
+    {
+        if left.is_empty() {
+            self.listen(room, left);
+            return;
+        }
+        let tried = self.write(&mut left, now);
+        self.stage = told_to(tried, left);
+    }
+
+    /// Reads once, where all that it was given is written: `left` is empty.
+    fn listen(&mut self, room: &mut [u8], left: Vec<u8>)
+        requires { left.items ≡ [] }
+        ensures room { length room.new ≡ length room.old }
+        ensures on { IsListenedTo T.remaining T.written T.calls self.old self.new }
+    {
+        let tried = self.talk.get(room);
+        self.waits = has_waited(tried);
+        self.stage = heard_to(tried, left);
+    }
+
+    /// Writes once, and takes what was written off the front of what is left.
+    fn write(&mut self, left: &mut Vec<u8>, now: u64) -> Tried
+        ensures rest { left.new.items ≡ drop (count result) left.old.items }
+        ensures written { IsWritten T.remaining T.written T.calls now result self.old.stage left.old.items self.old self.new }
+    {
+        let tried = self.talk.give(piece(left));
+        drop_front(left, count(tried));
         self.moved = moved_by(tried, now, self.moved);
         self.waits = has_waited(tried);
-        self.stage = written_to(tried, left).in_time(now, self.by);
+        tried
     }
 }
 
@@ -148,6 +219,19 @@ fn piece(left: &[u8]) -> &[u8]
     } else {
         &left[..MOST_PIECE]
     }
+}
+
+/// Adds what one call writes of these bytes, where nothing is left. The only error is out of memory.
+fn add_front(left: &mut Vec<u8>, bytes: &[u8]) -> Result<Fed, AllocError>
+    ensures { AddsFront bytes.now result left.old.items left.new.items }
+{
+    if !left.is_empty() {
+        return Ok(Fed::Full);
+    }
+    let front = piece(bytes);
+    left.reserve(front.len())?;
+    left.extend_from_slice(front).unwrap();
+    Ok(Fed::Taken(front.len()))
 }
 
 /// Takes so many bytes off the front.

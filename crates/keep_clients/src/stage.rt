@@ -1,6 +1,6 @@
 //! How far a guest has come, as a value.
 ghost use Rattle.std.specs.Prelude.{◌≡◌, option_map};
-ghost use Rattle.keep_clients.specs.Guests.{asked_bytes, count, has_waited, in_time, is_asked, is_busy, is_over, is_waiting, moved_by, read_to, written_to};
+ghost use Rattle.keep_clients.specs.Guests.{asked_bytes, count, has_waited, heard_to, in_time, is_asked, is_busy, is_following, is_over, is_waiting, moved_by, read_to, told_to, written_to};
 
 use keep_device::Tried;
 use keep_moment::Text;
@@ -16,6 +16,8 @@ pub enum Stage {
     Waiting,
     /// This has still to be written of its answer.
     Answering(Text),
+    /// Its answer goes on: this has still to be written of what it was given so far, and more may be given.
+    Following(Text),
     /// Its connection is to be closed.
     Over,
 }
@@ -27,7 +29,11 @@ impl Stage {
     {
         match self {
             Stage::Over => true,
-            Stage::Reading(_) | Stage::Asked(_) | Stage::Waiting | Stage::Answering(_) => false,
+            Stage::Reading(_)
+            | Stage::Asked(_)
+            | Stage::Waiting
+            | Stage::Answering(_)
+            | Stage::Following(_) => false,
         }
     }
 
@@ -37,7 +43,11 @@ impl Stage {
     {
         match self {
             Stage::Asked(_) => true,
-            Stage::Reading(_) | Stage::Waiting | Stage::Answering(_) | Stage::Over => false,
+            Stage::Reading(_)
+            | Stage::Waiting
+            | Stage::Answering(_)
+            | Stage::Following(_)
+            | Stage::Over => false,
         }
     }
 
@@ -47,7 +57,11 @@ impl Stage {
     {
         match self {
             Stage::Asked(bytes) => Some(bytes.list()),
-            Stage::Reading(_) | Stage::Waiting | Stage::Answering(_) | Stage::Over => None,
+            Stage::Reading(_)
+            | Stage::Waiting
+            | Stage::Answering(_)
+            | Stage::Following(_)
+            | Stage::Over => None,
         }
     }
 
@@ -57,17 +71,35 @@ impl Stage {
     {
         match self {
             Stage::Waiting => true,
-            Stage::Reading(_) | Stage::Asked(_) | Stage::Answering(_) | Stage::Over => false,
+            Stage::Reading(_)
+            | Stage::Asked(_)
+            | Stage::Answering(_)
+            | Stage::Following(_)
+            | Stage::Over => false,
         }
     }
 
-    /// Whether it is read or written to.
+    /// Whether it has to be read or written by a moment.
     pub(crate) fn is_busy(&self) -> bool
         ensures { result ≡ is_busy self.now }
     {
         match self {
             Stage::Reading(_) | Stage::Answering(_) => true,
-            Stage::Asked(_) | Stage::Waiting | Stage::Over => false,
+            Stage::Asked(_) | Stage::Waiting | Stage::Following(_) | Stage::Over => false,
+        }
+    }
+
+    /// Whether its answer goes on.
+    pub(crate) fn is_following(&self) -> bool
+        ensures { result ≡ is_following self.now }
+    {
+        match self {
+            Stage::Following(_) => true,
+            Stage::Reading(_)
+            | Stage::Asked(_)
+            | Stage::Waiting
+            | Stage::Answering(_)
+            | Stage::Over => false,
         }
     }
 
@@ -81,6 +113,7 @@ impl Stage {
             Stage::Reading(_) | Stage::Answering(_) | Stage::Over => Stage::Over,
             Stage::Asked(bytes) => Stage::Asked(bytes),
             Stage::Waiting => Stage::Waiting,
+            Stage::Following(left) => Stage::Following(left),
         }
     }
 }
@@ -107,6 +140,26 @@ pub(crate) fn written_to(tried: Tried, left: Vec<u8>) -> Stage
         Tried::Failed => Stage::Over,
         Tried::Done(_) | Tried::Waits if left.is_empty() => Stage::Over,
         Tried::Done(_) | Tried::Waits => Stage::Answering(Text::from_vec(left)),
+    }
+}
+
+/// What a guest whose answer goes on becomes by a write, with all that has still to be written of what it was given.
+pub(crate) fn told_to(tried: Tried, left: Vec<u8>) -> Stage
+    ensures { result ≡ told_to tried left.items }
+{
+    match tried {
+        Tried::Failed => Stage::Over,
+        Tried::Done(_) | Tried::Waits => Stage::Following(Text::from_vec(left)),
+    }
+}
+
+/// What it becomes by a read, where all that it was given is written: one that sends more, or has gone, is sent away.
+pub(crate) fn heard_to(tried: Tried, left: Vec<u8>) -> Stage
+    ensures { result ≡ heard_to tried left.items }
+{
+    match tried {
+        Tried::Done(_) | Tried::Failed => Stage::Over,
+        Tried::Waits => Stage::Following(Text::from_vec(left)),
     }
 }
 

@@ -2,9 +2,17 @@
 -- Source: docs/running.md, "What the operator sees"; the rest is this project's own.
 use Rattle.std.specs.Prelude.{ℕ, Bool, not, ◌||◌, if◌then◌else◌, List}
 use Rattle.keep_log.specs.Lines.{is_alerted}
-use Rattle.keep_log.specs.Waiting.{Waiting, with_line}
+use Rattle.keep_log.specs.Waiting.{Waiting, dropping, with_line}
 use Rattle.keep_log.specs.declared.level.Level.{Level}
 
--- a line of this level is put, unless only warnings and alerts are wanted and it is neither
+-- one is told of a level, unless it wants warnings and alerts alone and the level is neither
+abbrev pub hears : Bool → Level → Bool
+hears alerts_alone level = not alerts_alone || is_alerted level
+
+-- a line of this level is put
 abbrev pub hearing : Bool → Level → List ℕ → List ℕ → Waiting → Waiting
-hearing alerts_alone level notice line w = if not alerts_alone || is_alerted level then with_line notice line w else w
+hearing alerts_alone level notice line w = if hears alerts_alone level then with_line notice line w else w
+
+-- and one that could not be made is counted as dropped
+abbrev pub missing : Bool → Level → Waiting → Waiting
+missing alerts_alone level w = if hears alerts_alone level then dropping 1 w else w

@@ -1,6 +1,5 @@
 ghost use Rattle.std.specs.Prelude.{◌≡◌, IfOk, [], false};
-ghost use Rattle.keep_log.specs.Following.{hearing};
-ghost use Rattle.keep_log.specs.Waiting.{Waiting};
+ghost use Rattle.keep_log.specs.Following.{hearing, hears, missing};
 ghost use Rattle.keep_log.specs.declared.room.TheConstants.{FOLLOWER_ROOM};
 
 use crate::level::Level;
@@ -10,30 +9,57 @@ use std::alloc::{AllocError, Global};
 /// One who reads the log's lines from now on. Who does not read them loses them, whole and counted.
 #[derive(Debug, Drop)]
 pub struct Follower {
+    /// The number of its connection.
+    pub id: u64,
     /// Whether it is told of warnings and alerts alone.
     pub alerts_alone: bool,
     /// What waits for it.
     pub room: LogRoom,
+    /// Whether its connection is closed.
+    pub has_gone: bool,
 }
 
 impl Follower {
     /// One for whom nothing waits yet. The only error is lack of memory.
-    pub fn new(alloc: Global, alerts_alone: bool) -> Result<Follower, AllocError>
-        ensures { IfOk result (λ f. (f.alerts_alone ≡ alerts_alone) × (f.room ≡ record { bytes = []; room = FOLLOWER_ROOM; is_begun = false; untold = 0; dropped = 0 })) }
+    pub fn new(alloc: Global, id: u64, alerts_alone: bool) -> Result<Follower, AllocError>
+        ensures { IfOk result (λ f. f ≡ record {
+          id = id;
+          alerts_alone = alerts_alone;
+          room = record { bytes = []; room = FOLLOWER_ROOM; is_begun = false; untold = 0; dropped = 0 };
+          has_gone = false;
+        }) }
     {
         Ok(Follower {
+            id,
             alerts_alone,
             room: LogRoom::new(alloc, FOLLOWER_ROOM)?,
+            has_gone: false,
         })
     }
 
     /// Takes a line of this level, where it is told of that level, as [`LogRoom::put`] does.
     pub fn hear(&mut self, level: Level, notice: &[u8], line: &[u8])
-        ensures room { self.new.room ≡ hearing self.old.alerts_alone level notice.now line.now self.old.room }
-        ensures alerts_alone { self.new.alerts_alone ≡ self.old.alerts_alone }
+        ensures { self.new ≡ record self.old { room = hearing self.old.alerts_alone level notice.now line.now self.old.room } }
     {
-        if !self.alerts_alone || level.is_alerted() {
+        if self.hears(level) {
             self.room.put(notice, line);
         }
+    }
+
+    /// Counts a line of this level that could not be made, for lack of memory, where it is told of that level, as
+    /// [`LogRoom::miss`] does.
+    pub fn miss(&mut self, level: Level)
+        ensures { self.new ≡ record self.old { room = missing self.old.alerts_alone level self.old.room } }
+    {
+        if self.hears(level) {
+            self.room.miss();
+        }
+    }
+
+    // Whether it is told of a level.
+    fn hears(&self, level: Level) -> bool
+        ensures { result ≡ hears self.now.alerts_alone level }
+    {
+        !self.alerts_alone || level.is_alerted()
     }
 }

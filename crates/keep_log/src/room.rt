@@ -115,15 +115,15 @@ impl LogRoom {
     {
         let most = most.min(self.bytes.len());
         let turn = write_out(sink, &self.bytes[..most]);
-        self.advance(turn.taken);
+        self.pass(turn.taken);
         if turn.failed {
             self.close();
         }
         (turn.taken, turn.failed)
     }
 
-    // The first bytes were given.
-    fn advance(&mut self, taken: usize)
+    /// So many of the bytes that wait were given, the first of them.
+    pub fn pass(&mut self, taken: usize)
         requires { taken ≤ length self.now.bytes }
         ensures { self.new ≡ giving taken self.old }
     {

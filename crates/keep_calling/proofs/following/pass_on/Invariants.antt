@@ -1,0 +1,11 @@
+-- What came so far is shown.
+use Rattle.std.proofs.Common.{◌≡◌, length}
+use Rattle.keep_device.specs.Seen.{change}
+use Rattle.keep_calling.proofs.Passed.{SoFar}
+use Rattle.keep_calling.proofs.following.pass_on.Given as goal
+
+abbrev pub invariant-loop : goal.invariant-loop
+invariant-loop g l = record {
+  room : length l.room ≡ 65536;
+  so_far : SoFar (change g.L.Device.is_in_memory (g.L.Device.seen l.fn.line) (g.L.Device.seen l.line)) (change g.W.Device.is_in_memory (g.W.Device.seen l.fn.out) (g.W.Device.seen l.out));
+}
