@@ -7,6 +7,8 @@ mod ends;
 #[cfg(test)]
 mod example;
 #[cfg(test)]
+mod followers;
+#[cfg(test)]
 mod guests;
 #[cfg(test)]
 mod kept;

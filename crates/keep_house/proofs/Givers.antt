@@ -1,6 +1,6 @@
 -- Givers: which changes are given in a turn: none but those that clients ask for and that are kept; and when the log's reader is
 -- tried. For the impl of Neighbours.
-use Rattle.std.proofs.Common.{◌≡◌, ◌∙◌, ℕ, ◌+◌, ◌≤◌, Bool, true, false, List, [], Option, Some, None, Result, Ok, Err, ap, refl, subst, sym}
+use Rattle.std.proofs.Common.{◌≡◌, ◌∙◌, ◌⊎◌, ℕ, ◌+◌, ◌≤◌, Bool, true, false, inl, inr, List, [], Option, Some, None, Result, Ok, Err, ap, refl, subst, sym}
 use Rattle.std.proofs.lemmas.Bool.{true≢false}
 use Rattle.std.specs.Prelude.{◌||◌, Vec, is_some, option_to_list}
 use Rattle.std.specs.declared.alloc.AllocError.{AllocError}
@@ -22,11 +22,15 @@ use Rattle.keep_log.specs.declared.writing.TheConstants.{MOST_TRIES}
 use Rattle.keep_onlook.specs.declared.board.Surroundings.{Surroundings}
 use Rattle.keep_serving.specs.Changes.{AllGiven}
 use Rattle.keep_serving.specs.declared.change.Change.{Change}
+use Rattle.keep_house.specs.Admitting.{AdmitsIf, FollowsLog, IsFollowed, asking_in}
 use Rattle.keep_house.specs.Commands.{Adds, AddsIf, AddsRow, AsksFor, AsksIf, CarriesIf, CarriesOut, ClosesClient, Drops, GivesNeed, IsDue, IsKept, IsRebuilt, Lacks, Needs, NeedsIf, Reloads, Replaces, RereadBy, ServesClients, Settles, SettlesAnswer, SettlesBy, SettlesGiven, SettlesNeed, SettlesServed, TellsNeed, TellsReload, end_named, until_of}
+use Rattle.keep_house.specs.Feeding.{FollowersGoOn}
 use Rattle.keep_house.specs.Houses.{Attends, ClientIsAnswered, ClientsAsk, ClientsGoOn, Concludes, Sends, WillTell, bytes_sent, changes_given, given_where}
 use Rattle.keep_house.specs.Keeping.{Comes, KeepCall, Outcome, Settle, Take, Why}
 use Rattle.keep_house.specs.Telling.{IsAddLine, IsDropLine, replace_line, settle_line}
 use Rattle.keep_house.specs.Lines.{Line}
+use Rattle.keep_house.specs.Rooms.{Rooms}
+use Rattle.keep_house.specs.declared.form.Form.{Form}
 use Rattle.keep_house.specs.declared.given.Given.{Given}
 use Rattle.keep_house.specs.declared.given.Given.TheVariants as givens
 use Rattle.keep_house.specs.declared.given.GivenNeed.{GivenNeed}
@@ -73,6 +77,11 @@ rebuilt does None new h = ap is_some h
 rebuilt does (Some old) None h = absurd h
 rebuilt does (Some old) (Some new) h = refl
 
+begun : {T D : Type 0} (answer : List ℕ) (old new : Option (Control T D)) → IsFollowed answer old new → is_some new ≡ is_some old
+begun answer None new h = ap is_some h
+begun answer (Some old) None h = absurd h
+begun answer (Some old) (Some new) h = refl
+
 some_is_none : {X : Type 0} (x : X) (a : Result (Option X) AllocError) → a ≡ Ok (Some x) → a ≡ Ok None → ⊥
 some_is_none x a one other = cc
 
@@ -116,6 +125,20 @@ module _ {S T D K E : Type 0} where
   reload_told path agent now (Some (Ok r)) old new h = let all = will_tell (Ok h.line) now.elapsed _ new h.will in record { sink = all.sink; control = all.control; state = all.state }
   reload_told path agent now (Some (Err why)) old new h = let all = will_tell (Err why) now.elapsed _ new h.will in record { sink = all.sink; control = all.control; state = all.state }
 
+  -- ---- the log is followed
+
+  admitted : (id : Option ℕ) (alerts : Bool) (old new : House S T D K E) → AdmitsIf id alerts old new → AreSame old new
+  admitted None alerts old new h = same old new h
+  admitted (Some id) alerts old new h = record { sink = ap (λ x. x.sink) h.rest; control = begun _ old.control new.control h.client; state = ap (λ x. is_some x.state) h.rest }
+
+  admits : (now : Reading) (alerts : Bool) (old new : House S T D K E) → AdmitsIf (asking_in old.control) alerts old new ⊎ WillTell (Err None) now.elapsed old new → AreSame old new
+  admits now alerts old new (inl h) = admitted (asking_in old.control) alerts old new h
+  admits now alerts old new (inr h) = will_tell (Err None) now.elapsed old new h
+
+  log_followed : (now : Reading) (alerts : Bool) (old new : House S T D K E) → FollowsLog now alerts old new → AreSame old new
+  log_followed now alerts old new (inl h) = will_tell (Err h.why) now.elapsed old new h.will
+  log_followed now alerts old new (inr h) = admits now alerts old new h.admits
+
 module _ {S T D K E : Type 0} (does : KeepCall → K → K → Type 0) (rows : K → List Row) (path : K → List ℕ) (reads : List ℕ → Result Row Why → Type 0)
     (gives : ℕ → Result (Option Inventory) AllocError → K → Type 0) (agent : Agent) (now : Reading) where
   carried_out : (a : Asked) (change : Change) (old new : House S T D K E) → CarriesOut does rows path reads gives agent now a change old new → AreSame old new
@@ -130,6 +153,7 @@ module _ {S T D K E : Type 0} (does : KeepCall → K → K → Type 0) (rows : K
       after_state h.1.state old new (comes does Settle (λ k line. line ≡ settle_line (path k)) h.1.outcome old.state h.1.state h.1.comes) (concluded agent _ h.1.outcome now.elapsed (record old { state = h.1.state }) new h.1.concludes)
   carried_out asked.Reload change old new h =
       after_state h.1.state old new (reread does now h.1.result old.state h.1.state h.1.asks) (reload_told path agent now h.1.result (record old { state = h.1.state }) new h.1.tells)
+  carried_out (asked.Follow alerts) change old new h = log_followed now alerts old new h.1
 
   lacked : (change : Option Change) (old new : House S T D K E) → Lacks does rows path reads gives agent now change old new → AreSame old new
   lacked change old new h = record { sink = ap (λ x. x.sink) h.1.1; control = ap (λ x. is_some x.control) h.1.1; state = ap (λ x. is_some x.state) h.1.1 }
@@ -182,10 +206,15 @@ same_goers remaining written calls log agent around now went None new h = ap is_
 same_goers remaining written calls log agent around now went (Some old) None h = absurd h
 same_goers remaining written calls log agent around now went (Some old) (Some new) h = refl
 
+same_fed : {T D : Type 0} (form : Form) (moment : ℕ) (old new : Rooms) (before after : Option (Control T D)) → FollowersGoOn form moment old new before after → is_some after ≡ is_some before
+same_fed form moment old new None after h = ap is_some h.1
+same_fed form moment old new (Some before) None h = absurd h
+same_fed form moment old new (Some before) (Some after) h = refl
+
 pub none_by_attending : {S T D K E : Type 0} (given : S → Option (List ℕ)) (failures tries : S → ℕ) (remaining written : T → Option (List ℕ)) (calls : T → Option (List Call)) (log : D → Option (Log T))
     (agent : Agent) (now : Reading) (goes_on : Bool) (old new : House S T D K E) → Attends given failures tries remaining written calls log agent now goes_on old new → changes_given new.control new.state ≡ changes_given old.control old.state
 none_by_attending given failures tries remaining written calls log agent now goes_on old new h =
-    ap (λ b. given_where (b || is_some new.state)) (same_goers remaining written calls log agent _ now h.answered old.control new.control h.clients)
+    ap (λ b. given_where (b || is_some new.state)) (same_goers remaining written calls log agent _ now h.answered h.fed new.control h.clients ∙ same_fed _ _ _ h.rooms old.control h.fed h.follow)
     ∙ ap (λ x. given_where (is_some old.control || is_some x.state)) h.rest
 
 -- ---- a client gives one, or a rebuilding is given

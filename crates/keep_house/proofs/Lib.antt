@@ -6,6 +6,11 @@ pub mod Pieces
 pub mod Marking
 pub mod Filled
 pub mod Gathered
+pub mod Compacting
 pub mod Read
 pub mod Givers
 pub mod Deciding
+pub mod EachOne
+pub mod Within
+pub mod Admits
+pub mod Attended

@@ -5,6 +5,7 @@ use Rattle.keep_agent.specs.Agent.{Agent}
 use Rattle.keep_agent.specs.declared.shorts.Short.{Short}
 use Rattle.keep_agent.specs.declared.standing.Trouble.{Trouble}
 use Rattle.keep_asking.specs.declared.told.Said.{Said}
+use Rattle.keep_lines.specs.Text.{name_of}
 use Rattle.watch_machine.specs.declared.command.Request.{Request}
 use Rattle.watch_machine.specs.declared.event.Operation.{Operation}
 use Rattle.watch_machine.specs.declared.notes.Notes.{Notes}
@@ -12,6 +13,7 @@ use Rattle.watch_machine.specs.declared.outlook.Next.{Next}
 use Rattle.keep_house.specs.Answered.{answered_lines}
 use Rattle.keep_house.specs.Clocked.{clocked_lines, marks_clocked, short_lines}
 use Rattle.keep_house.specs.Nexts.{next_lines, next_there}
+use Rattle.keep_house.specs.Sockets.{need_line}
 use Rattle.keep_house.specs.declared.mark.Mark.{Mark}
 
 -- two agents that differ in credentials alone, or in terms or beginnings
@@ -31,6 +33,10 @@ abbrev pub NextAlike : Type 0
 NextAlike =
     (a b : Agent) → AreAlike a b → (last : Option (Option Next)) (next : Option Next) →
     next_lines b last (next_there b.machine next) ≡ next_lines a last (next_there a.machine next)
+
+-- of an entry that a client needs until then
+abbrev pub NeedAlike : Type 0
+NeedAlike = (a b : Agent) → AreAlike a b → (i until : ℕ) → need_line (name_of b.inventory.forest i) until ≡ need_line (name_of a.inventory.forest i) until
 
 -- of needs that are past what their entries reach
 abbrev pub ShortsAlike : Type 0

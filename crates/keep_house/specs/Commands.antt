@@ -21,6 +21,7 @@ use Rattle.keep_onlook.specs.declared.board.FileReading.{FileReading}
 use Rattle.keep_serving.specs.declared.change.Change.{Change}
 use Rattle.keep_serving.specs.declared.change.Change.TheVariants as changes
 use Rattle.keep_tree.specs.Forest.{index_named}
+use Rattle.keep_house.specs.Admitting.{FollowsLog}
 use Rattle.keep_house.specs.Changed.{entry_line, fault_lines, reread_lines, settled_line}
 use Rattle.keep_house.specs.Clocked.{marks_anew}
 use Rattle.keep_house.specs.Desks.{Desk, HearsLine, HearsRefusal, Says}
@@ -205,6 +206,7 @@ module _ {S T D K E : Type 0} (does : KeepCall → K → K → Type 0) (rows : K
   CarriesOut (asked.Drop name) change old new = (change ≡ changes.Kept) × Drops does agent now name old new
   CarriesOut asked.Settle change old new = (change ≡ changes.Kept) × Settles does path agent now old new
   CarriesOut asked.Reload change old new = (change ≡ changes.Kept) × Reloads does path agent now old new
+  CarriesOut (asked.Follow alerts) change old new = (change ≡ changes.Kept) × FollowsLog now alerts old new
 
   -- memory was wanting, and that is said
   abbrev pub Lacks : Option Change → House S T D K E → House S T D K E → Type 0

@@ -1,4 +1,5 @@
--- Desks: where it is said what happens to an agent: the room of its log, and what was said last of each entry.
+-- Desks: where it is said what happens to an agent: the rooms of its log and of those who follow it, and what was said
+-- last of each entry.
 -- Source: this project's own; docs/running.md, "What the operator sees".
 use Rattle.std.specs.Prelude.{◌≡◌, ◌⊎◌, ◌≤◌, ℕ, Bool, true, false, not, ◌&&◌, List, [], ◌∷◌, Option, length, min, nat_eq, nat_lt, replicate, take}
 use Rattle.std.specs.Io.KnownBytes.{Appends}
@@ -9,7 +10,6 @@ use Rattle.keep_clock.specs.declared.reading.Reading.{Reading}
 use Rattle.keep_log.specs.Waiting.{Waiting, after_turn, closed_if, giving, with_notice}
 use Rattle.keep_log.specs.declared.level.Level.{Level}
 use Rattle.keep_log.specs.declared.line.Word.TheVariants as words
-use Rattle.keep_log.specs.declared.room.TheConstants.{LOG_ROOM}
 use Rattle.watch_machine.specs.declared.command.Request.{Request}
 use Rattle.watch_machine.specs.declared.event.Operation.{Operation}
 use Rattle.watch_machine.specs.declared.notes.Notes.{Notes}
@@ -17,6 +17,7 @@ use Rattle.keep_house.specs.Answered.{answered_lines, trouble_after}
 use Rattle.keep_house.specs.Clocked.{clocked_lines, marks_clocked, memory_line, short_lines}
 use Rattle.keep_house.specs.Lines.{AreSaid, IsSaid, Line, TellsDropped, line, now_of, second_of}
 use Rattle.keep_house.specs.Marks.{fresh_mark, mark_at, with_trouble}
+use Rattle.keep_house.specs.Rooms.{Rooms, begun_rooms}
 use Rattle.keep_house.specs.Sockets.{socket_line}
 use Rattle.keep_house.specs.declared.form.Form.{Form}
 use Rattle.keep_house.specs.declared.giving.TheConstants.{MOST_GIVEN}
@@ -25,12 +26,12 @@ use Rattle.keep_house.specs.declared.mark.Mark.{Mark}
 -- how lines are written, those that wait, and a mark for each entry
 pub record Desk : Type 0 where
   pub form : Form
-  pub room : Waiting
+  pub room : Rooms
   pub marks : List Mark
 
 -- nothing was said yet of so many entries
 abbrev pub begun_desk : Form → ℕ → Desk
-begun_desk form count = record { form = form; room = record { bytes = []; room = LOG_ROOM; is_begun = false; untold = 0; dropped = 0 }; marks = replicate count fresh_mark }
+begun_desk form count = record { form = form; room = begun_rooms; marks = replicate count fresh_mark }
 
 -- these lines are said of the agent as it is, and these marks are left
 pub record Says (a : Agent) (lines : List Line) (marks : List Mark) (old new : Desk) : Type 0 where

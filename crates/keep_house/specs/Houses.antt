@@ -19,9 +19,11 @@ use Rattle.keep_onlook.specs.declared.board.Surroundings.{Surroundings}
 use Rattle.keep_serving.specs.declared.change.Change.{Change}
 use Rattle.watch_machine.specs.declared.outlook.Next.{Next}
 use Rattle.keep_house.specs.Desks.{Desk, HearsIf, HearsWant, IsGiven}
+use Rattle.keep_house.specs.Feeding.{FollowersGoOn}
 use Rattle.keep_house.specs.Keeping.{Outcome}
 use Rattle.keep_house.specs.Lines.{Line, second_of}
 use Rattle.keep_house.specs.Nexts.{next_wake_of}
+use Rattle.keep_house.specs.Rooms.{Rooms}
 use Rattle.keep_house.specs.Telling.{IsReplyTo}
 use Rattle.keep_house.specs.declared.given.Given.TheVariants as givens
 use Rattle.keep_house.specs.declared.house.House.{House}
@@ -50,19 +52,23 @@ module _ {T D : Type 0} (remaining written : T → Option (List ℕ)) (calls : T
   ClientsGoOn (Some old) None = ⊥
   ClientsGoOn (Some old) (Some new) = ControlGoesOn remaining written calls log agent around now went old new
 
--- the log's reader is given of what waits; then the onlookers and the clients go on, each for itself, with the agent as it is and what
--- is around it then; and where memory was wanting for one of them, that is said. Nothing else changes
+-- the log's reader is given of what waits, and then each of those who follow the log; then the onlookers and the clients go on, each for
+-- itself, with the agent as it is and what is around it then; and where memory was wanting for one of them, that is said. Nothing else
+-- changes
 pub record Attends {S T D K E : Type 0} (given : S → Option (List ℕ)) (failures tries : S → ℕ) (remaining written : T → Option (List ℕ)) (calls : T → Option (List Call)) (log : D → Option (Log T))
     (agent : Agent) (now : Reading) (goes_on : Bool) (old new : House S T D K E) : Type 0 where
   pub room : Waiting
+  pub rooms : Rooms
+  pub fed : Option (Control T D)
   pub is_more : Bool
   pub shown : Went
   pub answered : Went
-  pub gives : IsGiven old.desk.form (second_of now.wall) old.desk.room room (given old.sink) (given new.sink) (failures old.sink) (failures new.sink) is_more
+  pub gives : IsGiven old.desk.form (second_of now.wall) old.desk.room.log room (given old.sink) (given new.sink) (failures old.sink) (failures new.sink) is_more
   pub few : tries new.sink ≤ tries old.sink + MOST_TRIES
-  pub onlookers : OnlookersGoOn remaining written calls log agent (around_of old.next old.file room.dropped now.wall) now shown old.onlookers new.onlookers
-  pub clients : ClientsGoOn remaining written calls log agent (around_of old.next old.file room.dropped now.wall) now answered old.control new.control
-  pub desk : HearsWant agent (shown.is_enough && answered.is_enough) (record old.desk { room = room }) new.desk
+  pub follow : FollowersGoOn old.desk.form (second_of now.wall) (record old.desk.room { log = room }) rooms old.control fed
+  pub onlookers : OnlookersGoOn remaining written calls log agent (around_of old.next old.file rooms.log.dropped now.wall) now shown old.onlookers new.onlookers
+  pub clients : ClientsGoOn remaining written calls log agent (around_of old.next old.file rooms.log.dropped now.wall) now answered fed new.control
+  pub desk : HearsWant agent (shown.is_enough && answered.is_enough) (record old.desk { room = rooms }) new.desk
   pub rest : new ≡ record old { desk = new.desk; sink = new.sink; control = new.control; onlookers = new.onlookers }
   pub more : goes_on ≡ (is_more || (shown.is_busy || answered.is_busy))
 

@@ -17,6 +17,7 @@ use Rattle.keep_state.specs.States.{Kept, book_in, store_in}
 use Rattle.keep_state.specs.Tables.{row_of_table}
 use Rattle.keep_state.specs.declared.fault.TableFault.{TableFault}
 use Rattle.keep_store.specs.Books.{HasSecrets, IsBookIf}
+use Rattle.keep_store.specs.Compacted.{compacted_lines, is_worth}
 use Rattle.keep_store.specs.Entering.{IsWhyNot}
 use Rattle.keep_store.specs.Records.{records_in}
 use Rattle.keep_store.specs.Stores.{IsTaken, journal_of, lines_in}
@@ -45,6 +46,10 @@ abbrev pub SaysWhy : {F : Type 0} → (F → Type 0) → (F → List ℕ) → Wh
 SaysWhy {F} Is words None = Unit {0}
 SaysWhy {F} Is words (Some why) = (fault : F) × (Is fault × (why ≡ words fault))
 
+-- the lines are as they were, or those are taken out that are void, where that is worth while
+abbrev pub AreCompacted : List (List ℕ) → List (List ℕ) → Type 0
+AreCompacted old new = (new ≡ old) ⊎ ((is_worth old ≡ true) × (new ≡ compacted_lines old))
+
 -- the change is taken, and then its record is on the disk; afterwards records may go that are void, which changes nothing of what is kept
 pub record IsTakenOn {D : Type 0} (known : Bool) (seen : D → State) (now : ℕ) (name : List ℕ) (w : What) (old new : Kept D) : Type 0 where
   pub mid : Kept D
@@ -52,6 +57,7 @@ pub record IsTakenOn {D : Type 0} (known : Bool) (seen : D → State) (now : ℕ
   pub taken : IsTaken (store_in old) name w need (store_in mid)
   pub waiting : waiting_in mid.keeper ≡ (if need then waiting_in old.keeper else changed (waiting_in old.keeper) now)
   pub acknowledged : IsTrue known → IsWhole (journal_of (store_in mid)) (seen mid.disk)
+  pub lines : AreCompacted (lines_in (store_in mid)) (lines_in (store_in new))
   pub book : book_in new ≡ book_in mid
   pub still : waiting_in new.keeper ≡ waiting_in mid.keeper
 

@@ -1,3 +1,4 @@
+pub mod Rooms
 pub mod Lines
 pub mod Marks
 pub mod Clocked
@@ -9,7 +10,9 @@ pub mod Telling
 pub mod Desks
 pub mod Nexts
 pub mod Ends
+pub mod Feeding
 pub mod Houses
+pub mod Admitting
 pub mod Commands
 pub mod Faults
 pub mod Starts
@@ -17,6 +20,7 @@ pub mod Filling
 pub mod Reading
 pub mod Refusing
 pub mod Reasons
+pub mod Noting
 pub mod Gathering
 pub mod Ledgers
 pub mod Tried

@@ -1,16 +1,19 @@
--- Lines: what is said of an agent, and what becomes of it in the room of its log.
+-- Lines: what is said of an agent, and what becomes of it in the room of its log, and in the room of each of those who follow it.
 -- Source: docs/running.md, "What the operator sees".
 use Rattle.std.specs.Prelude.{◌≡◌, ◌⊎◌, ℕ, ◌+◌, ◌-◌, ◌/◌, List, [], ◌∷◌, codes, min}
 use Rattle.keep_lanes.specs.declared.loss.Loss.{Loss}
 use Rattle.keep_lanes.specs.declared.loss.Loss.TheVariants as losses
+use Rattle.keep_log.specs.Following.{hearing}
 use Rattle.keep_log.specs.Forms.{IsLineJson, IsLineText}
 use Rattle.keep_log.specs.Waiting.{Waiting, dropping, with_line}
+use Rattle.keep_log.specs.declared.follower.Follower.{Follower}
 use Rattle.keep_log.specs.declared.level.Level.{Level}
 use Rattle.keep_log.specs.declared.level.Level.TheVariants.{Warning}
 use Rattle.keep_log.specs.declared.line.Word.{Word}
 use Rattle.keep_log.specs.declared.line.Word.TheVariants as words
 use Rattle.keep_moment.specs.declared.moment.TheConstants.{LAST}
 use Rattle.watch_machine.specs.State.{State}
+use Rattle.keep_house.specs.Rooms.{Rooms, misses, missing_in}
 use Rattle.keep_house.specs.declared.form.Form.{Form}
 use Rattle.keep_house.specs.declared.form.Form.TheVariants.{Text, Json}
 
@@ -62,15 +65,31 @@ dropped_line n = line Warning (codes "log") (words.Text (codes "dropped") ∷ wo
 abbrev pub TellsDropped : Form → ℕ → ℕ → List ℕ → Type 0
 TellsDropped form moment untold notice = (untold ≡ 0) ⊎ IsWritten form moment (dropped_line untold) notice
 
--- it is put where there is room for it, and before it the line that tells of those that were dropped
-abbrev pub IsPut : Form → ℕ → Line → Waiting → Waiting → Type 0
-IsPut form moment l old new = (notice : List ℕ) × ((text : List ℕ) × (TellsDropped form moment old.untold notice × (IsWritten form moment l text × (new ≡ with_line notice text old))))
+-- the text of a line is put where there is room for it, and before it the line that tells of those that were dropped; where memory is
+-- wanting for that one, it is dropped and counted
+abbrev pub IsPut : Form → ℕ → List ℕ → Waiting → Waiting → Type 0
+IsPut form moment text old new =
+    ((notice : List ℕ) × (TellsDropped form moment old.untold notice × (new ≡ with_line notice text old))) ⊎ (new ≡ dropping 1 old)
+
+-- one who follows the log is told of it in the same way, where it is told of that level
+abbrev pub IsTold : Form → ℕ → Level → List ℕ → Follower → Follower → Type 0
+IsTold form moment level text old new =
+    ((notice : List ℕ) × (TellsDropped form moment old.room.untold notice × (new ≡ record old { room = hearing old.alerts_alone level notice text old.room }))) ⊎ (new ≡ misses level old)
+
+abbrev pub EachIsTold : Form → ℕ → Level → List ℕ → List Follower → List Follower → Type 0
+EachIsTold form moment level text [] new = new ≡ []
+EachIsTold form moment level text (f ∷ fs) [] = ⊥
+EachIsTold form moment level text (f ∷ fs) (n ∷ ns) = IsTold form moment level text f n × EachIsTold form moment level text fs ns
+
+-- no room changes what comes into another
+abbrev pub ArePut : Form → ℕ → Level → List ℕ → Rooms → Rooms → Type 0
+ArePut form moment level text old new = IsPut form moment text old.log new.log × EachIsTold form moment level text old.followers new.followers
 
 -- a line is said at a moment; where memory is wanting for it, it is dropped and counted
-unfoldable pub IsSaid : Form → ℕ → Line → Waiting → Waiting → Type 0
-IsSaid form moment l old new = IsPut form moment l old new ⊎ (new ≡ dropping 1 old)
+unfoldable pub IsSaid : Form → ℕ → Line → Rooms → Rooms → Type 0
+IsSaid form moment l old new = ((text : List ℕ) × (IsWritten form moment l text × ArePut form moment l.level text old new)) ⊎ (new ≡ missing_in l.level old)
 
 -- lines are said, one after another
-abbrev pub AreSaid : Form → ℕ → List Line → Waiting → Waiting → Type 0
+abbrev pub AreSaid : Form → ℕ → List Line → Rooms → Rooms → Type 0
 AreSaid form moment [] old new = new ≡ old
-AreSaid form moment (l ∷ ls) old new = (mid : Waiting) × (IsSaid form moment l old mid × AreSaid form moment ls mid new)
+AreSaid form moment (l ∷ ls) old new = (mid : Rooms) × (IsSaid form moment l old mid × AreSaid form moment ls mid new)

@@ -7,13 +7,14 @@ ghost use Rattle.keep_house.specs.Lines.{AreSaid, IsSaid, cut};
 ghost use Rattle.watch_machine.specs.Outlook.{broker_now};
 
 use crate::moments::moment_word;
+use crate::rooms::Rooms;
 use crate::saying::{Stamp, say, say_of, say_text};
 use crate::wording::{name_and_loss, one_loss};
 use keep_agent::{Agent, Trouble};
 use keep_asking::Said;
 use keep_lanes::Loss;
 use keep_lines::name_of;
-use keep_log::{Level, LogRoom, Word};
+use keep_log::{Level, Word};
 use std::alloc::Global;
 use watch_machine::{Link, Notes, Operation, Reply, Watch};
 
@@ -28,7 +29,7 @@ pub(crate) fn say_answered(
     said: Said,
     notes: &Notes,
     before: Option<Trouble>,
-    room: &mut LogRoom,
+    room: &mut Rooms,
 )
     ensures { AreSaid stamp.now.form stamp.now.moment (answered_lines agent.now entry operation said notes.now before) room.old room.new }
 {
@@ -47,7 +48,7 @@ fn say_reply(
     operation: Operation,
     said: Said,
     before: Option<Trouble>,
-    room: &mut LogRoom,
+    room: &mut Rooms,
 )
     ensures { IsSaid stamp.now.form stamp.now.moment (reply_line name.now watch.now operation before said.loss said.reply) room.old room.new }
 {
@@ -71,7 +72,7 @@ fn say_told(
     operation: Operation,
     seconds: u64,
     date: Option<u64>,
-    room: &mut LogRoom,
+    room: &mut Rooms,
 )
     ensures { IsSaid stamp.now.form stamp.now.moment (told_line operation name.now watch.now seconds date) room.old room.new }
 {
@@ -94,7 +95,7 @@ fn say_refused(
     name: &[u8],
     before: Option<Trouble>,
     status: u16,
-    room: &mut LogRoom,
+    room: &mut Rooms,
 )
     ensures { IsSaid stamp.now.form stamp.now.moment (refused_line name.now before status) room.old room.new }
 {
@@ -110,14 +111,14 @@ fn say_lost(
     name: &[u8],
     before: Option<Trouble>,
     why: Loss,
-    room: &mut LogRoom,
+    room: &mut Rooms,
 )
     ensures { IsSaid stamp.now.form stamp.now.moment (lost_line name.now before why) room.old room.new }
 {
     let level = lost_level(before);
     match name_and_loss(alloc, name, why) {
         Ok(words) => say(alloc, stamp, level, "lost", words, room),
-        Err(_) => room.miss(),
+        Err(_) => room.miss(level),
     }
 }
 
@@ -158,7 +159,7 @@ fn say_noted(
     why: Loss,
     notes: &Notes,
     before: Option<Trouble>,
-    room: &mut LogRoom,
+    room: &mut Rooms,
 )
     ensures { AreSaid stamp.now.form stamp.now.moment (noted_lines name.now watch.now before why notes.now) room.old room.new }
 {
@@ -176,7 +177,7 @@ fn say_gone(
     name: &[u8],
     before: Option<Trouble>,
     gone: Option<u16>,
-    room: &mut LogRoom,
+    room: &mut Rooms,
 )
     ensures { AreSaid stamp.now.form stamp.now.moment (gone_lines name.now before gone) room.old room.new }
 {
@@ -193,7 +194,7 @@ fn say_top(
     name: &[u8],
     watch: &Watch,
     top: Option<u64>,
-    room: &mut LogRoom,
+    room: &mut Rooms,
 )
     ensures { AreSaid stamp.now.form stamp.now.moment (top_lines name.now watch.now top) room.old room.new }
 {
@@ -204,7 +205,7 @@ fn say_top(
 }
 
 #[tactic(auto, using(crate::proofs::Said::one_said))]
-fn say_orphan(alloc: Global, stamp: &Stamp, name: &[u8], is_orphan: bool, room: &mut LogRoom)
+fn say_orphan(alloc: Global, stamp: &Stamp, name: &[u8], is_orphan: bool, room: &mut Rooms)
     ensures { AreSaid stamp.now.form stamp.now.moment (orphan_lines name.now is_orphan) room.old room.new }
 {
     if is_orphan {
@@ -213,7 +214,7 @@ fn say_orphan(alloc: Global, stamp: &Stamp, name: &[u8], is_orphan: bool, room: 
 }
 
 #[tactic(auto, using(crate::proofs::Said::one_said))]
-fn say_never(alloc: Global, stamp: &Stamp, name: &[u8], is_endless: bool, room: &mut LogRoom)
+fn say_never(alloc: Global, stamp: &Stamp, name: &[u8], is_endless: bool, room: &mut Rooms)
     ensures { AreSaid stamp.now.form stamp.now.moment (never_lines name.now is_endless) room.old room.new }
 {
     if is_endless {
@@ -222,7 +223,7 @@ fn say_never(alloc: Global, stamp: &Stamp, name: &[u8], is_endless: bool, room: 
 }
 
 #[tactic(auto, using(crate::proofs::Said::one_said, crate::proofs::Said::missed))]
-fn say_link(alloc: Global, stamp: &Stamp, why: Loss, link: Option<Link>, room: &mut LogRoom)
+fn say_link(alloc: Global, stamp: &Stamp, why: Loss, link: Option<Link>, room: &mut Rooms)
     ensures { AreSaid stamp.now.form stamp.now.moment (link_lines why link) room.old room.new }
 {
     match link {
@@ -230,7 +231,7 @@ fn say_link(alloc: Global, stamp: &Stamp, why: Loss, link: Option<Link>, room: &
         Some(Link::Back) => say(alloc, stamp, Level::Info, "back", Vec::new(alloc), room),
         Some(Link::Away) => match one_loss(alloc, why) {
             Ok(words) => say(alloc, stamp, Level::Warning, "away", words, room),
-            Err(_) => room.miss(),
+            Err(_) => room.miss(Level::Warning),
         },
     }
 }

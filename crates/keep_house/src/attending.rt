@@ -1,5 +1,5 @@
 //! What each neighbour is given of a turn.
-ghost use Rattle.std.specs.Prelude.{◌≡◌, ◌&&◌};
+ghost use Rattle.std.specs.Prelude.{◌≡◌, ◌&&◌, ◌||◌};
 ghost use Rattle.keep_house.specs.Houses.{Attends, ClientsGoOn, OnlookersGoOn, around_of, idle};
 
 use crate::house::House;
@@ -13,27 +13,27 @@ use keep_onlook::Surroundings;
 use std::alloc::Global;
 
 impl<S: LogSink, T: Talk, D: Door<T>, K, E> House<S, T, D, K, E> {
-    /// Gives the log's reader what it takes, and then goes on with each onlooker and each client by one call of its connection at
-    /// most, and answers one of each. The agent is read alone. Where memory was wanting for an onlooker or a client, that is said.
-    /// Whether more could be done at once.
-    #[tactic(auto, using(crate::proofs::Deciding::hears_by))]
+    /// Gives the log's reader what it takes, and those who follow the log what waits for them; then goes on with each onlooker and each
+    /// client by one call of its connection at most, and answers one of each. The agent is read alone. Where memory was wanting for an
+    /// onlooker or a client, that is said. Whether more could be done at once.
     pub fn attend(&mut self, alloc: Global, agent: &Agent, now: Reading) -> bool
         ensures { Attends S.written S.failures S.tries T.remaining T.written T.calls D.log agent.now now result self.old self.new }
     {
         let is_more = self.give(alloc, now);
+        self.feed(alloc, now);
         let around = self.around(now);
         let shown = show(alloc, &mut self.onlookers, agent, around, now);
         let answered = answer(alloc, &mut self.control, agent, around, now);
         self.desk
             .hear_want(alloc, agent, both(shown.is_enough, answered.is_enough));
-        is_more || shown.is_busy || answered.is_busy
+        any_of(is_more, shown.is_busy, answered.is_busy)
     }
 }
 
 impl<S, T, D, K, E> House<S, T, D, K, E> {
     /// What is around the agent at a moment.
     fn around(&self, now: Reading) -> Surroundings
-        ensures { result ≡ around_of self.now.next self.now.file self.now.desk.room.dropped now.wall }
+        ensures { result ≡ around_of self.now.next self.now.file self.now.desk.room.log.dropped now.wall }
     {
         Surroundings {
             wall: now.wall / 1000,
@@ -85,6 +85,13 @@ fn idle() -> Went
         is_busy: false,
         is_enough: true,
     }
+}
+
+// Whether one of them could go on at once.
+fn any_of(is_more: bool, is_shown: bool, is_answered: bool) -> bool
+    ensures { result ≡ (is_more || (is_shown || is_answered)) }
+{
+    is_more || is_shown || is_answered
 }
 
 // Whether memory sufficed twice.

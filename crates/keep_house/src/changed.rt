@@ -4,8 +4,9 @@ ghost use Rattle.keep_house.specs.Changed.{copy_lines, entry_line, fault_lines, 
 ghost use Rattle.keep_house.specs.Lines.{AreSaid, IsSaid};
 
 use crate::keeping::Reread;
+use crate::rooms::Rooms;
 use crate::saying::{Stamp, say, say_text};
-use keep_log::{Level, LogRoom};
+use keep_log::Level;
 use keep_moment::Text;
 use std::alloc::Global;
 
@@ -15,7 +16,7 @@ pub(crate) fn say_entry(
     stamp: &Stamp,
     event: &'static str,
     name: &[u8],
-    room: &mut LogRoom,
+    room: &mut Rooms,
 )
     ensures { IsSaid stamp.now.form stamp.now.moment (entry_line event.now name.now) room.old room.new }
 {
@@ -23,7 +24,7 @@ pub(crate) fn say_entry(
 }
 
 /// Says that the file holds every change.
-pub(crate) fn say_settled(alloc: Global, stamp: &Stamp, room: &mut LogRoom)
+pub(crate) fn say_settled(alloc: Global, stamp: &Stamp, room: &mut Rooms)
     ensures { IsSaid stamp.now.form stamp.now.moment settled_line room.old room.new }
 {
     say(alloc, stamp, Level::Info, "settle", Vec::new(alloc), room);
@@ -31,7 +32,7 @@ pub(crate) fn say_settled(alloc: Global, stamp: &Stamp, room: &mut LogRoom)
 
 /// Says that the file was read anew, and which changes do not hold any more.
 #[tactic(auto, using(crate::proofs::Said::one_said, crate::proofs::Said::both_said), unfolding(crate::specs::Changed::reread_lines))]
-pub(crate) fn say_reread(alloc: Global, stamp: &Stamp, reread: &Reread, room: &mut LogRoom)
+pub(crate) fn say_reread(alloc: Global, stamp: &Stamp, reread: &Reread, room: &mut Rooms)
     ensures { AreSaid stamp.now.form stamp.now.moment (reread_lines reread.now) room.old room.new }
 {
     say_unkept(alloc, stamp, &reread.unkept, room);
@@ -41,7 +42,7 @@ pub(crate) fn say_reread(alloc: Global, stamp: &Stamp, reread: &Reread, room: &m
 
 // Says what is said of a copy that could not be kept.
 #[tactic(auto, using(crate::proofs::Said::one_said))]
-fn say_unkept(alloc: Global, stamp: &Stamp, unkept: &Option<Text>, room: &mut LogRoom)
+fn say_unkept(alloc: Global, stamp: &Stamp, unkept: &Option<Text>, room: &mut Rooms)
     ensures { AreSaid stamp.now.form stamp.now.moment (copy_lines unkept.now) room.old room.new }
 {
     if let Some(said) = unkept {
@@ -49,14 +50,14 @@ fn say_unkept(alloc: Global, stamp: &Stamp, unkept: &Option<Text>, room: &mut Lo
     }
 }
 
-fn say_read(alloc: Global, stamp: &Stamp, room: &mut LogRoom)
+fn say_read(alloc: Global, stamp: &Stamp, room: &mut Rooms)
     ensures { IsSaid stamp.now.form stamp.now.moment reread_line room.old room.new }
 {
     say_text(alloc, stamp, Level::Info, "file", b"was read anew", room);
 }
 
 // Says which changes do not hold any more.
-fn say_notes(alloc: Global, stamp: &Stamp, notes: &[Text], room: &mut LogRoom)
+fn say_notes(alloc: Global, stamp: &Stamp, notes: &[Text], room: &mut Rooms)
     ensures { AreSaid stamp.now.form stamp.now.moment (map note_line notes.now) room.old room.new }
 {
     for note in notes {
@@ -64,7 +65,7 @@ fn say_notes(alloc: Global, stamp: &Stamp, notes: &[Text], room: &mut LogRoom)
     }
 }
 
-fn say_note(alloc: Global, stamp: &Stamp, note: &Text, room: &mut LogRoom)
+fn say_note(alloc: Global, stamp: &Stamp, note: &Text, room: &mut Rooms)
     ensures { IsSaid stamp.now.form stamp.now.moment (note_line note.now) room.old room.new }
 {
     say_text(alloc, stamp, Level::Note, "journal", note.list(), room);
@@ -72,7 +73,7 @@ fn say_note(alloc: Global, stamp: &Stamp, note: &Text, room: &mut LogRoom)
 
 /// Says why the file is not served, where memory sufficed for the reason.
 #[tactic(auto, using(crate::proofs::Said::one_said))]
-pub(crate) fn say_fault(alloc: Global, stamp: &Stamp, why: &Option<Text>, room: &mut LogRoom)
+pub(crate) fn say_fault(alloc: Global, stamp: &Stamp, why: &Option<Text>, room: &mut Rooms)
     ensures { AreSaid stamp.now.form stamp.now.moment (fault_lines why.now) room.old room.new }
 {
     if let Some(why) = why {

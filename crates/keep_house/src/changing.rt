@@ -67,6 +67,7 @@ impl<S, T: Talk, D: Door<T>, K: Keeping, E> House<S, T, D, K, E> {
             Asked::Drop { name } => self.drop_entry(alloc, agent, now, name.list()),
             Asked::Settle => self.settle_file(alloc, agent, now),
             Asked::Reload => self.reload(alloc, agent, now),
+            Asked::Follow { alerts } => self.follow(alloc, now, alerts),
         }
         Change::Kept
     }

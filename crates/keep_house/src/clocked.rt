@@ -6,11 +6,12 @@ ghost use Rattle.keep_house.specs.Lines.{AreSaid, IsSaid};
 use crate::ended::say_ended;
 use crate::mark::Mark;
 use crate::moments::moment_word;
+use crate::rooms::Rooms;
 use crate::saying::{Stamp, say, say_of, say_text};
 use crate::wording::{asked_words, is_same, word_and_names};
 use keep_agent::{Agent, Short};
 use keep_lines::name_of;
-use keep_log::{Level, LogRoom};
+use keep_log::Level;
 use keep_tree::{Forest, Indices};
 use std::alloc::Global;
 use watch_machine::{Notes, Operation, Request, Why};
@@ -24,7 +25,7 @@ pub(crate) fn say_clocked(
     notes: &Notes,
     requests: &[Request],
     marks: &[Mark],
-    room: &mut LogRoom,
+    room: &mut Rooms,
 )
     ensures { AreSaid stamp.now.form stamp.now.moment (clocked_lines agent.now notes.now requests.now marks.now) room.old room.new }
 {
@@ -46,7 +47,7 @@ pub(crate) fn say_clocked(
 
 // Says why everything is looked up anew, where it is.
 #[tactic(auto, using(crate::proofs::Said::one_said))]
-fn say_begin(alloc: Global, stamp: &Stamp, began: Option<Why>, room: &mut LogRoom)
+fn say_begin(alloc: Global, stamp: &Stamp, began: Option<Why>, room: &mut Rooms)
     ensures { AreSaid stamp.now.form stamp.now.moment (begin_lines began) room.old room.new }
 {
     if let Some(why) = began {
@@ -67,13 +68,7 @@ fn why_text(why: Why) -> &'static [u8]
 
 // Says the round that opens, where one does.
 #[tactic(auto, using(crate::proofs::Said::one_said, crate::proofs::Said::missed), unfolding(watch_machine::specs::Clocks::sec))]
-fn say_wake(
-    alloc: Global,
-    stamp: &Stamp,
-    agent: &Agent,
-    round: &Option<Indices>,
-    room: &mut LogRoom,
-)
+fn say_wake(alloc: Global, stamp: &Stamp, agent: &Agent, round: &Option<Indices>, room: &mut Rooms)
     ensures { AreSaid stamp.now.form stamp.now.moment (wake_lines agent.now round.now) room.old room.new }
 {
     if let Some(asked) = round {
@@ -82,14 +77,14 @@ fn say_wake(
 }
 
 #[tactic(auto, using(crate::proofs::Said::one_said, crate::proofs::Said::missed), unfolding(watch_machine::specs::Clocks::sec))]
-fn say_round(alloc: Global, stamp: &Stamp, agent: &Agent, asked: &[u32], room: &mut LogRoom)
+fn say_round(alloc: Global, stamp: &Stamp, agent: &Agent, asked: &[u32], room: &mut Rooms)
     ensures { AreSaid stamp.now.form stamp.now.moment (wake_lines agent.now (Some asked.now)) room.old room.new }
 {
     let watch = agent.watch();
     let moment = moment_word(watch.broker_moment(watch.clocks().at / 1000));
     match word_and_names(alloc, moment, agent.inventory().forest(), asked) {
         Ok(words) => say(alloc, stamp, Level::Info, "wake", words, room),
-        Err(_) => room.miss(),
+        Err(_) => room.miss(Level::Info),
     }
 }
 
@@ -102,7 +97,7 @@ fn say_asked(
     event: &'static str,
     operation: Operation,
     requests: &[Request],
-    room: &mut LogRoom,
+    room: &mut Rooms,
 )
     ensures { AreSaid stamp.now.form stamp.now.moment (asked_lines names.now event.now operation requests.now) room.old room.new }
 {
@@ -111,7 +106,7 @@ fn say_asked(
     }
     match asked_words(alloc, names, operation, requests) {
         Ok(words) => say(alloc, stamp, Level::Info, event, words, room),
-        Err(_) => room.miss(),
+        Err(_) => room.miss(Level::Info),
     }
 }
 
@@ -131,20 +126,14 @@ pub(crate) fn say_shorts(
     stamp: &Stamp,
     agent: &Agent,
     shorts: &[Short],
-    room: &mut LogRoom,
+    room: &mut Rooms,
 )
     ensures { AreSaid stamp.now.form stamp.now.moment (short_lines agent.now shorts.now) room.old room.new }
 {
     say_each_short(alloc, stamp, agent.inventory().forest(), shorts, room);
 }
 
-fn say_each_short(
-    alloc: Global,
-    stamp: &Stamp,
-    names: &Forest,
-    shorts: &[Short],
-    room: &mut LogRoom,
-)
+fn say_each_short(alloc: Global, stamp: &Stamp, names: &Forest, shorts: &[Short], room: &mut Rooms)
     ensures { AreSaid stamp.now.form stamp.now.moment (map (short_line names.now) shorts.now) room.old room.new }
 {
     for short in shorts {
@@ -152,7 +141,7 @@ fn say_each_short(
     }
 }
 
-fn say_short(alloc: Global, stamp: &Stamp, names: &Forest, short: Short, room: &mut LogRoom)
+fn say_short(alloc: Global, stamp: &Stamp, names: &Forest, short: Short, room: &mut Rooms)
     ensures { IsSaid stamp.now.form stamp.now.moment (short_line names.now short) room.old room.new }
 {
     let reach = moment_word(short.reach);
@@ -162,7 +151,7 @@ fn say_short(alloc: Global, stamp: &Stamp, names: &Forest, short: Short, room: &
 
 /// Says that memory was refused.
 #[tactic(auto, using(crate::proofs::Said::one_said))]
-pub(crate) fn say_memory(alloc: Global, stamp: &Stamp, room: &mut LogRoom)
+pub(crate) fn say_memory(alloc: Global, stamp: &Stamp, room: &mut Rooms)
     ensures { AreSaid stamp.now.form stamp.now.moment (memory_line ∷ []) room.old room.new }
 {
     say_text(alloc, stamp, Level::Warning, "memory", b"refused", room);

@@ -14,12 +14,13 @@ use crate::form::Form;
 use crate::keeping::Reread;
 use crate::mark::{Mark, fresh_marks, mark_at, set_trouble};
 use crate::moments::{now_of, second_of};
+use crate::rooms::Rooms;
 use crate::saying::{Stamp, say_text};
 use crate::sockets::{say_need, say_no_socket};
 use keep_agent::{Agent, Short};
 use keep_asking::Said;
 use keep_clock::Reading;
-use keep_log::{LOG_ROOM, Level, LogRoom};
+use keep_log::{Level, LogRoom};
 use keep_moment::Text;
 use std::alloc::{AllocError, Global};
 use std::marker::Model;
@@ -30,7 +31,7 @@ use watch_machine::{Notes, Operation, Request};
 #[derive(Debug, Drop)]
 pub struct Desk {
     pub(crate) form: Form,
-    pub(crate) room: LogRoom,
+    pub(crate) room: Rooms,
     pub(crate) marks: Vec<Mark>,
 }
 
@@ -49,16 +50,16 @@ impl Desk {
     {
         Ok(Desk {
             form,
-            room: LogRoom::new(alloc, LOG_ROOM)?,
+            room: Rooms::new(alloc)?,
             marks: fresh_marks(alloc, count)?,
         })
     }
 
-    /// The lines that wait.
+    /// The lines that wait for the log's reader.
     pub fn room(&self) -> &LogRoom
-        ensures { result.now ≡ self.now.room }
+        ensures { result.now ≡ self.now.room.log }
     {
-        &self.room
+        &self.room.log
     }
 
     /// Says what is noted of the time that was handed in, whom is asked what, and whose ends are past.

@@ -5,10 +5,11 @@ ghost use Rattle.keep_house.specs.Lines.{AreSaid};
 
 use crate::mark::Mark;
 use crate::moments::moment_word;
+use crate::rooms::Rooms;
 use crate::saying::{Stamp, say_of};
 use keep_agent::{Agent, Condition, Trouble};
 use keep_lines::name_of;
-use keep_log::{Level, LogRoom};
+use keep_log::Level;
 use std::alloc::Global;
 
 /// Says which entries have ended while they are needed, where that was not said.
@@ -17,7 +18,7 @@ pub(crate) fn say_ended(
     stamp: &Stamp,
     agent: &Agent,
     marks: &[Mark],
-    room: &mut LogRoom,
+    room: &mut Rooms,
 )
     ensures { AreSaid stamp.now.form stamp.now.moment (ended_lines agent.now 0 marks.now) room.old room.new }
 {
@@ -28,14 +29,7 @@ pub(crate) fn say_ended(
 
 // Says that an entry has ended, where that is so and was not said.
 #[tactic(auto, using(crate::proofs::Said::one_said))]
-fn say_end(
-    alloc: Global,
-    stamp: &Stamp,
-    agent: &Agent,
-    entry: usize,
-    mark: Mark,
-    room: &mut LogRoom,
-)
+fn say_end(alloc: Global, stamp: &Stamp, agent: &Agent, entry: usize, mark: Mark, room: &mut Rooms)
     ensures { AreSaid stamp.now.form stamp.now.moment (ended_line agent.now entry mark) room.old room.new }
 {
     let names = agent.inventory().forest();

@@ -10,13 +10,14 @@ use crate::desk::Desk;
 use crate::house::House;
 use crate::moments::second_of;
 use crate::reasons::disk_words;
+use crate::rooms::Rooms;
 use crate::saying::{Stamp, say};
 use crate::wording::{one_text, text_word};
 use keep_agent::Agent;
 use keep_clock::Reading;
 use keep_disk::{Disk, DiskFault};
 use keep_ends::EndsFile;
-use keep_log::{Level, LogRoom, Word};
+use keep_log::{Level, Word};
 use std::alloc::{AllocError, Global};
 use watch_machine::Reply;
 
@@ -110,14 +111,14 @@ impl Desk {
 }
 
 // Says that the ends from before the start cannot be read.
-fn say_unread(alloc: Global, stamp: &Stamp, fault: DiskFault, room: &mut LogRoom)
+fn say_unread(alloc: Global, stamp: &Stamp, fault: DiskFault, room: &mut Rooms)
     ensures { IsSaid stamp.now.form stamp.now.moment (unread_line fault) room.old room.new }
 {
     say_ends(alloc, stamp, Level::Alert, b"cannot be read:", fault, room);
 }
 
 // Says that the ends could not be kept.
-fn say_unkept(alloc: Global, stamp: &Stamp, fault: DiskFault, room: &mut LogRoom)
+fn say_unkept(alloc: Global, stamp: &Stamp, fault: DiskFault, room: &mut Rooms)
     ensures { IsSaid stamp.now.form stamp.now.moment (unkept_line fault) room.old room.new }
 {
     say_ends(
@@ -138,13 +139,13 @@ fn say_ends(
     level: Level,
     what: &[u8],
     fault: DiskFault,
-    room: &mut LogRoom,
+    room: &mut Rooms,
 )
     ensures { IsSaid stamp.now.form stamp.now.moment (ends_line level what.now fault) room.old room.new }
 {
     match fault_words(alloc, what, fault) {
         Ok(words) => say(alloc, stamp, level, "ends", words, room),
-        Err(_) => room.miss(),
+        Err(_) => room.miss(level),
     }
 }
 

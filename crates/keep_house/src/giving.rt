@@ -9,7 +9,7 @@ use crate::house::House;
 use crate::moments::second_of;
 use crate::saying::{Stamp, notice_of};
 use keep_clock::Reading;
-use keep_log::LogSink;
+use keep_log::{LogRoom, LogSink};
 use std::alloc::Global;
 
 /// The bytes that the log's reader is given in one turn at most.
@@ -20,11 +20,11 @@ impl<S: LogSink, T, D, K, E> House<S, T, D, K, E> {
     /// is room for that. Whether more could be given at once.
     #[tactic(auto, using(crate::proofs::Deciding::tells_by))]
     pub fn give(&mut self, alloc: Global, now: Reading) -> bool
-        ensures given { IsGiven self.old.desk.form (second_of now.wall) self.old.desk.room self.new.desk.room (S.written self.old.sink) (S.written self.new.sink) (S.failures self.old.sink) (S.failures self.new.sink) result }
+        ensures given { IsGiven self.old.desk.form (second_of now.wall) self.old.desk.room.log self.new.desk.room.log (S.written self.old.sink) (S.written self.new.sink) (S.failures self.old.sink) (S.failures self.new.sink) result }
         ensures tries { S.tries self.new.sink ≤ S.tries self.old.sink + MOST_TRIES }
-        ensures rest { self.new ≡ record self.old { desk = record self.old.desk { room = self.new.desk.room }; sink = self.new.sink } }
+        ensures rest { self.new ≡ record self.old { desk = record self.old.desk { room = record self.old.desk.room { log = self.new.desk.room.log } }; sink = self.new.sink } }
     {
-        let (taken, failed) = self.desk.room.give(&mut self.sink, MOST_GIVEN);
+        let (taken, failed) = self.desk.room.log.give(&mut self.sink, MOST_GIVEN);
         self.desk.tell_if(alloc, may_tell(taken, failed), now);
         goes_on(taken, failed)
     }
@@ -45,28 +45,34 @@ fn goes_on(taken: usize, failed: bool) -> bool
 }
 
 impl Desk {
-    // Tells of dropped lines, where that is asked.
+    // Tells the log's reader of dropped lines, where that is asked.
     fn tell_if(&mut self, alloc: Global, is_asked: bool, now: Reading)
-        ensures told { TellsIf is_asked self.old.form (second_of now.wall) self.old.room self.new.room }
-        ensures rest { self.new ≡ record self.old { room = self.new.room } }
-    {
-        if is_asked {
-            self.tell(alloc, now);
-        }
-    }
-
-    /// Puts the line that tells of dropped lines, where there are any and there is room for it. Where memory for it is wanting, it is
-    /// not put yet.
-    pub(crate) fn tell(&mut self, alloc: Global, now: Reading)
-        ensures told { MayTell self.old.form (second_of now.wall) self.old.room self.new.room }
-        ensures rest { self.new ≡ record self.old { room = self.new.room } }
+        ensures told { TellsIf is_asked self.old.form (second_of now.wall) self.old.room.log self.new.room.log }
+        ensures rest { self.new ≡ record self.old { room = record self.old.room { log = self.new.room.log } } }
     {
         let stamp = Stamp {
             form: self.form,
             moment: second_of(now.wall),
         };
-        if let Ok(notice) = notice_of(alloc, &stamp, self.room.untold()) {
-            self.room.tell(&notice);
-        }
+        tell_if(alloc, &stamp, is_asked, &mut self.room.log);
+    }
+}
+
+/// Tells of dropped lines, where that is asked.
+pub(crate) fn tell_if(alloc: Global, stamp: &Stamp, is_asked: bool, room: &mut LogRoom)
+    ensures { TellsIf is_asked stamp.now.form stamp.now.moment room.old room.new }
+{
+    if is_asked {
+        tell(alloc, stamp, room);
+    }
+}
+
+// Puts the line that tells of dropped lines, where there are any and there is room for it. Where memory for it is wanting, it is not
+// put yet.
+fn tell(alloc: Global, stamp: &Stamp, room: &mut LogRoom)
+    ensures { MayTell stamp.now.form stamp.now.moment room.old room.new }
+{
+    if let Ok(notice) = notice_of(alloc, stamp, room.untold()) {
+        room.tell(&notice);
     }
 }

@@ -1,5 +1,5 @@
 //! Laws of what a house says.
-ghost use Rattle.keep_house.specs.Alike.{AnsweredAlike, ClockedAlike, NextAlike, ShortsAlike};
+ghost use Rattle.keep_house.specs.Alike.{AnsweredAlike, ClockedAlike, NeedAlike, NextAlike, ShortsAlike};
 ghost use Rattle.keep_house.specs.Tried.{TriesLaw};
 
 use keep_log::LogSink;
@@ -9,6 +9,7 @@ use keep_log::LogSink;
 pub fn no_credential_is_said()
     ensures clocked { ClockedAlike }
     ensures next { NextAlike }
+    ensures need { NeedAlike }
     ensures shorts { ShortsAlike }
     ensures answered { AnsweredAlike }
 {}

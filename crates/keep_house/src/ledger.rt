@@ -1,8 +1,10 @@
 //! The state of an agent on a disk.
-ghost use Rattle.std.specs.Prelude.{◌≡◌, ℕ, List, IfErr, IfOk, IfSome, None, OnErr, OnOk, Ok, Some, true};
+ghost use Rattle.std.specs.Prelude.{◌≡◌, ◌⊎◌, ◌++◌, ℕ, List, IfErr, IfOk, IfSome, None, OnErr, OnOk, Ok, Some, take, true};
 ghost use Rattle.keep_agent.specs.Waiting.{changed};
 ghost use Rattle.keep_change.specs.declared.replaying.Note.{Note};
 ghost use Rattle.keep_inventory.specs.Inventories.{Inventory};
+ghost use Rattle.keep_inventory.specs.Inventory.{read_served};
+ghost use Rattle.keep_inventory.specs.Served.{Served};
 ghost use Rattle.keep_served.specs.ForGood.{inventory_for_good};
 ghost use Rattle.keep_state.specs.States.{book_in, store_in};
 ghost use Rattle.keep_store.specs.Books.{IsBookIf};
@@ -10,9 +12,10 @@ ghost use Rattle.keep_store.specs.Entering.{IsWhyNot};
 ghost use Rattle.keep_store.specs.Records.{records_in};
 ghost use Rattle.keep_store.specs.Stores.{lines_in};
 ghost use Rattle.keep_waiting.specs.Keepers.{waiting_in};
-ghost use Rattle.keep_house.specs.Ledgers.{FilledWith, IsAsItWas, IsFilledOn, IsTakenOn};
+ghost use Rattle.keep_house.specs.Ledgers.{AreCompacted, FilledWith, IsAsItWas, IsFilledOn, IsTakenOn};
+ghost use Rattle.keep_house.specs.Noting.{IsWhyNotServed, left_lines, said_notes};
 ghost use Rattle.keep_house.specs.Reading.{IsToServe, IsWide};
-ghost use Rattle.keep_house.specs.Reasons.{bare_words, left_words, table_words};
+ghost use Rattle.keep_house.specs.Reasons.{bare_words, file_words, left_words, table_words};
 ghost use Rattle.keep_house.specs.Starts.{is_bare_row};
 
 use crate::demands::Demands;
@@ -104,12 +107,12 @@ impl<'a, D: Disk, I: Inputs> Ledger<'a, D, I> {
 
     /// What is said of these changes of the journal that are not made any more: a hundred lines, and how many more there are. The only
     /// error is out of memory.
-    pub fn note_lines(&self, alloc: Global, notes: &[Note]) -> Result<Vec<Text>, AllocError> {
-        let most = notes.len().min(MOST_NOTES);
-        let mut lines = self.state.note_lines(&notes[..most])?;
-        if notes.len() > most {
-            lines.push(left_words(alloc, notes.len() - most)?)?;
-        }
+    #[tactic(auto, unfolding(crate::specs::Noting::said_notes))]
+    pub fn note_lines(&self, alloc: Global, notes: &[Note]) -> Result<Vec<Text>, AllocError>
+        ensures { IfOk result (λ lines. lines.items ≡ said_notes (book_in self.now.state).file.margin (records_in (lines_in (store_in self.now.state))) notes.now) }
+    {
+        let mut lines = self.state.note_lines(first_notes(notes))?;
+        push_left(alloc, notes.len().saturating_sub(MOST_NOTES), &mut lines)?;
         Ok(lines)
     }
 
@@ -164,6 +167,17 @@ fn fill_with<D: Disk>(state: &mut State<'_, D>, now: u64, secrets: Vec<Secret>) 
     state.take_secrets(now, secrets).is_ok()
 }
 
+// Takes the records out of the journal that are void, where that is worth while. (Where it fails, the journal has more records than it
+// needs.)
+#[tactic(auto, using(crate::proofs::Compacting::are_compacted))]
+fn compact_if<D: Disk>(state: &mut State<'_, D>)
+    ensures lines { AreCompacted (lines_in (store_in state.old)) (lines_in (store_in state.new)) }
+    ensures book { book_in state.new ≡ book_in state.old }
+    ensures waiting { waiting_in state.new.keeper ≡ waiting_in state.old.keeper }
+{
+    let _compacted = state.compact();
+}
+
 // Takes a change, and then takes out of the journal the records that are void, where that is worth while.
 fn take_on<D: Disk>(
     state: &mut State<'_, D>,
@@ -176,8 +190,7 @@ fn take_on<D: Disk>(
     ensures unchanged { OnErr result (IsAsItWas state.old state.new) }
 {
     state.take(now, name, what)?;
-    // (Where that fails, the journal has more records than it needs.)
-    let _compacted = state.compact();
+    compact_if(state);
     Ok(())
 }
 
@@ -209,10 +222,19 @@ pub fn why_not_served(
     demands: Demands,
     bytes: &[u8],
     fault: StartFault,
-) -> Option<Text> {
-    if let StartFault::Inventory(fault) = fault {
-        return inventory_words(alloc, fault).ok();
+) -> Option<Text>
+    ensures { IfSome result (λ text. IsWhyNotServed demands bytes.now fault text) }
+{
+    match fault {
+        StartFault::Inventory(fault) => inventory_words(alloc, fault).ok(),
+        _ => demanded_words(alloc, demands, bytes, fault),
     }
+}
+
+// What is demanded of a file with these bytes, in words; `None` where memory was wanting for them.
+fn demanded_words(alloc: Global, demands: Demands, bytes: &[u8], fault: StartFault) -> Option<Text>
+    ensures { IfSome result (λ text. (v : Served) × ((read_served bytes.now ≡ Ok v) × (text ≡ file_words demands v.inventory.forest fault))) }
+{
     let served = read_served(alloc, bytes).ok()?;
     file_words(alloc, demands, served.inventory().forest(), fault).ok()
 }
@@ -227,11 +249,32 @@ fn left_words(alloc: Global, left: usize) -> Result<Text, AllocError>
     Ok(Text::from_vec(text))
 }
 
-// Appends texts, as far as memory suffices.
-fn push_all(said: Vec<Text>, notes: &mut Vec<Text>) {
-    for line in said {
-        let _put = notes.push(line);
+// The notes that are said.
+fn first_notes(notes: &[Note]) -> &[Note]
+    ensures { result.now ≡ take 100 notes.now }
+{
+    if notes.len() < MOST_NOTES {
+        notes
+    } else {
+        &notes[..MOST_NOTES]
     }
+}
+
+// Appends how many more changes do not hold, where some are not said.
+fn push_left(alloc: Global, left: usize, lines: &mut Vec<Text>) -> Result<(), AllocError>
+    ensures { OnOk result (lines.new.items ≡ lines.old.items ++ left_lines left) }
+{
+    if left > 0 {
+        lines.push(left_words(alloc, left)?)?;
+    }
+    Ok(())
+}
+
+// Appends texts, where memory suffices.
+fn push_all(mut said: Vec<Text>, notes: &mut Vec<Text>)
+    ensures { (notes.new.items ≡ notes.old.items ++ said.items) ⊎ (notes.new.items ≡ notes.old.items) }
+{
+    let _appended = notes.append(&mut said);
 }
 
 impl<'a, D: Disk, I: Inputs> Keeping for Ledger<'a, D, I> {

@@ -8,11 +8,12 @@ ghost use Rattle.keep_house.specs.Nexts.{HearsNext, is_next, next_line, next_lin
 use crate::desk::Desk;
 use crate::house::House;
 use crate::moments::moment_word;
+use crate::rooms::Rooms;
 use crate::saying::{Stamp, say, say_text};
 use crate::wording::{one_word, text_word};
 use keep_agent::Agent;
 use keep_lines::name_of;
-use keep_log::{Level, LogRoom, Word};
+use keep_log::{Level, Word};
 use std::alloc::{AllocError, Global};
 use watch_machine::{Next, Watch};
 
@@ -50,7 +51,7 @@ impl Desk {
 
 // Says the next time of an entry, by the broker's clock.
 #[tactic(auto, using(crate::proofs::Said::missed))]
-fn say_next(alloc: Global, stamp: &Stamp, agent: &Agent, next: Option<Next>, room: &mut LogRoom)
+fn say_next(alloc: Global, stamp: &Stamp, agent: &Agent, next: Option<Next>, room: &mut Rooms)
     ensures { IsSaid stamp.now.form stamp.now.moment (next_line agent.now next) room.old room.new }
 {
     let Some(next) = next else {
@@ -60,7 +61,7 @@ fn say_next(alloc: Global, stamp: &Stamp, agent: &Agent, next: Option<Next>, roo
     let name = name_of(agent.inventory().forest(), next.entry);
     match next_words(alloc, next.at, name) {
         Ok(words) => say(alloc, stamp, Level::Info, "next", words, room),
-        Err(_) => room.miss(),
+        Err(_) => room.miss(Level::Info),
     }
 }
 

@@ -1,11 +1,12 @@
-//! A line is said: written, and put into the room of the log.
+//! A line is said: written, and put into the room of the log, and that of each of those who follow it.
 ghost use Rattle.std.specs.Prelude.{◌≡◌, ◌∷◌, [], IfOk, codes};
 ghost use Rattle.keep_log.specs.declared.line.Word.TheVariants as words;
 ghost use Rattle.keep_house.specs.Lines.{AreSaid, IsSaid, IsWritten, TellsDropped, dropped_line, line};
 
 use crate::form::Form;
+use crate::rooms::Rooms;
 use crate::wording::{name_and, one_text, text_word};
-use keep_log::{Level, LogLine, LogRoom, Word, json_of_line, text_of_line};
+use keep_log::{Level, LogLine, Word, json_of_line, text_of_line};
 use keep_moment::Moment;
 use std::alloc::{AllocError, Global};
 
@@ -17,14 +18,14 @@ pub(crate) struct Stamp {
 }
 
 /// Says a line. Where memory is wanting for it, it is dropped and counted.
-#[tactic(auto, unfolding(crate::specs::Lines::IsSaid))]
+#[tactic(auto, using(crate::proofs::Said::put_said, crate::proofs::Said::missed))]
 pub(crate) fn say(
     alloc: Global,
     stamp: &Stamp,
     level: Level,
     event: &'static str,
     words: Vec<Word>,
-    room: &mut LogRoom,
+    room: &mut Rooms,
 )
     ensures { IsSaid stamp.now.form stamp.now.moment (line level event.now words.items) room.old room.new }
 {
@@ -34,24 +35,10 @@ pub(crate) fn say(
         event,
         words,
     };
-    match texts_of(alloc, stamp, &line, room.untold()) {
-        Ok((notice, text)) => room.put(&notice, &text),
-        Err(_) => room.miss(),
+    match written(alloc, stamp.form, &line) {
+        Ok(text) => room.put(alloc, stamp, level, &text),
+        Err(_) => room.miss(level),
     }
-}
-
-// The text of a line, and before it that of the line that tells how many were dropped, if there are any.
-fn texts_of(
-    alloc: Global,
-    stamp: &Stamp,
-    said: &LogLine,
-    untold: u64,
-) -> Result<(Vec<u8>, Vec<u8>), AllocError>
-    ensures { IfOk result (λ texts. TellsDropped stamp.now.form stamp.now.moment untold texts.0.items × IsWritten stamp.now.form said.now.moment (line said.now.level said.now.event.now said.now.words.items) texts.1.items) }
-{
-    let notice = notice_of(alloc, stamp, untold)?;
-    let text = written(alloc, stamp.form, said)?;
-    Ok((notice, text))
 }
 
 /// The line that tells how many were dropped; nothing where none were. The only error is lack of memory.
@@ -97,13 +84,13 @@ pub(crate) fn say_of(
     event: &'static str,
     name: &[u8],
     word: Word,
-    room: &mut LogRoom,
+    room: &mut Rooms,
 )
     ensures { IsSaid stamp.now.form stamp.now.moment (line level event.now (words.Text name.now ∷ word ∷ [])) room.old room.new }
 {
     match name_and(alloc, name, word) {
         Ok(words) => say(alloc, stamp, level, event, words, room),
-        Err(_) => room.miss(),
+        Err(_) => room.miss(level),
     }
 }
 
@@ -115,12 +102,12 @@ pub(crate) fn say_text(
     level: Level,
     event: &'static str,
     text: &[u8],
-    room: &mut LogRoom,
+    room: &mut Rooms,
 )
     ensures { IsSaid stamp.now.form stamp.now.moment (line level event.now (words.Text text.now ∷ [])) room.old room.new }
 {
     match one_text(alloc, text) {
         Ok(words) => say(alloc, stamp, level, event, words, room),
-        Err(_) => room.miss(),
+        Err(_) => room.miss(level),
     }
 }

@@ -5,20 +5,21 @@ ghost use Rattle.keep_house.specs.Lines.{IsSaid};
 ghost use Rattle.keep_house.specs.Sockets.{need_line, need_word, socket_line};
 
 use crate::moments::moment_word;
+use crate::rooms::Rooms;
 use crate::saying::{Stamp, say, say_of};
 use crate::wording::text_word;
-use keep_log::{Level, LogRoom, Word};
+use keep_log::{Level, Word};
 use keep_moment::{LAST, Text};
 use std::alloc::{AllocError, Global};
 
 /// Says that a client has set another need.
 #[tactic(auto, using(crate::proofs::Said::missed))]
-pub(crate) fn say_need(alloc: Global, stamp: &Stamp, name: &[u8], until: u64, room: &mut LogRoom)
+pub(crate) fn say_need(alloc: Global, stamp: &Stamp, name: &[u8], until: u64, room: &mut Rooms)
     ensures { IsSaid stamp.now.form stamp.now.moment (need_line name.now until) room.old room.new }
 {
     match need_word(alloc, until) {
         Ok(until) => say_of(alloc, stamp, Level::Info, "need", name, until, room),
-        Err(_) => room.miss(),
+        Err(_) => room.miss(Level::Info),
     }
 }
 
@@ -41,13 +42,13 @@ pub(crate) fn say_no_socket(
     socket: &[u8],
     why: &[u8],
     cost: &[u8],
-    room: &mut LogRoom,
+    room: &mut Rooms,
 )
     ensures { IsSaid stamp.now.form stamp.now.moment (socket_line socket.now why.now cost.now) room.old room.new }
 {
     match socket_words(alloc, socket, why, cost) {
         Ok(words) => say(alloc, stamp, Level::Alert, "socket", words, room),
-        Err(_) => room.miss(),
+        Err(_) => room.miss(Level::Alert),
     }
 }
 

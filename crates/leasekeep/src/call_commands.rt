@@ -53,6 +53,20 @@ const SETTLE_ABOUT: &str =
 
 const RELOAD_ABOUT: &str = "Has the agent read the inventory's file again";
 
+const FOLLOW_ABOUT: &str = "Shows the agent's log as it comes";
+
+const FOLLOW_AFTER: &str = "\
+Shows each line that the agent says from now on, until the agent ends or the command is ended. Lines that it does not read in time
+are dropped, and `warning: log dropped N lines` stands in their place. At most 8 clients follow at a time.
+
+Examples:
+  leasekeep follow
+  leasekeep follow --alerts | while read -r line; do logger -p user.err \"$line\"; done
+
+Exit status: 0 the agent ended, 1 refused or no answer, 2 command line, 6 write, 7 memory";
+
+const ALERTS_HELP: &str = "Warnings and alerts alone";
+
 const EXITS: &str =
     "Exit status: 0 done, 1 refused or no answer, 2 command line, 6 write, 7 memory";
 
@@ -73,7 +87,13 @@ pub fn with_calls<'a>(alloc: Global, program: Command<'a>) -> Result<Command<'a>
         .subcommand(command(alloc, "status", STATUS_ABOUT, EXITS)?)?
         .subcommand(command(alloc, "health", HEALTH_ABOUT, HEALTH_AFTER)?)?
         .subcommand(command(alloc, "settle", SETTLE_ABOUT, EXITS)?)?
-        .subcommand(command(alloc, "reload", RELOAD_ABOUT, EXITS)?)
+        .subcommand(command(alloc, "reload", RELOAD_ABOUT, EXITS)?)?
+        .subcommand(command(alloc, "follow", FOLLOW_ABOUT, FOLLOW_AFTER)?.arg(
+            Arg::new(alloc, "alerts")
+                .long("alerts")
+                .help(ALERTS_HELP)
+                .action(ArgAction::SetTrue),
+        )?)
 }
 
 /// What is asked of a running agent, if this command asks something of one. `None` also where one of its words is not there, which
@@ -102,6 +122,9 @@ fn ask<'a>(command: &str, matches: &ArgMatches<'a>) -> Option<Ask<'a>> {
         "health" => Some(Ask::Health),
         "settle" => Some(Ask::Settle),
         "reload" => Some(Ask::Reload),
+        "follow" => Some(Ask::Follow {
+            alerts: matches.get_flag("alerts"),
+        }),
         _ => None,
     }
 }

@@ -1,5 +1,5 @@
 //! A command of a running agent: it is sent over the agent's control socket.
-use keep_calling::{Ask, Call, Ended, connect, request_for, talk, tell_unreached};
+use keep_calling::{Ask, Call, Ended, connect, follow, request_for, talk, tell_unreached};
 use keep_device::{Counted, Sink};
 use keep_engine::{PROGRAM, Stop};
 use std::alloc::{AllocError, Global};
@@ -42,16 +42,15 @@ where
         Err(ended) => return ended,
     };
     let _held = [null(rt), null(rt), null(rt)];
-    match connect(rt, call.socket) {
-        Ok(mut line) => talk(
-            alloc,
-            &call,
-            request.list(),
-            &mut line,
-            &mut Counted::new(io::writer(rt)),
-            errors,
-        ),
-        Err(why) => tell_unreached(&call, why, errors),
+    let mut line = match connect(rt, &call) {
+        Ok(line) => line,
+        Err(why) => return tell_unreached(&call, why, errors),
+    };
+    let (request, out) = (request.list(), &mut Counted::new(io::writer(rt)));
+    if call.ask.is_follow() {
+        follow(alloc, &call, request, &mut line, out, errors)
+    } else {
+        talk(alloc, &call, request, &mut line, out, errors)
     }
 }
 

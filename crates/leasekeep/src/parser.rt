@@ -194,9 +194,15 @@ pub fn parse<'a>(alloc: Global, words: &'a [String]) -> Result<ArgMatches<'a>, E
     whole(alloc)?.try_get_matches_from(words)
 }
 
-/// The mistake of a value that the parser takes as a word.
-pub fn mistake(alloc: Global, message: &str) -> Result<Error, AllocError> {
-    whole(alloc)?.error(ErrorKind::ValueValidation, message)
+/// The mistake of a value of this command that the parser takes as a word. Its text has the usage of the command, which is one
+/// of those that name a place: `run`, `watch` or `serve`.
+pub fn mistake(alloc: Global, command: &str, message: &str) -> Result<Error, AllocError> {
+    let mut taken = match command {
+        "run" => run(alloc)?.bin_name("leasekeep run")?,
+        "watch" => watch(alloc)?.bin_name("leasekeep watch")?,
+        _ => serve(alloc)?.bin_name("leasekeep serve")?,
+    };
+    taken.error(ErrorKind::ValueValidation, message)
 }
 
 /// All commands.

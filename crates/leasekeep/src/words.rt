@@ -107,10 +107,13 @@ pub fn read_command<'a, R: AllocGlobal + Print, E: Sink>(
     };
     match job_of(alloc, &matches) {
         Ok(job) => Ok(job),
-        Err(Unread::Place(word)) => match mistake(alloc, word.mistake()) {
-            Ok(error) => Err(show_with_tip(rt, &error, errors)),
-            Err(_) => Err(Stop::Memory.report(PROGRAM, errors)),
-        },
+        Err(Unread::Place(word)) => {
+            let command = matches.subcommand_name().unwrap_or("");
+            match mistake(alloc, command, word.mistake()) {
+                Ok(error) => Err(show_with_tip(rt, &error, errors)),
+                Err(_) => Err(Stop::Memory.report(PROGRAM, errors)),
+            }
+        }
         Err(Unread::Value) => {
             tell(errors, UNREADABLE);
             Err(Exit::CommandLine)

@@ -2,6 +2,7 @@
 use Rattle.std.proofs.Common.{◌≡◌, ◌∙◌, List, [], ap, zero}
 use Rattle.keep_agent.specs.Agent.{Agent}
 use Rattle.keep_agent.specs.declared.standing.Standing.{Standing}
+use Rattle.keep_lines.specs.Text.{name_of}
 use Rattle.keep_tree.specs.Forest.{Forest}
 use Rattle.watch_machine.specs.State.{State}
 use Rattle.watch_machine.specs.declared.command.Request.{Request}
@@ -10,6 +11,7 @@ use Rattle.keep_house.specs.Alike.{AreAlike}
 use Rattle.keep_house.specs.Answered.{answered_lines}
 use Rattle.keep_house.specs.Clocked.{clocked_lines, marks_clocked, short_lines}
 use Rattle.keep_house.specs.Nexts.{next_lines, next_there}
+use Rattle.keep_house.specs.Sockets.{need_line}
 use Rattle.keep_house.specs.declared.mark.Mark.{Mark}
 use Rattle.keep_house.proofs.laws.no_credential_is_said.Goals as goal
 
@@ -33,6 +35,9 @@ returns-clause-clocked c = λ a b h notes requests marks. (clocked_same notes re
 
 pub returns-clause-next : goal.returns-clause-next
 returns-clause-next c = λ a b h last next. same (λ m f xs. next_lines (bare m f xs) last (next_there m next)) a b h
+
+pub returns-clause-need : goal.returns-clause-need
+returns-clause-need c = λ a b h i until. ap (λ g. need_line (name_of g i) until) h.forest
 
 pub returns-clause-shorts : goal.returns-clause-shorts
 unfolding short_lines

@@ -1,0 +1,32 @@
+-- Rooms: the room of the log, and those who follow it, each with a room of its own.
+-- Source: this project's own.
+use Rattle.std.specs.Prelude.{ℕ, Bool, false, List, [], ◌∷◌, ◌++◌, map}
+use Rattle.keep_log.specs.Following.{missing}
+use Rattle.keep_log.specs.Waiting.{Waiting, dropping}
+use Rattle.keep_log.specs.declared.follower.Follower.{Follower}
+use Rattle.keep_log.specs.declared.level.Level.{Level}
+use Rattle.keep_log.specs.declared.room.TheConstants.{FOLLOWER_ROOM, LOG_ROOM}
+
+pub record Rooms : Type 0 where
+  pub log : Waiting
+  pub followers : List Follower
+
+-- nothing waits in a room for so many bytes
+abbrev pub empty : ℕ → Waiting
+empty room = record { bytes = []; room = room; is_begun = false; untold = 0; dropped = 0 }
+
+-- nobody follows
+abbrev pub begun_rooms : Rooms
+begun_rooms = record { log = empty LOG_ROOM; followers = [] }
+
+-- a line of this level that could not be made, for lack of memory, is counted as dropped in each room into which it would have come
+abbrev pub misses : Level → Follower → Follower
+misses level f = record f { room = missing f.alerts_alone level f.room }
+
+abbrev pub missing_in : Level → Rooms → Rooms
+missing_in level rooms = record { log = dropping 1 rooms.log; followers = map (misses level) rooms.followers }
+
+-- one more follows, over the connection of that number: all lines from now on, or warnings and alerts alone
+abbrev pub with_follower : ℕ → Bool → Rooms → Rooms
+with_follower id alerts_alone rooms =
+    record rooms { followers = rooms.followers ++ record { id = id; alerts_alone = alerts_alone; room = empty FOLLOWER_ROOM; has_gone = false } ∷ [] }
