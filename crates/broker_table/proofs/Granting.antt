@@ -22,12 +22,12 @@ use Rattle.broker_table.specs.declared.refusal.Refusal.TheVariants.{NotRenewable
 use Rattle.broker_table.specs.Faults.{fault_at, next_number}
 use Rattle.broker_table.specs.Granted.{AsksRenewal, asked_for, bearer_for, call_for, renewed_row}
 use Rattle.broker_table.specs.Laws.{RenewalIsByTheRule, UngrantedIsRefused}
-use Rattle.broker_table.specs.Table.{Table}
-use Rattle.broker_table.specs.Listed.{is_alive, listed}
-use Rattle.broker_table.specs.Renewing.{granted, new_end, renewal as renewal_served, step_of}
+use Rattle.broker_table.specs.Table.{BrokerTable}
+use Rattle.broker_table.specs.Listed.{is_entry_alive, rows_listed}
+use Rattle.broker_table.specs.Renewing.{granted_row, new_end, renewal_by_broker as renewal_served, step_of_row}
 use Rattle.broker_table.specs.Request.{asked, is_write}
-use Rattle.broker_table.specs.Rows.{row_of}
-use Rattle.broker_table.specs.Step.{after_sweep, by_call, counted, refuses as refused, renews, step}
+use Rattle.broker_table.specs.Rows.{broker_row}
+use Rattle.broker_table.specs.Step.{after_sweep, broker_step, by_call, counted_renewal, refuses as refused, renewal_outcome}
 use Rattle.broker_table.specs.Subject.{bearer, is_lease_with, is_token_with, lease_with, belongs, owned, subject, token_with, with_asked, with_bearer}
 use Rattle.broker_table.specs.Sweep.{swept}
 use Rattle.broker_table.proofs.Ranges.{found_lone, found_none}
@@ -37,29 +37,29 @@ cases_Kind : (k : Kind) (P : Type 0) → (k ≡ Token → P) → (k ≡ Lease �
 cases_Kind Token P token lease = token refl
 cases_Kind Lease P token lease = lease refl
 
-kind_in : (s : Inventory) (i : ℕ) → (row_of s i).kind ≡ (entry_at s.forest.entries i).kind
-unfolding row_of
+kind_in : (s : Inventory) (i : ℕ) → (broker_row s i).kind ≡ (entry_at s.forest.entries i).kind
+unfolding broker_row
 kind_in s i = refl
 
-pub credential_in : (s : Inventory) (i : ℕ) → (row_of s i).credential ≡ credential_at s.credentials i
-unfolding row_of
+pub credential_in : (s : Inventory) (i : ℕ) → (broker_row s i).credential ≡ credential_at s.credentials i
+unfolding broker_row
 credential_in s i = refl
 
-parent_name : (s : Inventory) (i p : ℕ) → (entry_at s.forest.entries i).parent ≡ Some p → (row_of s i).parent ≡ Some (row_of s p).name
-unfolding row_of
+parent_name : (s : Inventory) (i p : ℕ) → (entry_at s.forest.entries i).parent ≡ Some p → (broker_row s i).parent ≡ Some (broker_row s p).name
+unfolding broker_row
 parent_name s i p child = ap (option_map (λ q. (entry_at s.forest.entries q).name)) child
 
-pub renewable_in : (s : Inventory) (i : ℕ) → (row_of s i).renewable ≡ (entry_at s.forest.entries i).renewable
-unfolding row_of
+pub renewable_in : (s : Inventory) (i : ℕ) → (broker_row s i).renewable ≡ (entry_at s.forest.entries i).renewable
+unfolding broker_row
 renewable_in s i = refl
 
 -- ---- who is found
 
-is_token_there : (s : Inventory) (i : ℕ) → (entry_at s.forest.entries i).kind ≡ Token → is_token_with (credential_at s.credentials i) (row_of s i) ≡ true
+is_token_there : (s : Inventory) (i : ℕ) → (entry_at s.forest.entries i).kind ≡ Token → is_token_with (credential_at s.credentials i) (broker_row s i) ≡ true
 unfolding is_token_with
 is_token_there s i token =
-    ap (λ k. not (is_lease k) && bytes_eq (row_of s i).credential (credential_at s.credentials i)) (kind_in s i ∙ token)
-    ∙ (bytes_decides (row_of s i).credential (credential_at s.credentials i)).1 (credential_in s i)
+    ap (λ k. not (is_lease k) && bytes_eq (broker_row s i).credential (credential_at s.credentials i)) (kind_in s i ∙ token)
+    ∙ (bytes_decides (broker_row s i).credential (credential_at s.credentials i)).1 (credential_in s i)
 
 not_lease : (k : Kind) → not (is_lease k) ≡ true → k ≡ Token
 not_lease Token e = refl
@@ -69,58 +69,58 @@ lease_is : (k : Kind) → is_lease k ≡ true → k ≡ Lease
 lease_is Lease e = refl
 lease_is Token e = absurd cc
 
-token_hit : (s : Inventory) (c : List ℕ) (j : ℕ) → is_token_with c (row_of s j) ≡ true → ((entry_at s.forest.entries j).kind ≡ Token) × (credential_at s.credentials j ≡ c)
+token_hit : (s : Inventory) (c : List ℕ) (j : ℕ) → is_token_with c (broker_row s j) ≡ true → ((entry_at s.forest.entries j).kind ≡ Token) × (credential_at s.credentials j ≡ c)
 unfolding is_token_with
 token_hit s c j hit =
-    let b = bytes_eq (row_of s j).credential c in (
-      sym (kind_in s j) ∙ not_lease (row_of s j).kind (and_left (not (is_lease (row_of s j).kind)) b hit),
-      sym (credential_in s j) ∙ (bytes_decides (row_of s j).credential c).0 (and_right (not (is_lease (row_of s j).kind)) b hit),
+    let b = bytes_eq (broker_row s j).credential c in (
+      sym (kind_in s j) ∙ not_lease (broker_row s j).kind (and_left (not (is_lease (broker_row s j).kind)) b hit),
+      sym (credential_in s j) ∙ (bytes_decides (broker_row s j).credential c).0 (and_right (not (is_lease (broker_row s j).kind)) b hit),
     )
 
 token_found :
-    (s : Inventory) → IsInventory s → (t i : ℕ) → i < length s.forest.entries → (entry_at s.forest.entries i).kind ≡ Token → is_alive s.forest t i ≡ true →
-    token_with (listed s t) (credential_at s.credentials i) ≡ Some (row_of s i)
-unfolding token_with listed
+    (s : Inventory) → IsInventory s → (t i : ℕ) → i < length s.forest.entries → (entry_at s.forest.entries i).kind ≡ Token → is_entry_alive s.forest t i ≡ true →
+    token_with (rows_listed s t) (credential_at s.credentials i) ≡ Some (broker_row s i)
+unfolding token_with rows_listed
 token_found s inventory t i within token alive =
-    found_lone (λ r. is_token_with (credential_at s.credentials i) r) (row_of s) (is_alive s.forest t) i (length s.forest.entries) 0
+    found_lone (λ r. is_token_with (credential_at s.credentials i) r) (broker_row s) (is_entry_alive s.forest t) i (length s.forest.entries) 0
     (is_token_there s i token) alive (omega arith) (omega arith)
     (λ j low high hit. let is = token_hit s (credential_at s.credentials i) j hit in inventory.apart j i (omega arith) within (is.0 ∙ sym token) is.1)
 
-is_lease_there : (s : Inventory) (i : ℕ) → (entry_at s.forest.entries i).kind ≡ Lease → is_lease_with (credential_at s.credentials i) (row_of s i) ≡ true
+is_lease_there : (s : Inventory) (i : ℕ) → (entry_at s.forest.entries i).kind ≡ Lease → is_lease_with (credential_at s.credentials i) (broker_row s i) ≡ true
 unfolding is_lease_with
 is_lease_there s i lease =
-    ap (λ k. is_lease k && bytes_eq (row_of s i).credential (credential_at s.credentials i)) (kind_in s i ∙ lease)
-    ∙ (bytes_decides (row_of s i).credential (credential_at s.credentials i)).1 (credential_in s i)
+    ap (λ k. is_lease k && bytes_eq (broker_row s i).credential (credential_at s.credentials i)) (kind_in s i ∙ lease)
+    ∙ (bytes_decides (broker_row s i).credential (credential_at s.credentials i)).1 (credential_in s i)
 
-lease_hit : (s : Inventory) (c : List ℕ) (j : ℕ) → is_lease_with c (row_of s j) ≡ true → ((entry_at s.forest.entries j).kind ≡ Lease) × (credential_at s.credentials j ≡ c)
+lease_hit : (s : Inventory) (c : List ℕ) (j : ℕ) → is_lease_with c (broker_row s j) ≡ true → ((entry_at s.forest.entries j).kind ≡ Lease) × (credential_at s.credentials j ≡ c)
 unfolding is_lease_with
 lease_hit s c j hit =
-    let b = bytes_eq (row_of s j).credential c in (
-      sym (kind_in s j) ∙ lease_is (row_of s j).kind (and_left (is_lease (row_of s j).kind) b hit),
-      sym (credential_in s j) ∙ (bytes_decides (row_of s j).credential c).0 (and_right (is_lease (row_of s j).kind) b hit),
+    let b = bytes_eq (broker_row s j).credential c in (
+      sym (kind_in s j) ∙ lease_is (broker_row s j).kind (and_left (is_lease (broker_row s j).kind) b hit),
+      sym (credential_in s j) ∙ (bytes_decides (broker_row s j).credential c).0 (and_right (is_lease (broker_row s j).kind) b hit),
     )
 
 lease_found :
-    (s : Inventory) → IsInventory s → (t i : ℕ) → i < length s.forest.entries → (entry_at s.forest.entries i).kind ≡ Lease → is_alive s.forest t i ≡ true →
-    lease_with (listed s t) (credential_at s.credentials i) ≡ Some (row_of s i)
-unfolding lease_with listed
+    (s : Inventory) → IsInventory s → (t i : ℕ) → i < length s.forest.entries → (entry_at s.forest.entries i).kind ≡ Lease → is_entry_alive s.forest t i ≡ true →
+    lease_with (rows_listed s t) (credential_at s.credentials i) ≡ Some (broker_row s i)
+unfolding lease_with rows_listed
 lease_found s inventory t i within lease alive =
-    found_lone (λ r. is_lease_with (credential_at s.credentials i) r) (row_of s) (is_alive s.forest t) i (length s.forest.entries) 0
+    found_lone (λ r. is_lease_with (credential_at s.credentials i) r) (broker_row s) (is_entry_alive s.forest t) i (length s.forest.entries) 0
     (is_lease_there s i lease) alive (omega arith) (omega arith)
     (λ j low high hit. let is = lease_hit s (credential_at s.credentials i) j hit in inventory.apart j i (omega arith) within (is.0 ∙ sym lease) is.1)
 
 -- ---- of whom the request speaks
 
 subject_token :
-    (s : Inventory) → IsInventory s → (t i : ℕ) → i < length s.forest.entries → (entry_at s.forest.entries i).kind ≡ Token → is_alive s.forest t i ≡ true →
+    (s : Inventory) → IsInventory s → (t i : ℕ) → i < length s.forest.entries → (entry_at s.forest.entries i).kind ≡ Token → is_entry_alive s.forest t i ≡ true →
     (r : Request) → r.token ≡ Some (credential_at s.credentials i) → asked RenewSelf r.body ≡ Some (asked_for Token (credential_at s.credentials i) (entry_at s.forest.entries i).step) →
-    subject (listed s t) RenewSelf r ≡ Ok (record { row = row_of s i; increment = Some (entry_at s.forest.entries i).step })
+    subject (rows_listed s t) RenewSelf r ≡ Ok (record { row = broker_row s i; increment = Some (entry_at s.forest.entries i).step })
 unfolding subject
 subject_token s inventory t i within token alive r bears body =
-    let rows = listed s t in
+    let rows = rows_listed s t in
     ap (λ o. with_bearer rows RenewSelf r.body (bearer rows o)) bears
     ∙ ap (λ o. with_bearer rows RenewSelf r.body o) (token_found s inventory t i within token alive)
-    ∙ ap (λ a. with_asked rows (row_of s i) a) body
+    ∙ ap (λ a. with_asked rows (broker_row s i) a) body
 
 not_leased : (k : Kind) → is_lease k ≡ false → k ≡ Token
 not_leased Token e = refl
@@ -151,15 +151,15 @@ owner_may token lease increment over =
     (ap (λ o. belongs o token.name) over ∙ (bytes_decides token.name token.name).1 refl)
 
 subject_lease :
-    (s : Inventory) → IsInventory s → (t i : ℕ) → i < length s.forest.entries → (entry_at s.forest.entries i).kind ≡ Lease → is_alive s.forest t i ≡ true →
+    (s : Inventory) → IsInventory s → (t i : ℕ) → i < length s.forest.entries → (entry_at s.forest.entries i).kind ≡ Lease → is_entry_alive s.forest t i ≡ true →
     (r : Request) → r.token ≡ option_map (credential_at s.credentials) (entry_at s.forest.entries i).parent →
     asked RenewLease r.body ≡ Some (asked_for Lease (credential_at s.credentials i) (entry_at s.forest.entries i).step) →
-    subject (listed s t) RenewLease r ≡ Ok (record { row = row_of s i; increment = Some (entry_at s.forest.entries i).step })
+    subject (rows_listed s t) RenewLease r ≡ Ok (record { row = broker_row s i; increment = Some (entry_at s.forest.entries i).step })
 unfolding subject
 subject_lease s inventory t i within lease alive r bears body =
     let g = s.forest in
     let e = entry_at g.entries i in
-    let rows = listed s t in
+    let rows = rows_listed s t in
     let over = lease_has_token s inventory.forest i within lease in
     let p = over.0 in
     let child = over.1.0 in
@@ -167,23 +167,23 @@ subject_lease s inventory t i within lease alive r bears body =
     ap (λ o. with_bearer rows RenewLease r.body (bearer rows o)) bears
     ∙ ap (λ o. with_bearer rows RenewLease r.body (bearer rows (option_map (credential_at s.credentials) o))) child
     ∙ ap (λ o. with_bearer rows RenewLease r.body o) (token_found s inventory t p (omega arith) over.1.1.1 (alive_up g inventory.forest t i p child alive))
-    ∙ ap (λ a. with_asked rows (row_of s p) a) body
-    ∙ ap (λ o. owned (row_of s p) (Some e.step) o) (lease_found s inventory t i within lease alive)
-    ∙ owner_may (row_of s p) (row_of s i) (Some e.step) (parent_name s i p child)
+    ∙ ap (λ a. with_asked rows (broker_row s p) a) body
+    ∙ ap (λ o. owned (broker_row s p) (Some e.step) o) (lease_found s inventory t i within lease alive)
+    ∙ owner_may (broker_row s p) (broker_row s i) (Some e.step) (parent_name s i p child)
 
 subject_is :
-    (s : Inventory) → IsInventory s → (t i : ℕ) → i < length s.forest.entries → is_alive s.forest t i ≡ true → (r : Request) → AsksRenewal s i r →
-    subject (listed s t) (call_for (entry_at s.forest.entries i).kind) r ≡ Ok (record { row = row_of s i; increment = Some (entry_at s.forest.entries i).step })
+    (s : Inventory) → IsInventory s → (t i : ℕ) → i < length s.forest.entries → is_entry_alive s.forest t i ≡ true → (r : Request) → AsksRenewal s i r →
+    subject (rows_listed s t) (call_for (entry_at s.forest.entries i).kind) r ≡ Ok (record { row = broker_row s i; increment = Some (entry_at s.forest.entries i).step })
 subject_is s inventory t i within alive r asks =
     let e = entry_at s.forest.entries i in
     let c = credential_at s.credentials i in
-    cases_Kind e.kind (subject (listed s t) (call_for e.kind) r ≡ Ok (record { row = row_of s i; increment = Some e.step }))
+    cases_Kind e.kind (subject (rows_listed s t) (call_for e.kind) r ≡ Ok (record { row = broker_row s i; increment = Some e.step }))
     (λ token.
-    ap (λ k. subject (listed s t) (call_for k) r) token
+    ap (λ k. subject (rows_listed s t) (call_for k) r) token
     ∙ subject_token s inventory t i within token alive r (asks.token ∙ ap (λ k. bearer_for k s i) token)
     (sym (ap (λ k. asked (call_for k) r.body) token) ∙ asks.body ∙ ap (λ k. Some (asked_for k c e.step)) token))
     (λ lease.
-    ap (λ k. subject (listed s t) (call_for k) r) lease
+    ap (λ k. subject (rows_listed s t) (call_for k) r) lease
     ∙ subject_lease s inventory t i within lease alive r (asks.token ∙ ap (λ k. bearer_for k s i) lease)
     (sym (ap (λ k. asked (call_for k) r.body) lease) ∙ asks.body ∙ ap (λ k. Some (asked_for k c e.step)) lease))
 
@@ -193,8 +193,8 @@ same_cond : (b : Bool) (n : ℕ) → cond b n n ≡ n
 same_cond true n = refl
 same_cond false n = refl
 
-step_is : (s : Inventory) → IsInventory s → (i : ℕ) → i < length s.forest.entries → step_of (row_of s i) (Some (entry_at s.forest.entries i).step) ≡ (entry_at s.forest.entries i).step
-unfolding step_of row_of
+step_is : (s : Inventory) → IsInventory s → (i : ℕ) → i < length s.forest.entries → step_of_row (broker_row s i) (Some (entry_at s.forest.entries i).step) ≡ (entry_at s.forest.entries i).step
+unfolding step_of_row broker_row
 step_is s inventory i within =
     let period = (terms_at s.terms i).period in
     let step = (entry_at s.forest.entries i).step in
@@ -203,63 +203,63 @@ step_is s inventory i within =
       | inr some ↦ cond-false (period == 0) (cond (step == 0) step step) period some ∙ sym (period_is s inventory i within some)
     ]
 
-ceiling_in : (s : Inventory) (i : ℕ) → (row_of s i).ceiling ≡ (entry_at s.forest.entries i).ceiling
-unfolding row_of
+ceiling_in : (s : Inventory) (i : ℕ) → (broker_row s i).ceiling ≡ (entry_at s.forest.entries i).ceiling
+unfolding broker_row
 ceiling_in s i = refl
 
-end_is : (s : Inventory) → IsInventory s → (t i : ℕ) → i < length s.forest.entries → new_end None t (row_of s i) (Some (entry_at s.forest.entries i).step) ≡ renewal (entry_at s.forest.entries i) t
+end_is : (s : Inventory) → IsInventory s → (t i : ℕ) → i < length s.forest.entries → new_end None t (broker_row s i) (Some (entry_at s.forest.entries i).step) ≡ renewal (entry_at s.forest.entries i) t
 unfolding new_end renewal
 end_is s inventory t i within =
-    ap (λ n. capped (row_of s i).ceiling (t + n)) (step_is s inventory i within) ∙ ap (λ c. capped c (t + (entry_at s.forest.entries i).step)) (ceiling_in s i)
+    ap (λ n. capped (broker_row s i).ceiling (t + n)) (step_is s inventory i within) ∙ ap (λ c. capped c (t + (entry_at s.forest.entries i).step)) (ceiling_in s i)
 
 -- ---- the step
 
 granted_is :
-    (s : Inventory) → IsInventory s → (t i : ℕ) → i < length s.forest.entries → (entry_at s.forest.entries i).renewable ≡ true → is_alive s.forest t i ≡ true → (r : Request) → AsksRenewal s i r →
-    renewal_served (listed s t) t (call_for (entry_at s.forest.entries i).kind) r None ≡ Ok (record (row_of s i) { end = renewal (entry_at s.forest.entries i) t })
+    (s : Inventory) → IsInventory s → (t i : ℕ) → i < length s.forest.entries → (entry_at s.forest.entries i).renewable ≡ true → is_entry_alive s.forest t i ≡ true → (r : Request) → AsksRenewal s i r →
+    renewal_served (rows_listed s t) t (call_for (entry_at s.forest.entries i).kind) r None ≡ Ok (record (broker_row s i) { end = renewal (entry_at s.forest.entries i) t })
 unfolding renewal_served
 granted_is s inventory t i within able alive r asks =
     let e = entry_at s.forest.entries i in
-    let row = row_of s i in
-    ap (granted None t) (subject_is s inventory t i within alive r asks)
+    let row = broker_row s i in
+    ap (granted_row None t) (subject_is s inventory t i within alive r asks)
     ∙ cond-true row.renewable (Ok (record row { end = new_end None t row (Some e.step) })) (Err NotRenewable) (renewable_in s i ∙ able)
     ∙ ap (λ n. Ok (record row { end = n })) (end_is s inventory t i within)
 
-allowed : (l : Table) (t : ℕ) (r : Request) (k : Kind) → is_write r.method ≡ true → by_call l t r (Some (call_for k)) ≡ renews l t (call_for k) r
-allowed l t r Token write = cond-true (is_write r.method) (renews l t RenewSelf r) (record { answer = refused UnsupportedMethod; table = l }) write
-allowed l t r Lease write = cond-true (is_write r.method) (renews l t RenewLease r) (record { answer = refused UnsupportedMethod; table = l }) write
+allowed : (l : BrokerTable) (t : ℕ) (r : Request) (k : Kind) → is_write r.method ≡ true → by_call l t r (Some (call_for k)) ≡ renewal_outcome l t (call_for k) r
+allowed l t r Token write = cond-true (is_write r.method) (renewal_outcome l t RenewSelf r) (record { answer = refused UnsupportedMethod; table = l }) write
+allowed l t r Lease write = cond-true (is_write r.method) (renewal_outcome l t RenewLease r) (record { answer = refused UnsupportedMethod; table = l }) write
 
 renews_plain :
-    (l : Table) (t : ℕ) (call : Call) (r : Request) → fault_at l.faults (next_number l.count) ≡ None →
-    renews l t call r ≡ counted l (next_number l.count) call None (renewal_served l.rows t call r None)
-unfolding renews
-renews_plain l t call r none = ap (λ f. counted l (next_number l.count) call f (renewal_served l.rows t call r f)) none
+    (l : BrokerTable) (t : ℕ) (call : Call) (r : Request) → fault_at l.faults (next_number l.count) ≡ None →
+    renewal_outcome l t call r ≡ counted_renewal l (next_number l.count) call None (renewal_served l.rows t call r None)
+unfolding renewal_outcome
+renews_plain l t call r none = ap (λ f. counted_renewal l (next_number l.count) call f (renewal_served l.rows t call r f)) none
 
 -- what the rule grants is renewable and alive
-grant_parts : (g : Forest) (t i : ℕ) → is_granted g.entries 1 (end_of g.entries) t i ≡ true → ((entry_at g.entries i).renewable ≡ true) × (is_alive g t i ≡ true)
-unfolding is_granted is_alive
+grant_parts : (g : Forest) (t i : ℕ) → is_granted g.entries 1 (end_of g.entries) t i ≡ true → ((entry_at g.entries i).renewable ≡ true) × (is_entry_alive g t i ≡ true)
+unfolding is_granted is_entry_alive
 grant_parts g t i grant = (and_left (entry_at g.entries i).renewable _ grant, and_right (entry_at g.entries i).renewable _ grant)
 
 -- and its row is renewed to the rule's end
-pub renewed_by : (s : Inventory) (t i : ℕ) → is_granted s.forest.entries 1 (end_of s.forest.entries) t i ≡ true → record (row_of s i) { end = renewal (entry_at s.forest.entries i) t } ≡ renewed_row s t i
+pub renewed_by : (s : Inventory) (t i : ℕ) → is_granted s.forest.entries 1 (end_of s.forest.entries) t i ≡ true → record (broker_row s i) { end = renewal (entry_at s.forest.entries i) t } ≡ renewed_row s t i
 unfolding renewed_row renewed
 renewed_by s t i grant =
-    ap (λ n. record (row_of s i) { end = n })
+    ap (λ n. record (broker_row s i) { end = n })
     (sym (cond-true (is_granted s.forest.entries 1 (end_of s.forest.entries) t i) (renewal (entry_at s.forest.entries i) t) (end_of s.forest.entries i) grant))
 
 -- a renewal without a fault is counted with what it comes to
-serves : (s : Inventory) (t i : ℕ) (l : Table) → swept t l.rows ≡ listed s t → fault_at l.faults (next_number l.count) ≡ None → (r : Request) → AsksRenewal s i r →
-    (found : Result Row Refusal) → renewal_served (listed s t) t (call_for (entry_at s.forest.entries i).kind) r None ≡ found →
-    step l t r ≡ counted (record { rows = listed s t; faults = l.faults; count = l.count }) (next_number l.count) (call_for (entry_at s.forest.entries i).kind) None found
-unfolding step
+serves : (s : Inventory) (t i : ℕ) (l : BrokerTable) → swept t l.rows ≡ rows_listed s t → fault_at l.faults (next_number l.count) ≡ None → (r : Request) → AsksRenewal s i r →
+    (found : Result Row Refusal) → renewal_served (rows_listed s t) t (call_for (entry_at s.forest.entries i).kind) r None ≡ found →
+    broker_step l t r ≡ counted_renewal (record { rows = rows_listed s t; faults = l.faults; count = l.count }) (next_number l.count) (call_for (entry_at s.forest.entries i).kind) None found
+unfolding broker_step
 serves s t i l same none r asks found is =
     let k = (entry_at s.forest.entries i).kind in
-    let left : Table = record { rows = listed s t; faults = l.faults; count = l.count } in
+    let left : BrokerTable = record { rows = rows_listed s t; faults = l.faults; count = l.count } in
     ap (by_call (after_sweep l t) t r) asks.call
     ∙ allowed (after_sweep l t) t r k asks.method
-    ∙ ap (λ rows. renews (record { rows = rows; faults = l.faults; count = l.count }) t (call_for k) r) same
+    ∙ ap (λ rows. renewal_outcome (record { rows = rows; faults = l.faults; count = l.count }) t (call_for k) r) same
     ∙ renews_plain left t (call_for k) r none
-    ∙ ap (λ x. counted left (next_number l.count) (call_for k) None x) is
+    ∙ ap (λ x. counted_renewal left (next_number l.count) (call_for k) None x) is
 
 pub by_the_rule : RenewalIsByTheRule
 by_the_rule s inventory t i within grant l same none r asks =
@@ -269,102 +269,102 @@ by_the_rule s inventory t i within grant l same none r asks =
 -- ---- what the rule does not grant
 
 token_gone :
-    (s : Inventory) → IsInventory s → (t i : ℕ) → i < length s.forest.entries → (entry_at s.forest.entries i).kind ≡ Token → is_alive s.forest t i ≡ false →
-    token_with (listed s t) (credential_at s.credentials i) ≡ None
-unfolding token_with listed
+    (s : Inventory) → IsInventory s → (t i : ℕ) → i < length s.forest.entries → (entry_at s.forest.entries i).kind ≡ Token → is_entry_alive s.forest t i ≡ false →
+    token_with (rows_listed s t) (credential_at s.credentials i) ≡ None
+unfolding token_with rows_listed
 token_gone s inventory t i within token gone =
-    found_none (λ r. is_token_with (credential_at s.credentials i) r) (row_of s) (is_alive s.forest t) (length s.forest.entries) 0
+    found_none (λ r. is_token_with (credential_at s.credentials i) r) (broker_row s) (is_entry_alive s.forest t) (length s.forest.entries) 0
     (λ j low high alive hit.
     let is = token_hit s (credential_at s.credentials i) j hit in
     let same : j ≡ i = inventory.apart j i (omega arith) within (is.0 ∙ sym token) is.1 in
-    let bad : true ≡ false = sym alive ∙ ap (is_alive s.forest t) same ∙ gone in cc)
+    let bad : true ≡ false = sym alive ∙ ap (is_entry_alive s.forest t) same ∙ gone in cc)
 
 lease_gone :
-    (s : Inventory) → IsInventory s → (t i : ℕ) → i < length s.forest.entries → (entry_at s.forest.entries i).kind ≡ Lease → is_alive s.forest t i ≡ false →
-    lease_with (listed s t) (credential_at s.credentials i) ≡ None
-unfolding lease_with listed
+    (s : Inventory) → IsInventory s → (t i : ℕ) → i < length s.forest.entries → (entry_at s.forest.entries i).kind ≡ Lease → is_entry_alive s.forest t i ≡ false →
+    lease_with (rows_listed s t) (credential_at s.credentials i) ≡ None
+unfolding lease_with rows_listed
 lease_gone s inventory t i within lease gone =
-    found_none (λ r. is_lease_with (credential_at s.credentials i) r) (row_of s) (is_alive s.forest t) (length s.forest.entries) 0
+    found_none (λ r. is_lease_with (credential_at s.credentials i) r) (broker_row s) (is_entry_alive s.forest t) (length s.forest.entries) 0
     (λ j low high alive hit.
     let is = lease_hit s (credential_at s.credentials i) j hit in
     let same : j ≡ i = inventory.apart j i (omega arith) within (is.0 ∙ sym lease) is.1 in
-    let bad : true ≡ false = sym alive ∙ ap (is_alive s.forest t) same ∙ gone in cc)
+    let bad : true ≡ false = sym alive ∙ ap (is_entry_alive s.forest t) same ∙ gone in cc)
 
 -- a token that is not listed is not let in
-denied : (s : Inventory) → IsInventory s → (t i : ℕ) → i < length s.forest.entries → (entry_at s.forest.entries i).kind ≡ Token → is_alive s.forest t i ≡ false →
-    (call : Call) (r : Request) → r.token ≡ Some (credential_at s.credentials i) → subject (listed s t) call r ≡ Err PermissionDenied
+denied : (s : Inventory) → IsInventory s → (t i : ℕ) → i < length s.forest.entries → (entry_at s.forest.entries i).kind ≡ Token → is_entry_alive s.forest t i ≡ false →
+    (call : Call) (r : Request) → r.token ≡ Some (credential_at s.credentials i) → subject (rows_listed s t) call r ≡ Err PermissionDenied
 unfolding subject
 denied s inventory t i within token gone call r bears =
-    let rows = listed s t in
+    let rows = rows_listed s t in
     ap (λ o. with_bearer rows call r.body (bearer rows o)) bears
     ∙ ap (λ o. with_bearer rows call r.body o) (token_gone s inventory t i within token gone)
 
 -- nor is a lease found that is not
-unknown : (s : Inventory) → IsInventory s → (t i p : ℕ) → i < length s.forest.entries → (entry_at s.forest.entries i).kind ≡ Lease → is_alive s.forest t i ≡ false →
-    p < length s.forest.entries → (entry_at s.forest.entries p).kind ≡ Token → is_alive s.forest t p ≡ true →
+unknown : (s : Inventory) → IsInventory s → (t i p : ℕ) → i < length s.forest.entries → (entry_at s.forest.entries i).kind ≡ Lease → is_entry_alive s.forest t i ≡ false →
+    p < length s.forest.entries → (entry_at s.forest.entries p).kind ≡ Token → is_entry_alive s.forest t p ≡ true →
     (r : Request) → r.token ≡ Some (credential_at s.credentials p) → asked RenewLease r.body ≡ Some (asked_for Lease (credential_at s.credentials i) (entry_at s.forest.entries i).step) →
-    subject (listed s t) RenewLease r ≡ Err UnknownLease
+    subject (rows_listed s t) RenewLease r ≡ Err UnknownLease
 unfolding subject
 unknown s inventory t i p within lease gone inside token alive r bears body =
-    let rows = listed s t in
+    let rows = rows_listed s t in
     ap (λ o. with_bearer rows RenewLease r.body (bearer rows o)) bears
     ∙ ap (λ o. with_bearer rows RenewLease r.body o) (token_found s inventory t p inside token alive)
-    ∙ ap (λ a. with_asked rows (row_of s p) a) body
-    ∙ ap (λ o. owned (row_of s p) (Some (entry_at s.forest.entries i).step) o) (lease_gone s inventory t i within lease gone)
+    ∙ ap (λ a. with_asked rows (broker_row s p) a) body
+    ∙ ap (λ o. owned (broker_row s p) (Some (entry_at s.forest.entries i).step) o) (lease_gone s inventory t i within lease gone)
 
 abbrev IsRefused : Inventory → ℕ → ℕ → Request → Type 0
-IsRefused s t i r = (refusal : Refusal) × (subject (listed s t) (call_for (entry_at s.forest.entries i).kind) r ≡ Err refusal)
+IsRefused s t i r = (refusal : Refusal) × (subject (rows_listed s t) (call_for (entry_at s.forest.entries i).kind) r ≡ Err refusal)
 
-gone_lease : (s : Inventory) → IsInventory s → (t i : ℕ) → i < length s.forest.entries → (entry_at s.forest.entries i).kind ≡ Lease → is_alive s.forest t i ≡ false →
+gone_lease : (s : Inventory) → IsInventory s → (t i : ℕ) → i < length s.forest.entries → (entry_at s.forest.entries i).kind ≡ Lease → is_entry_alive s.forest t i ≡ false →
     (r : Request) → r.token ≡ option_map (credential_at s.credentials) (entry_at s.forest.entries i).parent →
     asked RenewLease r.body ≡ Some (asked_for Lease (credential_at s.credentials i) (entry_at s.forest.entries i).step) →
-    (refusal : Refusal) × (subject (listed s t) RenewLease r ≡ Err refusal)
+    (refusal : Refusal) × (subject (rows_listed s t) RenewLease r ≡ Err refusal)
 gone_lease s inventory t i within lease gone r bears body =
     let over = lease_has_token s inventory.forest i within lease in
     let p = over.0 in
     let first : p < i = over.1.1.0 in
     let inside : p < length s.forest.entries = omega arith in
     let carries = bears ∙ ap (option_map (credential_at s.credentials)) over.1.0 in
-    elim (cases_Bool (is_alive s.forest t p)) [
+    elim (cases_Bool (is_entry_alive s.forest t p)) [
       | inl alive ↦ (UnknownLease, unknown s inventory t i p within lease gone inside over.1.1.1 alive r carries body)
       | inr ended ↦ (PermissionDenied, denied s inventory t p inside over.1.1.1 ended RenewLease r carries)
     ]
 
-gone_is : (s : Inventory) → IsInventory s → (t i : ℕ) → i < length s.forest.entries → is_alive s.forest t i ≡ false → (r : Request) → AsksRenewal s i r → IsRefused s t i r
+gone_is : (s : Inventory) → IsInventory s → (t i : ℕ) → i < length s.forest.entries → is_entry_alive s.forest t i ≡ false → (r : Request) → AsksRenewal s i r → IsRefused s t i r
 gone_is s inventory t i within gone r asks =
     let e = entry_at s.forest.entries i in
     let c = credential_at s.credentials i in
     cases_Kind e.kind (IsRefused s t i r)
     (λ token. (
       PermissionDenied,
-      ap (λ k. subject (listed s t) (call_for k) r) token ∙ denied s inventory t i within token gone RenewSelf r (asks.token ∙ ap (λ k. bearer_for k s i) token),
+      ap (λ k. subject (rows_listed s t) (call_for k) r) token ∙ denied s inventory t i within token gone RenewSelf r (asks.token ∙ ap (λ k. bearer_for k s i) token),
     ))
     (λ lease.
     let w = gone_lease s inventory t i within lease gone r (asks.token ∙ ap (λ k. bearer_for k s i) lease)
     (sym (ap (λ k. asked (call_for k) r.body) lease) ∙ asks.body ∙ ap (λ k. Some (asked_for k c e.step)) lease) in
-    (w.0, ap (λ k. subject (listed s t) (call_for k) r) lease ∙ w.1))
+    (w.0, ap (λ k. subject (rows_listed s t) (call_for k) r) lease ∙ w.1))
 
 not_both : (a b : Bool) → a && b ≡ false → b ≡ true → a ≡ false
 not_both true b e h = sym h ∙ e
 not_both false b e h = refl
 
-not_renewable : (g : Forest) (t i : ℕ) → is_granted g.entries 1 (end_of g.entries) t i ≡ false → is_alive g t i ≡ true → (entry_at g.entries i).renewable ≡ false
-unfolding is_granted is_alive
+not_renewable : (g : Forest) (t i : ℕ) → is_granted g.entries 1 (end_of g.entries) t i ≡ false → is_entry_alive g t i ≡ true → (entry_at g.entries i).renewable ≡ false
+unfolding is_granted is_entry_alive
 not_renewable g t i ungrant alive = not_both (entry_at g.entries i).renewable _ ungrant alive
 
 refused_is : (s : Inventory) → IsInventory s → (t i : ℕ) → i < length s.forest.entries → is_granted s.forest.entries 1 (end_of s.forest.entries) t i ≡ false → (r : Request) → AsksRenewal s i r →
-    (refusal : Refusal) × (renewal_served (listed s t) t (call_for (entry_at s.forest.entries i).kind) r None ≡ Err refusal)
+    (refusal : Refusal) × (renewal_served (rows_listed s t) t (call_for (entry_at s.forest.entries i).kind) r None ≡ Err refusal)
 unfolding renewal_served
 refused_is s inventory t i within ungrant r asks =
     let e = entry_at s.forest.entries i in
-    let row = row_of s i in
-    elim (cases_Bool (is_alive s.forest t i)) [
+    let row = broker_row s i in
+    elim (cases_Bool (is_entry_alive s.forest t i)) [
       | inl alive ↦ (
         NotRenewable,
-        ap (granted None t) (subject_is s inventory t i within alive r asks)
+        ap (granted_row None t) (subject_is s inventory t i within alive r asks)
             ∙ cond-false row.renewable (Ok (record row { end = new_end None t row (Some e.step) })) (Err NotRenewable) (renewable_in s i ∙ not_renewable s.forest t i ungrant alive),
       )
-      | inr gone ↦ (let w = gone_is s inventory t i within gone r asks in (w.0, ap (granted None t) w.1))
+      | inr gone ↦ (let w = gone_is s inventory t i within gone r asks in (w.0, ap (granted_row None t) w.1))
     ]
 
 pub ungranted : UngrantedIsRefused

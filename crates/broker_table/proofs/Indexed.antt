@@ -15,7 +15,7 @@ use Rattle.keep_tree.specs.Push.{is_lease}
 use Rattle.broker_table.specs.declared.row.Row.{Row}
 use Rattle.broker_table.specs.declared.slot.Slot.{Slot}
 use Rattle.broker_table.specs.declared.index.Index.{Index}
-use Rattle.broker_table.specs.Index.{AreUnlike, Enters, Finds, IsFresh, IsIndexOf, IsIndexOfNone, IsIndexed, credentials_of, if_listed, place_in}
+use Rattle.broker_table.specs.Index.{AreUnlike, EntersRow, FindsSlots, IsFresh, IsIndexOf, IsIndexOfNone, IsIndexed, credentials_of, if_listed, place_in}
 use Rattle.broker_table.specs.Slots.{listed_rows, no_slot, relisted, slot_at, swept_slots}
 use Rattle.broker_table.specs.Subject.{is_lease_with, is_token_with}
 use Rattle.broker_table.specs.Sweep.{lives}
@@ -40,7 +40,7 @@ last_or_before n i P h last before = ⊎_elim (λ below. before below) (λ above
 found_more :
     (has : List ℕ → Row → Bool) (slots : List Slot) (n : ℕ) (m new : BTreeMap (Vec ℕ Global) ℕ) (credential : List ℕ) →
     ((q : List ℕ) → has q (slot_at slots n).row ≡ bytes_eq credential q) → place_in m credential ≡ None →
-    ((q : List ℕ) → place_in new q ≡ cond (bytes_eq credential q) (Some n) (place_in m q)) → Finds m has slots n →
+    ((q : List ℕ) → place_in new q ≡ cond (bytes_eq credential q) (Some n) (place_in m q)) → FindsSlots m has slots n →
     (q : List ℕ) (i : ℕ) → i < n + 1 → has q (slot_at slots i).row ≡ true → place_in new q ≡ Some i
 found_more has slots n m new credential is none entered finds q i h pass =
     last_or_before n i (place_in new q ≡ Some i) h
@@ -57,7 +57,7 @@ found_more has slots n m new credential is none entered finds q i h pass =
 finds_more :
     (has : List ℕ → Row → Bool) (slots : List Slot) (n : ℕ) (m new : BTreeMap (Vec ℕ Global) ℕ) (credential : List ℕ) →
     ((q : List ℕ) → has q (slot_at slots n).row ≡ bytes_eq credential q) → place_in m credential ≡ None →
-    ((q : List ℕ) → place_in new q ≡ cond (bytes_eq credential q) (Some n) (place_in m q)) → Finds m has slots n → Finds new has slots (n + 1)
+    ((q : List ℕ) → place_in new q ≡ cond (bytes_eq credential q) (Some n) (place_in m q)) → FindsSlots m has slots n → FindsSlots new has slots (n + 1)
 finds_more has slots n m new credential is none entered finds = record {
   found = found_more has slots n m new credential is none entered finds;
   within = λ q.
@@ -69,7 +69,7 @@ finds_more has slots n m new credential is none entered finds = record {
 }
 
 -- a slot of the other kind
-finds_past : (has : List ℕ → Row → Bool) (slots : List Slot) (n : ℕ) (m : BTreeMap (Vec ℕ Global) ℕ) → ((q : List ℕ) → has q (slot_at slots n).row ≡ false) → Finds m has slots n → Finds m has slots (n + 1)
+finds_past : (has : List ℕ → Row → Bool) (slots : List Slot) (n : ℕ) (m : BTreeMap (Vec ℕ Global) ℕ) → ((q : List ℕ) → has q (slot_at slots n).row ≡ false) → FindsSlots m has slots n → FindsSlots m has slots (n + 1)
 finds_past has slots n m fails finds = record {
   found = λ q i h pass.
       last_or_before n i (place_in m q ≡ Some i) h
@@ -118,7 +118,7 @@ lease_like r q e = let passed = lease_passes r.kind (bytes_eq r.credential q) e 
 none_before :
     (has : List ℕ → Row → Bool) (kind : Kind) (slots : List Slot) (n : ℕ) (m : BTreeMap (Vec ℕ Global) ℕ) (r : Row) (credential : List ℕ) (o : Option ℕ) →
     ((row : Row) → has credential row ≡ true → (row.kind ≡ kind) × (row.credential ≡ credential)) → r.kind ≡ kind → credential ≡ r.credential →
-    o ≡ place_in m credential → IsFresh r slots n → Finds m has slots n → o ≡ None
+    o ≡ place_in m credential → IsFresh r slots n → FindsSlots m has slots n → o ≡ None
 none_before has kind slots n m r credential None like of is e fresh finds = refl
 none_before has kind slots n m r credential (Some i) like of is e fresh finds =
     let there : (i < n) × (has credential (slot_at slots i).row ≡ true) = subst (λ o. IfSome o (λ i. (i < n) × (has credential (slot_at slots i).row ≡ true))) (sym e) (finds.within credential) in
@@ -128,7 +128,7 @@ none_before has kind slots n m r credential (Some i) like of is e fresh finds =
 pub token_enters :
     {E : Type 0} (answer : Result (Unit {0}) E) (x : Index) (new : BTreeMap (Vec ℕ Global) ℕ) (r : Row) (n : ℕ) (credential : List ℕ) → r.kind ≡ Token → credential ≡ r.credential →
     OnOk answer ((q : List ℕ) → place_in new q ≡ cond (bytes_eq credential q) (Some n) (place_in x.tokens q)) →
-    OnOk answer (Enters x (record x { tokens = new }) r n)
+    OnOk answer (EntersRow x (record x { tokens = new }) r n)
 token_enters (Err e) x new r n credential kind is entered = tt
 token_enters (Ok u) x new r n credential kind is entered = λ slots there fresh old. record {
   tokens = finds_more is_token_with slots n x.tokens new credential (λ q. ap (is_token_with q) there ∙ token_by r q kind ∙ ap (λ bs. bytes_eq bs q) (sym is))
@@ -139,7 +139,7 @@ token_enters (Ok u) x new r n credential kind is entered = λ slots there fresh 
 pub lease_enters :
     {E : Type 0} (answer : Result (Unit {0}) E) (x : Index) (new : BTreeMap (Vec ℕ Global) ℕ) (r : Row) (n : ℕ) (credential : List ℕ) → r.kind ≡ Lease → credential ≡ r.credential →
     OnOk answer ((q : List ℕ) → place_in new q ≡ cond (bytes_eq credential q) (Some n) (place_in x.leases q)) →
-    OnOk answer (Enters x (record x { leases = new }) r n)
+    OnOk answer (EntersRow x (record x { leases = new }) r n)
 lease_enters (Err e) x new r n credential kind is entered = tt
 lease_enters (Ok u) x new r n credential kind is entered = λ slots there fresh old. record {
   tokens = finds_past is_token_with slots n x.tokens (λ q. ap (is_token_with q) there ∙ no_token r q kind) old.tokens;
@@ -153,7 +153,7 @@ fresh_next slots n unlike h = λ i below kind same.
     let here : i ≡ n = unlike i n (omega (arith, below, h)) h kind same in
     omega (arith, here, below)
 
-finds_none : (has : List ℕ → Row → Bool) (slots : List Slot) (m : BTreeMap (Vec ℕ Global) ℕ) → IsEmpty m → Finds m has slots 0
+finds_none : (has : List ℕ → Row → Bool) (slots : List Slot) (m : BTreeMap (Vec ℕ Global) ℕ) → IsEmpty m → FindsSlots m has slots 0
 finds_none has slots m empty = record {
   found = λ q i h pass. absurd (omega (arith, h));
   within = λ q. subst (λ o. IfSome o (λ i. (i < 0) × (has q (slot_at slots i).row ≡ true))) (sym (none_in m empty q)) tt;
@@ -164,7 +164,7 @@ index_of_none x tokens leases = λ slots. record { tokens = finds_none is_token_
 
 -- ---- the look-ups
 
-pub place_is_within : (has : List ℕ → Row → Bool) (slots : List Slot) (m : BTreeMap (Vec ℕ Global) ℕ) (q : List ℕ) (o : Option ℕ) → o ≡ place_in m q → Finds m has slots (length slots) → IfSome o (λ p. p < length slots)
+pub place_is_within : (has : List ℕ → Row → Bool) (slots : List Slot) (m : BTreeMap (Vec ℕ Global) ℕ) (q : List ℕ) (o : Option ℕ) → o ≡ place_in m q → FindsSlots m has slots (length slots) → IfSome o (λ p. p < length slots)
 place_is_within has slots m q None e finds = tt
 place_is_within has slots m q (Some p) e finds =
     (subst (λ o. IfSome o (λ i. (i < length slots) × (has q (slot_at slots i).row ≡ true))) (sym e) (finds.within q)).0
@@ -175,7 +175,7 @@ row_if slots p false = refl
 
 -- the slot in the place has the row that the look-up among the listed rows finds
 pub row_by_index :
-    (has : List ℕ → Row → Bool) (slots : List Slot) (m : BTreeMap (Vec ℕ Global) ℕ) (q : List ℕ) (o : Option ℕ) → o ≡ place_in m q → Finds m has slots (length slots) →
+    (has : List ℕ → Row → Bool) (slots : List Slot) (m : BTreeMap (Vec ℕ Global) ℕ) (q : List ℕ) (o : Option ℕ) → o ≡ place_in m q → FindsSlots m has slots (length slots) →
     option_map (λ i. (slot_at slots i).row) (if_listed slots o) ≡ find (λ r. has q r) (listed_rows slots)
 row_by_index has slots m q None e finds =
     sym (none_listed (λ r. has q r) slots (λ i h. false_from_ne_true (has q (slot_at slots i).row) (λ pass. absurd (let both : None ≡ Some i = e ∙ finds.found q i h pass in cc))))
@@ -196,7 +196,7 @@ listed_by_index slots (Some p) h = listed_if slots p (slot_at slots p).listed re
 
 finds_like :
     (has : List ℕ → Row → Bool) (slots now : List Slot) (n : ℕ) (m : BTreeMap (Vec ℕ Global) ℕ) →
-    ((i : ℕ) → i < n → (q : List ℕ) → has q (slot_at now i).row ≡ has q (slot_at slots i).row) → Finds m has slots n → Finds m has now n
+    ((i : ℕ) → i < n → (q : List ℕ) → has q (slot_at now i).row ≡ has q (slot_at slots i).row) → FindsSlots m has slots n → FindsSlots m has now n
 finds_like has slots now n m like finds = record {
   found = λ q i h pass. finds.found q i h (sym (like i h q) ∙ pass);
   within = λ q.

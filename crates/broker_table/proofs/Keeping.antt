@@ -10,7 +10,7 @@ use Rattle.keep_inventory.specs.Inventories.{Inventory}
 use Rattle.broker_table.specs.declared.row.Row.{Row}
 use Rattle.broker_table.specs.declared.slot.Slot.{Slot}
 use Rattle.broker_table.specs.Sweep.{lives}
-use Rattle.broker_table.specs.Slots.{AreKept, AreSlots, EndFrom, end_in, is_listed, listed_rows, no_slot, relisted, slot_at, slot_of, slots_of, swept_slots}
+use Rattle.broker_table.specs.Slots.{AreKept, AreSlots, EndFrom, end_in_slot, is_listed, listed_rows, no_slot, relisted, slot_at, slot_of, slots_of, swept_slots}
 use Rattle.broker_table.proofs.Living.{lives_step, over_below, over_passes, swept_sound}
 use Rattle.broker_table.proofs.Loaded.{count_of_slots, slot_of_place}
 use Rattle.broker_table.proofs.Replaced.{ended, ended_sound, kept_field}
@@ -64,21 +64,21 @@ swept_before soonest t slots kept before =
 pub ends_first : (soonest : ℕ) (slots : List Slot) → EndFrom soonest 0 slots
 ends_first soonest slots i h = absurd (omega arith)
 
-end_listed : (s : Slot) → s.listed ≡ true → end_in s ≡ s.row.end
-unfolding end_in
+end_listed : (s : Slot) → s.listed ≡ true → end_in_slot s ≡ s.row.end
+unfolding end_in_slot
 end_listed s listed = cond-true s.listed s.row.end (2 ^ 64 - 1) listed
 
 -- one slot more is judged
 pub ends_more :
     (slots now : List Slot) (at soonest : ℕ) (s : Slot) → at < length slots → now ≡ set slots at s → EndFrom soonest at slots →
-    EndFrom (min soonest (end_in (slot_at now at))) (at + 1) now
+    EndFrom (min soonest (end_in_slot (slot_at now at))) (at + 1) now
 unfolding slot_at
 ends_more slots now at soonest s h is ends i less listed =
-    let left = min-le_left soonest (end_in (slot_at now at)) in
-    let right = min-le_right soonest (end_in (slot_at now at)) in
+    let left = min-le_left soonest (end_in_slot (slot_at now at)) in
+    let right = min-le_right soonest (end_in_slot (slot_at now at)) in
     elim (cases_eq i at) [
       | inl here ↦ (
-          let same : end_in (slot_at now at) ≡ (slot_at now i).row.end = ap (λ n. end_in (slot_at now n)) (sym here) ∙ end_listed (slot_at now i) listed in
+          let same : end_in_slot (slot_at now at) ≡ (slot_at now i).row.end = ap (λ n. end_in_slot (slot_at now n)) (sym here) ∙ end_listed (slot_at now i) listed in
           omega arith
           )
       | inr there ↦ (

@@ -6,10 +6,10 @@ use Rattle.std.proofs.lemmas.Bool.Decides.{nat_tests}
 use Rattle.keep_tree.specs.declared.entry.Entry.{Entry}
 use Rattle.keep_tree.specs.Forest.{Forest, entry_at, index_named}
 use Rattle.keep_tree.specs.Push.{IsForest, lacks_parent}
-use Rattle.keep_inventory.specs.Inventories.{AreApart, Inventory}
+use Rattle.keep_inventory.specs.Inventories.{CredentialsAreApart, Inventory}
 use Rattle.broker_table.specs.declared.slot.Slot.{Slot}
 use Rattle.broker_table.specs.Index.{AreUnlike}
-use Rattle.broker_table.specs.Rows.{row_of, rows_of}
+use Rattle.broker_table.specs.Rows.{broker_row, broker_rows}
 use Rattle.broker_table.specs.Slots.{AreSlots, IsTied, listed_rows, no_slot, slot_at, slot_of, slots_of}
 
 pub slot_of_place : (s : Inventory) (i : ℕ) → i < length s.forest.entries → slot_at (slots_of s) i ≡ slot_of s i
@@ -21,7 +21,7 @@ unfolding slots_of
 count_of_slots s = length-map-range_with_len (slot_of s) 0 (length s.forest.entries)
 
 name_of_place : (s : Inventory) (i : ℕ) → i < length s.forest.entries → (slot_at (slots_of s) i).row.name ≡ (entry_at s.forest.entries i).name
-unfolding slot_of row_of
+unfolding slot_of broker_row
 name_of_place s i h = ap (λ (u : Slot). u.row.name) (slot_of_place s i h)
 
 tied_of :
@@ -31,7 +31,7 @@ tied_of s i h None first = refl
 tied_of s i h (Some p) first = let below : p < i = first p refl in (below, ap Some (sym (name_of_place s p (omega arith))))
 
 tied_at : (s : Inventory) → IsForest s.forest → (i : ℕ) → i < length s.forest.entries → IsTied (slots_of s) i (slot_at (slots_of s) i).over (slot_at (slots_of s) i).row.parent
-unfolding slot_of row_of
+unfolding slot_of broker_row
 tied_at s forest i h =
     subst (λ (u : Slot). IsTied (slots_of s) i u.over u.row.parent) (sym (slot_of_place s i h))
     (tied_of s i h (entry_at s.forest.entries i).parent (forest.placed i h).parent_first)
@@ -50,8 +50,8 @@ slots_are_sound s forest =
       tied = λ i h. tied_at s forest i (omega arith);
     }
 
-pub slots_are_unlike : (s : Inventory) → AreApart s → AreUnlike (slots_of s)
-unfolding slot_of row_of
+pub slots_are_unlike : (s : Inventory) → CredentialsAreApart s → AreUnlike (slots_of s)
+unfolding slot_of broker_row
 slots_are_unlike s apart i j h k kinds same =
     let count = count_of_slots s in
     let hi : i < length s.forest.entries = omega (arith, h, count) in
@@ -62,14 +62,14 @@ slots_are_unlike s apart i j h k kinds same =
     (sym (ap (λ (u : Slot). u.row.kind) one) ∙ kinds ∙ ap (λ (u : Slot). u.row.kind) two)
     (sym (ap (λ (u : Slot). u.row.credential) one) ∙ same ∙ ap (λ (u : Slot). u.row.credential) two)
 
-listed_of : (s : Inventory) (is : List ℕ) → listed_rows (map (slot_of s) is) ≡ map (row_of s) is
+listed_of : (s : Inventory) (is : List ℕ) → listed_rows (map (slot_of s) is) ≡ map (broker_row s) is
 unfolding listed_rows slot_of
 listed_of s [] = refl
-listed_of s (i ∷ is) = ap (λ rows. row_of s i ∷ rows) (listed_of s is)
+listed_of s (i ∷ is) = ap (λ rows. broker_row s i ∷ rows) (listed_of s is)
 
 -- the rows of an inventory's slots
-pub rows_of_slots : (s : Inventory) → listed_rows (slots_of s) ≡ rows_of s
-unfolding slots_of rows_of
+pub rows_of_slots : (s : Inventory) → listed_rows (slots_of s) ≡ broker_rows s
+unfolding slots_of broker_rows
 rows_of_slots s = listed_of s (range_with_len 0 (length s.forest.entries))
 
 -- one slot more

@@ -15,7 +15,7 @@ use Rattle.broker_table.specs.declared.fault.Fault.{Fault}
 use Rattle.broker_table.specs.declared.fault.NumberedFault.{NumberedFault}
 use Rattle.broker_table.specs.declared.fault.SetFault.{SetFault}
 use Rattle.broker_table.specs.declared.fault.SetFault.TheVariants.{BadNumber, Twice}
-use Rattle.broker_table.specs.Faults.{Faults, fault_at, fault_refusal, next_number, pending, without}
+use Rattle.broker_table.specs.Faults.{Faults, fault_at, fault_refusal, next_number, pending, without_fault}
 
 -- ---- a look-up among those pending
 
@@ -158,8 +158,8 @@ behind_next : (b : Bool) (count n : ℕ) → (nat_lt count n && not (n == cond b
 behind_next true count n = grind (arith, nat_tests)
 behind_next false count n = grind (arith, nat_tests)
 
-pub pending_counted : (given : List NumberedFault) (count : ℕ) → without (pending given count) (next_number count) ≡ pending given (next_number count)
-unfolding without pending next_number
+pub pending_counted : (given : List NumberedFault) (count : ℕ) → without_fault (pending given count) (next_number count) ≡ pending given (next_number count)
+unfolding without_fault pending next_number
 pending_counted given count =
     filter_both (λ (f : NumberedFault). not (f.number == next_number count)) (λ (f : NumberedFault). nat_lt count f.number) given
     ∙ filter_agree (λ (f : NumberedFault). nat_lt count f.number && not (f.number == next_number count)) (λ (f : NumberedFault). nat_lt (next_number count) f.number)
@@ -168,8 +168,8 @@ pending_counted given count =
 -- the same of the faults with their count
 pub counted_faults :
     (given : List NumberedFault) (count : ℕ) (f : Faults) (next : ℕ) → ◌≡◌ {A = Faults} (record { faults = pending given count; count = count }) f → next ≡ next_number count →
-    ◌≡◌ {A = Faults} (record { faults = pending given next; count = next }) (record { faults = without f.faults (next_number f.count); count = next_number f.count })
+    ◌≡◌ {A = Faults} (record { faults = pending given next; count = next }) (record { faults = without_fault f.faults (next_number f.count); count = next_number f.count })
 counted_faults given count f next is number =
     ap (λ n. record { faults = pending given n; count = n }) number
     ∙ ap (λ fs. record { faults = fs; count = next_number count }) (sym (pending_counted given count))
-    ∙ ap (λ (g : Faults). record { faults = without g.faults (next_number g.count); count = next_number g.count }) is
+    ∙ ap (λ (g : Faults). record { faults = without_fault g.faults (next_number g.count); count = next_number g.count }) is

@@ -13,10 +13,10 @@ use Rattle.keep_tree.proofs.Chains.{all_last_child, all_last_root, cases_Option}
 use Rattle.keep_tree.proofs.Placed.{parents_first}
 use Rattle.keep_inventory.specs.Inventories.{Inventory}
 use Rattle.broker_table.specs.declared.row.Row.{Row}
-use Rattle.broker_table.specs.Rows.{row_named, row_of, rows_of}
+use Rattle.broker_table.specs.Rows.{broker_row, broker_rows, row_named}
 use Rattle.broker_table.specs.Sweep.{lives, lives_of, parent_passes, passes, swept}
 use Rattle.broker_table.specs.Laws.{SweptInventory}
-use Rattle.broker_table.specs.Listed.{is_alive, listed}
+use Rattle.broker_table.specs.Listed.{is_entry_alive, rows_listed}
 use Rattle.broker_table.proofs.Ranges.{filter_all, filter_of_map, filter_range, found_lone}
 
 pub lt_is_le : (t e : ℕ) → nat_lt t e ≡ nat_le (t + 1) e
@@ -25,48 +25,48 @@ lt_is_le t e = elim (cases_lt t e) [
   | inr h ↦ (let a : nat_lt t e ≡ false = grind (arith, nat_tests) in let b : nat_le (t + 1) e ≡ false = grind (arith, nat_tests) in a ∙ sym b)
 ]
 
-pub alive_root : (g : Forest) (t i : ℕ) → (entry_at g.entries i).parent ≡ None → is_alive g t i ≡ nat_le (t + 1) (entry_at g.entries i).end
-unfolding is_alive end_of
+pub alive_root : (g : Forest) (t i : ℕ) → (entry_at g.entries i).parent ≡ None → is_entry_alive g t i ≡ nat_le (t + 1) (entry_at g.entries i).end
+unfolding is_entry_alive end_of
 alive_root g t i root = all_last_root g.entries (λ k. (entry_at g.entries k).end) (t + 1) i root
 
-pub alive_child : (g : Forest) → IsForest g → (t i p : ℕ) → (entry_at g.entries i).parent ≡ Some p → is_alive g t i ≡ nat_le (t + 1) (entry_at g.entries i).end && is_alive g t p
-unfolding is_alive end_of
+pub alive_child : (g : Forest) → IsForest g → (t i p : ℕ) → (entry_at g.entries i).parent ≡ Some p → is_entry_alive g t i ≡ nat_le (t + 1) (entry_at g.entries i).end && is_entry_alive g t p
+unfolding is_entry_alive end_of
 alive_child g forest t i p child = all_last_child g.entries (λ k. (entry_at g.entries k).end) (t + 1) i p (parents_first g forest) child
 
 -- of these entries each parent is one too, and is the row that has its name
 abbrev Named : Inventory → List Row → (ℕ → Type 0) → Type 0
-Named s rows these = (i p : ℕ) → these i → (entry_at s.forest.entries i).parent ≡ Some p → these p × (row_named rows (entry_at s.forest.entries p).name ≡ Some (row_of s p))
+Named s rows these = (i p : ℕ) → these i → (entry_at s.forest.entries i).parent ≡ Some p → these p × (row_named rows (entry_at s.forest.entries p).name ≡ Some (broker_row s p))
 
 lives_step : (n : ℕ) (rows : List Row) (t : ℕ) (r : Row) → lives_of (suc n) rows t r ≡ nat_lt t r.end && parent_passes (lives_of n rows t) rows r.parent
 unfolding lives_of
 lives_step n rows t r = refl
 
-end_in : (s : Inventory) (i : ℕ) → (row_of s i).end ≡ (entry_at s.forest.entries i).end
-unfolding row_of
+end_in : (s : Inventory) (i : ℕ) → (broker_row s i).end ≡ (entry_at s.forest.entries i).end
+unfolding broker_row
 end_in s i = refl
 
-parent_in : (s : Inventory) (i : ℕ) → (row_of s i).parent ≡ option_map (λ p. (entry_at s.forest.entries p).name) (entry_at s.forest.entries i).parent
-unfolding row_of
+parent_in : (s : Inventory) (i : ℕ) → (broker_row s i).parent ≡ option_map (λ p. (entry_at s.forest.entries p).name) (entry_at s.forest.entries i).parent
+unfolding broker_row
 parent_in s i = refl
 
-pub name_in : (s : Inventory) (i : ℕ) → (row_of s i).name ≡ (entry_at s.forest.entries i).name
-unfolding row_of
+pub name_in : (s : Inventory) (i : ℕ) → (broker_row s i).name ≡ (entry_at s.forest.entries i).name
+unfolding broker_row
 name_in s i = refl
 
 -- a row lives where its entry is alive
 lives_of_alive :
-    (s : Inventory) → IsForest s.forest → (rows : List Row) (t : ℕ) (these : ℕ → Type 0) → Named s rows these → (n i : ℕ) → i < n → these i → lives_of n rows t (row_of s i) ≡ is_alive s.forest t i
+    (s : Inventory) → IsForest s.forest → (rows : List Row) (t : ℕ) (these : ℕ → Type 0) → Named s rows these → (n i : ℕ) → i < n → these i → lives_of n rows t (broker_row s i) ≡ is_entry_alive s.forest t i
 lives_of_alive s forest rows t these named zero i below here = absurd (omega arith)
 lives_of_alive s forest rows t these named (suc n) i below here =
     let g = s.forest in
     let es = g.entries in
     let test = lives_of n rows t in
-    lives_step n rows t (row_of s i)
-    ∙ ap (λ e. nat_lt t e && parent_passes test rows (row_of s i).parent) (end_in s i)
-    ∙ ap (λ b. b && parent_passes test rows (row_of s i).parent) (lt_is_le t (entry_at es i).end)
+    lives_step n rows t (broker_row s i)
+    ∙ ap (λ e. nat_lt t e && parent_passes test rows (broker_row s i).parent) (end_in s i)
+    ∙ ap (λ b. b && parent_passes test rows (broker_row s i).parent) (lt_is_le t (entry_at es i).end)
     ∙ ap (λ o. nat_le (t + 1) (entry_at es i).end && parent_passes test rows o) (parent_in s i)
     ∙ cases_Option (entry_at es i).parent
-    (nat_le (t + 1) (entry_at es i).end && parent_passes test rows (option_map (λ p. (entry_at es p).name) (entry_at es i).parent) ≡ is_alive g t i)
+    (nat_le (t + 1) (entry_at es i).end && parent_passes test rows (option_map (λ p. (entry_at es p).name) (entry_at es i).parent) ≡ is_entry_alive g t i)
     (λ root.
     ap (λ o. nat_le (t + 1) (entry_at es i).end && parent_passes test rows (option_map (λ p. (entry_at es p).name) o)) root
     ∙ and-true (nat_le (t + 1) (entry_at es i).end) ∙ sym (alive_root g t i root))
@@ -79,7 +79,7 @@ lives_of_alive s forest rows t these named (suc n) i below here =
     ∙ sym (alive_child g forest t i p child))
 
 lives_alive :
-    (s : Inventory) → IsForest s.forest → (rows : List Row) (t : ℕ) (these : ℕ → Type 0) → Named s rows these → (i : ℕ) → i < length s.forest.entries → these i → lives rows t (row_of s i) ≡ is_alive s.forest t i
+    (s : Inventory) → IsForest s.forest → (rows : List Row) (t : ℕ) (these : ℕ → Type 0) → Named s rows these → (i : ℕ) → i < length s.forest.entries → these i → lives rows t (broker_row s i) ≡ is_entry_alive s.forest t i
 unfolding lives
 lives_alive s forest rows t these named i within here = lives_of_alive s forest rows t these named MAX_ENTRIES i (let few = forest.few in omega arith) here
 
@@ -94,33 +94,33 @@ lone_name g forest i j hi hj same =
 -- the row of a name, among those of some entries
 pub named_among :
     (s : Inventory) → IsForest s.forest → (p : ℕ → Bool) (i : ℕ) → i < length s.forest.entries → p i ≡ true →
-    row_named (map (row_of s) (filter p (range_with_len 0 (length s.forest.entries)))) (entry_at s.forest.entries i).name ≡ Some (row_of s i)
+    row_named (map (broker_row s) (filter p (range_with_len 0 (length s.forest.entries)))) (entry_at s.forest.entries i).name ≡ Some (broker_row s i)
 unfolding row_named
 named_among s forest p i within there =
     let name = (entry_at s.forest.entries i).name in
-    found_lone (λ r. bytes_eq r.name name) (row_of s) p i (length s.forest.entries) 0
+    found_lone (λ r. bytes_eq r.name name) (broker_row s) p i (length s.forest.entries) 0
     (ap (λ n. bytes_eq n name) (name_in s i) ∙ (bytes_decides name name).1 refl) there (omega arith) (omega arith)
-    (λ j low high hit. lone_name s.forest forest i j within (omega arith) (sym (name_in s j) ∙ (bytes_decides (row_of s j).name name).0 hit))
+    (λ j low high hit. lone_name s.forest forest i j within (omega arith) (sym (name_in s j) ∙ (bytes_decides (broker_row s j).name name).0 hit))
 
-all_rows : (s : Inventory) → rows_of s ≡ map (row_of s) (filter (λ i. true) (range_with_len 0 (length s.forest.entries)))
-unfolding rows_of
-all_rows s = ap (map (row_of s)) (sym (filter_all (range_with_len 0 (length s.forest.entries))))
+all_rows : (s : Inventory) → broker_rows s ≡ map (broker_row s) (filter (λ i. true) (range_with_len 0 (length s.forest.entries)))
+unfolding broker_rows
+all_rows s = ap (map (broker_row s)) (sym (filter_all (range_with_len 0 (length s.forest.entries))))
 
 -- an inventory's rows mirror its forest
 pub swept_inventory : SweptInventory
-unfolding swept listed rows_of
+unfolding swept rows_listed broker_rows
 swept_inventory s forest t =
     let g = s.forest in
     let n = length g.entries in
-    let rows = map (row_of s) (range_with_len 0 n) in
-    let same : rows ≡ map (row_of s) (filter (λ i. true) (range_with_len 0 n)) = ap (map (row_of s)) (sym (filter_all (range_with_len 0 n))) in
+    let rows = map (broker_row s) (range_with_len 0 n) in
+    let same : rows ≡ map (broker_row s) (filter (λ i. true) (range_with_len 0 n)) = ap (map (broker_row s)) (sym (filter_all (range_with_len 0 n))) in
     let named : Named s rows (λ i. i < n) = λ i p within child.
     let first : p < i = parents_first g forest i p child in
     let inside : p < n = omega arith in
     (inside, ap (λ rs. row_named rs (entry_at g.entries p).name) same ∙ named_among s forest (λ i. true) p inside refl) in
-    filter_of_map (row_of s) (lives rows t) (range_with_len 0 n)
-    ∙ ap (map (row_of s)) (filter_range (λ i. lives rows t (row_of s i)) (is_alive g t) n 0
+    filter_of_map (broker_row s) (lives rows t) (range_with_len 0 n)
+    ∙ ap (map (broker_row s)) (filter_range (λ i. lives rows t (broker_row s i)) (is_entry_alive g t) n 0
     (λ i low high. lives_alive s forest rows t (λ i. i < n) named i (omega arith) (omega arith)))
 
-pub alive_up : (g : Forest) → IsForest g → (t i p : ℕ) → (entry_at g.entries i).parent ≡ Some p → is_alive g t i ≡ true → is_alive g t p ≡ true
-alive_up g forest t i p child alive = and_right (nat_le (t + 1) (entry_at g.entries i).end) (is_alive g t p) (sym (alive_child g forest t i p child) ∙ alive)
+pub alive_up : (g : Forest) → IsForest g → (t i p : ℕ) → (entry_at g.entries i).parent ≡ Some p → is_entry_alive g t i ≡ true → is_entry_alive g t p ≡ true
+alive_up g forest t i p child alive = and_right (nat_le (t + 1) (entry_at g.entries i).end) (is_entry_alive g t p) (sym (alive_child g forest t i p child) ∙ alive)

@@ -13,8 +13,8 @@ use Rattle.broker_table.specs.declared.call.Call.TheVariants.{RenewSelf, RenewLe
 use Rattle.broker_table.specs.declared.fault.Fault.{Fault}
 use Rattle.broker_table.specs.declared.refusal.Refusal.{Refusal}
 use Rattle.broker_table.specs.Found.{GrantNamesText, SubjectNamesText}
-use Rattle.broker_table.specs.Renewing.{granted, is_deny, new_end, renewal}
-use Rattle.broker_table.specs.Request.{a_text, asked, increment_in, lease_id_in, of_lease}
+use Rattle.broker_table.specs.Renewing.{granted_row, is_deny, new_end, renewal_by_broker}
+use Rattle.broker_table.specs.Request.{a_text, asked, asked_of_lease, increment_in, lease_id_in}
 use Rattle.broker_table.specs.Subject.{Subject, bearer, belongs, is_lease_with, lease_with, owned, subject, with_asked, with_bearer}
 
 text_if : (b : Bool) (id : List ℕ) → b ≡ is_utf8 id → IfSome (cond b (Some id) None) IsUtf8
@@ -61,7 +61,7 @@ owned_is_text token increment None text = tt
 owned_is_text token increment (Some lease) text =
     elim (belongs lease.parent token.name) as (λ b. IsTextSubject (cond b (Ok (record { row = lease; increment = increment })) (Err Rattle.broker_table.specs.declared.refusal.Refusal.TheVariants.PermissionDenied))) [ true ↦ text | false ↦ tt ]
 
-lease_asked_is_text : (rows : List Row) (token : Row) (id : Option (List ℕ)) (increment : Option (Option ℕ)) → IfSome id IsUtf8 → IsTextSubject (with_asked rows token (of_lease id increment))
+lease_asked_is_text : (rows : List Row) (token : Row) (id : Option (List ℕ)) (increment : Option (Option ℕ)) → IfSome id IsUtf8 → IsTextSubject (with_asked rows token (asked_of_lease id increment))
 lease_asked_is_text rows token None increment text = tt
 lease_asked_is_text rows token (Some id) None text = tt
 lease_asked_is_text rows token (Some id) (Some increment) text = owned_is_text token increment (lease_with rows id) (lease_is_text rows id text)
@@ -100,16 +100,16 @@ subject_names_text rows RenewLease r = of_renew_lease _ (renew_lease_is_text row
 subject_names_text rows LookupSelf r = of_lookup_self _
 subject_names_text rows LookupLease r = of_lookup_lease _ (lookup_lease_is_text rows r.body (bearer rows r.token))
 
-granted_names_text : (call : Call) (fault : Option Fault) (t : ℕ) (s : Result Subject Refusal) → SubjectNamesText call s → GrantNamesText call (granted fault t s)
+granted_names_text : (call : Call) (fault : Option Fault) (t : ℕ) (s : Result Subject Refusal) → SubjectNamesText call s → GrantNamesText call (granted_row fault t s)
 granted_names_text call fault t (Err refusal) text = tt
 granted_names_text call fault t (Ok s) text =
     elim (s.row.renewable) as (λ b. GrantNamesText call (cond b (Ok (record s.row { end = new_end fault t s.row s.increment })) (Err Rattle.broker_table.specs.declared.refusal.Refusal.TheVariants.NotRenewable))) [ true ↦ text | false ↦ tt ]
 
 -- the same of a row that is renewed
-pub grant_names_text : (rows : List Row) (t : ℕ) (call : Call) (r : Request) (fault : Option Fault) → GrantNamesText call (renewal rows t call r fault)
-unfolding renewal
+pub grant_names_text : (rows : List Row) (t : ℕ) (call : Call) (r : Request) (fault : Option Fault) → GrantNamesText call (renewal_by_broker rows t call r fault)
+unfolding renewal_by_broker
 grant_names_text rows t call r fault =
-    elim (is_deny fault) as (λ b. GrantNamesText call (cond b (Err Rattle.broker_table.specs.declared.refusal.Refusal.TheVariants.PermissionDenied) (granted fault t (subject rows call r)))) [
+    elim (is_deny fault) as (λ b. GrantNamesText call (cond b (Err Rattle.broker_table.specs.declared.refusal.Refusal.TheVariants.PermissionDenied) (granted_row fault t (subject rows call r)))) [
       | true ↦ tt
       | false ↦ granted_names_text call fault t (subject rows call r) (subject_names_text rows call r)
     ]

@@ -24,8 +24,8 @@ unfoldable pub fault_at : List NumberedFault → ℕ → Option Fault
 fault_at faults n = option_map (λ f. f.fault) (find (λ f. f.number == n) faults)
 
 -- the faults without that of a request
-unfoldable pub without : List NumberedFault → ℕ → List NumberedFault
-without faults n = filter (λ f. not (f.number == n)) faults
+unfoldable pub without_fault : List NumberedFault → ℕ → List NumberedFault
+without_fault faults n = filter (λ f. not (f.number == n)) faults
 
 -- why a fault is not taken: its number is 0 or counted already, or has a fault
 unfoldable pub fault_refusal : List NumberedFault → ℕ → ℕ → Option SetFault

@@ -12,7 +12,7 @@ use Rattle.broker_table.specs.declared.asked.Asked.{Asked}
 use Rattle.broker_table.specs.declared.call.Call.{Call}
 use Rattle.broker_table.specs.declared.call.Call.TheVariants.{RenewSelf, RenewLease}
 use Rattle.broker_table.specs.Request.{asked, call_of, is_write}
-use Rattle.broker_table.specs.Rows.{row_of}
+use Rattle.broker_table.specs.Rows.{broker_row}
 
 -- the call that renews an entry of that kind
 abbrev pub call_for : Kind → Call
@@ -39,4 +39,4 @@ pub record AsksRenewal (s : Inventory) (i : ℕ) (r : Request) : Type 0 where
 
 -- the row of the entry i with the end that the renewal rule gives at t, with a margin of one second
 unfoldable pub renewed_row : Inventory → ℕ → ℕ → Row
-renewed_row s t i = record (row_of s i) { end = renewed s.forest.entries 1 (end_of s.forest.entries) t i }
+renewed_row s t i = record (broker_row s i) { end = renewed s.forest.entries 1 (end_of s.forest.entries) t i }

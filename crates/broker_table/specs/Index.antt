@@ -16,14 +16,14 @@ abbrev pub place_in : BTreeMap (Vec ℕ Global) ℕ → List ℕ → Option ℕ
 place_in places credential = get_by (λ k. slice_cmp nat_cmp credential k.items) places
 
 -- of the first n slots, the map has for each credential the one whose row has it, and no other place
-pub record Finds (places : BTreeMap (Vec ℕ Global) ℕ) (has : List ℕ → Row → Bool) (slots : List Slot) (n : ℕ) : Type 0 where
+pub record FindsSlots (places : BTreeMap (Vec ℕ Global) ℕ) (has : List ℕ → Row → Bool) (slots : List Slot) (n : ℕ) : Type 0 where
   pub found : (credential : List ℕ) (i : ℕ) → i < n → has credential (slot_at slots i).row ≡ true → place_in places credential ≡ Some i
   pub within : (credential : List ℕ) → IfSome (place_in places credential) (λ i. (i < n) × (has credential (slot_at slots i).row ≡ true))
 
 -- an index of the first n slots
 pub record IsIndexOf (index : Index) (slots : List Slot) (n : ℕ) : Type 0 where
-  pub tokens : Finds index.tokens is_token_with slots n
-  pub leases : Finds index.leases is_lease_with slots n
+  pub tokens : FindsSlots index.tokens is_token_with slots n
+  pub leases : FindsSlots index.leases is_lease_with slots n
 
 -- an index of no slots yet, whatever the slots are
 abbrev pub IsIndexOfNone : Index → Type 0
@@ -35,8 +35,8 @@ IsFresh row slots n = (i : ℕ) → i < n → (slot_at slots i).row.kind ≡ row
 
 -- the row of slot n is entered: if none before it has its kind and its credential, an index of the first n slots becomes
 -- one of the first n + 1
-abbrev pub Enters : Index → Index → Row → ℕ → Type 0
-Enters old new row n = (slots : List Slot) → (slot_at slots n).row ≡ row → IsFresh row slots n → IsIndexOf old slots n → IsIndexOf new slots (n + 1)
+abbrev pub EntersRow : Index → Index → Row → ℕ → Type 0
+EntersRow old new row n = (slots : List Slot) → (slot_at slots n).row ≡ row → IsFresh row slots n → IsIndexOf old slots n → IsIndexOf new slots (n + 1)
 
 -- no two of the slots have the same kind and the same credential
 abbrev pub AreUnlike : List Slot → Type 0

@@ -8,13 +8,13 @@ use Rattle.keep_inventory.specs.Inventories.{IsInventory, Inventory}
 use Rattle.vault_http.specs.declared.request.Request.{Request}
 use Rattle.broker_table.specs.declared.row.Row.{Row}
 use Rattle.broker_table.specs.declared.refusal.Refusal.{Refusal}
-use Rattle.broker_table.specs.Faults.{fault_at, next_number, without}
+use Rattle.broker_table.specs.Faults.{fault_at, next_number, without_fault}
 use Rattle.broker_table.specs.Granted.{AsksRenewal, call_for, renewed_row}
-use Rattle.broker_table.specs.Table.{Table}
-use Rattle.broker_table.specs.Listed.{listed}
+use Rattle.broker_table.specs.Table.{BrokerTable}
+use Rattle.broker_table.specs.Listed.{rows_listed}
 use Rattle.broker_table.specs.Renewing.{with_row}
-use Rattle.broker_table.specs.Rows.{rows_of}
-use Rattle.broker_table.specs.Step.{refuses, step, tells}
+use Rattle.broker_table.specs.Rows.{broker_rows}
+use Rattle.broker_table.specs.Step.{broker_step, refuses, tells}
 use Rattle.broker_table.specs.Sweep.{lives, swept}
 
 -- every row that a sweep has kept lives among those that it has kept: each row over it is listed and ends later, which is
@@ -28,27 +28,27 @@ SweptLater = (rows : List Row) (t m : ℕ) → t ≤ m → swept m (swept t rows
 
 -- of the rows of an inventory a sweep leaves exactly those of the entries that are alive
 abbrev pub SweptInventory : Type 0
-SweptInventory = (s : Inventory) → IsForest s.forest → (t : ℕ) → swept t (rows_of s) ≡ listed s t
+SweptInventory = (s : Inventory) → IsForest s.forest → (t : ℕ) → swept t (broker_rows s) ≡ rows_listed s t
 
 -- where a sweep leaves the rows of the entries that are alive, and the request has no fault: one for the renewal of an entry
 -- that the renewal rule grants with a margin of one second is granted, to the end that the rule gives, which is told and listed
 abbrev pub RenewalIsByTheRule : Type 0
 RenewalIsByTheRule =
     (s : Inventory) → IsInventory s → (t i : ℕ) → i < length s.forest.entries → is_granted s.forest.entries 1 (end_of s.forest.entries) t i ≡ true →
-    (l : Table) → swept t l.rows ≡ listed s t → fault_at l.faults (next_number l.count) ≡ None →
+    (l : BrokerTable) → swept t l.rows ≡ rows_listed s t → fault_at l.faults (next_number l.count) ≡ None →
     (r : Request) → AsksRenewal s i r →
-    step l t r ≡ record {
+    broker_step l t r ≡ record {
       answer = tells (call_for (entry_at s.forest.entries i).kind) (renewed_row s t i);
-      table = record { rows = with_row (listed s t) (renewed_row s t i); faults = without l.faults (next_number l.count); count = next_number l.count };
+      table = record { rows = with_row (rows_listed s t) (renewed_row s t i); faults = without_fault l.faults (next_number l.count); count = next_number l.count };
     }
 
 -- and one for an entry that the rule does not grant is refused, and no row changes
 abbrev pub UngrantedIsRefused : Type 0
 UngrantedIsRefused =
     (s : Inventory) → IsInventory s → (t i : ℕ) → i < length s.forest.entries → is_granted s.forest.entries 1 (end_of s.forest.entries) t i ≡ false →
-    (l : Table) → swept t l.rows ≡ listed s t → fault_at l.faults (next_number l.count) ≡ None →
+    (l : BrokerTable) → swept t l.rows ≡ rows_listed s t → fault_at l.faults (next_number l.count) ≡ None →
     (r : Request) → AsksRenewal s i r →
-    (refusal : Refusal) × (step l t r ≡ record {
+    (refusal : Refusal) × (broker_step l t r ≡ record {
       answer = refuses refusal;
-      table = record { rows = listed s t; faults = without l.faults (next_number l.count); count = next_number l.count };
+      table = record { rows = rows_listed s t; faults = without_fault l.faults (next_number l.count); count = next_number l.count };
     })

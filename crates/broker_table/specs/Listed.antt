@@ -6,12 +6,12 @@ use Rattle.keep_tree.specs.Forest.{Forest, end_of}
 use Rattle.keep_tree.specs.Renewal.{all_last}
 use Rattle.keep_inventory.specs.Inventories.{Inventory}
 use Rattle.broker_table.specs.declared.row.Row.{Row}
-use Rattle.broker_table.specs.Rows.{row_of}
+use Rattle.broker_table.specs.Rows.{broker_row}
 
 -- each entry over i (itself included) ends after t
-unfoldable pub is_alive : Forest → ℕ → ℕ → Bool
-is_alive g t i = all_last g.entries (end_of g.entries) (t + 1) i
+unfoldable pub is_entry_alive : Forest → ℕ → ℕ → Bool
+is_entry_alive g t i = all_last g.entries (end_of g.entries) (t + 1) i
 
 -- the rows of the entries that are alive at t
-unfoldable pub listed : Inventory → ℕ → List Row
-listed s t = map (row_of s) (filter (is_alive s.forest t) (range_with_len 0 (length s.forest.entries)))
+unfoldable pub rows_listed : Inventory → ℕ → List Row
+rows_listed s t = map (broker_row s) (filter (is_entry_alive s.forest t) (range_with_len 0 (length s.forest.entries)))

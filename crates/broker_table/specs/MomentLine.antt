@@ -52,15 +52,15 @@ CountsLine (Err lines.NoMoment) before now = now ≡ before
 CountsLine (Err lines.OutOfMemory) before now = now ≡ before
 
 -- the moment of a line that was read, and no byte after it; or that none stands in front; and what is left
-abbrev pub TellsLine : Result ℕ LineFault → Input → Input → Type 0
-TellsLine (Ok m) before now = Consumes before.remaining now.remaining (moment_line m)
-TellsLine (Err lines.NoMoment) before now = IfSome before.remaining HasNoMoment × PassesLine before.remaining now.remaining
-TellsLine (Err fault) before now = BreaksOff before.remaining now.remaining
+abbrev pub TellsMomentLine : Result ℕ LineFault → Input → Input → Type 0
+TellsMomentLine (Ok m) before now = Consumes before.remaining now.remaining (moment_line m)
+TellsMomentLine (Err lines.NoMoment) before now = IfSome before.remaining HasNoMoment × PassesLine before.remaining now.remaining
+TellsMomentLine (Err fault) before now = BreaksOff before.remaining now.remaining
 
 -- the moment at which the next connection is served: the one of all, or that of the next line
-abbrev pub Tells : Moments → Result ℕ LineFault → Seen → Seen → Type 0
-Tells (moments.All m) result before now = result ≡ Ok m
-Tells moments.Lines result before now = TellsLine result before.input now.input × CountsLine result before.failed_calls now.failed_calls
+abbrev pub TellsMoment : Moments → Result ℕ LineFault → Seen → Seen → Type 0
+TellsMoment (moments.All m) result before now = result ≡ Ok m
+TellsMoment moments.Lines result before now = TellsMomentLine result before.input now.input × CountsLine result before.failed_calls now.failed_calls
 
 -- where all connections have one moment, nothing is read
 abbrev pub ReadsNothing : {S : Type 0} → Moments → S → S → Type 0

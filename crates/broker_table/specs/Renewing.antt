@@ -19,8 +19,8 @@ asked_or step None = step
 asked_or step (Some increment) = if increment == 0 then step else increment
 
 -- the period where it is not 0, else that
-unfoldable pub step_of : Row → Option ℕ → ℕ
-step_of row increment = if row.period == 0 then asked_or row.step increment else row.period
+unfoldable pub step_of_row : Row → Option ℕ → ℕ
+step_of_row row increment = if row.period == 0 then asked_or row.step increment else row.period
 
 -- a grant that a fault shortens
 abbrev pub shortened : Option Fault → ℕ → ℕ → ℕ
@@ -31,12 +31,12 @@ shortened (Some Deny) t end = end
 
 -- the end that a renewal at t gives: by the renewal rule, changed by the request's fault
 unfoldable pub new_end : Option Fault → ℕ → Row → Option ℕ → ℕ
-new_end fault t row increment = shortened fault t (capped row.ceiling (t + step_of row increment))
+new_end fault t row increment = shortened fault t (capped row.ceiling (t + step_of_row row increment))
 
 -- the row with its new end, or why it is not renewed
-abbrev pub granted : Option Fault → ℕ → Result Subject Refusal → Result Row Refusal
-granted fault t (Err refusal) = Err refusal
-granted fault t (Ok s) = if s.row.renewable then Ok (record s.row { end = new_end fault t s.row s.increment }) else Err NotRenewable
+abbrev pub granted_row : Option Fault → ℕ → Result Subject Refusal → Result Row Refusal
+granted_row fault t (Err refusal) = Err refusal
+granted_row fault t (Ok s) = if s.row.renewable then Ok (record s.row { end = new_end fault t s.row s.increment }) else Err NotRenewable
 
 abbrev pub is_deny : Option Fault → Bool
 is_deny None = false
@@ -45,8 +45,8 @@ is_deny (Some Drop) = false
 is_deny (Some Deny) = true
 
 -- what a renewal request with that fault comes to
-unfoldable pub renewal : List Row → ℕ → Call → Request → Option Fault → Result Row Refusal
-renewal rows t call r fault = if is_deny fault then Err PermissionDenied else granted fault t (subject rows call r)
+unfoldable pub renewal_by_broker : List Row → ℕ → Call → Request → Option Fault → Result Row Refusal
+renewal_by_broker rows t call r fault = if is_deny fault then Err PermissionDenied else granted_row fault t (subject rows call r)
 
 -- the rows, that of the given name replaced
 unfoldable pub with_row : List Row → Row → List Row

@@ -41,9 +41,9 @@ is_renewal LookupLease = false
 
 -- ---- the body
 
-abbrev pub answered : {X : Type 0} → Result X ReplyFault → Option X
-answered (Ok x) = Some x
-answered (Err fault) = None
+abbrev pub read_or_none : {X : Type 0} → Result X ReplyFault → Option X
+read_or_none (Ok x) = Some x
+read_or_none (Err fault) = None
 
 abbrev pub a_text : Option (List ℕ) → Option (List ℕ)
 a_text None = None
@@ -51,43 +51,43 @@ a_text (Some id) = if is_utf8 id then Some id else None
 
 -- the increment that a body asks for, if it can be read
 unfoldable pub increment_in : List ℕ → Option (Option ℕ)
-increment_in body = answered (increment_answer body)
+increment_in body = read_or_none (increment_answer body)
 
 -- the lease id that a body names, a text, if it can be read
 unfoldable pub lease_id_in : List ℕ → Option (List ℕ)
-lease_id_in body = a_text (answered (lease_id_answer body))
+lease_id_in body = a_text (read_or_none (lease_id_answer body))
 
-abbrev pub of_token : Option (Option ℕ) → Option Asked
-of_token None = None
-of_token (Some increment) = Some (record { lease_id = None; increment = increment })
+abbrev pub asked_of_token : Option (Option ℕ) → Option Asked
+asked_of_token None = None
+asked_of_token (Some increment) = Some (record { lease_id = None; increment = increment })
 
-abbrev pub of_lease : Option (List ℕ) → Option (Option ℕ) → Option Asked
-of_lease None increment = None
-of_lease (Some id) None = None
-of_lease (Some id) (Some increment) = Some (record { lease_id = Some id; increment = increment })
+abbrev pub asked_of_lease : Option (List ℕ) → Option (Option ℕ) → Option Asked
+asked_of_lease None increment = None
+asked_of_lease (Some id) None = None
+asked_of_lease (Some id) (Some increment) = Some (record { lease_id = Some id; increment = increment })
 
 -- what the body of a call asks; none where it is not as the call wants it
 unfoldable pub asked : Call → List ℕ → Option Asked
-asked RenewSelf body = of_token (increment_in body)
-asked RenewLease body = of_lease (lease_id_in body) (increment_in body)
-asked LookupSelf body = of_token (Some None)
-asked LookupLease body = of_lease (lease_id_in body) (Some None)
+asked RenewSelf body = asked_of_token (increment_in body)
+asked RenewLease body = asked_of_lease (lease_id_in body) (increment_in body)
+asked LookupSelf body = asked_of_token (Some None)
+asked LookupLease body = asked_of_lease (lease_id_in body) (Some None)
 
 -- ---- refusals
 
-abbrev pub status_of : Refusal → ℕ
-status_of UnsupportedPath = 404
-status_of UnsupportedMethod = 405
-status_of PermissionDenied = 403
-status_of BadRequest = 400
-status_of UnknownLease = 400
-status_of NotRenewable = 400
+abbrev pub status_of_refusal : Refusal → ℕ
+status_of_refusal UnsupportedPath = 404
+status_of_refusal UnsupportedMethod = 405
+status_of_refusal PermissionDenied = 403
+status_of_refusal BadRequest = 400
+status_of_refusal UnknownLease = 400
+status_of_refusal NotRenewable = 400
 
 -- the error texts are this project's own
-unfoldable pub text_of : Refusal → List ℕ
-text_of UnsupportedPath = codes "unsupported path"
-text_of UnsupportedMethod = codes "unsupported method"
-text_of PermissionDenied = codes "permission denied"
-text_of BadRequest = codes "bad request"
-text_of UnknownLease = codes "unknown lease"
-text_of NotRenewable = codes "not renewable"
+unfoldable pub text_of_refusal : Refusal → List ℕ
+text_of_refusal UnsupportedPath = codes "unsupported path"
+text_of_refusal UnsupportedMethod = codes "unsupported method"
+text_of_refusal PermissionDenied = codes "permission denied"
+text_of_refusal BadRequest = codes "bad request"
+text_of_refusal UnknownLease = codes "unknown lease"
+text_of_refusal NotRenewable = codes "not renewable"

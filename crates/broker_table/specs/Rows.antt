@@ -7,8 +7,8 @@ use Rattle.keep_inventory.specs.Inventories.{Inventory, terms_at, credential_at}
 use Rattle.broker_table.specs.declared.row.Row.{Row}
 
 -- the row of the entry at an index: its parent by name, and of its terms those that a renewal or a lookup speaks of
-unfoldable pub row_of : Inventory → ℕ → Row
-row_of s i = record {
+unfoldable pub broker_row : Inventory → ℕ → Row
+broker_row s i = record {
   name = (entry_at s.forest.entries i).name;
   kind = (entry_at s.forest.entries i).kind;
   parent = option_map (λ p. (entry_at s.forest.entries p).name) (entry_at s.forest.entries i).parent;
@@ -23,8 +23,8 @@ row_of s i = record {
 }
 
 -- the rows of an inventory: one for each entry, in their order
-unfoldable pub rows_of : Inventory → List Row
-rows_of s = map (row_of s) (range_with_len 0 (length s.forest.entries))
+unfoldable pub broker_rows : Inventory → List Row
+broker_rows s = map (broker_row s) (range_with_len 0 (length s.forest.entries))
 
 -- the row of that name, if it is listed
 unfoldable pub row_named : List Row → List ℕ → Option Row

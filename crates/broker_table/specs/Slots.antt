@@ -7,7 +7,7 @@ use Rattle.keep_tree.specs.declared.forest.TheConstants.{MAX_ENTRIES}
 use Rattle.keep_inventory.specs.Inventories.{Inventory}
 use Rattle.broker_table.specs.declared.row.Row.{Row}
 use Rattle.broker_table.specs.declared.slot.Slot.{Slot}
-use Rattle.broker_table.specs.Rows.{row_of}
+use Rattle.broker_table.specs.Rows.{broker_row}
 use Rattle.broker_table.specs.Sweep.{lives}
 
 -- what is read past the last slot
@@ -53,12 +53,12 @@ pub record AreKept (soonest : ℕ) (slots : List Slot) : Type 0 where
   pub over : (i : ℕ) → i < length slots → (slot_at slots i).listed ≡ true → is_listed slots (slot_at slots i).over ≡ true
 
 -- the end of a listed slot, of another the greatest u64
-unfoldable pub end_in : Slot → ℕ
-end_in s = if s.listed then s.row.end else 2 ^ 64 - 1
+unfoldable pub end_in_slot : Slot → ℕ
+end_in_slot s = if s.listed then s.row.end else 2 ^ 64 - 1
 
 -- the slots of an inventory
 unfoldable pub slot_of : Inventory → ℕ → Slot
-slot_of s i = record { row = row_of s i; over = (entry_at s.forest.entries i).parent; listed = true }
+slot_of s i = record { row = broker_row s i; over = (entry_at s.forest.entries i).parent; listed = true }
 
 unfoldable pub slots_of : Inventory → List Slot
 slots_of s = map (slot_of s) (range_with_len 0 (length s.forest.entries))

@@ -44,13 +44,13 @@ abbrev pub owned : Row → Option ℕ → Option Row → Result Subject Refusal
 owned token increment None = Err UnknownLease
 owned token increment (Some lease) = if belongs lease.parent token.name then Ok (record { row = lease; increment = increment }) else Err PermissionDenied
 
-abbrev pub named : List Row → Row → Option ℕ → Option (List ℕ) → Result Subject Refusal
-named rows token increment None = Ok (record { row = token; increment = increment })
-named rows token increment (Some id) = owned token increment (lease_with rows id)
+abbrev pub named_subject : List Row → Row → Option ℕ → Option (List ℕ) → Result Subject Refusal
+named_subject rows token increment None = Ok (record { row = token; increment = increment })
+named_subject rows token increment (Some id) = owned token increment (lease_with rows id)
 
 abbrev pub with_asked : List Row → Row → Option Asked → Result Subject Refusal
 with_asked rows token None = Err BadRequest
-with_asked rows token (Some a) = named rows token a.increment a.lease_id
+with_asked rows token (Some a) = named_subject rows token a.increment a.lease_id
 
 abbrev pub with_bearer : List Row → Call → List ℕ → Option Row → Result Subject Refusal
 with_bearer rows call body None = Err PermissionDenied

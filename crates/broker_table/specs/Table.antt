@@ -3,7 +3,7 @@ use Rattle.std.specs.Prelude.{ℕ, List}
 use Rattle.broker_table.specs.declared.row.Row.{Row}
 use Rattle.broker_table.specs.declared.fault.NumberedFault.{NumberedFault}
 
-pub record Table : Type 0 where
+pub record BrokerTable : Type 0 where
   pub rows : List Row
   pub faults : List NumberedFault
   pub count : ℕ

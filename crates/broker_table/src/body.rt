@@ -1,6 +1,6 @@
 ghost use Rattle.std.specs.Prelude.{◌≡◌, IfOk};
 ghost use Rattle.broker_table.specs.Found.{NamesText};
-ghost use Rattle.broker_table.specs.Step.{IsBody, seconds_to};
+ghost use Rattle.broker_table.specs.Step.{IsReplyBody, seconds_to};
 
 use crate::call::Call;
 use crate::row::Row;
@@ -10,7 +10,7 @@ use std::alloc::{AllocError, Global};
 use vault_json::{LookedToken, looked_lease, looked_self, renewed_lease, renewed_self};
 
 /// The body of the reply that tells a call of a row with that end. The only error is out of memory.
-#[tactic(auto, unfolding(crate::specs::Step::IsBody))]
+#[tactic(auto, unfolding(crate::specs::Step::IsReplyBody))]
 pub(crate) fn body_of(
     alloc: Global,
     call: Call,
@@ -19,7 +19,7 @@ pub(crate) fn body_of(
     t: Moment,
 ) -> Result<Text, AllocError>
     requires { NamesText call row.now.credential }
-    ensures { IfOk result (λ body. IsBody call (record row.now { end = end }) t body) }
+    ensures { IfOk result (λ body. IsReplyBody call (record row.now { end = end }) t body) }
 {
     let seconds = seconds_to(end, t);
     match call {

@@ -1,5 +1,5 @@
 ghost use Rattle.std.specs.Prelude.{◌≡◌, ◌++◌, ◌∷◌, [], None, Err, IfSome, IsOkUnless, OnErr, OnOk};
-ghost use Rattle.broker_table.specs.Faults.{fault_at, fault_refusal, next_number, without};
+ghost use Rattle.broker_table.specs.Faults.{fault_at, fault_refusal, next_number, without_fault};
 
 use crate::fault::{Fault, NumberedFault, SetFault};
 use std::alloc::Global;
@@ -94,7 +94,7 @@ impl Faults {
 
     /// Counts the request that comes next, and so uses its fault.
     pub(crate) fn count_next(&mut self)
-        ensures { self.new ≡ record { faults = without self.old.faults (next_number self.old.count); count = next_number self.old.count } }
+        ensures { self.new ≡ record { faults = without_fault self.old.faults (next_number self.old.count); count = next_number self.old.count } }
     {
         self.count = next_number(self.count);
     }

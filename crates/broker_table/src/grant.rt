@@ -1,6 +1,6 @@
 ghost use Rattle.std.specs.Prelude.{◌≡◌, ◌<◌, IfOk};
 ghost use Rattle.broker_table.specs.Found.{subject_at, row_granted, IsFoundWithin, IsGrantWithin};
-ghost use Rattle.broker_table.specs.Renewing.{asked_or, granted, is_deny, new_end, renewal, shortened, step_of};
+ghost use Rattle.broker_table.specs.Renewing.{asked_or, granted_row, is_deny, new_end, renewal_by_broker, shortened, step_of_row};
 ghost use Rattle.broker_table.specs.Slots.{listed_rows};
 
 use crate::call::Call;
@@ -23,7 +23,7 @@ pub struct Grant {
 }
 
 /// What a renewal request with that fault comes to. The only error is out of memory.
-#[tactic(auto, unfolding(crate::specs::Renewing::renewal))]
+#[tactic(auto, unfolding(crate::specs::Renewing::renewal_by_broker))]
 pub(crate) fn renewal(
     alloc: Global,
     slots: &Slots,
@@ -32,7 +32,7 @@ pub(crate) fn renewal(
     request: &Request,
     fault: Option<Fault>,
 ) -> Result<Result<Grant, Refusal>, AllocError>
-    ensures granted { IfOk result (λ grant. row_granted slots.now grant ≡ renewal (listed_rows slots.now) t call request.now fault) }
+    ensures granted { IfOk result (λ grant. row_granted slots.now grant ≡ renewal_by_broker (listed_rows slots.now) t call request.now fault) }
     ensures within { IfOk result (λ grant. IsGrantWithin slots.now grant) }
 {
     if is_deny(fault) {
@@ -59,7 +59,7 @@ fn granted(
     found: Result<Found, Refusal>,
 ) -> Result<Grant, Refusal>
     requires { IsFoundWithin slots.now found }
-    ensures granted { row_granted slots.now result ≡ granted fault t (subject_at slots.now found) }
+    ensures granted { row_granted slots.now result ≡ granted_row fault t (subject_at slots.now found) }
     ensures within { IsGrantWithin slots.now result }
 {
     match found {
@@ -79,7 +79,7 @@ fn granted(
 }
 
 /// The end that a renewal at `t` gives a row: no later than its ceiling, and no later than its fault says.
-#[tactic(auto, unfolding(crate::specs::Renewing::new_end, crate::specs::Renewing::step_of))]
+#[tactic(auto, unfolding(crate::specs::Renewing::new_end, crate::specs::Renewing::step_of_row))]
 fn new_end(fault: Option<Fault>, t: Moment, row: &Row, increment: Option<Span>) -> u64
     ensures { result ≡ new_end fault t row.now increment }
 {
@@ -88,9 +88,9 @@ fn new_end(fault: Option<Fault>, t: Moment, row: &Row, increment: Option<Span>) 
 }
 
 /// How long after the renewal the row is to end: its period where it is not 0, else what is asked, else its own step.
-#[tactic(auto, unfolding(crate::specs::Renewing::step_of))]
+#[tactic(auto, unfolding(crate::specs::Renewing::step_of_row))]
 fn step_of(row: &Row, increment: Option<Span>) -> Span
-    ensures { result ≡ step_of row.now increment }
+    ensures { result ≡ step_of_row row.now increment }
 {
     if row.period == 0 {
         asked_or(row.step, increment)

@@ -1,5 +1,5 @@
 ghost use Rattle.std.specs.Prelude.{◌≡◌, ℕ, List, Some, IfOk, OnOk, bytes_eq, if◌then◌else◌};
-ghost use Rattle.broker_table.specs.Index.{AreUnlike, Enters, IsIndexOfNone, IsIndexed, place_in};
+ghost use Rattle.broker_table.specs.Index.{AreUnlike, EntersRow, IsIndexOfNone, IsIndexed, place_in};
 ghost use Rattle.broker_table.specs.Slots.{AreSlots};
 
 use crate::row::Row;
@@ -51,7 +51,7 @@ impl Index {
 
     /// Enters the row of the next slot.
     fn add(&mut self, alloc: Global, row: &Row, place: u32) -> Result<(), AllocError>
-        ensures { OnOk result (Enters self.old self.new row.now place) }
+        ensures { OnOk result (EntersRow self.old self.new row.now place) }
     {
         let credential = row.credential.list();
         match row.kind {

@@ -4,7 +4,7 @@ ghost use Rattle.keep_device.specs.Failures.{CountsRead};
 ghost use Rattle.keep_device.specs.Whole.{MakesAtMost};
 ghost use Rattle.broker_table.specs.declared.moment_line.TheConstants.{MOST_LINE};
 ghost use Rattle.broker_table.specs.declared.moment_line.LineFault.TheVariants as lines;
-ghost use Rattle.broker_table.specs.MomentLine.{BreaksOff, CountsLine, HasNoLine, HasNoMoment, IsOneLine, PassesLine, ReadsNothing, Tells, moment_line};
+ghost use Rattle.broker_table.specs.MomentLine.{BreaksOff, CountsLine, HasNoLine, HasNoMoment, IsOneLine, PassesLine, ReadsNothing, TellsMoment, moment_line};
 
 use keep_device::{Failed, Source};
 use keep_moment::{LAST, Moment};
@@ -74,7 +74,7 @@ pub fn next_moment<S: Source>(
     moments: Moments,
     lines: &mut S,
 ) -> Result<Moment, LineFault>
-    ensures tells { Tells moments result (S.seen lines.old) (S.seen lines.new) }
+    ensures tells { TellsMoment moments result (S.seen lines.old) (S.seen lines.new) }
     ensures nothing { ReadsNothing moments lines.old lines.new }
     ensures reads { MakesAtMost MOST_LINE (S.seen lines.old).input (S.seen lines.new).input }
     ensures output { (S.seen lines.new).output ≡ (S.seen lines.old).output }

@@ -1,5 +1,5 @@
 ghost use Rattle.std.specs.Prelude.{◌≡◌};
-ghost use Rattle.broker_table.specs.Request.{status_of, text_of};
+ghost use Rattle.broker_table.specs.Request.{status_of_refusal, text_of_refusal};
 
 /// Why a request is refused.
 #[derive(Clone, Copy, Debug, PartialEq, Eq)]
@@ -21,7 +21,7 @@ pub enum Refusal {
 impl Refusal {
     /// The status of the reply.
     pub(crate) fn status(self) -> u16
-        ensures { result ≡ status_of self }
+        ensures { result ≡ status_of_refusal self }
     {
         match self {
             Refusal::UnsupportedPath => 404,
@@ -32,9 +32,9 @@ impl Refusal {
     }
 
     /// The text of the error.
-    #[tactic(auto, unfolding(crate::specs::Request::text_of))]
+    #[tactic(auto, unfolding(crate::specs::Request::text_of_refusal))]
     pub(crate) fn text(self) -> &'static str
-        ensures { result.now ≡ text_of self }
+        ensures { result.now ≡ text_of_refusal self }
     {
         match self {
             Refusal::UnsupportedPath => "unsupported path",

@@ -3,7 +3,7 @@ ghost use Rattle.broker_table.specs.Found.{row_granted, IsGrantWithin, GrantName
 ghost use Rattle.broker_table.specs.Renewing.{rows_after};
 ghost use Rattle.broker_table.specs.Request.{call_of};
 ghost use Rattle.broker_table.specs.Slots.{listed_rows};
-ghost use Rattle.broker_table.specs.Step.{Refuses, Says, by_call, is_drop, looked, renewed, renews};
+ghost use Rattle.broker_table.specs.Step.{Refuses, SaysAnswer, by_call, is_drop, lookup_answer, renewal_answer, renewal_outcome};
 ghost use Rattle.broker_table.specs.Subject.{subject};
 ghost use Rattle.broker_table.specs.declared.served.Served.TheVariants as served;
 
@@ -25,7 +25,7 @@ use vault_json::errors;
 impl Table {
     /// Answers a request by what was swept before. Where memory is wanting nothing is changed.
     pub(crate) fn answer(&mut self, t: Moment, request: &Request) -> Result<Served, AllocError>
-        ensures says { IfOk result (λ served. Says t (by_call self.old t request.now (call_of request.now.path)).answer served) }
+        ensures says { IfOk result (λ served. SaysAnswer t (by_call self.old t request.now (call_of request.now.path)).answer served) }
         ensures table { OnOk result (self.new ≡ (by_call self.old t request.now (call_of request.now.path)).table) }
         ensures unchanged { OnErr result (self.new ≡ self.old) }
     {
@@ -44,10 +44,10 @@ impl Table {
     }
 
     /// Serves a renewal request: it is counted, and its fault is used.
-    #[tactic(auto, unfolding(crate::specs::Step::renews))]
+    #[tactic(auto, unfolding(crate::specs::Step::renewal_outcome))]
     fn renew(&mut self, t: Moment, call: Call, request: &Request) -> Result<Served, AllocError>
-        ensures says { IfOk result (λ served. Says t (renews self.old t call request.now).answer served) }
-        ensures table { OnOk result (self.new ≡ (renews self.old t call request.now).table) }
+        ensures says { IfOk result (λ served. SaysAnswer t (renewal_outcome self.old t call request.now).answer served) }
+        ensures table { OnOk result (self.new ≡ (renewal_outcome self.old t call request.now).table) }
         ensures unchanged { OnErr result (self.new ≡ self.old) }
     {
         let alloc = self.slots.allocator();
@@ -79,7 +79,7 @@ fn look_up(
     call: Call,
     request: &Request,
 ) -> Result<Served, AllocError>
-    ensures { IfOk result (λ served. Says t (looked call (subject (listed_rows slots.now) call request.now)) served) }
+    ensures { IfOk result (λ served. SaysAnswer t (lookup_answer call (subject (listed_rows slots.now) call request.now)) served) }
 {
     match subject(alloc, slots, call, request)? {
         Err(refusal) => refuse(alloc, refusal),
@@ -101,7 +101,7 @@ fn renewed(
 ) -> Result<Served, AllocError>
     requires within { IsGrantWithin slots.now grant }
     requires text { GrantNamesText call (row_granted slots.now grant) }
-    ensures { IfOk result (λ served. Says t (renewed call fault (row_granted slots.now grant)) served) }
+    ensures { IfOk result (λ served. SaysAnswer t (renewal_answer call fault (row_granted slots.now grant)) served) }
 {
     match grant {
         Err(refusal) => refuse(alloc, refusal),

@@ -2,10 +2,10 @@ ghost use Rattle.std.specs.Prelude.{◌≡◌, ◌<◌, true, false, IfOk, IfSom
 ghost use Rattle.std.specs.List.{position};
 ghost use Rattle.keep_tree.specs.Forest.{entry_at};
 ghost use Rattle.keep_tree.specs.Push.{lacks_parent};
-ghost use Rattle.broker_table.specs.Rows.{row_of, row_named};
+ghost use Rattle.broker_table.specs.Rows.{broker_row, row_named};
 ghost use Rattle.broker_table.specs.Renewing.{with_row};
 ghost use Rattle.broker_table.specs.Sweep.{swept};
-ghost use Rattle.broker_table.specs.Slots.{AreKept, AreSlots, EndFrom, end_in, listed_rows, slot_of, slots_of, slot_at, is_listed, stands, swept_slots};
+ghost use Rattle.broker_table.specs.Slots.{AreKept, AreSlots, EndFrom, end_in_slot, listed_rows, slot_of, slots_of, slot_at, is_listed, stands, swept_slots};
 ghost use Rattle.broker_table.specs.Index.{AreUnlike, credentials_of, if_listed};
 
 use crate::row::Row;
@@ -37,7 +37,7 @@ pub(crate) fn slots_of(alloc: Global, inventory: &Inventory) -> Result<Vec<Slot>
 }
 
 /// The slot of an entry.
-#[tactic(auto, unfolding(crate::specs::Rows::row_of, crate::specs::Slots::slot_of))]
+#[tactic(auto, unfolding(crate::specs::Rows::broker_row, crate::specs::Slots::slot_of))]
 fn slot_of(alloc: Global, inventory: &Inventory, index: u32) -> Result<Slot, AllocError>
     requires { index < length inventory.now.forest.entries }
     ensures { IfOk result (λ slot. slot ≡ slot_of inventory.now index) }
@@ -119,10 +119,10 @@ fn relist(slots: &mut [Slot], at: usize, t: Moment)
 }
 
 /// The end of a listed slot's row; of one that is not listed the greatest `u64`.
-#[tactic(auto, unfolding(crate::specs::Slots::end_in))]
+#[tactic(auto, unfolding(crate::specs::Slots::end_in_slot))]
 fn end_in(slots: &[Slot], at: usize) -> u64
     requires { at < length slots.now }
-    ensures { result ≡ end_in (slot_at slots.now at) }
+    ensures { result ≡ end_in_slot (slot_at slots.now at) }
 {
     let slot = slot_in(slots, at);
     if slot.listed { slot.row.end } else { u64::MAX }

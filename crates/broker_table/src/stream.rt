@@ -1,7 +1,7 @@
 ghost use Rattle.std.specs.Prelude.{◌≡◌, OnErr, OnOk};
 ghost use Rattle.std.specs.Io.KnownBytes.{Appends};
 ghost use Rattle.keep_device.specs.Front.{AppendsFront};
-ghost use Rattle.broker_table.specs.Stream.{CountsSending, IsFlushed, MaySend, sent_of, stream_fault};
+ghost use Rattle.broker_table.specs.Stream.{CountsSending, IsFlushed, MaySend, bytes_sent_of, stream_fault};
 ghost use Rattle.broker_table.specs.declared.stream.StreamFault.TheVariants as streams;
 
 use crate::served::{ServeFault, Served};
@@ -57,8 +57,8 @@ pub(crate) fn send<S: Sink>(
     served: &Served,
 ) -> Result<(), StreamFault>
     requires status { MaySend served.now }
-    ensures written { OnOk result (Appends (S.seen stream.old).output.written (S.seen stream.new).output.written (sent_of served.now)) }
-    ensures front { OnErr result (AppendsFront (S.seen stream.old).output.written (S.seen stream.new).output.written (sent_of served.now)) }
+    ensures written { OnOk result (Appends (S.seen stream.old).output.written (S.seen stream.new).output.written (bytes_sent_of served.now)) }
+    ensures front { OnErr result (AppendsFront (S.seen stream.old).output.written (S.seen stream.new).output.written (bytes_sent_of served.now)) }
     ensures flushed { OnOk result (IsFlushed served.now (S.seen stream.new).output.is_flushed) }
     ensures input { (S.seen stream.new).input ≡ (S.seen stream.old).input }
     ensures count { CountsSending result (S.seen stream.old).failed_calls (S.seen stream.new).failed_calls }

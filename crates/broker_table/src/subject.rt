@@ -1,7 +1,7 @@
 ghost use Rattle.std.specs.Prelude.{◌≡◌, ◌<◌, true, IfOk, IfSome, length, option_map};
 ghost use Rattle.broker_table.specs.Found.{subject_at, IsFoundWithin};
 ghost use Rattle.broker_table.specs.Slots.{listed_rows, slot_at};
-ghost use Rattle.broker_table.specs.Subject.{bearer, belongs, named, subject};
+ghost use Rattle.broker_table.specs.Subject.{bearer, belongs, named_subject, subject};
 
 use crate::asked::{Asked, read_asked};
 use crate::call::Call;
@@ -53,7 +53,7 @@ fn bearer(slots: &Slots, credential: &Option<Text>) -> Option<usize>
 /// The place of the row that a body asks about: the token's own, or that of the lease that it names.
 fn named(slots: &Slots, token: usize, asked: &Asked) -> Result<Found, Refusal>
     requires { token < length slots.now }
-    ensures found { subject_at slots.now result ≡ named (listed_rows slots.now) (slot_at slots.now token).row asked.now.increment asked.now.lease_id }
+    ensures found { subject_at slots.now result ≡ named_subject (listed_rows slots.now) (slot_at slots.now token).row asked.now.increment asked.now.lease_id }
     ensures within { IsFoundWithin slots.now result }
 {
     let increment = asked.increment;

@@ -3,11 +3,11 @@ ghost use Rattle.vault_http.specs.declared.known.TheConstants.{MOST_MESSAGE};
 ghost use Rattle.vault_http.specs.Reading.{CountsMessage, HandedNoRequest, SettlesRequest};
 ghost use Rattle.keep_device.specs.declared.limits.TheConstants.{MOST_READS};
 ghost use Rattle.keep_device.specs.Whole.{MakesAtMost};
-ghost use Rattle.broker_table.specs.Rows.{rows_of, row_named};
+ghost use Rattle.broker_table.specs.Rows.{broker_rows, row_named};
 ghost use Rattle.broker_table.specs.Sweep.{swept};
 ghost use Rattle.broker_table.specs.Faults.{fault_refusal};
-ghost use Rattle.broker_table.specs.Step.{Says, after_sweep, step};
-ghost use Rattle.broker_table.specs.Stream.{CountsStream, Fails, Handles, IsStreamed, Leaves};
+ghost use Rattle.broker_table.specs.Step.{SaysAnswer, after_sweep, broker_step};
+ghost use Rattle.broker_table.specs.Stream.{CountsStream, FaultLeaves, Handles, IsStreamed, StreamFails};
 
 use crate::fault::{Fault, SetFault};
 use crate::faults::Faults;
@@ -36,10 +36,10 @@ pub struct Table {
 }
 
 impl Model for Table {
-    ghost use Rattle.broker_table.specs.Table.{Table};
+    ghost use Rattle.broker_table.specs.Table.{BrokerTable};
     ghost use Rattle.broker_table.specs.Slots.{listed_rows};
 
-    ghost Value = { Table };
+    ghost Value = { BrokerTable };
 
     ghost view = { λ t. record { rows = listed_rows t.slots; faults = t.faults.faults; count = t.faults.count } };
 }
@@ -47,7 +47,7 @@ impl Model for Table {
 impl Table {
     /// The rows of an inventory, with no faults and no request counted. The only error is out of memory.
     pub fn load(alloc: Global, inventory: &Inventory) -> Result<Table, AllocError>
-        ensures { IfOk result (λ table. table ≡ record { rows = rows_of inventory.now; faults = []; count = 0 }) }
+        ensures { IfOk result (λ table. table ≡ record { rows = broker_rows inventory.now; faults = []; count = 0 }) }
     {
         Ok(Table {
             slots: Slots::load(alloc, inventory)?,
@@ -93,10 +93,10 @@ impl Table {
     /// counted, and its fault is used.
     ///
     /// `OutOfMemory`, the only error: the table is as after `sweep`, and the request is not counted.
-    #[tactic(auto, unfolding(crate::specs::Step::step))]
+    #[tactic(auto, unfolding(crate::specs::Step::broker_step))]
     pub fn serve(&mut self, t: Moment, request: &Request) -> Result<Served, ServeFault>
-        ensures says { IfOk result (λ served. Says t (step self.old t request.now).answer served) }
-        ensures after { OnOk result (self.new ≡ (step self.old t request.now).table) }
+        ensures says { IfOk result (λ served. SaysAnswer t (broker_step self.old t request.now).answer served) }
+        ensures after { OnOk result (self.new ≡ (broker_step self.old t request.now).table) }
         ensures unserved { OnErr result (self.new ≡ after_sweep self.old t) }
     {
         self.sweep(t);
@@ -116,7 +116,7 @@ impl Table {
         stream: &mut S,
     ) -> Result<(), StreamFault>
         ensures streamed { OnOk result (IsStreamed (⟦<S as Watched>⟧.change stream.old stream.new) self.old t self.new) }
-        ensures left { IfErr result (λ fault. Leaves (⟦<S as Watched>⟧.change stream.old stream.new) self.old t fault self.new) }
+        ensures left { IfErr result (λ fault. FaultLeaves (⟦<S as Watched>⟧.change stream.old stream.new) self.old t fault self.new) }
         ensures reads { MakesAtMost MOST_READS (S.seen stream.old).input (S.seen stream.new).input }
         ensures count { CountsStream result (S.seen stream.old).failed_calls (S.seen stream.new).failed_calls }
         ensures unread { IsErrOf result StreamFault.ReadFailed → HandedNoRequest MOST_MESSAGE (S.seen stream.old).input (S.seen stream.new).input }
@@ -151,7 +151,7 @@ impl Table {
         message: Result<Request, HttpFault>,
     ) -> Result<Served, StreamFault>
         ensures handled { IfOk result (λ served. Handles self.old t message self.new served) }
-        ensures failed { IfErr result (λ fault. Fails self.old t message fault self.new) }
+        ensures failed { IfErr result (λ fault. StreamFails self.old t message fault self.new) }
     {
         match message {
             Ok(request) => Ok(self.serve(t, &request)?),

@@ -1,139 +1,258 @@
 // Changes that are made, those that are refused, and what is shown of them.
 
-use crate::rows::{Entry, FILE, Wanted, is, many, row, rows_of, what};
-use keep_change::{Change, ChangeFault, Record, Rows, What};
+use crate::rows::{Entry, FILE, Fact, Wanted, hold, labelled, many, row, rows_of, what};
+use keep_change::{Change, ChangeFault, Record, Row, Rows, What};
 use keep_moment::{Name, Text};
 use std::alloc::{AllocError, Global};
+use std::process::Abort;
 use std::test::Fail;
 
-// The rows after a change of the entry of that name, and what the call answered.
-fn after(
-    alloc: Global,
-    name: &str,
-    wanted: Wanted,
-) -> Result<(Rows, Result<(), ChangeFault>), AllocError> {
+// A change of an entry of FILE: its name, what is wanted of it, why that is refused, and what is to be seen of the rows then.
+type Case = (&'static str, Wanted, Option<ChangeFault>, &'static [Fact]);
+
+// Whether what comes of a change of FILE is what is to come of it.
+fn comes_out(alloc: Global, case: &Case) -> Result<bool, AllocError> {
+    let (name, wanted, fault, facts) = *case;
     let mut rows = rows_of(alloc, &FILE)?;
-    let what = what(alloc, wanted)?;
-    let answer = rows.change(30, name.as_bytes(), what);
-    Ok((rows, answer))
+    let answer = rows.change(30, name.as_bytes(), what(alloc, wanted)?);
+    Ok(answer.err() == fault && hold(&rows, facts))
 }
 
-// Changes that are made, and the need and the credential of the entry then.
-const MADE: [(&str, Wanted, u64, &str); 5] = [
-    ("app", Wanted::Until(5), 5, "s.app"),
-    ("app", Wanted::Until(0), 0, "s.app"),
-    ("web", Wanted::Credential("s.new"), 1_080_000, "s.new"),
-    ("web", Wanted::Credential("s.web"), 1_080_000, "s.web"),
-    ("db", Wanted::Credential("s.app"), 1_080_000, "s.app"),
+// The number of the first case, counted from 0, of which something else comes than is to come; `None` where there is none.
+fn first_wrong(alloc: Global, cases: &[Case]) -> Result<Option<usize>, AllocError> {
+    for (number, case) in cases.iter().enumerate() {
+        if !comes_out(alloc, case)? {
+            return Ok(Some(number));
+        }
+    }
+    Ok(None)
+}
+
+// Makes each change of FILE, and asserts that each comes out as it is to.
+fn changes<R: AllocGlobal + Abort>(rt: &R, cases: &[Case]) -> Result<(), Fail> {
+    assert_eq!(rt; first_wrong(rt.alloc(), cases)?, None);
+    Ok(())
+}
+
+const MADE: [Case; 5] = [
+    (
+        "app",
+        Wanted::Until(5),
+        None,
+        &[Fact::Count(3), Fact::Has("app", 5, "s.app")],
+    ),
+    (
+        "app",
+        Wanted::Until(0),
+        None,
+        &[Fact::Count(3), Fact::Has("app", 0, "s.app")],
+    ),
+    (
+        "web",
+        Wanted::Credential("s.new"),
+        None,
+        &[Fact::Count(3), Fact::Has("web", 1_080_000, "s.new")],
+    ),
+    (
+        "web",
+        Wanted::Credential("s.web"),
+        None,
+        &[Fact::Count(3), Fact::Has("web", 1_080_000, "s.web")],
+    ),
+    (
+        "db",
+        Wanted::Credential("s.app"),
+        None,
+        &[Fact::Count(3), Fact::Has("db", 1_080_000, "s.app")],
+    ),
 ];
 
 #[test]
 fn changes_are_made_of_the_entry_that_is_named(rt: HostRuntime) -> Result<(), Fail> {
-    for (name, wanted, need, credential) in &MADE {
-        let (rows, answer) = after(rt.alloc(), name, *wanted)?;
-        assert!(rt; answer.is_ok(), "{name}");
-        assert!(rt; rows.list().len() == 3, "{name}");
-        assert!(rt; is(&rows, name, *need, credential), "{name}");
-    }
-    Ok(())
+    changes(&rt, &MADE)
 }
+
+const DROPPED: [Case; 1] = [(
+    "db",
+    Wanted::Gone,
+    None,
+    &[
+        Fact::Count(2),
+        Fact::Has("app", 1_070_000, "s.app"),
+        Fact::Has("web", 1_080_000, "s.web"),
+    ],
+)];
 
 #[test]
 fn a_dropped_entry_is_kept_no_more(rt: HostRuntime) -> Result<(), Fail> {
-    let (rows, answer) = after(rt.alloc(), "db", Wanted::Gone)?;
-    assert!(rt; answer.is_ok());
-    assert!(rt; rows.list().len() == 2);
-    assert!(rt; is(&rows, "app", 1_070_000, "s.app"));
-    assert!(rt; is(&rows, "web", 1_080_000, "s.web"));
-    Ok(())
+    changes(&rt, &DROPPED)
 }
 
-const REFUSED: [(&str, Wanted, ChangeFault); 5] = [
-    ("nobody", Wanted::Until(5), ChangeFault::NoEntry),
-    ("nobody", Wanted::Credential("s.app"), ChangeFault::NoEntry),
-    ("nobody", Wanted::Gone, ChangeFault::NoEntry),
+// What is to be seen after a change that is refused.
+const AS_IT_WAS: &[Fact] = &[
+    Fact::Count(3),
+    Fact::Has("app", 1_070_000, "s.app"),
+    Fact::Has("web", 1_080_000, "s.web"),
+];
+
+const REFUSED: [Case; 5] = [
+    (
+        "nobody",
+        Wanted::Until(5),
+        Some(ChangeFault::NoEntry),
+        AS_IT_WAS,
+    ),
+    (
+        "nobody",
+        Wanted::Credential("s.app"),
+        Some(ChangeFault::NoEntry),
+        AS_IT_WAS,
+    ),
+    (
+        "nobody",
+        Wanted::Gone,
+        Some(ChangeFault::NoEntry),
+        AS_IT_WAS,
+    ),
     (
         "web",
         Wanted::Credential("s.app"),
-        ChangeFault::CredentialTwice,
+        Some(ChangeFault::CredentialTwice),
+        AS_IT_WAS,
     ),
-    ("app", Wanted::Gone, ChangeFault::HasUnder),
+    ("app", Wanted::Gone, Some(ChangeFault::HasUnder), AS_IT_WAS),
 ];
 
 #[test]
 fn refused_changes_leave_all_as_it_was(rt: HostRuntime) -> Result<(), Fail> {
-    for (name, wanted, fault) in &REFUSED {
-        let (rows, answer) = after(rt.alloc(), name, *wanted)?;
-        assert!(rt; answer.err() == Some(*fault), "{name}");
-        assert!(rt; rows.list().len() == 3, "{name}");
-        assert!(rt; is(&rows, "app", 1_070_000, "s.app"), "{name}");
-        assert!(rt; is(&rows, "web", 1_080_000, "s.web"), "{name}");
-    }
-    Ok(())
+    changes(&rt, &REFUSED)
 }
 
-// An entry that is added, and the refusal of one that cannot be.
-const ADDED: [(Entry, Option<ChangeFault>); 7] = [
-    (("new", None, 7, "s.new"), None),
-    (("new", Some("app"), 7, "s.app"), None),
-    (("web", None, 7, "s.new"), Some(ChangeFault::NameTwice)),
+// What is to be seen after an addition, and after one that is refused.
+const ONE_MORE: &[Fact] = &[Fact::Count(4)];
+
+const NO_MORE: &[Fact] = &[Fact::Count(3)];
+
+const ADDED: [Case; 7] = [
     (
-        ("web", Some("nobody"), 7, "s.web"),
+        "new",
+        Wanted::More(("new", None, 7, "s.new")),
+        None,
+        ONE_MORE,
+    ),
+    (
+        "new",
+        Wanted::More(("new", Some("app"), 7, "s.app")),
+        None,
+        ONE_MORE,
+    ),
+    (
+        "web",
+        Wanted::More(("web", None, 7, "s.new")),
         Some(ChangeFault::NameTwice),
+        NO_MORE,
     ),
     (
-        ("new", Some("nobody"), 7, "db/creds/1"),
+        "web",
+        Wanted::More(("web", Some("nobody"), 7, "s.web")),
+        Some(ChangeFault::NameTwice),
+        NO_MORE,
+    ),
+    (
+        "new",
+        Wanted::More(("new", Some("nobody"), 7, "db/creds/1")),
         Some(ChangeFault::NoParent),
+        NO_MORE,
     ),
     (
-        ("new", Some("db"), 7, "db/creds/1"),
+        "new",
+        Wanted::More(("new", Some("db"), 7, "db/creds/1")),
         Some(ChangeFault::ParentIsLease),
+        NO_MORE,
     ),
     (
-        ("new", None, 7, "s.web"),
+        "new",
+        Wanted::More(("new", None, 7, "s.web")),
         Some(ChangeFault::CredentialTwice),
+        NO_MORE,
     ),
 ];
 
 #[test]
 fn entries_are_added_or_refused(rt: HostRuntime) -> Result<(), Fail> {
-    for (entry, fault) in &ADDED {
-        let (rows, answer) = after(rt.alloc(), entry.0, Wanted::More(*entry))?;
-        assert!(rt; answer.err() == *fault, "{}", entry.0);
-        let count = if fault.is_none() { 4 } else { 3 };
-        assert!(rt; rows.list().len() == count, "{}", entry.0);
-    }
-    Ok(())
+    changes(&rt, &ADDED)
+}
+
+// An entry that is added to others.
+const NEW: Entry = ("new", None, 7, "s.new");
+
+// How the addition of an entry with the name `new` is refused, in an inventory of that margin.
+fn refusal(mut rows: Rows, margin: u32, new: Row) -> Option<ChangeFault> {
+    rows.change(margin, b"new", What::Add(new)).err()
+}
+
+// How it is refused beside FILE.
+fn beside_others(alloc: Global, margin: u32) -> Result<Option<ChangeFault>, AllocError> {
+    Ok(refusal(rows_of(alloc, &FILE)?, margin, row(alloc, &NEW)?))
 }
 
 #[test]
 fn a_step_within_the_margin_is_refused(rt: HostRuntime) -> Result<(), Fail> {
-    let entry: Entry = ("new", None, 7, "s.new");
     for (margin, fault) in [(899, None), (900, Some(ChangeFault::StepTooSmall))] {
-        let mut rows = rows_of(rt.alloc(), &FILE)?;
-        let more = what(rt.alloc(), Wanted::More(entry))?;
-        assert!(rt;
-            rows.change(margin, b"new", more).err() == fault,
-            "{margin}"
-        );
+        assert!(rt; beside_others(rt.alloc(), margin)? == fault, "{margin}");
     }
     Ok(())
+}
+
+// How it is refused beside so many others.
+fn beside_many(alloc: Global, count: u64) -> Result<Option<ChangeFault>, AllocError> {
+    Ok(refusal(many(alloc, count)?, 30, row(alloc, &NEW)?))
+}
+
+#[test]
+fn there_are_4096_entries_at_most(rt: HostRuntime) -> Result<(), Fail> {
+    for (count, fault) in [(4095, None), (4096, Some(ChangeFault::Full))] {
+        assert!(rt; beside_many(rt.alloc(), count)? == fault, "{count}");
+    }
+    Ok(())
+}
+
+// The name of the token above that one in a chain.
+fn above(alloc: Global, number: u64) -> Result<Option<Name>, AllocError> {
+    if number == 0 {
+        return Ok(None);
+    }
+    Ok(Some(labelled(alloc, "t", number - 1)?))
+}
+
+// The token of that number in a chain.
+fn link(alloc: Global, number: u64) -> Result<Row, AllocError> {
+    let mut link = row(alloc, &("link", None, 0, "s.link"))?;
+    link.name = labelled(alloc, "t", number)?;
+    link.credential = labelled(alloc, "s.t", number)?;
+    link.parent = above(alloc, number)?;
+    Ok(link)
 }
 
 // A chain of so many tokens, each under the one before.
 fn chain(alloc: Global, count: u64) -> Result<Rows, AllocError> {
     let mut items = Vec::new(alloc);
     for number in 0..count {
-        let mut link = row(alloc, &("link", None, 0, "s.link"))?;
-        link.name = Name::of(alloc, format!(in alloc; "t{number}")?.as_bytes())?;
-        link.credential = Text::of(alloc, format!(in alloc; "s.t{number}")?.as_bytes())?;
-        if number > 0 {
-            let above = format!(in alloc; "t{}", number - 1)?;
-            link.parent = Some(Name::of(alloc, above.as_bytes())?);
-        }
-        items.push(link)?;
+        items.push(link(alloc, number)?)?;
     }
     Rows::of(alloc, items)
+}
+
+// A token under the one of that name.
+fn under(alloc: Global, name: &str) -> Result<Row, AllocError> {
+    let mut under = row(alloc, &("new", None, 0, "s.new"))?;
+    under.parent = Some(Name::of(alloc, name.as_bytes())?);
+    Ok(under)
+}
+
+// How a token more is refused, under the one of that name in a chain of so many.
+fn below(alloc: Global, count: u64, name: &str) -> Result<Option<ChangeFault>, AllocError> {
+    Ok(refusal(chain(alloc, count)?, 30, under(alloc, name)?))
 }
 
 #[test]
@@ -143,24 +262,10 @@ fn a_chain_has_64_entries_at_most(rt: HostRuntime) -> Result<(), Fail> {
         (64, "t63", Some(ChangeFault::TooDeep)),
         (64, "t62", None),
     ] {
-        let mut rows = chain(rt.alloc(), count)?;
-        let mut under = row(rt.alloc(), &("new", None, 0, "s.new"))?;
-        under.parent = Some(Name::of(rt.alloc(), name.as_bytes())?);
         assert!(rt;
-            rows.change(30, b"new", What::Add(under)).err() == fault,
-            "{name}"
+            below(rt.alloc(), count, name)? == fault,
+            "{name} of {count}"
         );
-    }
-    Ok(())
-}
-
-#[test]
-fn there_are_4096_entries_at_most(rt: HostRuntime) -> Result<(), Fail> {
-    let entry: Entry = ("new", None, 7, "s.new");
-    for (count, fault) in [(4095, None), (4096, Some(ChangeFault::Full))] {
-        let mut rows = many(rt.alloc(), count)?;
-        let more = what(rt.alloc(), Wanted::More(entry))?;
-        assert!(rt; rows.change(30, b"new", more).err() == fault, "{count}");
     }
     Ok(())
 }
@@ -174,12 +279,17 @@ fn sunk(alloc: Global) -> Result<Rows, AllocError> {
     Rows::of(alloc, items)
 }
 
+// Whether a new credential for it is refused, and nothing is changed.
+fn stays(alloc: Global) -> Result<bool, AllocError> {
+    let mut rows = sunk(alloc)?;
+    let new = what(alloc, Wanted::Credential("s.new"))?;
+    let answer = rows.change(30, b"app", new);
+    Ok(answer.err() == Some(ChangeFault::InFile) && hold(&rows, &[Fact::Has("app", 7, "app")]))
+}
+
 #[test]
 fn a_credential_in_a_file_is_replaced_there(rt: HostRuntime) -> Result<(), Fail> {
-    let mut rows = sunk(rt.alloc())?;
-    let new = what(rt.alloc(), Wanted::Credential("s.new"))?;
-    assert!(rt; rows.change(30, b"app", new).err() == Some(ChangeFault::InFile));
-    assert!(rt; is(&rows, "app", 7, "app"));
+    assert!(rt; stays(rt.alloc())?);
     Ok(())
 }
 
@@ -190,35 +300,49 @@ fn shows(alloc: Global, shown: &str, credential: &str) -> Result<bool, AllocErro
     Ok(shown.contains(credential) || shown.contains(numbers.as_str()))
 }
 
-fn secret(alloc: Global, wanted: Wanted) -> Result<Record, AllocError> {
+// Whether that name is shown, and the credential is not.
+fn hides(alloc: Global, shown: &str, credential: &str) -> Result<bool, AllocError> {
+    Ok(shows(alloc, shown, "web")? && !shows(alloc, shown, credential)?)
+}
+
+fn record(alloc: Global, wanted: Wanted) -> Result<Record, AllocError> {
     let name = Name::of(alloc, b"web")?;
     let was = Text::of(alloc, b"absent")?;
     let what = what(alloc, wanted)?;
     Ok(Record::Made(Change { name, was, what }))
 }
 
+// Whether a record of that hides its credential.
+fn is_hidden(alloc: Global, wanted: Wanted) -> Result<bool, AllocError> {
+    let record = record(alloc, wanted)?;
+    let shown = format!(in alloc; "{record:?}")?;
+    hides(alloc, shown.as_str(), "s.secret")
+}
+
+const SECRETS: [(&str, Wanted); 2] = [
+    ("replace", Wanted::Credential("s.secret")),
+    ("add", Wanted::More(("web", None, 0, "s.secret"))),
+];
+
 #[test]
 fn no_record_shows_a_credential(rt: HostRuntime) -> Result<(), Fail> {
-    let alloc = rt.alloc();
-    for wanted in [
-        Wanted::Credential("s.secret"),
-        Wanted::More(("web", None, 0, "s.secret")),
-    ] {
-        let record = secret(alloc, wanted)?;
-        let shown = format!(in alloc; "{record:?}")?;
-        assert!(rt; shows(alloc, shown.as_str(), "web")?);
-        assert!(rt; !shows(alloc, shown.as_str(), "s.secret")?);
+    for (word, wanted) in &SECRETS {
+        assert!(rt; is_hidden(rt.alloc(), *wanted)?, "{word}");
     }
     Ok(())
 }
 
-#[test]
-fn no_row_shows_a_credential(rt: HostRuntime) -> Result<(), Fail> {
-    let alloc = rt.alloc();
+// Whether the rows of FILE hide that credential.
+fn rows_hide(alloc: Global, credential: &str) -> Result<bool, AllocError> {
     let rows = rows_of(alloc, &FILE)?;
     let shown = format!(in alloc; "{rows:?}")?;
-    assert!(rt; shows(alloc, shown.as_str(), "web")?);
-    assert!(rt; !shows(alloc, shown.as_str(), "s.web")?);
-    assert!(rt; !shows(alloc, shown.as_str(), "db/creds/1")?);
+    hides(alloc, shown.as_str(), credential)
+}
+
+#[test]
+fn no_row_shows_a_credential(rt: HostRuntime) -> Result<(), Fail> {
+    for credential in ["s.web", "db/creds/1"] {
+        assert!(rt; rows_hide(rt.alloc(), credential)?, "{credential}");
+    }
     Ok(())
 }

@@ -1,8 +1,8 @@
 // Long journals at a start, over a few entries and over as many as there may be. bench/ measures a hundred thousand changes:
 // a build that is watched over takes a minute for so many.
 
-use crate::rows::{file_of, many, moment, name_of, numbered};
-use keep_change::{Change, File, Record, What, replay, said};
+use crate::rows::{file_of, labelled, many, moment, numbered};
+use keep_change::{Change, File, Record, Replayed, What, replay, said};
 use keep_inventory::Need;
 use keep_moment::Text;
 use std::alloc::{AllocError, Global};
@@ -20,99 +20,119 @@ fn estate(alloc: Global, count: u64) -> Result<File, AllocError> {
     file_of(alloc, many(alloc, count)?, "m1")
 }
 
-// A need of the entries in turn.
-fn needs(alloc: Global, count: u64, changes: u64) -> Result<Vec<Record>, AllocError> {
-    let mut records = Vec::new(alloc);
-    for number in 0..changes {
-        records.push(Record::Made(Change {
-            name: name_of(alloc, number % count.max(1))?,
-            was: Text::of(alloc, b"1080000")?,
-            what: What::Need(Need::Until(moment(number))),
-        }))?;
-    }
-    Ok(records)
+// What a long journal changes.
+#[derive(Clone, Copy)]
+enum Long {
+    // The needs of the entries in turn.
+    Needs,
+    // The credentials of the entries in turn.
+    Credentials,
+    // Entries that are dropped and added again, in turn.
+    Turns,
 }
 
-// A credential of the entries in turn.
-fn credentials(alloc: Global, file: &File, changes: u64) -> Result<Vec<Record>, AllocError> {
-    let count = file.rows.list().len() as u64;
-    let mut records = Vec::new(alloc);
-    for number in 0..changes {
-        let name = name_of(alloc, number % count.max(1))?;
-        let text = format!(in alloc; "s.new{number}")?;
-        let what = What::Replace(Text::of(alloc, text.as_bytes())?);
-        let was = said(alloc, &file.rows, name.list(), &what)?;
-        records.push(Record::Made(Change { name, was, what }))?;
+// The change of that number in a journal.
+fn change(alloc: Global, file: &File, long: Long, number: u64) -> Result<Change, AllocError> {
+    let count = (file.rows.list().len() as u64).max(1);
+    match long {
+        Long::Needs => need(alloc, number % count, number),
+        Long::Credentials => credential(alloc, file, number % count, number),
+        Long::Turns if number % 2 == 0 => turn(alloc, file, number / 2 % count, What::Drop),
+        Long::Turns => added(alloc, file, number / 2 % count),
     }
-    Ok(records)
 }
 
-// Entries that are dropped and added again, in turn.
-fn turns(alloc: Global, file: &File, changes: u64) -> Result<Vec<Record>, AllocError> {
-    let count = file.rows.list().len() as u64;
-    let mut records = Vec::new(alloc);
-    for number in 0..changes / 2 {
-        let entry = numbered(alloc, number % count.max(1))?;
-        let was = said(alloc, &file.rows, entry.name.list(), &What::Drop)?;
-        records.push(Record::Made(Change {
-            name: entry.name.clone()?,
-            was: was.clone()?,
-            what: What::Drop,
-        }))?;
-        records.push(Record::Made(Change {
-            name: entry.name.clone()?,
-            was,
-            what: What::Add(entry),
-        }))?;
-    }
-    Ok(records)
+// The entry of that number is needed until then.
+fn need(alloc: Global, entry: u64, until: u64) -> Result<Change, AllocError> {
+    Ok(Change {
+        name: labelled(alloc, "e", entry)?,
+        was: Text::of(alloc, b"1080000")?,
+        what: What::Need(Need::Until(moment(until))),
+    })
 }
 
-fn is_replayed<R: AllocGlobal + Abort + Clock>(
-    rt: &R,
+// The entry of that number is given the credential of that number.
+fn credential(alloc: Global, file: &File, entry: u64, number: u64) -> Result<Change, AllocError> {
+    let what = What::Replace(labelled(alloc, "s.new", number)?);
+    let name = labelled(alloc, "e", entry)?;
+    let was = said(alloc, &file.rows, name.list(), &what)?;
+    Ok(Change { name, was, what })
+}
+
+// The entry of that number is dropped, or added again, beside what the file says of it.
+fn turn(alloc: Global, file: &File, entry: u64, what: What) -> Result<Change, AllocError> {
+    let name = labelled(alloc, "e", entry)?;
+    let was = said(alloc, &file.rows, name.list(), &What::Drop)?;
+    Ok(Change { name, was, what })
+}
+
+fn added(alloc: Global, file: &File, entry: u64) -> Result<Change, AllocError> {
+    let row = numbered(alloc, entry)?;
+    turn(alloc, file, entry, What::Add(row))
+}
+
+// So many changes of a journal.
+fn records(
+    alloc: Global,
     file: &File,
-    records: &[Record],
-    said: &str,
-) -> Result<(), Fail> {
+    long: Long,
+    changes: u64,
+) -> Result<Vec<Record>, AllocError> {
+    let mut records = Vec::new(alloc);
+    for number in 0..changes {
+        records.push(Record::Made(change(alloc, file, long, number)?))?;
+    }
+    Ok(records)
+}
+
+// Whether each change is made, and each entry is there.
+fn is_whole(given: &Replayed, file: &File) -> bool {
+    given.notes().is_empty() && given.rows().list().len() == file.rows.list().len()
+}
+
+// A journal of so many changes over so many entries: whether it is replayed whole, and in how many seconds.
+fn replayed<R: AllocGlobal + Clock>(
+    rt: &R,
+    long: Long,
+    count: u64,
+    changes: u64,
+) -> Result<(bool, u64), Fail> {
+    let file = estate(rt.alloc(), count)?;
+    let records = records(rt.alloc(), &file, long, changes)?;
     let start = Instant::now(rt)?;
-    let given = replay(rt.alloc(), file, records)?;
+    let given = replay(rt.alloc(), &file, &records)?;
     let took = start.elapsed(rt)?;
-    assert!(rt; given.notes().is_empty(), "{said}");
-    assert!(rt;
-        given.rows().list().len() == file.rows.list().len(),
-        "{said}"
-    );
-    assert!(rt; took.as_secs() < MOST, "{said} {took:?}");
+    Ok((is_whole(&given, &file), took.as_secs()))
+}
+
+// Asserts that journals of so many changes over so many entries are replayed whole, and in time.
+fn are_replayed<R: AllocGlobal + Abort + Clock>(
+    rt: &R,
+    long: Long,
+    sizes: &[(u64, u64)],
+) -> Result<(), Fail> {
+    for (count, changes) in sizes {
+        let (is_whole, seconds) = replayed(rt, long, *count, *changes)?;
+        assert!(rt;
+            is_whole && seconds < MOST,
+            "{count} entries: {is_whole}, {seconds} s"
+        );
+    }
     Ok(())
 }
 
 #[test]
 fn many_needs_are_replayed(rt: HostRuntime) -> Result<(), Fail> {
-    for count in [3, 4096] {
-        let file = estate(rt.alloc(), count)?;
-        let records = needs(rt.alloc(), count, CHANGES)?;
-        is_replayed(&rt, &file, &records, "needs")?;
-    }
-    Ok(())
+    are_replayed(&rt, Long::Needs, &[(3, CHANGES), (4096, CHANGES)])
 }
 
 #[test]
 fn many_credentials_are_replayed(rt: HostRuntime) -> Result<(), Fail> {
-    for count in [3, 4096] {
-        let file = estate(rt.alloc(), count)?;
-        let records = credentials(rt.alloc(), &file, CHANGES)?;
-        is_replayed(&rt, &file, &records, "credentials")?;
-    }
-    Ok(())
+    are_replayed(&rt, Long::Credentials, &[(3, CHANGES), (4096, CHANGES)])
 }
 
 #[test]
 fn many_drops_and_additions_are_replayed(rt: HostRuntime) -> Result<(), Fail> {
     // Each goes through all entries, so of many entries there are fewer.
-    for (count, changes) in [(3, CHANGES), (4096, CHANGES / 10)] {
-        let file = estate(rt.alloc(), count)?;
-        let records = turns(rt.alloc(), &file, changes)?;
-        is_replayed(&rt, &file, &records, "turns")?;
-    }
-    Ok(())
+    are_replayed(&rt, Long::Turns, &[(3, CHANGES), (4096, CHANGES / 10)])
 }

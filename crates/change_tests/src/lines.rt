@@ -75,34 +75,68 @@ const REFUSED: [(Wanted, ChangeFault, &str); 12] = [
     ),
 ];
 
+// Whether that is said of a change of the entry `new` that is refused.
+fn is_said(
+    alloc: Global,
+    margin: u32,
+    what: &What,
+    fault: ChangeFault,
+    text: &str,
+) -> Result<bool, AllocError> {
+    Ok(why(alloc, margin, b"new", what, fault)?.list() == text.as_bytes())
+}
+
+// The same of what is wanted, with a margin of 30 seconds.
+fn is_refused(
+    alloc: Global,
+    wanted: Wanted,
+    fault: ChangeFault,
+    text: &str,
+) -> Result<bool, AllocError> {
+    is_said(alloc, 30, &what(alloc, wanted)?, fault, text)
+}
+
 #[test]
 fn a_refusal_is_said_in_words(rt: HostRuntime) -> Result<(), Fail> {
     for (wanted, fault, text) in &REFUSED {
-        let what = what(rt.alloc(), *wanted)?;
-        let said = why(rt.alloc(), 30, b"new", &what, *fault)?;
-        assert!(rt; said.list() == text.as_bytes(), "{text}");
+        assert!(rt; is_refused(rt.alloc(), *wanted, *fault, text)?, "{text}");
     }
     Ok(())
+}
+
+// Whether that is said of a token with a period, with a margin of 90 seconds.
+fn is_period_named(alloc: Global, text: &str) -> Result<bool, AllocError> {
+    let mut periodic = row(alloc, &NEW)?;
+    periodic.terms.period = 60;
+    is_said(
+        alloc,
+        90,
+        &What::Add(periodic),
+        ChangeFault::StepTooSmall,
+        text,
+    )
 }
 
 // A token with a period is asked for that.
 #[test]
 fn a_period_within_the_margin_is_named(rt: HostRuntime) -> Result<(), Fail> {
-    let mut periodic = row(rt.alloc(), &NEW)?;
-    periodic.terms.period = 60;
-    let added = What::Add(periodic);
-    let said = why(rt.alloc(), 90, b"new", &added, ChangeFault::StepTooSmall)?;
-    assert!(rt; said.list() == b"new period: is not greater than the margin of 90 s".as_slice());
+    let text = "new period: is not greater than the margin of 90 s";
+    assert!(rt; is_period_named(rt.alloc(), text)?, "{text}");
     Ok(())
 }
 
-fn line(alloc: Global, wanted: Wanted, why: Why) -> Result<Text, AllocError> {
-    let change = Change {
+fn change(alloc: Global, wanted: Wanted) -> Result<Change, AllocError> {
+    Ok(Change {
         name: Name::of(alloc, b"web")?,
         was: Text::of(alloc, b"absent")?,
         what: what(alloc, wanted)?,
-    };
-    note_line(alloc, 30, &change, why)
+    })
+}
+
+// Whether that is the note on a change of the entry `web`, with a margin of 30 seconds.
+fn is_noted(alloc: Global, wanted: Wanted, why: Why, text: &str) -> Result<bool, AllocError> {
+    let change = change(alloc, wanted)?;
+    Ok(note_line(alloc, 30, &change, why)?.list() == text.as_bytes())
 }
 
 const NOTES: [(Wanted, Why, &str); 4] = [
@@ -131,10 +165,7 @@ const NOTES: [(Wanted, Why, &str); 4] = [
 #[test]
 fn a_note_names_the_change(rt: HostRuntime) -> Result<(), Fail> {
     for (wanted, why, text) in &NOTES {
-        assert!(rt;
-            line(rt.alloc(), *wanted, *why)?.list() == text.as_bytes(),
-            "{text}"
-        );
+        assert!(rt; is_noted(rt.alloc(), *wanted, *why, text)?, "{text}");
     }
     Ok(())
 }

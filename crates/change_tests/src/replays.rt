@@ -1,9 +1,10 @@
 // Records that are replayed over a file: as it was when they were made, and as it was changed since.
 
-use crate::rows::{Entry, FILE, Wanted, beside, file_of, is, rows_of};
-use keep_change::{ChangeFault, Record, Replayed, Rows, Why, replay, voids};
+use crate::rows::{Entry, FILE, Fact, Wanted, beside, file_of, hold, rows_of};
+use keep_change::{ChangeFault, Note, Record, Replayed, Rows, Why, replay, voids};
 use keep_moment::Text;
 use std::alloc::{AllocError, Global};
+use std::process::Abort;
 use std::test::Fail;
 
 const CHANGES: [(&str, Wanted); 4] = [
@@ -26,33 +27,57 @@ fn records_of(
     Ok(records)
 }
 
-// What changes that were made beside FILE give over a file.
-fn over(
-    alloc: Global,
-    changes: &[(&str, Wanted)],
-    entries: &[Entry],
-) -> Result<Replayed, AllocError> {
+// Changes beside what FILE says.
+fn made(alloc: Global, changes: &[(&str, Wanted)]) -> Result<Vec<Record>, AllocError> {
     let was = rows_of(alloc, &FILE)?;
-    let records = records_of(alloc, &was, changes)?;
-    let file = file_of(alloc, rows_of(alloc, entries)?, "m1")?;
-    replay(alloc, &file, &records)
+    records_of(alloc, &was, changes)
 }
 
-fn has_note(given: &Replayed, at: usize, why: Why) -> bool {
-    given
-        .notes()
-        .iter()
-        .any(|note| note.at == at && note.why == why)
+// What records give over a file with this mark.
+fn over(
+    alloc: Global,
+    records: &[Record],
+    entries: &[Entry],
+    mark: &str,
+) -> Result<Replayed, AllocError> {
+    let file = file_of(alloc, rows_of(alloc, entries)?, mark)?;
+    replay(alloc, &file, records)
 }
+
+// Asserts that these changes are noted and no others, and that each fact holds of the rows.
+fn gives<R: AllocGlobal + Abort>(rt: &R, given: &Replayed, notes: &[Note], facts: &[Fact]) {
+    assert!(rt; given.notes() == notes, "{:?}", given.notes());
+    assert!(rt; hold(given.rows(), facts), "{:?}", given.rows());
+}
+
+// Replays changes that were made beside FILE over a file, and asserts what comes of it.
+fn replays<R: AllocGlobal + Abort>(
+    rt: &R,
+    changes: &[(&str, Wanted)],
+    entries: &[Entry],
+    notes: &[Note],
+    facts: &[Fact],
+) -> Result<(), Fail> {
+    let records = made(rt.alloc(), changes)?;
+    gives(
+        rt,
+        &over(rt.alloc(), &records, entries, "m1")?,
+        notes,
+        facts,
+    );
+    Ok(())
+}
+
+// What FILE says after CHANGES.
+const CHANGED_IN_ORDER: [Fact; 3] = [
+    Fact::Count(2),
+    Fact::Has("app", 6, "s.app"),
+    Fact::Has("web", 1_080_000, "s.new"),
+];
 
 #[test]
 fn records_are_replayed_in_order(rt: HostRuntime) -> Result<(), Fail> {
-    let given = over(rt.alloc(), &CHANGES, &FILE)?;
-    assert!(rt; given.notes().is_empty());
-    assert!(rt; given.rows().list().len() == 2);
-    assert!(rt; is(given.rows(), "app", 6, "s.app"));
-    assert!(rt; is(given.rows(), "web", 1_080_000, "s.new"));
-    Ok(())
+    replays(&rt, &CHANGES, &FILE, &[], &CHANGED_IN_ORDER)
 }
 
 const CHANGED: [Entry; 3] = [
@@ -61,27 +86,46 @@ const CHANGED: [Entry; 3] = [
     ("db", Some("app"), 1_080_000, "db/creds/2"),
 ];
 
+const EACH_IS_NOTED: [Note; 4] = [
+    Note {
+        at: 0,
+        why: Why::FileWins,
+    },
+    Note {
+        at: 1,
+        why: Why::FileWins,
+    },
+    Note {
+        at: 2,
+        why: Why::FileWins,
+    },
+    Note {
+        at: 3,
+        why: Why::FileWins,
+    },
+];
+
+const AS_THE_FILE_SAYS: [Fact; 3] = [
+    Fact::Has("app", 1_070_001, "s.app"),
+    Fact::Has("web", 1_080_000, "s.newer"),
+    Fact::Has("db", 1_080_000, "db/creds/2"),
+];
+
 #[test]
 fn a_file_that_has_changed_since_wins(rt: HostRuntime) -> Result<(), Fail> {
-    let given = over(rt.alloc(), &CHANGES, &CHANGED)?;
-    for at in 0..4 {
-        assert!(rt; has_note(&given, at, Why::FileWins), "{at}");
-    }
-    assert!(rt; is(given.rows(), "app", 1_070_001, "s.app"));
-    assert!(rt; is(given.rows(), "web", 1_080_000, "s.newer"));
-    assert!(rt; is(given.rows(), "db", 1_080_000, "db/creds/2"));
-    Ok(())
+    replays(&rt, &CHANGES, &CHANGED, &EACH_IS_NOTED, &AS_THE_FILE_SAYS)
 }
 
 const SAME: [Entry; 2] = [("app", None, 6, "s.app"), ("web", None, 1_080_000, "s.new")];
 
+const THE_FIRST_IS_NOTED: [Note; 1] = [Note {
+    at: 0,
+    why: Why::FileWins,
+}];
+
 #[test]
 fn a_file_that_says_the_same_is_not_noted(rt: HostRuntime) -> Result<(), Fail> {
-    let given = over(rt.alloc(), &CHANGES, &SAME)?;
-    assert!(rt; given.notes().len() == 1);
-    assert!(rt; has_note(&given, 0, Why::FileWins));
-    assert!(rt; given.rows().list().len() == 2);
-    Ok(())
+    replays(&rt, &CHANGES, &SAME, &THE_FIRST_IS_NOTED, &[Fact::Count(2)])
 }
 
 const MORE: [Entry; 4] = [
@@ -99,55 +143,59 @@ const UNFIT: [(&str, Wanted); 5] = [
     ("web", Wanted::Until(8)),
 ];
 
+const TWO_ARE_REFUSED: [Note; 2] = [
+    Note {
+        at: 0,
+        why: Why::Refused(ChangeFault::CredentialTwice),
+    },
+    Note {
+        at: 1,
+        why: Why::Refused(ChangeFault::HasUnder),
+    },
+];
+
+const THE_OTHERS_ARE_MADE: [Fact; 2] = [Fact::Has("web", 8, "s.web"), Fact::Count(3)];
+
 #[test]
 fn a_change_that_no_longer_fits_leaves_the_others(rt: HostRuntime) -> Result<(), Fail> {
-    let given = over(rt.alloc(), &UNFIT, &MORE)?;
-    assert!(rt; given.notes().len() == 2);
-    assert!(rt; has_note(&given, 0, Why::Refused(ChangeFault::CredentialTwice)));
-    assert!(rt; has_note(&given, 1, Why::Refused(ChangeFault::HasUnder)));
-    assert!(rt; is(given.rows(), "web", 8, "s.web"));
-    assert!(rt; given.rows().list().len() == 3);
-    Ok(())
+    replays(&rt, &UNFIT, &MORE, &TWO_ARE_REFUSED, &THE_OTHERS_ARE_MADE)
 }
 
-// Over a file with this mark: CHANGES, and that the file with the mark `m2` is to hold them.
-fn settled(alloc: Global, entries: &[Entry], mark: &str) -> Result<Replayed, AllocError> {
-    let was = rows_of(alloc, &FILE)?;
-    let mut records = records_of(alloc, &was, &CHANGES)?;
+// What CHANGES give over FILE with this mark, where the file with the mark `m2` was to hold them.
+fn settled(alloc: Global, mark: &str) -> Result<Replayed, AllocError> {
+    let mut records = made(alloc, &CHANGES)?;
     records.push(Record::Settling(Text::of(alloc, b"m2")?))?;
-    let file = file_of(alloc, rows_of(alloc, entries)?, mark)?;
-    replay(alloc, &file, &records)
+    over(alloc, &records, &FILE, mark)
 }
+
+const AS_FILE_SAYS: [Fact; 2] = [Fact::Has("app", 1_070_000, "s.app"), Fact::Count(3)];
 
 #[test]
 fn settling_counts_where_its_file_is(rt: HostRuntime) -> Result<(), Fail> {
-    let before = settled(rt.alloc(), &FILE, "m1")?;
-    assert!(rt; is(before.rows(), "app", 6, "s.app"));
-    assert!(rt; before.rows().list().len() == 2);
-    let after = settled(rt.alloc(), &FILE, "m2")?;
-    assert!(rt; after.notes().is_empty());
-    assert!(rt; is(after.rows(), "app", 1_070_000, "s.app"));
-    assert!(rt; after.rows().list().len() == 3);
+    gives(&rt, &settled(rt.alloc(), "m1")?, &[], &CHANGED_IN_ORDER);
+    gives(&rt, &settled(rt.alloc(), "m2")?, &[], &AS_FILE_SAYS);
     Ok(())
 }
 
 #[test]
 fn a_need_that_is_given_again_is_void(rt: HostRuntime) -> Result<(), Fail> {
-    let file = rows_of(rt.alloc(), &FILE)?;
-    let records = records_of(rt.alloc(), &file, &CHANGES)?;
-    let outs = voids(rt.alloc(), &records)?;
+    let outs = voids(rt.alloc(), &made(rt.alloc(), &CHANGES)?)?;
     assert!(rt; outs.as_slice() == [true, false, false, false].as_slice());
     Ok(())
+}
+
+// The same need of an entry twice, the second time beside what CHANGED says.
+fn needed_twice(alloc: Global) -> Result<Vec<Record>, AllocError> {
+    let mut records = made(alloc, &[("app", Wanted::Until(5))])?;
+    let changed = rows_of(alloc, &CHANGED)?;
+    records.push(beside(alloc, &changed, "app", Wanted::Until(5))?)?;
+    Ok(records)
 }
 
 // Beside another word of the file it is another need.
 #[test]
 fn a_need_beside_another_word_is_not_void(rt: HostRuntime) -> Result<(), Fail> {
-    let file = rows_of(rt.alloc(), &FILE)?;
-    let mut records = records_of(rt.alloc(), &file, &[("app", Wanted::Until(5))])?;
-    let changed = rows_of(rt.alloc(), &CHANGED)?;
-    records.push(beside(rt.alloc(), &changed, "app", Wanted::Until(5))?)?;
-    let outs = voids(rt.alloc(), &records)?;
+    let outs = voids(rt.alloc(), &needed_twice(rt.alloc())?)?;
     assert!(rt; outs.as_slice() == [false, false].as_slice());
     Ok(())
 }
@@ -159,14 +207,15 @@ const ADDITIONS: [(&str, Wanted); 4] = [
     ("db", Wanted::More(("db", Some("web"), 9, "db/creds/1"))),
 ];
 
+const ADDED: [Fact; 3] = [
+    Fact::Count(4),
+    Fact::Has("new", 8, "db/creds/2"),
+    Fact::Has("db", 9, "db/creds/1"),
+];
+
 #[test]
 fn what_was_added_is_added_again(rt: HostRuntime) -> Result<(), Fail> {
-    let given = over(rt.alloc(), &ADDITIONS, &FILE)?;
-    assert!(rt; given.notes().is_empty());
-    assert!(rt; given.rows().list().len() == 4);
-    assert!(rt; is(given.rows(), "new", 8, "db/creds/2"));
-    assert!(rt; is(given.rows(), "db", 9, "db/creds/1"));
-    Ok(())
+    replays(&rt, &ADDITIONS, &FILE, &[], &ADDED)
 }
 
 const WITHOUT_APP: [Entry; 2] = [
@@ -174,13 +223,25 @@ const WITHOUT_APP: [Entry; 2] = [
     ("new", None, 5, "s.other"),
 ];
 
+const TWO_ARE_NOTED: [Note; 2] = [
+    Note {
+        at: 1,
+        why: Why::FileWins,
+    },
+    Note {
+        at: 3,
+        why: Why::FileWins,
+    },
+];
+
 // The file has an entry of that name now; the drop and the second addition are about one that it has no more.
 #[test]
 fn an_addition_beside_another_word_is_noted(rt: HostRuntime) -> Result<(), Fail> {
-    let given = over(rt.alloc(), &ADDITIONS, &WITHOUT_APP)?;
-    assert!(rt; is(given.rows(), "new", 5, "s.other"));
-    assert!(rt; given.notes().len() == 2);
-    assert!(rt; has_note(&given, 1, Why::FileWins));
-    assert!(rt; has_note(&given, 3, Why::FileWins));
-    Ok(())
+    replays(
+        &rt,
+        &ADDITIONS,
+        &WITHOUT_APP,
+        &TWO_ARE_NOTED,
+        &[Fact::Has("new", 5, "s.other")],
+    )
 }

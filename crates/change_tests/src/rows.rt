@@ -1,4 +1,4 @@
-//! The inventories that the tests change, and changes of them.
+//! The inventories that the tests change, changes of them, and what is to be seen of them.
 
 use keep_change::{Change, File, Record, Row, Rows, What, said};
 use keep_inventory::{Need, Terms};
@@ -85,13 +85,15 @@ const NUMBERED: Entry = ("e", None, 1_080_000, "s.e");
 /// The token of that number among many.
 pub(crate) fn numbered(alloc: Global, number: u64) -> Result<Row, AllocError> {
     let mut entry = row(alloc, &NUMBERED)?;
-    entry.name = name_of(alloc, number)?;
-    entry.credential = Text::of(alloc, format!(in alloc; "s.e{number}")?.as_bytes())?;
+    entry.name = labelled(alloc, "e", number)?;
+    entry.credential = labelled(alloc, "s.e", number)?;
     Ok(entry)
 }
 
-pub(crate) fn name_of(alloc: Global, number: u64) -> Result<Name, AllocError> {
-    Name::of(alloc, format!(in alloc; "e{number}")?.as_bytes())
+/// A name or a credential with that number.
+pub(crate) fn labelled(alloc: Global, label: &str, number: u64) -> Result<Text, AllocError> {
+    let text = format!(in alloc; "{label}{number}")?;
+    Text::of(alloc, text.as_bytes())
 }
 
 /// So many tokens, none of them over another.
@@ -138,7 +140,7 @@ pub(crate) fn beside(
 }
 
 /// The need and the credential of an entry, where it is there.
-pub(crate) fn is(rows: &Rows, name: &str, need: u64, credential: &str) -> bool {
+fn is(rows: &Rows, name: &str, need: u64, credential: &str) -> bool {
     match rows.named(name.as_bytes()) {
         None => false,
         Some(row) => is_until(&row.need, need) && row.credential.list() == credential.as_bytes(),
@@ -149,5 +151,31 @@ pub(crate) fn is_until(need: &Need, seconds: u64) -> bool {
     match need {
         Need::Until(moment) => moment.get() == seconds,
         Need::Always => false,
+    }
+}
+
+/// What is to be seen of rows.
+#[derive(Clone, Copy)]
+pub(crate) enum Fact {
+    /// How many there are.
+    Count(usize),
+    /// The need and the credential of the entry of that name.
+    Has(&'static str, u64, &'static str),
+}
+
+/// Whether each of the facts holds of the rows.
+pub(crate) fn hold(rows: &Rows, facts: &[Fact]) -> bool {
+    for fact in facts {
+        if !is_true(rows, fact) {
+            return false;
+        }
+    }
+    true
+}
+
+fn is_true(rows: &Rows, fact: &Fact) -> bool {
+    match *fact {
+        Fact::Count(count) => rows.list().len() == count,
+        Fact::Has(name, need, credential) => is(rows, name, need, credential),
     }
 }

@@ -1,12 +1,13 @@
 // Files that are settled: what is read of them is what was served, and what a row that no table writes gives.
 
-use crate::rows::{Entry, row, rows_of};
+use crate::rows::{Entry, labelled, row, rows_of};
 use keep_change::{Row, Rows, What, rows_of as listed};
 use keep_inventory::{InvFault, Served, read_served};
-use keep_moment::{Name, Text};
-use keep_settle::{SettleFault, in_order, settle};
+use keep_moment::Text;
+use keep_settle::{SettleFault, Settled, in_order, settle};
 use keep_tree::TreeFault;
 use std::alloc::{AllocError, Global};
+use std::process::Abort;
 use std::test::Fail;
 
 const SERVED: &str = "margin = 30
@@ -86,21 +87,28 @@ fn served(alloc: Global, text: &str) -> Result<Served, InvFault> {
     read_served(alloc, text.as_bytes())
 }
 
+// The margin that a text writes, where it writes one.
+fn written_margin(was: &Served) -> Option<u32> {
+    if was.has_margin() {
+        Some(was.inventory().forest().margin())
+    } else {
+        None
+    }
+}
+
 // The text that is written of what a text serves, with its margin.
 fn settled(alloc: Global, text: &str) -> Result<String, Fail> {
     let was = served(alloc, text)?;
     let rows = listed(alloc, &was)?;
-    let margin = was.inventory().forest().margin();
-    let is_written = if was.has_margin() { Some(margin) } else { None };
-    Ok(settle(alloc, is_written, None, &rows)?.text)
+    Ok(settle(alloc, written_margin(&was), None, &rows)?.text)
 }
 
 #[test]
 fn what_was_served_is_settled(rt: HostRuntime) -> Result<(), Fail> {
-    let text = settled(rt.alloc(), SERVED)?;
-    assert!(rt; text.as_str() == SETTLED, "{text}");
-    let again = settled(rt.alloc(), text.as_str())?;
-    assert!(rt; again.as_str() == SETTLED, "{again}");
+    for text in [SERVED, SETTLED] {
+        let settled = settled(rt.alloc(), text)?;
+        assert!(rt; settled.as_str() == SETTLED, "{settled}");
+    }
     Ok(())
 }
 
@@ -115,6 +123,11 @@ fn fault(alloc: Global, margin: u32, rows: &Rows) -> Option<SettleFault> {
     settle(alloc, Some(margin), Some(86400), rows).err()
 }
 
+// Asserts that rows are settled with this margin, or why they are not.
+fn settles<R: AllocGlobal + Abort>(rt: &R, margin: u32, rows: &Rows, refused: Option<SettleFault>) {
+    assert_eq!(rt; fault(rt.alloc(), margin, rows), refused);
+}
+
 // Tokens that were added stand after leases, and are settled before them.
 const MIXED: [Entry; 4] = [
     ("app", None, 7, "s.app"),
@@ -123,15 +136,27 @@ const MIXED: [Entry; 4] = [
     ("db2", Some("web"), 7, "db/creds/2"),
 ];
 
+// The names of rows, each with a space after it.
+fn names(alloc: Global, rows: &Rows) -> Result<Vec<u8>, AllocError> {
+    let mut names = Vec::new(alloc);
+    for row in rows.list() {
+        names.extend_from_slice(row.name.list())?;
+        names.push(b' ')?;
+    }
+    Ok(names)
+}
+
+// Whether these are the names of rows, in the order in which they are settled.
+fn are_ordered(alloc: Global, rows: &Rows, settled: &[u8]) -> Result<bool, AllocError> {
+    let ordered = in_order(alloc, rows)?;
+    Ok(names(alloc, &ordered)?.as_slice() == settled)
+}
+
 #[test]
 fn tokens_stand_before_leases(rt: HostRuntime) -> Result<(), Fail> {
     let rows = rows_of(rt.alloc(), &MIXED)?;
-    assert!(rt; fault(rt.alloc(), 30, &rows).is_none());
-    let ordered = in_order(rt.alloc(), &rows)?;
-    let names = ["app", "web", "db", "db2"];
-    for (row, name) in ordered.list().iter().zip(names.iter()) {
-        assert!(rt; row.name.list() == name.as_bytes(), "{name}");
-    }
+    settles(&rt, 30, &rows, None);
+    assert!(rt; are_ordered(rt.alloc(), &rows, b"app web db db2 ")?);
     Ok(())
 }
 
@@ -149,24 +174,29 @@ fn untold(alloc: Global) -> Result<Rows, AllocError> {
 
 #[test]
 fn rows_that_no_file_says_are_refused(rt: HostRuntime) -> Result<(), Fail> {
-    let alloc = rt.alloc();
-    let alone = rows_of(alloc, &ALONE)?;
-    let refused = Some(SettleFault::Refused(InvFault::Tree(0, TreeFault::NoParent)));
-    assert!(rt; fault(alloc, 30, &alone) == refused);
-    let mixed = rows_of(alloc, &MIXED)?;
-    let refused = Some(SettleFault::Refused(InvFault::Tree(0, TreeFault::StepTooSmall)));
-    assert!(rt; fault(alloc, 900, &mixed) == refused);
-    let untold = untold(alloc)?;
-    assert!(rt; fault(alloc, 30, &untold) == Some(SettleFault::Differs));
+    let alone = rows_of(rt.alloc(), &ALONE)?;
+    settles(
+        &rt,
+        30,
+        &alone,
+        Some(SettleFault::Refused(InvFault::Tree(0, TreeFault::NoParent))),
+    );
+    let mixed = rows_of(rt.alloc(), &MIXED)?;
+    settles(
+        &rt,
+        900,
+        &mixed,
+        Some(SettleFault::Refused(InvFault::Tree(0, TreeFault::StepTooSmall))),
+    );
+    settles(&rt, 30, &untold(rt.alloc())?, Some(SettleFault::Differs));
     Ok(())
 }
 
 // A token whose secret stands in a file with a path of 4,000 bytes.
 fn long(alloc: Global, number: u64) -> Result<Row, AllocError> {
     let mut entry = row(alloc, &("long", None, 7, "long"))?;
-    let name = format!(in alloc; "t{number}")?;
-    entry.name = Name::of(alloc, name.as_bytes())?;
-    entry.credential = Text::of(alloc, name.as_bytes())?;
+    entry.name = labelled(alloc, "t", number)?;
+    entry.credential = labelled(alloc, "t", number)?;
     let path = format!(in alloc; "/{number:03999}")?;
     entry.file = Some(Text::of(alloc, path.as_bytes())?);
     Ok(entry)
@@ -184,21 +214,30 @@ fn many_long(alloc: Global, count: u64) -> Result<Rows, AllocError> {
 // The text of 250 has a million bytes for their paths, and less than a mebibyte in all.
 #[test]
 fn a_text_of_more_than_a_mebibyte_is_refused(rt: HostRuntime) -> Result<(), Fail> {
-    let fits = many_long(rt.alloc(), 250)?;
-    assert!(rt; fault(rt.alloc(), 30, &fits).is_none());
-    let rows = many_long(rt.alloc(), 263)?;
-    assert!(rt; fault(rt.alloc(), 30, &rows) == Some(SettleFault::TooLong));
+    settles(&rt, 30, &many_long(rt.alloc(), 250)?, None);
+    settles(
+        &rt,
+        30,
+        &many_long(rt.alloc(), 263)?,
+        Some(SettleFault::TooLong),
+    );
     Ok(())
+}
+
+// What is settled of what SERVED serves with an entry more.
+fn with_one_more(alloc: Global) -> Result<Settled, Fail> {
+    let mut rows = listed(alloc, &served(alloc, SERVED)?)?;
+    rows.change(
+        30,
+        b"new",
+        What::Add(row(alloc, &("new", None, 9, "s.new"))?),
+    )?;
+    Ok(settle(alloc, Some(30), None, &rows)?)
 }
 
 #[test]
 fn an_added_entry_is_served(rt: HostRuntime) -> Result<(), Fail> {
-    let alloc = rt.alloc();
-    let mut rows = listed(alloc, &served(alloc, SERVED)?)?;
-    let entry: Entry = ("new", None, 9, "s.new");
-    let added = rows.change(30, b"new", What::Add(row(alloc, &entry)?));
-    assert!(rt; added.is_ok());
-    let now = settle(alloc, Some(30), None, &rows)?;
+    let now = with_one_more(rt.alloc())?;
     let forest = now.served.inventory().forest();
     assert!(rt; forest.len() == 5);
     assert!(rt; forest.find(b"new") == Some(3));

@@ -8,8 +8,12 @@ use std::test::Fail;
 
 const MARK: &str = "9f86d081884c7d659a2feaa0c55ad015a3bf4f1b2b0b822cd15d6c15b0f00a08";
 
-// A text; and the name, what the file said then, and what is wanted.
-const TEXTS: [(&str, &str, &str, Wanted); 5] = [
+const SETTLING: &str = "settling 9f86d081884c7d659a2feaa0c55ad015a3bf4f1b2b0b822cd15d6c15b0f00a08";
+
+// A text, and what the record that it writes has: the name, what the file said then, and what is wanted.
+type Line = (&'static str, &'static str, &'static str, Wanted);
+
+const TEXTS: [Line; 5] = [
     ("need web absent always", "web", "absent", Wanted::Always),
     (
         "need a/b_c.d-e 1080000 0",
@@ -50,34 +54,33 @@ fn is_change(change: &Change, name: &str, was: &str, wanted: Wanted) -> bool {
         && is_what(&change.what, wanted)
 }
 
-fn writes(record: &Record, name: &str, was: &str, wanted: Wanted) -> bool {
+fn writes(record: &Record, line: &Line) -> bool {
+    let (_, name, was, wanted) = *line;
     match record {
         Record::Made(change) => is_change(change, name, was, wanted),
         Record::Settling(_) => false,
     }
 }
 
+// Whether the record is written as the text.
+fn is_written(alloc: Global, record: &Record, text: &str) -> Result<bool, AllocError> {
+    Ok(text_of(alloc, record)?.list() == text.as_bytes())
+}
+
 // The text is read as such a record, and that is written as the text.
-fn stands_for(
-    alloc: Global,
-    text: &str,
-    name: &str,
-    was: &str,
-    wanted: Wanted,
-) -> Result<bool, AllocError> {
-    match read_record(alloc, text.as_bytes())? {
-        None => Ok(false),
-        Some(record) => {
-            let written = text_of(alloc, &record)?;
-            Ok(writes(&record, name, was, wanted) && written.list() == text.as_bytes())
-        }
-    }
+fn stands_for(alloc: Global, line: &Line) -> Result<bool, AllocError> {
+    let (text, _, _, _) = *line;
+    let Some(record) = read_record(alloc, text.as_bytes())? else {
+        return Ok(false);
+    };
+    let is_written = is_written(alloc, &record, text)?;
+    Ok(is_written && writes(&record, line))
 }
 
 #[test]
 fn each_change_has_one_text(rt: HostRuntime) -> Result<(), Fail> {
-    for (text, name, was, wanted) in &TEXTS {
-        assert!(rt; stands_for(rt.alloc(), text, name, was, *wanted)?, "{text}");
+    for line in &TEXTS {
+        assert!(rt; stands_for(rt.alloc(), line)?, "{}", line.0);
     }
     Ok(())
 }
@@ -91,8 +94,7 @@ fn settles(alloc: Global, text: &str, mark: &str) -> Result<bool, AllocError> {
 
 #[test]
 fn a_settling_has_the_mark_of_its_file(rt: HostRuntime) -> Result<(), Fail> {
-    let text = format!(in rt.alloc(); "settling {MARK}")?;
-    assert!(rt; settles(rt.alloc(), text.as_str(), MARK)?);
+    assert!(rt; settles(rt.alloc(), SETTLING, MARK)?);
     Ok(())
 }
 
@@ -120,19 +122,28 @@ const ROWS: [(&str, &str, u64); 4] = [
     ),
 ];
 
-fn adds(alloc: Global, text: &str, name: &str, need: u64) -> Result<bool, AllocError> {
-    match read_record(alloc, text.as_bytes())? {
-        Some(Record::Made(change)) => {
-            let is_it = match &change.what {
-                What::Add(row) => is_until(&row.need, need) && row.name.list() == name.as_bytes(),
-                _ => false,
-            };
-            let is_named = change.name.list() == name.as_bytes();
-            let written = text_of(alloc, &Record::Made(change))?;
-            Ok(is_it && is_named && written.list() == text.as_bytes())
-        }
-        _ => Ok(false),
+fn is_row(what: &What, name: &str, need: u64) -> bool {
+    match what {
+        What::Add(row) => is_until(&row.need, need) && row.name.list() == name.as_bytes(),
+        _ => false,
     }
+}
+
+fn is_addition(record: &Record, name: &str, need: u64) -> bool {
+    match record {
+        Record::Made(change) => {
+            change.name.list() == name.as_bytes() && is_row(&change.what, name, need)
+        }
+        Record::Settling(_) => false,
+    }
+}
+
+fn adds(alloc: Global, text: &str, name: &str, need: u64) -> Result<bool, AllocError> {
+    let Some(record) = read_record(alloc, text.as_bytes())? else {
+        return Ok(false);
+    };
+    let is_written = is_written(alloc, &record, text)?;
+    Ok(is_written && is_addition(&record, name, need))
 }
 
 #[test]
@@ -188,13 +199,14 @@ const NONE: [&str; 42] = [
     "add absent token web * told 1000 2000 renewable 900 0 2764800 0 0 web /run/\u{7f}",
 ];
 
+fn is_none(alloc: Global, text: &str) -> Result<bool, AllocError> {
+    Ok(read_record(alloc, text.as_bytes())?.is_none())
+}
+
 #[test]
 fn no_other_text_is_a_record(rt: HostRuntime) -> Result<(), Fail> {
     for text in &NONE {
-        assert!(rt;
-            read_record(rt.alloc(), text.as_bytes())?.is_none(),
-            "{text}"
-        );
+        assert!(rt; is_none(rt.alloc(), text)?, "{text}");
     }
     Ok(())
 }
@@ -211,11 +223,14 @@ const DIGESTS: [(&str, &str); 2] = [
     ),
 ];
 
+fn has_print(alloc: Global, text: &str, digest: &str) -> Result<bool, AllocError> {
+    Ok(fingerprint(alloc, text.as_bytes())?.list() == digest.as_bytes())
+}
+
 #[test]
 fn a_fingerprint_is_a_sha_256(rt: HostRuntime) -> Result<(), Fail> {
     for (text, digest) in &DIGESTS {
-        let print = fingerprint(rt.alloc(), text.as_bytes())?;
-        assert!(rt; print.list() == digest.as_bytes(), "{text}");
+        assert!(rt; has_print(rt.alloc(), text, digest)?, "{text}");
     }
     Ok(())
 }

@@ -1,119 +1,88 @@
 //! Answers: written in pieces, not read, cut short, and to the one who has asked.
-use crate::peers::{Guests, PROMPT, Part, Seen, enter, table, turns};
-use std::alloc::{AllocError, Global};
-use std::process::Abort;
+use crate::peers::{PROMPT, Part};
+use crate::plays::{Step, Who, plays};
 use std::test::Fail;
 
-/// Lets one in that asks, takes its request, and answers it at this moment with 9,000 bytes: two whole pieces of 4,096, and a
-/// rest.
-fn answer_one<'a>(
-    alloc: Global,
-    clients: &mut Guests<'a>,
-    part: Part,
-    seen: &'a Seen,
-    now: u64,
-) -> bool {
-    let is_in = enter(alloc, clients, part, seen, 0);
-    let has_gone_on = turns(alloc, clients, 1, 0);
-    let Some(request) = clients.take_request() else {
-        return false;
-    };
-    let Ok(answer) = text_of(alloc, 9000) else {
-        return false;
-    };
-    is_in && has_gone_on && clients.answer(request.id, answer, now)
-}
-
-/// So many bytes.
-fn text_of(alloc: Global, count: usize) -> Result<Vec<u8>, AllocError> {
-    vec![in alloc; b'a'; count]
-}
-
-/// A peer that is answered has taken so many bytes after five turns, with so many calls, its first read among them.
-fn takes(alloc: Global, part: Part, taken: usize, calls: u64) -> bool {
-    let seen = Seen::new();
-    let mut clients = table(alloc, 32);
-    let is_answered = answer_one(alloc, &mut clients, part, &seen, 0);
-    let has_gone_on = turns(alloc, &mut clients, 5, 0);
-    is_answered && has_gone_on && seen.taken.get() == taken && seen.calls.get() == calls
+/// One that does this asks, and is answered with 9,000 bytes: two whole pieces of 4,096, and a rest. It has taken so many bytes
+/// after five turns, with so many calls, its first read among them.
+fn takes(part: Part, taken: usize, calls: u64) -> [Step; 7] {
+    [
+        Step::Enters(Who::First, part, 0),
+        Step::Turns(1, 0),
+        Step::Takes,
+        Step::AnswersLong(0, 9000, 0),
+        Step::Turns(5, 0),
+        Step::Taken(Who::First, taken),
+        Step::Calls(Who::First, calls),
+    ]
 }
 
 #[test]
 fn an_answer_is_written_in_pieces(rt: HostRuntime) -> Result<(), Fail> {
-    assert!(rt; takes(rt.alloc(), PROMPT, 9000, 4));
-    Ok(())
+    plays(&rt, 32, &takes(PROMPT, 9000, 4))
 }
 
 #[test]
 fn an_answer_goes_on_where_it_was(rt: HostRuntime) -> Result<(), Fail> {
-    assert!(rt;
-        takes(
-            rt.alloc(),
-            Part {
-                takes: 2000,
-                ..PROMPT
-            },
-            9000,
-            6
-        )
-    );
-    Ok(())
+    let part = Part {
+        takes: 2000,
+        ..PROMPT
+    };
+    plays(&rt, 32, &takes(part, 9000, 6))
 }
 
 #[test]
 fn an_answer_that_is_not_read_is_kept(rt: HostRuntime) -> Result<(), Fail> {
-    assert!(rt; takes(rt.alloc(), Part { takes: 0, ..PROMPT }, 0, 6));
-    Ok(())
+    plays(&rt, 32, &takes(Part { takes: 0, ..PROMPT }, 0, 6))
 }
 
 #[test]
 fn one_whose_first_write_fails_leaves(rt: HostRuntime) -> Result<(), Fail> {
-    assert!(rt; takes(rt.alloc(), Part { fails: 1, ..PROMPT }, 0, 2));
-    Ok(())
+    plays(&rt, 32, &takes(Part { fails: 1, ..PROMPT }, 0, 2))
 }
 
 #[test]
 fn one_whose_second_write_fails_leaves(rt: HostRuntime) -> Result<(), Fail> {
-    assert!(rt; takes(rt.alloc(), Part { fails: 2, ..PROMPT }, 4096, 3));
-    Ok(())
+    plays(&rt, 32, &takes(Part { fails: 2, ..PROMPT }, 4096, 3))
 }
 
 #[test]
 fn one_whose_last_write_fails_leaves(rt: HostRuntime) -> Result<(), Fail> {
-    assert!(rt; takes(rt.alloc(), Part { fails: 3, ..PROMPT }, 8192, 4));
-    Ok(())
+    plays(&rt, 32, &takes(Part { fails: 3, ..PROMPT }, 8192, 4))
 }
+
+const NEVER_READS: [Step; 8] = [
+    Step::Enters(Who::First, Part { takes: 0, ..PROMPT }, 0),
+    Step::Turns(1, 0),
+    Step::Takes,
+    // However long the answer took, there are ten seconds to read it.
+    Step::AnswersLong(0, 9000, 20000),
+    Step::Turns(1, 29999),
+    Step::Turns(1, 30000),
+    Step::Turns(1, 30001),
+    Step::Calls(Who::First, 3),
+];
 
 #[test]
 fn one_that_never_reads_leaves_after_ten_seconds(rt: HostRuntime) -> Result<(), Fail> {
-    let alloc = rt.alloc();
-    let seen = Seen::new();
-    let mut clients = table(alloc, 32);
-    let part = Part { takes: 0, ..PROMPT };
-    // However long the answer took, there are ten seconds to read it.
-    assert!(rt; answer_one(alloc, &mut clients, part, &seen, 20000));
-    assert!(rt; turns(alloc, &mut clients, 1, 29999));
-    assert!(rt; turns(alloc, &mut clients, 1, 30000));
-    assert!(rt; turns(alloc, &mut clients, 1, 30001));
-    assert!(rt; seen.calls.get() == 3);
-    Ok(())
+    plays(&rt, 32, &NEVER_READS)
 }
+
+const BOTH_ASK: [Step; 11] = [
+    Step::Enters(Who::First, PROMPT, 0),
+    Step::Enters(Who::Second, PROMPT, 0),
+    Step::Turns(1, 1),
+    Step::Takes,
+    Step::Takes,
+    Step::AnswersNobody(2),
+    Step::Answers(1, b"ok\n", 1),
+    Step::AnswersNobody(1),
+    Step::Turns(2, 2),
+    Step::Taken(Who::First, 0),
+    Step::Taken(Who::Second, 3),
+];
 
 #[test]
 fn an_answer_goes_to_nobody_else(rt: HostRuntime) -> Result<(), Fail> {
-    let alloc = rt.alloc();
-    let (first, second) = (Seen::new(), Seen::new());
-    let mut clients = table(alloc, 32);
-    assert!(rt; enter(alloc, &mut clients, PROMPT, &first, 0));
-    assert!(rt; enter(alloc, &mut clients, PROMPT, &second, 0));
-    assert!(rt; turns(alloc, &mut clients, 1, 1));
-    assert!(rt; clients.take_request().is_some());
-    assert!(rt; clients.take_request().is_some());
-    assert!(rt; !clients.answer(2, Vec::from_slice(alloc, b"ok\n")?, 1));
-    assert!(rt; clients.answer(1, Vec::from_slice(alloc, b"ok\n")?, 1));
-    assert!(rt; !clients.answer(1, Vec::from_slice(alloc, b"ok\n")?, 1));
-    assert!(rt; turns(alloc, &mut clients, 2, 2));
-    assert!(rt; first.taken.get() == 0);
-    assert!(rt; second.taken.get() == 3);
-    Ok(())
+    plays(&rt, 32, &BOTH_ASK)
 }

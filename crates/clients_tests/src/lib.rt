@@ -14,6 +14,8 @@ mod peers;
 #[cfg(test)]
 mod places;
 #[cfg(test)]
+mod plays;
+#[cfg(test)]
 mod requests;
 #[cfg(test)]
 mod sockets;

@@ -7,7 +7,7 @@ use std::alloc::Global;
 use std::cell::Cell;
 
 /// What a peer does.
-#[derive(Clone, Copy, Debug)]
+#[derive(Clone, Copy)]
 pub(crate) struct Part {
     /// How many bytes `a` it sends, and then which text, in pieces of so many bytes; and whether it ends its side then.
     pub(crate) padding: usize,
@@ -37,7 +37,7 @@ pub(crate) const SILENT: Part = Part {
 };
 
 /// What was seen of a peer: the calls of its connection, and the bytes that it took.
-#[derive(Debug, Drop)]
+#[derive(Drop)]
 pub(crate) struct Seen {
     pub(crate) calls: Cell<u64>,
     pub(crate) taken: Cell<usize>,

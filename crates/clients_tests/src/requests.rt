@@ -1,7 +1,7 @@
 //! Requests that come byte by byte, too long, not whole or not at all.
 use crate::peers::{PROMPT, Part, SILENT, Seen, enter, table, turns};
+use crate::plays::{Step, Who, plays};
 use std::alloc::Global;
-use std::process::Abort;
 use std::test::Fail;
 
 /// A peer whose request is handed on after so many reads, and no earlier, with so many bytes.
@@ -69,41 +69,41 @@ fn one_that_ends_at_once_has_asked_nothing(rt: HostRuntime) -> Result<(), Fail> 
     Ok(())
 }
 
+const IS_SILENT: [Step; 5] = [
+    Step::Enters(Who::First, SILENT, 5),
+    Step::Turns(1, 10004),
+    Step::Turns(1, 10005),
+    // It has left: nobody reads it again.
+    Step::Turns(1, 10006),
+    Step::Calls(Who::First, 2),
+];
+
 #[test]
 fn a_silent_one_leaves_after_ten_seconds(rt: HostRuntime) -> Result<(), Fail> {
-    let alloc = rt.alloc();
-    let seen = Seen::new();
-    let mut clients = table(alloc, 32);
-    assert!(rt; enter(alloc, &mut clients, SILENT, &seen, 5));
-    assert!(rt; turns(alloc, &mut clients, 1, 10004));
-    assert!(rt; turns(alloc, &mut clients, 1, 10005));
-    // It has left: nobody reads it again.
-    assert!(rt; turns(alloc, &mut clients, 1, 10006));
-    assert!(rt; seen.calls.get() == 2);
-    Ok(())
+    plays(&rt, 32, &IS_SILENT)
 }
+
+const IS_SLOW: [Step; 4] = [
+    Step::Enters(Who::First, Part { piece: 1, ..PROMPT }, 0),
+    Step::Turns(1, 6000),
+    Step::Turns(2, 10000),
+    // Each byte is progress, and yet its request was not whole in time.
+    Step::Calls(Who::First, 2),
+];
 
 #[test]
 fn a_slow_one_leaves_after_ten_seconds(rt: HostRuntime) -> Result<(), Fail> {
-    let alloc = rt.alloc();
-    let seen = Seen::new();
-    let mut clients = table(alloc, 32);
-    assert!(rt; enter(alloc, &mut clients, Part { piece: 1, ..PROMPT }, &seen, 0));
-    assert!(rt; turns(alloc, &mut clients, 1, 6000));
-    assert!(rt; turns(alloc, &mut clients, 2, 10000));
-    // Each byte is progress, and yet its request was not whole in time.
-    assert!(rt; seen.calls.get() == 2);
-    Ok(())
+    plays(&rt, 32, &IS_SLOW)
 }
+
+const READ_FAILS: [Step; 4] = [
+    Step::Enters(Who::First, Part { fails: 0, ..PROMPT }, 0),
+    Step::Turns(2, 0),
+    Step::Calls(Who::First, 1),
+    Step::TakesNone,
+];
 
 #[test]
 fn one_whose_first_read_fails_leaves(rt: HostRuntime) -> Result<(), Fail> {
-    let alloc = rt.alloc();
-    let seen = Seen::new();
-    let mut clients = table(alloc, 32);
-    assert!(rt; enter(alloc, &mut clients, Part { fails: 0, ..PROMPT }, &seen, 0));
-    assert!(rt; turns(alloc, &mut clients, 2, 0));
-    assert!(rt; seen.calls.get() == 1);
-    assert!(rt; clients.take_request().is_none());
-    Ok(())
+    plays(&rt, 32, &READ_FAILS)
 }

@@ -4,7 +4,7 @@ use Rattle.watch_machine.specs.declared.clocks.Clocks.{Clocks}
 use Rattle.watch_machine.specs.declared.track.End.{End}
 use Rattle.watch_machine.specs.declared.track.End.TheVariants.{Unknown, At, Never}
 use Rattle.watch_machine.specs.declared.track.Track.{Track}
-use Rattle.watch_machine.specs.State.{State, track_at}
+use Rattle.watch_machine.specs.State.{WatchState, track_at}
 use Rattle.keep_agent.specs.declared.standing.Told.{Told}
 use Rattle.keep_agent.specs.Agent.{Believes}
 use Rattle.keep_agent.specs.Standings.{told_end, told_of}
@@ -16,7 +16,7 @@ told_end_believed c below renewable Unknown = refl
 told_end_believed c below renewable (At end) = (omega arith, (omega arith, refl))
 told_end_believed c below renewable Never = refl
 
-pub told_believed : (m : State) (i : ℕ) → m.clocks.phase < 1000 → Believes (track_at m i).end (track_at m i).renewable (told_of m i)
+pub told_believed : (m : WatchState) (i : ℕ) → m.clocks.phase < 1000 → Believes (track_at m i).end (track_at m i).renewable (told_of m i)
 told_believed m i below = told_end_believed m.clocks below (track_at m i).renewable (track_at m i).end
 
 -- one that was told before, of a track that believes the same

@@ -16,7 +16,7 @@ use Rattle.keep_tree.specs.declared.forest.TheConstants.{END_MAX}
 use Rattle.keep_tree.specs.Push.{is_name, is_name_byte}
 use Rattle.keep_agent.specs.declared.ends.KnownEnd.{KnownEnd}
 use Rattle.keep_agent.specs.declared.standing.Told.{Told}
-use Rattle.keep_agent.specs.Ends.{BootLaw, IsKnownEnd, LineLaw, ReadIsWritten, WrittenIsRead, end_of_text, end_text, end_words, five, in_boot, is_word, known_by, renewable_of, told_by, told_of_words, yes_or_no}
+use Rattle.keep_agent.specs.Ends.{BootLaw, EndLineLaw, EndReadIsWritten, EndWrittenIsRead, IsKnownEnd, end_of_text, end_text, end_words, five, in_boot, is_word, known_end_by, renewable_of, told_by_words, told_of_words, yes_or_no}
 
 -- one word more in front
 pub five_after : (a : List ℕ) (ws : List (List ℕ)) → five (a ∷ ws) ≡ option_map (λ w. (a, w.0, w.1, w.2, w.3)) (four ws)
@@ -76,7 +76,7 @@ line_lacks [] h = refl
 line_lacks (w ∷ []) h = h.0.feeds
 line_lacks (w ∷ x ∷ ws) h = lacks_append 10 w (32 ∷ join_with_byte 32 (x ∷ ws)) h.0.feeds (line_lacks (x ∷ ws) h.1)
 
-pub line_law : LineLaw
+pub line_law : EndLineLaw
 unfolding end_text
 line_law k h = line_lacks (end_words k) (plain_end k h)
 
@@ -88,16 +88,16 @@ renewable_back false = refl
 
 told_back : (t : Told) → t.end ≤ END_MAX → told_of_words (decimal t.end) (yes_or_no t.renewable) ≡ Some t
 unfolding told_of_words
-told_back t h = ap (λ o. told_by o (renewable_of (yes_or_no t.renewable))) (number_back END_MAX (omega arith) t.end h) ∙ ap (told_by (Some t.end)) (renewable_back t.renewable)
+told_back t h = ap (λ o. told_by_words o (renewable_of (yes_or_no t.renewable))) (number_back END_MAX (omega arith) t.end h) ∙ ap (told_by_words (Some t.end)) (renewable_back t.renewable)
 
-known_back : (k : KnownEnd) → IsKnownEnd k → known_by k.name k.fingerprint k.boot (Some k.told) ≡ Some k
+known_back : (k : KnownEnd) → IsKnownEnd k → known_end_by k.name k.fingerprint k.boot (Some k.told) ≡ Some k
 known_back k h = cond-true _ _ _ (and_from (is_name k.name) _ h.name (and_from (is_word k.fingerprint) (is_word k.boot) h.fingerprint h.boot))
 
-pub written_is_read : WrittenIsRead
+pub written_is_read : EndWrittenIsRead
 unfolding end_of_text end_text
 written_is_read k h =
     let cut : pieces 32 (join_with_byte 32 (end_words k)) ≡ end_words k = cut_back 32 k.name _ (lack_spaces (end_words k) (plain_end k h)) in
-    ap (λ ws. elim (five ws) [ None ↦ None | Some w ↦ known_by w.0 w.3 w.4 (told_of_words w.1 w.2) ]) cut ∙ ap (known_by k.name k.fingerprint k.boot) (told_back k.told h.end) ∙ known_back k h
+    ap (λ ws. elim (five ws) [ None ↦ None | Some w ↦ known_end_by w.0 w.3 w.4 (told_of_words w.1 w.2) ]) cut ∙ ap (known_end_by k.name k.fingerprint k.boot) (told_back k.told h.end) ∙ known_back k h
 
 -- ---- and no other line is
 
@@ -139,7 +139,7 @@ said_only word b e =
 told_only : (end renewable : List ℕ) (t : Told) → told_of_words end renewable ≡ Some t → (end ≡ decimal t.end) × ((t.end ≤ END_MAX) × (renewable ≡ yes_or_no t.renewable))
 unfolding told_of_words
 told_only end renewable t e = by (number_up_to END_MAX end) (renewable_of renewable) refl refl e where
-  by : (n : Option ℕ) (b : Option Bool) → number_up_to END_MAX end ≡ n → renewable_of renewable ≡ b → told_by n b ≡ Some t → (end ≡ decimal t.end) × ((t.end ≤ END_MAX) × (renewable ≡ yes_or_no t.renewable))
+  by : (n : Option ℕ) (b : Option Bool) → number_up_to END_MAX end ≡ n → renewable_of renewable ≡ b → told_by_words n b ≡ Some t → (end ≡ decimal t.end) × ((t.end ≤ END_MAX) × (renewable ≡ yes_or_no t.renewable))
   by None b number said e = absurd cc
   by (Some n) None number said e = absurd cc
   by (Some n) (Some b) number said e =
@@ -147,7 +147,7 @@ told_only end renewable t e = by (number_up_to END_MAX end) (renewable_of renewa
       let is = number_spelled END_MAX (omega arith) end n number in
       rw (sym same) (is.0, (is.1, said_only renewable b said))
 
-known_only : (name fingerprint boot : List ℕ) (o : Option Told) (k : KnownEnd) → known_by name fingerprint boot o ≡ Some k →
+known_only : (name fingerprint boot : List ℕ) (o : Option Told) (k : KnownEnd) → known_end_by name fingerprint boot o ≡ Some k →
     (o ≡ Some k.told) × ((is_name name ≡ true) × ((is_word fingerprint ≡ true) × ((is_word boot ≡ true) × ((name ≡ k.name) × ((fingerprint ≡ k.fingerprint) × (boot ≡ k.boot))))))
 known_only name fingerprint boot None k e = cc
 known_only name fingerprint boot (Some t) k e =
@@ -156,10 +156,10 @@ known_only name fingerprint boot (Some t) k e =
     let r = and_parts (is_word fingerprint) (is_word boot) q.1 in
     (ap (λ (x : KnownEnd). Some x.told) p.1, (q.0, (r.0, (r.1, (ap (λ (x : KnownEnd). x.name) p.1, (ap (λ (x : KnownEnd). x.fingerprint) p.1, ap (λ (x : KnownEnd). x.boot) p.1))))))
 
-pub read_is_written : ReadIsWritten
+pub read_is_written : EndReadIsWritten
 unfolding end_of_text end_text
 read_is_written text k e =
-    let p = of_five text (five (pieces 32 text)) (λ w. known_by w.0 w.3 w.4 (told_of_words w.1 w.2)) k refl e in
+    let p = of_five text (five (pieces 32 text)) (λ w. known_end_by w.0 w.3 w.4 (told_of_words w.1 w.2)) k refl e in
     let w = p.0 in
     let q = known_only w.0 w.3 w.4 (told_of_words w.1 w.2) k p.1.1 in
     let t = told_only w.1 w.2 k.told q.0 in

@@ -13,12 +13,12 @@ use Rattle.watch_machine.specs.declared.track.End.{End}
 use Rattle.watch_machine.specs.declared.track.End.TheVariants.{Unknown, At, Never}
 use Rattle.watch_machine.specs.declared.track.Track.{Track}
 use Rattle.watch_machine.specs.History.{Turn}
-use Rattle.watch_machine.specs.State.{State, fresh_track, no_track, opened, track_at}
+use Rattle.watch_machine.specs.State.{WatchState, fresh_track, no_track, opened, track_at}
 use Rattle.keep_agent.specs.declared.standing.Standing.{Standing}
 use Rattle.keep_agent.specs.declared.standing.Told.{Told}
 use Rattle.keep_agent.specs.Agent.{Agent, Believes, IsAgent, IsStanding, standing_at}
 use Rattle.keep_agent.specs.Laws.{FreshLaw, IsBelievedAgain, RememberedLaw}
-use Rattle.keep_agent.specs.Rebuilding.{AreHanded, IsHanded, IsRebuilt, carried_standing, carried_told, former, standing_of}
+use Rattle.keep_agent.specs.Rebuilding.{AgentIsRebuilt, AreHanded, IsHanded, carried_standing, carried_told, former, standing_of}
 use Rattle.keep_agent.specs.Standings.{fresh_standing, standing_in}
 use Rattle.keep_agent.proofs.Fresh.{opened_unknown, unknown_believed}
 use Rattle.keep_agent.proofs.Left.{IsLeft, known_other, known_track, left_turn}
@@ -29,14 +29,14 @@ told_track None x = x
 told_track (Some t) x = record x { end = At (min END_MAX t.end); renewable = t.renewable }
 
 -- the Watch after the ends of the first n entries
-pub record IsSoFar (told : ℕ → Option Told) (s : State) (n : ℕ) (m : State) : Type 0 where
+pub record IsSoFar (told : ℕ → Option Told) (s : WatchState) (n : ℕ) (m : WatchState) : Type 0 where
   pub entries : length m.forest.entries ≡ length s.forest.entries
   pub tracks : length m.tracks ≡ length s.tracks
   pub phase : s.clocks.phase < 1000 → m.clocks.phase < 1000
   pub before : (i : ℕ) → i < n → track_at m i ≡ told_track (told i) (track_at s i)
   pub after : (i : ℕ) → n ≤ i → track_at m i ≡ track_at s i
 
-one_more : (told : ℕ → Option Told) (s mid m : State) (n : ℕ) (o : Option Told) → told n ≡ o → n < length s.tracks → IsSoFar told s n mid → IsHanded n o mid m → IsSoFar told s (suc n) m
+one_more : (told : ℕ → Option Told) (s mid m : WatchState) (n : ℕ) (o : Option Told) → told n ≡ o → n < length s.tracks → IsSoFar told s n mid → IsHanded n o mid m → IsSoFar told s (suc n) m
 one_more told s mid m n None is within h handed =
     subst (IsSoFar told s (suc n)) (sym handed)
     (record {
@@ -65,13 +65,13 @@ one_more told s mid m n (Some t) is within h handed =
       after = λ i past. known_other mid m n t.end t.renewable handed.0 handed.1 i (λ same. omega (arith, same, past)) ∙ h.after i (omega arith);
     }
 
-pub so_far : (told : ℕ → Option Told) (s m : State) (n : ℕ) → n ≤ length s.tracks → AreHanded told s n m → IsSoFar told s n m
+pub so_far : (told : ℕ → Option Told) (s m : WatchState) (n : ℕ) → n ≤ length s.tracks → AreHanded told s n m → IsSoFar told s n m
 so_far told s m zero within handed =
     subst (IsSoFar told s zero) (sym handed) (record { entries = refl; tracks = refl; phase = λ below. below; before = λ i below. absurd (omega (arith, below)); after = λ i past. refl })
 so_far told s m (suc n) within handed = one_more told s handed.0 m n (told n) refl (omega arith) (so_far told s handed.0 n (omega arith) handed.1.0) handed.1.1
 
 -- the same ends are handed in
-pub handed_same : (told other : ℕ → Option Told) (s m : State) (n : ℕ) → ((i : ℕ) → i < n → told i ≡ other i) → AreHanded told s n m → AreHanded other s n m
+pub handed_same : (told other : ℕ → Option Told) (s m : WatchState) (n : ℕ) → ((i : ℕ) → i < n → told i ≡ other i) → AreHanded told s n m → AreHanded other s n m
 handed_same told other s m zero same h = h
 handed_same told other s m (suc n) same h = (h.0, (handed_same told other s h.0 n (λ i below. same i (omega arith)) h.1.0, subst (λ t. IsHanded n t h.0 m) (same n (omega arith)) h.1.1))
 
@@ -90,7 +90,7 @@ told_believed (Some t) x is bound = (omega (arith, bound), (omega arith, refl))
 
 -- ---- an agent that is rebuilt
 
-module _ (old : Agent) (s : Inventory) (width : ℕ) (m : State) (xs : List Standing) (standings : xs ≡ map (carried_standing old s) (range_with_len 0 (length s.forest.entries))) where
+module _ (old : Agent) (s : Inventory) (width : ℕ) (m : WatchState) (xs : List Standing) (standings : xs ≡ map (carried_standing old s) (range_with_len 0 (length s.forest.entries))) where
   abbrev Handed : Type 0
   Handed = AreHanded (λ i. (standing_in xs i).told) (opened s.forest width) (length xs) m
 
@@ -100,7 +100,7 @@ module _ (old : Agent) (s : Inventory) (width : ℕ) (m : State) (xs : List Stan
   carried : (i : ℕ) → i < length s.forest.entries → standing_in xs i ≡ carried_standing old s i
   carried i within = ap (λ ys. standing_in ys i) standings ∙ get_or-map-range_with_len (carried_standing old s) 0 (length s.forest.entries) i i fresh_standing within (omega arith)
 
-  pub rebuilt : (n : ℕ) → n ≡ old.beginnings → Handed → IsRebuilt old s width (record { machine = m; inventory = s; standings = xs; beginnings = n })
+  pub rebuilt : (n : ℕ) → n ≡ old.beginnings → Handed → AgentIsRebuilt old s width (record { machine = m; inventory = s; standings = xs; beginnings = n })
   rebuilt n is handed = record {
     inventory = refl;
     standings = standings;
@@ -134,7 +134,7 @@ module _ (old : Agent) (s : Inventory) (width : ℕ) (m : State) (xs : List Stan
 
 -- ---- the laws
 
-module _ (old new : Agent) (s : Inventory) (width : ℕ) (h : IsRebuilt old s width new) (j : ℕ) (within : j < length s.forest.entries) where
+module _ (old new : Agent) (s : Inventory) (width : ℕ) (h : AgentIsRebuilt old s width new) (j : ℕ) (within : j < length s.forest.entries) where
   its_standing : (from : Option ℕ) → former old.inventory s j ≡ from → standing_at new j ≡ standing_of old from
   unfolding carried_standing
   its_standing from is =

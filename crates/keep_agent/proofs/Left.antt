@@ -29,18 +29,18 @@ use Rattle.watch_machine.specs.declared.notes.Why.{Why}
 use Rattle.watch_machine.specs.declared.track.End.TheVariants.{At}
 use Rattle.watch_machine.specs.declared.track.Track.{Track}
 use Rattle.watch_machine.specs.Answers.{answers_all, back_track, lane_freed, noted, replied, silent}
-use Rattle.watch_machine.specs.Beginning.{begun, is_called, owing, owing_lookup, soon, sooner, untopped, untopped_track}
+use Rattle.watch_machine.specs.Beginning.{begun, is_called, owing, owing_lookup, soon, sooner_try, untopped, untopped_track}
 use Rattle.watch_machine.specs.Clocks.{dated_by, first_clocks, is_ahead, is_behind, is_stepped, phase_of, reading, sec, walled}
 use Rattle.watch_machine.specs.History.{Turn}
 use Rattle.watch_machine.specs.Looked.{looked, told_state, untold_track}
 use Rattle.watch_machine.specs.Margins.{has_come}
-use Rattle.watch_machine.specs.Press.{asked_in, asked_track, dropped, is_fresh, press, pressed, pressed_alone, pressed_track}
+use Rattle.watch_machine.specs.Press.{asked_track, dropped, is_fresh, press, pressed, pressed_alone, pressed_track, track_asked_in}
 use Rattle.watch_machine.specs.Refusal.{refusal, request_out, unless_within}
-use Rattle.watch_machine.specs.Renewed.{renewed, renewed_track, ungranted_track}
-use Rattle.watch_machine.specs.Round.{asked_by}
+use Rattle.watch_machine.specs.Renewed.{renewed_track, state_renewed, ungranted_track}
+use Rattle.watch_machine.specs.Round.{asked_by_round}
 use Rattle.watch_machine.specs.Sending.{sent, sent_in, sent_track}
 use Rattle.watch_machine.specs.Settling.{at_reading, clocks_after, date_of, dated, dated_by_all, dated_on, is_real, read, settled, settled_track, timed}
-use Rattle.watch_machine.specs.State.{State, each, entry_of, no_track, track_at, track_in}
+use Rattle.watch_machine.specs.State.{WatchState, each, entry_of, no_track, track_at, track_in}
 use Rattle.watch_machine.specs.Step.{Step, StepClock, StepCommand, StepLooked, StepRenewed, known, readied, why}
 use Rattle.watch_machine.specs.Wanted.{is_open, need_of, wants}
 use Rattle.watch_machine.proofs.Cases.{if_both}
@@ -79,7 +79,7 @@ owing_word : (at : ℕ) (called : Bool) (x : Track) → Word (owing at called x)
 unfolding owing
 owing_word at called x =
     if_both (λ y. Word y x) (called && is_open (sec at) x) (owing_lookup at x) x
-    (if_both (λ y. Word y x) x.out (record x { owes = true }) (record x { owes = true; attempt = Some (sooner (soon at x) x.attempt) }) refl refl) refl
+    (if_both (λ y. Word y x) x.out (record x { owes = true }) (record x { owes = true; attempt = Some (sooner_try (soon at x) x.attempt) }) refl refl) refl
 
 pressed_word : (margin : ℕ) (e : Entry) (need at : ℕ) (x : Track) → Word (pressed_track margin e need at x) x
 unfolding pressed_track
@@ -87,7 +87,7 @@ pressed_word margin e need at x =
     if_both (λ y. Word y x) (is_fresh margin e x need (sec at)) (record x { attempt = Some (press at false x) }) (if wants x need || x.out then x else record x { attempt = dropped x x.attempt }) refl
     (if_both (λ y. Word y x) (wants x need || x.out) x (record x { attempt = dropped x x.attempt }) refl refl)
 
-asked_word : (margin : ℕ) (e : Entry) (at : ℕ) (round : List ℕ) (i : ℕ) (x : Track) → Word (asked_in margin e at round i x) x
+asked_word : (margin : ℕ) (e : Entry) (at : ℕ) (round : List ℕ) (i : ℕ) (x : Track) → Word (track_asked_in margin e at round i x) x
 unfolding asked_track
 asked_word margin e at round i x =
     if_both (λ y. Word y x) (list_any (λ j. j == i) round) (asked_track margin e at x) x
@@ -96,48 +96,48 @@ asked_word margin e at round i x =
 sent_word : (at : ℕ) (requests : List Request) (i : ℕ) (x : Track) → Word (sent_in at requests i x) x
 sent_word at requests i x = if_both (λ y. Word y x) (list_any (λ (r : Request). r.entry == i) requests) (sent_track at x) x refl refl
 
-begun_word : (s : State) (w : Option Why) (i : ℕ) → Word (track_at (begun s w) i) (track_at s i)
+begun_word : (s : WatchState) (w : Option Why) (i : ℕ) → Word (track_at (begun s w) i) (track_at s i)
 begun_word s None i = refl
 begun_word s (Some w) i =
     let xs = untopped s.tracks in
     each_word (λ j. owing s.clocks.at (is_called s.forest xs s.clocks j)) xs (λ j x. owing_word s.clocks.at (is_called s.forest xs s.clocks j) x) i
     ∙ each_word (λ j. untopped_track) s.tracks (λ j x. refl) i
 
-readied_word : (s : State) (wall elapsed i : ℕ) → Word (track_at (readied s wall elapsed) i) (track_at s i)
+readied_word : (s : WatchState) (wall elapsed i : ℕ) → Word (track_at (readied s wall elapsed) i) (track_at s i)
 unfolding readied
 readied_word s wall elapsed i =
     let t = timed s wall elapsed in
     begun_word (settled t) (why s wall elapsed) i ∙ each_word (λ j. settled_track t.forest.margin t.clocks.at) s.tracks (λ j x. settled_word t.forest.margin t.clocks.at x) i
 
-gone_word : (s : State) (round : List ℕ) (requests : List Request) (i : ℕ) → Word (track_at (sent (pressed s round) requests) i) (track_at s i)
+gone_word : (s : WatchState) (round : List ℕ) (requests : List Request) (i : ℕ) → Word (track_at (sent (pressed s round) requests) i) (track_at s i)
 gone_word s round requests i =
     let c = s.clocks in
     let g = s.forest in
     let alone = pressed_alone g c s.tracks in
     let mid = pressed s round in
     each_word (sent_in c.at requests) mid.tracks (λ j x. sent_word c.at requests j x) i
-    ∙ each_word (λ j. asked_in g.margin (entry_at g.entries j) c.at round j) alone (λ j x. asked_word g.margin (entry_at g.entries j) c.at round j x) i
+    ∙ each_word (λ j. track_asked_in g.margin (entry_at g.entries j) c.at round j) alone (λ j x. asked_word g.margin (entry_at g.entries j) c.at round j x) i
     ∙ each_word (λ j. pressed_track g.margin (entry_at g.entries j) (need_of g.entries s.tracks c j) c.at) s.tracks (λ j x. pressed_word g.margin (entry_at g.entries j) (need_of g.entries s.tracks c j) c.at x) i
 
 -- what goes out at a clock
-sent_by : (mid new : State) (command : Command) → StepCommand mid command new → (requests : List Request) × (new ≡ sent mid requests)
+sent_by : (mid new : WatchState) (command : Command) → StepCommand mid command new → (requests : List Request) × (new ≡ sent mid requests)
 sent_by mid new (Go requests until) h = (requests, h.0.1)
 sent_by mid new Taken h = absurd h
 
-clock_word : (old new : State) (wall elapsed : ℕ) (output : Output) (i : ℕ) → StepClock old wall elapsed output new → Word (track_at new i) (track_at old i)
+clock_word : (old new : WatchState) (wall elapsed : ℕ) (output : Output) (i : ℕ) → StepClock old wall elapsed output new → Word (track_at new i) (track_at old i)
 clock_word old new wall elapsed output i step =
     let ready = readied old wall elapsed in
-    let is = sent_by (pressed ready (asked_by step.round)) new output.command step.command in
-    ap (λ (s : State). word (track_at s i)) is.1 ∙ gone_word ready (asked_by step.round) is.0 i ∙ readied_word old wall elapsed i
+    let is = sent_by (pressed ready (asked_by_round step.round)) new output.command step.command in
+    ap (λ (s : WatchState). word (track_at s i)) is.1 ∙ gone_word ready (asked_by_round step.round) is.0 i ∙ readied_word old wall elapsed i
 
 -- as many tracks and entries
-begun_count : (s : State) (w : Option Why) → (length (begun s w).tracks ≡ length s.tracks) × (((begun s w).forest ≡ s.forest) × ((begun s w).clocks ≡ s.clocks))
+begun_count : (s : WatchState) (w : Option Why) → (length (begun s w).tracks ≡ length s.tracks) × (((begun s w).forest ≡ s.forest) × ((begun s w).clocks ≡ s.clocks))
 begun_count s None = (refl, (refl, refl))
 begun_count s (Some w) =
     let xs = untopped s.tracks in
     (each_length (λ j. owing s.clocks.at (is_called s.forest xs s.clocks j)) xs ∙ each_length (λ j. untopped_track) s.tracks, (refl, refl))
 
-readied_count : (s : State) (wall elapsed : ℕ) →
+readied_count : (s : WatchState) (wall elapsed : ℕ) →
     (length (readied s wall elapsed).tracks ≡ length s.tracks) × (((readied s wall elapsed).forest ≡ s.forest) × ((readied s wall elapsed).clocks ≡ (timed s wall elapsed).clocks))
 unfolding readied
 readied_count s wall elapsed =
@@ -167,7 +167,7 @@ first_phase : (wall elapsed : ℕ) → (first_clocks wall elapsed).phase < 1000
 unfolding first_clocks phase_of
 first_phase wall elapsed = omega arith
 
-timed_phase : (s : State) (wall elapsed : ℕ) → s.clocks.phase < 1000 → (timed s wall elapsed).clocks.phase < 1000
+timed_phase : (s : WatchState) (wall elapsed : ℕ) → s.clocks.phase < 1000 → (timed s wall elapsed).clocks.phase < 1000
 unfolding clocks_after
 timed_phase s wall elapsed below =
     let later = all_dated_phase (read s.clocks wall elapsed) s.answers ∙ walled_phase (at_reading s.clocks elapsed) (reading wall) in
@@ -177,30 +177,30 @@ timed_phase s wall elapsed below =
 -- ---- an answer
 
 -- as many entries and tracks, and the same clocks
-abbrev pub Shape : State → State → Type 0
+abbrev pub Shape : WatchState → WatchState → Type 0
 Shape new old = (length new.forest.entries ≡ length old.forest.entries) × ((length new.tracks ≡ length old.tracks) × (new.clocks ≡ old.clocks))
 
 back_word : (x : Track) → Word (back_track x) x
 unfolding back_track
 back_word x = refl
 
-replied_word : (s : State) (r : Out) (reply : Reply) (i : ℕ) → Word (track_at (replied s r reply) i) (track_at s i)
+replied_word : (s : WatchState) (r : Out) (reply : Reply) (i : ℕ) → Word (track_at (replied s r reply) i) (track_at s i)
 replied_word s r reply i =
     let free = lane_freed s r in
-    let P : State → Type 0 = λ t. Word (track_at t i) (track_at s i) in
+    let P : WatchState → Type 0 = λ t. Word (track_at t i) (track_at s i) in
     if_both P (is_real reply) (answers_all free) (if r.heard then free else silent free)
     (if_both P s.presence.away _ _ (each_word (λ j. back_track) s.tracks (λ j x. back_word x) i) refl)
     (if_both P r.heard free (silent free) refl (if_both P s.presence.away _ _ refl refl))
 
-replied_shape : (s : State) (r : Out) (reply : Reply) → Shape (replied s r reply) s
+replied_shape : (s : WatchState) (r : Out) (reply : Reply) → Shape (replied s r reply) s
 replied_shape s r reply =
     let free = lane_freed s r in
-    let P : State → Type 0 = λ t. Shape t s in
+    let P : WatchState → Type 0 = λ t. Shape t s in
     if_both P (is_real reply) (answers_all free) (if r.heard then free else silent free)
     (if_both P s.presence.away _ _ (refl, (each_length (λ j. back_track) s.tracks, refl)) (refl, (refl, refl)))
     (if_both P r.heard free (silent free) (refl, (refl, refl)) (if_both P s.presence.away _ _ (refl, (refl, refl)) (refl, (refl, refl))))
 
-looked_shape : (s : State) (r : Out) (reply : Reply) (terms : Terms) → Shape (looked s r reply terms) s
+looked_shape : (s : WatchState) (r : Out) (reply : Reply) (terms : Terms) → Shape (looked s r reply terms) s
 looked_shape s r (Told seconds renewable date) terms = (length-set s.forest.entries r.entry _, (length-set _ r.entry _ ∙ length-set s.tracks r.entry _, refl))
 looked_shape s r (Refused status date) terms = (refl, (length-set s.tracks r.entry _, refl))
 looked_shape s r Busy terms = (refl, (length-set s.tracks r.entry _, refl))
@@ -221,14 +221,14 @@ ungranted_word : (at : ℕ) (heard : Bool) (reply : Reply) (x : Track) → Word 
 unfolding ungranted_track
 ungranted_word at heard reply x = refl
 
-looked_word : (s : State) (r : Out) (reply : Reply) (terms : Terms) (i : ℕ) → (Tells reply r.entry i → ⊥) → Word (track_at (looked s r reply terms) i) (track_at s i)
+looked_word : (s : WatchState) (r : Out) (reply : Reply) (terms : Terms) (i : ℕ) → (Tells reply r.entry i → ⊥) → Word (track_at (looked s r reply terms) i) (track_at s i)
 looked_word s r (Told seconds renewable date) terms i other =
     ap word (get_or-set_other (told_state s r.entry r.since seconds renewable terms).tracks r.entry i _ no_track other ∙ get_or-set_other s.tracks r.entry i _ no_track other)
 looked_word s r (Refused status date) terms i other = set_word s.tracks r.entry _ (untold_word s.clocks.at r.heard (Refused status date) (track_at s r.entry)) i
 looked_word s r Busy terms i other = set_word s.tracks r.entry _ (untold_word s.clocks.at r.heard Busy (track_at s r.entry)) i
 looked_word s r Lost terms i other = set_word s.tracks r.entry _ (untold_word s.clocks.at r.heard Lost (track_at s r.entry)) i
 
-renewed_word : (s : State) (r : Out) (reply : Reply) (i : ℕ) → (Tells reply r.entry i → ⊥) → Word (track_at (renewed s r reply) i) (track_at s i)
+renewed_word : (s : WatchState) (r : Out) (reply : Reply) (i : ℕ) → (Tells reply r.entry i → ⊥) → Word (track_at (state_renewed s r reply) i) (track_at s i)
 unfolding renewed_track
 renewed_word s r (Told seconds renewable date) i other = ap word (get_or-set_other s.tracks r.entry i _ no_track other)
 renewed_word s r (Refused status date) i other = set_word s.tracks r.entry _ (ungranted_word s.clocks.at r.heard (Refused status date) (track_at s r.entry)) i
@@ -247,56 +247,56 @@ TellsOf Begin i = ⊥
 TellsOf (Known j end renewable) i = i ≡ j
 
 -- what is left by a turn that tells of that entry, if of any
-pub record IsLeft (old : State) (event : Event) (new : State) : Type 0 where
+pub record IsLeft (old : WatchState) (event : Event) (new : WatchState) : Type 0 where
   pub entries : length new.forest.entries ≡ length old.forest.entries
   pub tracks : length new.tracks ≡ length old.tracks
   pub phase : old.clocks.phase < 1000 → new.clocks.phase < 1000
   pub words : (i : ℕ) → (TellsOf event i → ⊥) → Word (track_at new i) (track_at old i)
 
-left_clock : (old new : State) (wall elapsed : ℕ) (output : Output) → StepClock old wall elapsed output new → IsLeft old (Clock wall elapsed) new
+left_clock : (old new : WatchState) (wall elapsed : ℕ) (output : Output) → StepClock old wall elapsed output new → IsLeft old (Clock wall elapsed) new
 left_clock old new wall elapsed output step =
     let ready = readied old wall elapsed in
-    let round = asked_by step.round in
+    let round = asked_by_round step.round in
     let mid = pressed ready round in
     let is = sent_by mid new output.command step.command in
     let h = readied_count old wall elapsed in
     record {
-      entries = ap (λ (s : State). length s.forest.entries) is.1 ∙ ap (λ (g : Forest). length g.entries) h.1.0;
+      entries = ap (λ (s : WatchState). length s.forest.entries) is.1 ∙ ap (λ (g : Forest). length g.entries) h.1.0;
       tracks =
-          ap (λ (s : State). length s.tracks) is.1 ∙ each_length (sent_in mid.clocks.at is.0) mid.tracks
-          ∙ each_length (λ j. asked_in ready.forest.margin (entry_at ready.forest.entries j) ready.clocks.at round j) (pressed_alone ready.forest ready.clocks ready.tracks)
+          ap (λ (s : WatchState). length s.tracks) is.1 ∙ each_length (sent_in mid.clocks.at is.0) mid.tracks
+          ∙ each_length (λ j. track_asked_in ready.forest.margin (entry_at ready.forest.entries j) ready.clocks.at round j) (pressed_alone ready.forest ready.clocks ready.tracks)
           ∙ each_length (λ j. pressed_track ready.forest.margin (entry_at ready.forest.entries j) (need_of ready.forest.entries ready.tracks ready.clocks j) ready.clocks.at) ready.tracks
           ∙ h.0;
-      phase = λ below. subst (λ (c : Clocks). c.phase < 1000) (sym (ap (λ (s : State). s.clocks) is.1 ∙ h.1.1)) (timed_phase old wall elapsed below);
+      phase = λ below. subst (λ (c : Clocks). c.phase < 1000) (sym (ap (λ (s : WatchState). s.clocks) is.1 ∙ h.1.1)) (timed_phase old wall elapsed below);
       words = λ i other. clock_word old new wall elapsed output i step;
     }
 
 -- an answer, once it is taken for its entry
-left_answer : (old mid new : State) (event : Event) (r : Out) (reply : Reply) → new ≡ replied mid r reply → Shape mid old → ((i : ℕ) → (TellsOf event i → ⊥) → Word (track_at mid i) (track_at old i)) → IsLeft old event new
+left_answer : (old mid new : WatchState) (event : Event) (r : Out) (reply : Reply) → new ≡ replied mid r reply → Shape mid old → ((i : ℕ) → (TellsOf event i → ⊥) → Word (track_at mid i) (track_at old i)) → IsLeft old event new
 left_answer old mid new event r reply is shape words =
     let after = replied_shape mid r reply in
     record {
-      entries = ap (λ (s : State). length s.forest.entries) is ∙ after.0 ∙ shape.0;
-      tracks = ap (λ (s : State). length s.tracks) is ∙ after.1.0 ∙ shape.1.0;
-      phase = λ below. subst (λ (c : Clocks). c.phase < 1000) (sym (ap (λ (s : State). s.clocks) is ∙ after.1.1 ∙ shape.1.1)) below;
-      words = λ i other. ap (λ (s : State). word (track_at s i)) is ∙ replied_word mid r reply i ∙ words i other;
+      entries = ap (λ (s : WatchState). length s.forest.entries) is ∙ after.0 ∙ shape.0;
+      tracks = ap (λ (s : WatchState). length s.tracks) is ∙ after.1.0 ∙ shape.1.0;
+      phase = λ below. subst (λ (c : Clocks). c.phase < 1000) (sym (ap (λ (s : WatchState). s.clocks) is ∙ after.1.1 ∙ shape.1.1)) below;
+      words = λ i other. ap (λ (s : WatchState). word (track_at s i)) is ∙ replied_word mid r reply i ∙ words i other;
     }
 
-left_looked : (old new : State) (j : ℕ) (found : Option Out) (reply : Reply) (terms : Terms) (output : Output) → request_out old.out j Look ≡ found → StepLooked old found reply terms output new → IsLeft old (Looked j reply terms) new
+left_looked : (old new : WatchState) (j : ℕ) (found : Option Out) (reply : Reply) (terms : Terms) (output : Output) → request_out old.out j Look ≡ found → StepLooked old found reply terms output new → IsLeft old (Looked j reply terms) new
 left_looked old new j None reply terms output is step = absurd step
 left_looked old new j (Some r) reply terms output is step =
     let s = noted old r reply in
     left_answer old (looked s r reply terms) new (Looked j reply terms) r reply step.1 (looked_shape s r reply terms)
     (λ i other. looked_word s r reply terms i (subst (λ k. Tells reply k i → ⊥) (sym (out_entry old.out j Look r is)) other))
 
-left_renewed : (old new : State) (j : ℕ) (found : Option Out) (reply : Reply) (output : Output) → request_out old.out j Renew ≡ found → StepRenewed old found reply output new → IsLeft old (Renewed j reply) new
+left_renewed : (old new : WatchState) (j : ℕ) (found : Option Out) (reply : Reply) (output : Output) → request_out old.out j Renew ≡ found → StepRenewed old found reply output new → IsLeft old (Renewed j reply) new
 left_renewed old new j None reply output is step = absurd step
 left_renewed old new j (Some r) reply output is step =
     let s = noted old r reply in
-    left_answer old (renewed s r reply) new (Renewed j reply) r reply step.1 (refl, (length-set s.tracks r.entry _, refl))
+    left_answer old (state_renewed s r reply) new (Renewed j reply) r reply step.1 (refl, (length-set s.tracks r.entry _, refl))
     (λ i other. renewed_word s r reply i (subst (λ k. Tells reply k i → ⊥) (sym (out_entry old.out j Renew r is)) other))
 
-left_step : (old new : State) (event : Event) (output : Output) → Step old event output new → IsLeft old event new
+left_step : (old new : WatchState) (event : Event) (output : Output) → Step old event output new → IsLeft old event new
 left_step old new (Clock wall elapsed) output step = left_clock old new wall elapsed output step
 left_step old new (Looked j reply terms) output step = left_looked old new j (request_out old.out j Look) reply terms output refl step
 left_step old new (Renewed j reply) output step = left_renewed old new j (request_out old.out j Renew) reply output refl step
@@ -307,39 +307,39 @@ left_step old new (Known j end renewable) output step =
     subst (IsLeft old (Known j end renewable)) (sym step.1)
     (record { entries = refl; tracks = length-set old.tracks j _; phase = λ below. below; words = λ i other. ap word (get_or-set_other old.tracks j i _ no_track other) })
 
-pub left_turn : (old new : State) (event : Event) (output : Output) → Turn old event (Ok output) new → IsLeft old event new
+pub left_turn : (old new : WatchState) (event : Event) (output : Output) → Turn old event (Ok output) new → IsLeft old event new
 left_turn old new event output turn = left_step old new event output turn.1
 
-refused_stays : (old new : State) (event : Event) (fault : WatchFault) → Turn old event (Err fault) new → new ≡ old
+refused_stays : (old new : WatchState) (event : Event) (fault : WatchFault) → Turn old event (Err fault) new → new ≡ old
 refused_stays old new event NotAsked h = h.1
 refused_stays old new event BadIndex h = h.1
 refused_stays old new event OutOfMemory h = h.1.1
 
-pub turn_entries : (old new : State) (event : Event) (result : Result Output WatchFault) → Turn old event result new → length new.forest.entries ≡ length old.forest.entries
+pub turn_entries : (old new : WatchState) (event : Event) (result : Result Output WatchFault) → Turn old event result new → length new.forest.entries ≡ length old.forest.entries
 turn_entries old new event (Ok output) turn = (left_turn old new event output turn).entries
-turn_entries old new event (Err fault) turn = ap (λ (s : State). length s.forest.entries) (refused_stays old new event fault turn)
+turn_entries old new event (Err fault) turn = ap (λ (s : WatchState). length s.forest.entries) (refused_stays old new event fault turn)
 
 -- ---- indices
 
-within_free : (s : State) (i : ℕ) → i < length s.forest.entries → unless_within s i None ≡ None
+within_free : (s : WatchState) (i : ℕ) → i < length s.forest.entries → unless_within s i None ≡ None
 within_free s i within =
     let test : nat_le (length s.forest.entries) i ≡ false = grind (arith, nat_tests) in
     cond-false (nat_le (length s.forest.entries) i) (Some BadIndex) None test
 
-pub known_free : (s : State) (i end : ℕ) (renewable : Bool) → i < length s.forest.entries → refusal s (Known i end renewable) ≡ None
+pub known_free : (s : WatchState) (i end : ℕ) (renewable : Bool) → i < length s.forest.entries → refusal s (Known i end renewable) ≡ None
 unfolding refusal
 known_free s i end renewable within = within_free s i within
 
-pub by_index : (s : State) (i : ℕ) (other : Option WatchFault) → unless_within s i other ≡ None → i < length s.forest.entries
+pub by_index : (s : WatchState) (i : ℕ) (other : Option WatchFault) → unless_within s i other ≡ None → i < length s.forest.entries
 by_index s i other free = by (nat_le (length s.forest.entries) i) refl free where
   by : (b : Bool) → nat_le (length s.forest.entries) i ≡ b → (if b then Some BadIndex else other) ≡ None → i < length s.forest.entries
   by true is free = absurd cc
   by false is free = grind (arith, nat_tests)
 
 -- an end that is handed in is believed
-pub known_track : (s new : State) (i end : ℕ) (renewable : Bool) (output : Output) → Turn s (Known i end renewable) (Ok output) new → i < length s.tracks →
+pub known_track : (s new : WatchState) (i end : ℕ) (renewable : Bool) (output : Output) → Turn s (Known i end renewable) (Ok output) new → i < length s.tracks →
     track_at new i ≡ record (track_at s i) { end = At (min END_MAX end); renewable = renewable }
-known_track s new i end renewable output turn within = ap (λ (t : State). track_at t i) turn.1.1 ∙ get_or-set_same s.tracks i _ no_track within
+known_track s new i end renewable output turn within = ap (λ (t : WatchState). track_at t i) turn.1.1 ∙ get_or-set_same s.tracks i _ no_track within
 
-pub known_other : (s new : State) (i end : ℕ) (renewable : Bool) (output : Output) → Turn s (Known i end renewable) (Ok output) new → (k : ℕ) → (k ≡ i → ⊥) → track_at new k ≡ track_at s k
-known_other s new i end renewable output turn k other = ap (λ (t : State). track_at t k) turn.1.1 ∙ get_or-set_other s.tracks i k _ no_track other
+pub known_other : (s new : WatchState) (i end : ℕ) (renewable : Bool) (output : Output) → Turn s (Known i end renewable) (Ok output) new → (k : ℕ) → (k ≡ i → ⊥) → track_at new k ≡ track_at s k
+known_other s new i end renewable output turn k other = ap (λ (t : WatchState). track_at t k) turn.1.1 ∙ get_or-set_other s.tracks i k _ no_track other

@@ -6,21 +6,21 @@ use Rattle.std.specs.List.{range_with_len}
 use Rattle.keep_tree.proofs.Ranges.{range_more}
 use Rattle.watch_machine.specs.declared.event.Event.{Event}
 use Rattle.watch_machine.specs.declared.event.Event.TheVariants.{Known}
-use Rattle.watch_machine.specs.History.{History, Turn, Turned}
-use Rattle.watch_machine.specs.State.{State, opened}
+use Rattle.watch_machine.specs.History.{History, Turn, Turned, after_all}
+use Rattle.watch_machine.specs.State.{WatchState, opened}
 use Rattle.keep_agent.specs.declared.standing.Told.{Told}
-use Rattle.keep_agent.specs.Laws.{RunLaw, after_all, known_event, known_events}
+use Rattle.keep_agent.specs.Laws.{RunLaw, known_event, known_events}
 use Rattle.keep_agent.specs.Rebuilding.{AreHanded, IsHanded, carried_told}
 
 abbrev events : List Turned → List Event
 events turns = map (λ (turn : Turned). turn.event) turns
 
 -- a history goes on
-history_more : (s : State) (turns : List Turned) (turn : Turned) → History s turns → Turn (after_all s turns) turn.event turn.result turn.state → History s (turns ++ turn ∷ [])
+history_more : (s : WatchState) (turns : List Turned) (turn : Turned) → History s turns → Turn (after_all s turns) turn.event turn.result turn.state → History s (turns ++ turn ∷ [])
 history_more s [] turn h is = (is, tt)
 history_more s (first ∷ turns) turn h is = (h.0, history_more first.state turns turn h.1 is)
 
-after_more : (s : State) (turns : List Turned) (turn : Turned) → after_all s (turns ++ turn ∷ []) ≡ turn.state
+after_more : (s : WatchState) (turns : List Turned) (turn : Turned) → after_all s (turns ++ turn ∷ []) ≡ turn.state
 after_more s [] turn = refl
 after_more s (first ∷ turns) turn = after_more first.state turns turn
 
@@ -36,13 +36,13 @@ known_more told n =
     ∙ ap (flat_map f) (sym (range_more 0 n n (omega arith))) ∙ ap (known_events told) one
 
 -- a run by these events, to that state
-pub record IsRunTo (s : State) (es : List Event) (m : State) : Type 0 where
+pub record IsRunTo (s : WatchState) (es : List Event) (m : WatchState) : Type 0 where
   pub turns : List Turned
   pub history : History s turns
   pub are : events turns ≡ es
   pub ends : after_all s turns ≡ m
 
-run_more : (s mid m : State) (es : List Event) (n : ℕ) (told : Option Told) → IsRunTo s es mid → IsHanded n told mid m → IsRunTo s (es ++ known_event n told) m
+run_more : (s mid m : WatchState) (es : List Event) (n : ℕ) (told : Option Told) → IsRunTo s es mid → IsHanded n told mid m → IsRunTo s (es ++ known_event n told) m
 run_more s mid m es n None run handed = record {
   turns = run.turns;
   history = run.history;
@@ -53,12 +53,12 @@ run_more s mid m es n (Some t) run handed =
     let turn : Turned = record { event = Known n t.end t.renewable; result = Ok handed.0; state = m } in
     record {
       turns = run.turns ++ turn ∷ [];
-      history = history_more s run.turns turn run.history (subst (λ (x : State). Turn x turn.event turn.result m) (sym run.ends) handed.1);
+      history = history_more s run.turns turn run.history (subst (λ (x : WatchState). Turn x turn.event turn.result m) (sym run.ends) handed.1);
       are = events_more run.turns turn ∙ ap (λ xs. xs ++ turn.event ∷ []) run.are;
       ends = after_more s run.turns turn;
     }
 
-run_to : (told : ℕ → Option Told) (s m : State) (n : ℕ) → AreHanded told s n m → IsRunTo s (known_events told n) m
+run_to : (told : ℕ → Option Told) (s m : WatchState) (n : ℕ) → AreHanded told s n m → IsRunTo s (known_events told n) m
 run_to told s m zero handed = record { turns = []; history = tt; are = refl; ends = sym handed }
 run_to told s m (suc n) handed = subst (λ es. IsRunTo s es m) (known_more told n) (run_more s handed.0 m (known_events told n) n (told n) (run_to told s handed.0 n handed.1.0) handed.1.1)
 

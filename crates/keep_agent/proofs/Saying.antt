@@ -6,7 +6,7 @@ use Rattle.std.proofs.lemmas.List.{append-nil, get_or_past, get_or-set_other, le
 use Rattle.std.proofs.lemmas.List.FromFn.{get_or-map-range_with_len, length-map-range_with_len, map-range_with_len_more}
 use Rattle.std.specs.List.{range_with_len}
 use Rattle.keep_tree.proofs.Ranges.{range_more}
-use Rattle.watch_machine.specs.State.{State, track_at}
+use Rattle.watch_machine.specs.State.{WatchState, track_at}
 use Rattle.keep_agent.specs.declared.shorts.Short.{Short}
 use Rattle.keep_agent.specs.declared.standing.Standing.{Standing}
 use Rattle.keep_agent.specs.Agent.{Agent, Believes, IsAgent, IsStanding}
@@ -42,11 +42,11 @@ news_more f n =
 
 -- ---- what is said leaves what was told
 
-said_told : (m : State) (i : ℕ) (x : Standing) → (said_standing m i x).told ≡ x.told
+said_told : (m : WatchState) (i : ℕ) (x : Standing) → (said_standing m i x).told ≡ x.told
 unfolding said_standing
 said_told m i x = refl
 
-all_told : (m : State) (xs : List Standing) (i : ℕ) → (standing_in (said_standings m xs) i).told ≡ (standing_in xs i).told
+all_told : (m : WatchState) (xs : List Standing) (i : ℕ) → (standing_in (said_standings m xs) i).told ≡ (standing_in xs i).told
 unfolding said_standings
 all_told m xs i =
     let f : ℕ → Standing = λ j. said_standing m j (standing_in xs j) in
@@ -57,7 +57,7 @@ all_told m xs i =
           ap (λ (x : Standing). x.told) (get_or_past (map f (range_with_len 0 (length xs))) i fresh_standing (omega (arith, past, count)) ∙ sym (get_or_past xs i fresh_standing past))
     ]
 
-said_count : (m : State) (xs : List Standing) → length (said_standings m xs) ≡ length xs
+said_count : (m : WatchState) (xs : List Standing) → length (said_standings m xs) ≡ length xs
 unfolding said_standings
 said_count m xs = length-map-range_with_len (λ j. said_standing m j (standing_in xs j)) 0 (length xs)
 

@@ -3,7 +3,7 @@ use Rattle.std.proofs.Common.{◌≡◌, ◌∙◌, ℕ, zero, suc, ◌+◌, ◌
 use Rattle.std.proofs.lemmas.Bool.{cases_eq}
 use Rattle.std.proofs.lemmas.List.{get_or-set_other, get_or-set_same, length-set}
 use Rattle.std.specs.Prelude.{slice_set}
-use Rattle.keep_inventory.specs.Inventories.{Inventory, with_need}
+use Rattle.keep_inventory.specs.Inventories.{Inventory, inventory_with_need}
 use Rattle.keep_tree.specs.declared.forest.TheConstants.{END_MAX}
 use Rattle.watch_machine.specs.declared.command.Output.{Output}
 use Rattle.watch_machine.specs.declared.event.Event.{Event}
@@ -14,11 +14,11 @@ use Rattle.watch_machine.specs.declared.event.Terms.{Terms}
 use Rattle.watch_machine.specs.declared.track.End.TheVariants.{At}
 use Rattle.watch_machine.specs.declared.track.Track.{Track}
 use Rattle.watch_machine.specs.History.{Turn}
-use Rattle.watch_machine.specs.State.{State, track_at}
+use Rattle.watch_machine.specs.State.{WatchState, track_at}
 use Rattle.keep_agent.specs.declared.standing.Standing.{Standing}
 use Rattle.keep_agent.specs.Agent.{Agent, Believes, IsAgent, IsStanding}
 use Rattle.keep_agent.specs.Standings.{fresh_standing, known_standing, standing_in, standings_after, told_of}
-use Rattle.keep_agent.specs.Turns.{IsTaken, inventory_after}
+use Rattle.keep_agent.specs.Turns.{EventIsTaken, inventory_after}
 use Rattle.keep_agent.proofs.Left.{IsLeft, TellsOf, known_track, left_turn}
 use Rattle.keep_agent.proofs.Believing.{still_believed, told_believed}
 use Rattle.keep_agent.proofs.Within.{taken_within}
@@ -35,7 +35,7 @@ set_told (x ∷ xs) (suc j) y made (suc i) = set_told xs j y made i
 other_told : (xs : List Standing) (j : ℕ) (y : Standing) (i : ℕ) → (i ≡ j → ⊥) → (standing_in (slice_set xs j y) i).told ≡ (standing_in xs i).told
 other_told xs j y i other = ap (λ (x : Standing). x.told) (get_or-set_other xs j i y fresh_standing other)
 
-told_same : (m : State) (event : Event) (xs : List Standing) (i : ℕ) → (TellsOf event i → ⊥) → (standing_in (standings_after m event xs) i).told ≡ (standing_in xs i).told
+told_same : (m : WatchState) (event : Event) (xs : List Standing) (i : ℕ) → (TellsOf event i → ⊥) → (standing_in (standings_after m event xs) i).told ≡ (standing_in xs i).told
 told_same m (Clock wall elapsed) xs i other = refl
 told_same m (Looked j (Told seconds renewable date) terms) xs i other = other_told xs j _ i other
 told_same m (Looked j (Refused status date) terms) xs i other = set_told xs j _ refl i
@@ -51,16 +51,16 @@ told_same m (Known j end renewable) xs i other = other_told xs j _ i other
 
 -- ---- what is believed after a turn
 
-abbrev pub Believed : State → List Standing → ℕ → Type 0
+abbrev pub Believed : WatchState → List Standing → ℕ → Type 0
 Believed m xs i = Believes (track_at m i).end (track_at m i).renewable (standing_in xs i).told
 
 -- of an entry of which nothing is told
-rest_believed : (old new : State) (event : Event) (xs : List Standing) (i : ℕ) → IsLeft old event new → (TellsOf event i → ⊥) → Believed old xs i → Believed new (standings_after new event xs) i
+rest_believed : (old new : WatchState) (event : Event) (xs : List Standing) (i : ℕ) → IsLeft old event new → (TellsOf event i → ⊥) → Believed old xs i → Believed new (standings_after new event xs) i
 rest_believed old new event xs i left other h =
     subst (λ t. Believes (track_at new i).end (track_at new i).renewable t) (sym (told_same new event xs i other)) (still_believed (track_at new i) (track_at old i) _ (left.words i other) h)
 
 -- of one of which a standing says what was told just now
-own_believed : (new : State) (xs : List Standing) (j : ℕ) (y : Standing) → new.clocks.phase < 1000 → j < length xs → y.told ≡ told_of new j → Believed new (slice_set xs j y) j
+own_believed : (new : WatchState) (xs : List Standing) (j : ℕ) (y : Standing) → new.clocks.phase < 1000 → j < length xs → y.told ≡ told_of new j → Believed new (slice_set xs j y) j
 own_believed new xs j y below within is =
     subst (λ t. Believes (track_at new j).end (track_at new j).renewable t) (sym (ap (λ (x : Standing). x.told) (get_or-set_same xs j y fresh_standing within) ∙ is)) (told_believed new j below)
 
@@ -68,14 +68,14 @@ known_believed : (x : Track) (end : ℕ) (renewable : Bool) → x.end ≡ At (mi
 known_believed x end renewable is says =
     subst (λ e. Believes e x.renewable (Some (record { end = min END_MAX end; renewable = renewable }))) (sym is) (omega arith, (omega arith, says))
 
-one_or_other : (old new : State) (event : Event) (xs : List Standing) (j i : ℕ) → IsLeft old event new → ((i ≡ j → ⊥) → TellsOf event i → ⊥) → Believed new (standings_after new event xs) j → Believed old xs i → Believed new (standings_after new event xs) i
+one_or_other : (old new : WatchState) (event : Event) (xs : List Standing) (j i : ℕ) → IsLeft old event new → ((i ≡ j → ⊥) → TellsOf event i → ⊥) → Believed new (standings_after new event xs) j → Believed old xs i → Believed new (standings_after new event xs) i
 one_or_other old new event xs j i left others own h =
     elim (cases_eq i j) [
       | inl same ↦ subst (λ k. Believed new (standings_after new event xs) k) (sym same) own
       | inr other ↦ rest_believed old new event xs i left (others other) h
     ]
 
-turn_believed : (old new : State) (event : Event) (output : Output) (xs : List Standing) → length xs ≡ length old.forest.entries → length old.tracks ≡ length old.forest.entries → old.clocks.phase < 1000 →
+turn_believed : (old new : WatchState) (event : Event) (output : Output) (xs : List Standing) → length xs ≡ length old.forest.entries → length old.tracks ≡ length old.forest.entries → old.clocks.phase < 1000 →
     Turn old event (Ok output) new → (i : ℕ) → Believed old xs i → Believed new (standings_after new event xs) i
 turn_believed old new (Clock wall elapsed) output xs few tracked below turn i h = rest_believed old new (Clock wall elapsed) xs i (left_turn old new (Clock wall elapsed) output turn) (λ no. no) h
 turn_believed old new (Looked j (Told seconds renewable date) terms) output xs few tracked below turn i h =
@@ -108,7 +108,7 @@ turn_believed old new (Known j end renewable) output xs few tracked below turn i
 
 -- ---- the counts
 
-standings_count : (m : State) (event : Event) (xs : List Standing) → length (standings_after m event xs) ≡ length xs
+standings_count : (m : WatchState) (event : Event) (xs : List Standing) → length (standings_after m event xs) ≡ length xs
 standings_count m (Clock wall elapsed) xs = refl
 standings_count m (Looked j reply terms) xs = length-set xs j _
 standings_count m (Renewed j reply) xs = length-set xs j _
@@ -116,8 +116,8 @@ standings_count m (Need j until) xs = refl
 standings_count m Begin xs = refl
 standings_count m (Known j end renewable) xs = length-set xs j _
 
-with_need_count : (s : Inventory) (i need : ℕ) → length (with_need s i need).forest.entries ≡ length s.forest.entries
-unfolding with_need
+with_need_count : (s : Inventory) (i need : ℕ) → length (inventory_with_need s i need).forest.entries ≡ length s.forest.entries
+unfolding inventory_with_need
 with_need_count s i need = length-set s.forest.entries i _
 
 inventory_count : (event : Event) (s : Inventory) → length (inventory_after event s).forest.entries ≡ length s.forest.entries
@@ -128,7 +128,7 @@ inventory_count (Need j until) s = with_need_count s j _
 inventory_count Begin s = refl
 inventory_count (Known j end renewable) s = refl
 
-pub turned_is_agent : (old new : Agent) (event : Event) (output : Output) → IsAgent old → IsTaken old event output new → All IsStanding new.standings → IsAgent new
+pub turned_is_agent : (old new : Agent) (event : Event) (output : Output) → IsAgent old → EventIsTaken old event output new → All IsStanding new.standings → IsAgent new
 turned_is_agent old new event output agent taken bounded =
     let left = left_turn old.machine new.machine event output taken.machine in
     let same : length new.inventory.forest.entries ≡ length old.inventory.forest.entries = ap (λ (s : Inventory). length s.forest.entries) taken.inventory ∙ inventory_count event old.inventory in

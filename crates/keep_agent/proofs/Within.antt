@@ -4,11 +4,11 @@ use Rattle.watch_machine.specs.declared.event.Event.{Event}
 use Rattle.watch_machine.specs.declared.event.Event.TheVariants.{Clock, Looked, Renewed, Need, Begin, Known}
 use Rattle.watch_machine.specs.declared.event.Operation.TheVariants.{Look, Renew}
 use Rattle.watch_machine.specs.Refusal.{refusal, request_out, unless_some}
-use Rattle.watch_machine.specs.State.{State}
-use Rattle.keep_agent.specs.code.Within.{IsWithin}
+use Rattle.watch_machine.specs.State.{WatchState}
+use Rattle.keep_agent.specs.code.Within.{IsEventWithin}
 use Rattle.keep_agent.proofs.Left.{by_index}
 
-pub taken_within : (s : State) (event : Event) → refusal s event ≡ None → IsWithin (length s.forest.entries) event
+pub taken_within : (s : WatchState) (event : Event) → refusal s event ≡ None → IsEventWithin (length s.forest.entries) event
 unfolding refusal
 taken_within s (Clock wall elapsed) free = tt
 taken_within s (Looked i reply terms) free = by_index s i (unless_some (request_out s.out i Look)) free

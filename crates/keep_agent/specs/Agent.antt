@@ -7,7 +7,7 @@ use Rattle.keep_tree.specs.declared.forest.TheConstants.{END_MAX}
 use Rattle.watch_machine.specs.declared.track.End.{End}
 use Rattle.watch_machine.specs.declared.track.End.TheVariants.{Unknown, At, Never}
 use Rattle.watch_machine.specs.declared.track.Track.{Track}
-use Rattle.watch_machine.specs.State.{State, opened, track_at}
+use Rattle.watch_machine.specs.State.{WatchState, opened, track_at}
 use Rattle.keep_agent.specs.declared.standing.Standing.{Standing}
 use Rattle.keep_agent.specs.declared.standing.Told.{Told}
 use Rattle.keep_agent.specs.Standings.{fresh_standing, standing_in}
@@ -15,7 +15,7 @@ use Rattle.keep_agent.specs.Standings.{fresh_standing, standing_in}
 -- the Watch over what is served; what is served, with its credentials and its needs as they were given last; what is said of each
 -- entry; and how often everything was looked up anew
 pub record Agent : Type 0 where
-  pub machine : State
+  pub machine : WatchState
   pub inventory : Inventory
   pub standings : List Standing
   pub beginnings : ℕ

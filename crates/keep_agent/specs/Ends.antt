@@ -35,17 +35,17 @@ is_word w = is_credential w
 abbrev pub renewable_of : List ℕ → Option Bool
 renewable_of word = if bytes_eq word (codes "yes") then Some true else (if bytes_eq word (codes "no") then Some false else None)
 
-abbrev pub told_by : Option ℕ → Option Bool → Option Told
-told_by None renewable = None
-told_by (Some end) None = None
-told_by (Some end) (Some renewable) = Some (record { end = end; renewable = renewable })
+abbrev pub told_by_words : Option ℕ → Option Bool → Option Told
+told_by_words None renewable = None
+told_by_words (Some end) None = None
+told_by_words (Some end) (Some renewable) = Some (record { end = end; renewable = renewable })
 
 unfoldable pub told_of_words : List ℕ → List ℕ → Option Told
-told_of_words end renewable = told_by (number_up_to END_MAX end) (renewable_of renewable)
+told_of_words end renewable = told_by_words (number_up_to END_MAX end) (renewable_of renewable)
 
-abbrev pub known_by : List ℕ → List ℕ → List ℕ → Option Told → Option KnownEnd
-known_by name fingerprint boot None = None
-known_by name fingerprint boot (Some told) =
+abbrev pub known_end_by : List ℕ → List ℕ → List ℕ → Option Told → Option KnownEnd
+known_end_by name fingerprint boot None = None
+known_end_by name fingerprint boot (Some told) =
     if is_name name && (is_word fingerprint && is_word boot) then Some (record { name = name; fingerprint = fingerprint; boot = boot; told = told }) else None
 
 abbrev pub five : List (List ℕ) → Option (List ℕ × List ℕ × List ℕ × List ℕ × List ℕ)
@@ -54,7 +54,7 @@ five ws = None
 
 -- the end that a line keeps
 unfoldable pub end_of_text : List ℕ → Option KnownEnd
-end_of_text text = elim (five (words text)) [ None ↦ None | Some w ↦ known_by w.0 w.3 w.4 (told_of_words w.1 w.2) ]
+end_of_text text = elim (five (words text)) [ None ↦ None | Some w ↦ known_end_by w.0 w.3 w.4 (told_of_words w.1 w.2) ]
 
 -- one that was told in another boot is worth nothing
 abbrev pub in_boot : List ℕ → Option KnownEnd → Option KnownEnd
@@ -73,16 +73,16 @@ pub record IsKnownEnd (k : KnownEnd) : Type 0 where
 -- ---- laws: each is the contract of a public function without a body
 
 -- the text of an end is read as that end
-abbrev pub WrittenIsRead : Type 0
-WrittenIsRead = (k : KnownEnd) → IsKnownEnd k → end_of_text (end_text k) ≡ Some k
+abbrev pub EndWrittenIsRead : Type 0
+EndWrittenIsRead = (k : KnownEnd) → IsKnownEnd k → end_of_text (end_text k) ≡ Some k
 
 -- and no other text is
-abbrev pub ReadIsWritten : Type 0
-ReadIsWritten = (text : List ℕ) (k : KnownEnd) → end_of_text text ≡ Some k → IsKnownEnd k × (text ≡ end_text k)
+abbrev pub EndReadIsWritten : Type 0
+EndReadIsWritten = (text : List ℕ) (k : KnownEnd) → end_of_text text ≡ Some k → IsKnownEnd k × (text ≡ end_text k)
 
 -- no line feed stands in it
-abbrev pub LineLaw : Type 0
-LineLaw = (k : KnownEnd) → IsKnownEnd k → Lacks 10 (end_text k)
+abbrev pub EndLineLaw : Type 0
+EndLineLaw = (k : KnownEnd) → IsKnownEnd k → Lacks 10 (end_text k)
 
 -- in another boot it is worth nothing
 abbrev pub BootLaw : Type 0

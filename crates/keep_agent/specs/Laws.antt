@@ -8,11 +8,11 @@ use Rattle.watch_machine.specs.declared.event.Event.{Event}
 use Rattle.watch_machine.specs.declared.event.Event.TheVariants.{Known}
 use Rattle.watch_machine.specs.declared.track.End.{End}
 use Rattle.watch_machine.specs.declared.track.End.TheVariants.{Unknown, At, Never}
-use Rattle.watch_machine.specs.History.{IsRun, Turned}
-use Rattle.watch_machine.specs.State.{State, fresh_track, opened, track_at}
+use Rattle.watch_machine.specs.History.{IsWatchRun, Turned, after_all}
+use Rattle.watch_machine.specs.State.{fresh_track, opened, track_at}
 use Rattle.keep_agent.specs.declared.standing.Told.{Told}
 use Rattle.keep_agent.specs.Agent.{Agent, IsAgent, standing_at}
-use Rattle.keep_agent.specs.Rebuilding.{IsRebuilt, carried_told, former}
+use Rattle.keep_agent.specs.Rebuilding.{AgentIsRebuilt, carried_told, former}
 use Rattle.keep_agent.specs.Standings.{fresh_standing}
 
 -- an end that was believed is believed again, in whole seconds: a second earlier at most, and never later; none is unknown
@@ -25,7 +25,7 @@ IsBelievedAgain Never new = new ≡ Unknown
 -- believes the end that it believed, and the word on renewal that came with it
 abbrev pub RememberedLaw : Type 0
 RememberedLaw =
-    (old new : Agent) (s : Inventory) (width : ℕ) → IsAgent old → IsRebuilt old s width new → (i j : ℕ) → j < length s.forest.entries → former old.inventory s j ≡ Some i →
+    (old new : Agent) (s : Inventory) (width : ℕ) → IsAgent old → AgentIsRebuilt old s width new → (i j : ℕ) → j < length s.forest.entries → former old.inventory s j ≡ Some i →
     (standing_at new j ≡ standing_at old i)
     × (IsBelievedAgain (track_at old.machine i).end (track_at new.machine j).end
     × ((end : ℕ) → (track_at old.machine i).end ≡ At end → (track_at new.machine j).renewable ≡ (track_at old.machine i).renewable))
@@ -33,7 +33,7 @@ RememberedLaw =
 -- and of any other entry nothing is said, and nothing is believed that a lookup has not told
 abbrev pub FreshLaw : Type 0
 FreshLaw =
-    (old new : Agent) (s : Inventory) (width : ℕ) → IsRebuilt old s width new → (j : ℕ) → j < length s.forest.entries → former old.inventory s j ≡ None →
+    (old new : Agent) (s : Inventory) (width : ℕ) → AgentIsRebuilt old s width new → (j : ℕ) → j < length s.forest.entries → former old.inventory s j ≡ None →
     (standing_at new j ≡ fresh_standing) × (track_at new.machine j ≡ fresh_track (entry_at s.forest.entries j))
 
 -- ---- the Watch of an agent that is rebuilt
@@ -47,15 +47,10 @@ known_event j (Some t) = Known j t.end t.renewable ∷ []
 abbrev pub known_events : (ℕ → Option Told) → ℕ → List Event
 known_events told n = flat_map (λ j. known_event j (told j)) (range_with_len 0 n)
 
--- the state after all turns of a run
-abbrev pub after_all : State → List Turned → State
-after_all m [] = m
-after_all m (turn ∷ turns) = after_all turn.state turns
-
 -- the Watch of an agent that is rebuilt is one that was handed these events, and no other, from its making on: so whatever holds of
 -- every run of a Watch holds of it
 abbrev pub RunLaw : Type 0
 RunLaw =
-    (old new : Agent) (s : Inventory) (width : ℕ) → IsRebuilt old s width new →
+    (old new : Agent) (s : Inventory) (width : ℕ) → AgentIsRebuilt old s width new →
     (turns : List Turned)
-    × (IsRun s.forest width turns × ((map (λ (turn : Turned). turn.event) turns ≡ known_events (carried_told old s) (length s.forest.entries)) × (after_all (opened s.forest width) turns ≡ new.machine)))
+    × (IsWatchRun s.forest width turns × ((map (λ (turn : Turned). turn.event) turns ≡ known_events (carried_told old s) (length s.forest.entries)) × (after_all (opened s.forest width) turns ≡ new.machine)))

@@ -9,7 +9,7 @@ use Rattle.keep_tree.specs.Forest.{entry_at, index_named}
 use Rattle.watch_machine.specs.declared.command.Output.{Output}
 use Rattle.watch_machine.specs.declared.event.Event.TheVariants.{Known}
 use Rattle.watch_machine.specs.History.{Turn}
-use Rattle.watch_machine.specs.State.{State, opened}
+use Rattle.watch_machine.specs.State.{WatchState, opened}
 use Rattle.keep_agent.specs.declared.standing.Standing.{Standing}
 use Rattle.keep_agent.specs.declared.standing.Told.{Told}
 use Rattle.keep_agent.specs.Agent.{Agent, standing_at}
@@ -46,18 +46,18 @@ abbrev pub carried_told : Agent → Inventory → ℕ → Option Told
 carried_told a t j = (carried_standing a t j).told
 
 -- an end that was told is handed to a machine, where there is one
-abbrev pub IsHanded : ℕ → Option Told → State → State → Type 0
+abbrev pub IsHanded : ℕ → Option Told → WatchState → WatchState → Type 0
 IsHanded i None old new = new ≡ old
 IsHanded i (Some t) old new = (output : Output) × Turn old (Known i t.end t.renewable) (Ok output) new
 
 -- the ends of the first n entries are, one after another
-abbrev pub AreHanded : (ℕ → Option Told) → State → ℕ → State → Type 0
+abbrev pub AreHanded : (ℕ → Option Told) → WatchState → ℕ → WatchState → Type 0
 AreHanded told old zero new = new ≡ old
-AreHanded told old (suc n) new = (mid : State) × (AreHanded told old n mid × IsHanded n (told n) mid new)
+AreHanded told old (suc n) new = (mid : WatchState) × (AreHanded told old n mid × IsHanded n (told n) mid new)
 
 -- the agent that serves another inventory from now on: its Watch is a new one, which is handed what was told of each entry that was
 -- served before with the same credential, and nothing else; what is said of these stands
-pub record IsRebuilt (old : Agent) (s : Inventory) (width : ℕ) (new : Agent) : Type 0 where
+pub record AgentIsRebuilt (old : Agent) (s : Inventory) (width : ℕ) (new : Agent) : Type 0 where
   pub inventory : new.inventory ≡ s
   pub standings : new.standings ≡ map (carried_standing old s) (range_with_len 0 (length s.forest.entries))
   pub machine : AreHanded (carried_told old s) (opened s.forest width) (length s.forest.entries) new.machine

@@ -10,7 +10,7 @@ use Rattle.watch_machine.specs.declared.event.Reply.{Reply}
 use Rattle.watch_machine.specs.declared.event.Reply.TheVariants as replies
 use Rattle.watch_machine.specs.declared.track.End.{End}
 use Rattle.watch_machine.specs.declared.track.End.TheVariants.{Unknown, At, Never}
-use Rattle.watch_machine.specs.State.{State, track_at}
+use Rattle.watch_machine.specs.State.{WatchState, track_at}
 use Rattle.keep_agent.specs.declared.standing.Standing.{Standing}
 use Rattle.keep_agent.specs.declared.standing.Told.{Told}
 use Rattle.keep_agent.specs.declared.standing.Trouble.{Trouble}
@@ -29,16 +29,16 @@ abbrev pub more : ℕ → ℕ
 more n = min (n + 1) 18446744073709551615
 
 -- a second of the machine's clock in whole seconds of the clock that is handed in, never later
-abbrev pub handed : Clocks → ℕ → ℕ
-handed c second = (second * 1000 - c.phase) / 1000
+abbrev pub handed_second : Clocks → ℕ → ℕ
+handed_second c second = (second * 1000 - c.phase) / 1000
 
 -- the end that a machine believes, where it is a moment, and its word on renewal
 abbrev pub told_end : Clocks → Bool → End → Option Told
 told_end c renewable Unknown = None
-told_end c renewable (At end) = Some (record { end = handed c end; renewable = renewable })
+told_end c renewable (At end) = Some (record { end = handed_second c end; renewable = renewable })
 told_end c renewable Never = None
 
-abbrev pub told_of : State → ℕ → Option Told
+abbrev pub told_of : WatchState → ℕ → Option Told
 told_of m i = told_end m.clocks (track_at m i).renewable (track_at m i).end
 
 -- a trouble more: what is gone stays gone until it is told of
@@ -49,14 +49,14 @@ troubled (Some Refused) t = Some t
 troubled (Some Gone) t = Some Gone
 
 -- the standing of an entry after the answer to its lookup, in the machine after it
-abbrev pub looked_standing : State → ℕ → Reply → Standing → Standing
+abbrev pub looked_standing : WatchState → ℕ → Reply → Standing → Standing
 looked_standing m i (replies.Told seconds renewable date) x = record x { told = told_of m i; trouble = None }
 looked_standing m i (replies.Refused status date) x = record x { trouble = Some Gone }
 looked_standing m i replies.Busy x = record x { trouble = troubled x.trouble Lost }
 looked_standing m i replies.Lost x = record x { trouble = troubled x.trouble Lost }
 
 -- and after the answer to its renewal
-abbrev pub renewed_standing : State → ℕ → Reply → Standing → Standing
+abbrev pub renewed_standing : WatchState → ℕ → Reply → Standing → Standing
 renewed_standing m i (replies.Told seconds renewable date) x =
     record x { told = told_of m i; trouble = None; granted_at = Some (m.clocks.at - m.clocks.phase); granted = more x.granted }
 renewed_standing m i (replies.Refused status date) x = record x { trouble = troubled x.trouble Refused; refused = more x.refused }
@@ -68,7 +68,7 @@ abbrev pub known_standing : ℕ → Bool → Standing → Standing
 known_standing end renewable x = record x { told = Some (record { end = min END_MAX end; renewable = renewable }) }
 
 -- the standings after an event, in the machine after it: only that of its own entry is another
-abbrev pub standings_after : State → Event → List Standing → List Standing
+abbrev pub standings_after : WatchState → Event → List Standing → List Standing
 standings_after m (Clock wall elapsed) xs = xs
 standings_after m (Looked i reply terms) xs = slice_set xs i (looked_standing m i reply (standing_in xs i))
 standings_after m (Renewed i reply) xs = slice_set xs i (renewed_standing m i reply (standing_in xs i))

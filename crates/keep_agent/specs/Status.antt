@@ -4,7 +4,7 @@ use Rattle.std.specs.Prelude.{ℕ, ◌+◌, Bool, true, false, ◌&&◌, ◌||�
 use Rattle.watch_machine.specs.declared.track.End.{End}
 use Rattle.watch_machine.specs.declared.track.End.TheVariants.{Unknown, At, Never}
 use Rattle.watch_machine.specs.Outlook.{broker_moment}
-use Rattle.watch_machine.specs.State.{State, entry_of, second, track_at}
+use Rattle.watch_machine.specs.State.{WatchState, entry_of, second, track_at}
 use Rattle.watch_machine.specs.Wanted.{is_unknown}
 use Rattle.keep_agent.specs.declared.standing.Trouble.{Trouble}
 use Rattle.keep_agent.specs.declared.standing.Trouble.TheVariants as troubles
@@ -13,13 +13,13 @@ use Rattle.keep_agent.specs.declared.status.Status.{Status}
 use Rattle.keep_agent.specs.Agent.{Agent, standing_at}
 
 -- the moment of an end by the broker's clock, where it is known
-abbrev pub end_there : State → End → Option ℕ
+abbrev pub end_there : WatchState → End → Option ℕ
 end_there m Unknown = None
 end_there m (At end) = Some (broker_moment m end)
 end_there m Never = None
 
 -- it is past
-abbrev pub has_ended : State → End → Bool
+abbrev pub has_ended : WatchState → End → Bool
 has_ended m Unknown = false
 has_ended m (At end) = nat_le end (second m)
 has_ended m Never = false
@@ -46,11 +46,11 @@ alive_status need end trying (Some reach) = record { condition = Short; end = en
 
 -- the gravest that applies: the broker does not know the entry; its end is past; it is not kept as long as it is needed; a request of it
 -- failed, or nothing is known of it yet. And until when its need can be kept, 0 where it is gone or has ended
-unfoldable pub status_by : State → ℕ → End → Option Trouble → Option ℕ → Status
+unfoldable pub status_by : WatchState → ℕ → End → Option Trouble → Option ℕ → Status
 status_by m need end trouble short =
     if is_gone trouble then record { condition = Gone; end = end_there m end; in_force = 0 }
     else (if has_ended m end then record { condition = Ended; end = end_there m end; in_force = 0 }
     else alive_status need (end_there m end) (is_some trouble || is_unknown end) (reach_in_force need (end_there m end) short))
 
-abbrev pub status_of : Agent → ℕ → Status
-status_of a i = status_by a.machine (entry_of a.machine i).need (track_at a.machine i).end (standing_at a i).trouble (standing_at a i).short
+abbrev pub status_of_entry : Agent → ℕ → Status
+status_of_entry a i = status_by a.machine (entry_of a.machine i).need (track_at a.machine i).end (standing_at a i).trouble (standing_at a i).short

@@ -1,7 +1,7 @@
 -- Turns: what an event gives, and what becomes of the agent.
 -- Source: this project's own.
 use Rattle.std.specs.Prelude.{◌≡◌, ℕ, List, Option, Some, None, Result, Ok, Err, min}
-use Rattle.keep_inventory.specs.Inventories.{Inventory, with_need}
+use Rattle.keep_inventory.specs.Inventories.{Inventory, inventory_with_need}
 use Rattle.keep_moment.specs.declared.moment.TheConstants.{LAST}
 use Rattle.watch_machine.specs.declared.command.Output.{Output}
 use Rattle.watch_machine.specs.declared.event.Event.{Event}
@@ -17,7 +17,7 @@ abbrev pub inventory_after : Event → Inventory → Inventory
 inventory_after (Clock wall elapsed) s = s
 inventory_after (Looked i reply terms) s = s
 inventory_after (Renewed i reply) s = s
-inventory_after (Need i until) s = with_need s i (min LAST until)
+inventory_after (Need i until) s = inventory_with_need s i (min LAST until)
 inventory_after Begin s = s
 inventory_after (Known i end renewable) s = s
 
@@ -27,7 +27,7 @@ beginnings_after None n = n
 beginnings_after (Some why) n = more n
 
 -- the machine takes the event in a turn of its own, and everything else follows it
-pub record IsTaken (old : Agent) (event : Event) (output : Output) (new : Agent) : Type 0 where
+pub record EventIsTaken (old : Agent) (event : Event) (output : Output) (new : Agent) : Type 0 where
   pub machine : Turn old.machine event (Ok output) new.machine
   pub inventory : new.inventory ≡ inventory_after event old.inventory
   pub standings : new.standings ≡ standings_after new.machine event old.standings
@@ -35,5 +35,5 @@ pub record IsTaken (old : Agent) (event : Event) (output : Output) (new : Agent)
 
 -- what an event gives: that; or what the machine refuses or has no memory for, which leaves all as it was
 abbrev pub AgentTurn : Agent → Event → Result Output WatchFault → Agent → Type 0
-AgentTurn old event (Ok output) new = IsTaken old event output new
+AgentTurn old event (Ok output) new = EventIsTaken old event output new
 AgentTurn old event (Err fault) new = Turn old.machine event (Err fault) old.machine × (new ≡ old)

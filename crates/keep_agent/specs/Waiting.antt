@@ -9,6 +9,6 @@ changed None now = Some now
 changed (Some first) now = Some first
 
 -- the first came five seconds ago
-abbrev pub is_due : Option ℕ → ℕ → Bool
-is_due None now = false
-is_due (Some first) now = nat_le (first + TOGETHER) now
+abbrev pub is_rebuilding_due : Option ℕ → ℕ → Bool
+is_rebuilding_due None now = false
+is_rebuilding_due (Some first) now = nat_le (first + TOGETHER) now

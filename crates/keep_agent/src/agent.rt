@@ -2,7 +2,7 @@
 ghost use Rattle.std.specs.Prelude.{◌≡◌, ◌<◌, IfErr, IfOk, length, replicate};
 ghost use Rattle.keep_agent.specs.Agent.{IsAgent, IsStanding, fresh, standing_at};
 ghost use Rattle.keep_agent.specs.Standings.{fresh_standing};
-ghost use Rattle.watch_machine.specs.Outlook.{IsNext};
+ghost use Rattle.watch_machine.specs.Outlook.{IsNextTime};
 ghost use Rattle.watch_machine.specs.declared.fault.WatchFault.TheVariants.{OutOfMemory};
 
 use crate::standing::Standing;
@@ -96,7 +96,7 @@ impl Agent {
     /// The first time of the entries that are wanted and whose end is ahead, `None` where there is none. The only error is want of
     /// memory.
     pub fn next(&mut self, alloc: Global) -> Result<Option<Next>, WatchFault>
-        ensures next { IfOk result (λ next. IsNext self.old.machine next) }
+        ensures next { IfOk result (λ next. IsNextTime self.old.machine next) }
         ensures refused { IfErr result (λ fault. fault ≡ OutOfMemory) }
         ensures unchanged { self.new ≡ self.old }
     {

@@ -5,7 +5,7 @@ ghost use Rattle.std.specs.List.{list_all};
 ghost use Rattle.std.specs.Option.{option_map};
 ghost use Rattle.keep_words.specs.Pieces.{words};
 ghost use Rattle.keep_tree.specs.Push.{is_name, is_name_byte};
-ghost use Rattle.keep_agent.specs.Ends.{end_of_text, end_text, five, in_boot, is_word, known_by, renewable_of, told_of_words, yes_or_no};
+ghost use Rattle.keep_agent.specs.Ends.{end_of_text, end_text, five, in_boot, is_word, known_end_by, renewable_of, told_of_words, yes_or_no};
 
 use crate::standing::Told;
 use keep_inventory::CREDENTIAL_MAX;

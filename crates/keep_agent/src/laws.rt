@@ -1,4 +1,4 @@
-ghost use Rattle.keep_agent.specs.Ends.{BootLaw, LineLaw, ReadIsWritten, WrittenIsRead};
+ghost use Rattle.keep_agent.specs.Ends.{BootLaw, EndLineLaw, EndReadIsWritten, EndWrittenIsRead};
 ghost use Rattle.keep_agent.specs.Laws.{FreshLaw, RememberedLaw, RunLaw};
 
 /// The law that nothing is forgotten over a change. After a rebuilding, what was said of an entry that was served before with the same
@@ -18,8 +18,8 @@ pub fn a_rebuilding_is_a_run()
 /// The laws of ends that are kept over a restart: the text of an end is read as that end, no other text is read as it, it is one line,
 /// and it is worth nothing in another boot.
 pub fn ends_are_read_back()
-    ensures found { WrittenIsRead }
-    ensures only { ReadIsWritten }
-    ensures line { LineLaw }
+    ensures found { EndWrittenIsRead }
+    ensures only { EndReadIsWritten }
+    ensures line { EndLineLaw }
     ensures boot { BootLaw }
 {}

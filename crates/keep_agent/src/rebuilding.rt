@@ -2,7 +2,7 @@
 ghost use Rattle.std.specs.Prelude.{◌≡◌, ◌<◌, IfErr, IfOk, IfSome, OnOk, length, map};
 ghost use Rattle.std.specs.List.{All, range_with_len};
 ghost use Rattle.keep_agent.specs.Agent.{IsStanding};
-ghost use Rattle.keep_agent.specs.Rebuilding.{AreHanded, IsHanded, IsRebuilt, carried_standing, former, is_same_entry, is_same_kind};
+ghost use Rattle.keep_agent.specs.Rebuilding.{AgentIsRebuilt, AreHanded, IsHanded, carried_standing, former, is_same_entry, is_same_kind};
 ghost use Rattle.keep_agent.specs.Standings.{standing_in};
 ghost use Rattle.watch_machine.specs.declared.fault.WatchFault.TheVariants.{OutOfMemory};
 
@@ -25,7 +25,7 @@ impl Agent {
         inventory: Inventory,
         width: u32,
     ) -> Result<Agent, WatchFault>
-        ensures rebuilt { IfOk result (λ agent. IsRebuilt self.now inventory width agent) }
+        ensures rebuilt { IfOk result (λ agent. AgentIsRebuilt self.now inventory width agent) }
         ensures refused { IfErr result (λ fault. fault ≡ OutOfMemory) }
     {
         let forest = inventory.forest().copy()?;

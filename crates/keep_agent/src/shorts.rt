@@ -2,7 +2,8 @@
 ghost use Rattle.std.specs.Prelude.{◌≡◌, ◌<◌, ◌++◌, IfOk, OnErr, OnOk, length};
 ghost use Rattle.std.specs.List.{All};
 ghost use Rattle.keep_agent.specs.Agent.{IsStanding};
-ghost use Rattle.keep_agent.specs.Shorts.{all_said, is_near, is_news, news_in, said_standing, said_standings, short_at, shorts_in, shorts_of};
+ghost use Rattle.keep_agent.specs.Shorts.{all_said, is_near, news_in, said_standing, said_standings, short_at, shorts_in, shorts_of};
+ghost use Rattle.watch_machine.specs.Shortness.{is_news};
 
 use crate::agent::Agent;
 use crate::standing::Standing;

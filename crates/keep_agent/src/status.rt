@@ -1,6 +1,6 @@
 //! How an entry stands.
 ghost use Rattle.std.specs.Prelude.{◌≡◌, ◌<◌, length};
-ghost use Rattle.keep_agent.specs.Status.{alive_status, end_there, has_ended, is_gone, is_up_to, reach_in_force, status_by, status_of};
+ghost use Rattle.keep_agent.specs.Status.{alive_status, end_there, has_ended, is_gone, is_up_to, reach_in_force, status_by, status_of_entry};
 ghost use Rattle.watch_machine.specs.Wanted.{is_unknown};
 
 use crate::agent::Agent;
@@ -36,7 +36,7 @@ impl Agent {
     /// How the entry at an index stands.
     pub fn status(&self, entry: u32) -> Status
         requires { entry < length self.now.inventory.forest.entries }
-        ensures { result ≡ status_of self.now entry }
+        ensures { result ≡ status_of_entry self.now entry }
     {
         let standing = self.standing(entry);
         let watch = self.watch();

@@ -4,7 +4,7 @@ ghost use Rattle.std.specs.List.{All};
 ghost use Rattle.keep_agent.specs.Agent.{IsStanding};
 ghost use Rattle.keep_agent.specs.Standings.{standings_after};
 ghost use Rattle.keep_agent.specs.Turns.{AgentTurn, beginnings_after, inventory_after};
-ghost use Rattle.keep_agent.specs.code.Within.{IsWithin};
+ghost use Rattle.keep_agent.specs.code.Within.{IsEventWithin};
 ghost use Rattle.watch_machine.specs.Refusal.{refusal};
 ghost use Rattle.watch_machine.specs.declared.fault.WatchFault.{WatchFault};
 
@@ -42,8 +42,8 @@ impl Agent {
 
 /// What is said of the entry of an event that the Watch has taken.
 fn stand(watch: &Watch, standings: &mut [Standing], event: Event)
-    requires within { IsWithin (length standings.old) event }
-    requires watched { IsWithin (length watch.now.forest.entries) event }
+    requires within { IsEventWithin (length standings.old) event }
+    requires watched { IsEventWithin (length watch.now.forest.entries) event }
     requires bounds { All IsStanding standings.old }
     ensures value { standings.new ≡ standings_after watch.now event standings.old }
     ensures bounds { All IsStanding standings.new }
@@ -71,7 +71,7 @@ fn stand(watch: &Watch, standings: &mut [Standing], event: Event)
 
 /// What is served after an event.
 fn set_need(inventory: &mut Inventory, event: Event)
-    requires { IsWithin (length inventory.old.forest.entries) event }
+    requires { IsEventWithin (length inventory.old.forest.entries) event }
     ensures { inventory.new ≡ inventory_after event inventory.old }
 {
     if let Event::Need { entry, until } = event {

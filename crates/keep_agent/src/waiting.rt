@@ -1,6 +1,6 @@
 //! Changes that share one rebuilding.
 ghost use Rattle.std.specs.Prelude.{◌≡◌, None, is_some};
-ghost use Rattle.keep_agent.specs.Waiting.{changed, is_due};
+ghost use Rattle.keep_agent.specs.Waiting.{changed, is_rebuilding_due};
 
 use std::marker::Model;
 use watch_machine::Millis;
@@ -51,7 +51,7 @@ impl Waiting {
 
     /// Whether the rebuilding is due: the first change came five seconds ago.
     pub fn is_due(self, now: Millis) -> bool
-        ensures { result ≡ is_due self now }
+        ensures { result ≡ is_rebuilding_due self now }
     {
         match self.first {
             None => false,

@@ -14,12 +14,12 @@ use Rattle.vault_json.specs.Written.{lease_text, renew_text}
 use Rattle.vault_json.proofs.ReadBack.{lease_body_is_read, renew_body_is_read}
 use Rattle.broker_table.specs.declared.call.Call.TheVariants.{RenewSelf, RenewLease}
 use Rattle.broker_table.specs.Granted.{AsksRenewal, asked_for, bearer_for, call_for}
-use Rattle.broker_table.specs.Request.{a_text, answered, asked, call_of, increment_in, is_write, lease_id_in, of_lease as lease_asked, of_token as token_asked}
-use Rattle.keep_exchange.specs.Requests.{asked_as, request_of}
+use Rattle.broker_table.specs.Request.{a_text, asked, asked_of_lease as lease_asked, asked_of_token as token_asked, call_of, increment_in, is_write, lease_id_in, read_or_none}
+use Rattle.keep_exchange.specs.Requests.{asked_as, renewal_request}
 
 renew_asked : (n : ℕ) → n ≤ 4294967295 → asked RenewSelf (renew_text n) ≡ Some (record { lease_id = None; increment = Some n })
 unfolding asked increment_in
-renew_asked n small = ap (λ a. token_asked (answered a)) (renew_body_is_read n (omega arith))
+renew_asked n small = ap (λ a. token_asked (read_or_none a)) (renew_body_is_read n (omega arith))
 
 utf8_text : (id : List ℕ) → IsUtf8 id → a_text (Some id) ≡ Some id
 utf8_text id utf8 = cond-true (is_utf8 id) (Some id) None (is_utf8-from_IsUtf8 id utf8)
@@ -28,8 +28,8 @@ lease_renew_asked : (id : List ℕ) (n : ℕ) → IsUtf8 id → n ≤ 4294967295
 unfolding asked increment_in lease_id_in
 lease_renew_asked id n utf8 small =
     let read = lease_body_is_read id n utf8 (omega arith) in
-    ap (λ a. lease_asked (a_text (answered a)) (answered (increment_answer (lease_text id n)))) read.0
-    ∙ ap (λ a. lease_asked (a_text (Some id)) (answered a)) read.1
+    ap (λ a. lease_asked (a_text (read_or_none a)) (read_or_none (increment_answer (lease_text id n)))) read.0
+    ∙ ap (λ a. lease_asked (a_text (Some id)) (read_or_none a)) read.1
     ∙ ap (λ a. lease_asked a (Some (Some n))) (utf8_text id utf8)
 
 -- ---- the request
@@ -54,8 +54,8 @@ body_as Token port cs i e utf8 small = renew_asked e.step small
 body_as Lease port cs i e utf8 small = lease_renew_asked (credential_at cs i) e.step utf8 small
 
 -- the request for an entry asks for its renewal
-pub asks_renewal : (s : Inventory) → IsInventory s → (port i : ℕ) → i < length s.forest.entries → AsksRenewal s i (request_of port s.credentials s.forest i)
-unfolding request_of
+pub asks_renewal : (s : Inventory) → IsInventory s → (port i : ℕ) → i < length s.forest.entries → AsksRenewal s i (renewal_request port s.credentials s.forest i)
+unfolding renewal_request
 asks_renewal s inventory port i within =
     let e = entry_at s.forest.entries i in
     record {

@@ -10,12 +10,12 @@ use Rattle.broker_table.specs.declared.refusal.Refusal.{Refusal}
 use Rattle.broker_table.specs.declared.refusal.Refusal.TheVariants.{NotRenewable, PermissionDenied, UnsupportedMethod}
 use Rattle.broker_table.specs.declared.row.Row.{Row}
 use Rattle.broker_table.specs.Faults.{fault_at, next_number}
-use Rattle.broker_table.specs.Renewing.{granted, is_deny, new_end, renewal, rows_after, with_row}
+use Rattle.broker_table.specs.Renewing.{granted_row, is_deny, new_end, renewal_by_broker, rows_after, with_row}
 use Rattle.broker_table.specs.Request.{allows, asked, call_of, is_renewal}
-use Rattle.broker_table.specs.Step.{Outcome, after_sweep, by_call, drops, is_drop, looked, refuses, renewed, renews, step, tells}
-use Rattle.broker_table.specs.Subject.{Subject, bearer, belongs, is_lease_with, is_token_with, lease_with, named, owned, subject, token_with, with_asked, with_bearer}
+use Rattle.broker_table.specs.Step.{BrokerOutcome, after_sweep, broker_step, by_call, drops, is_drop, lookup_answer, refuses, renewal_answer, renewal_outcome, tells}
+use Rattle.broker_table.specs.Subject.{Subject, bearer, belongs, is_lease_with, is_token_with, lease_with, named_subject, owned, subject, token_with, with_asked, with_bearer}
 use Rattle.broker_table.specs.Sweep.{lives, swept}
-use Rattle.broker_table.specs.Table.{Table}
+use Rattle.broker_table.specs.Table.{BrokerTable}
 use Rattle.vault_http.specs.declared.request.Request.{Request}
 use Rattle.keep_alike.specs.Alike.{AreDated}
 use Rattle.keep_alike.specs.Answers.{Speaks}
@@ -44,7 +44,7 @@ owned_dated : (token : Row) (increment : Option ℕ) (o : Option Row) → IfSome
 owned_dated token increment None lease = tt
 owned_dated token increment (Some r) lease = if_both OfSubject (belongs r.parent token.name) (Ok (record { row = r; increment = increment })) (Err PermissionDenied) lease tt
 
-named_dated : (rows : List Row) → All IsDated rows → (token : Row) → IsDated token → (increment : Option ℕ) (o : Option (List ℕ)) → OfSubject (named rows token increment o)
+named_dated : (rows : List Row) → All IsDated rows → (token : Row) → IsDated token → (increment : Option ℕ) (o : Option (List ℕ)) → OfSubject (named_subject rows token increment o)
 unfolding lease_with
 named_dated rows all token is increment None = is
 named_dated rows all token is increment (Some id) = owned_dated token increment (lease_with rows id) (found (λ r. is_lease_with id r) rows all)
@@ -66,13 +66,13 @@ subject_dated : (rows : List Row) → All IsDated rows → (call : Call) (r : Re
 unfolding subject
 subject_dated rows all call r = bearer_dated rows all call r.body (bearer rows r.token) (borne rows all r.token)
 
-granted_dated : (fault : Option Fault) (t : ℕ) (x : Result Subject Refusal) → OfSubject x → OfRow (granted fault t x)
+granted_dated : (fault : Option Fault) (t : ℕ) (x : Result Subject Refusal) → OfSubject x → OfRow (granted_row fault t x)
 granted_dated fault t (Err refusal) is = tt
 granted_dated fault t (Ok s) is = if_both OfRow s.row.renewable (Ok (record s.row { end = new_end fault t s.row s.increment })) (Err NotRenewable) is tt
 
-renewal_dated : (rows : List Row) → All IsDated rows → (t : ℕ) (call : Call) (r : Request) (fault : Option Fault) → OfRow (renewal rows t call r fault)
-unfolding renewal
-renewal_dated rows all t call r fault = if_both OfRow (is_deny fault) (Err PermissionDenied) (granted fault t (subject rows call r)) tt (granted_dated fault t (subject rows call r) (subject_dated rows all call r))
+renewal_dated : (rows : List Row) → All IsDated rows → (t : ℕ) (call : Call) (r : Request) (fault : Option Fault) → OfRow (renewal_by_broker rows t call r fault)
+unfolding renewal_by_broker
+renewal_dated rows all t call r fault = if_both OfRow (is_deny fault) (Err PermissionDenied) (granted_row fault t (subject rows call r)) tt (granted_dated fault t (subject rows call r) (subject_dated rows all call r))
 
 rows_dated : (rows : List Row) → All IsDated rows → (x : Result Row Refusal) → OfRow x → All IsDated (rows_after rows x)
 unfolding with_row
@@ -80,34 +80,34 @@ rows_dated rows all (Err refusal) is = all
 rows_dated rows all (Ok row) is =
     All-map IsDated (λ r. cond (bytes_eq r.name row.name) row r) rows (All-weaker IsDated (λ r. IsDated (cond (bytes_eq r.name row.name) row r)) (λ r here. if_both IsDated (bytes_eq r.name row.name) row r is here) rows all)
 
-abbrev Leaves : Outcome → Type 0
+abbrev Leaves : BrokerOutcome → Type 0
 Leaves o = Speaks o.answer × All IsDated o.table.rows
 
-looked_speaks : (call : Call) (x : Result Subject Refusal) → OfSubject x → Speaks (looked call x)
+looked_speaks : (call : Call) (x : Result Subject Refusal) → OfSubject x → Speaks (lookup_answer call x)
 looked_speaks call (Err refusal) is = tt
 looked_speaks call (Ok s) is = is
 
-renewed_speaks : (call : Call) (fault : Option Fault) (x : Result Row Refusal) → OfRow x → Speaks (renewed call fault x)
+renewed_speaks : (call : Call) (fault : Option Fault) (x : Result Row Refusal) → OfRow x → Speaks (renewal_answer call fault x)
 renewed_speaks call fault (Err refusal) is = tt
 renewed_speaks call fault (Ok row) is = if_both Speaks (is_drop fault) drops (tells call row) tt is
 
-renews_dated : (l : Table) → AreDated l → (t : ℕ) (call : Call) (r : Request) → Leaves (renews l t call r)
-unfolding renews
+renews_dated : (l : BrokerTable) → AreDated l → (t : ℕ) (call : Call) (r : Request) → Leaves (renewal_outcome l t call r)
+unfolding renewal_outcome
 renews_dated l all t call r =
     let fault = fault_at l.faults (next_number l.count) in
-    let x = renewal l.rows t call r fault in
+    let x = renewal_by_broker l.rows t call r fault in
     let is = renewal_dated l.rows all t call r fault in
     (renewed_speaks call fault x is, rows_dated l.rows all x is)
 
-call_dated : (l : Table) → AreDated l → (t : ℕ) (r : Request) (o : Option Call) → Leaves (by_call l t r o)
+call_dated : (l : BrokerTable) → AreDated l → (t : ℕ) (r : Request) (o : Option Call) → Leaves (by_call l t r o)
 call_dated l all t r None = (tt, all)
 call_dated l all t r (Some call) =
-    let seen : Outcome = record { answer = looked call (subject l.rows call r); table = l } in
-    let refused : Outcome = record { answer = refuses UnsupportedMethod; table = l } in
-    if_both Leaves (allows call r.method) (cond (is_renewal call) (renews l t call r) seen) refused
-    (if_both Leaves (is_renewal call) (renews l t call r) seen (renews_dated l all t call r) (looked_speaks call (subject l.rows call r) (subject_dated l.rows all call r), all))
+    let seen : BrokerOutcome = record { answer = lookup_answer call (subject l.rows call r); table = l } in
+    let refused : BrokerOutcome = record { answer = refuses UnsupportedMethod; table = l } in
+    if_both Leaves (allows call r.method) (cond (is_renewal call) (renewal_outcome l t call r) seen) refused
+    (if_both Leaves (is_renewal call) (renewal_outcome l t call r) seen (renews_dated l all t call r) (looked_speaks call (subject l.rows call r) (subject_dated l.rows all call r), all))
     (tt, all)
 
-pub step_dated : (l : Table) → AreDated l → (t : ℕ) (r : Request) → Speaks (step l t r).answer × AreDated (step l t r).table
-unfolding step swept
+pub step_dated : (l : BrokerTable) → AreDated l → (t : ℕ) (r : Request) → Speaks (broker_step l t r).answer × AreDated (broker_step l t r).table
+unfolding broker_step swept
 step_dated l all t r = call_dated (after_sweep l t) (All-filter (lives l.rows t) IsDated l.rows all) t r (call_of r.path)

@@ -3,10 +3,10 @@
 use Rattle.std.proofs.Common.{◌≡◌, ◌∙◌, ℕ, ◌<◌, List, length, set, refl, sym, ap, ap₂, subst, inl, inr}
 use Rattle.std.proofs.lemmas.Bool.{cases_eq}
 use Rattle.std.proofs.lemmas.List.{length-set}
-use Rattle.keep_exchange.specs.Requests.{asked_as, request_of, token_renewal}
+use Rattle.keep_exchange.specs.Requests.{asked_as, renewal_request, token_renewal}
 use Rattle.keep_inventory.specs.Inventories.{IsInventory, credential_at}
 use Rattle.keep_inventory.specs.declared.terms.Terms.{Terms}
-use Rattle.keep_alike.specs.Alike.{AreTablesAlike, IsKept}
+use Rattle.keep_alike.specs.Alike.{AreTablesAlike, KeepsSupplied}
 use Rattle.keep_alike.proofs.Looks.{token_renewals_both}
 use Rattle.keep_alike.specs.Answers.{OutcomesOf}
 use Rattle.keep_alike.proofs.Steps.{by_kind, steps_both}
@@ -16,19 +16,19 @@ use Rattle.keep_tree.specs.declared.entry.Kind.TheVariants.{Token, Lease}
 use Rattle.keep_tree.specs.Forest.{Forest, entry_at}
 use Rattle.keep_tree.proofs.Entries.{entry_at_set_other, entry_at_set_same}
 use Rattle.broker_table.specs.Granted.{call_for}
-use Rattle.broker_table.specs.Step.{step}
-use Rattle.broker_table.specs.Table.{Table}
+use Rattle.broker_table.specs.Step.{broker_step}
+use Rattle.broker_table.specs.Table.{BrokerTable}
 use Rattle.vault_http.specs.declared.request.Request.{Request}
 
 -- ---- what is kept
 
-pub kept_itself : (g : Forest) → IsKept g g
+pub kept_itself : (g : Forest) → KeepsSupplied g g
 kept_itself g = record { count = refl; kinds = λ i. refl; owners = λ i lease. refl; steps = λ i lease. refl }
 
 module _ (g : Forest) where
   -- an entry is written anew
-  pub kept_with : (h : Forest) (i : ℕ) (e : Entry) → i < length h.entries → IsKept g h → e.kind ≡ (entry_at h.entries i).kind →
-      ((entry_at g.entries i).kind ≡ Lease → e.parent ≡ (entry_at h.entries i).parent) → ((entry_at g.entries i).kind ≡ Lease → e.step ≡ (entry_at h.entries i).step) → IsKept g (record h { entries = set h.entries i e })
+  pub kept_with : (h : Forest) (i : ℕ) (e : Entry) → i < length h.entries → KeepsSupplied g h → e.kind ≡ (entry_at h.entries i).kind →
+      ((entry_at g.entries i).kind ≡ Lease → e.parent ≡ (entry_at h.entries i).parent) → ((entry_at g.entries i).kind ≡ Lease → e.step ≡ (entry_at h.entries i).step) → KeepsSupplied g (record h { entries = set h.entries i e })
   kept_with h i e within kept kind parent step =
       let here = entry_at_set_same h.entries i e within in
       record {
@@ -61,27 +61,27 @@ lease_as Token port xs i e f lease parent step' = absurd cc
 lease_as Lease port xs i e f lease parent step' = ap₂ (λ p n. asked_as Lease port xs i (record e { parent = p; step = n })) parent step'
 
 -- the renewal of a token by the step that the forest has, and that of a lease
-token_message : (port : ℕ) (xs : List (List ℕ)) (g h : Forest) (i : ℕ) → IsKept g h → (entry_at g.entries i).kind ≡ Token → request_of port xs h i ≡ token_renewal port (credential_at xs i) (entry_at h.entries i).step
-unfolding request_of
+token_message : (port : ℕ) (xs : List (List ℕ)) (g h : Forest) (i : ℕ) → KeepsSupplied g h → (entry_at g.entries i).kind ≡ Token → renewal_request port xs h i ≡ token_renewal port (credential_at xs i) (entry_at h.entries i).step
+unfolding renewal_request
 token_message port xs g h i kept token = renewal_as (entry_at h.entries i).kind port xs i (entry_at h.entries i) (kept.kinds i ∙ token)
 
-lease_message : (port : ℕ) (xs : List (List ℕ)) (g h : Forest) (i : ℕ) → IsKept g h → (entry_at g.entries i).kind ≡ Lease → request_of port xs h i ≡ request_of port xs g i
-unfolding request_of
+lease_message : (port : ℕ) (xs : List (List ℕ)) (g h : Forest) (i : ℕ) → KeepsSupplied g h → (entry_at g.entries i).kind ≡ Lease → renewal_request port xs h i ≡ renewal_request port xs g i
+unfolding renewal_request
 lease_message port xs g h i kept lease =
     lease_as (entry_at h.entries i).kind port xs i (entry_at g.entries i) (entry_at h.entries i) (kept.kinds i ∙ lease) (kept.owners i lease) (kept.steps i lease)
     ∙ ap (λ k. asked_as k port xs i (entry_at g.entries i)) (kept.kinds i)
 
 module _ (g : Forest) (cs ds : List (List ℕ)) (ts : List Terms) (one : IsInventory (record { forest = g; credentials = cs; terms = ts })) (two : IsInventory (record { forest = g; credentials = ds; terms = ts })) where
-  pub renewals_both : (port other t i : ℕ) (h : Forest) (l m : Table) → i < length g.entries → IsKept g h → AreTablesAlike g cs ds l m →
-      OutcomesOf g cs ds (call_for (entry_at g.entries i).kind) i (step l t (request_of port cs h i)) (step m t (request_of other ds h i))
+  pub renewals_both : (port other t i : ℕ) (h : Forest) (l m : BrokerTable) → i < length g.entries → KeepsSupplied g h → AreTablesAlike g cs ds l m →
+      OutcomesOf g cs ds (call_for (entry_at g.entries i).kind) i (broker_step l t (renewal_request port cs h i)) (broker_step m t (renewal_request other ds h i))
   renewals_both port other t i h l m within kept alike =
       let kind = (entry_at g.entries i).kind in
-      let P : Request → Request → Type 0 = λ r q. OutcomesOf g cs ds (call_for kind) i (step l t r) (step m t q) in
-      by_kind kind (P (request_of port cs h i) (request_of other ds h i))
+      let P : Request → Request → Type 0 = λ r q. OutcomesOf g cs ds (call_for kind) i (broker_step l t r) (broker_step m t q) in
+      by_kind kind (P (renewal_request port cs h i) (renewal_request other ds h i))
       (λ token.
-      subst (λ r. P r (request_of other ds h i)) (sym (token_message port cs g h i kept token))
+      subst (λ r. P r (renewal_request other ds h i)) (sym (token_message port cs g h i kept token))
       (subst (P (token_renewal port (credential_at cs i) (entry_at h.entries i).step)) (sym (token_message other ds g h i kept token))
       (token_renewals_both g cs ds port other t i (entry_at h.entries i).step l m within token alike)))
       (λ lease.
-      subst (λ r. P r (request_of other ds h i)) (sym (lease_message port cs g h i kept lease))
-      (subst (P (request_of port cs g i)) (sym (lease_message other ds g h i kept lease)) (steps_both g cs ds ts ts one two port other t i l m within alike)))
+      subst (λ r. P r (renewal_request other ds h i)) (sym (lease_message port cs g h i kept lease))
+      (subst (P (renewal_request port cs g i)) (sym (lease_message other ds g h i kept lease)) (steps_both g cs ds ts ts one two port other t i l m within alike)))

@@ -19,10 +19,10 @@ use Rattle.broker_table.specs.declared.call.Call.TheVariants.{RenewSelf, LookupS
 use Rattle.broker_table.specs.declared.refusal.Refusal.{Refusal}
 use Rattle.broker_table.specs.declared.refusal.Refusal.TheVariants.{BadRequest, PermissionDenied}
 use Rattle.broker_table.specs.Granted.{call_for}
-use Rattle.broker_table.specs.Request.{answered, asked, call_of, increment_in, is_get, is_write, lease_id_in, of_lease, of_token, a_text}
-use Rattle.broker_table.specs.Step.{after_sweep, looked, renews, step}
+use Rattle.broker_table.specs.Request.{read_or_none, asked, call_of, increment_in, is_get, is_write, lease_id_in, asked_of_lease, asked_of_token, a_text}
+use Rattle.broker_table.specs.Step.{after_sweep, broker_step, lookup_answer, renewal_outcome}
 use Rattle.broker_table.specs.Subject.{Subject, bearer, is_token_with, subject, token_with, with_bearer, with_asked}
-use Rattle.broker_table.specs.Table.{Table}
+use Rattle.broker_table.specs.Table.{BrokerTable}
 use Rattle.keep_exchange.specs.Requests.{lease_looked, looked_as, lookup_of, token_looked, token_renewal}
 use Rattle.keep_alike.specs.Alike.{AreRowsAlike, AreTablesAlike}
 use Rattle.keep_alike.proofs.Rows.{BothFound, lease_found_both, token_found_both}
@@ -34,7 +34,7 @@ use Rattle.keep_alike.proofs.Steps.{SubjectsOf, as_both, by_kind, by_owner, by_t
 look_asked : (id : List ℕ) → IsUtf8 id → asked LookupLease (lookup_text id) ≡ Some (record { lease_id = Some id; increment = None })
 unfolding asked lease_id_in
 look_asked id utf8 =
-    ap (λ a. of_lease (a_text (answered a)) (Some None)) (lookup_body_is_read id utf8) ∙ ap (λ a. of_lease a (Some None)) (cond-true (is_utf8 id) (Some id) None (is_utf8-from_IsUtf8 id utf8))
+    ap (λ a. asked_of_lease (a_text (read_or_none a)) (Some None)) (lookup_body_is_read id utf8) ∙ ap (λ a. asked_of_lease a (Some None)) (cond-true (is_utf8 id) (Some id) None (is_utf8-from_IsUtf8 id utf8))
 
 -- a body that names no increment that can be read
 unread : Option Row → Result Subject Refusal
@@ -50,30 +50,30 @@ unread_subject : (rows : List Row) (r : Request) (c : List ℕ) → r.token ≡ 
 unfolding subject
 unread_subject rows r c bears body = ap (λ o. with_bearer rows RenewSelf r.body (bearer rows o)) bears ∙ unread_told rows r.body body (token_with rows c)
 
-asked_by : (body : List ℕ) → asked RenewSelf body ≡ of_token (increment_in body)
+asked_by : (body : List ℕ) → asked RenewSelf body ≡ asked_of_token (increment_in body)
 unfolding asked
 asked_by body = refl
 
 -- ---- a lookup, and a token's renewal, as a broker's step
 
-token_step : (l : Table) (t port : ℕ) (c : List ℕ) → step l t (token_looked port c) ≡ record { answer = looked LookupSelf (subject (after_sweep l t).rows LookupSelf (token_looked port c)); table = after_sweep l t }
-unfolding step call_of is_get
+token_step : (l : BrokerTable) (t port : ℕ) (c : List ℕ) → broker_step l t (token_looked port c) ≡ record { answer = lookup_answer LookupSelf (subject (after_sweep l t).rows LookupSelf (token_looked port c)); table = after_sweep l t }
+unfolding broker_step call_of is_get
 token_step l t port c = refl
 
-lease_step : (l : Table) (t port : ℕ) (owner : Option (List ℕ)) (id : List ℕ) →
-    step l t (lease_looked port owner id) ≡ record { answer = looked LookupLease (subject (after_sweep l t).rows LookupLease (lease_looked port owner id)); table = after_sweep l t }
-unfolding step call_of is_write
+lease_step : (l : BrokerTable) (t port : ℕ) (owner : Option (List ℕ)) (id : List ℕ) →
+    broker_step l t (lease_looked port owner id) ≡ record { answer = lookup_answer LookupLease (subject (after_sweep l t).rows LookupLease (lease_looked port owner id)); table = after_sweep l t }
+unfolding broker_step call_of is_write
 lease_step l t port owner id = refl
 
-renewal_step : (l : Table) (t port : ℕ) (c : List ℕ) (n : ℕ) → step l t (token_renewal port c n) ≡ renews (after_sweep l t) t RenewSelf (token_renewal port c n)
-unfolding step call_of is_write
+renewal_step : (l : BrokerTable) (t port : ℕ) (c : List ℕ) (n : ℕ) → broker_step l t (token_renewal port c n) ≡ renewal_outcome (after_sweep l t) t RenewSelf (token_renewal port c n)
+unfolding broker_step call_of is_write
 renewal_step l t port c n = refl
 
 module _ (g : Forest) (cs ds : List (List ℕ)) where
   abbrev R : Row → Row → Type 0
   R = AreRowsAlike g cs ds
 
-  looked_both : (call : Call) (i : ℕ) (x y : Result Subject Refusal) → SubjectsOf g cs ds i x y → AnswersOf g cs ds call i (looked call x) (looked call y)
+  looked_both : (call : Call) (i : ℕ) (x y : Result Subject Refusal) → SubjectsOf g cs ds i x y → AnswersOf g cs ds call i (lookup_answer call x) (lookup_answer call y)
   looked_both call i (Err x) (Err y) same = same
   looked_both call i (Err x) (Ok b) same = absurd same
   looked_both call i (Ok a) (Err y) same = absurd same
@@ -89,7 +89,7 @@ module _ (g : Forest) (cs ds : List (List ℕ)) where
   -- ---- a token's renewal by any step
 
   renewed_both : (i : ℕ) (xs ys : List Row) (r q : Request) → i < length g.entries → (entry_at g.entries i).kind ≡ Token → AllZip R xs ys → r.token ≡ Some (credential_at cs i) → q.token ≡ Some (credential_at ds i) →
-      q.body ≡ r.body → (o : Option (Option ℕ)) → asked RenewSelf r.body ≡ of_token o → SubjectsOf g cs ds i (subject xs RenewSelf r) (subject ys RenewSelf q)
+      q.body ≡ r.body → (o : Option (Option ℕ)) → asked RenewSelf r.body ≡ asked_of_token o → SubjectsOf g cs ds i (subject xs RenewSelf r) (subject ys RenewSelf q)
   renewed_both i xs ys r q within token zip bears bears' body None is =
       let c = credential_at cs i in
       let d = credential_at ds i in
@@ -103,8 +103,8 @@ module _ (g : Forest) (cs ds : List (List ℕ)) where
       (token_subject xs RenewSelf r c n bears is) (token_subject ys RenewSelf q d n bears' (ap (asked RenewSelf) body ∙ is))
       (token_both g cs ds i n (token_with xs c) (token_with ys d) (token_found_both g cs ds xs ys zip i within token))
 
-  pub token_renewals_both : (port other t i n : ℕ) (l m : Table) → i < length g.entries → (entry_at g.entries i).kind ≡ Token → AreTablesAlike g cs ds l m →
-      OutcomesOf g cs ds (call_for (entry_at g.entries i).kind) i (step l t (token_renewal port (credential_at cs i) n)) (step m t (token_renewal other (credential_at ds i) n))
+  pub token_renewals_both : (port other t i n : ℕ) (l m : BrokerTable) → i < length g.entries → (entry_at g.entries i).kind ≡ Token → AreTablesAlike g cs ds l m →
+      OutcomesOf g cs ds (call_for (entry_at g.entries i).kind) i (broker_step l t (token_renewal port (credential_at cs i) n)) (broker_step m t (token_renewal other (credential_at ds i) n))
   token_renewals_both port other t i n l m within token a =
       let kind = (entry_at g.entries i).kind in
       let r = token_renewal port (credential_at cs i) n in
@@ -114,9 +114,9 @@ module _ (g : Forest) (cs ds : List (List ℕ)) where
       let ys = (after_sweep m t).rows in
       let found = renewed_both i xs ys r q within token left.rows refl refl refl (increment_in (renew_text n)) (asked_by (renew_text n)) in
       let same : SubjectsOf g cs ds i (subject xs (call_for kind) r) (subject ys (call_for kind) q) = subst (λ k. SubjectsOf g cs ds i (subject xs (call_for k) r) (subject ys (call_for k) q)) (sym token) found in
-      as_both (OutcomesOf g cs ds (call_for kind) i) (renews (after_sweep l t) t (call_for kind) r) (step l t r) (renews (after_sweep m t) t (call_for kind) q) (step m t q)
-      (renewal_step l t port (credential_at cs i) n ∙ ap (λ k. renews (after_sweep l t) t (call_for k) r) (sym token))
-      (renewal_step m t other (credential_at ds i) n ∙ ap (λ k. renews (after_sweep m t) t (call_for k) q) (sym token))
+      as_both (OutcomesOf g cs ds (call_for kind) i) (renewal_outcome (after_sweep l t) t (call_for kind) r) (broker_step l t r) (renewal_outcome (after_sweep m t) t (call_for kind) q) (broker_step m t q)
+      (renewal_step l t port (credential_at cs i) n ∙ ap (λ k. renewal_outcome (after_sweep l t) t (call_for k) r) (sym token))
+      (renewal_step m t other (credential_at ds i) n ∙ ap (λ k. renewal_outcome (after_sweep m t) t (call_for k) q) (sym token))
       (renews_both g cs ds i t (after_sweep l t) (after_sweep m t) r q left same)
 
   -- ---- a lookup
@@ -128,8 +128,8 @@ module _ (g : Forest) (cs ds : List (List ℕ)) where
     abbrev u : Inventory
     u = record { forest = g; credentials = ds; terms = us }
 
-    token_looks : (port other t i : ℕ) (l m : Table) → i < length g.entries → (entry_at g.entries i).kind ≡ Token → AreTablesAlike g cs ds l m →
-        OutcomesOf g cs ds LookupSelf i (step l t (token_looked port (credential_at cs i))) (step m t (token_looked other (credential_at ds i)))
+    token_looks : (port other t i : ℕ) (l m : BrokerTable) → i < length g.entries → (entry_at g.entries i).kind ≡ Token → AreTablesAlike g cs ds l m →
+        OutcomesOf g cs ds LookupSelf i (broker_step l t (token_looked port (credential_at cs i))) (broker_step m t (token_looked other (credential_at ds i)))
     unfolding asked
     token_looks port other t i l m within token a =
         let c = credential_at cs i in
@@ -143,12 +143,12 @@ module _ (g : Forest) (cs ds : List (List ℕ)) where
         as_both (SubjectsOf g cs ds i) (by_token None (token_with xs c)) (subject xs LookupSelf r) (by_token None (token_with ys d)) (subject ys LookupSelf q)
         (token_subject xs LookupSelf r c None refl refl) (token_subject ys LookupSelf q d None refl refl)
         (token_both g cs ds i None (token_with xs c) (token_with ys d) (token_found_both g cs ds xs ys left.rows i within token)) in
-        as_both (OutcomesOf g cs ds LookupSelf i) (record { answer = looked LookupSelf (subject xs LookupSelf r); table = after_sweep l t }) (step l t r) (record { answer = looked LookupSelf (subject ys LookupSelf q); table = after_sweep m t }) (step m t q)
+        as_both (OutcomesOf g cs ds LookupSelf i) (record { answer = lookup_answer LookupSelf (subject xs LookupSelf r); table = after_sweep l t }) (broker_step l t r) (record { answer = lookup_answer LookupSelf (subject ys LookupSelf q); table = after_sweep m t }) (broker_step m t q)
         (token_step l t port c) (token_step m t other d)
         (looked_both LookupSelf i (subject xs LookupSelf r) (subject ys LookupSelf q) same, left)
 
-    lease_looks : (port other t i : ℕ) (l m : Table) → i < length g.entries → (entry_at g.entries i).kind ≡ Lease → AreTablesAlike g cs ds l m →
-        OutcomesOf g cs ds LookupLease i (step l t (lease_looked port (option_map (credential_at cs) (entry_at g.entries i).parent) (credential_at cs i))) (step m t (lease_looked other (option_map (credential_at ds) (entry_at g.entries i).parent) (credential_at ds i)))
+    lease_looks : (port other t i : ℕ) (l m : BrokerTable) → i < length g.entries → (entry_at g.entries i).kind ≡ Lease → AreTablesAlike g cs ds l m →
+        OutcomesOf g cs ds LookupLease i (broker_step l t (lease_looked port (option_map (credential_at cs) (entry_at g.entries i).parent) (credential_at cs i))) (broker_step m t (lease_looked other (option_map (credential_at ds) (entry_at g.entries i).parent) (credential_at ds i)))
     lease_looks port other t i l m within lease a =
         let over = owner_of g one.forest i within lease in
         let p = over.0 in
@@ -168,16 +168,16 @@ module _ (g : Forest) (cs ds : List (List ℕ)) where
         (lease_subject ys LookupLease q (credential_at ds p) d None (ap (option_map (credential_at ds)) over.1.0) (look_asked d (credential_text u two i within)))
         (owner_both g cs ds i None (credential_at cs p) (credential_at ds p) xs ys (lease_found_both g cs ds xs ys left.rows i within lease) (token_with xs (credential_at cs p)) (token_with ys (credential_at ds p))
         (token_found_both g cs ds xs ys left.rows p (omega arith) over.1.1.1)) in
-        as_both (OutcomesOf g cs ds LookupLease i) (record { answer = looked LookupLease (subject xs LookupLease r); table = after_sweep l t }) (step l t r) (record { answer = looked LookupLease (subject ys LookupLease q); table = after_sweep m t }) (step m t q)
+        as_both (OutcomesOf g cs ds LookupLease i) (record { answer = lookup_answer LookupLease (subject xs LookupLease r); table = after_sweep l t }) (broker_step l t r) (record { answer = lookup_answer LookupLease (subject ys LookupLease q); table = after_sweep m t }) (broker_step m t q)
         (lease_step l t port owner c) (lease_step m t other other_owner d)
         (looked_both LookupLease i (subject xs LookupLease r) (subject ys LookupLease q) same, left)
 
     -- the lookup of an entry
-    pub looks_both : (port other t i : ℕ) (l m : Table) → i < length g.entries → AreTablesAlike g cs ds l m →
-        OutcomesOf g cs ds (look_for (entry_at g.entries i).kind) i (step l t (lookup_of port cs g i)) (step m t (lookup_of other ds g i))
+    pub looks_both : (port other t i : ℕ) (l m : BrokerTable) → i < length g.entries → AreTablesAlike g cs ds l m →
+        OutcomesOf g cs ds (look_for (entry_at g.entries i).kind) i (broker_step l t (lookup_of port cs g i)) (broker_step m t (lookup_of other ds g i))
     unfolding lookup_of
     looks_both port other t i l m within a =
         let e = entry_at g.entries i in
-        by_kind e.kind (OutcomesOf g cs ds (look_for e.kind) i (step l t (looked_as e.kind port cs i e)) (step m t (looked_as e.kind other ds i e)))
-        (λ token. subst (λ k. OutcomesOf g cs ds (look_for k) i (step l t (looked_as k port cs i e)) (step m t (looked_as k other ds i e))) (sym token) (token_looks port other t i l m within token a))
-        (λ lease. subst (λ k. OutcomesOf g cs ds (look_for k) i (step l t (looked_as k port cs i e)) (step m t (looked_as k other ds i e))) (sym lease) (lease_looks port other t i l m within lease a))
+        by_kind e.kind (OutcomesOf g cs ds (look_for e.kind) i (broker_step l t (looked_as e.kind port cs i e)) (broker_step m t (looked_as e.kind other ds i e)))
+        (λ token. subst (λ k. OutcomesOf g cs ds (look_for k) i (broker_step l t (looked_as k port cs i e)) (broker_step m t (looked_as k other ds i e))) (sym token) (token_looks port other t i l m within token a))
+        (λ lease. subst (λ k. OutcomesOf g cs ds (look_for k) i (broker_step l t (looked_as k port cs i e)) (broker_step m t (looked_as k other ds i e))) (sym lease) (lease_looks port other t i l m within lease a))

@@ -5,7 +5,7 @@ use Rattle.std.proofs.lemmas.Bool.Decides.{nat_tests}
 use Rattle.std.specs.Cmp.Lexicographic.{bytes_decides}
 use Rattle.keep_exchange.specs.declared.fault.ExchangeFault.TheVariants.{Http}
 use Rattle.keep_exchange.specs.Exchanges.{received}
-use Rattle.keep_exchange.specs.Requests.{Fits}
+use Rattle.keep_exchange.specs.Requests.{ReplyFits}
 use Rattle.keep_exchange.proofs.Lengths.{looked_lease_short, ok_short, reply_short, status_short}
 use Rattle.keep_inventory.specs.Inventories.{IsInventory, Inventory, credential_at}
 use Rattle.keep_inventory.specs.Lookup.{lookup_fault}
@@ -19,7 +19,7 @@ use Rattle.keep_tree.specs.Push.{is_lease}
 use Rattle.broker_table.specs.declared.call.Call.TheVariants.{LookupLease}
 use Rattle.broker_table.specs.declared.row.Row.{Row}
 use Rattle.broker_table.specs.declared.served.Served.TheVariants as served
-use Rattle.broker_table.specs.Step.{IsBody, Tells, seconds_to}
+use Rattle.broker_table.specs.Step.{IsReplyBody, TellsRow, seconds_to}
 use Rattle.vault_http.specs.declared.http_fault.HttpFault.TheVariants as https
 use Rattle.vault_http.specs.declared.known.TheConstants.{MOST_MESSAGE}
 use Rattle.vault_http.specs.declared.reply.Reply.{Reply}
@@ -29,7 +29,7 @@ use Rattle.vault_json.specs.declared.lookup.Lookup.TheVariants as lookups
 use Rattle.vault_json.specs.Laws.{LookedLeaseIsRead}
 use Rattle.vault_json.specs.Lookup.{lookup_lease_answer}
 
-pub fits_received : (reply : Reply) → Fits (served.Reply reply) → received (served.Reply reply) ≡ Ok reply
+pub fits_received : (reply : Reply) → ReplyFits (served.Reply reply) → received (served.Reply reply) ≡ Ok reply
 fits_received reply fits =
     let test : nat_le (length (reply_text reply)) MOST_MESSAGE ≡ true = grind (arith, fits, nat_tests) in
     cond-true (nat_le (length (reply_text reply)) MOST_MESSAGE) (Ok reply) (Err (Http https.TooLong)) test
@@ -44,9 +44,9 @@ small end t = omega arith
 abbrev pub lease_told : List ℕ → Row → ℕ → Lookup
 lease_told id row t = lookups.Lease id row.issued row.renewable (seconds_to row.end t)
 
-pub lease_read : LookedLeaseIsRead → (id : List ℕ) (t : ℕ) (row : Row) (reply : Reply) → row.credential ≡ id → IsUtf8 id → length id ≤ 256 → row.issued ≤ LAST → Tells t LookupLease row (served.Reply reply) →
+pub lease_read : LookedLeaseIsRead → (id : List ℕ) (t : ℕ) (row : Row) (reply : Reply) → row.credential ≡ id → IsUtf8 id → length id ≤ 256 → row.issued ≤ LAST → TellsRow t LookupLease row (served.Reply reply) →
     (received (served.Reply reply) ≡ Ok reply) × (lookup_lease_answer reply.body ≡ Ok (lease_told id row t))
-unfolding IsBody
+unfolding IsReplyBody
 lease_read read id t row reply same text brief early is =
     let n = seconds_to row.end t in
     let body = is.1 in

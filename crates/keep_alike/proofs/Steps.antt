@@ -20,14 +20,14 @@ use Rattle.broker_table.specs.declared.call.Call.TheVariants.{RenewSelf, RenewLe
 use Rattle.broker_table.specs.declared.fault.Fault.{Fault}
 use Rattle.broker_table.specs.declared.refusal.Refusal.{Refusal}
 use Rattle.broker_table.specs.declared.refusal.Refusal.TheVariants.{NotRenewable, PermissionDenied, UnsupportedMethod}
-use Rattle.broker_table.specs.Faults.{fault_at, next_number, without}
+use Rattle.broker_table.specs.Faults.{fault_at, next_number, without_fault}
 use Rattle.broker_table.specs.Granted.{AsksRenewal, asked_for, bearer_for, call_for}
-use Rattle.broker_table.specs.Table.{Table}
-use Rattle.broker_table.specs.Renewing.{granted, is_deny, new_end, renewal, step_of}
+use Rattle.broker_table.specs.Table.{BrokerTable}
+use Rattle.broker_table.specs.Renewing.{granted_row, is_deny, new_end, renewal_by_broker, step_of_row}
 use Rattle.broker_table.specs.Request.{asked, is_write}
-use Rattle.broker_table.specs.Step.{after_sweep, by_call, counted, drops, is_drop, refuses, renews, step, tells}
+use Rattle.broker_table.specs.Step.{after_sweep, broker_step, by_call, counted_renewal, drops, is_drop, refuses, renewal_outcome, tells}
 use Rattle.broker_table.specs.Subject.{Subject, bearer, belongs, is_lease_with, is_token_with, lease_with, owned, subject, token_with, with_asked, with_bearer}
-use Rattle.keep_exchange.specs.Requests.{request_of}
+use Rattle.keep_exchange.specs.Requests.{renewal_request}
 use Rattle.keep_alike.specs.Alike.{AreRowsAlike, AreTablesAlike}
 use Rattle.keep_alike.specs.Answers.{AnswersOf, OutcomesOf, RowsOf}
 use Rattle.keep_alike.proofs.Rows.{BothFound, by_test, lease_found_both, name_both, swept_both, token_found_both, with_both}
@@ -91,9 +91,9 @@ pub lease_subject : (rows : List Row) (call : Call) (r : Request) (owner c : Lis
 unfolding subject
 lease_subject rows call r owner c n bears body = ap (λ o. with_bearer rows call r.body (bearer rows o)) bears ∙ lease_told rows call r.body c n body (token_with rows owner)
 
-allowed : (l : Table) (t : ℕ) (r : Request) (k : Kind) → is_write r.method ≡ true → by_call l t r (Some (call_for k)) ≡ renews l t (call_for k) r
-allowed l t r Token write = cond-true (is_write r.method) (renews l t RenewSelf r) (record { answer = refuses UnsupportedMethod; table = l }) write
-allowed l t r Lease write = cond-true (is_write r.method) (renews l t RenewLease r) (record { answer = refuses UnsupportedMethod; table = l }) write
+allowed : (l : BrokerTable) (t : ℕ) (r : Request) (k : Kind) → is_write r.method ≡ true → by_call l t r (Some (call_for k)) ≡ renewal_outcome l t (call_for k) r
+allowed l t r Token write = cond-true (is_write r.method) (renewal_outcome l t RenewSelf r) (record { answer = refuses UnsupportedMethod; table = l }) write
+allowed l t r Lease write = cond-true (is_write r.method) (renewal_outcome l t RenewLease r) (record { answer = refuses UnsupportedMethod; table = l }) write
 
 credential_hit : (c : List ℕ) (b : Bool) (r : Row) → b && bytes_eq r.credential c ≡ true → r.credential ≡ c
 credential_hit c b r hit = (bytes_decides r.credential c).0 (and_right b (bytes_eq r.credential c) hit)
@@ -107,7 +107,7 @@ unfolding is_lease_with
 lease_hit c r hit = credential_hit c (is_lease r.kind) r hit
 
 same_end : (fault : Option Fault) (t : ℕ) (r q : Row) (x y : Option ℕ) → q ≡ record r { credential = q.credential } → y ≡ x → new_end fault t q y ≡ new_end fault t r x
-unfolding new_end step_of
+unfolding new_end step_of_row
 same_end fault t r q x y same increment = ap (λ (row : Row). new_end fault t row y) same ∙ ap (new_end fault t r) increment
 
 module _ (g : Forest) (cs ds : List (List ℕ)) where
@@ -163,7 +163,7 @@ module _ (g : Forest) (cs ds : List (List ℕ)) where
     a.1,
   )
 
-  granted_both : (i t : ℕ) (fault : Option Fault) (x y : Result Subject Refusal) → SubjectsOf i x y → RenewedOf i (granted fault t x) (granted fault t y)
+  granted_both : (i t : ℕ) (fault : Option Fault) (x y : Result Subject Refusal) → SubjectsOf i x y → RenewedOf i (granted_row fault t x) (granted_row fault t y)
   granted_both i t fault (Err x) (Err y) same = same
   granted_both i t fault (Err x) (Ok b) same = absurd same
   granted_both i t fault (Ok a) (Err y) same = absurd same
@@ -173,40 +173,40 @@ module _ (g : Forest) (cs ds : List (List ℕ)) where
       (λ able. with_end i (new_end fault t a.row a.increment) (new_end fault t b.row b.increment) a.row b.row same.0 (same_end fault t a.row b.row a.increment b.increment same.0.0.same same.1))
       (λ unable. refl)
 
-  renewal_both : (i t : ℕ) (xs ys : List Row) (call : Call) (r q : Request) (fault : Option Fault) → SubjectsOf i (subject xs call r) (subject ys call q) → RenewedOf i (renewal xs t call r fault) (renewal ys t call q fault)
-  unfolding renewal
+  renewal_both : (i t : ℕ) (xs ys : List Row) (call : Call) (r q : Request) (fault : Option Fault) → SubjectsOf i (subject xs call r) (subject ys call q) → RenewedOf i (renewal_by_broker xs t call r fault) (renewal_by_broker ys t call q fault)
+  unfolding renewal_by_broker
   renewal_both i t xs ys call r q fault same =
-      by_test (RenewedOf i) (is_deny fault) (is_deny fault) (Err PermissionDenied) (granted fault t (subject xs call r)) (Err PermissionDenied) (granted fault t (subject ys call q)) refl
+      by_test (RenewedOf i) (is_deny fault) (is_deny fault) (Err PermissionDenied) (granted_row fault t (subject xs call r)) (Err PermissionDenied) (granted_row fault t (subject ys call q)) refl
       (λ deny. refl) (λ none. granted_both i t fault (subject xs call r) (subject ys call q) same)
 
-  counted_both : (i n : ℕ) (l m : Table) (fault : Option Fault) (x y : Result Row Refusal) → AreTablesAlike g cs ds l m → RenewedOf i x y →
-      OutcomesOf g cs ds (call_for (entry_at g.entries i).kind) i (counted l n (call_for (entry_at g.entries i).kind) fault x) (counted m n (call_for (entry_at g.entries i).kind) fault y)
-  counted_both i n l m fault (Err x) (Err y) a same = (same, record { rows = a.rows; faults = ap (λ fs. without fs n) a.faults; count = refl })
+  counted_both : (i n : ℕ) (l m : BrokerTable) (fault : Option Fault) (x y : Result Row Refusal) → AreTablesAlike g cs ds l m → RenewedOf i x y →
+      OutcomesOf g cs ds (call_for (entry_at g.entries i).kind) i (counted_renewal l n (call_for (entry_at g.entries i).kind) fault x) (counted_renewal m n (call_for (entry_at g.entries i).kind) fault y)
+  counted_both i n l m fault (Err x) (Err y) a same = (same, record { rows = a.rows; faults = ap (λ fs. without_fault fs n) a.faults; count = refl })
   counted_both i n l m fault (Err x) (Ok q) a same = absurd same
   counted_both i n l m fault (Ok r) (Err y) a same = absurd same
   counted_both i n l m fault (Ok r) (Ok q) a same =
       let call = call_for (entry_at g.entries i).kind in (
         by_test (AnswersOf g cs ds call i) (is_drop fault) (is_drop fault) drops (tells call r) drops (tells call q) refl (λ dropped. tt) (λ told. (refl, (refl, same))),
-        record { rows = with_both g cs ds l.rows m.rows a.rows r q same.0; faults = ap (λ fs. without fs n) a.faults; count = refl },
+        record { rows = with_both g cs ds l.rows m.rows a.rows r q same.0; faults = ap (λ fs. without_fault fs n) a.faults; count = refl },
       )
 
-  pub renews_both : (i t : ℕ) (l m : Table) (r q : Request) → AreTablesAlike g cs ds l m → SubjectsOf i (subject l.rows (call_for (entry_at g.entries i).kind) r) (subject m.rows (call_for (entry_at g.entries i).kind) q) →
-      OutcomesOf g cs ds (call_for (entry_at g.entries i).kind) i (renews l t (call_for (entry_at g.entries i).kind) r) (renews m t (call_for (entry_at g.entries i).kind) q)
-  unfolding renews
+  pub renews_both : (i t : ℕ) (l m : BrokerTable) (r q : Request) → AreTablesAlike g cs ds l m → SubjectsOf i (subject l.rows (call_for (entry_at g.entries i).kind) r) (subject m.rows (call_for (entry_at g.entries i).kind) q) →
+      OutcomesOf g cs ds (call_for (entry_at g.entries i).kind) i (renewal_outcome l t (call_for (entry_at g.entries i).kind) r) (renewal_outcome m t (call_for (entry_at g.entries i).kind) q)
+  unfolding renewal_outcome
   renews_both i t l m r q a same =
       let call = call_for (entry_at g.entries i).kind in
       let n = next_number l.count in
       let fault = fault_at l.faults n in
-      let found : RenewedOf i (renewal l.rows t call r fault) (renewal m.rows t call q fault) = renewal_both i t l.rows m.rows call r q fault same in
-      let one : OutcomesOf g cs ds call i (counted l n call fault (renewal l.rows t call r fault)) (counted m n call fault (renewal m.rows t call q fault)) =
-      counted_both i n l m fault (renewal l.rows t call r fault) (renewal m.rows t call q fault) a found in
-      let two = subst (λ k. OutcomesOf g cs ds call i (counted l n call fault (renewal l.rows t call r fault)) (counted m k call (fault_at l.faults k) (renewal m.rows t call q (fault_at l.faults k)))) (sym (ap next_number a.count)) one in
+      let found : RenewedOf i (renewal_by_broker l.rows t call r fault) (renewal_by_broker m.rows t call q fault) = renewal_both i t l.rows m.rows call r q fault same in
+      let one : OutcomesOf g cs ds call i (counted_renewal l n call fault (renewal_by_broker l.rows t call r fault)) (counted_renewal m n call fault (renewal_by_broker m.rows t call q fault)) =
+      counted_both i n l m fault (renewal_by_broker l.rows t call r fault) (renewal_by_broker m.rows t call q fault) a found in
+      let two = subst (λ k. OutcomesOf g cs ds call i (counted_renewal l n call fault (renewal_by_broker l.rows t call r fault)) (counted_renewal m k call (fault_at l.faults k) (renewal_by_broker m.rows t call q (fault_at l.faults k)))) (sym (ap next_number a.count)) one in
       let k = next_number m.count in
-      subst (λ fs. OutcomesOf g cs ds call i (counted l n call fault (renewal l.rows t call r fault)) (counted m k call (fault_at fs k) (renewal m.rows t call q (fault_at fs k)))) (sym a.faults) two
+      subst (λ fs. OutcomesOf g cs ds call i (counted_renewal l n call fault (renewal_by_broker l.rows t call r fault)) (counted_renewal m k call (fault_at fs k) (renewal_by_broker m.rows t call q (fault_at fs k)))) (sym a.faults) two
 
   -- ---- the step
 
-  pub swept_tables : (t : ℕ) (l m : Table) → AreTablesAlike g cs ds l m → AreTablesAlike g cs ds (after_sweep l t) (after_sweep m t)
+  pub swept_tables : (t : ℕ) (l m : BrokerTable) → AreTablesAlike g cs ds l m → AreTablesAlike g cs ds (after_sweep l t) (after_sweep m t)
   swept_tables t l m a = record { rows = swept_both g cs ds l.rows m.rows a.rows t; faults = a.faults; count = a.count }
 
   module _ (ts us : List Terms) (one : IsInventory (record { forest = g; credentials = cs; terms = ts })) (two : IsInventory (record { forest = g; credentials = ds; terms = us })) where
@@ -245,20 +245,20 @@ module _ (g : Forest) (cs ds : List (List ℕ)) where
         (owner_both i (Some e.step) (credential_at cs p) (credential_at ds p) xs ys (lease_found_both g cs ds xs ys zip i within lease) (token_with xs (credential_at cs p)) (token_with ys (credential_at ds p))
         (token_found_both g cs ds xs ys zip p (omega arith) over.1.1.1)))
 
-    steps_by : (v : Inventory) (t i : ℕ) (l : Table) (r : Request) → AsksRenewal v i r → step l t r ≡ renews (after_sweep l t) t (call_for (entry_at v.forest.entries i).kind) r
-    unfolding step
+    steps_by : (v : Inventory) (t i : ℕ) (l : BrokerTable) (r : Request) → AsksRenewal v i r → broker_step l t r ≡ renewal_outcome (after_sweep l t) t (call_for (entry_at v.forest.entries i).kind) r
+    unfolding broker_step
     steps_by v t i l r asks = ap (by_call (after_sweep l t) t r) asks.call ∙ allowed (after_sweep l t) t r (entry_at v.forest.entries i).kind asks.method
 
     -- the renewal of an entry
-    pub steps_both : (port other t i : ℕ) (l m : Table) → i < length g.entries → AreTablesAlike g cs ds l m →
-        OutcomesOf g cs ds (call_for (entry_at g.entries i).kind) i (step l t (request_of port cs g i)) (step m t (request_of other ds g i))
+    pub steps_both : (port other t i : ℕ) (l m : BrokerTable) → i < length g.entries → AreTablesAlike g cs ds l m →
+        OutcomesOf g cs ds (call_for (entry_at g.entries i).kind) i (broker_step l t (renewal_request port cs g i)) (broker_step m t (renewal_request other ds g i))
     unfolding s u
     steps_both port other t i l m within a =
-        let r = request_of port cs g i in
-        let q = request_of other ds g i in
+        let r = renewal_request port cs g i in
+        let q = renewal_request other ds g i in
         let call = call_for (entry_at g.entries i).kind in
         let asks = asks_renewal s one port i within in
         let asks' = asks_renewal u two other i within in
         let left = swept_tables t l m a in
-        as_both (OutcomesOf g cs ds call i) (renews (after_sweep l t) t call r) (step l t r) (renews (after_sweep m t) t call q) (step m t q) (steps_by s t i l r asks) (steps_by u t i m q asks')
+        as_both (OutcomesOf g cs ds call i) (renewal_outcome (after_sweep l t) t call r) (broker_step l t r) (renewal_outcome (after_sweep m t) t call q) (broker_step m t q) (steps_by s t i l r asks) (steps_by u t i m q asks')
         (renews_both i t (after_sweep l t) (after_sweep m t) r q left (subjects_both i r q (after_sweep l t).rows (after_sweep m t).rows within left.rows asks asks'))

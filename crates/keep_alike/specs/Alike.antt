@@ -9,11 +9,11 @@ use Rattle.keep_tree.specs.Forest.{Forest, entry_at}
 use Rattle.keep_inventory.specs.Inventories.{credential_at}
 use Rattle.keep_moment.specs.declared.moment.TheConstants.{LAST}
 use Rattle.broker_table.specs.declared.row.Row.{Row}
-use Rattle.broker_table.specs.Table.{Table}
+use Rattle.broker_table.specs.Table.{BrokerTable}
 
 -- what a forest keeps of the one that was supplied, whatever lookups and renewals tell: as many entries, each of its kind, and
 -- of a lease its token and its step
-pub record IsKept (g h : Forest) : Type 0 where
+pub record KeepsSupplied (g h : Forest) : Type 0 where
   pub count : length h.entries ≡ length g.entries
   pub kinds : (i : ℕ) → (entry_at h.entries i).kind ≡ (entry_at g.entries i).kind
   pub owners : (i : ℕ) → (entry_at g.entries i).kind ≡ Lease → (entry_at h.entries i).parent ≡ (entry_at g.entries i).parent
@@ -26,7 +26,7 @@ pub record AreRowsAlike (g : Forest) (cs ds : List (List ℕ)) (r q : Row) : Typ
   pub found : (i : ℕ) → i < length g.entries → (entry_at g.entries i).kind ≡ r.kind → (r.credential ≡ credential_at cs i) ↔ (q.credential ≡ credential_at ds i)
 
 -- two tables of such rows, in one order, with the same faults and counts
-pub record AreTablesAlike (g : Forest) (cs ds : List (List ℕ)) (l m : Table) : Type 0 where
+pub record AreTablesAlike (g : Forest) (cs ds : List (List ℕ)) (l m : BrokerTable) : Type 0 where
   pub rows : AllZip (AreRowsAlike g cs ds) l.rows m.rows
   pub faults : m.faults ≡ l.faults
   pub count : m.count ≡ l.count
@@ -40,5 +40,5 @@ pub record AreBrokersAlike (g : Forest) (cs ds : List (List ℕ)) (old other : O
   pub tables : AreTablesAlike g cs ds behind.table other_behind.table
 
 -- each row was issued at a moment that a date can tell
-abbrev pub AreDated : Table → Type 0
+abbrev pub AreDated : BrokerTable → Type 0
 AreDated l = All (λ row. row.issued ≤ LAST) l.rows

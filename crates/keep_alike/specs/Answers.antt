@@ -9,7 +9,7 @@ use Rattle.keep_tree.specs.Forest.{Forest}
 use Rattle.broker_table.specs.declared.call.Call.{Call}
 use Rattle.broker_table.specs.declared.call.Call.TheVariants.{LookupSelf, LookupLease}
 use Rattle.broker_table.specs.declared.row.Row.{Row}
-use Rattle.broker_table.specs.Step.{Answer, Outcome, drops, refuses, tells}
+use Rattle.broker_table.specs.Step.{BrokerAnswer, BrokerOutcome, drops, refuses, tells}
 use Rattle.keep_alike.specs.Alike.{AreRowsAlike, AreTablesAlike}
 
 -- the call that looks an entry of that kind up
@@ -22,7 +22,7 @@ abbrev pub RowsOf : Forest → List (List ℕ) → List (List ℕ) → ℕ → R
 RowsOf g cs ds i r q = AreRowsAlike g cs ds r q × ((r.credential ≡ credential_at cs i) × (q.credential ≡ credential_at ds i))
 
 -- answers to that call that say the same of the entry i: one refusal, or such rows, or both none
-abbrev pub AnswersOf : Forest → List (List ℕ) → List (List ℕ) → Call → ℕ → Answer → Answer → Type 0
+abbrev pub AnswersOf : Forest → List (List ℕ) → List (List ℕ) → Call → ℕ → BrokerAnswer → BrokerAnswer → Type 0
 AnswersOf g cs ds call i (refuses x) (refuses y) = y ≡ x
 AnswersOf g cs ds call i (refuses x) (tells d q) = ⊥
 AnswersOf g cs ds call i (refuses x) drops = ⊥
@@ -34,11 +34,11 @@ AnswersOf g cs ds call i drops (tells d q) = ⊥
 AnswersOf g cs ds call i drops drops = Unit {0}
 
 -- such answers, and tables that are alike after them
-abbrev pub OutcomesOf : Forest → List (List ℕ) → List (List ℕ) → Call → ℕ → Outcome → Outcome → Type 0
+abbrev pub OutcomesOf : Forest → List (List ℕ) → List (List ℕ) → Call → ℕ → BrokerOutcome → BrokerOutcome → Type 0
 OutcomesOf g cs ds call i x y = AnswersOf g cs ds call i x.answer y.answer × AreTablesAlike g cs ds x.table y.table
 
 -- the row of which an answer speaks, if it does, was issued at a moment that a date can tell
-abbrev pub Speaks : Answer → Type 0
+abbrev pub Speaks : BrokerAnswer → Type 0
 Speaks (refuses refusal) = Unit {0}
 Speaks (tells call row) = row.issued ≤ LAST
 Speaks drops = Unit {0}

@@ -1,15 +1,15 @@
 -- Laws: a broker's step tells no credential from another. The contract of a public function without a body.
 -- Source: this project's own.
 use Rattle.std.specs.Prelude.{ℕ, ◌<◌, List, length}
-use Rattle.keep_exchange.specs.Requests.{lookup_of, request_of}
+use Rattle.keep_exchange.specs.Requests.{lookup_of, renewal_request}
 use Rattle.keep_inventory.specs.Inventories.{IsInventory, Inventory}
 use Rattle.keep_inventory.specs.declared.terms.Terms.{Terms}
 use Rattle.keep_tree.specs.Forest.{Forest, entry_at}
 use Rattle.broker_table.specs.Granted.{call_for}
-use Rattle.broker_table.specs.Step.{step}
-use Rattle.broker_table.specs.Table.{Table}
+use Rattle.broker_table.specs.Step.{broker_step}
+use Rattle.broker_table.specs.Table.{BrokerTable}
 use Rattle.vault_http.specs.declared.request.Request.{Request}
-use Rattle.keep_alike.specs.Alike.{AreDated, AreTablesAlike, IsKept}
+use Rattle.keep_alike.specs.Alike.{AreDated, AreTablesAlike, KeepsSupplied}
 use Rattle.keep_alike.specs.Answers.{OutcomesOf, Speaks, look_for}
 
 -- an inventory by its parts
@@ -21,15 +21,15 @@ inventory_of g cs ts = record { forest = g; credentials = cs; terms = ts }
 -- after it
 abbrev pub RenewalLaw : Type 0
 RenewalLaw =
-    (g : Forest) (cs ds : List (List ℕ)) (ts : List Terms) → IsInventory (inventory_of g cs ts) → IsInventory (inventory_of g ds ts) → (port other t i : ℕ) (h : Forest) (l m : Table) → i < length g.entries → IsKept g h →
-    AreTablesAlike g cs ds l m → OutcomesOf g cs ds (call_for (entry_at g.entries i).kind) i (step l t (request_of port cs h i)) (step m t (request_of other ds h i))
+    (g : Forest) (cs ds : List (List ℕ)) (ts : List Terms) → IsInventory (inventory_of g cs ts) → IsInventory (inventory_of g ds ts) → (port other t i : ℕ) (h : Forest) (l m : BrokerTable) → i < length g.entries → KeepsSupplied g h →
+    AreTablesAlike g cs ds l m → OutcomesOf g cs ds (call_for (entry_at g.entries i).kind) i (broker_step l t (renewal_request port cs h i)) (broker_step m t (renewal_request other ds h i))
 
 -- and so they do to its lookup
-abbrev pub LookupLaw : Type 0
-LookupLaw =
-    (g : Forest) (cs ds : List (List ℕ)) (ts : List Terms) → IsInventory (inventory_of g cs ts) → IsInventory (inventory_of g ds ts) → (port other t i : ℕ) (l m : Table) → i < length g.entries →
-    AreTablesAlike g cs ds l m → OutcomesOf g cs ds (look_for (entry_at g.entries i).kind) i (step l t (lookup_of port cs g i)) (step m t (lookup_of other ds g i))
+abbrev pub AlikeLookupLaw : Type 0
+AlikeLookupLaw =
+    (g : Forest) (cs ds : List (List ℕ)) (ts : List Terms) → IsInventory (inventory_of g cs ts) → IsInventory (inventory_of g ds ts) → (port other t i : ℕ) (l m : BrokerTable) → i < length g.entries →
+    AreTablesAlike g cs ds l m → OutcomesOf g cs ds (look_for (entry_at g.entries i).kind) i (broker_step l t (lookup_of port cs g i)) (broker_step m t (lookup_of other ds g i))
 
 -- whatever is asked, a step leaves each row issued when it was, and speaks of one of them
 abbrev pub DatedLaw : Type 0
-DatedLaw = (l : Table) → AreDated l → (t : ℕ) (r : Request) → Speaks (step l t r).answer × AreDated (step l t r).table
+DatedLaw = (l : BrokerTable) → AreDated l → (t : ℕ) (r : Request) → Speaks (broker_step l t r).answer × AreDated (broker_step l t r).table

@@ -3,15 +3,15 @@ use Rattle.std.proofs.Common.{◌≡◌, ◌∙◌, ◌⊎◌, ℕ, Bool, IsErr,
 use Rattle.std.proofs.KnownBytes.{Consumes-trans}
 use Rattle.std.specs.Io.KnownBytes.{Appends, Consumes}
 use Rattle.std.specs.Prelude.{codes}
-use Rattle.keep_control.specs.Replies.{reply_of}
+use Rattle.keep_control.specs.Replies.{reply_in_text}
 use Rattle.keep_control.specs.declared.reply.Reply.{Reply}
 use Rattle.keep_device.specs.Seen.{Change, Input, Output, Seen, change}
 use Rattle.keep_device.specs.declared.fault.InputFault.{InputFault}
 use Rattle.keep_device.specs.declared.fault.InputFault.TheVariants as inputs
 use Rattle.keep_device.specs.declared.fault.SinkFault.{SinkFault}
 use Rattle.keep_report.specs.Sent.{IsAll}
-use Rattle.keep_calling.specs.Following.{Begins, GoesOn, Hears, Listens, Opens, PassesBy, PassesOn, ReadsAll, TellsHow}
-use Rattle.keep_calling.specs.Hearing.{Sent, fault_of_read, fault_of_write, heard_of}
+use Rattle.keep_calling.specs.Following.{AnswerOpens, CallBegins, FollowingGoesOn, HearsOtherAnswer, ListensToAll, PassesBy, PassesOn, ReadsAll, TellsHow}
+use Rattle.keep_calling.specs.Hearing.{IsSentOrGivenUp, fault_of_read, fault_of_write, heard_of}
 use Rattle.keep_calling.specs.declared.call.Call.{Call}
 use Rattle.keep_calling.specs.declared.ended.Ended.{Ended}
 use Rattle.keep_calling.specs.declared.fault.CallFault.{CallFault}
@@ -25,17 +25,17 @@ use Rattle.keep_calling.specs.declared.hearing.Heard.{Heard}
 -- ---- what is read
 
 -- a read failed, or it is too long
-pub unread_opens : (r : Result Begun CallFault) (fault : InputFault) (line : Change) → IsErr r × IsErrAnd r (λ e. e ≡ fault_of_read fault) → Opens r line
+pub unread_opens : (r : Result Begun CallFault) (fault : InputFault) (line : Change) → IsErr r × IsErrAnd r (λ e. e ≡ fault_of_read fault) → AnswerOpens r line
 unread_opens (Ok b) fault line is = absurd (let no = is.0 in cc)
 unread_opens (Err e) fault line is = inr (fault, ap Err is.1)
 
 -- memory was wanting
-pub wanting_opens : (r : Result Begun CallFault) (line : Change) → IsErr r × IsErrAnd r (λ e. e ≡ Memory) → Opens r line
+pub wanting_opens : (r : Result Begun CallFault) (line : Change) → IsErr r × IsErrAnd r (λ e. e ≡ Memory) → AnswerOpens r line
 wanting_opens (Ok b) line is = absurd (let no = is.0 in cc)
 wanting_opens (Err e) line is = inr (inputs.OutOfMemory, ap Err is.1)
 
 -- all bytes are there, and they are no answer
-not_answer : (e : CallFault) (front rest : List ℕ) (line : Change) → ReadsAll front rest line → (heard_of (front ++ rest) ≡ Err e) ⊎ (e ≡ Memory) → Listens (Err e) line
+not_answer : (e : CallFault) (front rest : List ℕ) (line : Change) → ReadsAll front rest line → (heard_of (front ++ rest) ≡ Err e) ⊎ (e ≡ Memory) → ListensToAll (Err e) line
 not_answer e front rest line reads (inl is) = inl (front, rest, (reads, is))
 not_answer e front rest line reads (inr is) = inr (inputs.OutOfMemory, ap Err is)
 
@@ -44,31 +44,31 @@ same_err e f text is (inl h) = inl (h ∙ ap Err (sym is))
 same_err e f text is (inr h) = inr (is ∙ h)
 
 pub not_answer_opens : (r : Result Begun CallFault) (fault : CallFault) (front rest text : List ℕ) (line : Change) → IsErr r × IsErrAnd r (λ e. e ≡ fault) → text ≡ front ++ rest
-    → (heard_of text ≡ Err fault) ⊎ (fault ≡ Memory) → ReadsAll front rest line → Opens r line
+    → (heard_of text ≡ Err fault) ⊎ (fault ≡ Memory) → ReadsAll front rest line → AnswerOpens r line
 not_answer_opens (Ok b) fault front rest text line is whole says reads = absurd (let no = is.0 in cc)
 not_answer_opens (Err e) fault front rest text line is whole says reads =
     not_answer e front rest line reads (subst (λ t. (heard_of t ≡ Err e) ⊎ (e ≡ Memory)) whole (same_err e fault text is.1 says))
 
-pub answer_opens : (h : Heard) (front rest text : List ℕ) (line : Change) → text ≡ front ++ rest → heard_of text ≡ Ok h.reply → reply_of h.text ≡ Some h.reply → ReadsAll front rest line
-    → Opens (Ok (Answer h)) line
+pub answer_opens : (h : Heard) (front rest text : List ℕ) (line : Change) → text ≡ front ++ rest → heard_of text ≡ Ok h.reply → reply_in_text h.text ≡ Some h.reply → ReadsAll front rest line
+    → AnswerOpens (Ok (Answer h)) line
 answer_opens h front rest text line whole says is reads = (inl (front, rest, (reads, subst (λ t. heard_of t ≡ Ok h.reply) whole says)), is)
 
-pub lines_open : (front : List ℕ) (line : Change) → front ≡ codes "ok\n" → Consumes line.old.input.remaining line.new.input.remaining front → Opens (Ok Lines) line
+pub lines_open : (front : List ℕ) (line : Change) → front ≡ codes "ok\n" → Consumes line.old.input.remaining line.new.input.remaining front → AnswerOpens (Ok Lines) line
 lines_open front line is read = subst (Consumes line.old.input.remaining line.new.input.remaining) is read
 
 -- ---- after the request
 
 pub unsent_begins : (r : Result Begun CallFault) (fault : SinkFault) (request : List ℕ) (line : Change) → IsErr r × IsErrAnd r (λ e. e ≡ fault_of_write fault)
-    → Sent (Err fault) request line → Begins request r line
+    → IsSentOrGivenUp (Err fault) request line → CallBegins request r line
 unsent_begins (Ok b) fault request line is sent = absurd (let no = is.0 in cc)
 unsent_begins (Err e) fault request line is sent = inl (fault, (ap Err is.1, sent))
 
 module _ (old mid new : Seen) (in_memory : Bool) where
-  all_sent : (request : List ℕ) (u : Unit {0}) → Sent (Ok u) request (change in_memory old mid) → new.output ≡ mid.output → IsAll request (change in_memory old new)
+  all_sent : (request : List ℕ) (u : Unit {0}) → IsSentOrGivenUp (Ok u) request (change in_memory old mid) → new.output ≡ mid.output → IsAll request (change in_memory old new)
   all_sent request u sent same =
       (subst (λ (o : Output). Appends old.output.written o.written request) (sym same) sent.0.0, subst (λ (o : Output). IsTrue o.is_flushed) (sym same) sent.0.1)
 
-  listens_from : (heard : Result Reply CallFault) → mid.input ≡ old.input → Listens heard (change in_memory mid new) → Listens heard (change in_memory old new)
+  listens_from : (heard : Result Reply CallFault) → mid.input ≡ old.input → ListensToAll heard (change in_memory mid new) → ListensToAll heard (change in_memory old new)
   listens_from heard same (inl h) = inl (
     h.0,
     h.1,
@@ -83,8 +83,8 @@ module _ (old mid new : Seen) (in_memory : Bool) where
   )
   listens_from heard same (inr h) = inr h
 
-  pub begins_after : (r : Result Begun CallFault) (request : List ℕ) (u : Unit {0}) → Sent (Ok u) request (change in_memory old mid) → Opens r (change in_memory mid new) → new.output ≡ mid.output
-      → Begins request r (change in_memory old new)
+  pub begins_after : (r : Result Begun CallFault) (request : List ℕ) (u : Unit {0}) → IsSentOrGivenUp (Ok u) request (change in_memory old mid) → AnswerOpens r (change in_memory mid new) → new.output ≡ mid.output
+      → CallBegins request r (change in_memory old new)
   begins_after (Ok Lines) request u sent opens same =
       (all_sent request u sent same, subst (λ (i : Input). Consumes i.remaining new.input.remaining (codes "ok\n")) sent.1 opens)
   begins_after (Ok (Answer h)) request u sent opens same = (inr (all_sent request u sent same, listens_from (Ok h.reply) sent.1 opens.0), opens.1)
@@ -97,8 +97,8 @@ module _ (old mid new : Seen) (in_memory : Bool) where
   passes_from ways.Lost came out h = h
   passes_from (ways.Stopped stop) came out h = h
 
-  pub goes_on : (call : Call) (request : List ℕ) (ended : Ended) (followed : Followed) (out errors : Change) → Begins request (Ok Lines) (change in_memory old mid)
-      → PassesOn followed (change in_memory mid new) out → TellsHow call followed ended errors → GoesOn call request ended (change in_memory old new) out errors
+  pub goes_on : (call : Call) (request : List ℕ) (ended : Ended) (followed : Followed) (out errors : Change) → CallBegins request (Ok Lines) (change in_memory old mid)
+      → PassesOn followed (change in_memory mid new) out → TellsHow call followed ended errors → FollowingGoesOn call request ended (change in_memory old new) out errors
   goes_on call request ended followed out errors begins passes told = record {
     followed = followed;
     came = passes.0;

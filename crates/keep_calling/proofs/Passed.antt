@@ -8,16 +8,16 @@ use Rattle.keep_device.specs.Front.{AppendsFront}
 use Rattle.keep_device.specs.Seen.{Change, Input, Output, Seen, change}
 use Rattle.keep_device.specs.declared.fault.SinkFault.{SinkFault}
 use Rattle.keep_report.proofs.Pieces.{front_more}
-use Rattle.keep_report.specs.Sent.{GaveUp, IsAll, Sends}
+use Rattle.keep_report.specs.Sent.{GaveUp, IsAll, SendsText}
 use Rattle.keep_report.specs.declared.stop.Stop.{Stop}
 use Rattle.keep_report.specs.declared.stop.Stop.TheVariants as stops
-use Rattle.keep_calling.specs.Following.{PassesBy, PassesOn, PassesOne, ShowsAll, Takes}
+use Rattle.keep_calling.specs.Following.{PassesBy, PassesOn, PassesOne, ShowsAll, TakesBytes}
 use Rattle.keep_calling.specs.declared.following.Followed.{Followed}
 use Rattle.keep_calling.specs.declared.following.Followed.TheVariants as ways
 
 -- what came so far is shown, and the output has not failed
 abbrev pub SoFar : Change → Change → Type 0
-SoFar line out = (came : List ℕ) × (Takes came line × (ShowsAll came out × (out.new.failed_calls ≡ out.old.failed_calls)))
+SoFar line out = (came : List ℕ) × (TakesBytes came line × (ShowsAll came out × (out.new.failed_calls ≡ out.old.failed_calls)))
 
 pub none_yet : (line out : Seen) (a b : Bool) → SoFar (change a line line) (change b out out)
 none_yet line out a b = ([], ((Consumes-nil line.input.remaining, refl), ((Appends-nil out.output.written, inl refl), refl)))
@@ -36,14 +36,14 @@ module _ (l0 l1 l2 o0 o1 o2 : Seen) (a b : Bool) where
   nothing_more : (xs ys : List ℕ) → ys ≡ [] → xs ++ ys ≡ xs
   nothing_more xs ys is = ap (λ l. xs ++ l) is ∙ append-nil xs
 
-  takes_no_more : (xs ys : List ℕ) → ys ≡ [] → Takes xs (change a l0 l1) → Takes ys (change a l1 l2) → Takes xs (change a l0 l2)
+  takes_no_more : (xs ys : List ℕ) → ys ≡ [] → TakesBytes xs (change a l0 l1) → TakesBytes ys (change a l1 l2) → TakesBytes xs (change a l0 l2)
   takes_no_more xs ys is first then =
       (subst (Consumes l0.input.remaining l2.input.remaining) (nothing_more xs ys is) (Consumes-trans _ _ _ xs ys first.0 then.0), then.1 ∙ first.1)
 
   shows_no_more : (xs : List ℕ) → o2 ≡ o1 → ShowsAll xs (change b o0 o1) → ShowsAll xs (change b o0 o2)
   shows_no_more xs same h = subst (λ (o : Seen). ShowsAll xs (change b o0 o)) (sym same) h
 
-  stopped : (stop : Stop) (xs ys : List ℕ) → ShowsAll xs (change b o0 o1) → o1.failed_calls ≡ o0.failed_calls → Sends (Err stop) ys (change b o1 o2)
+  stopped : (stop : Stop) (xs ys : List ℕ) → ShowsAll xs (change b o0 o1) → o1.failed_calls ≡ o0.failed_calls → SendsText (Err stop) ys (change b o1 o2)
       → AppendsFront o0.output.written o2.output.written (xs ++ ys) × GaveUp (change b o0 o2)
   stopped stops.Write xs ys first still h =
       (front_more o0.output.written o1.output.written o2.output.written xs ys first.0 h.1, inl (subst (λ n. HasFailed n o2.failed_calls) still h.0))

@@ -7,7 +7,7 @@ use Rattle.std.specs.Str.{is_utf8}
 use Rattle.serde_json.specs.Data.{Data}
 use Rattle.serde_json.specs.Written.{compact_text}
 use Rattle.keep_control.specs.Answer.{◌>>=◌}
-use Rattle.keep_control.specs.Requests.{request_of}
+use Rattle.keep_control.specs.Requests.{request_in_line}
 use Rattle.keep_control.specs.Words.{texted}
 use Rattle.keep_control.specs.declared.fault.RequestFault.{RequestFault}
 use Rattle.keep_calling.specs.declared.ask.Ask.{Ask}
@@ -44,32 +44,32 @@ abbrev pub stripped : List ℕ → List ℕ
 stripped text = let rest = drop (prefix_len is_ascii_whitespace text) text in take (length rest - suffix_len is_ascii_whitespace rest) rest
 
 -- its words: those of the command line, and what standard input held
-abbrev pub words_for : Ask → List ℕ → List (List ℕ)
-words_for (Need name when) input = codes "need" ∷ name.now ∷ when.now ∷ []
-words_for (Replace name) input = codes "replace" ∷ name.now ∷ stripped input ∷ []
-words_for Add input = codes "add" ∷ input ∷ []
-words_for (Drop name) input = codes "drop" ∷ name.now ∷ []
-words_for Status input = codes "status" ∷ []
-words_for Health input = codes "health" ∷ []
-words_for Settle input = codes "settle" ∷ []
-words_for Reload input = codes "reload" ∷ []
-words_for (Follow false) input = codes "follow" ∷ []
-words_for (Follow true) input = codes "follow" ∷ codes "alerts" ∷ []
+abbrev pub words_for_ask : Ask → List ℕ → List (List ℕ)
+words_for_ask (Need name when) input = codes "need" ∷ name.now ∷ when.now ∷ []
+words_for_ask (Replace name) input = codes "replace" ∷ name.now ∷ stripped input ∷ []
+words_for_ask Add input = codes "add" ∷ input ∷ []
+words_for_ask (Drop name) input = codes "drop" ∷ name.now ∷ []
+words_for_ask Status input = codes "status" ∷ []
+words_for_ask Health input = codes "health" ∷ []
+words_for_ask Settle input = codes "settle" ∷ []
+words_for_ask Reload input = codes "reload" ∷ []
+words_for_ask (Follow false) input = codes "follow" ∷ []
+words_for_ask (Follow true) input = codes "follow" ∷ codes "alerts" ∷ []
 
 -- what it takes of standard input is text, which JSON can write
-abbrev pub is_text : Ask → List ℕ → Bool
-is_text (Replace name) input = is_utf8 (stripped input)
-is_text Add input = is_utf8 input
-is_text _ input = true
+abbrev pub is_ask_text : Ask → List ℕ → Bool
+is_ask_text (Replace name) input = is_utf8 (stripped input)
+is_ask_text Add input = is_utf8 input
+is_ask_text _ input = true
 
 -- the array of its words
-unfoldable pub tree_for : Ask → List ℕ → Result Data RequestFault
-tree_for ask input = texted (is_text ask input) (words_for ask input)
+unfoldable pub tree_for_ask : Ask → List ℕ → Result Data RequestFault
+tree_for_ask ask input = texted (is_ask_text ask input) (words_for_ask ask input)
 
 -- its words as a line of JSON
 unfoldable pub words_line : Ask → List ℕ → Result (List ℕ) RequestFault
-words_line ask input = tree_for ask input >>= (λ d. Ok (compact_text d))
+words_line ask input = tree_for_ask ask input >>= (λ d. Ok (compact_text d))
 
 -- the line that it sends, with its line feed, where an agent reads a request in it; else why it does not
-unfoldable pub line_for : Ask → List ℕ → Result (List ℕ) RequestFault
-line_for ask input = words_line ask input >>= (λ line. request_of line >>= (λ request. Ok (line ++ 10 ∷ [])))
+unfoldable pub line_for_ask : Ask → List ℕ → Result (List ℕ) RequestFault
+line_for_ask ask input = words_line ask input >>= (λ line. request_in_line line >>= (λ request. Ok (line ++ 10 ∷ [])))

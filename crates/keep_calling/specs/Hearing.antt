@@ -7,10 +7,10 @@ use Rattle.keep_device.specs.declared.fault.InputFault.{InputFault}
 use Rattle.keep_device.specs.declared.fault.InputFault.TheVariants as inputs
 use Rattle.keep_device.specs.declared.fault.SinkFault.{SinkFault}
 use Rattle.keep_device.specs.declared.fault.SinkFault.TheVariants as sink
-use Rattle.keep_control.specs.Replies.{reply_of}
+use Rattle.keep_control.specs.Replies.{reply_in_text}
 use Rattle.keep_control.specs.declared.reply.Reply.{Reply}
 use Rattle.keep_report.specs.Sent.{IsAll}
-use Rattle.keep_calling.specs.Requesting.{Reads}
+use Rattle.keep_calling.specs.Requesting.{ReadsDevice}
 use Rattle.keep_calling.specs.declared.fault.CallFault.{CallFault}
 use Rattle.keep_calling.specs.declared.fault.CallFault.TheVariants as faults
 use Rattle.keep_calling.specs.declared.limits.TheConstants.{ANSWER_MAX}
@@ -22,10 +22,10 @@ fault_of_write sink.Failed = faults.NotSent
 fault_of_write sink.OutOfMemory = faults.Memory
 
 -- the request was sent whole, and nothing else; or the connection gave up after a front of it; nothing was read
-abbrev pub Sent : Result (Unit {0}) SinkFault → List ℕ → Change → Type 0
-Sent (Ok u) request line = IsAll request line × (line.new.input ≡ line.old.input) × (line.new.failed_calls ≡ line.old.failed_calls)
-Sent (Err sink.Failed) request line = ReceivesFront request line × (line.new.input ≡ line.old.input) × HasFailed line.old.failed_calls line.new.failed_calls
-Sent (Err sink.OutOfMemory) request line = ReceivesFront request line × (line.new.input ≡ line.old.input) × IsTrue line.is_in_memory
+abbrev pub IsSentOrGivenUp : Result (Unit {0}) SinkFault → List ℕ → Change → Type 0
+IsSentOrGivenUp (Ok u) request line = IsAll request line × (line.new.input ≡ line.old.input) × (line.new.failed_calls ≡ line.old.failed_calls)
+IsSentOrGivenUp (Err sink.Failed) request line = ReceivesFront request line × (line.new.input ≡ line.old.input) × HasFailed line.old.failed_calls line.new.failed_calls
+IsSentOrGivenUp (Err sink.OutOfMemory) request line = ReceivesFront request line × (line.new.input ≡ line.old.input) × IsTrue line.is_in_memory
 
 -- ---- the answer
 
@@ -41,22 +41,22 @@ or_cut (Some reply) = Ok reply
 -- the answer that all bytes are which came
 abbrev pub heard_of : List ℕ → Result Reply CallFault
 heard_of [] = Err faults.NoAnswer
-heard_of (byte ∷ bytes) = or_cut (reply_of (byte ∷ bytes))
+heard_of (byte ∷ bytes) = or_cut (reply_in_text (byte ∷ bytes))
 
-abbrev pub heard_in : Result (List ℕ) InputFault → Result Reply CallFault
-heard_in (Ok bytes) = heard_of bytes
-heard_in (Err fault) = Err (fault_of_read fault)
+abbrev pub heard_of_read : Result (List ℕ) InputFault → Result Reply CallFault
+heard_of_read (Ok bytes) = heard_of bytes
+heard_of_read (Err fault) = Err (fault_of_read fault)
 
 -- the connection was read to its end, and this is the answer, unless memory was refused
-abbrev pub Listens : Result Reply CallFault → Change → Type 0
-Listens heard line = (came : Result (List ℕ) InputFault) × (Reads ANSWER_MAX came line × ((heard_in came ≡ heard) ⊎ (heard ≡ Err faults.Memory)))
+abbrev pub ListensToEnd : Result Reply CallFault → Change → Type 0
+ListensToEnd heard line = (came : Result (List ℕ) InputFault) × (ReadsDevice ANSWER_MAX came line × ((heard_of_read came ≡ heard) ⊎ (heard ≡ Err faults.Memory)))
 
 -- ---- both
 
 -- the request was not sent whole, and nothing was read
 abbrev pub IsUnsent : List ℕ → Result Reply CallFault → Change → Type 0
-IsUnsent request heard line = (fault : SinkFault) × ((heard ≡ Err (fault_of_write fault)) × Sent (Err fault) request line)
+IsUnsent request heard line = (fault : SinkFault) × ((heard ≡ Err (fault_of_write fault)) × IsSentOrGivenUp (Err fault) request line)
 
 -- the request was not sent whole; or it was, and then the answer was read
-abbrev pub Hears : List ℕ → Result Reply CallFault → Change → Type 0
-Hears request heard line = IsUnsent request heard line ⊎ (IsAll request line × Listens heard line)
+abbrev pub HearsReply : List ℕ → Result Reply CallFault → Change → Type 0
+HearsReply request heard line = IsUnsent request heard line ⊎ (IsAll request line × ListensToEnd heard line)

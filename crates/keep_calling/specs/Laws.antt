@@ -1,14 +1,14 @@
 -- Laws of calls. Each is the contract of a public function without a body.
 use Rattle.std.specs.Prelude.{◌≡◌, ◌⊎◌, ℕ, ◌<◌, List, [], ◌∷◌, ◌++◌, false, Ok, Err, length}
 use Rattle.std.specs.Str.{IsUtf8}
-use Rattle.keep_control.specs.Front.{IsFront}
-use Rattle.keep_control.specs.Requests.{command_of, request_of}
+use Rattle.keep_control.specs.Front.{IsLineFront}
+use Rattle.keep_control.specs.Requests.{command_of, request_in_line}
 use Rattle.keep_control.specs.declared.fault.RequestFault.{RequestFault}
 use Rattle.keep_control.specs.declared.fault.RequestFault.TheVariants.{TooLong, NotWords}
 use Rattle.keep_control.specs.declared.front.Front.TheVariants.{Whole}
 use Rattle.keep_control.specs.declared.limits.TheConstants.{LINE_MAX}
 use Rattle.keep_control.specs.declared.request.Request.{Request}
-use Rattle.keep_calling.specs.Asking.{is_text, line_for, words_for, words_line}
+use Rattle.keep_calling.specs.Asking.{is_ask_text, line_for_ask, words_for_ask, words_line}
 use Rattle.keep_calling.specs.declared.ask.Ask.{Ask}
 use Rattle.keep_calling.specs.declared.ask.Ask.TheVariants.{Need, Replace, Drop}
 
@@ -23,19 +23,19 @@ AreText _ = Unit {0}
 pub record SaysOnly (text : List ℕ) (request : Request) : Type 0 where
   pub line : List ℕ
   pub parts : text ≡ line ++ 10 ∷ []
-  pub front : (more : List ℕ) → IsFront (text ++ more) (Whole (length line))
-  pub read : request_of line ≡ Ok request
+  pub front : (more : List ℕ) → IsLineFront (text ++ more) (Whole (length line))
+  pub read : request_in_line line ≡ Ok request
 
 -- what is sent says what the words of the call ask for, and nothing else
 abbrev pub SentIsAsked : Type 0
-SentIsAsked = (ask : Ask) (input text : List ℕ) → AreText ask → line_for ask input ≡ Ok text
-    → (request : Request) × ((command_of (words_for ask input) ≡ Ok request) × SaysOnly text request)
+SentIsAsked = (ask : Ask) (input text : List ℕ) → AreText ask → line_for_ask ask input ≡ Ok text
+    → (request : Request) × ((command_of (words_for_ask ask input) ≡ Ok request) × SaysOnly text request)
 
 -- the line would be longer than one may be
-abbrev pub IsTooLong : Ask → List ℕ → Type 0
-IsTooLong ask input = (line : List ℕ) × ((words_line ask input ≡ Ok line) × (LINE_MAX < length line))
+abbrev pub LineIsTooLong : Ask → List ℕ → Type 0
+LineIsTooLong ask input = (line : List ℕ) × ((words_line ask input ≡ Ok line) × (LINE_MAX < length line))
 
 -- where nothing is sent, standard input holds no text, the line would be too long, or an agent would give this reason to the words
 abbrev pub UnsentIsRefused : Type 0
-UnsentIsRefused = (ask : Ask) (input : List ℕ) (fault : RequestFault) → AreText ask → line_for ask input ≡ Err fault
-    → ((fault ≡ NotWords) × (is_text ask input ≡ false)) ⊎ (((fault ≡ TooLong) × IsTooLong ask input) ⊎ (command_of (words_for ask input) ≡ Err fault))
+UnsentIsRefused = (ask : Ask) (input : List ℕ) (fault : RequestFault) → AreText ask → line_for_ask ask input ≡ Err fault
+    → ((fault ≡ NotWords) × (is_ask_text ask input ≡ false)) ⊎ (((fault ≡ TooLong) × LineIsTooLong ask input) ⊎ (command_of (words_for_ask ask input) ≡ Err fault))

@@ -4,17 +4,17 @@ use Rattle.std.specs.Prelude.{◌≡◌, ℕ, ◌≤◌, List, [], Bool, true, f
 use Rattle.std.specs.Io.KnownBytes.{IsAtEnd}
 use Rattle.keep_device.specs.Failures.{CountsInput}
 use Rattle.keep_device.specs.Seen.{Change}
-use Rattle.keep_device.specs.Whole.{IsWhole, MakesAtMost}
+use Rattle.keep_device.specs.Whole.{IsReadToEnd, MakesAtMost}
 use Rattle.keep_device.specs.declared.fault.InputFault.{InputFault}
 use Rattle.keep_device.specs.declared.limits.TheConstants.{MOST_READS}
-use Rattle.keep_control.specs.Replies.{why_of}
+use Rattle.keep_control.specs.Replies.{request_fault_text}
 use Rattle.keep_control.specs.declared.fault.RequestFault.{RequestFault}
 use Rattle.keep_report.specs.Exits.{stop_of_input}
 use Rattle.keep_report.specs.FaultLine.{fault_line}
 use Rattle.keep_report.specs.Sent.{IsUntouched}
 use Rattle.keep_report.specs.Told.{Reports}
 use Rattle.keep_report.specs.declared.stop.Stop.TheVariants as stops
-use Rattle.keep_calling.specs.Asking.{line_for, takes_input}
+use Rattle.keep_calling.specs.Asking.{line_for_ask, takes_input}
 use Rattle.keep_calling.specs.Ending.{ended_of}
 use Rattle.keep_calling.specs.Lines.{call_line}
 use Rattle.keep_calling.specs.declared.ask.Ask.{Ask}
@@ -24,8 +24,8 @@ use Rattle.keep_calling.specs.declared.ended.Ended.TheVariants as endings
 use Rattle.keep_calling.specs.declared.limits.TheConstants.{INPUT_MAX}
 
 -- a device was read to its end, up to so many bytes and reads, and gave these bytes, or failed so
-pub record Reads (max : ℕ) (read : Result (List ℕ) InputFault) (device : Change) : Type 0 where
-  pub whole : IfSome device.old.input.remaining (λ bytes. IsWhole max bytes device.old.input.reads_left device.new.input.reads_left read)
+pub record ReadsDevice (max : ℕ) (read : Result (List ℕ) InputFault) (device : Change) : Type 0 where
+  pub whole : IfSome device.old.input.remaining (λ bytes. IsReadToEnd max bytes device.old.input.reads_left device.new.input.reads_left read)
   pub short : IfOk read (λ text. length text ≤ max)
   pub end : OnOk read (IsAtEnd device.new.input.remaining)
   pub few : MakesAtMost MOST_READS device.old.input device.new.input
@@ -33,21 +33,21 @@ pub record Reads (max : ℕ) (read : Result (List ℕ) InputFault) (device : Cha
 
 -- where standard input is taken, it is read and nothing is written to it; else it is left alone
 abbrev pub TakesIf : Bool → Result (List ℕ) InputFault → Change → Type 0
-TakesIf true read input = Reads INPUT_MAX read input × (input.new.output ≡ input.old.output)
+TakesIf true read input = ReadsDevice INPUT_MAX read input × (input.new.output ≡ input.old.output)
 TakesIf false read input = (read ≡ Ok []) × IsUntouched input
 
-abbrev pub Takes : Ask → Result (List ℕ) InputFault → Change → Type 0
-Takes ask read input = TakesIf (takes_input ask) read input
+abbrev pub TakesInput : Ask → Result (List ℕ) InputFault → Change → Type 0
+TakesInput ask read input = TakesIf (takes_input ask) read input
 
 -- the line that is made of it, and nothing is told; or why there is none is told, without a word of what was read
-abbrev pub Tells : Call → Result (List ℕ) InputFault → Result (List ℕ) Ended → Change → Type 0
-Tells call (Ok text) (Ok line) errors = (line_for call.ask text ≡ Ok line) × IsUntouched errors
-Tells call (Ok text) (Err endings.Refused) errors = (fault : RequestFault) × ((line_for call.ask text ≡ Err fault) × Reports (call_line call (why_of fault)) errors)
-Tells call (Ok text) (Err endings.Memory) errors = Reports (fault_line call.program.now stops.Memory) errors
-Tells call (Ok text) (Err ended) errors = ⊥
-Tells call (Err fault) (Ok line) errors = ⊥
-Tells call (Err fault) (Err ended) errors = (ended ≡ ended_of (stop_of_input fault)) × Reports (fault_line call.program.now (stop_of_input fault)) errors
+abbrev pub MakesLine : Call → Result (List ℕ) InputFault → Result (List ℕ) Ended → Change → Type 0
+MakesLine call (Ok text) (Ok line) errors = (line_for_ask call.ask text ≡ Ok line) × IsUntouched errors
+MakesLine call (Ok text) (Err endings.Refused) errors = (fault : RequestFault) × ((line_for_ask call.ask text ≡ Err fault) × Reports (call_line call (request_fault_text fault)) errors)
+MakesLine call (Ok text) (Err endings.Memory) errors = Reports (fault_line call.program.now stops.Memory) errors
+MakesLine call (Ok text) (Err ended) errors = ⊥
+MakesLine call (Err fault) (Ok line) errors = ⊥
+MakesLine call (Err fault) (Err ended) errors = (ended ≡ ended_of (stop_of_input fault)) × Reports (fault_line call.program.now (stop_of_input fault)) errors
 
 -- the line that a call sends, or how it ended
-abbrev pub Asks : Call → Result (List ℕ) Ended → Change → Change → Type 0
-Asks call answer input errors = (read : Result (List ℕ) InputFault) × (Takes call.ask read input × Tells call read answer errors)
+abbrev pub CallAsks : Call → Result (List ℕ) Ended → Change → Change → Type 0
+CallAsks call answer input errors = (read : Result (List ℕ) InputFault) × (TakesInput call.ask read input × MakesLine call read answer errors)

@@ -6,12 +6,12 @@ use Rattle.keep_control.specs.declared.reply.Reply.{Reply}
 use Rattle.keep_control.specs.declared.reply.Reply.TheVariants as replies
 use Rattle.keep_device.specs.Seen.{Change}
 use Rattle.keep_report.specs.FaultLine.{fault_line}
-use Rattle.keep_report.specs.Sent.{IsAll, IsUntouched, Sends}
+use Rattle.keep_report.specs.Sent.{IsAll, IsUntouched, SendsText}
 use Rattle.keep_report.specs.Told.{Reports}
 use Rattle.keep_report.specs.declared.stop.Stop.{Stop}
 use Rattle.keep_calling.specs.Asking.{is_health}
 use Rattle.keep_calling.specs.Ending.{ended_of}
-use Rattle.keep_calling.specs.Hearing.{Hears}
+use Rattle.keep_calling.specs.Hearing.{HearsReply}
 use Rattle.keep_calling.specs.Lines.{TellsOf, call_line}
 use Rattle.keep_calling.specs.declared.ask.Ask.{Ask}
 use Rattle.keep_calling.specs.declared.call.Call.{Call}
@@ -26,20 +26,20 @@ abbrev pub kept_text : List ℕ
 kept_text = codes "every needed entry is kept\n"
 
 -- whether the lines of a health name no entry
-unfoldable pub is_kept : List ℕ → Bool
-is_kept lines = (length lines == 0) || bytes_eq lines kept_text
+unfoldable pub names_no_entry : List ℕ → Bool
+names_no_entry lines = (length lines == 0) || bytes_eq lines kept_text
 
 abbrev pub shown_text : Ask → List ℕ → List ℕ
-shown_text ask lines = if is_health ask && is_kept lines then kept_text else lines
+shown_text ask lines = if is_health ask && names_no_entry lines then kept_text else lines
 
 abbrev pub ended_by : Ask → List ℕ → Ended
-ended_by ask lines = if is_health ask && not (is_kept lines) then endings.Refused else endings.Done
+ended_by ask lines = if is_health ask && not (names_no_entry lines) then endings.Refused else endings.Done
 
 -- the lines are shown whole, and nothing is told; or only a front of them, and why is told
-abbrev pub Prints : Call → List ℕ → Ended → Change → Change → Type 0
-Prints call lines ended out errors =
+abbrev pub PrintsLines : Call → List ℕ → Ended → Change → Change → Type 0
+PrintsLines call lines ended out errors =
     (IsAll (shown_text call.ask lines) out × IsUntouched errors × (ended ≡ ended_by call.ask lines))
-    ⊎ ((stop : Stop) × (Sends (Err stop) (shown_text call.ask lines) out × Reports (fault_line call.program.now stop) errors × (ended ≡ ended_of stop)))
+    ⊎ ((stop : Stop) × (SendsText (Err stop) (shown_text call.ask lines) out × Reports (fault_line call.program.now stop) errors × (ended ≡ ended_of stop)))
 
 -- ---- none
 
@@ -54,11 +54,11 @@ fault_words faults.Memory = None
 -- ---- both
 
 -- what is shown and told, by the call and the answer alone
-abbrev pub Shows : Call → Result Reply CallFault → Ended → Change → Change → Type 0
-Shows call (Ok (replies.Done lines)) ended out errors = Prints call (lines_text lines) ended out errors
-Shows call (Ok (replies.Refused why)) ended out errors = IsUntouched out × Reports (call_line call why) errors × (ended ≡ endings.Refused)
-Shows call (Err fault) ended out errors = IsUntouched out × TellsOf call (fault_words fault) ended errors
+abbrev pub ShowsAnswer : Call → Result Reply CallFault → Ended → Change → Change → Type 0
+ShowsAnswer call (Ok (replies.Done lines)) ended out errors = PrintsLines call (lines_text lines) ended out errors
+ShowsAnswer call (Ok (replies.Refused why)) ended out errors = IsUntouched out × Reports (call_line call why) errors × (ended ≡ endings.Refused)
+ShowsAnswer call (Err fault) ended out errors = IsUntouched out × TellsOf call (fault_words fault) ended errors
 
 -- a request is sent, and what is heard is shown
 abbrev pub Talks : Call → List ℕ → Ended → Change → Change → Change → Type 0
-Talks call request ended line out errors = (heard : Result Reply CallFault) × (Hears request heard line × Shows call heard ended out errors)
+Talks call request ended line out errors = (heard : Result Reply CallFault) × (HearsReply request heard line × ShowsAnswer call heard ended out errors)

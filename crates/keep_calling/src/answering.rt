@@ -1,7 +1,7 @@
 ghost use Rattle.std.specs.Prelude.{◌≡◌, ℕ, List, Ok, Some};
-ghost use Rattle.keep_control.specs.Replies.{lines_text, reply_of};
+ghost use Rattle.keep_control.specs.Replies.{lines_text, reply_in_text};
 ghost use Rattle.keep_control.specs.declared.reply.Reply.TheVariants as replies;
-ghost use Rattle.keep_calling.specs.Showing.{Prints, Shows, ended_by, is_kept, shown_text};
+ghost use Rattle.keep_calling.specs.Showing.{PrintsLines, ShowsAnswer, ended_by, names_no_entry, shown_text};
 
 use crate::ask::Ask;
 use crate::call::Call;
@@ -21,8 +21,8 @@ pub(crate) fn show<W: Sink, E: Sink>(
     out: &mut W,
     errors: &mut E,
 ) -> Ended
-    requires { reply_of heard.now.text ≡ Some heard.now.reply }
-    ensures { Shows call.now (Ok heard.now.reply) result (⟦<W as Watched>⟧.change out.old out.new) (⟦<E as Watched>⟧.change errors.old errors.new) }
+    requires { reply_in_text heard.now.text ≡ Some heard.now.reply }
+    ensures { ShowsAnswer call.now (Ok heard.now.reply) result (⟦<W as Watched>⟧.change out.old out.new) (⟦<E as Watched>⟧.change errors.old errors.new) }
 {
     match &heard.reply {
         Reply::Done(_) => print(call, lines_of(heard), out, errors),
@@ -35,7 +35,7 @@ pub(crate) fn show<W: Sink, E: Sink>(
 
 // The lines after `ok`.
 fn lines_of(heard: &Heard) -> &[u8]
-    requires { reply_of heard.now.text ≡ Some heard.now.reply }
+    requires { reply_in_text heard.now.text ≡ Some heard.now.reply }
     ensures { (lines : List (List ℕ)) → heard.now.reply ≡ replies.Done lines → result.now ≡ lines_text lines }
 {
     replies_are_read_back();
@@ -45,7 +45,7 @@ fn lines_of(heard: &Heard) -> &[u8]
 
 // Prints the lines of an answer and flushes, or tells why only a front of them went out.
 fn print<W: Sink, E: Sink>(call: &Call<'_>, lines: &[u8], out: &mut W, errors: &mut E) -> Ended
-    ensures { Prints call.now lines.now result (⟦<W as Watched>⟧.change out.old out.new) (⟦<E as Watched>⟧.change errors.old errors.new) }
+    ensures { PrintsLines call.now lines.now result (⟦<W as Watched>⟧.change out.old out.new) (⟦<E as Watched>⟧.change errors.old errors.new) }
 {
     match send(out, shown_text(&call.ask, lines)) {
         Ok(()) => ended_by(&call.ask, lines),
@@ -79,9 +79,9 @@ fn ended_by(ask: &Ask<'_>, lines: &[u8]) -> Ended
 }
 
 // Whether lines about needed entries that are not kept name none.
-#[tactic(auto, unfolding(crate::specs::Showing::is_kept))]
+#[tactic(auto, unfolding(crate::specs::Showing::names_no_entry))]
 fn is_kept(lines: &[u8]) -> bool
-    ensures { result ≡ is_kept lines.now }
+    ensures { result ≡ names_no_entry lines.now }
 {
     lines.is_empty() || lines == KEPT
 }

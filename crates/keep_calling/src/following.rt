@@ -2,7 +2,7 @@
 ghost use Rattle.std.specs.Prelude.{◌≡◌, ◌<◌, ◌≤◌, [], IfOk, OnOk, length, vec_len};
 ghost use Rattle.std.specs.Io.KnownBytes.{Consumes};
 ghost use Rattle.keep_device.specs.declared.limits.TheConstants.{MOST_ROOM};
-ghost use Rattle.keep_calling.specs.Following.{Begins, Follows, Opens, PassesOn, PassesOne, TellsHow};
+ghost use Rattle.keep_calling.specs.Following.{AnswerOpens, CallBegins, CallFollows, PassesOn, PassesOne, TellsHow};
 
 use crate::answering::show;
 use crate::call::Call;
@@ -48,7 +48,7 @@ pub fn follow<L: Source + Sink, W: Sink, E: Sink>(
     out: &mut W,
     errors: &mut E,
 ) -> Ended
-    ensures { Follows call.now request.now result (⟦<L as Watched>⟧.change line.old line.new) (⟦<W as Watched>⟧.change out.old out.new) (⟦<E as Watched>⟧.change errors.old errors.new) }
+    ensures { CallFollows call.now request.now result (⟦<L as Watched>⟧.change line.old line.new) (⟦<W as Watched>⟧.change out.old out.new) (⟦<E as Watched>⟧.change errors.old errors.new) }
 {
     let Ok(mut room) = zeros(alloc, MOST_ROOM) else {
         return tell_of_socket(call, None, errors);
@@ -73,7 +73,7 @@ fn begin<L: Source + Sink>(
 ) -> Result<Begun, CallFault>
     requires { length room.old ≡ MOST_ROOM }
     ensures room { length room.new ≡ MOST_ROOM }
-    ensures begins { Begins request.now result (⟦<L as Watched>⟧.change line.old line.new) }
+    ensures begins { CallBegins request.now result (⟦<L as Watched>⟧.change line.old line.new) }
 {
     give(request, line)?;
     open(alloc, room, line)
@@ -84,7 +84,7 @@ fn begin<L: Source + Sink>(
 fn open<L: Source + Sink>(alloc: Global, room: &mut [u8], line: &mut L) -> Result<Begun, CallFault>
     requires { length room.old ≡ MOST_ROOM }
     ensures room { length room.new ≡ MOST_ROOM }
-    ensures opens { Opens result (⟦<L as Watched>⟧.change line.old line.new) }
+    ensures opens { AnswerOpens result (⟦<L as Watched>⟧.change line.old line.new) }
     ensures output { (L.seen line.new).output ≡ (L.seen line.old).output }
 {
     let mut front = Vec::new(alloc);

@@ -1,6 +1,6 @@
 ghost use Rattle.std.specs.Prelude.{◌≡◌, ◌⊎◌, IfOk, MatchResult, Ok, Err, Some};
-ghost use Rattle.keep_control.specs.Replies.{reply_of};
-ghost use Rattle.keep_calling.specs.Hearing.{Hears, Listens, Sent, heard_of};
+ghost use Rattle.keep_control.specs.Replies.{reply_in_text};
+ghost use Rattle.keep_calling.specs.Hearing.{HearsReply, IsSentOrGivenUp, ListensToEnd, heard_of};
 ghost use Rattle.keep_calling.specs.declared.fault.CallFault.TheVariants.{Memory};
 
 use crate::fault::CallFault;
@@ -24,9 +24,9 @@ pub(crate) fn hear<L: Source + Sink>(
     line: &mut L,
 ) -> Result<Heard, CallFault>
     ensures heard { MatchResult result
-        (λ h. Hears request.now (Ok h.reply) (⟦<L as Watched>⟧.change line.old line.new))
-        (λ fault. Hears request.now (Err fault) (⟦<L as Watched>⟧.change line.old line.new)) }
-    ensures text { IfOk result (λ h. reply_of h.text ≡ Some h.reply) }
+        (λ h. HearsReply request.now (Ok h.reply) (⟦<L as Watched>⟧.change line.old line.new))
+        (λ fault. HearsReply request.now (Err fault) (⟦<L as Watched>⟧.change line.old line.new)) }
+    ensures text { IfOk result (λ h. reply_in_text h.text ≡ Some h.reply) }
 {
     give(request, line)?;
     listen(alloc, line)
@@ -34,7 +34,7 @@ pub(crate) fn hear<L: Source + Sink>(
 
 /// Sends it.
 pub(crate) fn give<L: Source + Sink>(request: &[u8], line: &mut L) -> Result<(), SinkFault>
-    ensures { Sent result request.now (⟦<L as Watched>⟧.change line.old line.new) }
+    ensures { IsSentOrGivenUp result request.now (⟦<L as Watched>⟧.change line.old line.new) }
 {
     write_all(line, request)?;
     line.flush()
@@ -43,9 +43,9 @@ pub(crate) fn give<L: Source + Sink>(request: &[u8], line: &mut L) -> Result<(),
 // Reads the answer.
 fn listen<L: Source + Sink>(alloc: Global, line: &mut L) -> Result<Heard, CallFault>
     ensures heard { MatchResult result
-        (λ h. Listens (Ok h.reply) (⟦<L as Watched>⟧.change line.old line.new))
-        (λ fault. Listens (Err fault) (⟦<L as Watched>⟧.change line.old line.new)) }
-    ensures text { IfOk result (λ h. reply_of h.text ≡ Some h.reply) }
+        (λ h. ListensToEnd (Ok h.reply) (⟦<L as Watched>⟧.change line.old line.new))
+        (λ fault. ListensToEnd (Err fault) (⟦<L as Watched>⟧.change line.old line.new)) }
+    ensures text { IfOk result (λ h. reply_in_text h.text ≡ Some h.reply) }
     ensures output { (L.seen line.new).output ≡ (L.seen line.old).output }
 {
     let text = read_all(alloc, line, ANSWER_MAX)?;
@@ -57,7 +57,7 @@ pub(crate) fn reply_in(alloc: Global, text: Text) -> Result<Heard, CallFault>
     ensures heard { MatchResult result
         (λ h. heard_of text ≡ Ok h.reply)
         (λ fault. (heard_of text ≡ Err fault) ⊎ (fault ≡ Memory)) }
-    ensures text { IfOk result (λ h. reply_of h.text ≡ Some h.reply) }
+    ensures text { IfOk result (λ h. reply_in_text h.text ≡ Some h.reply) }
 {
     if text.list().is_empty() {
         return Err(CallFault::NoAnswer);

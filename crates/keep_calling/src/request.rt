@@ -1,5 +1,5 @@
 ghost use Rattle.std.specs.Prelude.{Ok};
-ghost use Rattle.keep_calling.specs.Requesting.{Asks, Takes, Tells};
+ghost use Rattle.keep_calling.specs.Requesting.{CallAsks, MakesLine, TakesInput};
 
 use crate::ask::Ask;
 use crate::call::Call;
@@ -28,7 +28,7 @@ pub fn request_for<I: Source, E: Sink>(
     input: &mut I,
     errors: &mut E,
 ) -> Result<Text, Ended>
-    ensures { Asks call.now result (⟦<I as Watched>⟧.change input.old input.new) (⟦<E as Watched>⟧.change errors.old errors.new) }
+    ensures { CallAsks call.now result (⟦<I as Watched>⟧.change input.old input.new) (⟦<E as Watched>⟧.change errors.old errors.new) }
 {
     match taken(alloc, &call.ask, input) {
         Ok(text) => told_line(alloc, call, text.list(), errors),
@@ -42,7 +42,7 @@ pub fn request_for<I: Source, E: Sink>(
 
 // What a command takes of standard input.
 fn taken<I: Source>(alloc: Global, ask: &Ask<'_>, input: &mut I) -> Result<Text, InputFault>
-    ensures { Takes ask.now result (⟦<I as Watched>⟧.change input.old input.new) }
+    ensures { TakesInput ask.now result (⟦<I as Watched>⟧.change input.old input.new) }
 {
     if !ask.takes_input() {
         return Ok(Text::from_vec(Vec::new(alloc)));
@@ -57,7 +57,7 @@ fn told_line<E: Sink>(
     input: &[u8],
     errors: &mut E,
 ) -> Result<Text, Ended>
-    ensures { Tells call.now (Ok input.now) result (⟦<E as Watched>⟧.change errors.old errors.new) }
+    ensures { MakesLine call.now (Ok input.now) result (⟦<E as Watched>⟧.change errors.old errors.new) }
 {
     match line_for(alloc, &call.ask, input) {
         Ok(line) => Ok(line),

@@ -5,7 +5,7 @@ ghost use Rattle.serde_json.specs.View.{view};
 ghost use Rattle.keep_control.specs.Answer.{Gives};
 ghost use Rattle.keep_control.specs.Words.{tree_of_words};
 ghost use Rattle.keep_control.specs.declared.fault.RequestFault.TheVariants as faults;
-ghost use Rattle.keep_calling.specs.Asking.{line_for, stripped, tree_for, words_line};
+ghost use Rattle.keep_calling.specs.Asking.{line_for_ask, stripped, tree_for_ask, words_line};
 
 use crate::ask::Ask;
 use keep_control::{RequestFault, read_request};
@@ -14,9 +14,9 @@ use serde_json::{Value, json};
 use std::alloc::{AllocError, Global};
 
 /// The line that asks for it, with its line feed, where an agent reads it as a request; else why it does not.
-#[tactic(auto, unfolding(crate::specs::Asking::line_for))]
+#[tactic(auto, unfolding(crate::specs::Asking::line_for_ask))]
 pub(crate) fn line_for(alloc: Global, ask: &Ask<'_>, input: &[u8]) -> Result<Text, RequestFault>
-    ensures { Gives (λ text. text) result (line_for ask.now input.now) }
+    ensures { Gives (λ text. text) result (line_for_ask ask.now input.now) }
 {
     let mut line = words_line(alloc, ask, input)?;
     let _request = read_request(alloc, &line)?;
@@ -34,9 +34,9 @@ fn words_line(alloc: Global, ask: &Ask<'_>, input: &[u8]) -> Result<Vec<u8>, Req
 }
 
 // The array of the words.
-#[tactic(auto, unfolding(crate::specs::Asking::tree_for))]
+#[tactic(auto, unfolding(crate::specs::Asking::tree_for_ask))]
 fn tree_for(alloc: Global, ask: &Ask<'_>, input: &[u8]) -> Result<Value, RequestFault>
-    ensures { Gives (λ v. view v) result (tree_for ask.now input.now) }
+    ensures { Gives (λ v. view v) result (tree_for_ask ask.now input.now) }
 {
     match ask {
         Ask::Need { name, when } => Ok(three(alloc, "need", name, when)?),

@@ -12,8 +12,8 @@ use Rattle.keep_cert.specs.declared.cert.Version.TheVariants.{Two}
 use Rattle.keep_cert.specs.declared.fault.CertFault.{CertFault}
 use Rattle.keep_cert.specs.declared.fault.CertFault.TheVariants.{BadHeader, BadLine, UnknownName, BadNumber, Truncated, Trailing, OutOfMemory}
 use Rattle.keep_cert.specs.Answers.{◌>>=◌}
-use Rattle.keep_cert.specs.CertificateText.{IsBody, IsCertificate, body_text, certificate_text, header_text, start_text}
-use Rattle.keep_cert.specs.FirstFault.{whole}
+use Rattle.keep_cert.specs.CertificateText.{IsCertificate, IsCertificateBody, body_text, certificate_text, header_text, start_text}
+use Rattle.keep_cert.specs.FirstFault.{whole_lines}
 use Rattle.keep_cert.specs.Lines.{cut_off, line_at, lines}
 use Rattle.keep_cert.specs.Reading.{body_of, certificate_of, header_of, nothing_behind, runs_of, start_of, unkeepable_of, version_of}
 use Rattle.keep_words.specs.Pieces.{keyword}
@@ -26,7 +26,7 @@ use Rattle.keep_cert.proofs.FaultyRuns.{RunsText, no_line_is_none, no_runs_more,
 -- ---- the body
 
 abbrev BodyText : Version → List Entry → List ℕ → Type 0
-BodyText v es text = (body : Body) × IsBody v es body × (text ≡ body_text v es body)
+BodyText v es text = (body : Body) × IsCertificateBody v es body × (text ≡ body_text v es body)
 
 runs_are_body : (v : Version) (es : List Entry) (text : List ℕ) → RunsText v es [] text → BodyText v es text
 unfolding body_text
@@ -65,8 +65,8 @@ module _ (v : Version) (es : List Entry) (line : List ℕ) where
         let bad : runs_of v es [] (line ∷ rest) ≡ Err e = ap (λ x. runs_of v es [] (x ∷ rest)) (sym same) ∙ h in
         ap (λ x. body_of v es (x ∷ rest)) same ∙ runs_read rest (some_lines front at more) other ∙ fault_on (runs_of v es [] (line ∷ rest)) _ e bad
 
-    stops_too : (front ls : List (List ℕ)) (e : CertFault) → Starts (RunsText v es []) (whole front) → StopsAt (runs_of v es []) (length front + 3) front (line ∷ ls) e
-        → (fronts : List (List ℕ)) × Starts (BodyText v es) (whole fronts) × StopsAt (body_of v es) (length fronts + 3) fronts (line ∷ ls) e
+    stops_too : (front ls : List (List ℕ)) (e : CertFault) → Starts (RunsText v es []) (whole_lines front) → StopsAt (runs_of v es []) (length front + 3) front (line ∷ ls) e
+        → (fronts : List (List ℕ)) × Starts (BodyText v es) (whole_lines fronts) × StopsAt (body_of v es) (length fronts + 3) fronts (line ∷ ls) e
     stops_too front ls e s stops = (
       front,
       (s.0, runs_are_body v es s.0 s.1, s.2, s.3),
@@ -86,7 +86,7 @@ module _ (v : Version) (es : List Entry) (line : List ℕ) where
     runs_in_body ls (BadNumber k) h = stops_too h.0 ls (BadNumber k) h.1 h.2
     runs_in_body ls (UnknownName k) h = stops_too h.0 ls (UnknownName k) h.1 h.2
     runs_in_body ls Truncated h = (h.0, h.1, h.2, runs_are_body v es h.2 h.3, h.4, h.5, h.6)
-    runs_in_body ls Trailing h = (h.0, h.1, h.2, h.3, h.4, runs_are_body v es (whole h.0) h.5)
+    runs_in_body ls Trailing h = (h.0, h.1, h.2, h.3, h.4, runs_are_body v es (whole_lines h.0) h.5)
     runs_in_body ls OutOfMemory h = stops_too h.0 ls OutOfMemory h.1 h.2
 
 body_faulty : (v : Version) (es : List Entry) (ls : List (List ℕ)) (e : CertFault) → ls ≢ [] → body_of v es ls ≡ Err e → Faulty (body_of v es) 3 (BodyText v es) ls e

@@ -10,7 +10,7 @@ use Rattle.keep_tree.specs.Push.{IsForest}
 use Rattle.keep_cert.specs.declared.fault.CertFault.{CertFault}
 use Rattle.keep_cert.specs.declared.fault.CertFault.TheVariants.{BadHeader, BadLine, UnknownName, BadNumber, Truncated, Trailing, OutOfMemory}
 use Rattle.keep_cert.specs.CertificateText.{certificate_text}
-use Rattle.keep_cert.specs.FirstFault.{Begins, HasFeed, IsFirstAtFault, Says, whole}
+use Rattle.keep_cert.specs.FirstFault.{BeginsCertificate, HasFeed, IsFirstAtFault, SaysFault, whole_lines}
 use Rattle.keep_cert.specs.Lines.{lines}
 use Rattle.keep_cert.specs.Reading.{certificate_of}
 use Rattle.keep_words.specs.Laws.{AllLack}
@@ -42,19 +42,19 @@ front_lacks [] line behind h = (h.0, tt)
 front_lacks (l ∷ front) line behind h = (h.0, front_lacks front line behind h.1)
 
 -- whole lines are the first lines of a text that begins with them
-lines_back : (ls : List (List ℕ)) (rest : List ℕ) → AllLack 10 ls → lines (whole ls ++ rest) ≡ ls ++ lines rest
+lines_back : (ls : List (List ℕ)) (rest : List ℕ) → AllLack 10 ls → lines (whole_lines ls ++ rest) ≡ ls ++ lines rest
 lines_back [] rest h = refl
 lines_back (l ∷ ls) rest h =
-    ap (pieces 10) (append_assoc l (10 ∷ whole ls) rest) ∙ feed_back l (whole ls ++ rest) h.0 ∙ ap (λ x. l ∷ x) (lines_back ls rest h.1)
+    ap (pieces 10) (append_assoc l (10 ∷ whole_lines ls) rest) ∙ feed_back l (whole_lines ls ++ rest) h.0 ∙ ap (λ x. l ∷ x) (lines_back ls rest h.1)
 
-whole_front : (front behind : List (List ℕ)) → behind ≢ [] → joined (front ++ behind) ≡ whole front ++ joined behind
+whole_front : (front behind : List (List ℕ)) → behind ≢ [] → joined (front ++ behind) ≡ whole_lines front ++ joined behind
 whole_front [] behind some = refl
 whole_front (l ∷ []) [] some = absurd (some refl)
 whole_front (l ∷ []) (b ∷ bs) some = sym (append_assoc l (10 ∷ []) (joined (b ∷ bs)))
 whole_front (l ∷ x ∷ front) behind some =
-    ap (λ t. l ++ 10 ∷ t) (whole_front (x ∷ front) behind some) ∙ sym (append_assoc l (10 ∷ whole (x ∷ front)) (joined behind))
+    ap (λ t. l ++ 10 ∷ t) (whole_front (x ∷ front) behind some) ∙ sym (append_assoc l (10 ∷ whole_lines (x ∷ front)) (joined behind))
 
-text_is : (text : List ℕ) (front behind : List (List ℕ)) → behind ≢ [] → lines text ≡ front ++ behind → text ≡ whole front ++ joined behind
+text_is : (text : List ℕ) (front behind : List (List ℕ)) → behind ≢ [] → lines text ≡ front ++ behind → text ≡ whole_lines front ++ joined behind
 unfolding pieces
 text_is text front behind some parts = sym (join_with_byte-slice_split 10 text) ∙ ap joined parts ∙ whole_front front behind some
 
@@ -82,7 +82,7 @@ module _ (g : Forest) (f : IsForest g) (text : List ℕ) where
     behind_fed some = some_behind s.behind (length front) (length (lines text)) some (ap length s.parts ∙ length-append front (s.line ∷ s.behind))
 
     -- with the line at fault no certificate's text begins
-    none_begins : HasFeed text (length front + 1) → Begins g.entries (whole (front ++ s.line ∷ [])) → ⊥
+    none_begins : HasFeed text (length front + 1) → BeginsCertificate g.entries (whole_lines (front ++ s.line ∷ [])) → ⊥
     none_begins more b =
         let es = g.entries in
         let lack : AllLack 10 (front ++ s.line ∷ []) = front_lacks front s.line s.behind (subst (AllLack 10) s.parts (pieces_lack 10 text)) in
@@ -92,10 +92,10 @@ module _ (g : Forest) (f : IsForest g) (text : List ℕ) where
         let good : certificate_of es (certificate_text es b.0) ≡ Ok b.0 = written_is_read g f (certificate_text es b.0) b.0 (record { certificate = b.1; spelled = refl }) in
         not_err b.0 e (sym good ∙ bad)
 
-    begins_of : Starts (AllText g.entries) (whole front) → Begins g.entries (whole front)
+    begins_of : Starts (AllText g.entries) (whole_lines front) → BeginsCertificate g.entries (whole_lines front)
     begins_of h = (h.1.0, h.1.1, h.2, sym h.1.2 ∙ h.3)
 
-    first_at_fault : Starts (AllText g.entries) (whole front) → (n : ℕ) → length front + 1 ≡ n → IsFirstAtFault g.entries text n
+    first_at_fault : Starts (AllText g.entries) (whole_lines front) → (n : ℕ) → length front + 1 ≡ n → IsFirstAtFault g.entries text n
     first_at_fault h n place =
         record {
           before = front;
@@ -107,21 +107,21 @@ module _ (g : Forest) (f : IsForest g) (text : List ℕ) where
           stops = λ more. none_begins (subst (HasFeed text) (sym place) more);
         }
 
-  says : (e : CertFault) → Faulty (all_of g.entries) 1 (AllText g.entries) (lines text) e → Says g.entries text e
+  says : (e : CertFault) → Faulty (all_of g.entries) 1 (AllText g.entries) (lines text) e → SaysFault g.entries text e
   says BadHeader h = first_at_fault BadHeader h.0 h.2 h.1 1 h.2.at
   says (BadLine n) h = first_at_fault (BadLine n) h.0 h.2 h.1 n (sym h.2.at)
   says (BadNumber n) h = (subst (HasFeed text) (sym h.2.at) (behind_fed (BadNumber n) h.0 h.2 h.2.feed), first_at_fault (BadNumber n) h.0 h.2 h.1 n (sym h.2.at))
   says (UnknownName n) h = (subst (HasFeed text) (sym h.2.at) (behind_fed (UnknownName n) h.0 h.2 h.2.feed), first_at_fault (UnknownName n) h.0 h.2 h.1 n (sym h.2.at))
   says Truncated h =
       let t = h.3 in
-      let is : text ≡ whole h.0 = text_is text h.0 ([] ∷ []) (no_line_is_none [] []) h.1 ∙ append-nil (whole h.0) in
+      let is : text ≡ whole_lines h.0 = text_is text h.0 ([] ∷ []) (no_line_is_none [] []) h.1 ∙ append-nil (whole_lines h.0) in
       (t.0, t.1, h.4, h.5, sym t.2 ∙ h.6 ∙ ap (λ x. x ++ h.4) (sym is))
   says Trailing h =
       let t = h.5 in
       (t.0, t.1, joined h.1, joined_some h.1 h.3 h.4, text_is text h.0 h.1 h.3 h.2 ∙ ap (λ x. x ++ joined h.1) t.2)
   says OutOfMemory h = absurd h.2.at
 
-pub fault_says : (g : Forest) → IsForest g → (text : List ℕ) (e : CertFault) → certificate_of g.entries text ≡ Err e → Says g.entries text e
+pub fault_says : (g : Forest) → IsForest g → (text : List ℕ) (e : CertFault) → certificate_of g.entries text ≡ Err e → SaysFault g.entries text e
 fault_says g f text e h = says g f text e (all_faulty g.entries (lines text) e (has_piece 10 text) (sym (read_by_lines g.entries text) ∙ h))
 
 -- ---- one line alone
@@ -138,9 +138,9 @@ longer_front (a ∷ xs) ys (w ∷ us) vs x u e less =
     let same : w ≡ a = cc in
     (later.0, ap (λ b. b ∷ us) same ∙ ap (λ l. a ∷ l) later.1)
 
-whole_append : (xs ys : List (List ℕ)) → whole (xs ++ ys) ≡ whole xs ++ whole ys
+whole_append : (xs ys : List (List ℕ)) → whole_lines (xs ++ ys) ≡ whole_lines xs ++ whole_lines ys
 whole_append [] ys = refl
-whole_append (x ∷ xs) ys = ap (λ t. x ++ 10 ∷ t) (whole_append xs ys) ∙ sym (append_assoc x (10 ∷ whole xs) (whole ys))
+whole_append (x ∷ xs) ys = ap (λ t. x ++ 10 ∷ t) (whole_append xs ys) ∙ sym (append_assoc x (10 ∷ whole_lines xs) (whole_lines ys))
 
 module _ (es : List Entry) (text : List ℕ) where
   not_earlier : (n m : ℕ) → IsFirstAtFault es text n → IsFirstAtFault es text m → n < m → ⊥
@@ -151,8 +151,8 @@ module _ (es : List Entry) (text : List ℕ) where
       let fed : HasFeed text n = omega (arith, less, other.place, count) in
       let b = other.begins in
       let split : other.before ≡ (first.before ++ first.line ∷ []) ++ longer.0 = longer.1 ∙ sym (append_assoc first.before (first.line ∷ []) longer.0) in
-      let is : whole other.before ≡ whole (first.before ++ first.line ∷ []) ++ whole longer.0 = ap whole split ∙ whole_append (first.before ++ first.line ∷ []) longer.0 in
-      first.stops fed (b.0, b.1, whole longer.0 ++ b.2, b.3 ∙ ap (λ t. t ++ b.2) is ∙ append_assoc (whole (first.before ++ first.line ∷ [])) (whole longer.0) b.2)
+      let is : whole_lines other.before ≡ whole_lines (first.before ++ first.line ∷ []) ++ whole_lines longer.0 = ap whole_lines split ∙ whole_append (first.before ++ first.line ∷ []) longer.0 in
+      first.stops fed (b.0, b.1, whole_lines longer.0 ++ b.2, b.3 ∙ ap (λ t. t ++ b.2) is ∙ append_assoc (whole_lines (first.before ++ first.line ∷ [])) (whole_lines longer.0) b.2)
 
   pub one_first : (n m : ℕ) → IsFirstAtFault es text n → IsFirstAtFault es text m → n ≡ m
   one_first n m first other =

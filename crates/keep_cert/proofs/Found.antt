@@ -11,7 +11,7 @@ use Rattle.keep_tree.specs.Forest.{entry_at, index_named}
 use Rattle.keep_tree.proofs.Entries.{index_named_within}
 use Rattle.keep_cert.specs.declared.fault.CertFault.{CertFault}
 use Rattle.keep_cert.specs.Answers.{◌>>=◌}
-use Rattle.keep_cert.specs.CertificateText.{line_text, name_of}
+use Rattle.keep_cert.specs.CertificateText.{line_text, name_of_entry}
 use Rattle.keep_cert.specs.Lines.{number_at}
 use Rattle.keep_words.specs.Numbers.{number_up_to}
 use Rattle.keep_words.proofs.Numbers as numbers
@@ -86,21 +86,21 @@ one_later : (o : Option ℕ) (i : ℕ) → option_map (λ k. suc k) o ≡ Some i
 one_later None i e = cc
 one_later (Some k) i e = (k, refl, cc)
 
-index_named_is : (es : List Entry) (word : List ℕ) (i : ℕ) → index_named es word ≡ Some i → name_of es i ≡ word
-unfolding index_named name_of entry_at
+index_named_is : (es : List Entry) (word : List ℕ) (i : ℕ) → index_named es word ≡ Some i → name_of_entry es i ≡ word
+unfolding index_named name_of_entry entry_at
 index_named_is [] word i e = cc
 index_named_is (x ∷ es) word i e =
     elim (cases_Bool (bytes_eq x.name word)) [
       | inl t ↦
           let here : Some 0 ≡ Some i = sym (cond-true _ _ _ t) ∙ e in
           let at_0 : 0 ≡ i = cc in
-          subst (λ k. name_of (x ∷ es) k ≡ word) at_0 ((bytes_decides x.name word).0 t)
+          subst (λ k. name_of_entry (x ∷ es) k ≡ word) at_0 ((bytes_decides x.name word).0 t)
       | inr f ↦
           let later = one_later (index_named es word) i (sym (cond-false _ _ _ f) ∙ e) in
-          subst (λ k. name_of (x ∷ es) k ≡ word) later.2 (index_named_is es word later.0 later.1)
+          subst (λ k. name_of_entry (x ∷ es) k ≡ word) later.2 (index_named_is es word later.0 later.1)
     ]
 
-pub entry_found : (n : ℕ) (es : List Entry) (word : List ℕ) (i : ℕ) → entry_named n es word ≡ Ok i → (i < length es) × (word ≡ name_of es i)
+pub entry_found : (n : ℕ) (es : List Entry) (word : List ℕ) (i : ℕ) → entry_named n es word ≡ Ok i → (i < length es) × (word ≡ name_of_entry es i)
 unfolding entry_named
 entry_found n es word i e =
     let named = some_from_ok (index_named es word) _ i e in

@@ -8,10 +8,10 @@ use Rattle.keep_cert.specs.declared.cert.Version.{Version}
 use Rattle.keep_cert.specs.declared.cert.Version.TheVariants.{One, Two}
 use Rattle.keep_rule.specs.declared.limit.TheConstants.{LIMIT}
 use Rattle.keep_cert.specs.declared.fault.CertFault.{CertFault}
-use Rattle.keep_cert.specs.CertificateText.{IsRunOf, end_text, name_of, run_text}
+use Rattle.keep_cert.specs.CertificateText.{IsRunOf, end_line_text, name_of_entry, run_text}
 use Rattle.keep_cert.specs.Lines.{four_words, number_at, six_words, two_words}
 use Rattle.keep_words.specs.Pieces.{four, keyword, pieces, six, two}
-use Rattle.keep_cert.specs.Reading.{end_of_runs, ending, entry_named, is_run, nothing_behind, right, run_keyword, run_line, run_of, wake_of}
+use Rattle.keep_cert.specs.Reading.{end_of_runs, ending, entry_named, is_run, nothing_behind, right, run_in_line, run_keyword, run_of, wake_of}
 use Rattle.keep_cert.proofs.Found.{entry_found, four_is, keyword_is, line_from_words, number_spelled, six_is, some_from_ok, step_ok, two_is}
 use Rattle.keep_cert.proofs.Turns.{ok_same}
 
@@ -38,9 +38,9 @@ wake_found n es before line r key e =
     let number = number_spelled n w.1 k hk in
     let entry = entry_found n es w.2 i hi in
     let needed = entry_found n es w.3 j hj in
-    let same : pieces 32 line ≡ codes "wake" ∷ decimal k ∷ name_of es i ∷ name_of es j ∷ [] = words
+    let same : pieces 32 line ≡ codes "wake" ∷ decimal k ∷ name_of_entry es i ∷ name_of_entry es j ∷ [] = words
     ∙ ap (λ x. x ∷ w.1 ∷ w.2 ∷ w.3 ∷ []) front ∙ ap (λ x. codes "wake" ∷ x ∷ w.2 ∷ w.3 ∷ []) number.0
-    ∙ ap (λ x. codes "wake" ∷ decimal k ∷ x ∷ w.3 ∷ []) entry.1 ∙ ap (λ x. codes "wake" ∷ decimal k ∷ name_of es i ∷ x ∷ []) needed.1 in
+    ∙ ap (λ x. codes "wake" ∷ decimal k ∷ x ∷ w.3 ∷ []) entry.1 ∙ ap (λ x. codes "wake" ∷ decimal k ∷ name_of_entry es i ∷ x ∷ []) needed.1 in
     subst (IsRunLine One es before line) (ok_same {A = Run} (record { first = k; step = 0; count = 1; entry = i; needed = j }) r e4)
     (record {
       text = line_from_words line _ same;
@@ -80,10 +80,10 @@ run_found n es before line r key e =
     let q = and_parts (nat_lt 0 m) _ p.1 in
     let o = and_parts (beq (s == 0) (m == 1)) _ q.1 in
     let lone = both_or_none (s == 0) (m == 1) o.0 in
-    let same : pieces 32 line ≡ codes "run" ∷ decimal k ∷ decimal s ∷ decimal m ∷ name_of es i ∷ name_of es j ∷ [] = words
+    let same : pieces 32 line ≡ codes "run" ∷ decimal k ∷ decimal s ∷ decimal m ∷ name_of_entry es i ∷ name_of_entry es j ∷ [] = words
     ∙ ap (λ x. x ∷ w.1 ∷ w.2 ∷ w.3 ∷ w.4 ∷ w.5 ∷ []) front ∙ ap (λ x. codes "run" ∷ x ∷ w.2 ∷ w.3 ∷ w.4 ∷ w.5 ∷ []) first.0
     ∙ ap (λ x. codes "run" ∷ decimal k ∷ x ∷ w.3 ∷ w.4 ∷ w.5 ∷ []) step.0 ∙ ap (λ x. codes "run" ∷ decimal k ∷ decimal s ∷ x ∷ w.4 ∷ w.5 ∷ []) count.0
-    ∙ ap (λ x. codes "run" ∷ decimal k ∷ decimal s ∷ decimal m ∷ x ∷ w.5 ∷ []) entry.1 ∙ ap (λ x. codes "run" ∷ decimal k ∷ decimal s ∷ decimal m ∷ name_of es i ∷ x ∷ []) needed.1 in
+    ∙ ap (λ x. codes "run" ∷ decimal k ∷ decimal s ∷ decimal m ∷ x ∷ w.5 ∷ []) entry.1 ∙ ap (λ x. codes "run" ∷ decimal k ∷ decimal s ∷ decimal m ∷ name_of_entry es i ∷ x ∷ []) needed.1 in
     subst (IsRunLine Two es before line) (ok_same {A = Run} (record { first = k; step = s; count = m; entry = i; needed = j }) r e7)
     (record {
       text = line_from_words line _ same;
@@ -96,8 +96,8 @@ run_found n es before line r key e =
     }))))))))
 
 pub run_line_found : (v : Version) (n : ℕ) (es : List Entry) (before : ℕ) (line : List ℕ) (r : Run)
-    → bytes_eq (keyword line) (run_keyword v) ≡ true → run_line v n es before line ≡ Ok r → IsRunLine v es before line r
-unfolding run_line
+    → bytes_eq (keyword line) (run_keyword v) ≡ true → run_in_line v n es before line ≡ Ok r → IsRunLine v es before line r
+unfolding run_in_line
 run_line_found One n es before line r key e = wake_found n es before line r key e
 run_line_found Two n es before line r key e = run_found n es before line r key e
 
@@ -113,8 +113,8 @@ pub if_ok : {A : Type 0} (b : Bool) (x : Result A CertFault) (d : CertFault) (y 
 if_ok true x d y e = (refl, e)
 if_ok false x d y e = cc
 
-pub end_found : (n count : ℕ) (line : List ℕ) (rest : List (List ℕ)) (u : Unit {0}) → ending n count line rest ≡ Ok u → (line ++ 10 ∷ [] ≡ end_text count) × (rest ≡ [] ∷ [])
-unfolding ending end_of_runs two_words end_text
+pub end_found : (n count : ℕ) (line : List ℕ) (rest : List (List ℕ)) (u : Unit {0}) → ending n count line rest ≡ Ok u → (line ++ 10 ∷ [] ≡ end_line_text count) × (rest ≡ [] ∷ [])
+unfolding ending end_of_runs two_words end_line_text
 end_found n count line rest u e =
     step_ok (end_of_runs n count line) _ u e (λ t ht e1.
     let h = if_ok (bytes_eq (keyword line) (codes "end")) _ _ t ht in

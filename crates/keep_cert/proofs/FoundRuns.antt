@@ -19,11 +19,11 @@ use Rattle.keep_cert.specs.declared.cert.TheConstants.{MAX_LINES}
 use Rattle.keep_cert.specs.declared.fault.CertFault.{CertFault}
 use Rattle.keep_cert.specs.declared.fault.CertFault.TheVariants.{BadHeader}
 use Rattle.keep_cert.specs.Answers.{Gives}
-use Rattle.keep_rule.specs.Runs.{IsAmong, counted}
-use Rattle.keep_cert.specs.CertificateText.{AreRunsOf, CanBeWritten, IsBody, IsRunOf, Writes, body_text, certificate_text, end_text, header_text, name_of, run_text, start_text, unkeepable_text}
+use Rattle.keep_rule.specs.Runs.{IsAmong, wake_count}
+use Rattle.keep_cert.specs.CertificateText.{AreRunsOf, CanBeWritten, IsCertificateBody, IsRunOf, WritesCertificate, body_text, certificate_text, end_line_text, header_text, name_of_entry, run_text, start_text, unkeepable_text}
 use Rattle.keep_words.specs.Pieces.{keyword, pieces, three, two}
 use Rattle.keep_cert.specs.Lines.{line_at, lines, three_words, two_words}
-use Rattle.keep_cert.specs.Reading.{body_of, certificate_of, ending, entry_named, header_of, nothing_behind, run_keyword, run_line, runs_of, start_of, unkeepable_of, version_of}
+use Rattle.keep_cert.specs.Reading.{body_of, certificate_of, ending, entry_named, header_of, nothing_behind, run_in_line, run_keyword, runs_of, start_of, unkeepable_of, version_of}
 use Rattle.keep_cert.proofs.Found.{entry_found, keyword_is, line_from_words, number_spelled, some_from_ok, step_ok, three_is, two_is}
 use Rattle.keep_cert.proofs.FoundLines.{RoomFor, end_found, if_ok, nothing_found, run_line_found}
 use Rattle.keep_cert.proofs.Turns.{counted_push, ok_same}
@@ -34,10 +34,10 @@ joined ls = join_with_byte 10 ls
 
 -- the wake-ups that were found are few: in version 1 each line has one
 abbrev pub AreFew : Version → List Run → Type 0
-AreFew One rs = counted rs ≤ length rs
-AreFew Two rs = counted rs ≤ LIMIT
+AreFew One rs = wake_count rs ≤ length rs
+AreFew Two rs = wake_count rs ≤ LIMIT
 
-pub few_more : (v : Version) (es : List Entry) (found : List Run) (r : Run) → AreFew v found → IsRunOf v es r → RoomFor v (counted found) r → AreFew v (found ++ r ∷ [])
+pub few_more : (v : Version) (es : List Entry) (found : List Run) (r : Run) → AreFew v found → IsRunOf v es r → RoomFor v (wake_count found) r → AreFew v (found ++ r ∷ [])
 few_more One es found r few run room = omega (arith, counted_push found r, length-append found (r ∷ []), few, run.form)
 few_more Two es found r few run room = omega (arith, counted_push found r, room)
 
@@ -45,7 +45,7 @@ pub none_are_few : (v : Version) → AreFew v []
 none_are_few One = omega arith
 none_are_few Two = omega arith
 
-pub few_at_last : (v : Version) (rs : List Run) → AreFew v rs → length rs ≤ MAX_LINES → counted rs ≤ LIMIT
+pub few_at_last : (v : Version) (rs : List Run) → AreFew v rs → length rs ≤ MAX_LINES → wake_count rs ≤ LIMIT
 few_at_last One rs few lines = omega (arith, few, lines)
 few_at_last Two rs few lines = few
 
@@ -53,7 +53,7 @@ few_at_last Two rs few lines = few
 record AreRunLines (v : Version) (es : List Entry) (found : List Run) (ls : List (List ℕ)) (rs : List Run) : Type 0 where
   new : List Run
   is : rs ≡ found ++ new
-  text : joined ls ≡ flat_map (run_text v es) new ++ end_text (counted rs)
+  text : joined ls ≡ flat_map (run_text v es) new ++ end_line_text (wake_count rs)
   each : AreRunsOf v es new
   few_lines : length rs ≤ MAX_LINES
   few : AreFew v rs
@@ -74,27 +74,27 @@ runs_found v es found (line ∷ next ∷ more) rs lines few e =
     elim (cases_Bool (bytes_eq (keyword line) (run_keyword v) && nat_lt (length found) MAX_LINES)) [
       | inl t ↦
           let p = and_parts (bytes_eq (keyword line) (run_keyword v)) (nat_lt (length found) MAX_LINES) t in
-          step_ok (run_line v (length found + 3) es (counted found) line) _ rs (sym (cond-true _ _ _ t) ∙ e) (λ r hr e1.
-          let is_line = run_line_found v (length found + 3) es (counted found) line r p.0 hr in
+          step_ok (run_in_line v (length found + 3) es (wake_count found) line) _ rs (sym (cond-true _ _ _ t) ∙ e) (λ r hr e1.
+          let is_line = run_line_found v (length found + 3) es (wake_count found) line r p.0 hr in
           let room : length (found ++ r ∷ []) ≤ MAX_LINES = omega (arith, length-append found (r ∷ []), ltb-true _ _ p.1) in
           let later = runs_found v es (found ++ r ∷ []) (next ∷ more) rs room (few_more v es found r few is_line.run is_line.room) e1 in
           record {
             new = r ∷ later.new;
             is = later.is ∙ append_assoc found (r ∷ []) later.new;
             text = front_line line (joined (next ∷ more)) _ (run_text v es r) is_line.text later.text
-                ∙ sym (append_assoc (run_text v es r) (flat_map (run_text v es) later.new) (end_text (counted rs)));
+                ∙ sym (append_assoc (run_text v es r) (flat_map (run_text v es) later.new) (end_line_text (wake_count rs)));
             each = (is_line.run, later.each);
             few_lines = later.few_lines;
             few = later.few;
           })
       | inr f ↦
-          step_ok (ending (length found + 3) (counted found) line (next ∷ more)) _ rs (sym (cond-false _ _ _ f) ∙ e) (λ u hu e1.
-          let h = end_found (length found + 3) (counted found) line (next ∷ more) u hu in
+          step_ok (ending (length found + 3) (wake_count found) line (next ∷ more)) _ rs (sym (cond-false _ _ _ f) ∙ e) (λ u hu e1.
+          let h = end_found (length found + 3) (wake_count found) line (next ∷ more) u hu in
           let same : found ≡ rs = ok_same found rs e1 in
           record {
             new = [];
             is = sym same ∙ sym (append-nil found);
-            text = ap (λ l. line ++ 10 ∷ joined l) h.1 ∙ h.0 ∙ ap (λ x. end_text (counted x)) same;
+            text = ap (λ l. line ++ 10 ∷ joined l) h.1 ∙ h.0 ∙ ap (λ x. end_line_text (wake_count x)) same;
             each = tt;
             few_lines = subst (λ x. length x ≤ MAX_LINES) same lines;
             few = subst (AreFew v) same few;
@@ -110,7 +110,7 @@ line_off n (last ∷ []) line rest e = no_ok {A = List ℕ × List (List ℕ)} _
 line_off n (l ∷ next ∷ more) line rest e = ap (λ p. p.0 ++ 10 ∷ joined p.1) (ok_same {A = List ℕ × List (List ℕ)} (l, next ∷ more) (line, rest) e)
 
 pub unkeepable_found : (v : Version) (es : List Entry) (line : List ℕ) (body : Body) → bytes_eq (keyword line) (codes "unkeepable") ≡ true → unkeepable_of es line ≡ Ok body
-    → (line ++ 10 ∷ [] ≡ body_text v es body) × IsBody v es body
+    → (line ++ 10 ∷ [] ≡ body_text v es body) × IsCertificateBody v es body
 unfolding unkeepable_of three_words body_text unkeepable_text
 unkeepable_found v es line body key e =
     step_ok (three_words 3 line) _ body e (λ w hw e1.
@@ -120,11 +120,11 @@ unkeepable_found v es line body key e =
     let front : w.0 ≡ codes "unkeepable" = keyword_is line (codes "unkeepable") w.0 _ words key in
     let entry = entry_found 3 es w.1 i hi in
     let needed = entry_found 3 es w.2 j hj in
-    let same : pieces 32 line ≡ codes "unkeepable" ∷ name_of es i ∷ name_of es j ∷ [] = words
-    ∙ ap (λ x. x ∷ w.1 ∷ w.2 ∷ []) front ∙ ap (λ x. codes "unkeepable" ∷ x ∷ w.2 ∷ []) entry.1 ∙ ap (λ x. codes "unkeepable" ∷ name_of es i ∷ x ∷ []) needed.1 in
-    subst (λ b. (line ++ 10 ∷ [] ≡ body_text v es b) × IsBody v es b) (ok_same (Unkeepable i j) body e3) (line_from_words line _ same, (entry.0, needed.0)))))
+    let same : pieces 32 line ≡ codes "unkeepable" ∷ name_of_entry es i ∷ name_of_entry es j ∷ [] = words
+    ∙ ap (λ x. x ∷ w.1 ∷ w.2 ∷ []) front ∙ ap (λ x. codes "unkeepable" ∷ x ∷ w.2 ∷ []) entry.1 ∙ ap (λ x. codes "unkeepable" ∷ name_of_entry es i ∷ x ∷ []) needed.1 in
+    subst (λ b. (line ++ 10 ∷ [] ≡ body_text v es b) × IsCertificateBody v es b) (ok_same (Unkeepable i j) body e3) (line_from_words line _ same, (entry.0, needed.0)))))
 
-body_found : (v : Version) (es : List Entry) (ls : List (List ℕ)) (body : Body) → body_of v es ls ≡ Ok body → (joined ls ≡ body_text v es body) × IsBody v es body
+body_found : (v : Version) (es : List Entry) (ls : List (List ℕ)) (body : Body) → body_of v es ls ≡ Ok body → (joined ls ≡ body_text v es body) × IsCertificateBody v es body
 unfolding body_of body_text
 body_found v es ls body e =
     step_ok (line_at 3 ls) _ body e (λ head hh e1.
@@ -134,13 +134,13 @@ body_found v es ls body e =
           step_ok (nothing_behind head.1) _ body e2 (λ u hu e3.
           let h = unkeepable_found v es head.0 b t hb in
           let whole : joined ls ≡ body_text v es b = line_off 3 ls head.0 head.1 hh ∙ ap (λ l. head.0 ++ 10 ∷ joined l) (nothing_found head.1 u hu) ∙ h.0 in
-          subst (λ x. (joined ls ≡ body_text v es x) × IsBody v es x) (ok_same b body e3) (whole, h.1)))
+          subst (λ x. (joined ls ≡ body_text v es x) × IsCertificateBody v es x) (ok_same b body e3) (whole, h.1)))
       | inr f ↦
           step_ok (runs_of v es [] ls) _ body (sym (cond-false _ _ _ f) ∙ e1) (λ rs hr e2.
           let a = runs_found v es [] ls rs (omega arith) (none_are_few v) hr in
-          let whole : joined ls ≡ body_text v es (Runs rs) = a.text ∙ ap (λ x. flat_map (run_text v es) x ++ end_text (counted rs)) (sym a.is) in
-          let runs : IsBody v es (Runs rs) = (subst (AreRunsOf v es) (sym a.is) a.each, (a.few_lines, few_at_last v rs a.few a.few_lines)) in
-          subst (λ x. (joined ls ≡ body_text v es x) × IsBody v es x) (ok_same (Runs rs) body e2) (whole, runs))
+          let whole : joined ls ≡ body_text v es (Runs rs) = a.text ∙ ap (λ x. flat_map (run_text v es) x ++ end_line_text (wake_count rs)) (sym a.is) in
+          let runs : IsCertificateBody v es (Runs rs) = (subst (AreRunsOf v es) (sym a.is) a.each, (a.few_lines, few_at_last v rs a.few a.few_lines)) in
+          subst (λ x. (joined ls ≡ body_text v es x) × IsCertificateBody v es x) (ok_same (Runs rs) body e2) (whole, runs))
     ])
 
 pub version_found : (line : List ℕ) (v : Version) → version_of line ≡ Ok v → line ++ 10 ∷ [] ≡ header_text v
@@ -176,7 +176,7 @@ start_found line start e =
 
 -- ---- all of it
 
-pub read_is_written : (es : List Entry) (text : List ℕ) (c : Cert) → certificate_of es text ≡ Ok c → Writes es text c
+pub read_is_written : (es : List Entry) (text : List ℕ) (c : Cert) → certificate_of es text ≡ Ok c → WritesCertificate es text c
 unfolding certificate_of certificate_text pieces
 read_is_written es text c e =
     step_ok (header_of (lines text)) _ c e (λ head hh e1.
@@ -187,13 +187,13 @@ read_is_written es text c e =
     let rest = body_found head.0 es second.1 body hb in
     let from_start : joined head.1 ≡ start_text start ++ body_text head.0 es body =
     line_off 2 head.1 second.0 second.1 hs ∙ front_line second.0 (joined second.1) (body_text head.0 es body) (start_text start) first.0 rest.0 in
-    subst (Writes es text) (ok_same {A = Cert} (record { version = head.0; start = start; body = body }) c e4)
+    subst (WritesCertificate es text) (ok_same {A = Cert} (record { version = head.0; start = start; body = body }) c e4)
     (record {
       certificate = (first.1, rest.1);
       spelled = sym (join_with_byte-slice_split 10 text) ∙ header_found (lines text) head hh ∙ ap (λ x. header_text head.0 ++ x) from_start;
     })))))
 
-pub found_writes : (es : List Entry) (text : List ℕ) (r : Result Cert CertFault) → Gives (λ c. c) r (certificate_of es text) → IfOk r (λ c. Writes es text c)
+pub found_writes : (es : List Entry) (text : List ℕ) (r : Result Cert CertFault) → Gives (λ c. c) r (certificate_of es text) → IfOk r (λ c. WritesCertificate es text c)
 found_writes es text (Ok c) h = read_is_written es text c h
 found_writes es text (Err e) h = tt
 
@@ -205,7 +205,7 @@ pub all_among : (n : ℕ) (rs : List Run) → AllByRecursion (IsAmong n) rs → 
 all_among n [] each = All-nil (IsAmong n)
 all_among n (r ∷ rs) each = All-cons (IsAmong n) r rs each.0 (all_among n rs each.1)
 
-can_be_written : (v : Version) (es : List Entry) (body : Body) → IsBody v es body → CanBeWritten es body
+can_be_written : (v : Version) (es : List Entry) (body : Body) → IsCertificateBody v es body → CanBeWritten es body
 can_be_written v es (Runs rs) h = (among v es rs h.0, h.1.1)
 can_be_written v es (Unkeepable entry needed) h = h
 

@@ -9,7 +9,7 @@ use Rattle.keep_cert.specs.declared.fault.CertFault.{CertFault}
 use Rattle.keep_cert.specs.declared.fault.CertFault.TheVariants.{BadHeader, BadLine, UnknownName, BadNumber, Trailing}
 use Rattle.keep_cert.specs.Answers.{◌>>=◌}
 use Rattle.keep_cert.specs.Lines.{four_words, number_at, six_words, three_words, two_words}
-use Rattle.keep_cert.specs.Reading.{end_of_runs, entry_named, is_run, nothing_behind, right, run_line, run_of, start_of, unkeepable_of, version_of, wake_of}
+use Rattle.keep_cert.specs.Reading.{end_of_runs, entry_named, is_run, nothing_behind, right, run_in_line, run_of, start_of, unkeepable_of, version_of, wake_of}
 use Rattle.keep_words.specs.Pieces.{keyword}
 
 -- a fault of the nth line
@@ -71,8 +71,8 @@ module _ (n : ℕ) (es : List Entry) (line : List ℕ) (e : CertFault) where
       step_err (entry_named n es w.4) _ e h5 (name_fault w.4) (λ i hi h6.
       step_err (entry_named n es w.5) _ e h6 (name_fault w.5) (λ j hj h7. not_err _ e h7)))))))
 
-  pub run_line_fault : (v : Version) (before : ℕ) → run_line v n es before line ≡ Err e → IsAt n e
-  unfolding run_line
+  pub run_line_fault : (v : Version) (before : ℕ) → run_in_line v n es before line ≡ Err e → IsAt n e
+  unfolding run_in_line
   run_line_fault One before h = wake_fault h
   run_line_fault Two before h = run_fault before h
 

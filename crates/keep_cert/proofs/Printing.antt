@@ -11,7 +11,7 @@ use Rattle.keep_rule.specs.declared.force.Force.{Force}
 use Rattle.keep_rule.specs.declared.limit.TheConstants.{LIMIT}
 use Rattle.keep_rule.specs.declared.run.Run.{Run}
 use Rattle.keep_schedule.specs.Forces.{AreForces, IsForce}
-use Rattle.keep_rule.specs.Runs.{all_wakes, counted, wakes, wakes_of}
+use Rattle.keep_rule.specs.Runs.{all_wakes, wake_count, wakes, wakes_of}
 use Rattle.keep_plan.specs.declared.decision.Decision.{Decision}
 use Rattle.keep_plan.specs.declared.decision.Decision.TheVariants as decision
 use Rattle.keep_plan.specs.Decides.{Decides}
@@ -22,18 +22,18 @@ use Rattle.keep_plan.proofs.Walking.{length_all_cons}
 use Rattle.keep_cert.specs.declared.cert.Body.{Body}
 use Rattle.keep_cert.specs.declared.cert.Body.TheVariants.{Runs, Unkeepable}
 use Rattle.keep_cert.specs.declared.cert.Version.TheVariants.{Two}
-use Rattle.keep_cert.specs.CertificateText.{AreRunsOf, IsBody, certificate_text}
+use Rattle.keep_cert.specs.CertificateText.{AreRunsOf, IsCertificateBody, certificate_text}
 use Rattle.keep_cert.specs.Laws.{DecidedIsOf, PrintedIsRead}
 use Rattle.keep_cert.specs.Printing.{certified, claim}
 use Rattle.keep_cert.proofs.FoundRuns.{all_among, among}
 use Rattle.keep_cert.proofs.ReadBackAll.{written_is_read}
 
 -- the wake-ups of runs are counted by their lines
-pub counted_wakes : (rs : List Run) → counted rs ≡ length (all_wakes rs)
+pub counted_wakes : (rs : List Run) → wake_count rs ≡ length (all_wakes rs)
 counted_wakes [] = refl
 counted_wakes (r ∷ rs) = let rest = counted_wakes rs in let here = length_all_cons r rs in omega arith
 
-pub few_planned : (p : Planned) → IsPlanned p → counted p.runs ≤ LIMIT
+pub few_planned : (p : Planned) → IsPlanned p → wake_count p.runs ≤ LIMIT
 few_planned p sound = let few = sound.few in let same = counted_wakes p.runs in omega arith
 
 -- ---- the indices
@@ -86,19 +86,19 @@ decided_is_of g s decision.TooLong forest decides = tt
 
 -- ---- reading back
 
-pub claim_is_body : (g : Forest) (s : ℕ) (d : Decision) (body : Body) → IsForest g → Decides g s d → claim d ≡ Some body → IsBody Two g.entries body
+pub claim_is_body : (g : Forest) (s : ℕ) (d : Decision) (body : Body) → IsForest g → Decides g s d → claim d ≡ Some body → IsCertificateBody Two g.entries body
 claim_is_body g s (decision.Keep p) body forest decides is =
     let runs = runs_within g forest s None p.runs decides.best.runs decides.best.forces in
     let few_runs = decides.best.few_runs in
     let entries = forest.few in
     let few = decides.best.few in
     let same = counted_wakes p.runs in
-    let all : IsBody Two g.entries (Runs p.runs) = (runs, (omega arith, omega arith)) in
+    let all : IsCertificateBody Two g.entries (Runs p.runs) = (runs, (omega arith, omega arith)) in
     let is' : Runs p.runs ≡ body = cc in
-    subst (IsBody Two g.entries) is' all
+    subst (IsCertificateBody Two g.entries) is' all
 claim_is_body g s (decision.Unkeepable entry needed) body forest decides is =
     let is' : Unkeepable entry needed ≡ body = cc in
-    subst (IsBody Two g.entries) is' (decided_is_of g s (decision.Unkeepable entry needed) forest decides)
+    subst (IsCertificateBody Two g.entries) is' (decided_is_of g s (decision.Unkeepable entry needed) forest decides)
 claim_is_body g s decision.TooLong body forest decides is = absurd cc
 
 pub printed_is_read : PrintedIsRead

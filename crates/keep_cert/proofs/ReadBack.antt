@@ -14,11 +14,11 @@ use Rattle.keep_cert.specs.declared.cert.Version.{Version}
 use Rattle.keep_cert.specs.declared.cert.Version.TheVariants.{One, Two}
 use Rattle.keep_rule.specs.declared.limit.TheConstants.{LIMIT}
 use Rattle.keep_cert.specs.declared.fault.CertFault.TheVariants.{BadLine, BadNumber, UnknownName}
-use Rattle.keep_cert.specs.CertificateText.{IsRunOf, line_text, name_of, run_text}
+use Rattle.keep_cert.specs.CertificateText.{IsRunOf, line_text, name_of_entry, run_text}
 use Rattle.keep_cert.specs.Lines.{four_words, number_at, six_words}
 use Rattle.keep_words.proofs.Numbers as numbers
 use Rattle.keep_words.specs.Pieces.{four, keyword, six}
-use Rattle.keep_cert.specs.Reading.{entry_named, is_run, right, run_keyword, run_line, run_of, wake_of}
+use Rattle.keep_cert.specs.Reading.{entry_named, is_run, right, run_in_line, run_keyword, run_of, wake_of}
 use Rattle.keep_cert.proofs.Turns.{value_on}
 use Rattle.keep_cert.proofs.Words.{AreWords, IsWord, decimal_is_word, keyword_back, keyword_test, name_is_word, words_back}
 
@@ -27,21 +27,21 @@ unfolding number_at
 number_back n k few = ap (λ o. ok_or o (BadNumber n)) (numbers.number_back LAST (omega arith) k few)
 
 module _ (g : Forest) (f : IsForest g) where
-  pub entry_back : (n i : ℕ) → i < length g.entries → entry_named n g.entries (name_of g.entries i) ≡ Ok i
-  unfolding entry_named name_of
+  pub entry_back : (n i : ℕ) → i < length g.entries → entry_named n g.entries (name_of_entry g.entries i) ≡ Ok i
+  unfolding entry_named name_of_entry
   entry_back n i inside = ap (λ o. ok_or o (UnknownName n)) ((f.placed i inside).alone)
 
-  pub name_word : (i : ℕ) → i < length g.entries → IsWord (name_of g.entries i)
-  unfolding name_of
+  pub name_word : (i : ℕ) → i < length g.entries → IsWord (name_of_entry g.entries i)
+  unfolding name_of_entry
   name_word i inside = name_is_word _ ((f.placed i inside).named)
 
 -- ---- lines of wake-ups and runs
 
 abbrev wake_tail : List Entry → Run → List (List ℕ)
-wake_tail es r = decimal r.first ∷ name_of es r.entry ∷ name_of es r.needed ∷ []
+wake_tail es r = decimal r.first ∷ name_of_entry es r.entry ∷ name_of_entry es r.needed ∷ []
 
 abbrev run_tail : List Entry → Run → List (List ℕ)
-run_tail es r = decimal r.first ∷ decimal r.step ∷ decimal r.count ∷ name_of es r.entry ∷ name_of es r.needed ∷ []
+run_tail es r = decimal r.first ∷ decimal r.step ∷ decimal r.count ∷ name_of_entry es r.entry ∷ name_of_entry es r.needed ∷ []
 
 abbrev pub run_words : Version → List Entry → Run → List (List ℕ)
 run_words One es r = codes "wake" ∷ wake_tail es r
@@ -104,10 +104,10 @@ module _ (g : Forest) (f : IsForest g) (n before : ℕ) (r : Run) where
       let words = words_back (codes "wake") (wake_tail g.entries r) (run_words_are g f One r h few) in
       let count_is : r.count ≡ 1 = h.form in
       let step_is : r.step ≡ 0 = h.run.lone.1 count_is in
-      value_on (four_words n (run_as_line One es r)) _ (codes "wake", decimal r.first, name_of es r.entry, name_of es r.needed) (ap (λ ws. ok_or (four ws) (BadLine n)) words)
+      value_on (four_words n (run_as_line One es r)) _ (codes "wake", decimal r.first, name_of_entry es r.entry, name_of_entry es r.needed) (ap (λ ws. ok_or (four ws) (BadLine n)) words)
       ∙ value_on (number_at n (decimal r.first)) _ r.first (number_back n r.first s.first)
-      ∙ value_on (entry_named n es (name_of es r.entry)) _ r.entry (entry_back g f n r.entry h.among.entry)
-      ∙ value_on (entry_named n es (name_of es r.needed)) _ r.needed (entry_back g f n r.needed h.among.needed)
+      ∙ value_on (entry_named n es (name_of_entry es r.entry)) _ r.entry (entry_back g f n r.entry h.among.entry)
+      ∙ value_on (entry_named n es (name_of_entry es r.needed)) _ r.needed (entry_back g f n r.needed h.among.needed)
       ∙ ap (λ (k : ℕ). Ok (record { first = r.first; step = k; count = 1; entry = r.entry; needed = r.needed })) (sym step_is)
       ∙ ap (λ (k : ℕ). Ok (record { first = r.first; step = r.step; count = k; entry = r.entry; needed = r.needed })) (sym count_is)
 
@@ -118,17 +118,17 @@ module _ (g : Forest) (f : IsForest g) (n before : ℕ) (r : Run) where
       let s = run_small Two es r h few in
       let words = words_back (codes "run") (run_tail g.entries r) (run_words_are g f Two r h few) in
       let fits = is_run_back before r.first r.step r.count room h.run.moments.some h.run.lone h.run.moments.last in
-      value_on (six_words n (run_as_line Two es r)) _ (codes "run", decimal r.first, decimal r.step, decimal r.count, name_of es r.entry, name_of es r.needed) (ap (λ ws. ok_or (six ws) (BadLine n)) words)
+      value_on (six_words n (run_as_line Two es r)) _ (codes "run", decimal r.first, decimal r.step, decimal r.count, name_of_entry es r.entry, name_of_entry es r.needed) (ap (λ ws. ok_or (six ws) (BadLine n)) words)
       ∙ value_on (number_at n (decimal r.first)) _ r.first (number_back n r.first s.first)
       ∙ value_on (number_at n (decimal r.step)) _ r.step (number_back n r.step s.step)
       ∙ value_on (number_at n (decimal r.count)) _ r.count (number_back n r.count s.count)
       ∙ value_on (right n (is_run before r.first r.step r.count)) _ tt (ap (right n) fits)
-      ∙ value_on (entry_named n es (name_of es r.entry)) _ r.entry (entry_back g f n r.entry h.among.entry)
-      ∙ value_on (entry_named n es (name_of es r.needed)) _ r.needed (entry_back g f n r.needed h.among.needed)
+      ∙ value_on (entry_named n es (name_of_entry es r.entry)) _ r.entry (entry_back g f n r.entry h.among.entry)
+      ∙ value_on (entry_named n es (name_of_entry es r.needed)) _ r.needed (entry_back g f n r.needed h.among.needed)
 
 pub run_line_back : (g : Forest) → IsForest g → (v : Version) (n before : ℕ) (r : Run) → IsRunOf v g.entries r → before + r.count ≤ LIMIT
-    → run_line v n g.entries before (run_as_line v g.entries r) ≡ Ok r
-unfolding run_line
+    → run_in_line v n g.entries before (run_as_line v g.entries r) ≡ Ok r
+unfolding run_in_line
 run_line_back g f One n before r h room = wake_back g f n before r h (omega (arith, room))
 run_line_back g f Two n before r h room = run_back g f n before r h (omega (arith, room)) room
 

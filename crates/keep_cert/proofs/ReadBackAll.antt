@@ -17,8 +17,8 @@ use Rattle.keep_cert.specs.declared.cert.Version.TheVariants.{One, Two}
 use Rattle.keep_rule.specs.declared.limit.TheConstants.{LIMIT}
 use Rattle.keep_cert.specs.declared.cert.TheConstants.{MAX_LINES}
 use Rattle.keep_cert.specs.declared.fault.CertFault.TheVariants.{BadLine}
-use Rattle.keep_rule.specs.Runs.{counted}
-use Rattle.keep_cert.specs.CertificateText.{AreRunsOf, IsBody, IsRunOf, Writes, body_text, certificate_text, end_text, header_text, line_text, name_of, run_text, start_text, unkeepable_text}
+use Rattle.keep_rule.specs.Runs.{wake_count}
+use Rattle.keep_cert.specs.CertificateText.{AreRunsOf, IsCertificateBody, IsRunOf, WritesCertificate, body_text, certificate_text, end_line_text, header_text, line_text, name_of_entry, run_text, start_text, unkeepable_text}
 use Rattle.keep_cert.specs.Lines.{line_at, number_at, three_words, two_words}
 use Rattle.keep_words.specs.Pieces.{keyword, pieces, three, two}
 use Rattle.keep_cert.specs.Reading.{body_of, certificate_of, end_of_runs, ending, entry_named, header_of, nothing_behind, right, run_keyword, runs_of, start_of, unkeepable_of, version_of}
@@ -38,8 +38,8 @@ end_line count = join_with_byte 32 (end_words count)
 end_words_are : (count : ℕ) → count ≤ LIMIT → AreWords (end_words count)
 end_words_are count few = (record { spaces = refl; feeds = refl }, (decimal_is_word count (omega (arith, few)), tt))
 
-end_pieces : (count : ℕ) → count ≤ LIMIT → pieces 10 (end_text count) ≡ end_line count ∷ pieces 10 []
-unfolding end_text
+end_pieces : (count : ℕ) → count ≤ LIMIT → pieces 10 (end_line_text count) ≡ end_line count ∷ pieces 10 []
+unfolding end_line_text
 end_pieces count few = ap (pieces 10) (sym (append-nil (line_text (end_words count)))) ∙ line_back (end_words count) [] (end_words_are count few)
 
 end_back : (n count : ℕ) → count ≤ LIMIT → ending n count (end_line count) (pieces 10 []) ≡ Ok tt
@@ -63,27 +63,27 @@ end_keyword count few = keyword_back (end_line count) (codes "end") _ (words_bac
 
 -- ---- runs
 
-counted_append : (xs ys : List Run) → counted (xs ++ ys) ≡ counted xs + counted ys
+counted_append : (xs ys : List Run) → wake_count (xs ++ ys) ≡ wake_count xs + wake_count ys
 counted_append [] ys = omega arith
 counted_append (x ∷ xs) ys = omega (arith, counted_append xs ys)
 
 runs_text : Version → List Entry → List Run → ℕ → List ℕ
-runs_text v es rs total = flat_map (run_text v es) rs ++ end_text total
+runs_text v es rs total = flat_map (run_text v es) rs ++ end_line_text total
 
 runs_text_more : (v : Version) (es : List Entry) (r : Run) (rs : List Run) (total : ℕ) → runs_text v es (r ∷ rs) total ≡ line_text (run_words v es r) ++ runs_text v es rs total
 unfolding runs_text
-runs_text_more v es r rs total = append_assoc (run_text v es r) (flat_map (run_text v es) rs) (end_text total) ∙ ap (λ l. l ++ (flat_map (run_text v es) rs ++ end_text total)) (run_text_is v es r)
+runs_text_more v es r rs total = append_assoc (run_text v es r) (flat_map (run_text v es) rs) (end_line_text total) ∙ ap (λ l. l ++ (flat_map (run_text v es) rs ++ end_line_text total)) (run_text_is v es r)
 
 module _ (g : Forest) (f : IsForest g) (v : Version) where
   run_pieces : (r : Run) (rs : List Run) (total : ℕ) → IsRunOf v g.entries r → r.count ≤ LIMIT → pieces 10 (runs_text v g.entries (r ∷ rs) total) ≡ run_as_line v g.entries r ∷ pieces 10 (runs_text v g.entries rs total)
   run_pieces r rs total h few = ap (pieces 10) (runs_text_more v g.entries r rs total) ∙ line_back (run_words v g.entries r) (runs_text v g.entries rs total) (run_words_are g f v r h few)
 
-  runs_back : (found new : List Run) (total : ℕ) → AreRunsOf v g.entries new → length (found ++ new) ≤ MAX_LINES → counted (found ++ new) ≤ LIMIT → total ≡ counted (found ++ new)
+  runs_back : (found new : List Run) (total : ℕ) → AreRunsOf v g.entries new → length (found ++ new) ≤ MAX_LINES → wake_count (found ++ new) ≤ LIMIT → total ≡ wake_count (found ++ new)
       → runs_of v g.entries found (pieces 10 (runs_text v g.entries new total)) ≡ Ok (found ++ new)
   unfolding runs_text
   runs_back found [] total each few wakes is =
       let es = g.entries in
-      let total_is : total ≡ counted found = is ∙ ap counted (append-nil found) in
+      let total_is : total ≡ wake_count found = is ∙ ap wake_count (append-nil found) in
       let small : total ≤ LIMIT = omega (arith, is, wakes) in
       let ls = end_line total ∷ pieces 10 [] in
       let all = runs_of v es found ls in
@@ -95,21 +95,21 @@ module _ (g : Forest) (f : IsForest g) (v : Version) where
   runs_back found (r ∷ rs) total each few wakes is =
       let es = g.entries in
       let split = counted_append found (r ∷ rs) in
-      let room : counted found + r.count ≤ LIMIT = omega (arith, split, wakes) in
+      let room : wake_count found + r.count ≤ LIMIT = omega (arith, split, wakes) in
       let count_few : r.count ≤ LIMIT = omega (arith, room) in
       let n = length found + 3 in
       let line = run_as_line v es r in
       let rest = pieces 10 (runs_text v es rs total) in
       let ls = line ∷ rest in
       let all = runs_of v es found ls in
-      let b : Behind v es found n (counted found) ls all = record { place = refl; counts = refl; same = refl } in
+      let b : Behind v es found n (wake_count found) ls all = record { place = refl; counts = refl; same = refl } in
       let place : length found < MAX_LINES = omega (arith, few, length-append found (r ∷ rs)) in
       let regrouped : (found ++ r ∷ []) ++ rs ≡ found ++ r ∷ rs = append_assoc found (r ∷ []) rs in
-      let more = run_more v es found n (counted found) ls all b line rest (whole_line n line (runs_text v es rs total))
-      (run_keyword_back g f v r each.0 count_few) place r (run_line_back g f v n (counted found) r each.0 room) in
+      let more = run_more v es found n (wake_count found) ls all b line rest (whole_line n line (runs_text v es rs total))
+      (run_keyword_back g f v r each.0 count_few) place r (run_line_back g f v n (wake_count found) r each.0 room) in
       ap (runs_of v es found) (run_pieces r rs total each.0 count_few)
       ∙ sym more
-      ∙ runs_back (found ++ r ∷ []) rs total each.1 (subst (λ x. length x ≤ MAX_LINES) (sym regrouped) few) (subst (λ x. counted x ≤ LIMIT) (sym regrouped) wakes) (is ∙ ap counted (sym regrouped))
+      ∙ runs_back (found ++ r ∷ []) rs total each.1 (subst (λ x. length x ≤ MAX_LINES) (sym regrouped) few) (subst (λ x. wake_count x ≤ LIMIT) (sym regrouped) wakes) (is ∙ ap wake_count (sym regrouped))
       ∙ ap Ok regrouped
 
   -- the first line of runs does not begin with `unkeepable`
@@ -119,7 +119,7 @@ module _ (g : Forest) (f : IsForest g) (v : Version) where
     parts : pieces 10 text ≡ line ∷ pieces 10 rest
     other : bytes_eq (keyword line) (codes "unkeepable") ≡ false
 
-  first_is_other : (rs : List Run) (total : ℕ) → AreRunsOf v g.entries rs → counted rs ≤ LIMIT → total ≤ LIMIT → IsOther (runs_text v g.entries rs total)
+  first_is_other : (rs : List Run) (total : ℕ) → AreRunsOf v g.entries rs → wake_count rs ≤ LIMIT → total ≤ LIMIT → IsOther (runs_text v g.entries rs total)
   unfolding runs_text
   first_is_other [] total each few small =
       record { line = end_line total; rest = []; parts = end_pieces total small; other = ap (λ w. bytes_eq w (codes "unkeepable")) (end_keyword total small) }
@@ -133,13 +133,13 @@ module _ (g : Forest) (f : IsForest g) (v : Version) where
       }
 
   pair_words : ℕ → ℕ → List (List ℕ)
-  pair_words entry needed = codes "unkeepable" ∷ name_of g.entries entry ∷ name_of g.entries needed ∷ []
+  pair_words entry needed = codes "unkeepable" ∷ name_of_entry g.entries entry ∷ name_of_entry g.entries needed ∷ []
 
-  pub body_back : (body : Body) → IsBody v g.entries body → body_of v g.entries (pieces 10 (body_text v g.entries body)) ≡ Ok body
+  pub body_back : (body : Body) → IsCertificateBody v g.entries body → body_of v g.entries (pieces 10 (body_text v g.entries body)) ≡ Ok body
   unfolding body_of body_text runs_text unkeepable_text unkeepable_of three_words pair_words
   body_back (Runs rs) h =
       let es = g.entries in
-      let total = counted rs in
+      let total = wake_count rs in
       let text = runs_text v es rs total in
       let o = first_is_other rs total h.0 h.1.1 h.1.1 in
       let first : line_at 3 (pieces 10 text) ≡ Ok (o.line, pieces 10 o.rest) = ap (line_at 3) o.parts ∙ whole_line 3 o.line o.rest in
@@ -151,15 +151,15 @@ module _ (g : Forest) (f : IsForest g) (v : Version) where
       let ws = pair_words entry needed in
       let line = join_with_byte 32 ws in
       let are : AreWords ws = (record { spaces = refl; feeds = refl }, (name_word g f entry h.0, (name_word g f needed h.1, tt))) in
-      let words : pieces 32 line ≡ ws = words_back (codes "unkeepable") (name_of es entry ∷ name_of es needed ∷ []) are in
+      let words : pieces 32 line ≡ ws = words_back (codes "unkeepable") (name_of_entry es entry ∷ name_of_entry es needed ∷ []) are in
       let parts : pieces 10 (line_text ws) ≡ line ∷ pieces 10 [] = ap (pieces 10) (sym (append-nil (line_text ws))) ∙ line_back ws [] are in
       let first : line_at 3 (pieces 10 (line_text ws)) ≡ Ok (line, pieces 10 []) = ap (line_at 3) parts ∙ whole_line 3 line [] in
       let pair : unkeepable_of es line ≡ Ok (Unkeepable entry needed) =
-      value_on (three_words 3 line) _ (codes "unkeepable", name_of es entry, name_of es needed) (ap (λ x. ok_or (three x) (BadLine 3)) words)
-      ∙ value_on (entry_named 3 es (name_of es entry)) _ entry (entry_back g f 3 entry h.0)
-      ∙ value_on (entry_named 3 es (name_of es needed)) _ needed (entry_back g f 3 needed h.1) in
+      value_on (three_words 3 line) _ (codes "unkeepable", name_of_entry es entry, name_of_entry es needed) (ap (λ x. ok_or (three x) (BadLine 3)) words)
+      ∙ value_on (entry_named 3 es (name_of_entry es entry)) _ entry (entry_back g f 3 entry h.0)
+      ∙ value_on (entry_named 3 es (name_of_entry es needed)) _ needed (entry_back g f 3 needed h.1) in
       value_on (line_at 3 (pieces 10 (line_text ws))) _ (line, pieces 10 []) first
-      ∙ cond-true _ _ _ (keyword_test line (codes "unkeepable") (name_of es entry ∷ name_of es needed ∷ []) words)
+      ∙ cond-true _ _ _ (keyword_test line (codes "unkeepable") (name_of_entry es entry ∷ name_of_entry es needed ∷ []) words)
       ∙ value_on (unkeepable_of es line) _ (Unkeepable entry needed) pair
       ∙ value_on (nothing_behind (pieces 10 [])) _ tt (behind_nothing [] refl)
 
@@ -192,7 +192,7 @@ start_back start within =
 
 -- ---- all of it
 
-pub written_is_read : (g : Forest) → IsForest g → (text : List ℕ) (c : Cert) → Writes g.entries text c → certificate_of g.entries text ≡ Ok c
+pub written_is_read : (g : Forest) → IsForest g → (text : List ℕ) (c : Cert) → WritesCertificate g.entries text c → certificate_of g.entries text ≡ Ok c
 unfolding certificate_of certificate_text
 written_is_read g f text c w =
     let es = g.entries in

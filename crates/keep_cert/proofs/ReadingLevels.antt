@@ -3,7 +3,7 @@
 use Rattle.std.proofs.Common.{◌≡◌, ◌≢◌, ℕ, suc, ◌+◌, List, [], ◌∷◌, ◌++◌, append_assoc, length, Result, Err, refl, sym, ap, ◌∙◌, subst, arith}
 use Rattle.keep_cert.specs.declared.fault.CertFault.{CertFault}
 use Rattle.keep_cert.specs.declared.fault.CertFault.TheVariants.{BadHeader, BadLine, UnknownName, BadNumber, Truncated, Trailing, OutOfMemory}
-use Rattle.keep_cert.specs.FirstFault.{whole}
+use Rattle.keep_cert.specs.FirstFault.{whole_lines}
 use Rattle.keep_cert.specs.Lines.{cut_off}
 use Rattle.keep_cert.proofs.FoundRuns.{front_line}
 use Rattle.keep_cert.proofs.LineFaults.{IsAt}
@@ -39,10 +39,10 @@ Starts Text front = (text : List ℕ) × Text text × (rest : List ℕ) × (text
 -- what a fault says of the lines of a level whose first is the nth and whose texts are these
 abbrev pub Faulty : {A : Type 0} → (List (List ℕ) → Result A CertFault) → ℕ → (List ℕ → Type 0) → List (List ℕ) → CertFault → Type 0
 Faulty read n Text ls Truncated =
-    (front : List (List ℕ)) × (ls ≡ front ++ [] ∷ []) × (text : List ℕ) × Text text × (rest : List ℕ) × (rest ≢ []) × (text ≡ whole front ++ rest)
+    (front : List (List ℕ)) × (ls ≡ front ++ [] ∷ []) × (text : List ℕ) × Text text × (rest : List ℕ) × (rest ≢ []) × (text ≡ whole_lines front ++ rest)
 Faulty read n Text ls Trailing =
-    (front : List (List ℕ)) × (behind : List (List ℕ)) × (ls ≡ front ++ behind) × (behind ≢ []) × (behind ≢ [] ∷ []) × Text (whole front)
-Faulty read n Text ls e = (front : List (List ℕ)) × Starts Text (whole front) × StopsAt read (length front + n) front ls e
+    (front : List (List ℕ)) × (behind : List (List ℕ)) × (ls ≡ front ++ behind) × (behind ≢ []) × (behind ≢ [] ∷ []) × Text (whole_lines front)
+Faulty read n Text ls e = (front : List (List ℕ)) × Starts Text (whole_lines front) × StopsAt read (length front + n) front ls e
 
 -- a level has a text
 pub record HasText (Text : List ℕ → Type 0) : Type 0 where
@@ -52,7 +52,7 @@ pub record HasText (Text : List ℕ → Type 0) : Type 0 where
 
 module _ {A : Type 0} (read : List (List ℕ) → Result A CertFault) (n : ℕ) (Text : List ℕ → Type 0) (has : HasText Text) where
   here : (line : List ℕ) (behind : List (List ℕ)) (e : CertFault) → IsAt n e → NeedsFeed e behind
-      → (behind ≢ [] → (more : List (List ℕ)) → more ≢ [] → read (line ∷ more) ≡ Err e) → (front : List (List ℕ)) × Starts Text (whole front) × StopsAt read (length front + n) front (line ∷ behind) e
+      → (behind ≢ [] → (more : List (List ℕ)) → more ≢ [] → read (line ∷ more) ≡ Err e) → (front : List (List ℕ)) × Starts Text (whole_lines front) × StopsAt read (length front + n) front (line ∷ behind) e
   here line behind e at feed local =
       let place : n ≡ 0 + n = omega arith in
       ([], (has.text, has.is, has.text, refl), record { line = line; behind = behind; parts = refl; at = subst (λ k. IsAt k e) place at; feed = feed; local = local })
@@ -93,12 +93,12 @@ module _ {A B : Type 0} (read : List (List ℕ) → Result A CertFault) (outer :
         local = λ some more h. onto (front ++ s.line ∷ more) e (some_lines front s.line more) (s.local some more h);
       }
 
-  goes_on : (front : List (List ℕ)) (text rest : List ℕ) → text ≡ whole front ++ rest → word ++ text ≡ whole (line ∷ front) ++ rest
+  goes_on : (front : List (List ℕ)) (text rest : List ℕ) → text ≡ whole_lines front ++ rest → word ++ text ≡ whole_lines (line ∷ front) ++ rest
   goes_on front text rest e =
-      ap (λ t. word ++ t) e ∙ sym (append_assoc word (whole front) rest) ∙ ap (λ t. t ++ rest) (sym (front_line line (whole front) (whole front) word spelled refl))
+      ap (λ t. word ++ t) e ∙ sym (append_assoc word (whole_lines front) rest) ∙ ap (λ t. t ++ rest) (sym (front_line line (whole_lines front) (whole_lines front) word spelled refl))
 
-  more_front : (front ls : List (List ℕ)) (e : CertFault) → Starts Text (whole front) → StopsAt read (length front + suc n) front ls e
-      → (fronts : List (List ℕ)) × Starts Outer (whole fronts) × StopsAt outer (length fronts + n) fronts (line ∷ ls) e
+  more_front : (front ls : List (List ℕ)) (e : CertFault) → Starts Text (whole_lines front) → StopsAt read (length front + suc n) front ls e
+      → (fronts : List (List ℕ)) × Starts Outer (whole_lines fronts) × StopsAt outer (length fronts + n) fronts (line ∷ ls) e
   more_front front ls e s stops = (line ∷ front, (word ++ s.0, wrap s.0 s.1, s.2, goes_on front s.0 s.2 s.3), stops_more front ls e stops)
 
   pub one_line_more : (ls : List (List ℕ)) (e : CertFault) → Faulty read (suc n) Text ls e → Faulty outer n Outer (line ∷ ls) e
@@ -108,5 +108,5 @@ module _ {A B : Type 0} (read : List (List ℕ) → Result A CertFault) (outer :
   one_line_more ls (UnknownName k) h = more_front h.0 ls (UnknownName k) h.1 h.2
   one_line_more ls Truncated h = (line ∷ h.0, ap (λ x. line ∷ x) h.1, word ++ h.2, wrap h.2 h.3, h.4, h.5, goes_on h.0 h.2 h.4 h.6)
   one_line_more ls Trailing h =
-      (line ∷ h.0, h.1, ap (λ x. line ∷ x) h.2, h.3, h.4, subst Outer (sym (front_line line (whole h.0) (whole h.0) word spelled refl)) (wrap (whole h.0) h.5))
+      (line ∷ h.0, h.1, ap (λ x. line ∷ x) h.2, h.3, h.4, subst Outer (sym (front_line line (whole_lines h.0) (whole_lines h.0) word spelled refl)) (wrap (whole_lines h.0) h.5))
   one_line_more ls OutOfMemory h = more_front h.0 ls OutOfMemory h.1 h.2

@@ -11,10 +11,10 @@ use Rattle.keep_cert.specs.declared.cert.Version.{Version}
 use Rattle.keep_cert.specs.declared.fault.CertFault.{CertFault}
 use Rattle.keep_cert.specs.declared.fault.CertFault.TheVariants.{BadHeader, Trailing}
 use Rattle.keep_cert.specs.Answers.{◌>>=◌}
-use Rattle.keep_rule.specs.Runs.{counted}
+use Rattle.keep_rule.specs.Runs.{wake_count}
 use Rattle.keep_words.specs.Pieces.{keyword, pieces}
 use Rattle.keep_cert.specs.Lines.{line_at}
-use Rattle.keep_cert.specs.Reading.{ending, header_of, is_run, nothing_behind, run_keyword, run_line, runs_of, version_of}
+use Rattle.keep_cert.specs.Reading.{ending, header_of, is_run, nothing_behind, run_in_line, run_keyword, runs_of, version_of}
 use Rattle.keep_words.proofs.Cutting.{has_piece}
 
 -- ---- the first line and what follows the last
@@ -52,7 +52,7 @@ behind_something rest some = not_bare (pieces 10 rest) (λ e. some (bare_is_empt
 
 -- ---- one line of runs more
 
-pub counted_push : (rs : List Run) (r : Run) → counted (rs ++ r ∷ []) ≡ counted rs + r.count
+pub counted_push : (rs : List Run) (r : Run) → wake_count (rs ++ r ∷ []) ≡ wake_count rs + r.count
 counted_push [] r = omega arith
 counted_push (x ∷ xs) r = omega (arith, counted_push xs r)
 
@@ -60,8 +60,8 @@ counted_push (x ∷ xs) r = omega (arith, counted_push xs r)
 abbrev pub turn : Version → List Entry → List Run → List ℕ → List (List ℕ) → Result (List Run) CertFault
 turn v es found line rest =
     if bytes_eq (keyword line) (run_keyword v) && nat_lt (length found) MAX_LINES
-    then (run_line v (length found + 3) es (counted found) line >>= λ run. runs_of v es (found ++ run ∷ []) rest)
-    else (ending (length found + 3) (counted found) line rest >>= λ u. Ok found)
+    then (run_in_line v (length found + 3) es (wake_count found) line >>= λ run. runs_of v es (found ++ run ∷ []) rest)
+    else (ending (length found + 3) (wake_count found) line rest >>= λ u. Ok found)
 
 pub ok_same : {A : Type 0} (x y : A) → ◌≡◌ {A = Result A CertFault} (Ok x) (Ok y) → x ≡ y
 ok_same x y e = cc
@@ -92,7 +92,7 @@ value_on (Err y) f x h = cc
 -- after these runs, which have so many wake-ups, these lines say what all of them say
 pub record Behind (v : Version) (es : List Entry) (found : List Run) (n total : ℕ) (ls : List (List ℕ)) (all : Result (List Run) CertFault) : Type 0 where
   pub place : length found + 3 ≡ n
-  pub counts : total ≡ counted found
+  pub counts : total ≡ wake_count found
   pub same : runs_of v es found ls ≡ all
 
 module _ (v : Version) (es : List Entry) (found : List Run) (n total : ℕ) (ls : List (List ℕ)) (all : Result (List Run) CertFault) (b : Behind v es found n total ls all) where
@@ -104,23 +104,23 @@ module _ (v : Version) (es : List Entry) (found : List Run) (n total : ℕ) (ls 
     all_turned = sym b.same ∙ turned v es found ls line rest (subst (λ k. line_at k ls ≡ Ok (line, rest)) (sym b.place) first)
 
     -- a line of a run
-    run_next : bytes_eq (keyword line) (run_keyword v) ≡ true → length found < MAX_LINES → all ≡ (run_line v n es total line >>= λ run. runs_of v es (found ++ run ∷ []) rest)
+    run_next : bytes_eq (keyword line) (run_keyword v) ≡ true → length found < MAX_LINES → all ≡ (run_in_line v n es total line >>= λ run. runs_of v es (found ++ run ∷ []) rest)
     run_next key few =
         all_turned ∙ cond-true _ _ _ (and_from _ _ key (lt-ltb _ _ few))
-        ∙ ap (λ k. run_line v k es (counted found) line >>= λ run. runs_of v es (found ++ run ∷ []) rest) b.place
-        ∙ ap (λ t. run_line v n es t line >>= λ run. runs_of v es (found ++ run ∷ []) rest) (sym b.counts)
+        ∙ ap (λ k. run_in_line v k es (wake_count found) line >>= λ run. runs_of v es (found ++ run ∷ []) rest) b.place
+        ∙ ap (λ t. run_in_line v n es t line >>= λ run. runs_of v es (found ++ run ∷ []) rest) (sym b.counts)
 
-    pub run_fault : bytes_eq (keyword line) (run_keyword v) ≡ true → length found < MAX_LINES → (f : CertFault) → run_line v n es total line ≡ Err f → all ≡ Err f
-    run_fault key few f e = run_next key few ∙ fault_on (run_line v n es total line) _ f e
+    pub run_fault : bytes_eq (keyword line) (run_keyword v) ≡ true → length found < MAX_LINES → (f : CertFault) → run_in_line v n es total line ≡ Err f → all ≡ Err f
+    run_fault key few f e = run_next key few ∙ fault_on (run_in_line v n es total line) _ f e
 
-    pub run_more : bytes_eq (keyword line) (run_keyword v) ≡ true → length found < MAX_LINES → (run : Run) → run_line v n es total line ≡ Ok run → runs_of v es (found ++ run ∷ []) rest ≡ all
-    run_more key few run e = sym (run_next key few ∙ value_on (run_line v n es total line) _ run e)
+    pub run_more : bytes_eq (keyword line) (run_keyword v) ≡ true → length found < MAX_LINES → (run : Run) → run_in_line v n es total line ≡ Ok run → runs_of v es (found ++ run ∷ []) rest ≡ all
+    run_more key few run e = sym (run_next key few ∙ value_on (run_in_line v n es total line) _ run e)
 
     -- a line of another kind, or one too many
     end_next : (bytes_eq (keyword line) (run_keyword v) && nat_lt (length found) MAX_LINES) ≡ false → all ≡ (ending n total line rest >>= λ u. Ok found)
     end_next key =
         all_turned ∙ cond-false _ _ _ key
-        ∙ ap (λ k. ending k (counted found) line rest >>= λ u. Ok found) b.place
+        ∙ ap (λ k. ending k (wake_count found) line rest >>= λ u. Ok found) b.place
         ∙ ap (λ t. ending n t line rest >>= λ u. Ok found) (sym b.counts)
 
     pub other_fault : bytes_eq (keyword line) (run_keyword v) ≡ false → (f : CertFault) → ending n total line rest ≡ Err f → all ≡ Err f

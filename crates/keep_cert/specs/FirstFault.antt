@@ -12,13 +12,13 @@ use Rattle.keep_cert.specs.Lines.{lines}
 use Rattle.keep_cert.specs.Reading.{certificate_of}
 
 -- lines, each with its line feed
-abbrev pub whole : List (List ℕ) → List ℕ
-whole [] = []
-whole (line ∷ ls) = line ++ 10 ∷ whole ls
+abbrev pub whole_lines : List (List ℕ) → List ℕ
+whole_lines [] = []
+whole_lines (line ∷ ls) = line ++ 10 ∷ whole_lines ls
 
 -- with these bytes the text of some certificate over these entries begins
-abbrev pub Begins : List Entry → List ℕ → Type 0
-Begins es text = (c : Cert) × IsCertificate es c × (rest : List ℕ) × (certificate_text es c ≡ text ++ rest)
+abbrev pub BeginsCertificate : List Entry → List ℕ → Type 0
+BeginsCertificate es text = (c : Cert) × IsCertificate es c × (rest : List ℕ) × (certificate_text es c ≡ text ++ rest)
 
 -- the nth line has its line feed
 abbrev pub HasFeed : List ℕ → ℕ → Type 0
@@ -32,23 +32,23 @@ pub record IsFirstAtFault (es : List Entry) (text : List ℕ) (n : ℕ) : Type 0
   pub behind : List (List ℕ)
   pub parts : lines text ≡ before ++ line ∷ behind
   pub place : length before + 1 ≡ n
-  pub begins : Begins es (whole before)
-  pub stops : HasFeed text n → Begins es (whole (before ++ line ∷ [])) → ⊥
+  pub begins : BeginsCertificate es (whole_lines before)
+  pub stops : HasFeed text n → BeginsCertificate es (whole_lines (before ++ line ∷ [])) → ⊥
 
 -- what a fault says of a text. A line without its line feed is a bad header or a bad line; a text is truncated where some
 -- certificate's begins with it and goes on, and has something after it where it begins with some certificate's and goes on
-abbrev pub Says : List Entry → List ℕ → CertFault → Type 0
-Says es text BadHeader = IsFirstAtFault es text 1
-Says es text (BadLine n) = IsFirstAtFault es text n
-Says es text (BadNumber n) = HasFeed text n × IsFirstAtFault es text n
-Says es text (UnknownName n) = HasFeed text n × IsFirstAtFault es text n
-Says es text Truncated = (c : Cert) × IsCertificate es c × (rest : List ℕ) × (rest ≢ []) × (certificate_text es c ≡ text ++ rest)
-Says es text Trailing = (c : Cert) × IsCertificate es c × (rest : List ℕ) × (rest ≢ []) × (text ≡ certificate_text es c ++ rest)
-Says es text OutOfMemory = ⊥
+abbrev pub SaysFault : List Entry → List ℕ → CertFault → Type 0
+SaysFault es text BadHeader = IsFirstAtFault es text 1
+SaysFault es text (BadLine n) = IsFirstAtFault es text n
+SaysFault es text (BadNumber n) = HasFeed text n × IsFirstAtFault es text n
+SaysFault es text (UnknownName n) = HasFeed text n × IsFirstAtFault es text n
+SaysFault es text Truncated = (c : Cert) × IsCertificate es c × (rest : List ℕ) × (rest ≢ []) × (certificate_text es c ≡ text ++ rest)
+SaysFault es text Trailing = (c : Cert) × IsCertificate es c × (rest : List ℕ) × (rest ≢ []) × (text ≡ certificate_text es c ++ rest)
+SaysFault es text OutOfMemory = ⊥
 
 -- so says the fault of each text that writes no certificate over a forest
-abbrev pub FirstFaultLaw : Type 0
-FirstFaultLaw = (g : Forest) → IsForest g → (text : List ℕ) (fault : CertFault) → certificate_of g.entries text ≡ Err fault → Says g.entries text fault
+abbrev pub CertificateFaultLaw : Type 0
+CertificateFaultLaw = (g : Forest) → IsForest g → (text : List ℕ) (fault : CertFault) → certificate_of g.entries text ≡ Err fault → SaysFault g.entries text fault
 
 -- at most one line of a text is the first at fault
 abbrev pub OneFirstLaw : Type 0

@@ -8,17 +8,17 @@ use Rattle.keep_plan.specs.declared.decision.Decision.{Decision}
 use Rattle.keep_plan.specs.Decides.{Decides}
 use Rattle.keep_cert.specs.declared.cert.Body.{Body}
 use Rattle.keep_cert.specs.declared.cert.Cert.{Cert}
-use Rattle.keep_cert.specs.CertificateText.{Writes, certificate_text}
-use Rattle.keep_cert.specs.Printing.{IsOf, certified, claim}
+use Rattle.keep_cert.specs.CertificateText.{WritesCertificate, certificate_text}
+use Rattle.keep_cert.specs.Printing.{IsDecisionOver, certified, claim}
 use Rattle.keep_cert.specs.Reading.{certificate_of, text_start}
 
 -- a text that is read writes the certificate
-abbrev pub ReadIsWritten : Type 0
-ReadIsWritten = (es : List Entry) (text : List ℕ) (c : Cert) → certificate_of es text ≡ Ok c → Writes es text c
+abbrev pub CertificateReadIsWritten : Type 0
+CertificateReadIsWritten = (es : List Entry) (text : List ℕ) (c : Cert) → certificate_of es text ≡ Ok c → WritesCertificate es text c
 
 -- a text that writes a certificate over a forest is read as that certificate
-abbrev pub WrittenIsRead : Type 0
-WrittenIsRead = (g : Forest) → IsForest g → (text : List ℕ) (c : Cert) → Writes g.entries text c → certificate_of g.entries text ≡ Ok c
+abbrev pub CertificateWrittenIsRead : Type 0
+CertificateWrittenIsRead = (g : Forest) → IsForest g → (text : List ℕ) (c : Cert) → WritesCertificate g.entries text c → certificate_of g.entries text ≡ Ok c
 
 -- the start of a certificate is the one that its text states, whatever the names of the entries
 abbrev pub StartIsStated : Type 0
@@ -26,7 +26,7 @@ StartIsStated = (es : List Entry) (text : List ℕ) (c : Cert) → certificate_o
 
 -- a decision for a forest has the indices of its entries
 abbrev pub DecidedIsOf : Type 0
-DecidedIsOf = (g : Forest) (s : ℕ) (d : Decision) → IsForest g → Decides g s d → IsOf g.entries d
+DecidedIsOf = (g : Forest) (s : ℕ) (d : Decision) → IsForest g → Decides g s d → IsDecisionOver g.entries d
 
 -- what is printed of a decision for a forest is read as what it claims
 abbrev pub PrintedIsRead : Type 0

@@ -25,13 +25,13 @@ abbrev pub certified : ℕ → Body → Cert
 certified s body = record { version = Two; start = s; body = body }
 
 -- the indices of a decision are those of these entries
-abbrev pub IsOf : List Entry → Decision → Type 0
-IsOf es (decision.Keep p) = All (IsAmong (length es)) p.runs
-IsOf es (decision.Unkeepable entry needed) = (entry < length es) × (needed < length es)
-IsOf es decision.TooLong = Unit {0}
+abbrev pub IsDecisionOver : List Entry → Decision → Type 0
+IsDecisionOver es (decision.Keep p) = All (IsAmong (length es)) p.runs
+IsDecisionOver es (decision.Unkeepable entry needed) = (entry < length es) × (needed < length es)
+IsDecisionOver es decision.TooLong = Unit {0}
 
 -- a claim gets the text of its certificate, unless memory was refused, and where there is none, it gets no certificate
-abbrev pub Prints : List Entry → ℕ → Option Body → Result Text PrintFault → Type 0
-Prints es s None answer = answer ≡ Err NoCertificate
-Prints es s (Some body) (Ok text) = text ≡ certificate_text es (certified s body)
-Prints es s (Some body) (Err fault) = fault ≡ OutOfMemory
+abbrev pub PrintsClaim : List Entry → ℕ → Option Body → Result Text PrintFault → Type 0
+PrintsClaim es s None answer = answer ≡ Err NoCertificate
+PrintsClaim es s (Some body) (Ok text) = text ≡ certificate_text es (certified s body)
+PrintsClaim es s (Some body) (Err fault) = fault ≡ OutOfMemory

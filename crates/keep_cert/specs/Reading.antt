@@ -17,7 +17,7 @@ use Rattle.keep_cert.specs.declared.cert.TheConstants.{MAX_LINES}
 use Rattle.keep_cert.specs.declared.fault.CertFault.{CertFault}
 use Rattle.keep_cert.specs.declared.fault.CertFault.TheVariants.{BadHeader, BadLine, UnknownName, BadNumber, Truncated, Trailing}
 use Rattle.keep_cert.specs.Answers.{◌>>=◌}
-use Rattle.keep_rule.specs.Runs.{counted}
+use Rattle.keep_rule.specs.Runs.{wake_count}
 use Rattle.keep_cert.specs.Lines.{cut_off, four_words, line_at, lines, number_at, six_words, three_words, two_words}
 use Rattle.keep_words.specs.Pieces.{keyword}
 
@@ -84,9 +84,9 @@ unfoldable pub run_keyword : Version → List ℕ
 run_keyword One = codes "wake"
 run_keyword Two = codes "run"
 
-unfoldable pub run_line : Version → ℕ → List Entry → ℕ → List ℕ → Result Run CertFault
-run_line One n es before line = wake_of n es line
-run_line Two n es before line = run_of n es before line
+unfoldable pub run_in_line : Version → ℕ → List Entry → ℕ → List ℕ → Result Run CertFault
+run_in_line One n es before line = wake_of n es line
+run_in_line Two n es before line = run_of n es before line
 
 -- nothing stands after the last line
 unfoldable pub nothing_behind : List (List ℕ) → Result (Unit {0}) CertFault
@@ -110,8 +110,8 @@ runs_of v es found [] = Err Truncated
 runs_of v es found (rest ∷ []) = Err (cut_off (length found + 3) rest)
 runs_of v es found (line ∷ next ∷ more) =
     if bytes_eq (keyword line) (run_keyword v) && nat_lt (length found) MAX_LINES
-    then (run_line v (length found + 3) es (counted found) line >>= λ run. runs_of v es (found ++ run ∷ []) (next ∷ more))
-    else (ending (length found + 3) (counted found) line (next ∷ more) >>= λ u. Ok found)
+    then (run_in_line v (length found + 3) es (wake_count found) line >>= λ run. runs_of v es (found ++ run ∷ []) (next ∷ more))
+    else (ending (length found + 3) (wake_count found) line (next ∷ more) >>= λ u. Ok found)
 
 -- the line `unkeepable ENTRY NEEDED`
 unfoldable pub unkeepable_of : List Entry → List ℕ → Result Body CertFault

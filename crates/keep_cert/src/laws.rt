@@ -1,13 +1,13 @@
 ghost use Rattle.std.specs.Prelude.{◌≡◌};
 ghost use Rattle.keep_cert.specs.declared.cert.TheConstants.{MAX_LINES, MOST_CERTIFICATE};
-ghost use Rattle.keep_cert.specs.Laws.{DecidedIsOf, PrintedIsRead, ReadIsWritten, StartIsStated, WrittenIsRead};
+ghost use Rattle.keep_cert.specs.Laws.{CertificateReadIsWritten, CertificateWrittenIsRead, DecidedIsOf, PrintedIsRead, StartIsStated};
 
 /// The laws that join text and reading: what is read from a text is what that text writes, and a text that writes a
 /// certificate over a forest is read as that certificate. So a text writes at most one certificate, and a certificate has
 /// one text. The start of a certificate is the one that its text states, whatever the names of the entries.
 pub fn certificates_are_read_back()
-    ensures found { ReadIsWritten }
-    ensures only { WrittenIsRead }
+    ensures found { CertificateReadIsWritten }
+    ensures only { CertificateWrittenIsRead }
     ensures start { StartIsStated }
 {}
 

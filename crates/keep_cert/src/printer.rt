@@ -1,6 +1,6 @@
 ghost use Rattle.std.specs.Prelude.{◌≡◌};
 ghost use Rattle.keep_cert.specs.declared.printer.PrintFault.TheVariants.{OutOfMemory};
-ghost use Rattle.keep_cert.specs.Printing.{IsOf, Prints, claim};
+ghost use Rattle.keep_cert.specs.Printing.{IsDecisionOver, PrintsClaim, claim};
 
 use crate::writer::{text_of_pair, text_of_runs};
 use keep_moment::{Moment, Text};
@@ -41,8 +41,8 @@ pub fn print(
     start: Moment,
     decision: &Decision,
 ) -> Result<Text, PrintFault>
-    requires { IsOf forest.now.entries decision.now }
-    ensures { Prints forest.now.entries start (claim decision.now) result }
+    requires { IsDecisionOver forest.now.entries decision.now }
+    ensures { PrintsClaim forest.now.entries start (claim decision.now) result }
 {
     match decision {
         Decision::Keep(plan) => Ok(text_of_runs(alloc, forest, start, plan.runs())?),

@@ -1,6 +1,6 @@
 ghost use Rattle.std.specs.Prelude.{◌≡◌, List, ℕ, IfOk};
 ghost use Rattle.keep_cert.specs.Answers.{Gives};
-ghost use Rattle.keep_cert.specs.CertificateText.{CanBeWritten, Writes};
+ghost use Rattle.keep_cert.specs.CertificateText.{CanBeWritten, WritesCertificate};
 ghost use Rattle.keep_cert.specs.Lines.{lines};
 ghost use Rattle.keep_cert.specs.Reading.{version_of, header_of, start_of, unkeepable_of, body_of, certificate_of, text_start};
 ghost use Rattle.keep_cert.specs.declared.cert.Version.{Version};
@@ -23,7 +23,7 @@ use std::alloc::Global;
 /// The fault of the first line at fault, as [`CertFault`] says, or `OutOfMemory` where a growth was refused. The laws of
 /// [`certificates_are_read_back`](crate::certificates_are_read_back) say that each certificate's text is read as it.
 pub fn read(alloc: Global, forest: &Forest, text: &[u8]) -> Result<Cert, CertFault>
-    ensures found { IfOk result (λ c. Writes forest.now.entries text.now c) }
+    ensures found { IfOk result (λ c. WritesCertificate forest.now.entries text.now c) }
     ensures writable { IfOk result (λ c. CanBeWritten forest.now.entries c.body) }
     ensures exact { Gives (λ c. c) result (certificate_of forest.now.entries text.now) }
 {

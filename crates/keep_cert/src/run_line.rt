@@ -2,7 +2,7 @@ ghost use Rattle.std.specs.Prelude.{◌≡◌, ◌≤◌, ◌+◌, ◌-◌, ◌*
 ghost use Rattle.keep_cert.specs.Answers.{Gives};
 ghost use Rattle.keep_cert.specs.Lines.{lines};
 ghost use Rattle.keep_cert.specs.declared.cert.TheConstants.{MAX_LINES};
-ghost use Rattle.keep_cert.specs.Reading.{entry_named, wake_of, run_of, is_run, run_keyword, run_line, nothing_behind, end_of_runs, ending};
+ghost use Rattle.keep_cert.specs.Reading.{entry_named, wake_of, run_of, is_run, run_keyword, run_in_line, nothing_behind, end_of_runs, ending};
 
 use crate::cert::Version;
 use crate::fault::CertFault;
@@ -32,7 +32,7 @@ pub(crate) fn run_keyword(version: Version) -> &'static [u8]
 }
 
 /// What such a line says, after so many wake-ups.
-#[tactic(auto, unfolding(crate::specs::Reading::run_line))]
+#[tactic(auto, unfolding(crate::specs::Reading::run_in_line))]
 pub(crate) fn run_line(
     forest: &Forest,
     version: Version,
@@ -41,7 +41,7 @@ pub(crate) fn run_line(
     line: &[u8],
 ) -> Result<Run, CertFault>
     requires { before ≤ MAX_LINES * LIMIT }
-    ensures value { Gives (λ run. run) result (run_line version n forest.now.entries before line.now) }
+    ensures value { Gives (λ run. run) result (run_in_line version n forest.now.entries before line.now) }
     ensures within { IfOk result (λ run. run.count ≤ LIMIT) }
 {
     match version {

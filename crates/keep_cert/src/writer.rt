@@ -1,6 +1,6 @@
 ghost use Rattle.std.specs.Prelude.{◌≡◌, ◌≤◌, ◌<◌, ◌++◌, ◌∷◌, [], All, IfOk, OnOk, decimal, flat_map, length};
-ghost use Rattle.keep_rule.specs.Runs.{IsAmong, counted};
-ghost use Rattle.keep_cert.specs.CertificateText.{CanBeWritten, certificate_text, end_text, header_text, name_of, run_text, start_text, unkeepable_text};
+ghost use Rattle.keep_rule.specs.Runs.{IsAmong, wake_count};
+ghost use Rattle.keep_cert.specs.CertificateText.{CanBeWritten, certificate_text, end_line_text, header_text, name_of_entry, run_text, start_text, unkeepable_text};
 ghost use Rattle.keep_cert.specs.Printing.{certified};
 ghost use Rattle.keep_cert.specs.declared.cert.Body.TheVariants.{Runs, Unkeepable};
 ghost use Rattle.keep_cert.specs.declared.cert.Version.TheVariants.{Two};
@@ -39,7 +39,7 @@ pub(crate) fn text_of_runs(
     runs: &[Run],
 ) -> Result<Text, AllocError>
     requires among { All (IsAmong (length forest.now.entries)) runs.now }
-    requires few { counted runs.now ≤ LIMIT }
+    requires few { wake_count runs.now ≤ LIMIT }
     ensures { IfOk result (λ text. text ≡ certificate_text forest.now.entries (certified start (Runs runs.now))) }
 {
     let mut text = Vec::new(alloc);
@@ -86,8 +86,8 @@ fn push_runs(
     text: &mut Vec<u8>,
 ) -> Result<(), AllocError>
     requires among { All (IsAmong (length forest.now.entries)) runs.now }
-    requires few { counted runs.now ≤ LIMIT }
-    ensures { OnOk result (text.new.items ≡ text.old.items ++ (flat_map (run_text Two forest.now.entries) runs.now ++ end_text (counted runs.now))) }
+    requires few { wake_count runs.now ≤ LIMIT }
+    ensures { OnOk result (text.new.items ≡ text.old.items ++ (flat_map (run_text Two forest.now.entries) runs.now ++ end_line_text (wake_count runs.now))) }
 {
     push_lines(alloc, forest, runs, text)?;
     push_end(alloc, count_of(runs), text)
@@ -110,8 +110,8 @@ fn push_lines(
 
 /// How many wake-ups the runs have.
 fn count_of(runs: &[Run]) -> u64
-    requires { counted runs.now ≤ LIMIT }
-    ensures { result ≡ counted runs.now }
+    requires { wake_count runs.now ≤ LIMIT }
+    ensures { result ≡ wake_count runs.now }
 {
     let mut total: u64 = 0;
     for run in runs {
@@ -132,9 +132,9 @@ fn push_run(alloc: Global, forest: &Forest, run: Run, text: &mut Vec<u8>) -> Res
     push_pair(forest, run.entry, run.needed, text)
 }
 
-#[tactic(auto, unfolding(crate::specs::CertificateText::end_text, crate::specs::CertificateText::line_text))]
+#[tactic(auto, unfolding(crate::specs::CertificateText::end_line_text, crate::specs::CertificateText::line_text))]
 fn push_end(alloc: Global, count: u64, text: &mut Vec<u8>) -> Result<(), AllocError>
-    ensures { OnOk result (text.new.items ≡ text.old.items ++ end_text count) }
+    ensures { OnOk result (text.new.items ≡ text.old.items ++ end_line_text count) }
 {
     text.extend_from_slice(b"end ")?;
     push_number(alloc, count, text)?;
@@ -167,11 +167,11 @@ fn push_spaced(alloc: Global, number: u64, text: &mut Vec<u8>) -> Result<(), All
 }
 
 /// Appends two names, the last words of a line, and its line feed.
-#[tactic(auto, unfolding(crate::specs::CertificateText::name_of))]
+#[tactic(auto, unfolding(crate::specs::CertificateText::name_of_entry))]
 fn push_pair(forest: &Forest, entry: u32, needed: u32, text: &mut Vec<u8>) -> Result<(), AllocError>
     requires entry { entry < length forest.now.entries }
     requires needed { needed < length forest.now.entries }
-    ensures { OnOk result (text.new.items ≡ text.old.items ++ (name_of forest.now.entries entry ++ (32 ∷ (name_of forest.now.entries needed ++ 10 ∷ [])))) }
+    ensures { OnOk result (text.new.items ≡ text.old.items ++ (name_of_entry forest.now.entries entry ++ (32 ∷ (name_of_entry forest.now.entries needed ++ 10 ∷ [])))) }
 {
     text.extend_from_slice(forest.get(entry).name.list())?;
     text.push(b' ')?;

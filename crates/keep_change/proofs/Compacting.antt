@@ -18,11 +18,11 @@ use Rattle.keep_change.specs.declared.fault.ChangeFault.{ChangeFault}
 use Rattle.keep_change.specs.declared.fault.ChangeFault.TheVariants.{NoEntry, CredentialTwice, InFile, HasUnder}
 use Rattle.keep_change.specs.declared.row.Row.{Row}
 use Rattle.keep_change.specs.declared.replaying.File.{File}
-use Rattle.keep_change.specs.Changes.{after, changed, never, of_entry, refusal, refused_credential, refused_drop, refused_row, unless}
-use Rattle.keep_change.specs.Compaction.{compacted, is_need, is_need_of, is_void, kept, voids}
+use Rattle.keep_change.specs.Changes.{change_refusal, never_refuses, refusal_of_entry, refused_credential, refused_drop, refused_row, rows_changed, rows_unless, rows_with_change}
+use Rattle.keep_change.specs.Compaction.{compacted, is_need, is_need_of, is_void, records_kept, voids}
 use Rattle.keep_change.specs.Laws.{CompactedLaw}
-use Rattle.keep_change.specs.Replay.{State, begun, is_as_then, made, made_with, overruled, replay_from, replayed, step}
-use Rattle.keep_change.specs.Rows.{has_under, is_deep, is_lease_if, is_named, is_taken, is_under, is_under_lease, lacks_parent, named, of_parent, with_named, without}
+use Rattle.keep_change.specs.Replay.{ReplayState, is_as_then, made, made_with, overruled, replay_begun, replay_from, replay_step, replayed}
+use Rattle.keep_change.specs.Rows.{has_under, holds_of_parent, is_deep, is_lease_if, is_row_named, is_row_under_lease, is_taken, is_under, named, row_lacks_parent, with_named, without_row}
 use Rattle.keep_change.specs.Said.{said}
 
 -- ---- the rows of a replay, apart from its notes
@@ -33,7 +33,7 @@ settled (Some fault) rows new = rows
 
 -- the rows after a change, or as they were
 abbrev made_rows : ℕ → List Row → List ℕ → What → List Row
-made_rows margin rows name w = settled (refusal margin rows name w) rows (after rows name w)
+made_rows margin rows name w = settled (change_refusal margin rows name w) rows (rows_with_change rows name w)
 
 abbrev next : File → List Row → Record → List Row
 next f rows (Settling mark) = cond (bytes_eq mark f.mark) f.rows rows
@@ -43,32 +43,32 @@ abbrev all : File → List Row → List Record → List Row
 all f rows [] = rows
 all f rows (r ∷ rs) = all f (next f rows r) rs
 
-made_by : (at : ℕ) (s : State) (new : List Row) (o : Option ChangeFault) → (made_with at s (unless new o)).rows ≡ settled o s.rows new
+made_by : (at : ℕ) (s : ReplayState) (new : List Row) (o : Option ChangeFault) → (made_with at s (rows_unless new o)).rows ≡ settled o s.rows new
 made_by at s new None = refl
 made_by at s new (Some fault) = refl
 
-made_is : (margin at : ℕ) (s : State) (c : Change) → (made margin at s c).rows ≡ made_rows margin s.rows c.name c.what
-unfolding made changed
-made_is margin at s c = made_by at s (after s.rows c.name c.what) (refusal margin s.rows c.name c.what)
+made_is : (margin at : ℕ) (s : ReplayState) (c : Change) → (made margin at s c).rows ≡ made_rows margin s.rows c.name c.what
+unfolding made rows_changed
+made_is margin at s c = made_by at s (rows_with_change s.rows c.name c.what) (change_refusal margin s.rows c.name c.what)
 
-overruled_is : (at : ℕ) (s : State) (c : Change) → (overruled at s c).rows ≡ s.rows
+overruled_is : (at : ℕ) (s : ReplayState) (c : Change) → (overruled at s c).rows ≡ s.rows
 unfolding overruled
 overruled_is at s c = refl
 
-chosen_rows : (b : Bool) (s t : State) → (cond b s t).rows ≡ cond b s.rows t.rows
+chosen_rows : (b : Bool) (s t : ReplayState) → (cond b s t).rows ≡ cond b s.rows t.rows
 chosen_rows true s t = refl
 chosen_rows false s t = refl
 
-step_rows : (f : File) (at : ℕ) (s : State) (r : Record) → (step f at s r).rows ≡ next f s.rows r
-step_rows f at s (Settling mark) = chosen_rows (bytes_eq mark f.mark) (begun f) s
+step_rows : (f : File) (at : ℕ) (s : ReplayState) (r : Record) → (replay_step f at s r).rows ≡ next f s.rows r
+step_rows f at s (Settling mark) = chosen_rows (bytes_eq mark f.mark) (replay_begun f) s
 step_rows f at s (Made c) =
     chosen_rows (is_as_then f.rows c) (made f.margin at s c) (overruled at s c)
     ∙ ap (λ rows. cond (is_as_then f.rows c) rows (overruled at s c).rows) (made_is f.margin at s c)
     ∙ ap (λ rows. cond (is_as_then f.rows c) (made_rows f.margin s.rows c.name c.what) rows) (overruled_is at s c)
 
-replay_rows : (f : File) (rs : List Record) (at : ℕ) (s : State) → (replay_from f at s rs).rows ≡ all f s.rows rs
+replay_rows : (f : File) (rs : List Record) (at : ℕ) (s : ReplayState) → (replay_from f at s rs).rows ≡ all f s.rows rs
 replay_rows f [] at s = refl
-replay_rows f (r ∷ rs) at s = replay_rows f rs (at + 1) (step f at s r) ∙ ap (λ rows. all f rows rs) (step_rows f at s r)
+replay_rows f (r ∷ rs) at s = replay_rows f rs (at + 1) (replay_step f at s r) ∙ ap (λ rows. all f rows rs) (step_rows f at s r)
 
 -- ---- rows but for one need
 
@@ -79,43 +79,43 @@ needed u row = record row { need = u }
 abbrev alike : List ℕ → List Row → List Row
 alike n rows = with_named (needed Always) n rows
 
-named_yes : (f : Row → Row) (n : List ℕ) (r : Row) (rows : List Row) → is_named n r ≡ true → with_named f n (r ∷ rows) ≡ f r ∷ rows
+named_yes : (f : Row → Row) (n : List ℕ) (r : Row) (rows : List Row) → is_row_named n r ≡ true → with_named f n (r ∷ rows) ≡ f r ∷ rows
 unfolding with_named
-named_yes f n r rows e = cond-true (is_named n r) (f r ∷ rows) (r ∷ with_named f n rows) e
+named_yes f n r rows e = cond-true (is_row_named n r) (f r ∷ rows) (r ∷ with_named f n rows) e
 
-named_no : (f : Row → Row) (n : List ℕ) (r : Row) (rows : List Row) → is_named n r ≡ false → with_named f n (r ∷ rows) ≡ r ∷ with_named f n rows
+named_no : (f : Row → Row) (n : List ℕ) (r : Row) (rows : List Row) → is_row_named n r ≡ false → with_named f n (r ∷ rows) ≡ r ∷ with_named f n rows
 unfolding with_named
-named_no f n r rows e = cond-false (is_named n r) (f r ∷ rows) (r ∷ with_named f n rows) e
+named_no f n r rows e = cond-false (is_row_named n r) (f r ∷ rows) (r ∷ with_named f n rows) e
 
-without_yes : (n : List ℕ) (r : Row) (rows : List Row) → is_named n r ≡ true → without n (r ∷ rows) ≡ rows
-unfolding without
-without_yes n r rows e = cond-true (is_named n r) rows (r ∷ without n rows) e
+without_yes : (n : List ℕ) (r : Row) (rows : List Row) → is_row_named n r ≡ true → without_row n (r ∷ rows) ≡ rows
+unfolding without_row
+without_yes n r rows e = cond-true (is_row_named n r) rows (r ∷ without_row n rows) e
 
-without_no : (n : List ℕ) (r : Row) (rows : List Row) → is_named n r ≡ false → without n (r ∷ rows) ≡ r ∷ without n rows
-unfolding without
-without_no n r rows e = cond-false (is_named n r) rows (r ∷ without n rows) e
+without_no : (n : List ℕ) (r : Row) (rows : List Row) → is_row_named n r ≡ false → without_row n (r ∷ rows) ≡ r ∷ without_row n rows
+unfolding without_row
+without_no n r rows e = cond-false (is_row_named n r) rows (r ∷ without_row n rows) e
 
 -- the later of two needs counts
 twice : (u v : Need) (n : List ℕ) (rows : List Row) → with_named (needed u) n (with_named (needed v) n rows) ≡ with_named (needed u) n rows
 unfolding with_named
 twice u v n [] = refl
 twice u v n (r ∷ rows) =
-    elim (cases_Bool (is_named n r)) [
+    elim (cases_Bool (is_row_named n r)) [
       | inl e ↦ simp e refl
       | inr e ↦ simp (e, twice u v n rows) refl
     ]
 
 -- a change of another word, of rows that differ in one need
 module _ (n : List ℕ) (f : Row → Row) (m : List ℕ) (named_same : (r : Row) → (f r).name ≡ r.name) (heedless : (r : Row) → needed Always (f (needed Always r)) ≡ needed Always (f r)) where
-  still : (k : List ℕ) (r : Row) (b : Bool) → is_named k r ≡ b → is_named k (f r) ≡ b
+  still : (k : List ℕ) (r : Row) (b : Bool) → is_row_named k r ≡ b → is_row_named k (f r) ≡ b
   still k r b e = ap (λ name. bytes_eq name k) (named_same r) ∙ e
 
   with_alike : (rows : List Row) → alike n (with_named f m rows) ≡ alike n (with_named f m (alike n rows))
   unfolding with_named
   with_alike [] = refl
   with_alike (r ∷ rows) =
-      elim (cases_Bool (is_named n r)) [
-        | inl en ↦ elim (cases_Bool (is_named m r)) [
+      elim (cases_Bool (is_row_named n r)) [
+        | inl en ↦ elim (cases_Bool (is_row_named m r)) [
           | inl em ↦
               ap (alike n) (named_yes f m r rows em) ∙ named_yes (needed Always) n (f r) rows (still n r true en) ∙ ap (λ x. x ∷ rows) (sym (heedless r))
               ∙ sym (named_yes (needed Always) n (f (needed Always r)) rows (still n (needed Always r) true en))
@@ -125,7 +125,7 @@ module _ (n : List ℕ) (f : Row → Row) (m : List ℕ) (named_same : (r : Row)
               ∙ sym (named_yes (needed Always) n (needed Always r) (with_named f m rows) en)
               ∙ ap (alike n) (sym (named_no f m (needed Always r) rows em)) ∙ ap (λ l. alike n (with_named f m l)) (sym (named_yes (needed Always) n r rows en))
         ]
-        | inr en ↦ elim (cases_Bool (is_named m r)) [
+        | inr en ↦ elim (cases_Bool (is_row_named m r)) [
           | inl em ↦
               ap (alike n) (named_yes f m r rows em) ∙ named_no (needed Always) n (f r) rows (still n r false en)
               ∙ ap (λ l. f r ∷ l) (sym (twice Always Always n rows)) ∙ sym (named_no (needed Always) n (f r) (alike n rows) (still n r false en))
@@ -137,28 +137,28 @@ module _ (n : List ℕ) (f : Row → Row) (m : List ℕ) (named_same : (r : Row)
         ]
       ]
 
-without_alike : (n m : List ℕ) (rows : List Row) → alike n (without m rows) ≡ alike n (without m (alike n rows))
-unfolding with_named without
+without_alike : (n m : List ℕ) (rows : List Row) → alike n (without_row m rows) ≡ alike n (without_row m (alike n rows))
+unfolding with_named without_row
 without_alike n m [] = refl
 without_alike n m (r ∷ rows) =
-    elim (cases_Bool (is_named n r)) [
-      | inl en ↦ elim (cases_Bool (is_named m r)) [
+    elim (cases_Bool (is_row_named n r)) [
+      | inl en ↦ elim (cases_Bool (is_row_named m r)) [
         | inl em ↦
             ap (alike n) (without_yes m r rows em)
-            ∙ ap (alike n) (sym (without_yes m (needed Always r) rows em)) ∙ ap (λ l. alike n (without m l)) (sym (named_yes (needed Always) n r rows en))
+            ∙ ap (alike n) (sym (without_yes m (needed Always r) rows em)) ∙ ap (λ l. alike n (without_row m l)) (sym (named_yes (needed Always) n r rows en))
         | inr em ↦
-            ap (alike n) (without_no m r rows em) ∙ named_yes (needed Always) n r (without m rows) en
-            ∙ sym (named_yes (needed Always) n (needed Always r) (without m rows) en)
-            ∙ ap (alike n) (sym (without_no m (needed Always r) rows em)) ∙ ap (λ l. alike n (without m l)) (sym (named_yes (needed Always) n r rows en))
+            ap (alike n) (without_no m r rows em) ∙ named_yes (needed Always) n r (without_row m rows) en
+            ∙ sym (named_yes (needed Always) n (needed Always r) (without_row m rows) en)
+            ∙ ap (alike n) (sym (without_no m (needed Always r) rows em)) ∙ ap (λ l. alike n (without_row m l)) (sym (named_yes (needed Always) n r rows en))
       ]
-      | inr en ↦ elim (cases_Bool (is_named m r)) [
+      | inr en ↦ elim (cases_Bool (is_row_named m r)) [
         | inl em ↦
             ap (alike n) (without_yes m r rows em) ∙ sym (twice Always Always n rows)
-            ∙ ap (alike n) (sym (without_yes m r (alike n rows) em)) ∙ ap (λ l. alike n (without m l)) (sym (named_no (needed Always) n r rows en))
+            ∙ ap (alike n) (sym (without_yes m r (alike n rows) em)) ∙ ap (λ l. alike n (without_row m l)) (sym (named_no (needed Always) n r rows en))
         | inr em ↦
-            ap (alike n) (without_no m r rows em) ∙ named_no (needed Always) n r (without m rows) en
-            ∙ ap (λ l. r ∷ l) (without_alike n m rows) ∙ sym (named_no (needed Always) n r (without m (alike n rows)) en)
-            ∙ ap (alike n) (sym (without_no m r (alike n rows) em)) ∙ ap (λ l. alike n (without m l)) (sym (named_no (needed Always) n r rows en))
+            ap (alike n) (without_no m r rows em) ∙ named_no (needed Always) n r (without_row m rows) en
+            ∙ ap (λ l. r ∷ l) (without_alike n m rows) ∙ sym (named_no (needed Always) n r (without_row m (alike n rows)) en)
+            ∙ ap (alike n) (sym (without_no m r (alike n rows) em)) ∙ ap (λ l. alike n (without_row m l)) (sym (named_no (needed Always) n r rows en))
       ]
     ]
 
@@ -167,7 +167,7 @@ push_alike : (n : List ℕ) (rows : List Row) (x : Row) → alike n (rows ++ x �
 unfolding with_named
 push_alike n [] x = refl
 push_alike n (r ∷ rows) x =
-    elim (cases_Bool (is_named n r)) [
+    elim (cases_Bool (is_row_named n r)) [
       | inl e ↦
           named_yes (needed Always) n r (rows ++ x ∷ []) e ∙ sym (named_yes (needed Always) n (needed Always r) (rows ++ x ∷ []) e)
           ∙ ap (λ l. alike n (l ++ x ∷ [])) (sym (named_yes (needed Always) n r rows e))
@@ -176,7 +176,7 @@ push_alike n (r ∷ rows) x =
           ∙ ap (λ l. alike n (l ++ x ∷ [])) (sym (named_no (needed Always) n r rows e))
     ]
 
-after_alike : (n m : List ℕ) (w : What) (rows : List Row) → alike n (after rows m w) ≡ alike n (after (alike n rows) m w)
+after_alike : (n m : List ℕ) (w : What) (rows : List Row) → alike n (rows_with_change rows m w) ≡ alike n (rows_with_change (alike n rows) m w)
 after_alike n m (what.Need u) rows = with_alike n (needed u) m (λ r. refl) (λ r. refl) rows
 after_alike n m (what.Replace c) rows = with_alike n (λ row. record row { credential = c }) m (λ r. refl) (λ r. refl) rows
 after_alike n m (what.Add x) rows = push_alike n rows x
@@ -192,7 +192,7 @@ any_alike : (n : List ℕ) (test : Row → Bool) → IsHeedless test → (rows :
 unfolding with_named
 any_alike n test h [] = refl
 any_alike n test h (r ∷ rows) =
-    elim (cases_Bool (is_named n r)) [
+    elim (cases_Bool (is_row_named n r)) [
       | inl e ↦ ap (list_any test) (named_yes (needed Always) n r rows e) ∙ ap (λ b. b || list_any test rows) (h r Always)
       | inr e ↦ ap (list_any test) (named_no (needed Always) n r rows e) ∙ ap (λ b. test r || b) (any_alike n test h rows)
     ]
@@ -201,7 +201,7 @@ length_alike : (n : List ℕ) (rows : List Row) → length (alike n rows) ≡ le
 unfolding with_named
 length_alike n [] = refl
 length_alike n (r ∷ rows) =
-    elim (cases_Bool (is_named n r)) [
+    elim (cases_Bool (is_row_named n r)) [
       | inl e ↦ ap length (named_yes (needed Always) n r rows e)
       | inr e ↦ ap length (named_no (needed Always) n r rows e) ∙ ap (λ k. suc k) (length_alike n rows)
     ]
@@ -210,13 +210,13 @@ found_alike : {A : Type 0} (n m : List ℕ) (g : Row → A) → IsHeedless g →
 unfolding with_named named
 found_alike n m g h [] = refl
 found_alike n m g h (r ∷ rows) =
-    elim (cases_Bool (is_named n r)) [
+    elim (cases_Bool (is_row_named n r)) [
       | inl e ↦
-          ap (λ l. option_map g (find (is_named m) l)) (named_yes (needed Always) n r rows e)
-          ∙ elim (is_named m r) as (λ b. option_map g (cond b (Some (needed Always r)) (find (is_named m) rows)) ≡ option_map g (cond b (Some r) (find (is_named m) rows))) [ true ↦ ap Some (h r Always) | false ↦ refl ]
+          ap (λ l. option_map g (find (is_row_named m) l)) (named_yes (needed Always) n r rows e)
+          ∙ elim (is_row_named m r) as (λ b. option_map g (cond b (Some (needed Always r)) (find (is_row_named m) rows)) ≡ option_map g (cond b (Some r) (find (is_row_named m) rows))) [ true ↦ ap Some (h r Always) | false ↦ refl ]
       | inr e ↦
-          ap (λ l. option_map g (find (is_named m) l)) (named_no (needed Always) n r rows e)
-          ∙ elim (is_named m r) as (λ b. option_map g (cond b (Some r) (find (is_named m) (alike n rows))) ≡ option_map g (cond b (Some r) (find (is_named m) rows))) [ true ↦ refl | false ↦ found_alike n m g h rows ]
+          ap (λ l. option_map g (find (is_row_named m) l)) (named_no (needed Always) n r rows e)
+          ∙ elim (is_row_named m r) as (λ b. option_map g (cond b (Some r) (find (is_row_named m) (alike n rows))) ≡ option_map g (cond b (Some r) (find (is_row_named m) rows))) [ true ↦ refl | false ↦ found_alike n m g h rows ]
     ]
 
 -- what is seen of the entry of a name by such a test alone
@@ -235,7 +235,7 @@ none_mapped g (Some r) = refl
 there_alike : (n m : List ℕ) (rows : List Row) → is_some (named (alike n rows) m) ≡ is_some (named rows m)
 there_alike n m rows = seen_alike n m (λ r. r.kind) (λ r u. refl) is_some is_some (some_mapped (λ r. r.kind)) rows
 
-lacks_alike : (n : List ℕ) (rows : List Row) (p : Option (List ℕ)) → lacks_parent (alike n rows) p ≡ lacks_parent rows p
+lacks_alike : (n : List ℕ) (rows : List Row) (p : Option (List ℕ)) → row_lacks_parent (alike n rows) p ≡ row_lacks_parent rows p
 lacks_alike n rows None = refl
 lacks_alike n rows (Some m) = seen_alike n m (λ r. r.kind) (λ r u. refl) is_none is_none (none_mapped (λ r. r.kind)) rows
 
@@ -243,15 +243,15 @@ lease_mapped : (o : Option Row) → is_lease_if o ≡ unwrap_or (option_map (λ 
 lease_mapped None = refl
 lease_mapped (Some r) = refl
 
-under_lease_alike : (n : List ℕ) (rows : List Row) (p : Option (List ℕ)) → is_under_lease (alike n rows) p ≡ is_under_lease rows p
+under_lease_alike : (n : List ℕ) (rows : List Row) (p : Option (List ℕ)) → is_row_under_lease (alike n rows) p ≡ is_row_under_lease rows p
 under_lease_alike n rows None = refl
 under_lease_alike n rows (Some m) = seen_alike n m (λ r. is_lease r.kind) (λ r u. refl) is_lease_if (λ o. unwrap_or o false) lease_mapped rows
 
-of_parent_mapped : (f : Option (List ℕ) → Bool) (o : Option Row) → of_parent f o ≡ unwrap_or (option_map (λ (r : Row). f r.parent) o) false
+of_parent_mapped : (f : Option (List ℕ) → Bool) (o : Option Row) → holds_of_parent f o ≡ unwrap_or (option_map (λ (r : Row). f r.parent) o) false
 of_parent_mapped f None = refl
 of_parent_mapped f (Some r) = refl
 
-of_parent_same : (f g : Option (List ℕ) → Bool) → ((p : Option (List ℕ)) → f p ≡ g p) → (o : Option Row) → of_parent f o ≡ of_parent g o
+of_parent_same : (f g : Option (List ℕ) → Bool) → ((p : Option (List ℕ)) → f p ≡ g p) → (o : Option Row) → holds_of_parent f o ≡ holds_of_parent g o
 of_parent_same f g same None = refl
 of_parent_same f g same (Some r) = same r.parent
 
@@ -261,7 +261,7 @@ deep_alike n rows zero p = refl
 deep_alike n rows (suc k) None = refl
 deep_alike n rows (suc k) (Some m) =
     of_parent_same (is_deep k (alike n rows)) (is_deep k rows) (deep_alike n rows k) (named (alike n rows) m)
-    ∙ seen_alike n m (λ r. is_deep k rows r.parent) (λ r u. refl) (of_parent (is_deep k rows)) (λ o. unwrap_or o false) (of_parent_mapped (is_deep k rows)) rows
+    ∙ seen_alike n m (λ r. is_deep k rows r.parent) (λ r u. refl) (holds_of_parent (is_deep k rows)) (λ o. unwrap_or o false) (of_parent_mapped (is_deep k rows)) rows
 
 taken_alike : (n : List ℕ) (rows : List Row) (r : Row) (c : List ℕ) → is_taken (alike n rows) r c ≡ is_taken rows r c
 unfolding is_taken
@@ -277,16 +277,16 @@ row_alike margin n rows r =
     simp (there_alike n r.name rows, lacks_alike n rows r.parent, under_lease_alike n rows r.parent, deep_alike n rows MAX_DEPTH r.parent, length_alike n rows, taken_alike n rows r r.credential) refl
 
 -- what is asked of the entry of a name
-of_entry_mapped : (f : Row → Option ChangeFault) (o : Option Row) → of_entry f o ≡ unwrap_or (option_map f o) (Some NoEntry)
+of_entry_mapped : (f : Row → Option ChangeFault) (o : Option Row) → refusal_of_entry f o ≡ unwrap_or (option_map f o) (Some NoEntry)
 of_entry_mapped f None = refl
 of_entry_mapped f (Some r) = refl
 
-of_entry_same : (f g : Row → Option ChangeFault) → ((r : Row) → f r ≡ g r) → (o : Option Row) → of_entry f o ≡ of_entry g o
+of_entry_same : (f g : Row → Option ChangeFault) → ((r : Row) → f r ≡ g r) → (o : Option Row) → refusal_of_entry f o ≡ refusal_of_entry g o
 of_entry_same f g same None = refl
 of_entry_same f g same (Some r) = same r
 
-entry_alike : (n m : List ℕ) (f g : Row → Option ChangeFault) → ((r : Row) → f r ≡ g r) → IsHeedless g → (rows : List Row) → of_entry f (named (alike n rows) m) ≡ of_entry g (named rows m)
-entry_alike n m f g same heedless rows = of_entry_same f g same (named (alike n rows) m) ∙ seen_alike n m g heedless (of_entry g) (λ o. unwrap_or o (Some NoEntry)) (of_entry_mapped g) rows
+entry_alike : (n m : List ℕ) (f g : Row → Option ChangeFault) → ((r : Row) → f r ≡ g r) → IsHeedless g → (rows : List Row) → refusal_of_entry f (named (alike n rows) m) ≡ refusal_of_entry g (named rows m)
+entry_alike n m f g same heedless rows = of_entry_same f g same (named (alike n rows) m) ∙ seen_alike n m g heedless (refusal_of_entry g) (λ o. unwrap_or o (Some NoEntry)) (of_entry_mapped g) rows
 
 credential_alike : (n : List ℕ) (rows : List Row) (c : List ℕ) (r : Row) → refused_credential (alike n rows) c r ≡ refused_credential rows c r
 credential_alike n rows c r = ap (λ b. cond b (Some CredentialTwice) (cond (is_some r.file) (Some InFile) None)) (taken_alike n rows r c)
@@ -298,9 +298,9 @@ credential_heedless : (rows : List Row) (c : List ℕ) → IsHeedless (refused_c
 unfolding is_taken
 credential_heedless rows c r u = refl
 
-refusal_alike : (margin : ℕ) (n m : List ℕ) (w : What) (rows : List Row) → refusal margin (alike n rows) m w ≡ refusal margin rows m w
-unfolding refusal
-refusal_alike margin n m (what.Need u) rows = entry_alike n m never never (λ r. refl) (λ r v. refl) rows
+refusal_alike : (margin : ℕ) (n m : List ℕ) (w : What) (rows : List Row) → change_refusal margin (alike n rows) m w ≡ change_refusal margin rows m w
+unfolding change_refusal
+refusal_alike margin n m (what.Need u) rows = entry_alike n m never_refuses never_refuses (λ r. refl) (λ r v. refl) rows
 refusal_alike margin n m (what.Replace c) rows = entry_alike n m (refused_credential (alike n rows) c) (refused_credential rows c) (credential_alike n rows c) (credential_heedless rows c) rows
 refusal_alike margin n m (what.Add row) rows = row_alike margin n rows row
 refusal_alike margin n m what.Drop rows = entry_alike n m (refused_drop (alike n rows)) (refused_drop rows) (drop_alike n rows) (λ r u. refl) rows
@@ -313,8 +313,8 @@ settled_alike n (Some fault) a b new other h k = h
 
 made_alike : (margin : ℕ) (n m : List ℕ) (w : What) (a : List Row) → alike n (made_rows margin a m w) ≡ alike n (made_rows margin (alike n a) m w)
 made_alike margin n m w a =
-    settled_alike n (refusal margin a m w) a (alike n a) (after a m w) (after (alike n a) m w) (sym (twice Always Always n a)) (after_alike n m w a)
-    ∙ ap (λ o. alike n (settled o (alike n a) (after (alike n a) m w))) (sym (refusal_alike margin n m w a))
+    settled_alike n (change_refusal margin a m w) a (alike n a) (rows_with_change a m w) (rows_with_change (alike n a) m w) (sym (twice Always Always n a)) (after_alike n m w a)
+    ∙ ap (λ o. alike n (settled o (alike n a) (rows_with_change (alike n a) m w))) (sym (refusal_alike margin n m w a))
 
 chosen_alike : (n : List ℕ) (t : Bool) (x y a b : List Row) → alike n x ≡ alike n y → alike n a ≡ alike n b → alike n (cond t x a) ≡ alike n (cond t y b)
 chosen_alike n true x y a b h k = h
@@ -332,17 +332,17 @@ nobody : (f : Row → Row) (n : List ℕ) (rows : List Row) → named rows n ≡
 unfolding named with_named
 nobody f n [] e = refl
 nobody f n (r ∷ rows) e =
-    elim (cases_Bool (is_named n r)) [
-      | inl t ↦ let no : Some r ≡ None = sym (cond-true (is_named n r) (Some r) (find (is_named n) rows) t) ∙ e in cc
-      | inr t ↦ named_no f n r rows t ∙ ap (λ l. r ∷ l) (nobody f n rows (sym (cond-false (is_named n r) (Some r) (find (is_named n) rows) t) ∙ e))
+    elim (cases_Bool (is_row_named n r)) [
+      | inl t ↦ let no : Some r ≡ None = sym (cond-true (is_row_named n r) (Some r) (find (is_row_named n) rows) t) ∙ e in cc
+      | inr t ↦ named_no f n r rows t ∙ ap (λ l. r ∷ l) (nobody f n rows (sym (cond-false (is_row_named n r) (Some r) (find (is_row_named n) rows) t) ∙ e))
     ]
 
-made_need_by : (n : List ℕ) (u : Need) (a : List Row) (o : Option Row) → named a n ≡ o → settled (of_entry never o) a (with_named (needed u) n a) ≡ with_named (needed u) n a
+made_need_by : (n : List ℕ) (u : Need) (a : List Row) (o : Option Row) → named a n ≡ o → settled (refusal_of_entry never_refuses o) a (with_named (needed u) n a) ≡ with_named (needed u) n a
 made_need_by n u a None e = sym (nobody (needed u) n a e)
 made_need_by n u a (Some r) e = refl
 
 made_need : (margin : ℕ) (n : List ℕ) (u : Need) (a : List Row) → made_rows margin a n (what.Need u) ≡ with_named (needed u) n a
-unfolding refusal
+unfolding change_refusal
 made_need margin n u a = made_need_by n u a (named a n) refl
 
 again : (margin : ℕ) (n : List ℕ) (u : Need) (a b : List Row) → alike n a ≡ alike n b → made_rows margin a n (what.Need u) ≡ made_rows margin b n (what.Need u)
@@ -413,14 +413,14 @@ void_next f (Made c) rs a e =
     void_change f c c.what rs a refl p.0 p.1
 
 all_compacted : (f : File) (rs : List Record) (a : List Row) → all f a (compacted rs) ≡ all f a rs
-unfolding compacted kept voids
+unfolding compacted records_kept voids
 all_compacted f [] a = refl
 all_compacted f (r ∷ rs) a =
     elim (cases_Bool (is_void r rs)) [
-      | inl e ↦ ap (all f a) (cond-true (is_void r rs) (kept rs (voids rs)) (r ∷ kept rs (voids rs)) e) ∙ all_compacted f rs a ∙ void_next f r rs a e
-      | inr e ↦ ap (all f a) (cond-false (is_void r rs) (kept rs (voids rs)) (r ∷ kept rs (voids rs)) e) ∙ all_compacted f rs (next f a r)
+      | inl e ↦ ap (all f a) (cond-true (is_void r rs) (records_kept rs (voids rs)) (r ∷ records_kept rs (voids rs)) e) ∙ all_compacted f rs a ∙ void_next f r rs a e
+      | inr e ↦ ap (all f a) (cond-false (is_void r rs) (records_kept rs (voids rs)) (r ∷ records_kept rs (voids rs)) e) ∙ all_compacted f rs (next f a r)
     ]
 
 pub compaction : CompactedLaw
 unfolding replayed
-compaction f rs = replay_rows f (compacted rs) 0 (begun f) ∙ all_compacted f rs f.rows ∙ sym (replay_rows f rs 0 (begun f))
+compaction f rs = replay_rows f (compacted rs) 0 (replay_begun f) ∙ all_compacted f rs f.rows ∙ sym (replay_rows f rs 0 (replay_begun f))

@@ -10,7 +10,7 @@ use Rattle.std.specs.Map.{lookup}
 use Rattle.std.specs.Ordering.{nat_cmp, is_eq}
 use Rattle.keep_tree.proofs.Names.{at_bytes-insert}
 use Rattle.keep_change.specs.declared.row.Row.{Row}
-use Rattle.keep_change.specs.Rows.{is_named, named, with_named, without}
+use Rattle.keep_change.specs.Rows.{is_row_named, named, with_named, without_row}
 use Rattle.keep_change.specs.code.Index.{are_apart, are_found, are_seen, at_bytes, begins_with, has_seen, is_index, is_not_before}
 
 -- ---- what is there, and what is not
@@ -27,28 +27,28 @@ pub no_row : (b : Bool) (r : Row) (o : Option Row) → cond b (Some r) o ≡ Non
 no_row true r o e = cc
 no_row false r o e = (refl, e)
 
-none_more : (name : List ℕ) (r : Row) (rows : List Row) → is_named name r ≡ false → named rows name ≡ None → named (r ∷ rows) name ≡ None
+none_more : (name : List ℕ) (r : Row) (rows : List Row) → is_row_named name r ≡ false → named rows name ≡ None → named (r ∷ rows) name ≡ None
 unfolding named
-none_more name r rows other e = cond-false (is_named name r) (Some r) (find (is_named name) rows) other ∙ e
+none_more name r rows other e = cond-false (is_row_named name r) (Some r) (find (is_row_named name) rows) other ∙ e
 
-none_less : (name : List ℕ) (r : Row) (rows : List Row) → named (r ∷ rows) name ≡ None → (is_named name r ≡ false) × (named rows name ≡ None)
+none_less : (name : List ℕ) (r : Row) (rows : List Row) → named (r ∷ rows) name ≡ None → (is_row_named name r ≡ false) × (named rows name ≡ None)
 unfolding named
-none_less name r rows e = no_row (is_named name r) r (find (is_named name) rows) e
+none_less name r rows e = no_row (is_row_named name r) r (find (is_row_named name) rows) e
 
-same_name : (name : List ℕ) (r : Row) → is_named name r ≡ true → r.name ≡ name
+same_name : (name : List ℕ) (r : Row) → is_row_named name r ≡ true → r.name ≡ name
 same_name name r e = (bytes_decides r.name name).0 e
 
-far : (name : List ℕ) (rows : List Row) → named rows name ≡ None → length rows ≤ position_or_len (is_named name) rows
+far : (name : List ℕ) (rows : List Row) → named rows name ≡ None → length rows ≤ position_or_len (is_row_named name) rows
 far name [] e = omega arith
 far name (r ∷ rows) e =
     let k = none_less name r rows e in
     let more = far name rows k.1 in
-    let here : position_or_len (is_named name) (r ∷ rows) ≡ 1 + position_or_len (is_named name) rows = ap (λ b. cond (not b) (1 + position_or_len (is_named name) rows) 0) k.0 in
+    let here : position_or_len (is_row_named name) (r ∷ rows) ≡ 1 + position_or_len (is_row_named name) rows = ap (λ b. cond (not b) (1 + position_or_len (is_row_named name) rows) 0) k.0 in
     omega (arith, more, here)
 
 -- where no row has the name, it has no place
-pub no_place : (name : List ℕ) (rows : List Row) → named rows name ≡ None → position (is_named name) rows ≡ None
-no_place name rows e = cond-false _ (Some (position_or_len (is_named name) rows)) None (not_below _ _ (far name rows e))
+pub no_place : (name : List ℕ) (rows : List Row) → named rows name ≡ None → position (is_row_named name) rows ≡ None
+no_place name rows e = cond-false _ (Some (position_or_len (is_row_named name) rows)) None (not_below _ _ (far name rows e))
   where
     not_below : (m n : ℕ) → n ≤ m → nat_lt m n ≡ false
     not_below m n h = grind (arith, nat_tests)
@@ -71,7 +71,7 @@ unfolding named
 none_looked look name lost i [] e = refl
 none_looked look name lost i (r ∷ rows) e =
     let p = and_parts (is_not_before i (look r.name)) (are_found look (suc i) rows) e in
-    elim (cases_Bool (is_named name r)) [
+    elim (cases_Bool (is_row_named name r)) [
       | inl here ↦
           let both : false ≡ true = sym (ap (is_not_before i) (ap look (same_name name r here) ∙ lost)) ∙ p.0 in
           cc
@@ -87,7 +87,7 @@ unfolding named
 none_up_to look name place at i n h [] e none = refl
 none_up_to look name place at i zero h (r ∷ rows) e none =
     let p = and_parts (is_not_before i (look r.name)) (are_found look (suc i) rows) e in
-    elim (cases_Bool (is_named name r)) [
+    elim (cases_Bool (is_row_named name r)) [
       | inl here ↦ absurd (past_it i place (omega (arith, h)) (sym (ap (is_not_before i) (ap look (same_name name r here) ∙ at)) ∙ p.0))
       | inr other ↦ none_more name r rows other (none_up_to look name place at (suc i) zero (omega (arith, h)) rows p.1 refl)
     ]
@@ -102,19 +102,19 @@ begins_found : (name : List ℕ) (i : ℕ) (rows : List Row) → begins_with nam
 unfolding named
 begins_found name zero [] e = cc
 begins_found name (suc i) [] e = cc
-begins_found name zero (r ∷ rows) e = ap is_none (cond-true (is_named name r) (Some r) (find (is_named name) rows) e)
+begins_found name zero (r ∷ rows) e = ap is_none (cond-true (is_row_named name r) (Some r) (find (is_row_named name) rows) e)
 begins_found name (suc i) (r ∷ rows) e =
-    elim (is_named name r) as (λ b. is_none (cond b (Some r) (find (is_named name) rows)) ≡ false) [ true ↦ refl | false ↦ begins_found name i rows e ]
+    elim (is_row_named name r) as (λ b. is_none (cond b (Some r) (find (is_row_named name) rows)) ≡ false) [ true ↦ refl | false ↦ begins_found name i rows e ]
 
 record IsAt (name : List ℕ) (rows : List Row) (i : ℕ) : Type 0 where
-  first : position_or_len (is_named name) rows ≡ i
+  first : position_or_len (is_row_named name) rows ≡ i
   within : i < length rows
 
 at_its_place : (name : List ℕ) (i : ℕ) (rows : List Row) → are_apart rows ≡ true → begins_with name (drop i rows) ≡ true → IsAt name rows i
 at_its_place name zero [] apart e = cc
 at_its_place name (suc i) [] apart e = cc
 at_its_place name zero (r ∷ rows) apart e = record {
-  first = ap (λ b. cond (not b) (1 + position_or_len (is_named name) rows) 0) e;
+  first = ap (λ b. cond (not b) (1 + position_or_len (is_row_named name) rows) 0) e;
   within = omega arith;
 }
 at_its_place name (suc i) (r ∷ rows) apart e =
@@ -122,19 +122,19 @@ at_its_place name (suc i) (r ∷ rows) apart e =
     let more = at_its_place name i rows p.1 e in
     let first = more.first in
     let within = more.within in
-    elim (cases_Bool (is_named name r)) [
+    elim (cases_Bool (is_row_named name r)) [
       | inl here ↦
           let both : true ≡ false = sym p.0 ∙ ap (λ n. is_none (named rows n)) (same_name name r here) ∙ begins_found name i rows e in
           cc
       | inr other ↦
-          let here : position_or_len (is_named name) (r ∷ rows) ≡ 1 + position_or_len (is_named name) rows = ap (λ b. cond (not b) (1 + position_or_len (is_named name) rows) 0) other in
+          let here : position_or_len (is_row_named name) (r ∷ rows) ≡ 1 + position_or_len (is_row_named name) rows = ap (λ b. cond (not b) (1 + position_or_len (is_row_named name) rows) 0) other in
           record { first = omega (arith, here, first); within = omega (arith, within) }
     ]
 
-its_place : (name : List ℕ) (i : ℕ) (rows : List Row) → are_apart rows ≡ true → begins_with name (drop i rows) ≡ true → position (is_named name) rows ≡ Some i
+its_place : (name : List ℕ) (i : ℕ) (rows : List Row) → are_apart rows ≡ true → begins_with name (drop i rows) ≡ true → position (is_row_named name) rows ≡ Some i
 its_place name i rows apart e =
     let at = at_its_place name i rows apart e in
-    subst (λ k. position (is_named name) rows ≡ Some k) at.first (cond-true _ (Some (position_or_len (is_named name) rows)) None (lt-ltb _ _ (subst (λ k. k < length rows) (sym at.first) at.within)))
+    subst (λ k. position (is_row_named name) rows ≡ Some k) at.first (cond-true _ (Some (position_or_len (is_row_named name) rows)) None (lt-ltb _ _ (subst (λ k. k < length rows) (sym at.first) at.within)))
 
 begins_taken : (name : List ℕ) (i n : ℕ) (rows : List Row) → begins_with name (drop i (take n rows)) ≡ true → begins_with name (drop i rows) ≡ true
 begins_taken name zero zero rows e = cc
@@ -146,22 +146,22 @@ begins_taken name (suc i) (suc n) (r ∷ rows) e = begins_taken name i n rows e
 
 -- ---- for the look-up
 
-pub not_found : (m : BTreeMap (Vec ℕ Global) ℕ) (name : List ℕ) (rows : List Row) → is_index true m rows ≡ true → at_bytes m name ≡ None → position (is_named name) rows ≡ None
+pub not_found : (m : BTreeMap (Vec ℕ Global) ℕ) (name : List ℕ) (rows : List Row) → is_index true m rows ≡ true → at_bytes m name ≡ None → position (is_row_named name) rows ≡ None
 unfolding is_index
 not_found m name rows e lost = no_place name rows (none_looked (at_bytes m) name lost 0 rows (and_parts (are_apart rows) (are_found (at_bytes m) 0 rows) e).1)
 
-pub found_before : (m : BTreeMap (Vec ℕ Global) ℕ) (name : List ℕ) (rows : List Row) (place i : ℕ) → is_index true m rows ≡ true → begins_with name (drop i (take (place + 1) rows)) ≡ true → position (is_named name) rows ≡ Some i
+pub found_before : (m : BTreeMap (Vec ℕ Global) ℕ) (name : List ℕ) (rows : List Row) (place i : ℕ) → is_index true m rows ≡ true → begins_with name (drop i (take (place + 1) rows)) ≡ true → position (is_row_named name) rows ≡ Some i
 unfolding is_index
 found_before m name rows place i e there = its_place name i rows (and_parts (are_apart rows) (are_found (at_bytes m) 0 rows) e).0 (begins_taken name i (place + 1) rows there)
 
-pub none_before : (m : BTreeMap (Vec ℕ Global) ℕ) (name : List ℕ) (rows : List Row) (place : ℕ) → is_index true m rows ≡ true → at_bytes m name ≡ Some place → named (take (place + 1) rows) name ≡ None → position (is_named name) rows ≡ None
+pub none_before : (m : BTreeMap (Vec ℕ Global) ℕ) (name : List ℕ) (rows : List Row) (place : ℕ) → is_index true m rows ≡ true → at_bytes m name ≡ Some place → named (take (place + 1) rows) name ≡ None → position (is_row_named name) rows ≡ None
 unfolding is_index
 none_before m name rows place e at none =
     no_place name rows (none_up_to (at_bytes m) name place at 0 (place + 1) (omega arith) rows (and_parts (are_apart rows) (are_found (at_bytes m) 0 rows) e).1 none)
 
 -- what was found going back from there is the place
 pub placed : (m : BTreeMap (Vec ℕ Global) ℕ) (name : List ℕ) (rows : List Row) (place : ℕ) (o : Option ℕ) → is_index true m rows ≡ true → at_bytes m name ≡ Some place
-    → (o ≡ None → named (take (place + 1) rows) name ≡ None) → IfSome o (λ i. begins_with name (drop i (take (place + 1) rows)) ≡ true) → o ≡ position (is_named name) rows
+    → (o ≡ None → named (take (place + 1) rows) name ≡ None) → IfSome o (λ i. begins_with name (drop i (take (place + 1) rows)) ≡ true) → o ≡ position (is_row_named name) rows
 placed m name rows place None e at none some = sym (none_before m name rows place e at (none refl))
 placed m name rows place (Some i) e at none some = sym (found_before m name rows place i e some)
 
@@ -188,14 +188,14 @@ begins_drop name rows i x h read there = ap (begins_with name) (drop-cons rows i
 
 -- ---- rows with one more, one changed, or one taken out
 
-named_push : (q : List ℕ) (rows : List Row) (x : Row) → named rows q ≡ None → is_named q x ≡ false → named (rows ++ x ∷ []) q ≡ None
+named_push : (q : List ℕ) (rows : List Row) (x : Row) → named rows q ≡ None → is_row_named q x ≡ false → named (rows ++ x ∷ []) q ≡ None
 unfolding named
-named_push q [] x e other = cond-false (is_named q x) (Some x) None other
+named_push q [] x e other = cond-false (is_row_named q x) (Some x) None other
 named_push q (r ∷ rows) x e other =
     let k = none_less q r rows e in
     none_more q r (rows ++ x ∷ []) k.0 (named_push q rows x k.1 other)
 
-other_name : (r x : Row) (rows : List Row) → is_named x.name r ≡ false → is_named r.name x ≡ false
+other_name : (r x : Row) (rows : List Row) → is_row_named x.name r ≡ false → is_row_named r.name x ≡ false
 other_name r x rows unlike = decided (bytes_eq x.name r.name) refl
   where
     decided : (b : Bool) → bytes_eq x.name r.name ≡ b → b ≡ false
@@ -279,19 +279,19 @@ module _ (f : Row → Row) (named_same : (r : Row) → (f r).name ≡ r.name) (n
   unfolding named with_named
   names_kept q [] = refl
   names_kept q (r ∷ rows) =
-      elim (is_named name r) as (λ b. is_none (find (is_named q) (cond b (f r ∷ rows) (r ∷ with_named f name rows))) ≡ is_none (find (is_named q) (r ∷ rows))) [
+      elim (is_row_named name r) as (λ b. is_none (find (is_row_named q) (cond b (f r ∷ rows) (r ∷ with_named f name rows))) ≡ is_none (find (is_row_named q) (r ∷ rows))) [
         | true ↦
-            ap (λ n. is_none (cond (bytes_eq n q) (Some (f r)) (find (is_named q) rows))) (named_same r)
-            ∙ elim (is_named q r) as (λ b. is_none (cond b (Some (f r)) (find (is_named q) rows)) ≡ is_none (cond b (Some r) (find (is_named q) rows))) [ true ↦ refl | false ↦ refl ]
+            ap (λ n. is_none (cond (bytes_eq n q) (Some (f r)) (find (is_row_named q) rows))) (named_same r)
+            ∙ elim (is_row_named q r) as (λ b. is_none (cond b (Some (f r)) (find (is_row_named q) rows)) ≡ is_none (cond b (Some r) (find (is_row_named q) rows))) [ true ↦ refl | false ↦ refl ]
         | false ↦
-            elim (is_named q r) as (λ b. is_none (cond b (Some r) (find (is_named q) (with_named f name rows))) ≡ is_none (cond b (Some r) (find (is_named q) rows))) [ true ↦ refl | false ↦ names_kept q rows ]
+            elim (is_row_named q r) as (λ b. is_none (cond b (Some r) (find (is_row_named q) (with_named f name rows))) ≡ is_none (cond b (Some r) (find (is_row_named q) rows))) [ true ↦ refl | false ↦ names_kept q rows ]
       ]
 
   apart_with : (rows : List Row) → are_apart (with_named f name rows) ≡ are_apart rows
   unfolding with_named
   apart_with [] = refl
   apart_with (r ∷ rows) =
-      elim (is_named name r) as (λ b. are_apart (cond b (f r ∷ rows) (r ∷ with_named f name rows)) ≡ are_apart (r ∷ rows)) [
+      elim (is_row_named name r) as (λ b. are_apart (cond b (f r ∷ rows) (r ∷ with_named f name rows)) ≡ are_apart (r ∷ rows)) [
         | true ↦ ap (λ n. is_none (named rows n) && are_apart rows) (named_same r)
         | false ↦ ap (λ b. b && are_apart (with_named f name rows)) (names_kept r.name rows) ∙ ap (λ b. is_none (named rows r.name) && b) (apart_with rows)
       ]
@@ -300,7 +300,7 @@ module _ (f : Row → Row) (named_same : (r : Row) → (f r).name ≡ r.name) (n
   unfolding with_named
   found_with look i [] = refl
   found_with look i (r ∷ rows) =
-      elim (is_named name r) as (λ b. are_found look i (cond b (f r ∷ rows) (r ∷ with_named f name rows)) ≡ are_found look i (r ∷ rows)) [
+      elim (is_row_named name r) as (λ b. are_found look i (cond b (f r ∷ rows) (r ∷ with_named f name rows)) ≡ are_found look i (r ∷ rows)) [
         | true ↦ ap (λ n. is_not_before i (look n) && are_found look (suc i) rows) (named_same r)
         | false ↦ ap (λ b. is_not_before i (look r.name) && b) (found_with look (suc i) rows)
       ]
@@ -311,46 +311,46 @@ module _ (f : Row → Row) (named_same : (r : Row) → (f r).name ≡ r.name) (n
   index_with false m rows e = refl
   index_with true m rows e = ap (λ b. b && are_found (at_bytes m) 0 (with_named f name rows)) (apart_with rows) ∙ ap (λ b. are_apart rows && b) (found_with (at_bytes m) 0 rows) ∙ e
 
-none_without : (name q : List ℕ) (rows : List Row) → named rows q ≡ None → named (without name rows) q ≡ None
-unfolding named without
+none_without : (name q : List ℕ) (rows : List Row) → named rows q ≡ None → named (without_row name rows) q ≡ None
+unfolding named without_row
 none_without name q [] e = refl
 none_without name q (r ∷ rows) e =
     let k = none_less q r rows e in
-    elim (is_named name r) as (λ b. find (is_named q) (cond b rows (r ∷ without name rows)) ≡ None) [
+    elim (is_row_named name r) as (λ b. find (is_row_named q) (cond b rows (r ∷ without_row name rows)) ≡ None) [
       | true ↦ k.1
-      | false ↦ none_more q r (without name rows) k.0 (none_without name q rows k.1)
+      | false ↦ none_more q r (without_row name rows) k.0 (none_without name q rows k.1)
     ]
 
-apart_without : (name : List ℕ) (rows : List Row) → are_apart rows ≡ true → are_apart (without name rows) ≡ true
-unfolding without
+apart_without : (name : List ℕ) (rows : List Row) → are_apart rows ≡ true → are_apart (without_row name rows) ≡ true
+unfolding without_row
 apart_without name [] e = refl
 apart_without name (r ∷ rows) e =
     let p = and_parts (is_none (named rows r.name)) (are_apart rows) e in
-    elim (is_named name r) as (λ b. are_apart (cond b rows (r ∷ without name rows)) ≡ true) [
+    elim (is_row_named name r) as (λ b. are_apart (cond b rows (r ∷ without_row name rows)) ≡ true) [
       | true ↦ p.1
       | false ↦
-          and_from (is_none (named (without name rows) r.name)) (are_apart (without name rows))
-          (none_from (named (without name rows) r.name) (none_without name r.name rows (none_yes (named rows r.name) p.0)))
+          and_from (is_none (named (without_row name rows) r.name)) (are_apart (without_row name rows))
+          (none_from (named (without_row name rows) r.name) (none_without name r.name rows (none_yes (named rows r.name) p.0)))
           (apart_without name rows p.1)
     ]
 
-found_without : (name : List ℕ) (look : List ℕ → Option ℕ) (i : ℕ) (rows : List Row) → are_found look i rows ≡ true → are_found look i (without name rows) ≡ true
-unfolding without
+found_without : (name : List ℕ) (look : List ℕ → Option ℕ) (i : ℕ) (rows : List Row) → are_found look i rows ≡ true → are_found look i (without_row name rows) ≡ true
+unfolding without_row
 found_without name look i [] e = refl
 found_without name look i (r ∷ rows) e =
     let p = and_parts (is_not_before i (look r.name)) (are_found look (suc i) rows) e in
-    elim (is_named name r) as (λ b. are_found look i (cond b rows (r ∷ without name rows)) ≡ true) [
+    elim (is_row_named name r) as (λ b. are_found look i (cond b rows (r ∷ without_row name rows)) ≡ true) [
       | true ↦ found_sooner look i rows p.1
-      | false ↦ and_from (is_not_before i (look r.name)) (are_found look (suc i) (without name rows)) p.0 (found_without name look (suc i) rows p.1)
+      | false ↦ and_from (is_not_before i (look r.name)) (are_found look (suc i) (without_row name rows)) p.0 (found_without name look (suc i) rows p.1)
     ]
 
 -- a row that is taken out
-pub index_without : (b : Bool) (m : BTreeMap (Vec ℕ Global) ℕ) (name : List ℕ) (rows : List Row) → is_index b m rows ≡ true → is_index b m (without name rows) ≡ true
+pub index_without : (b : Bool) (m : BTreeMap (Vec ℕ Global) ℕ) (name : List ℕ) (rows : List Row) → is_index b m rows ≡ true → is_index b m (without_row name rows) ≡ true
 unfolding is_index
 index_without false m name rows e = refl
 index_without true m name rows e =
     let p = and_parts (are_apart rows) (are_found (at_bytes m) 0 rows) e in
-    and_from (are_apart (without name rows)) (are_found (at_bytes m) 0 (without name rows)) (apart_without name rows p.0) (found_without name (at_bytes m) 0 rows p.1)
+    and_from (are_apart (without_row name rows)) (are_found (at_bytes m) 0 (without_row name rows)) (apart_without name rows p.0) (found_without name (at_bytes m) 0 rows p.1)
 
 -- ---- a map that stayed as it was
 

@@ -7,15 +7,16 @@ use Rattle.keep_words.specs.Pieces.{first, four, keyword, pieces, three, two, wo
 use Rattle.keep_words.proofs.Joined.{joined_back}
 use Rattle.keep_tree.specs.Push.{is_name}
 use Rattle.keep_inventory.specs.declared.need.Need.{Need}
+use Rattle.keep_inventory.specs.Needs.{need_word}
 use Rattle.keep_change.specs.declared.change.Record.{Record}
 use Rattle.keep_change.specs.declared.change.Record.TheVariants.{Made, Settling}
 use Rattle.keep_change.specs.declared.change.What.{What}
 use Rattle.keep_change.specs.declared.change.What.TheVariants as what
-use Rattle.keep_change.specs.Laws.{ReadIsWritten}
+use Rattle.keep_change.specs.Laws.{RecordReadIsWritten}
 use Rattle.keep_change.specs.declared.row.Row.{Row}
-use Rattle.keep_change.specs.RowText.{is_word, one_and_rest, parts, row_of}
-use Rattle.keep_change.specs.Records.{IsRecord, IsWhat, add_line, added_of, change_words, drop_line, made_of, need_line, record_of, record_text, replace_line, settling_line, with_need}
-use Rattle.keep_change.specs.Words.{need_of, need_word, row_text}
+use Rattle.keep_change.specs.RowText.{is_word, one_and_rest, parts, row_of_line}
+use Rattle.keep_change.specs.Records.{IsRecord, IsWhat, add_line, added_of, change_words, drop_line, made_of, need_line, record_of, record_text, record_with_need, replace_line, settling_line}
+use Rattle.keep_change.specs.Words.{need_in_word, row_text}
 use Rattle.keep_change.proofs.Cuts.{cut_only}
 use Rattle.keep_change.proofs.RowBack.{row_only}
 use Rattle.keep_change.proofs.RowWords.{bound, branch, passed, some_same}
@@ -67,7 +68,7 @@ change_written text name was w r e h made =
     let p = made_only name was w r made in
     rw p.2 ((p.0, p.1, h), e)
 
-with_need_only : (name was : List ℕ) (o : Option Need) (r : Record) → with_need name was o ≡ Some r → (u : Need) × (o ≡ Some u) × (made_of name was (what.Need u) ≡ Some r)
+with_need_only : (name was : List ℕ) (o : Option Need) (r : Record) → record_with_need name was o ≡ Some r → (u : Need) × (o ≡ Some u) × (made_of name was (what.Need u) ≡ Some r)
 with_need_only name was None r e = cc
 with_need_only name was (Some u) r e = (u, refl, e)
 
@@ -93,9 +94,9 @@ of_two text (Some w) f r is e = (w, two_is (pieces 32 text) w is, e)
 need_found : (text : List ℕ) (r : Record) → bytes_eq (keyword text) (codes "need") ≡ true → need_line text ≡ Some r → Written text r
 unfolding need_line
 need_found text r key e =
-    let p = of_four text (four (pieces 32 text)) (λ w. with_need w.1 w.2 (need_of w.3)) r refl e in
+    let p = of_four text (four (pieces 32 text)) (λ w. record_with_need w.1 w.2 (need_in_word w.3)) r refl e in
     let w = p.0 in
-    let q = with_need_only w.1 w.2 (need_of w.3) r p.2 in
+    let q = with_need_only w.1 w.2 (need_in_word w.3) r p.2 in
     let u = q.0 in
     let n = need_only w.3 u q.1 in
     let is : text ≡ join_with_byte 32 (codes "need" ∷ w.1 ∷ w.2 ∷ need_word u ∷ []) =
@@ -150,7 +151,7 @@ unfolding add_line record_text
 add_found text r key e =
     let a = bound (one_and_rest text) _ r e in
     let b = bound (one_and_rest a.0.1) _ r a.2 in
-    let o = added_only b.0.0 (row_of b.0.1) r b.2 in
+    let o = added_only b.0.0 (row_of_line b.0.1) r b.2 in
     let row = o.0 in
     let w = row_only b.0.1 row o.1 in
     let made = made_only row.name b.0.0 (what.Add row) r o.2 in
@@ -160,7 +161,7 @@ add_found text r key e =
     ∙ ap (λ l. codes "add" ++ 32 ∷ l) (cut_only a.0.1 b.0.0 b.0.1 b.1 ∙ ap (λ l. b.0.0 ++ 32 ∷ l) w.1) in
     rw made.2 ((made.0, made.1, (w.0, refl)), is)
 
-pub read_is_written : ReadIsWritten
+pub read_is_written : RecordReadIsWritten
 unfolding record_of
 read_is_written text r e =
     elim (branch (bytes_eq (keyword text) (codes "need")) _ _ r e) [

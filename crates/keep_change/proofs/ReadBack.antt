@@ -7,15 +7,16 @@ use Rattle.keep_words.specs.Pieces.{four, keyword, pieces, three, two}
 use Rattle.keep_words.proofs.Joined.{lacks_append}
 use Rattle.keep_tree.specs.Push.{is_name}
 use Rattle.keep_inventory.specs.declared.need.Need.{Need}
+use Rattle.keep_inventory.specs.Needs.{IsNeed, need_word}
 use Rattle.keep_change.specs.declared.change.Record.{Record}
 use Rattle.keep_change.specs.declared.change.Record.TheVariants.{Made, Settling}
 use Rattle.keep_change.specs.declared.change.What.{What}
 use Rattle.keep_change.specs.declared.change.What.TheVariants as what
-use Rattle.keep_change.specs.Laws.{LineLaw, WrittenIsRead}
+use Rattle.keep_change.specs.Laws.{RecordLineLaw, RecordWrittenIsRead}
 use Rattle.keep_change.specs.declared.row.Row.{Row}
-use Rattle.keep_change.specs.RowText.{IsNeed, IsRow, is_word, one_and_rest, row_of}
-use Rattle.keep_change.specs.Records.{IsRecord, IsWhat, add_line, added_of, change_words, drop_line, made_of, need_line, record_of, record_text, record_words, replace_line, settling_line, with_need}
-use Rattle.keep_change.specs.Words.{need_of, need_word, row_text}
+use Rattle.keep_change.specs.RowText.{IsRow, is_word, one_and_rest, row_of_line}
+use Rattle.keep_change.specs.Records.{IsRecord, IsWhat, add_line, added_of, change_words, drop_line, made_of, need_line, record_of, record_text, record_with_need, record_words, replace_line, settling_line}
+use Rattle.keep_change.specs.Words.{need_in_word, row_text}
 use Rattle.keep_change.proofs.Cuts.{cut_back, pieces_of}
 use Rattle.keep_change.proofs.RowBack.{row_back, row_lacks}
 use Rattle.keep_change.proofs.Spelling.{ArePlain, keyword_back, line_lacks, name_is_plain, need_back, need_is_plain, word_is_plain, words_back}
@@ -54,7 +55,7 @@ need_line_back : (name was : List ℕ) (u : Need) → is_name name ≡ true → 
     → need_line text ≡ Some (Made (record { name = name; was = was; what = what.Need u }))
 unfolding need_line
 need_line_back name was u named worded h text e =
-    ap (λ ws. elim (four ws) [ None ↦ None | Some w ↦ with_need w.1 w.2 (need_of w.3) ]) e ∙ ap (with_need name was) (need_back u h) ∙ made_back name was (what.Need u) named worded
+    ap (λ ws. elim (four ws) [ None ↦ None | Some w ↦ record_with_need w.1 w.2 (need_in_word w.3) ]) e ∙ ap (record_with_need name was) (need_back u h) ∙ made_back name was (what.Need u) named worded
 
 replace_line_back : (name was c : List ℕ) → is_name name ≡ true → is_word was ≡ true → is_word c ≡ true → (text : List ℕ) → pieces 32 text ≡ codes "replace" ∷ name ∷ was ∷ c ∷ []
     → replace_line text ≡ Some (Made (record { name = name; was = was; what = what.Replace c }))
@@ -101,7 +102,7 @@ change_back name was what.Drop named worded h =
 plain_settling : (mark : List ℕ) → is_word mark ≡ true → ArePlain (record_words (Settling mark))
 plain_settling mark h = (record { spaces = refl; feeds = refl }, (word_is_plain mark h, tt))
 
-pub written_is_read : WrittenIsRead
+pub written_is_read : RecordWrittenIsRead
 unfolding record_text
 written_is_read (Made c) h = change_back c.name c.was c.what h.0 h.1 h.2
 written_is_read (Settling mark) h =
@@ -116,7 +117,7 @@ change_lacks name was (what.Add row) named worded h =
     lacks_append 10 (codes "add") (32 ∷ (was ++ 32 ∷ row_text row)) refl (lacks_append 10 was (32 ∷ row_text row) (word_is_plain was worded).feeds (row_lacks row h.0))
 change_lacks name was what.Drop named worded h = line_lacks (change_words name was what.Drop) (plain_change name was what.Drop named worded h)
 
-pub line_law : LineLaw
+pub line_law : RecordLineLaw
 unfolding record_text
 line_law (Made c) h = change_lacks c.name c.was c.what h.0 h.1 h.2
 line_law (Settling mark) h = line_lacks (record_words (Settling mark)) (plain_settling mark h)

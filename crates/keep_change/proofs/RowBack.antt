@@ -14,12 +14,13 @@ use Rattle.keep_tree.specs.Push.{is_name}
 use Rattle.keep_inventory.specs.declared.limits.TheConstants.{SPAN_MAX}
 use Rattle.keep_inventory.specs.declared.need.Need.{Need}
 use Rattle.keep_inventory.specs.Values.{is_path}
+use Rattle.keep_inventory.specs.Needs.{IsNeed, need_word}
 use Rattle.keep_change.specs.declared.row.Row.{Row}
 use Rattle.keep_change.specs.declared.row_text.Who.{Who}
 use Rattle.keep_change.specs.declared.row_text.Life.{Life}
 use Rattle.keep_change.specs.declared.row_text.Limits.{Limits}
-use Rattle.keep_change.specs.RowText.{IsNeed, IsRow, either, four_and_rest, if_written, is_file, is_written, kind_of, life_of, limits_of, name_or_star, one_and_rest, row_of, row_with, sent_of, span_or_star, who_of}
-use Rattle.keep_change.specs.Words.{file_end, kind_word, life_words, name_word, need_of, need_word, number_word, renewable_word, row_text, spaced, terms_words, told_word, who_words}
+use Rattle.keep_change.specs.RowText.{IsRow, either, four_and_rest, if_written, is_file, is_written, kind_of, life_of, limits_of, name_or_star, one_and_rest, row_of_line, row_with, sent_of, span_or_star, who_of}
+use Rattle.keep_change.specs.Words.{file_end, kind_word, life_words, name_word, need_in_word, number_word, renewable_word, row_text, spaced, terms_words, told_word, who_words}
 use Rattle.keep_change.proofs.Cuts.{cut_back, cut_only}
 use Rattle.keep_change.proofs.RowWords.{bound, kind_back, kind_only, name_or_star_back, name_or_star_only, passed, renewable_back, renewable_only, sent_back, sent_only, some_same, span_or_star_back, span_or_star_only, told_back, told_only}
 use Rattle.keep_change.proofs.Spelling.{ArePlain, IsPlain, each_weaker, byte_is_not, name_is_plain, need_back, need_is_plain, need_only, word_is_plain}
@@ -144,7 +145,7 @@ limits_only a b c d l e =
     let p = bound (number_up_to SPAN_MAX a) _ l e in
     let m = bound (number_up_to SPAN_MAX b) _ l p.2 in
     let x = bound (number_up_to SPAN_MAX c) _ l m.2 in
-    let u = bound (need_of d) _ l x.2 in
+    let u = bound (need_in_word d) _ l x.2 in
     let period = number_spelled SPAN_MAX (omega arith) a p.0 p.1 in
     let max_ttl = number_spelled SPAN_MAX (omega arith) b m.0 m.1 in
     let explicit_max = number_spelled SPAN_MAX (omega arith) c x.0 x.1 in
@@ -203,8 +204,8 @@ terms_are_plain r h =
 
 -- ---- a row
 
-pub row_back : (r : Row) → IsRow r → row_of (row_text r) ≡ Some r
-unfolding row_of row_text
+pub row_back : (r : Row) → IsRow r → row_of_line (row_text r) ≡ Some r
+unfolding row_of_line row_text
 row_back r h =
     let who : Who = record { kind = r.kind; name = r.name; parent = r.parent; is_told = r.is_told } in
     let life : Life = record { issued = r.terms.issued; end = r.end; renewable = r.renewable; increment = r.terms.increment } in
@@ -227,8 +228,8 @@ same_four a b c d w x y z e f g h =
 abbrev Written : List ℕ → Row → Type 0
 Written line r = IsRow r × (line ≡ row_text r)
 
-pub row_only : (line : List ℕ) (r : Row) → row_of line ≡ Some r → IsRow r × (line ≡ row_text r)
-unfolding row_of row_text
+pub row_only : (line : List ℕ) (r : Row) → row_of_line line ≡ Some r → IsRow r × (line ≡ row_text r)
+unfolding row_of_line row_text
 row_only line r e =
     let a = bound (four_and_rest line) _ r e in
     let b = bound (four_and_rest a.0.4) _ r a.2 in

@@ -11,7 +11,7 @@ use Rattle.keep_tree.specs.Push.{is_lease}
 use Rattle.keep_tree.proofs.Names.{at_bytes-insert}
 use Rattle.keep_inventory.specs.declared.need.Need.{Need}
 use Rattle.keep_change.specs.declared.row.Row.{Row}
-use Rattle.keep_change.specs.Rows.{is_named, is_taken, with_named, without}
+use Rattle.keep_change.specs.Rows.{is_row_named, is_taken, with_named, without_row}
 use Rattle.keep_change.specs.code.Index.{are_seen, at_bytes, has_seen}
 use Rattle.keep_change.proofs.Finding.{at_key}
 
@@ -64,19 +64,19 @@ unfolding with_named
 all_seen_with look f name h [] e = refl
 all_seen_with look f name h (r ∷ rows) e =
     let p = and_parts (is_some (look r.credential)) (are_seen look rows) e in
-    elim (is_named name r) as (λ b. are_seen look (cond b (f r ∷ rows) (r ∷ with_named f name rows)) ≡ true) [
+    elim (is_row_named name r) as (λ b. are_seen look (cond b (f r ∷ rows) (r ∷ with_named f name rows)) ≡ true) [
       | true ↦ and_from (is_some (look (f r).credential)) (are_seen look rows) (h r p.0) p.1
       | false ↦ and_from (is_some (look r.credential)) (are_seen look (with_named f name rows)) p.0 (all_seen_with look f name h rows p.1)
     ]
 
-all_seen_without : (look : List ℕ → Option ℕ) (name : List ℕ) (rows : List Row) → are_seen look rows ≡ true → are_seen look (without name rows) ≡ true
-unfolding without
+all_seen_without : (look : List ℕ → Option ℕ) (name : List ℕ) (rows : List Row) → are_seen look rows ≡ true → are_seen look (without_row name rows) ≡ true
+unfolding without_row
 all_seen_without look name [] e = refl
 all_seen_without look name (r ∷ rows) e =
     let p = and_parts (is_some (look r.credential)) (are_seen look rows) e in
-    elim (is_named name r) as (λ b. are_seen look (cond b rows (r ∷ without name rows)) ≡ true) [
+    elim (is_row_named name r) as (λ b. are_seen look (cond b rows (r ∷ without_row name rows)) ≡ true) [
       | true ↦ p.1
-      | false ↦ and_from (is_some (look r.credential)) (are_seen look (without name rows)) p.0 (all_seen_without look name rows p.1)
+      | false ↦ and_from (is_some (look r.credential)) (are_seen look (without_row name rows)) p.0 (all_seen_without look name rows p.1)
     ]
 
 pub seen_none : (m : BTreeMap (Vec ℕ Global) ℕ) → has_seen m [] ≡ true
@@ -101,7 +101,7 @@ unfolding has_seen
 seen_credential m n key w name c rows updates is e =
     all_seen_with (at_bytes n) (λ row. record row { credential = c }) name (λ r h. ap is_some (at_key m n key w c updates is)) rows (all_seen_more m n key w updates rows e)
 
-pub seen_without : (m : BTreeMap (Vec ℕ Global) ℕ) (name : List ℕ) (rows : List Row) → has_seen m rows ≡ true → has_seen m (without name rows) ≡ true
+pub seen_without : (m : BTreeMap (Vec ℕ Global) ℕ) (name : List ℕ) (rows : List Row) → has_seen m rows ≡ true → has_seen m (without_row name rows) ≡ true
 unfolding has_seen
 seen_without m name rows e = all_seen_without (at_bytes m) name rows e
 

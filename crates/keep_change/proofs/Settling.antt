@@ -6,16 +6,16 @@ use Rattle.keep_change.specs.declared.change.Record.{Record}
 use Rattle.keep_change.specs.declared.change.Record.TheVariants.{Settling}
 use Rattle.keep_change.specs.Laws.{SettledLaw, UnsettledLaw}
 use Rattle.keep_change.specs.declared.replaying.File.{File}
-use Rattle.keep_change.specs.Replay.{State, begun, replay_from, replayed, step}
+use Rattle.keep_change.specs.Replay.{ReplayState, replay_begun, replay_from, replay_step, replayed}
 
-settling_last : (f : File) (mark : List ℕ) (rs : List Record) (at : ℕ) (s : State) → replay_from f at s (rs ++ Settling mark ∷ []) ≡ cond (bytes_eq mark f.mark) (begun f) (replay_from f at s rs)
+settling_last : (f : File) (mark : List ℕ) (rs : List Record) (at : ℕ) (s : ReplayState) → replay_from f at s (rs ++ Settling mark ∷ []) ≡ cond (bytes_eq mark f.mark) (replay_begun f) (replay_from f at s rs)
 settling_last f mark [] at s = refl
-settling_last f mark (r ∷ rs) at s = settling_last f mark rs (at + 1) (step f at s r)
+settling_last f mark (r ∷ rs) at s = settling_last f mark rs (at + 1) (replay_step f at s r)
 
 pub settled : SettledLaw
 unfolding replayed
-settled f rs = settling_last f f.mark rs 0 (begun f) ∙ cond-true (bytes_eq f.mark f.mark) (begun f) (replay_from f 0 (begun f) rs) ((bytes_decides f.mark f.mark).1 refl)
+settled f rs = settling_last f f.mark rs 0 (replay_begun f) ∙ cond-true (bytes_eq f.mark f.mark) (replay_begun f) (replay_from f 0 (replay_begun f) rs) ((bytes_decides f.mark f.mark).1 refl)
 
 pub unsettled : UnsettledLaw
 unfolding replayed
-unsettled f rs mark other = settling_last f mark rs 0 (begun f) ∙ cond-false (bytes_eq mark f.mark) (begun f) (replay_from f 0 (begun f) rs) other
+unsettled f rs mark other = settling_last f mark rs 0 (replay_begun f) ∙ cond-false (bytes_eq mark f.mark) (replay_begun f) (replay_from f 0 (replay_begun f) rs) other

@@ -14,8 +14,8 @@ use Rattle.keep_tree.specs.Push.{is_name, is_name_byte}
 use Rattle.keep_inventory.specs.Values.{is_credential}
 use Rattle.keep_inventory.specs.declared.need.Need.{Need}
 use Rattle.keep_inventory.specs.declared.need.Need.TheVariants.{Until, Always}
-use Rattle.keep_change.specs.RowText.{IsNeed}
-use Rattle.keep_change.specs.Words.{need_of, need_word}
+use Rattle.keep_inventory.specs.Needs.{IsNeed, need_word}
+use Rattle.keep_change.specs.Words.{need_in_word}
 
 pub record IsPlain (w : List ℕ) : Type 0 where
   pub spaces : Lacks 32 w
@@ -84,8 +84,8 @@ not_always t h true e =
     cc
 
 -- the word of a need is read as that need
-pub need_back : (u : Need) → IsNeed u → need_of (need_word u) ≡ Some u
-unfolding need_of
+pub need_back : (u : Need) → IsNeed u → need_in_word (need_word u) ≡ Some u
+unfolding need_in_word
 need_back (Until t) h =
     cond-false (bytes_eq (decimal t) (codes "always")) _ _ (not_always t h (bytes_eq (decimal t) (codes "always")) refl)
     ∙ ap (option_map (λ k. Until k)) (number_back LAST (omega arith) t h)
@@ -96,8 +96,8 @@ mapped None u e = cc
 mapped (Some t) u e = (t, refl, sym (some_same _ _ e))
 
 -- and no other word is
-pub need_only : (w : List ℕ) (u : Need) → need_of w ≡ Some u → (w ≡ need_word u) × IsNeed u
-unfolding need_of
+pub need_only : (w : List ℕ) (u : Need) → need_in_word w ≡ Some u → (w ≡ need_word u) × IsNeed u
+unfolding need_in_word
 need_only w u e =
     elim (cases_Bool (bytes_eq w (codes "always"))) [
       | inl t ↦

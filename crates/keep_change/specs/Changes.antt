@@ -8,7 +8,7 @@ use Rattle.keep_change.specs.declared.change.What.TheVariants as what
 use Rattle.keep_change.specs.declared.fault.ChangeFault.{ChangeFault}
 use Rattle.keep_change.specs.declared.fault.ChangeFault.TheVariants.{NoEntry, NameTwice, NoParent, ParentIsLease, StepTooSmall, TooDeep, Full, CredentialTwice, InFile, HasUnder, OutOfMemory}
 use Rattle.keep_change.specs.declared.row.Row.{Row}
-use Rattle.keep_change.specs.Rows.{named, lacks_parent, is_under_lease, is_deep, has_under, is_taken, with_named, without}
+use Rattle.keep_change.specs.Rows.{named, row_lacks_parent, is_row_under_lease, is_deep, has_under, is_taken, with_named, without_row}
 
 -- the fault of the first test that is met
 abbrev pub first_met : List (Bool × ChangeFault) → Option ChangeFault
@@ -19,8 +19,8 @@ first_met (t ∷ tests) = if t.0 then Some t.1 else first_met tests
 unfoldable pub refused_row : ℕ → List Row → Row → Option ChangeFault
 refused_row margin rows row =
     first_met ((is_some (named rows row.name), NameTwice)
-    ∷ (lacks_parent rows row.parent, NoParent)
-    ∷ (is_under_lease rows row.parent, ParentIsLease)
+    ∷ (row_lacks_parent rows row.parent, NoParent)
+    ∷ (is_row_under_lease rows row.parent, ParentIsLease)
     ∷ (nat_lt (step_of row.terms) (margin + 1), StepTooSmall)
     ∷ (is_deep MAX_DEPTH rows row.parent, TooDeep)
     ∷ (nat_le MAX_ENTRIES (length rows), Full)
@@ -35,39 +35,39 @@ refused_credential rows credential row = if is_taken rows row credential then So
 abbrev pub refused_drop : List Row → Row → Option ChangeFault
 refused_drop rows row = if has_under rows row.name then Some HasUnder else None
 
-abbrev pub never : Row → Option ChangeFault
-never row = None
+abbrev pub never_refuses : Row → Option ChangeFault
+never_refuses row = None
 
 -- why a change of the entry of a name cannot be made: there is none, or by that entry
-abbrev pub of_entry : (Row → Option ChangeFault) → Option Row → Option ChangeFault
-of_entry refused None = Some NoEntry
-of_entry refused (Some row) = refused row
+abbrev pub refusal_of_entry : (Row → Option ChangeFault) → Option Row → Option ChangeFault
+refusal_of_entry refused None = Some NoEntry
+refusal_of_entry refused (Some row) = refused row
 
 -- the same of a change, with the entry of its name. An entry that is added has the name of its row
 abbrev pub refused_of : ℕ → List Row → What → Option Row → Option ChangeFault
-refused_of margin rows (what.Need until) row = of_entry never row
-refused_of margin rows (what.Replace credential) row = of_entry (refused_credential rows credential) row
+refused_of margin rows (what.Need until) row = refusal_of_entry never_refuses row
+refused_of margin rows (what.Replace credential) row = refusal_of_entry (refused_credential rows credential) row
 refused_of margin rows (what.Add added) row = refused_row margin rows added
-refused_of margin rows what.Drop row = of_entry (refused_drop rows) row
+refused_of margin rows what.Drop row = refusal_of_entry (refused_drop rows) row
 
 -- why a change of the entry of that name cannot be made within that margin, None where it can
-unfoldable pub refusal : ℕ → List Row → List ℕ → What → Option ChangeFault
-refusal margin rows name w = refused_of margin rows w (named rows name)
+unfoldable pub change_refusal : ℕ → List Row → List ℕ → What → Option ChangeFault
+change_refusal margin rows name w = refused_of margin rows w (named rows name)
 
 -- the rows as they are once it is made
-abbrev pub after : List Row → List ℕ → What → List Row
-after rows name (what.Need until) = with_named (λ row. record row { need = until }) name rows
-after rows name (what.Replace credential) = with_named (λ row. record row { credential = credential }) name rows
-after rows name (what.Add added) = rows ++ added ∷ []
-after rows name what.Drop = without name rows
+abbrev pub rows_with_change : List Row → List ℕ → What → List Row
+rows_with_change rows name (what.Need until) = with_named (λ row. record row { need = until }) name rows
+rows_with_change rows name (what.Replace credential) = with_named (λ row. record row { credential = credential }) name rows
+rows_with_change rows name (what.Add added) = rows ++ added ∷ []
+rows_with_change rows name what.Drop = without_row name rows
 
-abbrev pub unless : List Row → Option ChangeFault → Result (List Row) ChangeFault
-unless rows None = Ok rows
-unless rows (Some fault) = Err fault
+abbrev pub rows_unless : List Row → Option ChangeFault → Result (List Row) ChangeFault
+rows_unless rows None = Ok rows
+rows_unless rows (Some fault) = Err fault
 
 -- the rows after a change of the entry of that name, or why it cannot be made
-unfoldable pub changed : ℕ → List Row → List ℕ → What → Result (List Row) ChangeFault
-changed margin rows name w = unless (after rows name w) (refusal margin rows name w)
+unfoldable pub rows_changed : ℕ → List Row → List ℕ → What → Result (List Row) ChangeFault
+rows_changed margin rows name w = rows_unless (rows_with_change rows name w) (change_refusal margin rows name w)
 
 abbrev pub is_added : What → Bool
 is_added (what.Need until) = false

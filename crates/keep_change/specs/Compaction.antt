@@ -29,10 +29,10 @@ voids [] = []
 voids (r ∷ rs) = is_void r rs ∷ voids rs
 
 -- the records that are not taken out
-unfoldable pub kept : List Record → List Bool → List Record
-kept [] outs = []
-kept (r ∷ rs) [] = r ∷ rs
-kept (r ∷ rs) (out ∷ outs) = if out then kept rs outs else r ∷ kept rs outs
+unfoldable pub records_kept : List Record → List Bool → List Record
+records_kept [] outs = []
+records_kept (r ∷ rs) [] = r ∷ rs
+records_kept (r ∷ rs) (out ∷ outs) = if out then records_kept rs outs else r ∷ records_kept rs outs
 
 unfoldable pub compacted : List Record → List Record
-compacted rs = kept rs (voids rs)
+compacted rs = records_kept rs (voids rs)

@@ -7,23 +7,23 @@ use Rattle.keep_change.specs.declared.row.Row.{Row}
 use Rattle.keep_change.specs.Compaction.{compacted}
 use Rattle.keep_change.specs.Records.{IsRecord, record_of, record_text}
 use Rattle.keep_change.specs.declared.replaying.File.{File}
-use Rattle.keep_change.specs.Replay.{begun, replayed}
+use Rattle.keep_change.specs.Replay.{replay_begun, replayed}
 
 -- the text of a record is read as that record
-abbrev pub WrittenIsRead : Type 0
-WrittenIsRead = (r : Record) → IsRecord r → record_of (record_text r) ≡ Some r
+abbrev pub RecordWrittenIsRead : Type 0
+RecordWrittenIsRead = (r : Record) → IsRecord r → record_of (record_text r) ≡ Some r
 
 -- and no other text is
-abbrev pub ReadIsWritten : Type 0
-ReadIsWritten = (text : List ℕ) (r : Record) → record_of text ≡ Some r → IsRecord r × (text ≡ record_text r)
+abbrev pub RecordReadIsWritten : Type 0
+RecordReadIsWritten = (text : List ℕ) (r : Record) → record_of text ≡ Some r → IsRecord r × (text ≡ record_text r)
 
 -- no line feed stands in it
-abbrev pub LineLaw : Type 0
-LineLaw = (r : Record) → IsRecord r → Lacks 10 (record_text r)
+abbrev pub RecordLineLaw : Type 0
+RecordLineLaw = (r : Record) → IsRecord r → Lacks 10 (record_text r)
 
 -- behind the record that a file is to hold every change, that file alone says what there is, without a note
 abbrev pub SettledLaw : Type 0
-SettledLaw = (f : File) (rs : List Record) → replayed f (rs ++ Settling f.mark ∷ []) ≡ begun f
+SettledLaw = (f : File) (rs : List Record) → replayed f (rs ++ Settling f.mark ∷ []) ≡ replay_begun f
 
 -- and as long as another file is there, all is as it was
 abbrev pub UnsettledLaw : Type 0

@@ -19,8 +19,8 @@ need_with false t = Until t
 abbrev pub name_at : List Entry → ℕ → List ℕ
 name_at es i = (entry_at es i).name
 
-abbrev pub row_with : List Entry → Entry → List ℕ → Terms → Note → Row
-row_with es e sent t note = record {
+abbrev pub row_with_note : List Entry → Entry → List ℕ → Terms → Note → Row
+row_with_note es e sent t note = record {
   name = e.name;
   kind = e.kind;
   parent = option_map (name_at es) e.parent;
@@ -35,7 +35,7 @@ row_with es e sent t note = record {
 
 -- the row of the entry at an index
 unfoldable pub row_at : Served → ℕ → Row
-row_at v i = row_with v.inventory.forest.entries (entry_at v.inventory.forest.entries i) (credential_at v.inventory.credentials i) (terms_at v.inventory.terms i) (note_at v.notes i)
+row_at v i = row_with_note v.inventory.forest.entries (entry_at v.inventory.forest.entries i) (credential_at v.inventory.credentials i) (terms_at v.inventory.terms i) (note_at v.notes i)
 
 -- those of the first n entries
 unfoldable pub rows_before : Served → ℕ → List Row
@@ -43,5 +43,5 @@ rows_before v zero = []
 rows_before v (suc n) = rows_before v n ++ row_at v n ∷ []
 
 -- those of all entries
-unfoldable pub rows_of : Served → List Row
-rows_of v = rows_before v (length v.inventory.forest.entries)
+unfoldable pub rows_of_served : Served → List Row
+rows_of_served v = rows_before v (length v.inventory.forest.entries)

@@ -5,13 +5,14 @@ use Rattle.std.specs.List.{join_with_byte}
 use Rattle.keep_words.specs.Pieces.{four, keyword, three, two, words}
 use Rattle.keep_tree.specs.Push.{is_name}
 use Rattle.keep_inventory.specs.declared.need.Need.{Need}
+use Rattle.keep_inventory.specs.Needs.{IsNeed, need_word}
 use Rattle.keep_change.specs.declared.change.Record.{Record}
 use Rattle.keep_change.specs.declared.change.Record.TheVariants.{Made, Settling}
 use Rattle.keep_change.specs.declared.change.What.{What}
 use Rattle.keep_change.specs.declared.change.What.TheVariants as what
 use Rattle.keep_change.specs.declared.row.Row.{Row}
-use Rattle.keep_change.specs.RowText.{◌>>=◌, IsNeed, IsRow, is_word, one_and_rest, row_of}
-use Rattle.keep_change.specs.Words.{need_of, need_word, row_text}
+use Rattle.keep_change.specs.RowText.{◌>>=◌, IsRow, is_word, one_and_rest, row_of_line}
+use Rattle.keep_change.specs.Words.{need_in_word, row_text}
 
 -- ---- as it is written
 
@@ -35,12 +36,12 @@ record_text r = join_with_byte 32 (record_words r)
 unfoldable pub made_of : List ℕ → List ℕ → What → Option Record
 made_of name was w = if is_name name && is_word was then Some (Made (record { name = name; was = was; what = w })) else None
 
-abbrev pub with_need : List ℕ → List ℕ → Option Need → Option Record
-with_need name was None = None
-with_need name was (Some until) = made_of name was (what.Need until)
+abbrev pub record_with_need : List ℕ → List ℕ → Option Need → Option Record
+record_with_need name was None = None
+record_with_need name was (Some until) = made_of name was (what.Need until)
 
 unfoldable pub need_line : List ℕ → Option Record
-need_line text = elim (four (words text)) [ None ↦ None | Some w ↦ with_need w.1 w.2 (need_of w.3) ]
+need_line text = elim (four (words text)) [ None ↦ None | Some w ↦ record_with_need w.1 w.2 (need_in_word w.3) ]
 
 unfoldable pub replace_line : List ℕ → Option Record
 replace_line text = elim (four (words text)) [ None ↦ None | Some w ↦ (if is_word w.3 then made_of w.1 w.2 (what.Replace w.3) else None) ]
@@ -53,7 +54,7 @@ unfoldable pub add_line : List ℕ → Option Record
 add_line text = do
   a ← one_and_rest text
   b ← one_and_rest a.1
-  added_of b.0 (row_of b.1)
+  added_of b.0 (row_of_line b.1)
 
 unfoldable pub drop_line : List ℕ → Option Record
 drop_line text = elim (three (words text)) [ None ↦ None | Some w ↦ made_of w.1 w.2 what.Drop ]

@@ -16,17 +16,17 @@ use Rattle.keep_change.specs.declared.replaying.File.{File}
 use Rattle.keep_change.specs.declared.replaying.Note.{Note}
 use Rattle.keep_change.specs.declared.replaying.Why.TheVariants.{FileWins, Refused}
 use Rattle.keep_change.specs.declared.row.Row.{Row}
-use Rattle.keep_change.specs.Changes.{changed, is_added}
+use Rattle.keep_change.specs.Changes.{is_added, rows_changed}
 use Rattle.keep_change.specs.Rows.{named}
 use Rattle.keep_change.specs.Said.{said}
 
 -- the rows so far, and notes on the changes so far that were not made
-pub record State : Type 0 where
+pub record ReplayState : Type 0 where
   pub rows : List Row
   pub notes : List Note
 
-abbrev pub begun : File → State
-begun f = record { rows = f.rows; notes = [] }
+abbrev pub replay_begun : File → ReplayState
+replay_begun f = record { rows = f.rows; notes = [] }
 
 abbrev pub is_until : ℕ → Need → Bool
 is_until t (Until u) = u == t
@@ -52,16 +52,16 @@ abbrev pub refused_note : ℕ → ChangeFault → List Note
 refused_note at NoEntry = []
 refused_note at fault = record { at = at; why = Refused fault } ∷ []
 
-abbrev pub made_with : ℕ → State → Result (List Row) ChangeFault → State
+abbrev pub made_with : ℕ → ReplayState → Result (List Row) ChangeFault → ReplayState
 made_with at s (Ok rows) = record { rows = rows; notes = s.notes }
 made_with at s (Err fault) = record { rows = s.rows; notes = s.notes ++ refused_note at fault }
 
 -- the change at a place of the list is made, or a note says why not
-unfoldable pub made : ℕ → ℕ → State → Change → State
-made margin at s c = made_with at s (changed margin s.rows c.name c.what)
+unfoldable pub made : ℕ → ℕ → ReplayState → Change → ReplayState
+made margin at s c = made_with at s (rows_changed margin s.rows c.name c.what)
 
 -- the file wins; a note says so, unless all is as the change would make it
-unfoldable pub overruled : ℕ → State → Change → State
+unfoldable pub overruled : ℕ → ReplayState → Change → ReplayState
 overruled at s c = record { rows = s.rows; notes = if holds s.rows c then s.notes else s.notes ++ record { at = at; why = FileWins } ∷ [] }
 
 -- the file says of the word what it said when the change was made
@@ -69,15 +69,15 @@ unfoldable pub is_as_then : List Row → Change → Bool
 is_as_then file c = bytes_eq (said file c.name c.what) c.was
 
 -- what one record makes of the state: all changes before it are in the file that it is the mark of
-abbrev pub step : File → ℕ → State → Record → State
-step f at s (Settling mark) = if bytes_eq mark f.mark then begun f else s
-step f at s (Made c) = if is_as_then f.rows c then made f.margin at s c else overruled at s c
+abbrev pub replay_step : File → ℕ → ReplayState → Record → ReplayState
+replay_step f at s (Settling mark) = if bytes_eq mark f.mark then replay_begun f else s
+replay_step f at s (Made c) = if is_as_then f.rows c then made f.margin at s c else overruled at s c
 
 -- the records from a place of the list on
-abbrev pub replay_from : File → ℕ → State → List Record → State
+abbrev pub replay_from : File → ℕ → ReplayState → List Record → ReplayState
 replay_from f at s [] = s
-replay_from f at s (r ∷ rs) = replay_from f (at + 1) (step f at s r) rs
+replay_from f at s (r ∷ rs) = replay_from f (at + 1) (replay_step f at s r) rs
 
 -- the records in order
-unfoldable pub replayed : File → List Record → State
-replayed f rs = replay_from f 0 (begun f) rs
+unfoldable pub replayed : File → List Record → ReplayState
+replayed f rs = replay_from f 0 (replay_begun f) rs

@@ -11,15 +11,14 @@ use Rattle.keep_tree.specs.declared.entry.Kind.TheVariants.{Token, Lease}
 use Rattle.keep_tree.specs.declared.forest.TheConstants.{END_MAX}
 use Rattle.keep_tree.specs.Push.{is_name}
 use Rattle.keep_inventory.specs.declared.limits.TheConstants.{SPAN_MAX}
-use Rattle.keep_inventory.specs.declared.need.Need.{Need}
-use Rattle.keep_inventory.specs.declared.need.Need.TheVariants.{Until, Always}
 use Rattle.keep_inventory.specs.Values.{is_credential, is_path}
+use Rattle.keep_inventory.specs.Needs.{IsNeed}
 use Rattle.keep_change.specs.declared.row.Row.{Row}
 use Rattle.keep_change.specs.declared.row_text.Who.{Who}
 use Rattle.keep_change.specs.declared.row_text.Life.{Life}
 use Rattle.keep_change.specs.declared.row_text.Limits.{Limits}
 use Rattle.keep_change.specs.declared.row_text.Sent.{Sent}
-use Rattle.keep_change.specs.Words.{need_of}
+use Rattle.keep_change.specs.Words.{need_in_word}
 
 -- the next step, where there was one
 infixl 10 ◌>>=◌
@@ -92,7 +91,7 @@ limits_of period max_ttl explicit_max need = do
   p ← number_up_to SPAN_MAX period
   m ← number_up_to SPAN_MAX max_ttl
   x ← number_up_to SPAN_MAX explicit_max
-  u ← need_of need
+  u ← need_in_word need
   Some (record { period = p; max_ttl = m; explicit_max = x; need = u })
 
 abbrev pub sent_alone : List ℕ → Option Sent
@@ -139,8 +138,8 @@ abbrev pub if_written : Row → Option Row
 if_written row = if is_written row then Some row else None
 
 -- the row of a line
-unfoldable pub row_of : List ℕ → Option Row
-row_of line = do
+unfoldable pub row_of_line : List ℕ → Option Row
+row_of_line line = do
   a ← four_and_rest line
   b ← four_and_rest a.4
   c ← four_and_rest b.4
@@ -151,10 +150,6 @@ row_of line = do
   if_written (row_with who life limits sent)
 
 -- ---- which rows there are
-
-abbrev pub IsNeed : Need → Type 0
-IsNeed (Until t) = t ≤ LAST
-IsNeed Always = Unit {0}
 
 -- a row as a table can write it
 pub record IsRow (row : Row) : Type 0 where

@@ -5,7 +5,8 @@ use Rattle.keep_change.specs.declared.change.What.{What}
 use Rattle.keep_change.specs.declared.change.What.TheVariants as what
 use Rattle.keep_change.specs.declared.row.Row.{Row}
 use Rattle.keep_change.specs.Rows.{named}
-use Rattle.keep_change.specs.Words.{fingerprint, need_word, row_text}
+use Rattle.keep_change.specs.Words.{fingerprint, row_text}
+use Rattle.keep_inventory.specs.Needs.{need_word}
 
 -- the need, the fingerprint of the credential, or that of the whole entry
 abbrev pub said_of : Row → What → List ℕ

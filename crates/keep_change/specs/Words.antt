@@ -9,16 +9,12 @@ use Rattle.keep_tree.specs.declared.entry.Kind.{Kind}
 use Rattle.keep_tree.specs.declared.entry.Kind.TheVariants.{Token, Lease}
 use Rattle.keep_inventory.specs.declared.need.Need.{Need}
 use Rattle.keep_inventory.specs.declared.need.Need.TheVariants.{Until, Always}
+use Rattle.keep_inventory.specs.Needs.{need_word}
 use Rattle.keep_change.specs.declared.row.Row.{Row}
 
--- a need: its moment in seconds, or `always`
-abbrev pub need_word : Need → List ℕ
-need_word (Until t) = decimal t
-need_word Always = codes "always"
-
 -- the need of a word
-unfoldable pub need_of : List ℕ → Option Need
-need_of word = if bytes_eq word (codes "always") then Some Always else option_map (λ t. Until t) (number_up_to LAST word)
+unfoldable pub need_in_word : List ℕ → Option Need
+need_in_word word = if bytes_eq word (codes "always") then Some Always else option_map (λ t. Until t) (number_up_to LAST word)
 
 -- what bytes are known by: their SHA-256 in 64 hexadecimal digits
 unfoldable pub fingerprint : List ℕ → List ℕ

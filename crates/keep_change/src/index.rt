@@ -1,7 +1,7 @@
 ghost use Rattle.std.specs.Prelude.{◌≡◌, ◌+◌, ◌∷◌, ◌++◌, [], true, List, IfOk, IfSome, None, length, take, drop};
 ghost use Rattle.std.specs.List.{position};
 ghost use Rattle.keep_change.specs.declared.row.Row.{Row};
-ghost use Rattle.keep_change.specs.Rows.{is_named, named};
+ghost use Rattle.keep_change.specs.Rows.{is_row_named, named};
 ghost use Rattle.keep_change.specs.code.Index.{begins_with, has_seen, is_index};
 
 use crate::row::Row;
@@ -53,7 +53,7 @@ pub(crate) fn credentials_of(alloc: Global, rows: &[Row]) -> Result<Places, Allo
 /// The place of the first row of that name.
 pub(crate) fn place_of(rows: &[Row], places: &Places, is_apart: bool, name: &[u8]) -> Option<usize>
     requires { is_index is_apart places.now rows.now ≡ true }
-    ensures { result ≡ position (is_named name.now) rows.now }
+    ensures { result ≡ position (is_row_named name.now) rows.now }
 {
     if is_apart {
         found_place(rows, places, name)
@@ -66,7 +66,7 @@ pub(crate) fn place_of(rows: &[Row], places: &Places, is_apart: bool, name: &[u8
 #[tactic(auto, using(crate::proofs::Finding::not_found))]
 fn found_place(rows: &[Row], places: &Places, name: &[u8]) -> Option<usize>
     requires { is_index true places.now rows.now ≡ true }
-    ensures { result ≡ position (is_named name.now) rows.now }
+    ensures { result ≡ position (is_row_named name.now) rows.now }
 {
     match places.get(name) {
         None => None,
@@ -75,7 +75,7 @@ fn found_place(rows: &[Row], places: &Places, name: &[u8]) -> Option<usize>
 }
 
 fn first_place(rows: &[Row], name: &[u8]) -> Option<usize>
-    ensures { result ≡ position (is_named name.now) rows.now }
+    ensures { result ≡ position (is_row_named name.now) rows.now }
 {
     rows.iter().position(|row| row.name.list() == name)
 }

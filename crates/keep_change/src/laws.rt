@@ -1,11 +1,11 @@
-ghost use Rattle.keep_change.specs.Laws.{CompactedLaw, LineLaw, ReadIsWritten, SettledLaw, UnsettledLaw, WrittenIsRead};
+ghost use Rattle.keep_change.specs.Laws.{CompactedLaw, RecordLineLaw, RecordReadIsWritten, RecordWrittenIsRead, SettledLaw, UnsettledLaw};
 
 /// The laws that join writing and reading: the text of a record that a command may have made is read as that record, no
 /// other text is read as it, and it is one line.
 pub fn records_are_read_back()
-    ensures found { WrittenIsRead }
-    ensures only { ReadIsWritten }
-    ensures line { LineLaw }
+    ensures found { RecordWrittenIsRead }
+    ensures only { RecordReadIsWritten }
+    ensures line { RecordLineLaw }
 {}
 
 /// The laws of settling. Once a file with the fingerprint of the last record is in its place, a replay gives what that

@@ -1,7 +1,7 @@
 ghost use Rattle.std.specs.Prelude.{◌≡◌, ◌<◌, IfOk, length, option_map};
 ghost use Rattle.keep_tree.specs.Forest.{entry_at};
 ghost use Rattle.keep_inventory.specs.Served.{note_at};
-ghost use Rattle.keep_change.specs.Listed.{name_at, need_with, row_at, rows_before, rows_of};
+ghost use Rattle.keep_change.specs.Listed.{name_at, need_with, row_at, rows_before, rows_of_served};
 
 use crate::row::{Row, copy_if};
 use crate::rows::Rows;
@@ -11,9 +11,9 @@ use keep_tree::Forest;
 use std::alloc::{AllocError, Global};
 
 /// The rows of what is served, one for each entry, in order. The only error is out of memory.
-#[tactic(auto, using(crate::proofs::Rowed::rows_none, crate::proofs::Rowed::rows_more), unfolding(crate::specs::Listed::rows_of))]
+#[tactic(auto, using(crate::proofs::Rowed::rows_none, crate::proofs::Rowed::rows_more), unfolding(crate::specs::Listed::rows_of_served))]
 pub fn rows_of(alloc: Global, served: &Served) -> Result<Rows, AllocError>
-    ensures { IfOk result (λ rows. rows ≡ rows_of served.now) }
+    ensures { IfOk result (λ rows. rows ≡ rows_of_served served.now) }
 {
     let mut rows = Vec::new(alloc);
     for index in 0..served.inventory().forest().len() {

@@ -1,7 +1,7 @@
 ghost use Rattle.std.specs.Prelude.{◌≡◌, ◌≢◌, ◌++◌, ◌∷◌, [], IfOk, OnOk};
 ghost use Rattle.keep_inventory.specs.Needs.{has_always};
 ghost use Rattle.keep_change.specs.Changes.{is_added};
-ghost use Rattle.keep_change.specs.Replay.{begun, holds, holds_of, is_as_then, is_until, made, overruled, refused_note, replayed, same_need, step};
+ghost use Rattle.keep_change.specs.Replay.{holds, holds_of, is_as_then, is_until, made, overruled, refused_note, replay_begun, replay_step, replayed, same_need};
 
 use crate::change::{Change, Record, What};
 use crate::fault::ChangeFault;
@@ -49,9 +49,9 @@ pub struct Replayed {
 }
 
 impl Model for Replayed {
-    ghost use Rattle.keep_change.specs.Replay.{State};
+    ghost use Rattle.keep_change.specs.Replay.{ReplayState};
 
-    ghost Value = { State };
+    ghost Value = { ReplayState };
 
     ghost view = { λ r. record { rows = r.rows; notes = r.notes.items } };
 }
@@ -139,7 +139,7 @@ pub fn replay(alloc: Global, file: &File, records: &[Record]) -> Result<Replayed
 
 // The file alone.
 fn begin(alloc: Global, file: &File) -> Result<Replayed, AllocError>
-    ensures { IfOk result (λ r. r ≡ begun file.now) }
+    ensures { IfOk result (λ r. r ≡ replay_begun file.now) }
 {
     Ok(Replayed {
         rows: file.rows.copy(alloc)?,
@@ -155,7 +155,7 @@ fn take(
     record: &Record,
     state: &mut Replayed,
 ) -> Result<(), AllocError>
-    ensures { OnOk result (state.new ≡ step file.now at state.old «record».now) }
+    ensures { OnOk result (state.new ≡ replay_step file.now at state.old «record».now) }
 {
     match record {
         Record::Settling(settled) => {

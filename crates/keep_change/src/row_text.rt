@@ -8,7 +8,7 @@ ghost use Rattle.keep_words.specs.Numbers.{number_up_to};
 ghost use Rattle.keep_inventory.specs.declared.limits.TheConstants.{SPAN_MAX};
 ghost use Rattle.keep_inventory.specs.Values.{is_path};
 ghost use Rattle.keep_tree.specs.Push.{is_name, is_name_byte};
-ghost use Rattle.keep_change.specs.RowText.{either, four_and_rest, if_written, is_file, is_word, is_written, kind_of, life_of, limits_of, name_or_star, one_and_rest, row_of, row_with, sent_alone, sent_beside, sent_of, span_or_star, stands_for, suits, who_of};
+ghost use Rattle.keep_change.specs.RowText.{either, four_and_rest, if_written, is_file, is_word, is_written, kind_of, life_of, limits_of, name_or_star, one_and_rest, row_of_line, row_with, sent_alone, sent_beside, sent_of, span_or_star, stands_for, suits, who_of};
 
 use crate::row::Row;
 use crate::words::need_of;
@@ -53,9 +53,9 @@ pub(crate) struct Sent {
 }
 
 /// The row that a line writes, `None` where it writes none. The only error is out of memory.
-#[tactic(auto, unfolding(crate::specs::RowText::row_of))]
+#[tactic(auto, unfolding(crate::specs::RowText::row_of_line))]
 pub(crate) fn read_row(alloc: Global, line: &[u8]) -> Result<Option<Row>, AllocError>
-    ensures { IfOk result (λ row. row ≡ row_of line.now) }
+    ensures { IfOk result (λ row. row ≡ row_of_line line.now) }
 {
     let Some((kind, name, parent, told, rest)) = four_and_rest(line) else {
         return Ok(None);

@@ -2,9 +2,9 @@ ghost use Rattle.std.specs.Prelude.{◌≡◌, ◌++◌, ◌∷◌, [], true, No
 ghost use Rattle.std.specs.Bool.{beq};
 ghost use Rattle.std.specs.List.{position};
 ghost use Rattle.keep_tree.specs.Push.{is_lease};
-ghost use Rattle.keep_change.specs.Changes.{IsWhy, changed, never, of_entry, refusal, refused_credential, refused_drop, refused_row};
+ghost use Rattle.keep_change.specs.Changes.{IsWhy, change_refusal, never_refuses, refusal_of_entry, refused_credential, refused_drop, refused_row, rows_changed};
 ghost use Rattle.keep_change.specs.code.Index.{has_seen};
-ghost use Rattle.keep_change.specs.Rows.{has_under, is_deep, is_named, is_taken, is_under, is_under_lease, lacks_parent, named, with_named, without};
+ghost use Rattle.keep_change.specs.Rows.{has_under, is_deep, is_row_named, is_row_under_lease, is_taken, is_under, named, row_lacks_parent, with_named, without_row};
 
 use crate::change::What;
 use crate::fault::ChangeFault;
@@ -89,7 +89,7 @@ impl Rows {
 
     // The place of the entry of that name.
     fn place(&self, name: &[u8]) -> Option<usize>
-        ensures { result ≡ position (is_named name.now) self.now }
+        ensures { result ≡ position (is_row_named name.now) self.now }
     {
         place_of(&self.items, &self.places, self.is_apart, name)
     }
@@ -109,10 +109,10 @@ impl Rows {
     /// The first that applies: `NoEntry`, no entry has the name; of a credential, `CredentialTwice`, another entry of the
     /// kind has it, and `InFile`, the entry names a file that holds its credential; of a drop, `HasUnder`, other entries
     /// are under the entry; of an addition, those from `NameTwice` to `CredentialTwice` in their order, and `OutOfMemory`.
-    #[tactic(auto, using(crate::proofs::Places::free_name), unfolding(crate::specs::Changes::changed))]
+    #[tactic(auto, using(crate::proofs::Places::free_name), unfolding(crate::specs::Changes::rows_changed))]
     pub fn change(&mut self, margin: u32, name: &[u8], what: What) -> Result<(), ChangeFault>
-        ensures made { OnOk result (changed margin self.old name.now what ≡ Ok self.new) }
-        ensures refused { IfErr result (IsWhy (refusal margin self.old name.now what) what) }
+        ensures made { OnOk result (rows_changed margin self.old name.now what ≡ Ok self.new) }
+        ensures refused { IfErr result (IsWhy (change_refusal margin self.old name.now what) what) }
         ensures unchanged { OnErr result (self.new ≡ self.old) }
     {
         if let Some(fault) = self.refusal(margin, name, &what) {
@@ -177,7 +177,7 @@ impl Rows {
     // Takes out the entry of that name, where there is one.
     #[tactic(auto, using(crate::proofs::Places::place_within, crate::proofs::Places::remove_named, crate::proofs::Places::nobody_dropped, crate::proofs::Places::index_removed, crate::proofs::Places::seen_removed))]
     fn remove(&mut self, name: &[u8])
-        ensures { self.new ≡ without name.now self.old }
+        ensures { self.new ≡ without_row name.now self.old }
     {
         if let Some(index) = self.place(name) {
             self.items.remove(index);
@@ -185,9 +185,9 @@ impl Rows {
     }
 
     /// Why a change of the entry of that name cannot be made, in an inventory of that margin in seconds; `None` where it can.
-    #[tactic(auto, unfolding(crate::specs::Changes::refusal))]
+    #[tactic(auto, unfolding(crate::specs::Changes::change_refusal))]
     pub fn refusal(&self, margin: u32, name: &[u8], what: &What) -> Option<ChangeFault>
-        ensures { result ≡ refusal margin self.now name.now what.now }
+        ensures { result ≡ change_refusal margin self.now name.now what.now }
     {
         match what {
             What::Need(_) => self.refused_need(name),
@@ -198,7 +198,7 @@ impl Rows {
     }
 
     fn refused_need(&self, name: &[u8]) -> Option<ChangeFault>
-        ensures { result ≡ of_entry never (named self.now name.now) }
+        ensures { result ≡ refusal_of_entry never_refuses (named self.now name.now) }
     {
         match self.named(name) {
             None => Some(ChangeFault::NoEntry),
@@ -207,7 +207,7 @@ impl Rows {
     }
 
     fn refused_credential(&self, name: &[u8], credential: &[u8]) -> Option<ChangeFault>
-        ensures { result ≡ of_entry (refused_credential self.now credential.now) (named self.now name.now) }
+        ensures { result ≡ refusal_of_entry (refused_credential self.now credential.now) (named self.now name.now) }
     {
         match self.named(name) {
             None => Some(ChangeFault::NoEntry),
@@ -218,7 +218,7 @@ impl Rows {
     }
 
     fn refused_drop(&self, name: &[u8]) -> Option<ChangeFault>
-        ensures { result ≡ of_entry (refused_drop self.now) (named self.now name.now) }
+        ensures { result ≡ refusal_of_entry (refused_drop self.now) (named self.now name.now) }
     {
         match self.named(name) {
             None => Some(ChangeFault::NoEntry),
@@ -253,7 +253,7 @@ impl Rows {
 
     // Whether no entry has the name of the one that is to stand over.
     fn lacks_parent(&self, parent: &Option<Name>) -> bool
-        ensures { result ≡ lacks_parent self.now parent.now }
+        ensures { result ≡ row_lacks_parent self.now parent.now }
     {
         match parent {
             None => false,
@@ -263,7 +263,7 @@ impl Rows {
 
     // Whether the entry that is to stand over is a lease.
     fn is_under_lease(&self, parent: &Option<Name>) -> bool
-        ensures { result ≡ is_under_lease self.now parent.now }
+        ensures { result ≡ is_row_under_lease self.now parent.now }
     {
         match parent {
             None => false,

@@ -1,5 +1,6 @@
 ghost use Rattle.std.specs.Prelude.{◌≡◌, ◌++◌, ◌∷◌, [], IfOk, OnOk, Some};
-ghost use Rattle.keep_change.specs.Words.{file_end, fingerprint, kind_word, life_words, name_word, need_of, need_word, number_word, renewable_word, row_text, spaced, terms_words, told_word, who_words};
+ghost use Rattle.keep_change.specs.Words.{file_end, fingerprint, kind_word, life_words, name_word, need_in_word, number_word, renewable_word, row_text, spaced, terms_words, told_word, who_words};
+ghost use Rattle.keep_inventory.specs.Needs.{need_word};
 
 use crate::row::Row;
 use keep_inventory::Need;
@@ -22,9 +23,9 @@ pub fn fingerprint(alloc: Global, bytes: &[u8]) -> Result<Text, AllocError>
 }
 
 /// The need of a word: a moment in seconds, or `always`.
-#[tactic(auto, unfolding(crate::specs::Words::need_of))]
+#[tactic(auto, unfolding(crate::specs::Words::need_in_word))]
 pub(crate) fn need_of(word: &[u8]) -> Option<Need>
-    ensures { result ≡ need_of word.now }
+    ensures { result ≡ need_in_word word.now }
 {
     if word == b"always".as_slice() {
         return Some(Need::Always);

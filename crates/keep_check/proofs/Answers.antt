@@ -24,10 +24,10 @@ use Rattle.keep_check.specs.declared.answer.Answer.{Answer}
 use Rattle.keep_check.specs.declared.answer.Answer.TheVariants.{No, Yes}
 use Rattle.keep_check.specs.declared.answer.Cause.{Cause}
 use Rattle.keep_check.specs.declared.answer.Cause.TheVariants.{NotForced, NotKept, NotRising, NotUnkeepable}
-use Rattle.keep_check.specs.Answer.{IsBodyAnswer, IsKept, IsPairAnswer, IsWalkAnswer, first_fault}
+use Rattle.keep_check.specs.Answer.{EntryIsKept, IsBodyAnswer, IsPairAnswer, IsWalkAnswer, first_fault}
 use Rattle.keep_check.specs.code.Steps.{AllFit}
 use Rattle.keep_check.specs.Fit.{CanBeJudged}
-use Rattle.keep_check.specs.Laws.{AnswerLaw, ForcedTestLaw, Holds, YesLaw}
+use Rattle.keep_check.specs.Laws.{AnswerLaw, ClaimHolds, ForcedTestLaw, YesLaw}
 use Rattle.keep_check.specs.Walk.{fault, is_forced, rises}
 
 pub forced_parts : (es : List Entry) (margin s : ℕ) (ends : ℕ → ℕ) (prev : Option ℕ) (t entry needed : ℕ) → is_forced es margin s ends prev t entry needed ≡ true → Forced es margin s ends prev t entry needed
@@ -63,7 +63,7 @@ forced_test es margin s ends prev t entry needed = (forced_parts es margin s end
 -- One answer: a No names the fault of the walk, or else the lowest entry that is not kept.
 
 abbrev NamesEntry : Forest → ℕ → List Force → Cause → Type 0
-NamesEntry g s ws cause = (i : ℕ) × (cause ≡ NotKept i) × (first_fault g s ws ≡ None) × (IsKept g s ws i → ⊥) × ((j : ℕ) → j < i → IsKept g s ws j)
+NamesEntry g s ws cause = (i : ℕ) × (cause ≡ NotKept i) × (first_fault g s ws ≡ None) × (EntryIsKept g s ws i → ⊥) × ((j : ℕ) → j < i → EntryIsKept g s ws j)
 
 walk_no : (g : Forest) (s : ℕ) (ws : List Force) (cause : Cause) → IsWalkAnswer g s ws (No cause) → (first_fault g s ws ≡ Some cause) ⊎ NamesEntry g s ws cause
 walk_no g s ws (NotRising k) says = inl says
@@ -201,7 +201,7 @@ yes_of_walk g s rs fit answer =
     subst (IsLeastAndLatest es g.margin s (end_of es)) same
     (forced_is_least es g.margin s (end_of es) plan order (λ i. answer.1 i) (subst (AllForced es g.margin s (end_of es) None) (sym same) walk.1))
 
-pub yes_of_body : (g : Forest) (s : ℕ) (b : Body) → CanBeJudged g b → IsBodyAnswer g s b Yes → Holds g s b
+pub yes_of_body : (g : Forest) (s : ℕ) (b : Body) → CanBeJudged g b → IsBodyAnswer g s b Yes → ClaimHolds g s b
 yes_of_body g s (body.Runs rs) fit answer = (yes_of_walk g s rs fit.0 answer, λ i. answer.1 i)
 yes_of_body g s (body.Unkeepable entry needed) fit answer = unkeepable g.entries g.margin s (end_of g.entries) entry needed answer
 

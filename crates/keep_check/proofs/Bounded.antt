@@ -5,8 +5,8 @@ use Rattle.keep_tree.specs.declared.entry.Entry.{Entry}
 use Rattle.keep_tree.specs.Forest.{entry_at}
 use Rattle.keep_tree.specs.Over.{Over}
 use Rattle.keep_tree.specs.Renewal.{is_granted, renewal, renewed}
-use Rattle.keep_rule.specs.Asks.{asking, first_of, is_wanted, with_asks}
-use Rattle.keep_rule.specs.Ends.{after, ends_after}
+use Rattle.keep_rule.specs.Asks.{asking, first_of, is_to_be_asked, with_asks}
+use Rattle.keep_rule.specs.Ends.{ends_after, ends_after_wake_up}
 use Rattle.keep_rule.specs.Keeps.{ends_at}
 use Rattle.keep_rule.proofs.Asking.{asked_end}
 use Rattle.keep_rule.proofs.Keeping.{IsRising}
@@ -45,7 +45,7 @@ own_holds es margin i end low (t ∷ ts) rising =
     (here, own_holds es margin i now t ts rising.1)
 
 -- what the Asks ask is granted
-wanted_granted : (es : List Entry) (margin s : ℕ) (e : ℕ → ℕ) (t : ℕ) (next : Option ℕ) (a : ℕ) → is_wanted es margin s e t next a ≡ true → is_granted es margin e t a ≡ true
+wanted_granted : (es : List Entry) (margin s : ℕ) (e : ℕ → ℕ) (t : ℕ) (next : Option ℕ) (a : ℕ) → is_to_be_asked es margin s e t next a ≡ true → is_granted es margin e t a ≡ true
 unfolding renewed
 wanted_granted es margin s e t next a wanted =
     let new = asked_end es margin s e t next a wanted in
@@ -54,9 +54,9 @@ wanted_granted es margin s e t next a wanted =
       | inr refused ↦ absurd (let same = cond-false (is_granted es margin e t a) (renewal (entry_at es a) t) (e a) refused in let is = new.0 in let more = new.1 in omega (arith, same, is))
     ]
 
-round_below : (es : List Entry) (margin s : ℕ) (e : ℕ → ℕ) (t : ℕ) (next : Option ℕ) (a b : ℕ) → e a ≤ b → IsStuck es margin a b t → after es margin e (asking es margin s e t next) a ≤ b
+round_below : (es : List Entry) (margin s : ℕ) (e : ℕ → ℕ) (t : ℕ) (next : Option ℕ) (a b : ℕ) → e a ≤ b → IsStuck es margin a b t → ends_after_wake_up es margin e (asking es margin s e t next) a ≤ b
 round_below es margin s e t next a b below stuck =
-    elim (cases_Bool (is_wanted es margin s e t next a)) [
+    elim (cases_Bool (is_to_be_asked es margin s e t next a)) [
       | inr unwanted ↦ let is = after_unwanted es margin s e t next a unwanted in omega arith
       | inl wanted ↦
           let is = after_wanted es margin s e t next a wanted in
@@ -76,12 +76,12 @@ unfolding with_asks ends_at ends_after
 asks_below es margin s a b [] e low rising below stuck m = below
 asks_below es margin s a b (t ∷ ts) e low rising below stuck m =
     let w = asking es margin s e t (first_of ts) in
-    let rest = with_asks es margin s (after es margin e w) ts in
+    let rest = with_asks es margin s (ends_after_wake_up es margin e w) ts in
     elim (cases_lt m t) [
       | inl before ↦ subst (λ (f : ℕ → ℕ). f a ≤ b) (sym (ends_unchanged es margin t m e (w ∷ rest) (asks_rise es margin s e t ts rising.1) before)) below
       | inr due ↦
           subst (λ (f : ℕ → ℕ). f a ≤ b) (sym (ends_from es margin e m w rest due))
-          (asks_below es margin s a b ts (after es margin e w) t rising.1 (round_below es margin s e t (first_of ts) a b below stuck.0) stuck.1 m)
+          (asks_below es margin s a b ts (ends_after_wake_up es margin e w) t rising.1 (round_below es margin s e t (first_of ts) a b below stuck.0) stuck.1 m)
     ]
 
 pub kept_lasts :

@@ -14,7 +14,7 @@ use Rattle.keep_rule.specs.Runs.{moments_of}
 use Rattle.keep_check.specs.declared.answer.Answer.TheVariants.{No, Yes}
 use Rattle.keep_check.specs.declared.answer.Cause.{Cause}
 use Rattle.keep_check.specs.declared.answer.Cause.TheVariants.{NotForced, NotKept, NotRising, NotUnkeepable}
-use Rattle.keep_check.specs.Answer.{IsKept, IsWalkAnswer, first_fault}
+use Rattle.keep_check.specs.Answer.{EntryIsKept, IsWalkAnswer, first_fault}
 use Rattle.keep_check.specs.Kept.{own}
 use Rattle.keep_check.specs.code.Steps.{FirstShort}
 use Rattle.keep_check.specs.Walk.{fault, is_forced, rises}
@@ -41,7 +41,7 @@ walk_fault g s ws NotUnkeepable found = sym found
 -- an entry over which each end, asked by itself, lasts until its need is kept, and so is one with no need after s
 kept_where_last :
     (g : Forest) → IsForest g → (s : ℕ) (ws : List Force) → RisesStrictly s (moments_of ws) → (i : ℕ) →
-    (s < (entry_at g.entries i).need → all_last g.entries (own g.entries g.margin (end_of g.entries) (moments_of ws)) (entry_at g.entries i).need i ≡ true) → IsKept g s ws i
+    (s < (entry_at g.entries i).need → all_last g.entries (own g.entries g.margin (end_of g.entries) (moments_of ws)) (entry_at g.entries i).need i ≡ true) → EntryIsKept g s ws i
 kept_where_last g forest s ws rises i last =
     let need = (entry_at g.entries i).need in
     let owns = own g.entries g.margin (end_of g.entries) (moments_of ws) in
@@ -53,12 +53,12 @@ kept_where_last g forest s ws rises i last =
           (kept_law g s (end_of g.entries) (moments_of ws) forest rises i later).1 (λ a over. let l = alive_from_last g.entries owns (need - 1) i all a over in omega arith)
     ]
 
-pub kept_past : (g : Forest) (s : ℕ) (ws : List Force) (i : ℕ) → length g.entries ≤ i → IsKept g s ws i
+pub kept_past : (g : Forest) (s : ℕ) (ws : List Force) (i : ℕ) → length g.entries ≤ i → EntryIsKept g s ws i
 kept_past g s ws i past = λ m start before a over. absurd (let none : (entry_at g.entries i).need ≡ 0 = ap (λ (e : Entry). e.need) (entry_at_past g.entries i past) in omega arith)
 
 unkept_where_short :
     (g : Forest) → IsForest g → (s : ℕ) (ws : List Force) → RisesStrictly s (moments_of ws) → (i : ℕ) → s < (entry_at g.entries i).need →
-    all_last g.entries (own g.entries g.margin (end_of g.entries) (moments_of ws)) (entry_at g.entries i).need i ≡ false → IsKept g s ws i → ⊥
+    all_last g.entries (own g.entries g.margin (end_of g.entries) (moments_of ws)) (entry_at g.entries i).need i ≡ false → EntryIsKept g s ws i → ⊥
 unkept_where_short g forest s ws rises i later short kept =
     let found = short_over g.entries (own g.entries g.margin (end_of g.entries) (moments_of ws)) (entry_at g.entries i).need i short in
     let lasts = (kept_law g s (end_of g.entries) (moments_of ws) forest rises i later).0 kept found.0 found.1 in

@@ -11,7 +11,7 @@ use Rattle.keep_rule.specs.declared.force.Force.{Force}
 use Rattle.keep_rule.specs.declared.run.Run.{Run}
 use Rattle.keep_rule.specs.Runs.{all_wakes, moments_of, wakes, wakes_of}
 use Rattle.keep_check.specs.code.Steps.{AllFit, last_behind}
-use Rattle.keep_check.specs.Fit.{IsFit}
+use Rattle.keep_check.specs.Fit.{RunIsFit}
 use Rattle.keep_check.specs.code.Gaps.{AllNarrow, gap_of, gap_within, gaps_of, last_moment}
 use Rattle.keep_check.specs.Kept.{own_after, own_end}
 use Rattle.keep_check.proofs.OwnEnds.{own_bridged, own_fixed, own_late, own_yes}
@@ -21,7 +21,7 @@ use Rattle.keep_check.proofs.Spans.{bridged_spaced, last_run}
 
 -- what holds of the runs holds from a place on
 
-pub fit_at : (n : ℕ) (rs : List Run) (at : ℕ) → AllFit n rs → at < length rs → IsFit n (get_or rs at blank)
+pub fit_at : (n : ℕ) (rs : List Run) (at : ℕ) → AllFit n rs → at < length rs → RunIsFit n (get_or rs at blank)
 fit_at n [] at fit within = absurd (omega arith)
 fit_at n (r ∷ rs) zero fit within = fit.0
 fit_at n (r ∷ rs) (suc at) fit within = fit_at n rs at fit.1 (omega arith)

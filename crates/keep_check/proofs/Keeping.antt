@@ -14,7 +14,7 @@ use Rattle.keep_rule.proofs.Covering.{IsNeeded}
 use Rattle.keep_rule.proofs.Schedule.{rising_strictly}
 use Rattle.keep_rule.proofs.Timely.{timely_lasts}
 use Rattle.keep_check.specs.Kept.{KeptTo, own, own_end}
-use Rattle.keep_check.specs.Laws.{KeptLaw}
+use Rattle.keep_check.specs.Laws.{KeptToLaw}
 use Rattle.keep_check.proofs.OwnEnds.{own_timely_first}
 use Rattle.keep_check.proofs.Bounded.{kept_lasts}
 
@@ -36,7 +36,7 @@ lasts_kept g forest s i later ends ts rising lasts m start before a over =
     timely_lasts es g.margin s forest.margin_above (λ b. Over es b i) (λ b. n) (over_needed es (parents_first g forest) s i later) ends ts rising
     (λ b there. own_timely_first (entry_at es b) g.margin (ends b) n s ts rising (lasts b there)) a m over start before
 
-pub kept_law : KeptLaw
+pub kept_law : KeptToLaw
 unfolding own
 kept_law g s ends ts forest rises i later =
     let rising = rising_strictly s ts rises in

@@ -11,7 +11,7 @@ use Rattle.keep_rule.specs.declared.force.Force.{Force}
 use Rattle.keep_rule.specs.Runs.{wakes_of}
 use Rattle.keep_check.specs.declared.answer.Cause.{Cause}
 use Rattle.keep_check.specs.declared.answer.Cause.TheVariants.{NotForced, NotRising}
-use Rattle.keep_check.specs.code.Steps.{Finds}
+use Rattle.keep_check.specs.code.Steps.{WalkFinds}
 use Rattle.keep_check.specs.Walk.{fault, is_forced, rises}
 use Rattle.keep_check.proofs.Answers.{forced_parts, forced_tests}
 
@@ -167,6 +167,6 @@ walks_into es margin s ends entry needed gap top going q n t k rest start due lo
 -- what a walk finds after a first wake-up that rises and is forced, it finds
 pub found_behind :
     (g : Forest) (s : ℕ) (prev : Option ℕ) (k : ℕ) (w : Force) (us : List Force) (last k' : ℕ) (found : Option Cause) → rises s prev w.at ≡ true →
-    is_forced g.entries g.margin s (end_of g.entries) prev w.at w.entry w.needed ≡ true → Finds g s (Some w.at) (k + 1) us last k' found → Finds g s prev k (w ∷ us) last k' found
+    is_forced g.entries g.margin s (end_of g.entries) prev w.at w.entry w.needed ≡ true → WalkFinds g s (Some w.at) (k + 1) us last k' found → WalkFinds g s prev k (w ∷ us) last k' found
 found_behind g s prev k w us last k' None yes' forced finds = λ rest. goes_on g.entries g.margin s (end_of g.entries) prev k w (us ++ rest) yes' forced ∙ finds rest
 found_behind g s prev k w us last k' (Some cause) yes' forced finds = λ rest. goes_on g.entries g.margin s (end_of g.entries) prev k w (us ++ rest) yes' forced ∙ finds rest

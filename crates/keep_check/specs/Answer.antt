@@ -17,8 +17,8 @@ use Rattle.keep_check.specs.Kept.{KeptTo}
 use Rattle.keep_check.specs.Walk.{fault}
 
 -- i is kept to its need when each of these wake-ups asks its Asks
-abbrev pub IsKept : Forest → ℕ → List Force → ℕ → Type 0
-IsKept g s ws i = KeptTo g.entries g.margin s (end_of g.entries) (with_asks g.entries g.margin s (end_of g.entries) (moments_of ws)) i (entry_at g.entries i).need
+abbrev pub EntryIsKept : Forest → ℕ → List Force → ℕ → Type 0
+EntryIsKept g s ws i = KeptTo g.entries g.margin s (end_of g.entries) (with_asks g.entries g.margin s (end_of g.entries) (moments_of ws)) i (entry_at g.entries i).need
 
 -- the first wake-up that does not rise or is not forced
 abbrev pub first_fault : Forest → ℕ → List Force → Option Cause
@@ -26,8 +26,8 @@ first_fault g s ws = fault g.entries g.margin s (end_of g.entries) None 1 ws
 
 -- wake-ups get the first fault of the walk; if there is none, the lowest entry that is not kept; if there is none, Yes
 abbrev pub IsWalkAnswer : Forest → ℕ → List Force → Answer → Type 0
-IsWalkAnswer g s ws Yes = (first_fault g s ws ≡ None) × ((i : ℕ) → IsKept g s ws i)
-IsWalkAnswer g s ws (No (NotKept i)) = (first_fault g s ws ≡ None) × ((IsKept g s ws i → ⊥) × ((j : ℕ) → j < i → IsKept g s ws j))
+IsWalkAnswer g s ws Yes = (first_fault g s ws ≡ None) × ((i : ℕ) → EntryIsKept g s ws i)
+IsWalkAnswer g s ws (No (NotKept i)) = (first_fault g s ws ≡ None) × ((EntryIsKept g s ws i → ⊥) × ((j : ℕ) → j < i → EntryIsKept g s ws j))
 IsWalkAnswer g s ws (No cause) = first_fault g s ws ≡ Some cause
 
 -- a pair gets Yes where it is Unkeepable
@@ -41,5 +41,5 @@ IsBodyAnswer g s (body.Runs rs) answer = IsWalkAnswer g s (all_wakes rs) answer
 IsBodyAnswer g s (body.Unkeepable entry needed) answer = IsPairAnswer g s entry needed answer
 
 -- the answer to a certificate, from its own start
-abbrev pub IsAnswer : Forest → Cert → Answer → Type 0
-IsAnswer g c answer = IsBodyAnswer g c.start c.body answer
+abbrev pub IsCertificateAnswer : Forest → Cert → Answer → Type 0
+IsCertificateAnswer g c answer = IsBodyAnswer g c.start c.body answer

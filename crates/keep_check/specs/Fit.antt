@@ -8,10 +8,10 @@ use Rattle.keep_rule.specs.Runs.{HasMoments, IsAmong}
 use Rattle.keep_cert.specs.CertificateText.{IsMadeOf}
 
 -- a run whose indices are those of n entries, with a wake-up or more, none of them after LAST
-pub record IsFit (n : ℕ) (r : Run) : Type 0 where
+pub record RunIsFit (n : ℕ) (r : Run) : Type 0 where
   pub among : IsAmong n r
   pub moments : HasMoments r
 
 -- each run is fit, and they have at most LIMIT wake-ups; or the indices of the pair are those of entries
 abbrev pub CanBeJudged : Forest → Body → Type 0
-CanBeJudged g body = IsMadeOf (IsFit (length g.entries)) g.entries body
+CanBeJudged g body = IsMadeOf (RunIsFit (length g.entries)) g.entries body

@@ -15,17 +15,17 @@ use Rattle.keep_rule.specs.Runs.{all_wakes, moments_of}
 use Rattle.keep_cert.specs.declared.cert.Body.{Body}
 use Rattle.keep_cert.specs.declared.cert.Body.TheVariants as body
 use Rattle.keep_cert.specs.declared.cert.Cert.{Cert}
-use Rattle.keep_cert.specs.CertificateText.{Writes}
+use Rattle.keep_cert.specs.CertificateText.{WritesCertificate}
 use Rattle.keep_check.specs.declared.answer.Answer.{Answer}
 use Rattle.keep_check.specs.declared.answer.Answer.TheVariants.{Yes}
-use Rattle.keep_check.specs.Answer.{IsAnswer}
+use Rattle.keep_check.specs.Answer.{IsCertificateAnswer}
 use Rattle.keep_check.specs.Fit.{CanBeJudged}
 use Rattle.keep_check.specs.Kept.{KeptTo, own}
 use Rattle.keep_check.specs.Walk.{is_forced}
 
 -- moments with their Asks keep an entry exactly where each entry over it, asked by itself, lasts until its need
-abbrev pub KeptLaw : Type 0
-KeptLaw =
+abbrev pub KeptToLaw : Type 0
+KeptToLaw =
     (g : Forest) (s : ℕ) (ends : ℕ → ℕ) (ts : List ℕ) → IsForest g → RisesStrictly s ts → (i : ℕ) → s < (entry_at g.entries i).need →
     KeptTo g.entries g.margin s ends (with_asks g.entries g.margin s ends ts) i (entry_at g.entries i).need
     ↔ ((a : ℕ) → Over g.entries a i → (entry_at g.entries i).need ≤ own g.entries g.margin ends ts a)
@@ -38,19 +38,19 @@ ForcedTestLaw =
 
 -- at most one answer to a certificate is right
 abbrev pub AnswerLaw : Type 0
-AnswerLaw = (g : Forest) (c : Cert) (x y : Answer) → IsAnswer g c x → IsAnswer g c y → x ≡ y
+AnswerLaw = (g : Forest) (c : Cert) (x y : Answer) → IsCertificateAnswer g c x → IsCertificateAnswer g c y → x ≡ y
 
 -- what a certificate claims: its moments are least and latest, and with their Asks they keep; or no plan keeps
-abbrev pub Holds : Forest → ℕ → Body → Type 0
-Holds g s (body.Runs rs) =
+abbrev pub ClaimHolds : Forest → ℕ → Body → Type 0
+ClaimHolds g s (body.Runs rs) =
     IsLeastAndLatest g.entries g.margin s (end_of g.entries) (moments_of (all_wakes rs))
     × Keeps g.entries g.margin s (end_of g.entries) (with_asks g.entries g.margin s (end_of g.entries) (moments_of (all_wakes rs)))
-Holds g s (body.Unkeepable entry needed) = (plan : List Wake) → IsPlan s plan → Keeps g.entries g.margin s (end_of g.entries) plan → ⊥
+ClaimHolds g s (body.Unkeepable entry needed) = (plan : List Wake) → IsPlan s plan → Keeps g.entries g.margin s (end_of g.entries) plan → ⊥
 
 -- what gets Yes holds
 abbrev pub YesLaw : Type 0
-YesLaw = (g : Forest) (c : Cert) → CanBeJudged g c.body → IsAnswer g c Yes → Holds g c.start c.body
+YesLaw = (g : Forest) (c : Cert) → CanBeJudged g c.body → IsCertificateAnswer g c Yes → ClaimHolds g c.start c.body
 
 -- a certificate that a text writes over a forest can be judged over it
-abbrev pub WrittenLaw : Type 0
-WrittenLaw = (g : Forest) (text : List ℕ) (c : Cert) → Writes g.entries text c → CanBeJudged g c.body
+abbrev pub WrittenIsJudgedLaw : Type 0
+WrittenIsJudgedLaw = (g : Forest) (text : List ℕ) (c : Cert) → WritesCertificate g.entries text c → CanBeJudged g c.body

@@ -1,13 +1,13 @@
 ghost use Rattle.std.specs.Prelude.{◌≡◌, ℕ, IsOk, ◌↔◌, ◌<◌, ◌≤◌, IfOk, IsTrue, Ok, length};
 ghost use Rattle.keep_tree.specs.Forest.{end_of};
 ghost use Rattle.keep_rule.specs.Unkeepable.{Unkeepable};
-ghost use Rattle.keep_rule.specs.Runs.{all_wakes, counted};
+ghost use Rattle.keep_rule.specs.Runs.{all_wakes, wake_count};
 ghost use Rattle.keep_check.specs.declared.answer.Answer.TheVariants.{Yes};
 ghost use Rattle.keep_rule.specs.declared.limit.TheConstants.{LIMIT};
-ghost use Rattle.keep_check.specs.Answer.{IsAnswer, IsWalkAnswer};
+ghost use Rattle.keep_check.specs.Answer.{IsCertificateAnswer, IsWalkAnswer};
 ghost use Rattle.keep_check.specs.code.Steps.{AllFit};
 ghost use Rattle.keep_check.specs.Fit.{CanBeJudged};
-ghost use Rattle.keep_check.specs.Laws.{Holds};
+ghost use Rattle.keep_check.specs.Laws.{ClaimHolds};
 ghost use Rattle.keep_cert.specs.declared.cert.Body.TheVariants as body;
 
 use crate::answer::{Answer, Cause, CheckFault};
@@ -37,9 +37,9 @@ use std::alloc::{AllocError, Global};
 /// [`LIMIT`]: crate::LIMIT
 pub fn check(alloc: Global, forest: &Forest, cert: &Cert) -> Result<Answer, CheckFault>
     requires { CanBeJudged forest.now cert.now.body }
-    ensures answer { IfOk result (IsAnswer forest.now cert.now) }
+    ensures answer { IfOk result (IsCertificateAnswer forest.now cert.now) }
     ensures pair { (entry needed : ℕ) → cert.now.body ≡ body.Unkeepable entry needed → IsOk result }
-    ensures yes { result ≡ Ok Yes → Holds forest.now cert.now.start cert.now.body }
+    ensures yes { result ≡ Ok Yes → ClaimHolds forest.now cert.now.start cert.now.body }
 {
     match &cert.body {
         Body::Runs(runs) => Ok(check_runs(alloc, forest, cert.start, runs.list())?),
@@ -61,7 +61,7 @@ fn check_runs(
     runs: &[Run],
 ) -> Result<Answer, AllocError>
     requires fit { AllFit (length forest.now.entries) runs.now }
-    requires number { counted runs.now ≤ LIMIT }
+    requires number { wake_count runs.now ≤ LIMIT }
     ensures { IfOk result (IsWalkAnswer forest.now start (all_wakes runs.now)) }
 {
     let start = start.get();

@@ -1,9 +1,9 @@
-ghost use Rattle.keep_check.specs.Laws.{AnswerLaw, ForcedTestLaw, KeptLaw, WrittenLaw, YesLaw};
+ghost use Rattle.keep_check.specs.Laws.{AnswerLaw, ForcedTestLaw, KeptToLaw, WrittenIsJudgedLaw, YesLaw};
 
 /// The law of keeping entry by entry: moments with their Asks keep an entry exactly where each entry over it, asked by
 /// itself at every moment, lasts until its need. So no replay of the Asks is needed to judge them.
 pub fn kept_law()
-    ensures { KeptLaw }
+    ensures { KeptToLaw }
 {}
 
 /// The law that the test of a wake-up's force is Forced.
@@ -24,5 +24,5 @@ pub fn yes_law()
 
 /// The law of what is read: a certificate that a text writes over a forest can be judged over it.
 pub fn written_law()
-    ensures { WrittenLaw }
+    ensures { WrittenIsJudgedLaw }
 {}

@@ -3,11 +3,11 @@ ghost use Rattle.keep_moment.specs.declared.moment.TheConstants.{LAST};
 ghost use Rattle.keep_tree.specs.Forest.{end_of, entry_at};
 ghost use Rattle.keep_tree.specs.Over.{Over};
 ghost use Rattle.keep_rule.specs.Forced.{Forced, bound};
-ghost use Rattle.keep_rule.specs.Runs.{all_wakes, counted, wakes, wakes_of};
+ghost use Rattle.keep_rule.specs.Runs.{all_wakes, wake_count, wakes, wakes_of};
 ghost use Rattle.keep_rule.specs.declared.limit.TheConstants.{LIMIT};
 ghost use Rattle.keep_check.specs.Answer.{first_fault};
-ghost use Rattle.keep_check.specs.code.Steps.{AllFit, Finds};
-ghost use Rattle.keep_check.specs.Fit.{IsFit};
+ghost use Rattle.keep_check.specs.code.Steps.{AllFit, WalkFinds};
+ghost use Rattle.keep_check.specs.Fit.{RunIsFit};
 ghost use Rattle.keep_check.specs.Walk.{is_forced, rises};
 
 use crate::answer::Cause;
@@ -19,7 +19,7 @@ use keep_tree::Forest;
 /// The first wake-up of the runs that does not rise or is not forced. It costs a division or two for each run.
 pub(crate) fn first_fault(forest: &Forest, start: u64, runs: &[Run]) -> Option<Cause>
     requires fit { AllFit (length forest.now.entries) runs.now }
-    requires number { counted runs.now ≤ LIMIT }
+    requires number { wake_count runs.now ≤ LIMIT }
     ensures { result ≡ first_fault forest.now start (all_wakes runs.now) }
 {
     let mut previous = None;
@@ -52,10 +52,10 @@ fn fault_of_run(
     count: u64,
     run: &Run,
 ) -> Option<Cause>
-    requires fit { IsFit (length forest.now.entries) run.now }
+    requires fit { RunIsFit (length forest.now.entries) run.now }
     requires room { IfSome previous (λ t. t ≤ LAST) }
     requires number { count + run.now.count ≤ LIMIT + 1 }
-    ensures { Finds forest.now start previous count (wakes run.now)
+    ensures { WalkFinds forest.now start previous count (wakes run.now)
         (run.now.first + (run.now.count - 1) * run.now.step) (count + run.now.count) result }
 {
     if !rises(start, previous, run.first) {
@@ -99,13 +99,13 @@ fn is_forced(forest: &Forest, start: u64, previous: Option<u64>, run: &Run) -> b
 /// is no later than the margin after the next wake-up, those of all that follow are so; and bounds only grow, so the first
 /// that reaches the need is found by a division.
 fn fault_after_first(forest: &Forest, start: u64, count: u64, run: &Run) -> Option<Cause>
-    requires fit { IsFit (length forest.now.entries) run.now }
+    requires fit { RunIsFit (length forest.now.entries) run.now }
     requires number { count + (run.now.count - 1) ≤ LIMIT + 1 }
     requires start { start ≤ run.now.first }
     requires over { Over forest.now.entries run.now.entry run.now.needed }
     requires later { start < (entry_at forest.now.entries run.now.needed).need }
     requires short { (entry_at forest.now.entries run.now.entry).end < (entry_at forest.now.entries run.now.needed).need }
-    ensures { Finds forest.now start (Some run.now.first) count
+    ensures { WalkFinds forest.now start (Some run.now.first) count
         (wakes_of (run.now.first + run.now.step) run.now.step (run.now.count - 1) run.now.entry run.now.needed)
         (run.now.first + (run.now.count - 1) * run.now.step) (count + (run.now.count - 1)) result }
 {

@@ -3,9 +3,9 @@ use Rattle.std.proofs.Common.{◌≡◌, ℕ, ◌<◌, ◌+◌, inl, inr, Bool, 
 use Rattle.std.proofs.lemmas.Grind.{drop_more_same}
 use Rattle.std.proofs.lemmas.List.{drop-set-lt, drop_more, take_more_set}
 use Rattle.std.proofs.Math.Seq.{take-add}
-use Rattle.keep_clients.specs.Guests.{GoesOn, IsLost, is_over}
-use Rattle.keep_clients.specs.Tables.{EachGoesOn, LetsIn, OneGoesOn, Table, Turns}
-use Rattle.keep_clients.specs.Doors.{Log}
+use Rattle.keep_clients.specs.Guests.{GuestGoesOn, GuestIsLost, is_stage_over}
+use Rattle.keep_clients.specs.Tables.{EachGoesOn, GuestTable, LetsIn, OneGoesOn, Turns}
+use Rattle.keep_clients.specs.Doors.{DoorLog}
 use Rattle.keep_clients.proofs.Let.{lets_less}
 use Rattle.keep_clients.specs.declared.limits.Limits.{Limits}
 use Rattle.keep_clients.specs.declared.guest.Guest.{Guest}
@@ -39,7 +39,7 @@ module _ {T : Type 0} (remaining written : T → Option (List ℕ)) (calls : T �
   each_more e (o ∷ os) [] s n h one = absurd h
   each_more e (o ∷ os) (x ∷ xs) s n h one = (h.0, each_more e os xs s n h.1 one)
 
-  pub one_went : {E : Type 0} (e : Bool) (r : Result Unit E) (s n : Guest T) → OnOk r (GoesOn remaining written calls tells most now s n) → OnErr r (IsLost written calls s n) → One (e && is_ok r) s n
+  pub one_went : {E : Type 0} (e : Bool) (r : Result Unit E) (s n : Guest T) → OnOk r (GuestGoesOn remaining written calls tells most now s n) → OnErr r (GuestIsLost written calls s n) → One (e && is_ok r) s n
   one_went e (Ok u) s n goes lost = inl goes
   one_went e (Err x) s n goes lost = inr (and_false e, lost)
 
@@ -54,14 +54,14 @@ module _ {T : Type 0} (remaining written : T → Option (List ℕ)) (calls : T �
       (each_more (e && b) (take i old) (take i out) s n (each_less e b (take i old) (take i out) h) (subst (λ w. One (e && b) w n) is one)))
 
 -- each goes on, those that are over leave, and some are let in
-pub turned : {T F : Type 0} (remaining written : T → Option (List ℕ)) (calls : T → Option (List Call)) (tells : F → List ℕ → Bool → Type 0) (now next : ℕ) (limits : Limits) (framing : F) (old new : Table T F)
-    (xs ys went mid left : List (Guest T)) (a b : Option (Log T)) (e f r : Bool) → (let it : Table T F = record { guests = xs; next = next; limits = limits; framing = framing } in it) ≡ old → ys ≡ xs
-    → EachGoesOn remaining written calls (tells framing) limits.bytes now e ys went → r ≡ (e && f) → left ≡ filter (λ g. not (is_over g.stage)) mid → mid ≡ went
+pub turned : {T F : Type 0} (remaining written : T → Option (List ℕ)) (calls : T → Option (List Call)) (tells : F → List ℕ → Bool → Type 0) (now next : ℕ) (limits : Limits) (framing : F) (old new : GuestTable T F)
+    (xs ys went mid left : List (Guest T)) (a b : Option (DoorLog T)) (e f r : Bool) → (let it : GuestTable T F = record { guests = xs; next = next; limits = limits; framing = framing } in it) ≡ old → ys ≡ xs
+    → EachGoesOn remaining written calls (tells framing) limits.bytes now e ys went → r ≡ (e && f) → left ≡ filter (λ g. not (is_stage_over g.stage)) mid → mid ≡ went
     → LetsIn now f (record { guests = left; next = next; limits = limits; framing = framing }) new a b → Turns remaining written calls tells now r old new a b
 turned {T} {F} remaining written calls tells now next limits framing old new xs ys went mid left a b e f r is same on both leave back let_in =
-    subst (λ (o : Table T F). Turns remaining written calls tells now r o new a b) is record {
+    subst (λ (o : GuestTable T F). Turns remaining written calls tells now r o new a b) is record {
       went = went;
       on = subst (λ x. EachGoesOn remaining written calls (tells framing) limits.bytes now x xs went) (sym both)
           (each_less remaining written calls (tells framing) limits.bytes now e f xs went (subst (λ l. EachGoesOn remaining written calls (tells framing) limits.bytes now e l went) same on));
-      arrivals = lets_less now _ _ a b r f (λ wanting. both ∙ ap (λ x. e && x) wanting ∙ and_false e) (subst (λ l. LetsIn now f (record { guests = l; next = next; limits = limits; framing = framing }) new a b) (leave ∙ ap (filter (λ g. not (is_over g.stage))) back) let_in);
+      arrivals = lets_less now _ _ a b r f (λ wanting. both ∙ ap (λ x. e && x) wanting ∙ and_false e) (subst (λ l. LetsIn now f (record { guests = l; next = next; limits = limits; framing = framing }) new a b) (leave ∙ ap (filter (λ g. not (is_stage_over g.stage))) back) let_in);
     }

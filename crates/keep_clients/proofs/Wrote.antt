@@ -5,7 +5,7 @@ use Rattle.std.specs.Io.KnownBytes.{Appends, Consumes, IsAtEnd, Keeps}
 use Rattle.keep_clients.specs.Guests.{count}
 use Rattle.keep_clients.specs.declared.guest.Guest.{Guest}
 use Rattle.keep_clients.specs.declared.stage.Stage.{Stage}
-use Rattle.keep_device.specs.Tries.{IfDone, MatchTried}
+use Rattle.keep_device.specs.Tries.{IfTryDone, MatchTried}
 use Rattle.keep_device.specs.declared.tried.Tried.{Tried}
 use Rattle.keep_device.specs.declared.tried.Tried.TheVariants.{Done, Waits, Failed}
 
@@ -16,7 +16,7 @@ front_of n m xs le = take-take n m xs le
 front_long : {X : Type 0} (m : ℕ) (xs : List X) → (length (take m xs) ≤ m) × (length (take m xs) ≤ length xs)
 front_long m xs = let long = length-take m xs in (omega arith, omega arith)
 
-pub within : (tried : Tried) (left piece : List ℕ) → piece ≡ take 4096 left → IfDone tried (λ n. (n ≤ length piece) × (0 < length piece → 0 < n)) → (count tried ≤ 4096) × (count tried ≤ length left)
+pub within : (tried : Tried) (left piece : List ℕ) → piece ≡ take 4096 left → IfTryDone tried (λ n. (n ≤ length piece) × (0 < length piece → 0 < n)) → (count tried ≤ 4096) × (count tried ≤ length left)
 within (Done n) left piece is bound =
     let long = front_long 4096 left in
     let few : n ≤ length (take 4096 left) = subst (λ p. n ≤ length p) is bound.0 in
@@ -44,7 +44,7 @@ made {T} old talk s t m n v w stages moments waiting =
     ∙ ap (λ (x : Bool). let it : Guest T = record { id = old.id; talk = talk; stage = t; by = old.by; moved = n; waits = x } in it) waiting
 
 -- what has come of a read
-pub counted : (tried : Tried) (room : List ℕ) → IfDone tried (λ n. n ≤ length room) → length (take (count tried) room) ≡ count tried
+pub counted : (tried : Tried) (room : List ℕ) → IfTryDone tried (λ n. n ≤ length room) → length (take (count tried) room) ≡ count tried
 counted (Done n) room bound = let long = length-take n room in length-take-le n room bound
 counted Waits room bound = refl
 counted Failed room bound = refl
@@ -56,7 +56,7 @@ consumed (Done n) room before after some h = (h.0, λ z. h.1 z some)
 consumed Waits room before after some h = h
 consumed Failed room before after some h = h
 
-pub within_room : (tried : Tried) (room : List ℕ) → IfDone tried (λ n. n ≤ length room) → count tried ≤ length room
+pub within_room : (tried : Tried) (room : List ℕ) → IfTryDone tried (λ n. n ≤ length room) → count tried ≤ length room
 within_room (Done n) room bound = bound
 within_room Waits room bound = omega arith
 within_room Failed room bound = omega arith

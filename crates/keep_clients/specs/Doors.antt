@@ -3,20 +3,20 @@
 use Rattle.std.specs.Prelude.{◌≡◌, ℕ, ◌+◌, List, [], ◌∷◌, ◌++◌, Option, Some, None}
 
 -- how often it was asked for a connection, and those that it gave, the first of them first
-pub record Log (T : Type 0) : Type 0 where
+pub record DoorLog (T : Type 0) : Type 0 where
   pub asks : ℕ
   pub given : List T
 
 -- what was given, as a list
-abbrev pub listed : {T : Type 0} → Option T → List T
-listed None = []
-listed (Some t) = t ∷ []
+abbrev pub list_of_given : {T : Type 0} → Option T → List T
+list_of_given None = []
+list_of_given (Some t) = t ∷ []
 
 -- it was asked so often, and gave these
-abbrev pub AskedFor : {T : Type 0} → Option (Log T) → Option (Log T) → ℕ → List T → Type 0
+abbrev pub AskedFor : {T : Type 0} → Option (DoorLog T) → Option (DoorLog T) → ℕ → List T → Type 0
 AskedFor None new asks given = Unit {0}
 AskedFor (Some old) new asks given = new ≡ Some (record { asks = old.asks + asks; given = old.given ++ given })
 
 -- it was asked once, and gave this
-abbrev pub Asked : {T : Type 0} → Option (Log T) → Option (Log T) → Option T → Type 0
-Asked old new result = AskedFor old new 1 (listed result)
+abbrev pub AskedOnce : {T : Type 0} → Option (DoorLog T) → Option (DoorLog T) → Option T → Type 0
+AskedOnce old new result = AskedFor old new 1 (list_of_given result)

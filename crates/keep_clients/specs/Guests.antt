@@ -14,21 +14,21 @@ use Rattle.keep_clients.specs.declared.stage.Stage.TheVariants.{Reading, Asked, 
 use Rattle.keep_clients.specs.declared.talk.Call.{Call}
 use Rattle.keep_clients.specs.declared.talk.Call.TheVariants.{Gave, Got}
 
-abbrev pub is_over : Stage → Bool
-is_over (Reading bytes) = false
-is_over (Asked bytes) = false
-is_over Waiting = false
-is_over (Answering left) = false
-is_over (Following left) = false
-is_over Over = true
+abbrev pub is_stage_over : Stage → Bool
+is_stage_over (Reading bytes) = false
+is_stage_over (Asked bytes) = false
+is_stage_over Waiting = false
+is_stage_over (Answering left) = false
+is_stage_over (Following left) = false
+is_stage_over Over = true
 
-abbrev pub is_asked : Stage → Bool
-is_asked (Reading bytes) = false
-is_asked (Asked bytes) = true
-is_asked Waiting = false
-is_asked (Answering left) = false
-is_asked (Following left) = false
-is_asked Over = false
+abbrev pub is_stage_asked : Stage → Bool
+is_stage_asked (Reading bytes) = false
+is_stage_asked (Asked bytes) = true
+is_stage_asked Waiting = false
+is_stage_asked (Answering left) = false
+is_stage_asked (Following left) = false
+is_stage_asked Over = false
 
 -- its request, where nobody has taken it yet
 abbrev pub asked_bytes : Stage → Option (List ℕ)
@@ -48,13 +48,13 @@ is_waiting (Following left) = false
 is_waiting Over = false
 
 -- it has to be read or written by a moment
-abbrev pub is_busy : Stage → Bool
-is_busy (Reading bytes) = true
-is_busy (Asked bytes) = false
-is_busy Waiting = false
-is_busy (Answering left) = true
-is_busy (Following left) = false
-is_busy Over = false
+abbrev pub is_stage_busy : Stage → Bool
+is_stage_busy (Reading bytes) = true
+is_stage_busy (Asked bytes) = false
+is_stage_busy Waiting = false
+is_stage_busy (Answering left) = true
+is_stage_busy (Following left) = false
+is_stage_busy Over = false
 
 -- its answer goes on
 abbrev pub is_following : Stage → Bool
@@ -88,13 +88,13 @@ read_to Waits whole most bytes = Reading bytes
 read_to Failed whole most bytes = Over
 
 -- with this left, by a write
-abbrev pub left_to : List ℕ → Stage
-left_to [] = Over
-left_to (b ∷ bs) = Answering (b ∷ bs)
+abbrev pub answering_rest : List ℕ → Stage
+answering_rest [] = Over
+answering_rest (b ∷ bs) = Answering (b ∷ bs)
 
 abbrev pub written_to : Tried → List ℕ → Stage
-written_to (Done n) left = left_to left
-written_to Waits left = left_to left
+written_to (Done n) left = answering_rest left
+written_to Waits left = answering_rest left
 written_to Failed left = Over
 
 -- with this left of what it was given so far, by a write; more may be given
@@ -131,7 +131,7 @@ newcomer now id talk = record { id = id; talk = talk; stage = Reading []; by = b
 
 -- one call more may come to something, although nobody told of it: the last one did, or there was none yet
 abbrev pub can_go_on : {T : Type 0} → Guest T → Bool
-can_go_on g = (is_busy g.stage || is_following g.stage) && not g.waits
+can_go_on g = (is_stage_busy g.stage || is_following g.stage) && not g.waits
 
 module _ {T : Type 0} (remaining written : T → Option (List ℕ)) (calls : T → Option (List Call)) where
   -- it is read once: all that comes is kept, and handed on where it is told whole
@@ -148,7 +148,7 @@ module _ {T : Type 0} (remaining written : T → Option (List ℕ)) (calls : T �
     pub same : new ≡ record old { talk = new.talk; stage = in_time now old.by (read_to tried whole most (bytes ++ came)); moved = moved_by tried now old.moved; waits = has_waited tried }
 
   -- it is written to once: the front of what is left of its answer, and nothing else
-  pub record IsWritten (now : ℕ) (tried : Tried) (stage : Stage) (left : List ℕ) (old new : Guest T) : Type 0 where
+  pub record GuestIsWrittenTo (now : ℕ) (tried : Tried) (stage : Stage) (left : List ℕ) (old new : Guest T) : Type 0 where
     pub logged : Logs (calls old.talk) (calls new.talk) (Gave tried)
     pub unread : Keeps (remaining old.talk) (remaining new.talk)
     pub few : count tried ≤ 4096
@@ -156,7 +156,7 @@ module _ {T : Type 0} (remaining written : T → Option (List ℕ)) (calls : T �
     pub same : new ≡ record old { talk = new.talk; stage = stage; moved = moved_by tried now old.moved; waits = has_waited tried }
 
   abbrev pub IsWrittenOn : ℕ → List ℕ → Guest T → Guest T → Type 0
-  IsWrittenOn now left old new = (tried : Tried) × IsWritten now tried (in_time now old.by (written_to tried (drop (count tried) left))) left old new
+  IsWrittenOn now left old new = (tried : Tried) × GuestIsWrittenTo now tried (in_time now old.by (written_to tried (drop (count tried) left))) left old new
 
   -- it is read once, to see whether it has gone: nothing of that is kept
   pub record IsListenedTo (old new : Guest T) : Type 0 where
@@ -168,7 +168,7 @@ module _ {T : Type 0} (remaining written : T → Option (List ℕ)) (calls : T �
   -- its answer goes on: it is written to as long as anything is left of what it was given, and else it is read
   abbrev pub IsToldOn : ℕ → List ℕ → Guest T → Guest T → Type 0
   IsToldOn now [] old new = IsListenedTo old new
-  IsToldOn now (b ∷ bs) old new = (tried : Tried) × IsWritten now tried (told_to tried (drop (count tried) (b ∷ bs))) (b ∷ bs) old new
+  IsToldOn now (b ∷ bs) old new = (tried : Tried) × GuestIsWrittenTo now tried (told_to tried (drop (count tried) (b ∷ bs))) (b ∷ bs) old new
 
   -- it goes on by one call at most
   abbrev pub GoesOnFrom : (List ℕ → Bool → Type 0) → ℕ → ℕ → Stage → Guest T → Guest T → Type 0
@@ -179,11 +179,11 @@ module _ {T : Type 0} (remaining written : T → Option (List ℕ)) (calls : T �
   GoesOnFrom tells most now (Following left) old new = IsToldOn now left old new
   GoesOnFrom tells most now Over old new = new ≡ old
 
-  abbrev pub GoesOn : (List ℕ → Bool → Type 0) → ℕ → ℕ → Guest T → Guest T → Type 0
-  GoesOn tells most now old new = GoesOnFrom tells most now old.stage old new
+  abbrev pub GuestGoesOn : (List ℕ → Bool → Type 0) → ℕ → ℕ → Guest T → Guest T → Type 0
+  GuestGoesOn tells most now old new = GoesOnFrom tells most now old.stage old new
 
 -- it is lost for lack of memory, after one read: it was told nothing
-pub record IsLost {T : Type 0} (written : T → Option (List ℕ)) (calls : T → Option (List Call)) (old new : Guest T) : Type 0 where
+pub record GuestIsLost {T : Type 0} (written : T → Option (List ℕ)) (calls : T → Option (List Call)) (old new : Guest T) : Type 0 where
   pub tried : Tried
   pub logged : Logs (calls old.talk) (calls new.talk) (Got tried)
   pub silent : Keeps (written old.talk) (written new.talk)
@@ -211,5 +211,5 @@ IsFedFrom (Answering left) piece fed old new = (fed ≡ Ok Gone) × (new ≡ old
 IsFedFrom (Following left) piece fed old new = FeedsOn piece left fed old new
 IsFedFrom Over piece fed old new = (fed ≡ Ok Gone) × (new ≡ old)
 
-abbrev pub IsFed : {T E : Type 0} → List ℕ → Result Fed E → Guest T → Guest T → Type 0
-IsFed piece fed old new = IsFedFrom old.stage piece fed old new
+abbrev pub GuestIsFed : {T E : Type 0} → List ℕ → Result Fed E → Guest T → Guest T → Type 0
+GuestIsFed piece fed old new = IsFedFrom old.stage piece fed old new

@@ -1,8 +1,8 @@
 //! The table of guests.
 ghost use Rattle.std.specs.Prelude.{◌≡◌, ◌<◌, ◌&&◌, [], IfSome, filter, length, not, option_map};
 ghost use Rattle.std.specs.List.{list_any, position};
-ghost use Rattle.keep_clients.specs.Guests.{can_go_on, is_asked, is_over};
-ghost use Rattle.keep_clients.specs.Tables.{Answers, AnswersFirst, EachGoesOn, Feeds, Follows, LetsIn, LetsOneIn, Takes, Turns, first_asked, follows_as, waits_as};
+ghost use Rattle.keep_clients.specs.Guests.{can_go_on, is_stage_asked, is_stage_over};
+ghost use Rattle.keep_clients.specs.Tables.{AnswersFirst, AnswersGuest, EachGoesOn, Feeds, GuestFollows, LetsIn, LetsOneIn, TakesRequest, Turns, first_asked, follows_as, waits_as};
 
 use crate::door::Door;
 use crate::fed::Fed;
@@ -45,9 +45,9 @@ pub struct Clients<T, F> {
 }
 
 impl<T, F> Model for Clients<T, F> {
-    ghost use Rattle.keep_clients.specs.Tables.{Table};
+    ghost use Rattle.keep_clients.specs.Tables.{GuestTable};
 
-    ghost Value = { Table T F };
+    ghost Value = { GuestTable T F };
 
     ghost view = { λ c. record { guests = c.guests.items; next = c.next; limits = c.limits; framing = c.framing } };
 }
@@ -119,7 +119,7 @@ impl<T: Talk, F: Framing + Drop> Clients<T, F> {
 
     /// The first request that nobody has taken yet, if there is one. Its guest waits for an answer then.
     pub fn take_request(&mut self) -> Option<Request>
-        ensures { Takes self.old result self.new }
+        ensures { TakesRequest self.old result self.new }
     {
         match place_asked(&self.guests) {
             Some(place) => self.guests[place].take_request(),
@@ -154,7 +154,7 @@ impl<T: Talk, F: Framing + Drop> Clients<T, F> {
     /// Gives the guest that waits under that number its answer: it is written, and then its connection is closed. It says
     /// whether there is one. It takes no memory.
     pub fn answer(&mut self, id: u64, answer: Vec<u8>, now: u64) -> bool
-        ensures { Answers id now answer.items result self.old self.new }
+        ensures { AnswersGuest id now answer.items result self.old self.new }
     {
         match place_of(&self.guests, id) {
             Some(place) => {
@@ -168,7 +168,7 @@ impl<T: Talk, F: Framing + Drop> Clients<T, F> {
     /// Gives the guest that waits under that number the first of an answer that goes on: [`Clients::feed`] gives it more, as it
     /// comes, and it has all the time to read it. It says whether there is one. It takes no memory.
     pub fn follow(&mut self, id: u64, answer: Vec<u8>) -> bool
-        ensures { Follows id answer.items result self.old self.new }
+        ensures { GuestFollows id answer.items result self.old self.new }
     {
         match place_of(&self.guests, id) {
             Some(place) => {
@@ -201,7 +201,7 @@ impl<T: Talk, F: Framing + Drop> Clients<T, F> {
 
 /// The place of the first whose request nobody has taken yet.
 fn place_asked<T>(guests: &[Guest<T>]) -> Option<usize>
-    ensures place { result ≡ position (λ g. is_asked g.stage) guests.now }
+    ensures place { result ≡ position (λ g. is_stage_asked g.stage) guests.now }
     ensures within { IfSome result (λ i. i < length guests.now) }
 {
     guests.iter().position(|guest| guest.stage.is_asked())
@@ -249,7 +249,7 @@ fn go_on_all<T: Talk, F: Framing>(
 
 /// Those that are over leave.
 fn drop_over<T: Drop>(guests: &mut Vec<Guest<T>>)
-    ensures { guests.new.items ≡ filter (λ g. not (is_over g.stage)) guests.old.items }
+    ensures { guests.new.items ≡ filter (λ g. not (is_stage_over g.stage)) guests.old.items }
 {
     guests.retain(|guest| !guest.stage.is_over());
 }

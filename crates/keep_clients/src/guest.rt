@@ -1,7 +1,7 @@
 //! One guest, and what it becomes by one call of its connection.
 ghost use Rattle.std.specs.Prelude.{◌≡◌, ◌++◌, ◌<◌, ◌≤◌, [], OnErr, OnOk, drop, length, take, vec_len};
-ghost use Rattle.keep_clients.specs.Guests.{AddsFront, FeedsOn, GoesOn, IsFed, IsListenedTo, IsLost, IsReadOn, IsToldOn, IsWritten, IsWrittenOn, can_go_on, count, newcomer};
-ghost use Rattle.keep_clients.specs.Tables.{TakesFrom, answered, following};
+ghost use Rattle.keep_clients.specs.Guests.{AddsFront, FeedsOn, GuestGoesOn, GuestIsFed, GuestIsLost, GuestIsWrittenTo, IsListenedTo, IsReadOn, IsToldOn, IsWrittenOn, can_go_on, count, newcomer};
+ghost use Rattle.keep_clients.specs.Tables.{TakesFrom, following, guest_answered};
 ghost use Rattle.keep_clients.specs.declared.stage.Stage.TheVariants.{Over};
 
 use crate::clients::Request;
@@ -60,7 +60,7 @@ impl<T> Guest<T> {
 
     /// Is given its answer.
     pub(crate) fn set_answer(&mut self, answer: Vec<u8>, now: u64)
-        ensures { self.new ≡ answered now answer.items self.old }
+        ensures { self.new ≡ guest_answered now answer.items self.old }
     {
         self.stage = Stage::Answering(Text::from_vec(answer));
         self.by = now.saturating_add(PATIENCE);
@@ -79,7 +79,7 @@ impl<T> Guest<T> {
     /// Is given of these bytes what one call writes, where its answer goes on and all that it was given so far is written. The
     /// only error is out of memory.
     pub(crate) fn feed(&mut self, bytes: &[u8]) -> Result<Fed, AllocError>
-        ensures { IsFed bytes.now result self.old self.new }
+        ensures { GuestIsFed bytes.now result self.old self.new }
     {
         match mem::replace(&mut self.stage, Stage::Waiting) {
             Stage::Following(left) => self.feed_on(left.into_vec(), bytes),
@@ -119,8 +119,8 @@ impl<T: Talk> Guest<T> {
     ) -> Result<(), AllocError>
         requires room { length room.old ≡ 4096 }
         ensures room { length room.new ≡ 4096 }
-        ensures on { OnOk result (GoesOn T.remaining T.written T.calls (F.tells framing.now) most now self.old self.new) }
-        ensures lost { OnErr result (IsLost T.written T.calls self.old self.new) }
+        ensures on { OnOk result (GuestGoesOn T.remaining T.written T.calls (F.tells framing.now) most now self.old self.new) }
+        ensures lost { OnErr result (GuestIsLost T.written T.calls self.old self.new) }
     {
         match mem::replace(&mut self.stage, Stage::Over) {
             Stage::Reading(bytes) => self.read_on(room, framing, most, bytes.into_vec(), now),
@@ -152,7 +152,7 @@ impl<T: Talk> Guest<T> {
         requires over { self.old.stage ≡ Over }
         ensures room { length room.new ≡ 4096 }
         ensures on { OnOk result (IsReadOn T.remaining T.written T.calls (F.tells framing.now) most now bytes.items self.old self.new) }
-        ensures lost { OnErr result (IsLost T.written T.calls self.old self.new) }
+        ensures lost { OnErr result (GuestIsLost T.written T.calls self.old self.new) }
     {
         let tried = self.talk.get(room);
         let came = count(tried);
@@ -200,7 +200,7 @@ impl<T: Talk> Guest<T> {
     /// Writes once, and takes what was written off the front of what is left.
     fn write(&mut self, left: &mut Vec<u8>, now: u64) -> Tried
         ensures rest { left.new.items ≡ drop (count result) left.old.items }
-        ensures written { IsWritten T.remaining T.written T.calls now result self.old.stage left.old.items self.old self.new }
+        ensures written { GuestIsWrittenTo T.remaining T.written T.calls now result self.old.stage left.old.items self.old self.new }
     {
         let tried = self.talk.give(piece(left));
         drop_front(left, count(tried));

@@ -1,6 +1,6 @@
 //! How far a guest has come, as a value.
 ghost use Rattle.std.specs.Prelude.{◌≡◌, option_map};
-ghost use Rattle.keep_clients.specs.Guests.{asked_bytes, count, has_waited, heard_to, in_time, is_asked, is_busy, is_following, is_over, is_waiting, moved_by, read_to, told_to, written_to};
+ghost use Rattle.keep_clients.specs.Guests.{asked_bytes, count, has_waited, heard_to, in_time, is_following, is_stage_asked, is_stage_busy, is_stage_over, is_waiting, moved_by, read_to, told_to, written_to};
 
 use keep_device::Tried;
 use keep_moment::Text;
@@ -25,7 +25,7 @@ pub enum Stage {
 impl Stage {
     /// Whether its connection is to be closed.
     pub(crate) fn is_over(&self) -> bool
-        ensures { result ≡ is_over self.now }
+        ensures { result ≡ is_stage_over self.now }
     {
         match self {
             Stage::Over => true,
@@ -39,7 +39,7 @@ impl Stage {
 
     /// Whether there is a request that nobody has taken yet.
     pub(crate) fn is_asked(&self) -> bool
-        ensures { result ≡ is_asked self.now }
+        ensures { result ≡ is_stage_asked self.now }
     {
         match self {
             Stage::Asked(_) => true,
@@ -81,7 +81,7 @@ impl Stage {
 
     /// Whether it has to be read or written by a moment.
     pub(crate) fn is_busy(&self) -> bool
-        ensures { result ≡ is_busy self.now }
+        ensures { result ≡ is_stage_busy self.now }
     {
         match self {
             Stage::Reading(_) | Stage::Answering(_) => true,

@@ -1,6 +1,6 @@
 ghost use Rattle.std.specs.Prelude.{◌≡◌, ℕ, ◌<◌, ◌≤◌, List, length, take, Option, None};
 ghost use Rattle.std.specs.Io.KnownBytes.{Appends, Consumes, IsAtEnd, Keeps};
-ghost use Rattle.keep_device.specs.Tries.{IfDone, MatchTried};
+ghost use Rattle.keep_device.specs.Tries.{IfTryDone, MatchTried};
 ghost use Rattle.keep_clients.specs.Calls.{Logs};
 ghost use Rattle.keep_clients.specs.declared.talk.Call.{Call};
 ghost use Rattle.keep_clients.specs.declared.talk.Call.TheVariants.{Gave, Got};
@@ -31,7 +31,7 @@ pub trait Talk: Drop {
 
     /// Reads some bytes into the front of `buf`, none only at the end of the input or where `buf` is empty.
     fn get(&mut self, buf: &mut [u8]) -> Tried
-        ensures bound { IfDone result (λ n. n ≤ length buf.new) }
+        ensures bound { IfTryDone result (λ n. n ≤ length buf.new) }
         ensures room { length buf.new ≡ length buf.old }
         ensures bytes { MatchTried result
             (λ n. Consumes (Self.remaining self.old) (Self.remaining self.new) (take n buf.new)
@@ -42,7 +42,7 @@ pub trait Talk: Drop {
 
     /// Takes some bytes from the front of `piece`, at least one where there is one.
     fn give(&mut self, piece: &[u8]) -> Tried
-        ensures bound { IfDone result (λ n. (n ≤ length piece.now) × (0 < length piece.now → 0 < n)) }
+        ensures bound { IfTryDone result (λ n. (n ≤ length piece.now) × (0 < length piece.now → 0 < n)) }
         ensures bytes { MatchTried result (λ n. Appends (Self.written self.old) (Self.written self.new) (take n piece.now))
             (Keeps (Self.written self.old) (Self.written self.new)) }
         ensures remaining { Keeps (Self.remaining self.old) (Self.remaining self.new) }

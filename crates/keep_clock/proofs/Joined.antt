@@ -1,7 +1,7 @@
 -- Calls that follow each other.
 use Rattle.std.proofs.Common.{◌≡◌, ◌∙◌, List, [], ◌++◌, Option, None, Some, IfSome, ap, append_assoc, append-nil, refl, subst, sym}
 use Rattle.keep_clock.specs.Laws.{JoinedLaw, NoneLaw}
-use Rattle.keep_clock.specs.Seen.{AllMade, Seen}
+use Rattle.keep_clock.specs.Seen.{AllMade, ClockSeen}
 use Rattle.keep_clock.specs.declared.call.Call.{Call}
 
 -- these are known, and are others and then `more`

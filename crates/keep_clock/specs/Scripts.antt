@@ -2,13 +2,13 @@
 -- Source: this project's own.
 use Rattle.std.specs.Prelude.{ℕ, Bool, false, List, [], ◌∷◌, ◌++◌, length, nat_lt, if◌then◌else◌, Option, Some, None}
 use Rattle.keep_device.specs.Failures.{one_more}
-use Rattle.keep_clock.specs.Seen.{Seen, read_call}
+use Rattle.keep_clock.specs.Seen.{ClockSeen, read_call}
 use Rattle.keep_clock.specs.declared.call.Call.{Call}
 use Rattle.keep_clock.specs.declared.reading.Reading.{Reading}
 
 -- the readings to come, none for one that fails; the calls that are kept, and for how many there is room; whether all that were
 -- made are kept; and how many failed
-pub record Script : Type 0 where
+pub record ClockScript : Type 0 where
   pub to_come : List (Option Reading)
   pub calls : List Call
   pub room : ℕ
@@ -29,18 +29,18 @@ failures_after None n = one_more n
 failures_after (Some reading) n = n
 
 -- a call is kept, where there is room for it
-abbrev pub with_call : Call → Script → Script
+abbrev pub with_call : Call → ClockScript → ClockScript
 with_call call s =
     if nat_lt (length s.calls) s.room then record s { calls = s.calls ++ call ∷ [] } else record s { is_whole = false }
 
 -- after a reading of both clocks
-abbrev pub after_read : Script → Script
+abbrev pub after_read : ClockScript → ClockScript
 after_read s =
     with_call (read_call (next_reading s.to_come)) (record s { to_come = rest_of s.to_come; failures = failures_after (next_reading s.to_come) s.failures })
 
 -- the calls, where all of them are kept
-abbrev pub known : Script → Option (List Call)
-known s = if s.is_whole then Some s.calls else None
+abbrev pub known_calls : ClockScript → Option (List Call)
+known_calls s = if s.is_whole then Some s.calls else None
 
-abbrev pub seen_of : Script → Seen
-seen_of s = record { calls = known s; failed_calls = s.failures }
+abbrev pub seen_of : ClockScript → ClockSeen
+seen_of s = record { calls = known_calls s; failed_calls = s.failures }

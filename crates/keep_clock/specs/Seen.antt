@@ -6,17 +6,17 @@ use Rattle.keep_clock.specs.declared.call.Call.TheVariants as calls
 use Rattle.keep_clock.specs.declared.reading.Reading.{Reading}
 
 -- what was asked of it from the first call on, where that is known; and how many of its calls failed, up to the greatest `u64`
-pub record Seen : Type 0 where
+pub record ClockSeen : Type 0 where
   pub calls : Option (List Call)
   pub failed_calls : ℕ
 
 -- these calls were made and no others, in this order: what is known of the calls now was known before, and these are more
-abbrev pub AllMade : List Call → Seen → Seen → Type 0
+abbrev pub AllMade : List Call → ClockSeen → ClockSeen → Type 0
 AllMade more old new = IfSome new.calls (λ cs. (before : List Call) × (old.calls ≡ Some before) × (cs ≡ before ++ more))
 
 -- one call was made, and this one
-abbrev pub Made : Call → Seen → Seen → Type 0
-Made call old new = AllMade (call ∷ []) old new
+abbrev pub CallIsMade : Call → ClockSeen → ClockSeen → Type 0
+CallIsMade call old new = AllMade (call ∷ []) old new
 
 -- the call that reads both clocks, by what it told, if it told anything
 abbrev pub read_call : Option Reading → Call
@@ -24,5 +24,5 @@ read_call None = calls.Unread
 read_call (Some reading) = calls.Read reading.wall reading.elapsed
 
 -- a clock outside: only the count of its failures is known
-abbrev pub outside : ℕ → Seen
-outside failures = record { calls = None; failed_calls = failures }
+abbrev pub outside_clock : ℕ → ClockSeen
+outside_clock failures = record { calls = None; failed_calls = failures }

@@ -1,7 +1,7 @@
 ghost use Rattle.std.specs.Prelude.{◌≡◌};
 ghost use Rattle.std.specs.Result.{result_ok};
 ghost use Rattle.keep_device.specs.Failures.{CountsRead};
-ghost use Rattle.keep_clock.specs.Seen.{Made, Seen, read_call};
+ghost use Rattle.keep_clock.specs.Seen.{CallIsMade, ClockSeen, read_call};
 ghost use Rattle.keep_clock.specs.declared.call.Call.TheVariants.{Wait};
 
 use crate::reading::Reading;
@@ -13,7 +13,7 @@ use keep_device::Failed;
 /// the broker, a client, an onlooker. So a turn of the agent has one wait, whoever it is for.
 pub trait Clock {
     /// What was asked of it, where it is known, and the number of its calls that failed, up to the greatest `u64`.
-    ghost seen: { Self → Seen };
+    ghost seen: { Self → ClockSeen };
 
     /// The number of calls that answered that they failed. At 18446744073709551615 the count stays.
     fn failures(&self) -> u64
@@ -21,12 +21,12 @@ pub trait Clock {
 
     /// Reads both clocks.
     fn read(&mut self) -> Result<Reading, Failed>
-        ensures made { Made (read_call (result_ok result)) (Self.seen self.old) (Self.seen self.new) }
+        ensures made { CallIsMade (read_call (result_ok result)) (Self.seen self.old) (Self.seen self.new) }
         ensures count { CountsRead result (Self.seen self.old).failed_calls (Self.seen self.new).failed_calls };
 
     /// Waits until a neighbour can go on, so many milliseconds at most. A suspension of the machine does not count.
     fn wait(&mut self, millis: u64)
-        ensures made { Made (Wait millis) (Self.seen self.old) (Self.seen self.new) }
+        ensures made { CallIsMade (Wait millis) (Self.seen self.old) (Self.seen self.new) }
         ensures count { (Self.seen self.new).failed_calls ≡ (Self.seen self.old).failed_calls };
 
     /// Whether the last wait may have ended for the neighbour with this number. Where it says no, the neighbour still waits for

@@ -2,7 +2,7 @@ ghost use Rattle.std.specs.Prelude.{◌≡◌, [], IfOk, length, true};
 ghost use Rattle.keep_device.specs.Failures.{CountsRead};
 ghost use Rattle.std.specs.Result.{result_ok};
 ghost use Rattle.keep_clock.specs.Scripts.{after_read, next_reading, rest_of, seen_of, with_call};
-ghost use Rattle.keep_clock.specs.Seen.{Made, read_call};
+ghost use Rattle.keep_clock.specs.Seen.{CallIsMade, read_call};
 ghost use Rattle.keep_clock.specs.declared.call.Call.TheVariants.{Wait};
 
 use crate::call::Call;
@@ -26,9 +26,9 @@ pub struct MemoryClock {
 
 impl Model for MemoryClock {
     ghost use Rattle.std.specs.Prelude.{◌≤◌, drop, vec_capacity, vec_len};
-    ghost use Rattle.keep_clock.specs.Scripts.{Script};
+    ghost use Rattle.keep_clock.specs.Scripts.{ClockScript};
 
-    ghost Value = { Script };
+    ghost Value = { ClockScript };
 
     ghost view = { λ c. record { to_come = drop c.next c.readings.items; calls = c.calls.items; room = c.room; is_whole = c.is_whole; failures = c.failures } };
 
@@ -102,7 +102,7 @@ impl Clock for MemoryClock {
     }
 
     fn read(&mut self) -> Result<Reading, Failed>
-        ensures made { Made (read_call (result_ok result)) (seen_of self.old) (seen_of self.new) }
+        ensures made { CallIsMade (read_call (result_ok result)) (seen_of self.old) (seen_of self.new) }
         ensures count { CountsRead result self.old.failures self.new.failures }
 
         // What it reads, and what comes of it.
@@ -123,7 +123,7 @@ impl Clock for MemoryClock {
     }
 
     fn wait(&mut self, millis: u64)
-        ensures made { Made (Wait millis) (seen_of self.old) (seen_of self.new) }
+        ensures made { CallIsMade (Wait millis) (seen_of self.old) (seen_of self.new) }
         ensures count { self.new.failures ≡ self.old.failures }
         ensures script { self.new ≡ with_call (Wait millis) self.old }
     {

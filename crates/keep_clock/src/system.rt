@@ -1,6 +1,6 @@
 //! The clocks of the system, and its wait, by `mio`.
 ghost use Rattle.std.specs.Prelude.{◌≡◌, IfOk};
-ghost use Rattle.keep_clock.specs.Seen.{outside};
+ghost use Rattle.keep_clock.specs.Seen.{outside_clock};
 
 use crate::clock::Clock;
 use crate::reading::Reading;
@@ -35,7 +35,7 @@ pub struct SystemClock<'a, R> {
 impl<'a, R: Net + std::time::Clock> SystemClock<'a, R> {
     /// The clocks of the system. The only error is out of memory.
     pub fn new(alloc: Global, rt: &'a R) -> Result<SystemClock<'a, R>, AllocError>
-        ensures { IfOk result (λ clock. ⟦<SystemClock<'a, R> as Clock>⟧.seen clock ≡ outside 0) }
+        ensures { IfOk result (λ clock. ⟦<SystemClock<'a, R> as Clock>⟧.seen clock ≡ outside_clock 0) }
     {
         Ok(SystemClock {
             rt,
@@ -81,7 +81,7 @@ fn boottime() -> Option<u64> {
 }
 
 impl<'a, R: Net + std::time::Clock> Clock for SystemClock<'a, R> {
-    ghost seen = { λ c. outside c.failures };
+    ghost seen = { λ c. outside_clock c.failures };
 
     fn failures(&self) -> u64 {
         self.failures

@@ -3,7 +3,7 @@ use Rattle.std.proofs.Common.{◌≡◌, ◌∙◌, ℕ, suc, ◌+◌, ◌<◌, 
 use Rattle.keep_device.specs.Seen.{Change}
 use Rattle.keep_tree.specs.Forest.{Forest}
 use Rattle.keep_inventory.specs.declared.note.Note.{Note}
-use Rattle.keep_inventory.specs.Served.{IsServed, Served, first_untold}
+use Rattle.keep_inventory.specs.Served.{IsServedInventory, Served, first_untold}
 use Rattle.keep_command.specs.Advice.{Advises, open_line, open_line_of}
 
 untold_if : (b : Bool) (from : ℕ) (notes : List Note) (index : ℕ) → (first_untold (from + 1) notes ≡ Some index → index < (from + 1) + length notes) →
@@ -20,7 +20,7 @@ pub found : (v : Served) (answer : Option ℕ) (notes : List Note) (index : ℕ)
 found v answer notes index is of some = ap (λ (ns : List Note). first_untold 0 ns) (sym of) ∙ sym is ∙ some
 
 -- so it is one of the forest's entries
-pub open_within : (v : Served) (forest : Forest) (index : ℕ) → IsServed v → forest ≡ v.inventory.forest → first_untold 0 v.notes ≡ Some index → index < length forest.entries
+pub open_within : (v : Served) (forest : Forest) (index : ℕ) → IsServedInventory v → forest ≡ v.inventory.forest → first_untold 0 v.notes ≡ Some index → index < length forest.entries
 open_within v forest index served is first =
     let below = untold_within 0 v.notes index first in
     let count = served.notes in

@@ -4,7 +4,7 @@ use Rattle.std.proofs.lemmas.List.{get_or_default}
 use Rattle.std.proofs.lemmas.Str.Pattern.{contains_char}
 use Rattle.std.specs.Str.Parse.{IsNumeral, ParsesUnsigned, digits_value, without_leading_plus}
 use Rattle.std.specs.Str.Pattern.{FindsChar}
-use Rattle.keep_command.specs.Places.{IsPath, IsPort}
+use Rattle.keep_command.specs.Places.{IsPath, IsPortFrom}
 
 pub no_path : (word : List ℕ) (has : Bool) → MatchBool has ((i : ℕ) × (j : ℕ) × FindsChar 47 word (Some (i, j)) × (i ≤ j) × (j ≤ length word)) (FindsChar 47 word None) → has ≡ false → IsPath word → ⊥
 no_path word has cases none path =
@@ -15,5 +15,5 @@ no_path word has cases none path =
 unread : {E : Type 0} (least : ℕ) (word : List ℕ) (read : Result ℕ E) (e : E) → ParsesUnsigned 16 10 word read → read ≡ Err e → IsNumeral 10 (without_leading_plus word) × (digits_value 10 (without_leading_plus word) < 2 ^ 16) → ⊥
 unread {E} least word read e parses is = subst (λ (r : Result ℕ E). ParsesUnsigned 16 10 word r) is parses
 
-pub no_port : {E : Type 0} (least : ℕ) (word : List ℕ) (read : Result ℕ E) (e : E) → ParsesUnsigned 16 10 word read → read ≡ Err e → (port : ℕ) → IsPort least word port → ⊥
+pub no_port : {E : Type 0} (least : ℕ) (word : List ℕ) (read : Result ℕ E) (e : E) → ParsesUnsigned 16 10 word read → read ≡ Err e → (port : ℕ) → IsPortFrom least word port → ⊥
 no_port least word read e parses is port said = unread least word read e parses is (said.digits, omega (arith, sym said.number, said.high))

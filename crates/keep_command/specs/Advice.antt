@@ -40,13 +40,13 @@ unread_of kinds.IsADirectory = unread.Folder
 unread_of kinds.NotADirectory = unread.InNoFolder
 unread_of kind = unread.Failed
 
-abbrev pub unread_words : Unread → List ℕ
-unread_words unread.NotFound = codes "No such file or directory"
-unread_words unread.NotAllowed = codes "Permission denied"
-unread_words unread.Folder = codes "Is a directory"
-unread_words unread.InNoFolder = codes "Not a directory"
-unread_words unread.TooLong = codes "it is too long: an inventory has at most 1 MiB, a certificate at most 16 MiB"
-unread_words unread.Failed = codes "it cannot be read"
+abbrev pub unread_reason : Unread → List ℕ
+unread_reason unread.NotFound = codes "No such file or directory"
+unread_reason unread.NotAllowed = codes "Permission denied"
+unread_reason unread.Folder = codes "Is a directory"
+unread_reason unread.InNoFolder = codes "Not a directory"
+unread_reason unread.TooLong = codes "it is too long: an inventory has at most 1 MiB, a certificate at most 16 MiB"
+unread_reason unread.Failed = codes "it cannot be read"
 
 -- what is to be written, of a key that a table of an entry lacks, and of a key whose value is none
 abbrev pub missing_form : Key → Option Form

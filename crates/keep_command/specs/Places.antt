@@ -11,7 +11,7 @@ abbrev pub IsPath : List ℕ → Type 0
 IsPath word = Contains word 47
 
 -- the word is decimal digits, of which a plus may stand in front, and their number is from `least` to 65535
-pub record IsPort (least : ℕ) (word : List ℕ) (port : ℕ) : Type 0 where
+pub record IsPortFrom (least : ℕ) (word : List ℕ) (port : ℕ) : Type 0 where
   pub digits : IsNumeral 10 (without_leading_plus word)
   pub number : port ≡ digits_value 10 (without_leading_plus word)
   pub low : least ≤ port
@@ -20,5 +20,5 @@ pub record IsPort (least : ℕ) (word : List ℕ) (port : ℕ) : Type 0 where
 -- the place that a word says: its path; or its port, where it is no path; and none where it is neither
 abbrev pub ReadsPlace : ℕ → List ℕ → Option Place → Type 0
 ReadsPlace least word (Some (places.Path path)) = IsPath word × (path.now ≡ word)
-ReadsPlace least word (Some (places.Port port)) = (IsPath word → ⊥) × IsPort least word port
-ReadsPlace least word None = (IsPath word → ⊥) × ((port : ℕ) → IsPort least word port → ⊥)
+ReadsPlace least word (Some (places.Port port)) = (IsPath word → ⊥) × IsPortFrom least word port
+ReadsPlace least word None = (IsPath word → ⊥) × ((port : ℕ) → IsPortFrom least word port → ⊥)

@@ -8,7 +8,7 @@ use Rattle.keep_report.specs.declared.exit.Exit.{Exit}
 use Rattle.keep_report.specs.declared.exit.Exit.TheVariants as exits
 use Rattle.keep_report.specs.declared.stop.Stop.TheVariants as stops
 use Rattle.keep_report.specs.FaultLine.{fault_line}
-use Rattle.keep_report.specs.Sent.{IsAll, IsUntouched, Sends}
+use Rattle.keep_report.specs.Sent.{IsAll, IsUntouched, SendsText}
 use Rattle.keep_report.specs.Told.{Reports}
 
 -- the words are there, and nothing is told; or one is not UTF-8, or memory was refused, and the line of that is told
@@ -21,19 +21,19 @@ GivesWords program (Err exit) errors = ⊥
 -- a text that was asked for is written and flushed, and nothing is told; or it was not, and why is told
 abbrev pub SaysAsked : List ℕ → List ℕ → Exit → Change → Change → Type 0
 SaysAsked program text exits.Done out errors = IsAll text out × IsUntouched errors
-SaysAsked program text exits.Device out errors = Sends (Err stops.Write) text out × Reports (fault_line program stops.Write) errors
-SaysAsked program text exits.Memory out errors = Sends (Err stops.Memory) text out × Reports (fault_line program stops.Memory) errors
+SaysAsked program text exits.Device out errors = SendsText (Err stops.Write) text out × Reports (fault_line program stops.Write) errors
+SaysAsked program text exits.Memory out errors = SendsText (Err stops.Memory) text out × Reports (fault_line program stops.Memory) errors
 SaysAsked program text exit out errors = ⊥
 
 -- by what the parser found: the text of help and of the version was asked for, memory was refused, and the text of every other
 -- kind tells a mistake
-abbrev pub Says : List ℕ → ErrorKind → List ℕ → Exit → Change → Change → Type 0
-Says program kinds.DisplayHelp text exit out errors = SaysAsked program text exit out errors
-Says program kinds.DisplayVersion text exit out errors = SaysAsked program text exit out errors
-Says program kinds.OutOfMemory text exit out errors = (exit ≡ exits.Memory) × IsUntouched out × Reports (fault_line program stops.Memory) errors
-Says program kind text exit out errors = (exit ≡ exits.CommandLine) × IsUntouched out × Reports text errors
+abbrev pub SaysWhatWasFound : List ℕ → ErrorKind → List ℕ → Exit → Change → Change → Type 0
+SaysWhatWasFound program kinds.DisplayHelp text exit out errors = SaysAsked program text exit out errors
+SaysWhatWasFound program kinds.DisplayVersion text exit out errors = SaysAsked program text exit out errors
+SaysWhatWasFound program kinds.OutOfMemory text exit out errors = (exit ≡ exits.Memory) × IsUntouched out × Reports (fault_line program stops.Memory) errors
+SaysWhatWasFound program kind text exit out errors = (exit ≡ exits.CommandLine) × IsUntouched out × Reports text errors
 
 -- some text is said; or memory for it was refused, and that is told
-abbrev pub Shows : List ℕ → ErrorKind → Exit → Change → Change → Type 0
-Shows program kind exit out errors =
-    ((text : List ℕ) × Says program kind text exit out errors) ⊎ ((exit ≡ exits.Memory) × IsUntouched out × Reports (fault_line program stops.Memory) errors)
+abbrev pub ShowsRefusal : List ℕ → ErrorKind → Exit → Change → Change → Type 0
+ShowsRefusal program kind exit out errors =
+    ((text : List ℕ) × SaysWhatWasFound program kind text exit out errors) ⊎ ((exit ≡ exits.Memory) × IsUntouched out × Reports (fault_line program stops.Memory) errors)

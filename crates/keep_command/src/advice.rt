@@ -4,7 +4,7 @@ ghost use Rattle.std.specs.Prelude.{◌≡◌, ◌<◌, ◌++◌, codes, length}
 ghost use Rattle.keep_report.specs.Sent.{Puts};
 ghost use Rattle.keep_report.specs.Told.{Reports};
 ghost use Rattle.keep_inventory.specs.Served.{first_untold};
-ghost use Rattle.keep_command.specs.Advice.{Advises, advice_line, before_colon, fault_advice, form_words, key_line, missing_form, open_line, unread_words, value_form};
+ghost use Rattle.keep_command.specs.Advice.{Advises, advice_line, before_colon, fault_advice, form_words, key_line, missing_form, open_line, unread_reason, value_form};
 
 use crate::unread::Unread;
 use keep_device::{Sink, SinkFault, Watched, write_all};
@@ -27,7 +27,7 @@ enum Form {
 
 /// Tells that the file at a path was not read, and why.
 pub fn advise_on_file<E: Sink>(program: &str, path: &str, why: Unread, errors: &mut E)
-    ensures { Reports (advice_line program.now path.now (unread_words why)) (⟦<E as Watched>⟧.change errors.old errors.new) }
+    ensures { Reports (advice_line program.now path.now (unread_reason why)) (⟦<E as Watched>⟧.change errors.old errors.new) }
 {
     tell_line(
         errors,

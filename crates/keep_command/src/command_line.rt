@@ -2,7 +2,7 @@
 ghost use Rattle.std.specs.Prelude.{◌≡◌, IfOk};
 ghost use Rattle.std.specs.Vec.Iter.{into_iter_items};
 ghost use Rattle.clap.specs.Values.{kind_of};
-ghost use Rattle.keep_command.specs.Refusals.{GivesWords, Says, Shows};
+ghost use Rattle.keep_command.specs.Refusals.{GivesWords, SaysWhatWasFound, ShowsRefusal};
 
 use clap::Error;
 use clap::error::ErrorKind;
@@ -54,7 +54,7 @@ pub fn show<W: Sink, E: Sink>(
     out: &mut W,
     errors: &mut E,
 ) -> Exit
-    ensures { Shows program.now (kind_of error.now) result (⟦<W as Watched>⟧.change out.old out.new) (⟦<E as Watched>⟧.change errors.old errors.new) }
+    ensures { ShowsRefusal program.now (kind_of error.now) result (⟦<W as Watched>⟧.change out.old out.new) (⟦<E as Watched>⟧.change errors.old errors.new) }
 {
     match format!(in alloc; "{error}") {
         Ok(text) => say(program, error.kind(), text.as_str(), out, errors),
@@ -72,7 +72,7 @@ pub fn say<W: Sink, E: Sink>(
     out: &mut W,
     errors: &mut E,
 ) -> Exit
-    ensures { Says program.now kind text.now result (⟦<W as Watched>⟧.change out.old out.new) (⟦<E as Watched>⟧.change errors.old errors.new) }
+    ensures { SaysWhatWasFound program.now kind text.now result (⟦<W as Watched>⟧.change out.old out.new) (⟦<E as Watched>⟧.change errors.old errors.new) }
 {
     match kind {
         ErrorKind::OutOfMemory => Stop::Memory.report(program, errors),

@@ -1,6 +1,6 @@
 //! Why a file was not read.
 ghost use Rattle.std.specs.Prelude.{◌≡◌};
-ghost use Rattle.keep_command.specs.Advice.{unread_of, unread_words};
+ghost use Rattle.keep_command.specs.Advice.{unread_of, unread_reason};
 
 use std::io::ErrorKind;
 
@@ -37,7 +37,7 @@ impl Unread {
 
     /// What is said of it.
     pub fn words(self) -> &'static str
-        ensures { result.now ≡ unread_words self }
+        ensures { result.now ≡ unread_reason self }
     {
         match self {
             Unread::NotFound => "No such file or directory",

@@ -2,14 +2,14 @@
 use Rattle.std.proofs.Common.{◌≡◌, inl, inr, ℕ, true, false, cond, ◌==◌, List, [], ◌∷◌, length, nat_lt, bytes_eq, codes, Option, Some, None, option_and_then, Result, Ok, Err, refl, sym, ap, ◌∙◌, subst, arith, ltb-false}
 use Rattle.std.proofs.lemmas.Bool.{and_parts, cond-true, cond-false, eqb-true, le-ltb}
 use Rattle.std.specs.Cmp.Lexicographic.{bytes_decides}
-use Rattle.vault_json.specs.Body.{tree_of}
+use Rattle.vault_json.specs.Body.{json_tree}
 use Rattle.keep_tree.specs.Push.{is_name}
 use Rattle.keep_inventory.specs.Values.{is_credential}
 use Rattle.keep_control.specs.Answer.{◌>>=◌}
-use Rattle.keep_control.specs.Laws.{RequestFound, RequestOnly, Says}
-use Rattle.keep_control.specs.Requests.{IsRequest, asked_of, command_of, if_named, is_command, is_command_with, need_of, plain_of, replace_of, request_of}
+use Rattle.keep_control.specs.Laws.{RequestFound, RequestOnly, WordsAskFor}
+use Rattle.keep_control.specs.Requests.{IsControlRequest, asked_by_line, command_of, if_named, is_command, is_command_with, need_request, plain_of, replace_of, request_in_line}
 use Rattle.keep_control.specs.When.{when_of}
-use Rattle.keep_control.specs.Words.{or_not_words, tree_of_words, word_at, words_in, words_of}
+use Rattle.keep_control.specs.Words.{or_not_words, tree_of_words, word_at, words_in_tree, words_of}
 use Rattle.keep_control.specs.declared.fault.RequestFault.{RequestFault}
 use Rattle.keep_control.specs.declared.fault.RequestFault.TheVariants.{TooLong, NoCommand, BadName, BadCredential}
 use Rattle.keep_control.specs.declared.limits.TheConstants.{LINE_MAX}
@@ -64,9 +64,9 @@ with_this word more ws h =
 -- ---- found
 
 abbrev Said : List (List ℕ) → Request → Type 0
-Said ws r = Says r ws × IsRequest r
+Said ws r = WordsAskFor r ws × IsControlRequest r
 
-need_found : (name word : List ℕ) (ws : List (List ℕ)) (o : Option When) (r : Request) → when_of word ≡ o → is_name name ≡ true → ws ≡ codes "need" ∷ name ∷ word ∷ [] → need_of name o ≡ Ok r → Said ws r
+need_found : (name word : List ℕ) (ws : List (List ℕ)) (o : Option When) (r : Request) → when_of word ≡ o → is_name name ≡ true → ws ≡ codes "need" ∷ name ∷ word ∷ [] → need_request name o ≡ Ok r → Said ws r
 need_found name word ws None r is named words e = cc
 need_found name word ws (Some when) r is named words e =
     let w = when_found word when is in
@@ -132,14 +132,14 @@ there : {A : Type 0} (o : Option A) (z : A) → or_not_words o ≡ Ok z → o �
 there None z e = cc
 there (Some x) z e = ap (λ y. Some y) (ok_same x z e)
 
-words_found : (line : List ℕ) (ws : List (List ℕ)) → words_of line ≡ Ok ws → tree_of line ≡ Some (tree_of_words ws)
+words_found : (line : List ℕ) (ws : List (List ℕ)) → words_of line ≡ Ok ws → json_tree line ≡ Some (tree_of_words ws)
 unfolding words_of
 words_found line ws e =
-    let t = then_some words_in (tree_of line) ws (there _ ws e) in
+    let t = then_some words_in_tree (json_tree line) ws (there _ ws e) in
     t.1 ∙ ap (λ d. Some d) (words_only t.0 ws t.2)
 
 pub request_found : RequestFound
-unfolding request_of asked_of
+unfolding request_in_line asked_by_line
 request_found line r e =
     let p = refused (nat_lt LINE_MAX (length line)) _ TooLong r e in
     let t = then_ok (words_of line) command_of r p.1 in
@@ -151,10 +151,10 @@ request_found line r e =
 named_is : (name : List ℕ) (answer : Result Request RequestFault) → is_name name ≡ true → if_named name answer ≡ answer
 named_is name answer h = cond-true (is_name name) _ _ h
 
-command_only : (r : Request) (ws : List (List ℕ)) → Says r ws → IsRequest r → command_of ws ≡ Ok r
+command_only : (r : Request) (ws : List (List ℕ)) → WordsAskFor r ws → IsControlRequest r → command_of ws ≡ Ok r
 unfolding command_of plain_of is_command is_command_with
 command_only (Need name when) ws s is =
-    rw s.2 (named_is name _ is.0 ∙ ap (need_of name) (when_only s.0 when s.1 is.1))
+    rw s.2 (named_is name _ is.0 ∙ ap (need_request name) (when_only s.0 when s.1 is.1))
 command_only (Replace name credential) ws s is = rw s (named_is name _ is.0 ∙ cond-true (is_credential credential) _ _ is.1)
 command_only (Add table) ws s is = rw s refl
 command_only (Drop name) ws s is = rw s (named_is name _ is)
@@ -166,7 +166,7 @@ command_only (Follow false) ws s is = rw s refl
 command_only (Follow true) ws s is = rw s refl
 
 -- the words of a request are one at least
-some_words : (r : Request) (ws : List (List ℕ)) → Says r ws → words_in (tree_of_words ws) ≡ Some ws
+some_words : (r : Request) (ws : List (List ℕ)) → WordsAskFor r ws → words_in_tree (tree_of_words ws) ≡ Some ws
 some_words (Need name when) ws s = rw s.2 (words_back _ _)
 some_words (Replace name credential) ws s = rw s (words_back _ _)
 some_words (Add table) ws s = rw s (words_back _ _)
@@ -179,7 +179,7 @@ some_words (Follow false) ws s = rw s (words_back _ _)
 some_words (Follow true) ws s = rw s (words_back _ _)
 
 pub request_only : RequestOnly
-unfolding request_of asked_of words_of
+unfolding request_in_line asked_by_line words_of
 request_only line r a =
-    let words : words_of line ≡ Ok a.words = ap or_not_words (ap (option_and_then words_in) a.tree ∙ some_words r a.words a.says) in
+    let words : words_of line ≡ Ok a.words = ap or_not_words (ap (option_and_then words_in_tree) a.tree ∙ some_words r a.words a.says) in
     cond-false (nat_lt LINE_MAX (length line)) _ _ (le-ltb _ _ a.short) ∙ ap (λ answer. answer >>= command_of) words ∙ command_only r a.words a.says a.is_request

@@ -8,7 +8,7 @@ use Rattle.std.specs.List.{join_with_byte}
 use Rattle.json.specs.Print.{escape, escape_byte, escape_letter, quoted}
 use Rattle.keep_words.specs.Laws.{Lacks}
 use Rattle.keep_words.proofs.Joined.{lacks_append, lacks_each}
-use Rattle.keep_control.specs.Front.{IsFront, LacksFeed}
+use Rattle.keep_control.specs.Front.{IsLineFront, LacksFeed}
 use Rattle.keep_control.specs.declared.limits.TheConstants.{LINE_MAX}
 use Rattle.keep_control.proofs.WordTrees.{line_of}
 use Rattle.keep_control.specs.declared.front.Front.TheVariants.{Whole}
@@ -82,7 +82,7 @@ no_feed_in line rest h i below is =
     let byte : get_or line i 0 ≡ 10 = sym (get_or_append_left line rest 0 i below) ∙ is in
     true≢false (sym (eq-eqb (get_or line i 0) 10 byte) ∙ lacks_each 10 line h i 0 below)
 
-pub front_is : (line more : List ℕ) → Lacks 10 line → length line ≤ LINE_MAX → IsFront ((line ++ 10 ∷ []) ++ more) (Whole (length line))
+pub front_is : (line more : List ℕ) → Lacks 10 line → length line ≤ LINE_MAX → IsLineFront ((line ++ 10 ∷ []) ++ more) (Whole (length line))
 front_is line more h short =
     let is : (line ++ 10 ∷ []) ++ more ≡ line ++ 10 ∷ more = append_assoc line (10 ∷ []) more in
     rw is (short, omega (arith, length-append line (10 ∷ more)), no_feed_in line (10 ∷ more) h, get_or-append_seam line 10 more 0)

@@ -9,7 +9,7 @@ use Rattle.keep_words.specs.Pieces.{pieces}
 use Rattle.keep_words.proofs.Cutting.{has_piece}
 use Rattle.keep_words.proofs.Joined.{joined_back, lacks_append, lacks_each}
 use Rattle.keep_control.specs.Laws.{ReplyFound, ReplyOnly, WhyIsLine}
-use Rattle.keep_control.specs.Replies.{IsReply, closed, lines_of, lines_text, refusal_of, refused_in, reply_if, reply_in, reply_lines, reply_of, reply_text, why_of}
+use Rattle.keep_control.specs.Replies.{IsControlReply, closed_lines, control_reply_text, lines_of_text, lines_text, refusal_of, refused_in, reply_if, reply_in_lines, reply_in_text, reply_lines, request_fault_text}
 use Rattle.keep_control.specs.declared.fault.RequestFault.TheVariants as faults
 use Rattle.keep_control.specs.declared.reply.Reply.{Reply}
 use Rattle.keep_control.specs.declared.reply.Reply.TheVariants.{Done, Refused}
@@ -17,7 +17,7 @@ use Rattle.keep_control.proofs.Chosen.{mapped, passed, some_same}
 
 -- ---- for the reader of lines
 
-pub closed_more : (piece : List ℕ) (ps : List (List ℕ)) → ps ≢ [] → closed (piece ∷ ps) ≡ option_map (λ lines. piece ∷ lines) (closed ps)
+pub closed_more : (piece : List ℕ) (ps : List (List ℕ)) → ps ≢ [] → closed_lines (piece ∷ ps) ≡ option_map (λ lines. piece ∷ lines) (closed_lines ps)
 closed_more piece [] some = absurd (some refl)
 closed_more piece (p ∷ ps) some = refl
 
@@ -32,9 +32,9 @@ joined_more line (p ∷ ps) some = refl
 
 -- one line more was read
 pub line_read : (read : List (List ℕ)) (line : List ℕ) (after : List ℕ)
-    → option_map (λ ls. read ++ ls) (closed (line ∷ pieces 10 after)) ≡ option_map (λ ls. (read ++ line ∷ []) ++ ls) (closed (pieces 10 after))
+    → option_map (λ ls. read ++ ls) (closed_lines (line ∷ pieces 10 after)) ≡ option_map (λ ls. (read ++ line ∷ []) ++ ls) (closed_lines (pieces 10 after))
 line_read read line after =
-    ap (option_map (λ ls. read ++ ls)) (closed_more line (pieces 10 after) (has_piece 10 after)) ∙ mapped_twice read line (closed (pieces 10 after))
+    ap (option_map (λ ls. read ++ ls)) (closed_more line (pieces 10 after) (has_piece 10 after)) ∙ mapped_twice read line (closed_lines (pieces 10 after))
 
 pub shorter : (rest line after : List ℕ) → pieces 10 rest ≡ line ∷ pieces 10 after → length after < length rest
 shorter rest line after e =
@@ -43,11 +43,11 @@ shorter rest line after e =
 
 -- ---- lines
 
-lines_back : (lines : List (List ℕ)) → AllLack 10 lines → lines_of (lines_text lines) ≡ Some lines
-unfolding lines_of pieces
+lines_back : (lines : List (List ℕ)) → AllLack 10 lines → lines_of_text (lines_text lines) ≡ Some lines
+unfolding lines_of_text pieces
 lines_back [] h = refl
 lines_back (l ∷ ls) h =
-    ap closed (slice_split_at (λ c. c == 10) l 10 (lines_text ls) (lacks_each 10 l h.0) (eq-eqb 10 10 refl))
+    ap closed_lines (slice_split_at (λ c. c == 10) l 10 (lines_text ls) (lacks_each 10 l h.0) (eq-eqb 10 10 refl))
     ∙ closed_more l (pieces 10 (lines_text ls)) (has_piece 10 (lines_text ls))
     ∙ ap (option_map (λ us. l ∷ us)) (lines_back ls h.1)
 
@@ -70,36 +70,36 @@ nil_is [] e = refl
 nil_is (x ∷ xs) e = absurd (omega (arith, e))
 
 -- the lines, and the nothing after the last
-closed_is : (ps lines : List (List ℕ)) → closed ps ≡ Some lines → AllLack 10 ps → AllLack 10 lines × (join_with_byte 10 ps ≡ lines_text lines)
+closed_is : (ps lines : List (List ℕ)) → closed_lines ps ≡ Some lines → AllLack 10 ps → AllLack 10 lines × (join_with_byte 10 ps ≡ lines_text lines)
 closed_is [] lines e h = cc
 closed_is (p ∷ []) lines e h =
     let c = passed (length p == 0) (Some []) lines e in
     let is : [] ≡ lines = some_same _ _ c.1 in
     rw (sym is) (tt, nil_is p (eqb-true _ _ c.0))
 closed_is (p ∷ q ∷ ps) lines e h =
-    let m = mapped (λ ls. p ∷ ls) (closed (q ∷ ps)) lines e in
+    let m = mapped (λ ls. p ∷ ls) (closed_lines (q ∷ ps)) lines e in
     let rest = closed_is (q ∷ ps) m.0 m.1 h.1 in
     rw m.2 ((h.0, rest.0), ap (λ t. p ++ 10 ∷ t) rest.1)
 
-pub lines_only : (text : List ℕ) (lines : List (List ℕ)) → lines_of text ≡ Some lines → AllLack 10 lines × (text ≡ lines_text lines)
-unfolding lines_of
+pub lines_only : (text : List ℕ) (lines : List (List ℕ)) → lines_of_text text ≡ Some lines → AllLack 10 lines × (text ≡ lines_text lines)
+unfolding lines_of_text
 lines_only text lines e =
     let c = closed_is (pieces 10 text) lines e (pieces_lack text) in
     (c.0, sym (joined_back 10 text) ∙ c.1)
 
 -- ---- replies
 
-reply_lines_lack : (reply : Reply) → IsReply reply → AllLack 10 (reply_lines reply)
+reply_lines_lack : (reply : Reply) → IsControlReply reply → AllLack 10 (reply_lines reply)
 reply_lines_lack (Done lines) h = (refl, h)
 reply_lines_lack (Refused why) h = (lacks_append 10 (codes "error: ") why refl h, tt)
 
-lines_are_reply : (reply : Reply) → reply_in (reply_lines reply) ≡ Some reply
+lines_are_reply : (reply : Reply) → reply_in_lines (reply_lines reply) ≡ Some reply
 unfolding refusal_of
 lines_are_reply (Done lines) = refl
 lines_are_reply (Refused why) = refl
 
 pub reply_found : ReplyFound
-unfolding reply_of reply_text
+unfolding reply_in_text control_reply_text
 reply_found reply h = ap reply_if (lines_back (reply_lines reply) (reply_lines_lack reply h)) ∙ lines_are_reply reply
 
 append_lacks : (xs ys : List ℕ) → Lacks 10 (xs ++ ys) → Lacks 10 ys
@@ -119,7 +119,7 @@ refusal_is line why e =
     let rest : drop 7 line ≡ why = some_same _ _ p.1 in
     sym (taken_apart 7 line) ∙ ap (λ l. l ++ drop 7 line) front ∙ ap (λ l. codes "error: " ++ l) rest
 
-refused_is : (lines : List (List ℕ)) (reply : Reply) → AllLack 10 lines → refused_in lines ≡ Some reply → IsReply reply × (lines ≡ reply_lines reply)
+refused_is : (lines : List (List ℕ)) (reply : Reply) → AllLack 10 lines → refused_in lines ≡ Some reply → IsControlReply reply × (lines ≡ reply_lines reply)
 refused_is [] reply h e = cc
 refused_is (line ∷ []) reply h e =
     let m = mapped (λ why. Refused why) (refusal_of line) reply e in
@@ -127,7 +127,7 @@ refused_is (line ∷ []) reply h e =
     rw m.2 (append_lacks (codes "error: ") m.0 (subst (Lacks 10) is h.0), ap (λ l. l ∷ []) is)
 refused_is (line ∷ next ∷ lines) reply h e = cc
 
-reply_is : (lines : List (List ℕ)) (reply : Reply) → AllLack 10 lines → reply_in lines ≡ Some reply → IsReply reply × (lines ≡ reply_lines reply)
+reply_is : (lines : List (List ℕ)) (reply : Reply) → AllLack 10 lines → reply_in_lines lines ≡ Some reply → IsControlReply reply × (lines ≡ reply_lines reply)
 reply_is [] reply h e = cc
 reply_is (line ∷ lines) reply h e =
     elim (cases_Bool (bytes_eq line (codes "ok"))) [
@@ -137,20 +137,20 @@ reply_is (line ∷ lines) reply h e =
       | inr fails ↦ refused_is (line ∷ lines) reply h (sym (cond-false (bytes_eq line (codes "ok")) _ _ fails) ∙ e)
     ]
 
-lines_there : (o : Option (List (List ℕ))) (reply : Reply) → reply_if o ≡ Some reply → (lines : List (List ℕ)) × (o ≡ Some lines) × (reply_in lines ≡ Some reply)
+lines_there : (o : Option (List (List ℕ))) (reply : Reply) → reply_if o ≡ Some reply → (lines : List (List ℕ)) × (o ≡ Some lines) × (reply_in_lines lines ≡ Some reply)
 lines_there None reply e = cc
 lines_there (Some lines) reply e = (lines, refl, e)
 
 pub reply_only : ReplyOnly
-unfolding reply_of reply_text
+unfolding reply_in_text control_reply_text
 reply_only text reply e =
-    let l = lines_there (lines_of text) reply e in
+    let l = lines_there (lines_of_text text) reply e in
     let o = lines_only text l.0 l.1 in
     let r = reply_is l.0 reply o.0 l.2 in
     (r.0, o.1 ∙ ap lines_text r.1)
 
 pub why_is_line : WhyIsLine
-unfolding why_of
+unfolding request_fault_text
 why_is_line faults.TooLong = refl
 why_is_line faults.NotWords = refl
 why_is_line faults.NoCommand = refl

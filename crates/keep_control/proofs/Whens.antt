@@ -17,8 +17,9 @@ use Rattle.keep_inventory.specs.Values.{is_always, need_text}
 use Rattle.keep_inventory.specs.Values as values
 use Rattle.keep_inventory.specs.declared.need.Need.{Need}
 use Rattle.keep_inventory.specs.declared.need.Need.TheVariants.{Until, Always}
+use Rattle.keep_inventory.specs.Needs.{IsNeed}
 use Rattle.keep_control.specs.Laws.{AreDigits, SaysNeed, SaysWhen}
-use Rattle.keep_control.specs.When.{IsNeed, IsWhen, fixed_of, is_number, seconds_each, span_of, until_if, when_of}
+use Rattle.keep_control.specs.When.{IsWhen, fixed_if, fixed_of, is_number, seconds_each, span_of, when_of}
 use Rattle.keep_control.specs.declared.when.When.{When}
 use Rattle.keep_control.specs.declared.when.When.TheVariants.{Fixed, FromNow}
 use Rattle.keep_control.proofs.Chosen.{mapped, some_same}
@@ -104,7 +105,7 @@ no_plus word digit = ne_eqb _ _ (λ e. true≢false (sym (ap is_ascii_digit (sym
 
 -- ---- found
 
-found_until : (o : Option ℕ) (w : When) → until_if o ≡ Some w → (t : ℕ) × (o ≡ Some t) × (w ≡ Fixed (Until t))
+found_until : (o : Option ℕ) (w : When) → fixed_if o ≡ Some w → (t : ℕ) × (o ≡ Some t) × (w ≡ Fixed (Until t))
 found_until None w e = cc
 found_until (Some t) w e = (t, refl, sym (some_same _ _ e))
 
@@ -179,7 +180,7 @@ unfolding fixed_of
 digits_only word t d few =
     let each : seconds_each 1 word ≡ Some (t * 1) = each_only 1 word t (omega arith) d (omega (arith, few)) in
     let one : t * 1 ≡ t = omega arith in
-    cond-true (is_number word) _ _ (digits_number word t d) ∙ ap until_if (each ∙ ap (λ k. Some k) one)
+    cond-true (is_number word) _ _ (digits_number word t d) ∙ ap fixed_if (each ∙ ap (λ k. Some k) one)
 
 date_only : (word : List ℕ) (t : ℕ) → moment_of word ≡ Ok t → fixed_of word ≡ Some (Fixed (Until t))
 unfolding fixed_of is_always

@@ -6,10 +6,10 @@ use Rattle.json.specs.Tree as tree
 use Rattle.serde_json.specs.Data.{Data, null, boolean, number, string, array, object, Items, no_items, item}
 use Rattle.serde_json.specs.Read.{of_items, max_depth}
 use Rattle.serde_json.specs.Written.{compact_text, has_float, items_have_float, items_outline, items_text, outline}
-use Rattle.vault_json.specs.Body.{tree_of}
+use Rattle.vault_json.specs.Body.{json_tree}
 use Rattle.vault_json.proofs.Bodies.{tree_of_text}
 use Rattle.vault_json.proofs.Plain.{IsPlain, compact_utf8, read_compact}
-use Rattle.keep_control.specs.Words.{items_of, one_or_more, texts_of, tree_of_words, words_in}
+use Rattle.keep_control.specs.Words.{items_of, one_or_more, texts_of, tree_of_words, words_in_tree}
 use Rattle.keep_control.proofs.Chosen.{mapped, some_same, then_some}
 
 -- ---- arrays and words
@@ -38,8 +38,8 @@ array_only ds ws e =
     let t = then_some one_or_more (texts_of ds) ws e in
     ap array (texts_only ds t.0 t.1) ∙ ap tree_of_words (one_more_is t.0 ws t.2)
 
-pub words_only : (d : Data) (ws : List (List ℕ)) → words_in d ≡ Some ws → d ≡ tree_of_words ws
-unfolding words_in
+pub words_only : (d : Data) (ws : List (List ℕ)) → words_in_tree d ≡ Some ws → d ≡ tree_of_words ws
+unfolding words_in_tree
 words_only null ws e = cc
 words_only (boolean b) ws e = cc
 words_only (number n) ws e = cc
@@ -47,8 +47,8 @@ words_only (string s) ws e = cc
 words_only (array ds) ws e = array_only ds ws e
 words_only (object ms) ws e = cc
 
-pub words_back : (w : List ℕ) (ws : List (List ℕ)) → words_in (tree_of_words (w ∷ ws)) ≡ Some (w ∷ ws)
-unfolding words_in
+pub words_back : (w : List ℕ) (ws : List (List ℕ)) → words_in_tree (tree_of_words (w ∷ ws)) ≡ Some (w ∷ ws)
+unfolding words_in_tree
 words_back w ws = ap (option_and_then one_or_more) (texts_back (w ∷ ws))
 
 -- ---- their text
@@ -93,7 +93,7 @@ same_items : (ws : List (List ℕ)) → of_items (items_outline (items_of ws)) �
 same_items [] = refl
 same_items (w ∷ ws) = ap (option_map (item (string w))) (same_items ws)
 
-pub line_read : (ws : List (List ℕ)) → AllUtf8 ws → tree_of (compact_text (tree_of_words ws)) ≡ Some (tree_of_words ws)
+pub line_read : (ws : List (List ℕ)) → AllUtf8 ws → json_tree (compact_text (tree_of_words ws)) ≡ Some (tree_of_words ws)
 line_read ws h =
     let plain : IsPlain (tree_of_words ws) = words_plain ws h in
     let shallow : tree.depth (outline (tree_of_words ws)) ≤ max_depth = let f = flat ws in omega (arith, f) in

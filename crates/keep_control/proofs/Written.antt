@@ -12,11 +12,12 @@ use Rattle.keep_words.specs.Laws.{Lacks}
 use Rattle.keep_words.proofs.Digits.{own}
 use Rattle.keep_inventory.specs.declared.need.Need.{Need}
 use Rattle.keep_inventory.specs.declared.need.Need.TheVariants.{Until, Always}
-use Rattle.keep_control.specs.Front.{IsFront}
+use Rattle.keep_inventory.specs.Needs.{IsNeed, need_word}
+use Rattle.keep_control.specs.Front.{IsLineFront}
 use Rattle.keep_control.specs.declared.front.Front.TheVariants.{Whole}
-use Rattle.keep_control.specs.Laws.{AreDigits, Asks, Says, SaysNeed, SaysWhen, WrittenIsRead}
-use Rattle.keep_control.specs.Requests.{IsRequest, ended, is_text, line_for, text_of, tree_for, words_for}
-use Rattle.keep_control.specs.When.{IsNeed, IsWhen, need_word, when_word}
+use Rattle.keep_control.specs.Laws.{AreDigits, LineAsks, RequestWrittenIsRead, SaysNeed, SaysWhen, WordsAskFor}
+use Rattle.keep_control.specs.Requests.{IsControlRequest, ended, is_request_text, line_for, request_line_text, tree_for, words_for}
+use Rattle.keep_control.specs.When.{IsWhen, when_word}
 use Rattle.keep_control.specs.Words.{tree_of_words}
 use Rattle.keep_control.specs.declared.fault.RequestFault.TheVariants.{TooLong, NotWords}
 use Rattle.keep_control.specs.declared.limits.TheConstants.{LINE_MAX}
@@ -66,7 +67,7 @@ when_utf8 (FromNow n) few = IsUtf8-append (43 ∷ []) (decimal n) (IsUtf8-are_as
 
 -- ---- the words
 
-says_it : (r : Request) → IsRequest r → Says r (words_for r)
+says_it : (r : Request) → IsControlRequest r → WordsAskFor r (words_for r)
 says_it (asks.Need name when) is = (when_word when, when_says when is.1, refl)
 says_it (asks.Replace name credential) is = refl
 says_it (asks.Add table) is = refl
@@ -78,7 +79,7 @@ says_it asks.Reload is = refl
 says_it (asks.Follow false) is = refl
 says_it (asks.Follow true) is = refl
 
-all_utf8 : (r : Request) → IsRequest r → is_text r ≡ true → AllUtf8 (words_for r)
+all_utf8 : (r : Request) → IsControlRequest r → is_request_text r ≡ true → AllUtf8 (words_for r)
 all_utf8 (asks.Need name when) is text = (IsUtf8-are_ascii _ refl, (IsUtf8-from_is_utf8 name text, (when_utf8 when is.1, tt)))
 all_utf8 (asks.Replace name credential) is text =
     let p = and_parts (is_utf8 name) (is_utf8 credential) text in
@@ -100,15 +101,15 @@ ended_is line text e =
     let p = refused (nat_lt LINE_MAX (length line)) (Ok (line ++ 10 ∷ [])) TooLong text e in
     (ltb-false _ _ p.0, sym (ok_same _ _ p.1))
 
-line_is : (r : Request) (line : List ℕ) → line_for r ≡ Ok line → (is_text r ≡ true) × (line ≡ compact_text (tree_of_words (words_for r)))
+line_is : (r : Request) (line : List ℕ) → line_for r ≡ Ok line → (is_request_text r ≡ true) × (line ≡ compact_text (tree_of_words (words_for r)))
 unfolding line_for tree_for
 line_is r line e =
     let t = then_ok (tree_for r) (λ d. Ok (compact_text d)) line e in
-    let p = granted (is_text r) (Ok (tree_of_words (words_for r))) NotWords t.0 t.1 in
+    let p = granted (is_request_text r) (Ok (tree_of_words (words_for r))) NotWords t.0 t.1 in
     (p.0, sym (ok_same _ _ t.2) ∙ ap compact_text (sym (ok_same _ _ p.1)))
 
-pub written_is_read : WrittenIsRead
-unfolding text_of
+pub written_is_read : RequestWrittenIsRead
+unfolding request_line_text
 written_is_read r text more is e =
     let ws = words_for r in
     let line = compact_text (tree_of_words ws) in
@@ -116,5 +117,5 @@ written_is_read r text more is e =
     let p = line_is r t.0 t.1 in
     let q = ended_is line text (ap ended (sym p.1) ∙ t.2) in
     let lacks : Lacks 10 line = subst (Lacks 10) (sym (line_text ws)) (line_lacks ws) in
-    let it : Asks line r = record { short = q.0; is_request = is; words = ws; tree = line_read ws (all_utf8 r is p.0); says = says_it r is } in
-    (line, q.1, subst (λ l. IsFront (l ++ more) (Whole (length line))) (sym q.1) (front_is line more lacks q.0), request_only line r it)
+    let it : LineAsks line r = record { short = q.0; is_request = is; words = ws; tree = line_read ws (all_utf8 r is p.0); says = says_it r is } in
+    (line, q.1, subst (λ l. IsLineFront (l ++ more) (Whole (length line))) (sym q.1) (front_is line more lacks q.0), request_only line r it)

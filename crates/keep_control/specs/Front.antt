@@ -11,7 +11,7 @@ LacksFeed n bytes = (i : ℕ) → i < n → slice_index bytes i ≢ 10
 
 -- its end is not there yet, and may come in time; it is the first n bytes, and a line feed ends it; it is too long, whatever
 -- follows
-abbrev pub IsFront : List ℕ → Front → Type 0
-IsFront bytes Open = (length bytes ≤ LINE_MAX) × LacksFeed (length bytes) bytes
-IsFront bytes (Whole n) = (n ≤ LINE_MAX) × (n < length bytes) × LacksFeed n bytes × (slice_index bytes n ≡ 10)
-IsFront bytes TooLong = (LINE_MAX < length bytes) × LacksFeed (LINE_MAX + 1) bytes
+abbrev pub IsLineFront : List ℕ → Front → Type 0
+IsLineFront bytes Open = (length bytes ≤ LINE_MAX) × LacksFeed (length bytes) bytes
+IsLineFront bytes (Whole n) = (n ≤ LINE_MAX) × (n < length bytes) × LacksFeed n bytes × (slice_index bytes n ≡ 10)
+IsLineFront bytes TooLong = (LINE_MAX < length bytes) × LacksFeed (LINE_MAX + 1) bytes

@@ -4,12 +4,12 @@ use Rattle.std.specs.Char.{is_ascii_digit}
 use Rattle.std.specs.List.{list_all}
 use Rattle.std.specs.Str.Parse.{digits_value}
 use Rattle.keep_moment.specs.MomentOf.{moment_of}
-use Rattle.vault_json.specs.Body.{tree_of}
+use Rattle.vault_json.specs.Body.{json_tree}
 use Rattle.keep_inventory.specs.declared.need.Need.{Need}
 use Rattle.keep_inventory.specs.declared.need.Need.TheVariants.{Until, Always}
-use Rattle.keep_control.specs.Front.{IsFront}
-use Rattle.keep_control.specs.Replies.{IsReply, reply_of, reply_text, why_of}
-use Rattle.keep_control.specs.Requests.{IsRequest, request_of, text_of}
+use Rattle.keep_control.specs.Front.{IsLineFront}
+use Rattle.keep_control.specs.Replies.{IsControlReply, control_reply_text, reply_in_text, request_fault_text}
+use Rattle.keep_control.specs.Requests.{IsControlRequest, request_in_line, request_line_text}
 use Rattle.keep_control.specs.Words.{tree_of_words}
 use Rattle.keep_control.specs.declared.limits.TheConstants.{LINE_MAX}
 use Rattle.keep_control.specs.declared.fault.RequestFault.{RequestFault}
@@ -53,51 +53,51 @@ SaysWhen (Fixed need) word = SaysNeed need word
 SaysWhen (FromNow n) word = IsSpan word n
 
 -- these words ask for it
-abbrev pub Says : Request → List (List ℕ) → Type 0
-Says (asks.Need name when) ws = (word : List ℕ) × SaysWhen when word × (ws ≡ codes "need" ∷ name ∷ word ∷ [])
-Says (asks.Replace name credential) ws = ws ≡ codes "replace" ∷ name ∷ credential ∷ []
-Says (asks.Add table) ws = ws ≡ codes "add" ∷ table ∷ []
-Says (asks.Drop name) ws = ws ≡ codes "drop" ∷ name ∷ []
-Says asks.Status ws = ws ≡ codes "status" ∷ []
-Says asks.Health ws = ws ≡ codes "health" ∷ []
-Says asks.Settle ws = ws ≡ codes "settle" ∷ []
-Says asks.Reload ws = ws ≡ codes "reload" ∷ []
-Says (asks.Follow false) ws = ws ≡ codes "follow" ∷ []
-Says (asks.Follow true) ws = ws ≡ codes "follow" ∷ codes "alerts" ∷ []
+abbrev pub WordsAskFor : Request → List (List ℕ) → Type 0
+WordsAskFor (asks.Need name when) ws = (word : List ℕ) × SaysWhen when word × (ws ≡ codes "need" ∷ name ∷ word ∷ [])
+WordsAskFor (asks.Replace name credential) ws = ws ≡ codes "replace" ∷ name ∷ credential ∷ []
+WordsAskFor (asks.Add table) ws = ws ≡ codes "add" ∷ table ∷ []
+WordsAskFor (asks.Drop name) ws = ws ≡ codes "drop" ∷ name ∷ []
+WordsAskFor asks.Status ws = ws ≡ codes "status" ∷ []
+WordsAskFor asks.Health ws = ws ≡ codes "health" ∷ []
+WordsAskFor asks.Settle ws = ws ≡ codes "settle" ∷ []
+WordsAskFor asks.Reload ws = ws ≡ codes "reload" ∷ []
+WordsAskFor (asks.Follow false) ws = ws ≡ codes "follow" ∷ []
+WordsAskFor (asks.Follow true) ws = ws ≡ codes "follow" ∷ codes "alerts" ∷ []
 
 -- the line asks for it: it is JSON of an array of words that do
-pub record Asks (line : List ℕ) (r : Request) : Type 0 where
+pub record LineAsks (line : List ℕ) (r : Request) : Type 0 where
   pub short : length line ≤ LINE_MAX
-  pub is_request : IsRequest r
+  pub is_request : IsControlRequest r
   pub words : List (List ℕ)
-  pub tree : tree_of line ≡ Some (tree_of_words words)
-  pub says : Says r words
+  pub tree : json_tree line ≡ Some (tree_of_words words)
+  pub says : WordsAskFor r words
 
 -- ---- requests
 
 -- what is read of a line is what it asks for
 abbrev pub RequestFound : Type 0
-RequestFound = (line : List ℕ) (r : Request) → request_of line ≡ Ok r → Asks line r
+RequestFound = (line : List ℕ) (r : Request) → request_in_line line ≡ Ok r → LineAsks line r
 
 -- and a line that asks for something is read so
 abbrev pub RequestOnly : Type 0
-RequestOnly = (line : List ℕ) (r : Request) → Asks line r → request_of line ≡ Ok r
+RequestOnly = (line : List ℕ) (r : Request) → LineAsks line r → request_in_line line ≡ Ok r
 
 -- what is written is one line and a line feed, whatever follows, and is read as the same request
-abbrev pub WrittenIsRead : Type 0
-WrittenIsRead = (r : Request) (text more : List ℕ) → IsRequest r → text_of r ≡ Ok text
-    → (line : List ℕ) × (text ≡ line ++ 10 ∷ []) × IsFront (text ++ more) (Whole (length line)) × (request_of line ≡ Ok r)
+abbrev pub RequestWrittenIsRead : Type 0
+RequestWrittenIsRead = (r : Request) (text more : List ℕ) → IsControlRequest r → request_line_text r ≡ Ok text
+    → (line : List ℕ) × (text ≡ line ++ 10 ∷ []) × IsLineFront (text ++ more) (Whole (length line)) × (request_in_line line ≡ Ok r)
 
 -- ---- replies
 
 -- the text of a reply is read as that reply
 abbrev pub ReplyFound : Type 0
-ReplyFound = (reply : Reply) → IsReply reply → reply_of (reply_text reply) ≡ Some reply
+ReplyFound = (reply : Reply) → IsControlReply reply → reply_in_text (control_reply_text reply) ≡ Some reply
 
 -- and no other text is
 abbrev pub ReplyOnly : Type 0
-ReplyOnly = (text : List ℕ) (reply : Reply) → reply_of text ≡ Some reply → IsReply reply × (text ≡ reply_text reply)
+ReplyOnly = (text : List ℕ) (reply : Reply) → reply_in_text text ≡ Some reply → IsControlReply reply × (text ≡ control_reply_text reply)
 
 -- a refused request is answered in one line
 abbrev pub WhyIsLine : Type 0
-WhyIsLine = (fault : RequestFault) → IsReply (replies.Refused (why_of fault))
+WhyIsLine = (fault : RequestFault) → IsControlReply (replies.Refused (request_fault_text fault))

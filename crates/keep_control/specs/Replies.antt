@@ -19,20 +19,20 @@ abbrev pub reply_lines : Reply → List (List ℕ)
 reply_lines (Done lines) = codes "ok" ∷ lines
 reply_lines (Refused why) = (codes "error: " ++ why) ∷ []
 
-unfoldable pub reply_text : Reply → List ℕ
-reply_text reply = lines_text (reply_lines reply)
+unfoldable pub control_reply_text : Reply → List ℕ
+control_reply_text reply = lines_text (reply_lines reply)
 
 -- ---- as it is read
 
 -- the pieces of a text between its line feeds, without the last, where that is empty
-abbrev pub closed : List (List ℕ) → Option (List (List ℕ))
-closed [] = None
-closed (piece ∷ []) = if length piece == 0 then Some [] else None
-closed (piece ∷ next ∷ pieces) = option_map (λ lines. piece ∷ lines) (closed (next ∷ pieces))
+abbrev pub closed_lines : List (List ℕ) → Option (List (List ℕ))
+closed_lines [] = None
+closed_lines (piece ∷ []) = if length piece == 0 then Some [] else None
+closed_lines (piece ∷ next ∷ pieces) = option_map (λ lines. piece ∷ lines) (closed_lines (next ∷ pieces))
 
 -- the lines of a text, where each has its line feed
-unfoldable pub lines_of : List ℕ → Option (List (List ℕ))
-lines_of text = closed (pieces 10 text)
+unfoldable pub lines_of_text : List ℕ → Option (List (List ℕ))
+lines_of_text text = closed_lines (pieces 10 text)
 
 -- the reason on the one line of a refusal
 unfoldable pub refusal_of : List ℕ → Option (List ℕ)
@@ -42,32 +42,32 @@ abbrev pub refused_in : List (List ℕ) → Option Reply
 refused_in (line ∷ []) = option_map (λ why. Refused why) (refusal_of line)
 refused_in lines = None
 
-abbrev pub reply_in : List (List ℕ) → Option Reply
-reply_in [] = None
-reply_in (line ∷ lines) = if bytes_eq line (codes "ok") then Some (Done lines) else refused_in (line ∷ lines)
+abbrev pub reply_in_lines : List (List ℕ) → Option Reply
+reply_in_lines [] = None
+reply_in_lines (line ∷ lines) = if bytes_eq line (codes "ok") then Some (Done lines) else refused_in (line ∷ lines)
 
 abbrev pub reply_if : Option (List (List ℕ)) → Option Reply
 reply_if None = None
-reply_if (Some lines) = reply_in lines
+reply_if (Some lines) = reply_in_lines lines
 
 -- the reply that the bytes are which came before the connection was closed
-unfoldable pub reply_of : List ℕ → Option Reply
-reply_of text = reply_if (lines_of text)
+unfoldable pub reply_in_text : List ℕ → Option Reply
+reply_in_text text = reply_if (lines_of_text text)
 
 -- ---- which there are
 
 -- each line is one line
-abbrev pub IsReply : Reply → Type 0
-IsReply (Done lines) = AllLack 10 lines
-IsReply (Refused why) = Lacks 10 why
+abbrev pub IsControlReply : Reply → Type 0
+IsControlReply (Done lines) = AllLack 10 lines
+IsControlReply (Refused why) = Lacks 10 why
 
 -- ---- why a request was not read
 
-unfoldable pub why_of : RequestFault → List ℕ
-why_of TooLong = codes "a request is one line of at most 65536 bytes"
-why_of NotWords = codes "send one line of JSON: an array of words"
-why_of NoCommand = codes "the commands are: need NAME WHEN, replace NAME, add, drop NAME, status, health, settle, reload, follow [alerts]"
-why_of BadName = codes "NAME is 1 to 64 ASCII letters, digits, -, _, . or /"
-why_of BadWhen = codes "WHEN is a moment (1764000000), a date (\"2026-11-22T09:00:00Z\") or +90s, +30m, +6h, +2d, or always"
-why_of BadCredential = codes "a secret or lease id is 1 to 256 printable ASCII characters without a space"
-why_of OutOfMemory = codes "out of memory"
+unfoldable pub request_fault_text : RequestFault → List ℕ
+request_fault_text TooLong = codes "a request is one line of at most 65536 bytes"
+request_fault_text NotWords = codes "send one line of JSON: an array of words"
+request_fault_text NoCommand = codes "the commands are: need NAME WHEN, replace NAME, add, drop NAME, status, health, settle, reload, follow [alerts]"
+request_fault_text BadName = codes "NAME is 1 to 64 ASCII letters, digits, -, _, . or /"
+request_fault_text BadWhen = codes "WHEN is a moment (1764000000), a date (\"2026-11-22T09:00:00Z\") or +90s, +30m, +6h, +2d, or always"
+request_fault_text BadCredential = codes "a secret or lease id is 1 to 256 printable ASCII characters without a space"
+request_fault_text OutOfMemory = codes "out of memory"

@@ -26,9 +26,9 @@ is_command word count ws = bytes_eq (word_at ws 0) word && (length ws == count)
 unfoldable pub is_command_with : List ℕ → List ℕ → List (List ℕ) → Bool
 is_command_with word more ws = is_command word 2 ws && bytes_eq (word_at ws 1) more
 
-abbrev pub need_of : List ℕ → Option When → Result Request RequestFault
-need_of name None = Err BadWhen
-need_of name (Some when) = Ok (Need name when)
+abbrev pub need_request : List ℕ → Option When → Result Request RequestFault
+need_request name None = Err BadWhen
+need_request name (Some when) = Ok (Need name when)
 
 abbrev pub replace_of : List ℕ → List ℕ → Result Request RequestFault
 replace_of name credential = if is_credential credential then Ok (Replace name credential) else Err BadCredential
@@ -51,18 +51,18 @@ plain_of ws =
 -- what words ask for, or the first reason why they ask for nothing
 unfoldable pub command_of : List (List ℕ) → Result Request RequestFault
 command_of ws =
-    if is_command (codes "need") 3 ws then if_named (word_at ws 1) (need_of (word_at ws 1) (when_of (word_at ws 2)))
+    if is_command (codes "need") 3 ws then if_named (word_at ws 1) (need_request (word_at ws 1) (when_of (word_at ws 2)))
     else (if is_command (codes "replace") 3 ws then if_named (word_at ws 1) (replace_of (word_at ws 1) (word_at ws 2))
     else (if is_command (codes "drop") 2 ws then if_named (word_at ws 1) (Ok (Drop (word_at ws 1)))
     else plain_of ws))
 
 -- what a line of any length asks for
-unfoldable pub asked_of : List ℕ → Result Request RequestFault
-asked_of line = words_of line >>= command_of
+unfoldable pub asked_by_line : List ℕ → Result Request RequestFault
+asked_by_line line = words_of line >>= command_of
 
 -- what a line asks for, which is without its line feed
-unfoldable pub request_of : List ℕ → Result Request RequestFault
-request_of line = if nat_lt LINE_MAX (length line) then Err TooLong else asked_of line
+unfoldable pub request_in_line : List ℕ → Result Request RequestFault
+request_in_line line = if nat_lt LINE_MAX (length line) then Err TooLong else asked_by_line line
 
 -- ---- as it is written
 
@@ -82,16 +82,16 @@ words_for Reload = codes "reload" ∷ []
 words_for (Follow alerts) = follow_words alerts
 
 -- what it holds is text, which JSON can write
-abbrev pub is_text : Request → Bool
-is_text (Need name when) = is_utf8 name
-is_text (Replace name credential) = is_utf8 name && is_utf8 credential
-is_text (Add table) = is_utf8 table
-is_text (Drop name) = is_utf8 name
-is_text _ = true
+abbrev pub is_request_text : Request → Bool
+is_request_text (Need name when) = is_utf8 name
+is_request_text (Replace name credential) = is_utf8 name && is_utf8 credential
+is_request_text (Add table) = is_utf8 table
+is_request_text (Drop name) = is_utf8 name
+is_request_text _ = true
 
 -- the array of its words
 unfoldable pub tree_for : Request → Result Data RequestFault
-tree_for r = texted (is_text r) (words_for r)
+tree_for r = texted (is_request_text r) (words_for r)
 
 unfoldable pub line_for : Request → Result (List ℕ) RequestFault
 line_for r = tree_for r >>= (λ d. Ok (compact_text d))
@@ -101,15 +101,15 @@ unfoldable pub ended : List ℕ → Result (List ℕ) RequestFault
 ended line = if nat_lt LINE_MAX (length line) then Err TooLong else Ok (line ++ 10 ∷ [])
 
 -- the line that asks for it, with its line feed, or why there is none
-unfoldable pub text_of : Request → Result (List ℕ) RequestFault
-text_of r = line_for r >>= ended
+unfoldable pub request_line_text : Request → Result (List ℕ) RequestFault
+request_line_text r = line_for r >>= ended
 
 -- ---- which there are
 
 -- a request that a client may make
-abbrev pub IsRequest : Request → Type 0
-IsRequest (Need name when) = (is_name name ≡ true) × IsWhen when
-IsRequest (Replace name credential) = (is_name name ≡ true) × (is_credential credential ≡ true)
-IsRequest (Add table) = Unit {0}
-IsRequest (Drop name) = is_name name ≡ true
-IsRequest _ = Unit {0}
+abbrev pub IsControlRequest : Request → Type 0
+IsControlRequest (Need name when) = (is_name name ≡ true) × IsWhen when
+IsControlRequest (Replace name credential) = (is_name name ≡ true) × (is_credential credential ≡ true)
+IsControlRequest (Add table) = Unit {0}
+IsControlRequest (Drop name) = is_name name ≡ true
+IsControlRequest _ = Unit {0}

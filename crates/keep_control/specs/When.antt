@@ -1,6 +1,6 @@
 -- When: until when an entry is to be needed, as the word of a request says it.
 -- Source: RFC 3339, section 5.6, for a date; the rest is this project's own.
-use Rattle.std.specs.Prelude.{ℕ, ◌+◌, ◌-◌, ◌*◌, ◌≤◌, Bool, ◌&&◌, ◌==◌, if◌then◌else◌, List, ◌∷◌, Option, Some, None, length, take, drop, slice_index, nat_lt, nat_le, codes, decimal, option_map}
+use Rattle.std.specs.Prelude.{ℕ, ◌+◌, ◌-◌, ◌*◌, ◌≤◌, Bool, ◌&&◌, ◌==◌, if◌then◌else◌, List, ◌∷◌, Option, Some, None, length, take, drop, slice_index, nat_lt, nat_le, decimal, option_map}
 use Rattle.std.specs.Char.{is_ascii_digit}
 use Rattle.std.specs.List.{list_all}
 use Rattle.std.specs.Str.Parse.{digits_value}
@@ -8,7 +8,8 @@ use Rattle.keep_moment.specs.declared.moment.TheConstants.{LAST}
 use Rattle.keep_inventory.specs.Languages.{full}
 use Rattle.keep_inventory.specs.Values.{need_text}
 use Rattle.keep_inventory.specs.declared.need.Need.{Need}
-use Rattle.keep_inventory.specs.declared.need.Need.TheVariants.{Until, Always}
+use Rattle.keep_inventory.specs.declared.need.Need.TheVariants.{Until}
+use Rattle.keep_inventory.specs.Needs.{IsNeed, need_word}
 use Rattle.keep_control.specs.declared.when.When.{When}
 use Rattle.keep_control.specs.declared.when.When.TheVariants.{Fixed, FromNow}
 
@@ -38,13 +39,13 @@ seconds_each size text = if nat_lt 0 size && is_number text then if_not_past (di
 unfoldable pub span_of : List ℕ → Option ℕ
 span_of text = if is_number text then seconds_each 1 text else seconds_each (unit_seconds (last_byte text)) (but_last text)
 
-abbrev pub until_if : Option ℕ → Option When
-until_if None = None
-until_if (Some t) = Some (Fixed (Until t))
+abbrev pub fixed_if : Option ℕ → Option When
+fixed_if None = None
+fixed_if (Some t) = Some (Fixed (Until t))
 
 -- a moment in seconds since 1970-01-01T00:00:00Z; or else what an inventory has: a date, or `always`
 unfoldable pub fixed_of : List ℕ → Option When
-fixed_of word = if is_number word then until_if (seconds_each 1 word) else option_map (λ need. Fixed need) (need_text full word)
+fixed_of word = if is_number word then fixed_if (seconds_each 1 word) else option_map (λ need. Fixed need) (need_text full word)
 
 -- what a word says: after a plus, a time from now
 unfoldable pub when_of : List ℕ → Option When
@@ -52,19 +53,11 @@ when_of word = if slice_index word 0 == 43 then option_map (λ n. FromNow n) (sp
 
 -- ---- as it is written
 
-abbrev pub need_word : Need → List ℕ
-need_word (Until t) = decimal t
-need_word Always = codes "always"
-
 abbrev pub when_word : When → List ℕ
 when_word (Fixed need) = need_word need
 when_word (FromNow n) = 43 ∷ decimal n
 
 -- ---- which there are
-
-abbrev pub IsNeed : Need → Type 0
-IsNeed (Until t) = t ≤ LAST
-IsNeed Always = Unit {0}
 
 abbrev pub IsWhen : When → Type 0
 IsWhen (Fixed need) = IsNeed need

@@ -3,7 +3,7 @@
 use Rattle.std.specs.Prelude.{ℕ, Bool, if◌then◌else◌, List, [], ◌∷◌, get_or, Option, Some, None, option_map, option_and_then, Result, Ok, Err}
 use Rattle.serde_json.specs.Data.{Data, string, array, Items, no_items, item}
 use Rattle.serde_json.specs.Find.{as_array, as_str}
-use Rattle.vault_json.specs.Body.{tree_of}
+use Rattle.vault_json.specs.Body.{json_tree}
 use Rattle.keep_control.specs.declared.fault.RequestFault.{RequestFault}
 use Rattle.keep_control.specs.declared.fault.RequestFault.TheVariants.{NotWords}
 
@@ -23,8 +23,8 @@ one_or_more [] = None
 one_or_more (w ∷ ws) = Some (w ∷ ws)
 
 -- the words of a tree: an array of texts, one at least
-unfoldable pub words_in : Data → Option (List (List ℕ))
-words_in d = option_and_then one_or_more (option_and_then texts_of (as_array d))
+unfoldable pub words_in_tree : Data → Option (List (List ℕ))
+words_in_tree d = option_and_then one_or_more (option_and_then texts_of (as_array d))
 
 abbrev pub or_not_words : {A : Type 0} → Option A → Result A RequestFault
 or_not_words None = Err NotWords
@@ -32,7 +32,7 @@ or_not_words (Some x) = Ok x
 
 -- the words of a line, or that it has none
 unfoldable pub words_of : List ℕ → Result (List (List ℕ)) RequestFault
-words_of line = or_not_words (option_and_then words_in (tree_of line))
+words_of line = or_not_words (option_and_then words_in_tree (json_tree line))
 
 -- ---- as it is written
 

@@ -1,5 +1,5 @@
 ghost use Rattle.std.specs.Prelude.{◌≡◌};
-ghost use Rattle.keep_control.specs.Replies.{why_of};
+ghost use Rattle.keep_control.specs.Replies.{request_fault_text};
 ghost use Rattle.keep_control.specs.declared.fault.RequestFault.TheVariants as faults;
 
 use std::alloc::{AllocError, AllocFailed};
@@ -27,9 +27,9 @@ pub enum RequestFault {
 
 impl RequestFault {
     /// The reason in words, for the one who asked.
-    #[tactic(auto, unfolding(crate::specs::Replies::why_of))]
+    #[tactic(auto, unfolding(crate::specs::Replies::request_fault_text))]
     pub fn why(self) -> &'static str
-        ensures { result.now ≡ why_of self }
+        ensures { result.now ≡ request_fault_text self }
     {
         match self {
             RequestFault::TooLong => "a request is one line of at most 65536 bytes",

@@ -1,5 +1,5 @@
 ghost use Rattle.std.specs.Prelude.{◌≡◌};
-ghost use Rattle.keep_control.specs.Front.{IsFront};
+ghost use Rattle.keep_control.specs.Front.{IsLineFront};
 
 use crate::limits::LINE_MAX;
 use memchr::memchr;
@@ -17,7 +17,7 @@ pub enum Front {
 
 /// How far the first line of these bytes has come.
 pub fn front_of(bytes: &[u8]) -> Front
-    ensures { IsFront bytes.now result }
+    ensures { IsLineFront bytes.now result }
 {
     match memchr(b'\n', bytes) {
         Some(length) if length <= LINE_MAX => Front::Whole(length),

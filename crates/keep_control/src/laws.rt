@@ -1,5 +1,5 @@
 ghost use Rattle.std.specs.Prelude.{◌≡◌};
-ghost use Rattle.keep_control.specs.Laws.{ReplyFound, ReplyOnly, RequestFound, RequestOnly, WhyIsLine, WrittenIsRead};
+ghost use Rattle.keep_control.specs.Laws.{ReplyFound, ReplyOnly, RequestFound, RequestOnly, RequestWrittenIsRead, WhyIsLine};
 ghost use Rattle.keep_control.specs.declared.limits.TheConstants.{LINE_MAX};
 
 /// The law of the limit: a request has at most 65,536 bytes.
@@ -16,7 +16,7 @@ pub fn requests_are_read()
 /// The law that joins writing and reading: what is written of a request that a client may make is one line and its line feed,
 /// and is read as that request.
 pub fn requests_are_read_back()
-    ensures { WrittenIsRead }
+    ensures { RequestWrittenIsRead }
 {}
 
 /// The laws of replies: the text of a reply is read as that reply, and no other text is; why a request was not read is one

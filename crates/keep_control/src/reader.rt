@@ -4,7 +4,7 @@ ghost use Rattle.std.specs.List.{list_all};
 ghost use Rattle.keep_tree.specs.Push.{is_name, is_name_byte};
 ghost use Rattle.keep_inventory.specs.Values.{is_credential};
 ghost use Rattle.keep_control.specs.Answer.{Gives};
-ghost use Rattle.keep_control.specs.Requests.{asked_of, command_of, if_named, need_of, plain_of, replace_of, request_of};
+ghost use Rattle.keep_control.specs.Requests.{asked_by_line, command_of, if_named, need_request, plain_of, replace_of, request_in_line};
 ghost use Rattle.keep_control.specs.When.{when_of};
 ghost use Rattle.keep_control.specs.declared.fault.RequestFault.TheVariants as faults;
 ghost use Rattle.keep_control.specs.declared.request.Request.TheVariants.{Drop};
@@ -26,9 +26,9 @@ use std::alloc::Global;
 ///
 /// The first fault in the order of [`RequestFault`], or out of memory. A line that is too long is refused before any memory is
 /// asked for.
-#[tactic(auto, unfolding(crate::specs::Requests::request_of))]
+#[tactic(auto, unfolding(crate::specs::Requests::request_in_line))]
 pub fn read_request(alloc: Global, line: &[u8]) -> Result<Request, RequestFault>
-    ensures request { Gives (λ request. request) result (request_of line.now) }
+    ensures request { Gives (λ request. request) result (request_in_line line.now) }
     ensures too_long { LINE_MAX < length line.now → result ≡ Err faults.TooLong }
 {
     if line.len() > LINE_MAX {
@@ -38,9 +38,9 @@ pub fn read_request(alloc: Global, line: &[u8]) -> Result<Request, RequestFault>
 }
 
 // What a line asks for that is not too long.
-#[tactic(auto, unfolding(crate::specs::Requests::asked_of))]
+#[tactic(auto, unfolding(crate::specs::Requests::asked_by_line))]
 fn asked(alloc: Global, line: &[u8]) -> Result<Request, RequestFault>
-    ensures { Gives (λ request. request) result (asked_of line.now) }
+    ensures { Gives (λ request. request) result (asked_by_line line.now) }
 {
     let words = Words::read(alloc, line)?;
     command(alloc, &words)
@@ -90,7 +90,7 @@ fn plain(alloc: Global, words: &Words) -> Result<Request, RequestFault>
 
 // A need of the entry of that name.
 fn need(alloc: Global, name: &str, when: &str) -> Result<Request, RequestFault>
-    ensures { Gives (λ request. request) result (if_named name.now (need_of name.now (when_of when.now))) }
+    ensures { Gives (λ request. request) result (if_named name.now (need_request name.now (when_of when.now))) }
 {
     if !is_name(name.as_bytes()) {
         return Err(RequestFault::BadName);

@@ -1,5 +1,5 @@
 ghost use Rattle.std.specs.Prelude.{◌≡◌, ◌++◌, ◌∷◌, [], IfOk, OnOk};
-ghost use Rattle.keep_control.specs.Replies.{lines_text, reply_lines, reply_text};
+ghost use Rattle.keep_control.specs.Replies.{control_reply_text, lines_text, reply_lines};
 
 use keep_moment::Text;
 use std::alloc::{AllocError, Global};
@@ -47,9 +47,9 @@ pub enum Reply {
 /// The lines of a reply: `ok` and the lines that tell more, or `error: WHY`, each with its line feed.
 ///
 /// The only error is out of memory.
-#[tactic(auto, unfolding(crate::specs::Replies::reply_text))]
+#[tactic(auto, unfolding(crate::specs::Replies::control_reply_text))]
 pub fn write_reply(alloc: Global, reply: &Reply) -> Result<Text, AllocError>
-    ensures { IfOk result (λ text. text ≡ reply_text reply.now) }
+    ensures { IfOk result (λ text. text ≡ control_reply_text reply.now) }
 {
     let mut text = Vec::new(alloc);
     push_reply(reply, &mut text)?;

@@ -1,5 +1,5 @@
 ghost use Rattle.std.specs.Prelude.{◌≡◌, IfOk, Some, option_map};
-ghost use Rattle.keep_control.specs.Replies.{lines_of, refusal_of, refused_in, reply_in, reply_of};
+ghost use Rattle.keep_control.specs.Replies.{lines_of_text, refusal_of, refused_in, reply_in_lines, reply_in_text};
 
 use crate::reply::{Lines, Reply};
 use keep_moment::Text;
@@ -10,9 +10,9 @@ use std::alloc::{AllocError, Global};
 /// ends within a line.
 ///
 /// The only error is out of memory.
-#[tactic(auto, unfolding(crate::specs::Replies::reply_of))]
+#[tactic(auto, unfolding(crate::specs::Replies::reply_in_text))]
 pub fn read_reply(alloc: Global, bytes: &[u8]) -> Result<Option<Reply>, AllocError>
-    ensures { IfOk result (λ reply. reply ≡ reply_of bytes.now) }
+    ensures { IfOk result (λ reply. reply ≡ reply_in_text bytes.now) }
 {
     match lines(alloc, bytes)? {
         None => Ok(None),
@@ -22,7 +22,7 @@ pub fn read_reply(alloc: Global, bytes: &[u8]) -> Result<Option<Reply>, AllocErr
 
 // The reply that lines are.
 fn said(alloc: Global, mut lines: Vec<Text>) -> Result<Option<Reply>, AllocError>
-    ensures { IfOk result (λ reply. reply ≡ reply_in lines.items) }
+    ensures { IfOk result (λ reply. reply ≡ reply_in_lines lines.items) }
 {
     if lines.is_empty() {
         return Ok(None);
@@ -60,9 +60,9 @@ fn refusal(line: &[u8]) -> Option<&[u8]>
 }
 
 // The lines of a text, where each has its line feed.
-#[tactic(auto, unfolding(crate::specs::Replies::lines_of))]
+#[tactic(auto, unfolding(crate::specs::Replies::lines_of_text))]
 fn lines(alloc: Global, text: &[u8]) -> Result<Option<Vec<Text>>, AllocError>
-    ensures { IfOk result (λ lines. option_map (λ v. v.items) lines ≡ lines_of text.now) }
+    ensures { IfOk result (λ lines. option_map (λ v. v.items) lines ≡ lines_of_text text.now) }
 {
     let mut lines = Vec::new(alloc);
     let mut rest = text;

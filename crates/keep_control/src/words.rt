@@ -2,7 +2,7 @@ ghost use Rattle.std.specs.Prelude.{◌≡◌, ◌<◌, IsTrue, length, map, str
 ghost use Rattle.serde_json.specs.View.{items_view, view};
 ghost use Rattle.keep_control.specs.Answer.{Gives};
 ghost use Rattle.keep_control.specs.Requests.{is_command, is_command_with};
-ghost use Rattle.keep_control.specs.Words.{or_not_words, texts_of, word_at, words_in, words_of};
+ghost use Rattle.keep_control.specs.Words.{or_not_words, texts_of, word_at, words_in_tree, words_of};
 
 use crate::fault::RequestFault;
 use crate::tree::tree;
@@ -35,9 +35,9 @@ impl Words {
     }
 
     // The words of a tree.
-    #[tactic(auto, unfolding(crate::specs::Words::words_in))]
+    #[tactic(auto, unfolding(crate::specs::Words::words_in_tree))]
     fn of(alloc: Global, tree: &Value) -> Result<Words, RequestFault>
-        ensures { Gives (λ words. words) result (or_not_words (words_in (view tree.now))) }
+        ensures { Gives (λ words. words) result (or_not_words (words_in_tree (view tree.now))) }
     {
         let Value::Array(items) = tree else {
             return Err(RequestFault::NotWords);

@@ -2,10 +2,11 @@ ghost use Rattle.std.specs.Prelude.{◌≡◌, ◌∷◌, [], ◌&&◌, IfOk, Ma
 ghost use Rattle.std.specs.Str.{is_utf8};
 ghost use Rattle.serde_json.specs.View.{view};
 ghost use Rattle.keep_control.specs.Answer.{Gives};
-ghost use Rattle.keep_control.specs.Requests.{ended, line_for, text_of, tree_for};
-ghost use Rattle.keep_control.specs.When.{need_word, when_word};
+ghost use Rattle.keep_control.specs.Requests.{ended, line_for, request_line_text, tree_for};
+ghost use Rattle.keep_control.specs.When.{when_word};
 ghost use Rattle.keep_control.specs.Words.{texted, tree_of_words};
 ghost use Rattle.keep_control.specs.declared.fault.RequestFault.TheVariants as faults;
+ghost use Rattle.keep_inventory.specs.Needs.{need_word};
 
 use crate::fault::RequestFault;
 use crate::limits::LINE_MAX;
@@ -21,9 +22,9 @@ use std::alloc::{AllocError, Global};
 /// # Errors
 ///
 /// `NotWords` where a text of it is not UTF-8, `TooLong`, or out of memory.
-#[tactic(auto, unfolding(crate::specs::Requests::text_of))]
+#[tactic(auto, unfolding(crate::specs::Requests::request_line_text))]
 pub fn write_request(alloc: Global, request: &Request) -> Result<Text, RequestFault>
-    ensures { Gives (λ text. text) result (text_of request.now) }
+    ensures { Gives (λ text. text) result (request_line_text request.now) }
 {
     ended(line_for(alloc, request)?)
 }

@@ -8,7 +8,7 @@ use Rattle.keep_tree.specs.Over.{chain, is_over}
 use Rattle.keep_tree.specs.Renewal.{all_last, capped, is_granted, renewal, renewed}
 use Rattle.keep_tree.proofs.Chains.{ParentsFirst, chain_same}
 use Rattle.keep_rule.specs.declared.wake.Wake.{Wake}
-use Rattle.keep_rule.specs.Ends.{after, ends_after, is_asked}
+use Rattle.keep_rule.specs.Ends.{ends_after, ends_after_wake_up, is_asked}
 use Rattle.keep_rule.specs.Keeps.{Keeps, ends_at}
 use Rattle.keep_rule.specs.Least.{IsLeastAndLatest}
 use Rattle.keep_rule.specs.Reach.{reach, reach_of}
@@ -52,15 +52,15 @@ renewed_alike es fs a margin ends t i =
     ∙ ap (λ b. cond ((entry_at es i).renewable && b) (renewal (entry_at fs i) t) (ends i)) (all_last_alike es fs a ends (t + margin) i)
     ∙ ap (λ n. cond ((entry_at es i).renewable && all_last es ends (t + margin) i) n (ends i)) (renewal_alike es fs a i t)
 
-pub after_alike : (es fs : List Entry) → Alike es fs → (margin : ℕ) (ends : ℕ → ℕ) (w : Wake) → after fs margin ends w ≡ after es margin ends w
-unfolding after
+pub after_alike : (es fs : List Entry) → Alike es fs → (margin : ℕ) (ends : ℕ → ℕ) (w : Wake) → ends_after_wake_up fs margin ends w ≡ ends_after_wake_up es margin ends w
+unfolding ends_after_wake_up
 after_alike es fs a margin ends w = fun_ext λ i. ap (λ n. cond (is_asked w i) n (ends i)) (renewed_alike es fs a margin ends w.at i)
 
 ends_after_alike : (es fs : List Entry) → Alike es fs → (margin : ℕ) (ws : List Wake) (ends : ℕ → ℕ) → ends_after fs margin ends ws ≡ ends_after es margin ends ws
 unfolding ends_after
 ends_after_alike es fs a margin [] ends = refl
 ends_after_alike es fs a margin (w ∷ ws) ends =
-    ends_after_alike es fs a margin ws (after fs margin ends w) ∙ ap (λ e. ends_after es margin e ws) (after_alike es fs a margin ends w)
+    ends_after_alike es fs a margin ws (ends_after_wake_up fs margin ends w) ∙ ap (λ e. ends_after es margin e ws) (after_alike es fs a margin ends w)
 
 pub ends_at_alike : (es fs : List Entry) → Alike es fs → (margin : ℕ) (ends : ℕ → ℕ) (ws : List Wake) (m : ℕ) → ends_at fs margin ends ws m ≡ ends_at es margin ends ws m
 unfolding ends_at

@@ -14,7 +14,7 @@ use Rattle.keep_rule.proofs.Lists.{need_within}
 use Rattle.keep_rule.specs.Reach.{reach}
 use Rattle.keep_rule.specs.Unkeepable.{AllKeepable}
 use Rattle.keep_core.specs.LawsOfSteps.{IsShaped}
-use Rattle.keep_core.specs.Always.{AlwaysLaw, NeverLaw, entry_from, forest_from, is_always, need_from, needs_from, until_reach}
+use Rattle.keep_core.specs.Always.{AlwaysLaw, NeverLaw, entry_from, forest_from, is_always_needed, need_from, needs_from, until_reach}
 use Rattle.keep_core.specs.Shorten.{is_short, least_reach}
 use Rattle.keep_core.specs.code.Passes.{needing}
 use Rattle.keep_core.proofs.Alike.{Alike, over_alike, reach_alike}
@@ -48,9 +48,9 @@ until_last (Some most) s = omega arith
 need_from_last : (g : Forest) → IsForest g → (always : List Bool) (s i : ℕ) → need_from g always s i ≤ LAST
 unfolding need_from
 need_from_last g forest always s i =
-    elim (cases_Bool (is_always always i)) [
-      | inl marked ↦ subst (λ n. n ≤ LAST) (sym (cond-true (is_always always i) (until_reach (least_reach g s i) s) (entry_at g.entries i).need marked)) (until_last (least_reach g s i) s)
-      | inr other ↦ subst (λ n. n ≤ LAST) (sym (cond-false (is_always always i) (until_reach (least_reach g s i) s) (entry_at g.entries i).need other)) (need_within g forest i)
+    elim (cases_Bool (is_always_needed always i)) [
+      | inl marked ↦ subst (λ n. n ≤ LAST) (sym (cond-true (is_always_needed always i) (until_reach (least_reach g s i) s) (entry_at g.entries i).need marked)) (until_last (least_reach g s i) s)
+      | inr other ↦ subst (λ n. n ≤ LAST) (sym (cond-false (is_always_needed always i) (until_reach (least_reach g s i) s) (entry_at g.entries i).need other)) (need_within g forest i)
     ]
 
 from_forest : (g : Forest) → IsForest g → (always : List Bool) (s : ℕ) → IsForest (forest_from g always s)
@@ -77,7 +77,7 @@ unfolding need_from
 never_law g always s never =
     from_is g always s ∙ ap (λ es. record { entries = es; margin = g.margin })
     (needing_same g.entries g.entries (need_from g always s) refl
-    (λ i within. ap (λ n. record (entry_at g.entries i) { need = n }) (sym (cond-false (is_always always i) (until_reach (least_reach g s i) s) (entry_at g.entries i).need (never i)))))
+    (λ i within. ap (λ n. record (entry_at g.entries i) { need = n }) (sym (cond-false (is_always_needed always i) (until_reach (least_reach g s i) s) (entry_at g.entries i).need (never i)))))
 
 -- ---- the forest from a start on reaches as far as the one before
 
@@ -95,14 +95,14 @@ module _ (g : Forest) (forest : IsForest g) (always : List Bool) (s : ℕ) where
   need_there : (i : ℕ) → i < length g.entries → (entry_at later.entries i).need ≡ need_from g always s i
   need_there i within = ap (λ (e : Entry). e.need) (needing_at g.entries (need_from g always s) i within)
 
-  marked_need : (i most : ℕ) → is_always always i ≡ true → least_reach g s i ≡ Some most → need_from g always s i ≤ most
+  marked_need : (i most : ℕ) → is_always_needed always i ≡ true → least_reach g s i ≡ Some most → need_from g always s i ≤ most
   unfolding need_from
   marked_need i most marked least =
       let is : need_from g always s i ≡ min most LAST =
-      cond-true (is_always always i) (until_reach (least_reach g s i) s) (entry_at g.entries i).need marked ∙ ap (λ o. until_reach o s) least in omega (arith, is)
+      cond-true (is_always_needed always i) (until_reach (least_reach g s i) s) (entry_at g.entries i).need marked ∙ ap (λ o. until_reach o s) least in omega (arith, is)
 
   -- a need that is always is within each reach over its entry
-  within_reach : (i a most : ℕ) → is_always always i ≡ true → Over later.entries a i → reach later.entries later.margin s (end_of later.entries) a ≡ Some most → (entry_at later.entries i).need ≤ most
+  within_reach : (i a most : ℕ) → is_always_needed always i ≡ true → Over later.entries a i → reach later.entries later.margin s (end_of later.entries) a ≡ Some most → (entry_at later.entries i).need ≤ most
   within_reach i a most marked over reaches =
       let es = g.entries in
       let fs = later.entries in
@@ -115,7 +115,7 @@ module _ (g : Forest) (forest : IsForest g) (always : List Bool) (s : ℕ) where
         | inr past ↦ let none = need_past fs i (let l = length_needing es (need_from g always s) in omega (arith, l, past)) in omega (arith, none)
       ]
 
-  never_short : (i : ℕ) → is_always always i ≡ true → is_short later s i ≡ false
+  never_short : (i : ℕ) → is_always_needed always i ≡ true → is_short later s i ≡ false
   never_short i marked =
       elim (cases_Bool (is_short later s i)) [
         | inr whole ↦ whole
@@ -126,20 +126,20 @@ module _ (g : Forest) (forest : IsForest g) (always : List Bool) (s : ℕ) where
             absurd (let k = c.less in omega (arith, k, l))
       ]
 
-  other_need : (i : ℕ) → is_always always i ≡ false → (entry_at g.entries i).need ≤ s → (entry_at later.entries i).need ≤ s
+  other_need : (i : ℕ) → is_always_needed always i ≡ false → (entry_at g.entries i).need ≤ s → (entry_at later.entries i).need ≤ s
   unfolding need_from
   other_need i other early =
       elim (cases_lt i (length g.entries)) [
         | inl within ↦
-            let is = need_there i within ∙ cond-false (is_always always i) (until_reach (least_reach g s i) s) (entry_at g.entries i).need other in omega (arith, is, early)
+            let is = need_there i within ∙ cond-false (is_always_needed always i) (until_reach (least_reach g s i) s) (entry_at g.entries i).need other in omega (arith, is, early)
         | inr past ↦ let none = need_past later.entries i (let l = length_needing g.entries (need_from g always s) in omega (arith, l, past)) in omega (arith, none)
       ]
 
-  all_keepable : ((i : ℕ) → is_always always i ≡ false → (entry_at g.entries i).need ≤ s) → AllKeepable later s (end_of later.entries)
+  all_keepable : ((i : ℕ) → is_always_needed always i ≡ false → (entry_at g.entries i).need ≤ s) → AllKeepable later s (end_of later.entries)
   all_keepable early entry needed pair =
       let after : s < (entry_at later.entries needed).need = pair.later in
       let short : pair.most < (entry_at later.entries needed).need = pair.short in
-      elim (cases_Bool (is_always always needed)) [
+      elim (cases_Bool (is_always_needed always needed)) [
         | inl marked ↦ let l = within_reach needed entry pair.most marked pair.over pair.reaches in omega (arith, l, short)
         | inr other ↦ let l = other_need needed other (early needed other) in omega (arith, l, after)
       ]

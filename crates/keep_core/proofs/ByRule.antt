@@ -11,7 +11,7 @@ use Rattle.keep_tree.specs.Push.{IsForest}
 use Rattle.keep_tree.specs.Renewal.{renewal}
 use Rattle.keep_tree.proofs.Carrying.{and_left}
 use Rattle.keep_tree.proofs.Entries.{entry_at_set_other, entry_at_set_same}
-use Rattle.keep_rule.specs.Asks.{asking, asks, first_of, is_wanted}
+use Rattle.keep_rule.specs.Asks.{asking, asks, first_of, is_to_be_asked}
 use Rattle.keep_rule.specs.Ends.{is_asked}
 use Rattle.keep_rule.specs.Schedule.{RisesStrictly}
 use Rattle.keep_rule.proofs.Asking.{asks_wanted}
@@ -22,7 +22,7 @@ use Rattle.keep_rule.specs.declared.force.Force.{Force}
 use Rattle.keep_rule.specs.Runs.{moments_of}
 use Rattle.keep_plan.specs.Planned.{Planned, next_after, to_come}
 use Rattle.keep_core.specs.InForce.{AllForcedAs}
-use Rattle.keep_core.specs.code.Keeping.{IsByRule, flag, waited_for}
+use Rattle.keep_core.specs.code.Keeping.{RoundIsByRule, flag_of, waited_for}
 use Rattle.keep_core.specs.LawsOfPlans.{IsAnsweredByRule}
 use Rattle.keep_core.specs.Replan.{IsPlanOf}
 use Rattle.keep_core.specs.Shorten.{pairs, shorten}
@@ -56,7 +56,7 @@ neither false b f = refl
 -- at the opening nobody has answered
 pub opens_by_rule :
     (h : Forest) → IsForest h → (t : ℕ) (x : Force) (p : Planned) → x.at ≡ t → IsPlanOf h t (t ∷ moments_of (to_come p)) → AllForcedAs h.entries h.margin t (end_of h.entries) None (x ∷ to_come p) →
-    (flags : List Bool) → waited_for flags ≡ asks h.entries h.margin t (end_of h.entries) t (first_of (moments_of (to_come p))) → IsByRule h t p flags
+    (flags : List Bool) → waited_for flags ≡ asks h.entries h.margin t (end_of h.entries) t (first_of (moments_of (to_come p))) → RoundIsByRule h t p flags
 unfolding is_asked
 opens_by_rule h forest t x p at best forced flags same =
     let next = first_of (moments_of (to_come p)) in
@@ -72,16 +72,16 @@ opens_by_rule h forest t x p at best forced flags same =
       count = refl;
       asked = λ i yes'. ap (list_any (λ j. j == i)) (sym same) ∙ waits_flag flags i ∙ yes';
       each = λ i.
-          let none = neither (asked i) (flag flags i) (λ yes'. sym (waits_flag flags i) ∙ ap (list_any (λ j. j == i)) same ∙ yes') in
+          let none = neither (asked i) (flag_of flags i) (λ yes'. sym (waits_flag flags i) ∙ ap (list_any (λ j. j == i)) same ∙ yes') in
           ap (λ b. record (entry_at h.entries i) { end = cond b (renewal (entry_at h.entries i) t) (entry_at h.entries i).end }) (sym none);
     }
 
 asked_renewable : (es : List Entry) (margin t : ℕ) (ends : ℕ → ℕ) (next : Option ℕ) (i : ℕ) → is_asked (asking es margin t ends t next) i ≡ true → (entry_at es i).renewable ≡ true
-unfolding is_wanted
+unfolding is_to_be_asked
 asked_renewable es margin t ends next i asked = and_left (entry_at es i).renewable _ (sym (asks_wanted es margin t ends t next i) ∙ asked)
 
 -- an entry that is waited for is as it was at the opening
-pub waits_as_was : (h : Forest) (t : ℕ) (p : Planned) (flags : List Bool) (rule : IsByRule h t p flags) (i : ℕ) → flag flags i ≡ true → entry_at h.entries i ≡ entry_at rule.g.entries i
+pub waits_as_was : (h : Forest) (t : ℕ) (p : Planned) (flags : List Bool) (rule : RoundIsByRule h t p flags) (i : ℕ) → flag_of flags i ≡ true → entry_at h.entries i ≡ entry_at rule.g.entries i
 waits_as_was h t p flags rule i yes' =
     let g = rule.g in
     let asked = is_asked (asking g.entries g.margin t (end_of g.entries) t (first_of (moments_of (to_come p)))) i in
@@ -91,9 +91,9 @@ waits_as_was h t p flags rule i yes' =
 
 -- one more answer that is the rule's
 pub more_by_rule :
-    (h : Forest) (t : ℕ) (p : Planned) (flags : List Bool) → IsByRule h t p flags → (i end : ℕ) → i < length flags → i < length h.entries → flag flags i ≡ true →
+    (h : Forest) (t : ℕ) (p : Planned) (flags : List Bool) → RoundIsByRule h t p flags → (i end : ℕ) → i < length flags → i < length h.entries → flag_of flags i ≡ true →
     end ≡ renewal (entry_at h.entries i) t →
-    IsByRule (record { entries = set h.entries i (record (entry_at h.entries i) { end = end; renewable = true }); margin = h.margin }) t p (set flags i false)
+    RoundIsByRule (record { entries = set h.entries i (record (entry_at h.entries i) { end = end; renewable = true }); margin = h.margin }) t p (set flags i false)
 more_by_rule h t p flags rule i end there within yes' is =
     let g = rule.g in
     let next = first_of (moments_of (to_come p)) in
@@ -111,13 +111,13 @@ more_by_rule h t p flags rule i end there within yes' is =
       margin = rule.margin;
       count = length-set h.entries i e ∙ rule.count;
       asked = λ k still. elim (cases_eq k i) [
-        | inl same ↦ absurd (let no' : flag (set flags i false) k ≡ false = ap (flag (set flags i false)) same ∙ get_or-set_same flags i false false there in cc)
+        | inl same ↦ absurd (let no' : flag_of (set flags i false) k ≡ false = ap (flag_of (set flags i false)) same ∙ get_or-set_same flags i false false there in cc)
         | inr apart ↦ rule.asked k (sym (get_or-set_other flags i k false false apart) ∙ still)
       ];
       each = λ k. elim (cases_eq k i) [
         | inl same ↦
-            let off : flag (set flags i false) k ≡ false = ap (flag (set flags i false)) same ∙ get_or-set_same flags i false false there in
-            let on : asked k && not (flag (set flags i false) k) ≡ true = ap (λ b. asked k && not b) off ∙ ap (λ b. b && true) (ap asked same ∙ rule.asked i yes') in
+            let off : flag_of (set flags i false) k ≡ false = ap (flag_of (set flags i false)) same ∙ get_or-set_same flags i false false there in
+            let on : asked k && not (flag_of (set flags i false) k) ≡ true = ap (λ b. asked k && not b) off ∙ ap (λ b. b && true) (ap asked same ∙ rule.asked i yes') in
             ap (entry_at (set h.entries i e)) same ∙ entry_at_set_same h.entries i e within
             ∙ ap (λ n. record (entry_at h.entries i) { end = n; renewable = true }) is
             ∙ ap (λ (w : Entry). record w { end = renewal w t; renewable = true }) was
@@ -130,15 +130,15 @@ more_by_rule h t p flags rule i end there within yes' is =
       ];
     }
 
-no_flag : (flags : List Bool) (i : ℕ) → waited_for flags ≡ [] → flag flags i ≡ false
-no_flag flags i none = elim (cases_Bool (flag flags i)) [
+no_flag : (flags : List Bool) (i : ℕ) → waited_for flags ≡ [] → flag_of flags i ≡ false
+no_flag flags i none = elim (cases_Bool (flag_of flags i)) [
   | inr no' ↦ no'
   | inl yes' ↦ absurd (let bad : true ≡ false = sym (waits_flag flags i ∙ yes') ∙ ap (list_any (λ j. j == i)) none in cc)
 ]
 
 -- where all have answered, the rest of the plan is what planning anew gives, with its forces, and nothing is shortened
 pub closes_by_rule :
-    (h : Forest) (t : ℕ) (p : Planned) (flags : List Bool) → IsByRule h t p flags → waited_for flags ≡ [] →
+    (h : Forest) (t : ℕ) (p : Planned) (flags : List Bool) → RoundIsByRule h t p flags → waited_for flags ≡ [] →
     (shorten h t ≡ h) × (pairs h t ≡ []) × IsPlanOf h t (moments_of (to_come p)) × AllForcedAs h.entries h.margin t (end_of h.entries) None (to_come p)
 closes_by_rule h t p flags rule none =
     let g = rule.g in

@@ -4,7 +4,7 @@ use Rattle.std.proofs.lemmas.Bool.Decides.{nat_tests}
 use Rattle.std.specs.List.{list_any}
 use Rattle.keep_tree.specs.Forest.{end_of, entry_at}
 use Rattle.keep_tree.proofs.Carrying.{and_left}
-use Rattle.keep_rule.specs.Asks.{first_of, is_wanted}
+use Rattle.keep_rule.specs.Asks.{first_of, is_to_be_asked}
 use Rattle.keep_rule.proofs.Asking.{asks_wanted}
 use Rattle.keep_rule.proofs.Next.{renewable_within}
 use Rattle.keep_core.specs.declared.event.Event.{Event}
@@ -13,19 +13,19 @@ use Rattle.keep_core.specs.declared.event.Output.{Output}
 use Rattle.keep_core.specs.declared.event.Output.TheVariants as out
 use Rattle.keep_core.specs.declared.fault.StepFault.{StepFault}
 use Rattle.keep_core.specs.declared.fault.StepFault.TheVariants.{ClockBack, RoundOpen, NotAsked, BadIndex, OutOfRange, TooLong, OutOfMemory}
-use Rattle.keep_core.specs.LawsOfHistories.{AllTaken, AnswerEach, ClosesLaw, IsAnswer, NoneWants, OrderLaw, left_by}
+use Rattle.keep_core.specs.LawsOfHistories.{AllTaken, AnswerEach, ClosesLaw, IsAnswerEvent, NoneWants, OrderLaw, unanswered_after}
 use Rattle.keep_core.specs.declared.refusal.TheConstants.{LONGEST}
-use Rattle.keep_core.specs.Refusal.{TellsSpan, refusal, waits_for}
-use Rattle.keep_core.specs.History.{History, Turn}
-use Rattle.keep_core.specs.State.{Round, State}
-use Rattle.keep_core.specs.States.{IsOpened, IsState}
-use Rattle.keep_core.specs.Step.{StepAnswer, StepTooLong, left, of_entry}
+use Rattle.keep_core.specs.Refusal.{TellsSpan, step_refusal, waits_for}
+use Rattle.keep_core.specs.History.{CoreHistory, CoreTurn}
+use Rattle.keep_core.specs.State.{CoreState, Round}
+use Rattle.keep_core.specs.States.{IsState, RoundIsOpened}
+use Rattle.keep_core.specs.Step.{StepAnswer, StepTooLong, entry_of_event, left}
 use Rattle.keep_core.proofs.Orders.{AreAnswers, same_round, step_taken, taken_alike}
 use Rattle.keep_core.proofs.States.{turn_state}
 
 -- who is waited for is an entry
-asked_within : (s : State) (round : Round) (i : ℕ) → IsOpened s.forest s.to_come round → waits_for (Some round) i ≡ true → i < length s.forest.entries
-unfolding is_wanted
+asked_within : (s : CoreState) (round : Round) (i : ℕ) → RoundIsOpened s.forest s.to_come round → waits_for (Some round) i ≡ true → i < length s.forest.entries
+unfolding is_to_be_asked
 asked_within s round i o waits =
     let es = o.before.entries in
     let next = first_of s.to_come in
@@ -40,8 +40,8 @@ none_met true b c x y z p q r = absurd cc
 none_met false true c x y z p q r = absurd cc
 none_met false false false x y z p q r = absurd cc
 
-not_refused : (s : State) (event : Event) → IsAnswer event → TellsSpan event → of_entry event < length s.forest.entries → waits_for s.round (of_entry event) ≡ true → refusal s event ≡ None
-unfolding refusal
+not_refused : (s : CoreState) (event : Event) → IsAnswerEvent event → TellsSpan event → entry_of_event event < length s.forest.entries → waits_for s.round (entry_of_event event) ≡ true → step_refusal s event ≡ None
+unfolding step_refusal
 not_refused s (Tick t) answer span within waits = absurd answer
 not_refused s (Told i seconds renewable) answer span within waits =
     let one : nat_lt LONGEST seconds ≡ false = grind (arith, nat_tests) in
@@ -56,7 +56,7 @@ not_refused s (Lost i) answer span within waits =
 not_refused s (Need i until) answer span within waits = absurd answer
 
 -- no answer is too long
-never_long : (old : State) (event : Event) → IsAnswer event → StepTooLong old event → ⊥
+never_long : (old : CoreState) (event : Event) → IsAnswerEvent event → StepTooLong old event → ⊥
 never_long old (Tick t) answer long = absurd answer
 never_long old (Told i seconds renewable) answer long = absurd long
 never_long old (Refused i) answer long = absurd long
@@ -65,28 +65,28 @@ never_long old (Need i until) answer long = absurd answer
 
 -- after the last answer there is no other
 none_behind :
-    (mid new : State) (round : Round) (events : List Event) (results : List (Result Output StepFault)) → round.unanswered ≡ [] → AnswerEach round events → mid.round ≡ None → History mid events results new →
+    (mid new : CoreState) (round : Round) (events : List Event) (results : List (Result Output StepFault)) → round.unanswered ≡ [] → AnswerEach round events → mid.round ≡ None → CoreHistory mid events results new →
     AllTaken results × (new.round ≡ None)
-none_behind mid new round [] [] none all closed history = (tt, ap (λ (s : State). s.round) history ∙ closed)
+none_behind mid new round [] [] none all closed history = (tt, ap (λ (s : CoreState). s.round) history ∙ closed)
 none_behind mid new round [] (result ∷ results) none all closed history = absurd history
 none_behind mid new round (event ∷ events) results none all closed history =
-    let bad : true ≡ false = sym all.1.1.0 ∙ ap (λ xs. list_any (λ j. j == of_entry event) xs) none in absurd cc
+    let bad : true ≡ false = sym all.1.1.0 ∙ ap (λ xs. list_any (λ j. j == entry_of_event event) xs) none in absurd cc
 
-abbrev Onward : List Event → List (Result Output StepFault) → State → Type 0
-Onward rest results new = (s : State) (r : Round) → IsState s → s.round ≡ Some r → AnswerEach r rest → History s rest results new → AllTaken results × (left_by r rest ≡ [] → new.round ≡ None)
+abbrev Onward : List Event → List (Result Output StepFault) → CoreState → Type 0
+Onward rest results new = (s : CoreState) (r : Round) → IsState s → s.round ≡ Some r → AnswerEach r rest → CoreHistory s rest results new → AllTaken results × (unanswered_after r rest ≡ [] → new.round ≡ None)
 
 step_closes :
-    (old mid new : State) (round : Round) (event : Event) (rest : List Event) (output : Output) (results : List (Result Output StepFault)) → IsState mid → old.round ≡ Some round →
-    AnswerEach (left round (of_entry event)) rest → StepAnswer old event output mid → History mid rest results new → Onward rest results new → AllTaken results × (left_by round (event ∷ rest) ≡ [] → new.round ≡ None)
+    (old mid new : CoreState) (round : Round) (event : Event) (rest : List Event) (output : Output) (results : List (Result Output StepFault)) → IsState mid → old.round ≡ Some round →
+    AnswerEach (left round (entry_of_event event)) rest → StepAnswer old event output mid → CoreHistory mid rest results new → Onward rest results new → AllTaken results × (unanswered_after round (event ∷ rest) ≡ [] → new.round ≡ None)
 step_closes old mid new round event rest out.Waiting results state is all step history onward =
     let r = same_round old step.0 round step.1.0 is in
-    let open_now : mid.round ≡ Some (left round (of_entry event)) = ap (λ (s : State). s.round) step.1.1.1 ∙ ap (λ (x : Round). Some (left x (of_entry event))) r in
-    onward mid (left round (of_entry event)) state open_now all history
+    let open_now : mid.round ≡ Some (left round (entry_of_event event)) = ap (λ (s : CoreState). s.round) step.1.1.1 ∙ ap (λ (x : Round). Some (left x (entry_of_event event))) r in
+    onward mid (left round (entry_of_event event)) state open_now all history
 step_closes old mid new round event rest (out.Round next) results state is all step history onward =
     let r = same_round old step.0 round step.1.0 is in
-    let none : (left round (of_entry event)).unanswered ≡ [] = subst (λ (x : Round). (left x (of_entry event)).unanswered ≡ []) r step.1.1.0 in
-    let closed : mid.round ≡ None = ap (λ (s : State). s.round) step.1.1.1.0.is in
-    let end = none_behind mid new (left round (of_entry event)) rest results none all closed history in
+    let none : (left round (entry_of_event event)).unanswered ≡ [] = subst (λ (x : Round). (left x (entry_of_event event)).unanswered ≡ []) r step.1.1.0 in
+    let closed : mid.round ≡ None = ap (λ (s : CoreState). s.round) step.1.1.1.0.is in
+    let end = none_behind mid new (left round (entry_of_event event)) rest results none all closed history in
     (end.0, λ _. end.1)
 step_closes old mid new round event rest out.Idle results state is all step history onward = absurd step
 step_closes old mid new round event rest (out.Sleep w) results state is all step history onward = absurd step
@@ -94,21 +94,21 @@ step_closes old mid new round event rest (out.Ask list) results state is all ste
 step_closes old mid new round event rest out.Planned results state is all step history onward = absurd step
 
 history_closes :
-    (events : List Event) (results : List (Result Output StepFault)) (old new : State) (round : Round) → IsState old → old.round ≡ Some round → AnswerEach round events → NoneWants results →
-    History old events results new → AllTaken results × (left_by round events ≡ [] → new.round ≡ None)
+    (events : List Event) (results : List (Result Output StepFault)) (old new : CoreState) (round : Round) → IsState old → old.round ≡ Some round → AnswerEach round events → NoneWants results →
+    CoreHistory old events results new → AllTaken results × (unanswered_after round events ≡ [] → new.round ≡ None)
 history_closes [] [] old new round state is all wants history = (tt, λ none. absurd (state.waits round is none))
 history_closes [] (result ∷ results) old new round state is all wants history = absurd history
 history_closes (event ∷ rest) [] old new round state is all wants history = absurd history
 history_closes (event ∷ rest) (result ∷ results) old new round state is all wants history =
     let waits = all.1.1.0 in
-    let within = asked_within old round (of_entry event) (state.opened round is) waits in
-    let taken = not_refused old event all.0 all.1.0 within (ap (λ r. waits_for r (of_entry event)) is ∙ waits) in
+    let within = asked_within old round (entry_of_event event) (state.opened round is) waits in
+    let taken = not_refused old event all.0 all.1.0 within (ap (λ r. waits_for r (entry_of_event event)) is ∙ waits) in
     by_result result taken (turn_state old event result history.0 state history.1.0) wants.0 history.1.0
     (λ s r there open_now still onward. history_closes rest results s new r there open_now still wants.1 onward) where
       Goal : Result Output StepFault → Type 0
-      Goal result = AllTaken (result ∷ results) × (left_by round (event ∷ rest) ≡ [] → new.round ≡ None)
+      Goal result = AllTaken (result ∷ results) × (unanswered_after round (event ∷ rest) ≡ [] → new.round ≡ None)
 
-      by_result : (result : Result Output StepFault) → refusal old event ≡ None → IsState history.0 → result ≢ Err OutOfMemory → Turn old event result history.0 → Onward rest results new → Goal result
+      by_result : (result : Result Output StepFault) → step_refusal old event ≡ None → IsState history.0 → result ≢ Err OutOfMemory → CoreTurn old event result history.0 → Onward rest results new → Goal result
       by_result (Ok output) taken next has turn onward =
           step_closes old history.0 new round event rest output results next is all.1.1.1 (step_taken old event output history.0 all.0 turn.1) history.1.1 onward
       by_result (Err ClockBack) taken next has turn onward = (let bad : Some ClockBack ≡ None = sym turn.0 ∙ taken in absurd cc)
@@ -124,7 +124,7 @@ closes old new round events results = history_closes events results old new roun
 
 are_answers : (round : Round) (events : List Event) → AnswerEach round events → AreAnswers events
 are_answers round [] each = tt
-are_answers round (event ∷ events) each = (each.0, are_answers (left round (of_entry event)) events each.1.1.1)
+are_answers round (event ∷ events) each = (each.0, are_answers (left round (entry_of_event event)) events each.1.1.1)
 
 pub order : OrderLaw
 order old x y round state is these others each too same results more memory also history onward =

@@ -8,8 +8,8 @@ use Rattle.keep_tree.specs.Forest.{Forest, end_of, entry_at}
 use Rattle.keep_tree.specs.Over.{Over}
 use Rattle.keep_tree.specs.Push.{IsForest}
 use Rattle.keep_tree.specs.Renewal.{renewal}
-use Rattle.keep_rule.specs.Asks.{asking, first_of, is_wanted}
-use Rattle.keep_rule.specs.Ends.{after}
+use Rattle.keep_rule.specs.Asks.{asking, first_of, is_to_be_asked}
+use Rattle.keep_rule.specs.Ends.{ends_after_wake_up}
 use Rattle.keep_rule.specs.Forced.{bound, latest_end}
 use Rattle.keep_rule.proofs.Asking.{wanted_renewable}
 use Rattle.keep_rule.proofs.Joining.{kept_before, plan_later}
@@ -58,8 +58,8 @@ answered_end g h t next answered i u later =
     let es = g.entries in
     let ends = end_of es in
     let e = entry_at es i in
-    let is : after es g.margin ends (asking es g.margin t ends t next) i ≡ end_of h.entries i = ap (λ (f : ℕ → ℕ). f i) (after_answers g h t next answered) in
-    elim (cases_Bool (is_wanted es g.margin t ends t next i)) [
+    let is : ends_after_wake_up es g.margin ends (asking es g.margin t ends t next) i ≡ end_of h.entries i = ap (λ (f : ℕ → ℕ). f i) (after_answers g h t next answered) in
+    elim (cases_Bool (is_to_be_asked es g.margin t ends t next i)) [
       | inl wanted ↦
           let new = after_wanted es g.margin t ends t next i wanted in
           let most = cond-true e.renewable (max (ends i) (renewal e u)) (ends i) (wanted_renewable es g.margin t ends t next i wanted) in

@@ -13,10 +13,10 @@ use Rattle.keep_tree.proofs.Entries.{entry_at_set_other, entry_at_set_same}
 use Rattle.keep_needs.specs.Carried.{CarriedNeed, IsCarried, NamesFrom}
 use Rattle.keep_core.specs.declared.event.Event.{Event}
 use Rattle.keep_core.specs.declared.event.Event.TheVariants.{Tick, Told, Refused, Lost, Need}
-use Rattle.keep_core.specs.code.Keeping.{flag, waited_for}
+use Rattle.keep_core.specs.code.Keeping.{flag_of, waited_for}
 use Rattle.keep_core.specs.Refusal.{waits_for}
 use Rattle.keep_core.specs.State.{Round}
-use Rattle.keep_core.specs.Step.{answered, change, without}
+use Rattle.keep_core.specs.Step.{entry_after_answer, with_entry_changed, without_index}
 use Rattle.keep_core.proofs.Taken.{set_back}
 
 pub waits_in : (round : Option Round) (i : ℕ) → waits_for round i ≡ true → (r : Round) × (round ≡ Some r)
@@ -25,16 +25,16 @@ waits_in (Some r) i e = (r, refl)
 
 -- Carried needs: an answer changes no parent and no need.
 
-answered_parent : (at : ℕ) (event : Event) (e : Entry) → (answered at event e).parent ≡ e.parent
-unfolding answered
+answered_parent : (at : ℕ) (event : Event) (e : Entry) → (entry_after_answer at event e).parent ≡ e.parent
+unfolding entry_after_answer
 answered_parent at (Tick t) e = refl
 answered_parent at (Told i seconds renewable) e = refl
 answered_parent at (Refused i) e = refl
 answered_parent at (Lost i) e = refl
 answered_parent at (Need i until) e = refl
 
-answered_need : (at : ℕ) (event : Event) (e : Entry) → (answered at event e).need ≡ e.need
-unfolding answered
+answered_need : (at : ℕ) (event : Event) (e : Entry) → (entry_after_answer at event e).need ≡ e.need
+unfolding entry_after_answer
 answered_need at (Tick t) e = refl
 answered_need at (Told i seconds renewable) e = refl
 answered_need at (Refused i) e = refl
@@ -84,10 +84,10 @@ module _ (es fs : List Entry) (over : (a f : ℕ) → is_over fs a f ≡ is_over
 
 pub carried_heard :
     (g : Forest) (i at : ℕ) (event : Event) → i < length g.entries → (s : ℕ) (loads : List CarriedNeed) → IsCarried g s loads →
-    IsCarried (change g i (answered at event)) s loads
+    IsCarried (with_entry_changed g i (entry_after_answer at event)) s loads
 carried_heard g i at event within s loads carries =
     let es = g.entries in
-    let e = answered at event (entry_at es i) in
+    let e = entry_after_answer at event (entry_at es i) in
     let fs = set es i e in
     let count : length fs ≡ length es = length-set es i e in
     let over = over_same es fs (field_kept (λ (x : Entry). x.parent) es i e within (answered_parent at event (entry_at es i))) in
@@ -100,14 +100,14 @@ carried_heard g i at event within s loads carries =
 
 -- Flags: one answer more.
 
-flag_set : (flags : List Bool) (i : ℕ) → i < length flags → (j : ℕ) → flag (set flags i false) j ≡ flag flags j && not (j == i)
+flag_set : (flags : List Bool) (i : ℕ) → i < length flags → (j : ℕ) → flag_of (set flags i false) j ≡ flag_of flags j && not (j == i)
 flag_set flags i within j = elim (cases_eq j i) [
   | inl same ↦
       let test : (j == i) ≡ true = grind (arith, nat_tests) in
-      ap (flag (set flags i false)) same ∙ get_or-set_same flags i false false within ∙ sym (ap (λ b. flag flags j && not b) test ∙ and-false (flag flags j))
+      ap (flag_of (set flags i false)) same ∙ get_or-set_same flags i false false within ∙ sym (ap (λ b. flag_of flags j && not b) test ∙ and-false (flag_of flags j))
   | inr apart ↦
       let test : (j == i) ≡ false = grind (arith, nat_tests) in
-      get_or-set_other flags i j false false apart ∙ sym (ap (λ b. flag flags j && not b) test ∙ and-true (flag flags j))
+      get_or-set_other flags i j false false apart ∙ sym (ap (λ b. flag_of flags j && not b) test ∙ and-true (flag_of flags j))
 ]
 
 filter_twice : (p q r : ℕ → Bool) → ((j : ℕ) → r j ≡ p j && q j) → (xs : List ℕ) → filter r xs ≡ filter q (filter p xs)
@@ -119,19 +119,19 @@ filter_twice p q r same (x ∷ xs) =
       by_test false = refl
 
 -- who has answered is no longer waited for
-pub waited_set : (flags : List Bool) (i : ℕ) → i < length flags → waited_for (set flags i false) ≡ without i (waited_for flags)
-unfolding waited_for without
+pub waited_set : (flags : List Bool) (i : ℕ) → i < length flags → waited_for (set flags i false) ≡ without_index i (waited_for flags)
+unfolding waited_for without_index
 waited_set flags i within =
-    ap (λ n. filter (flag (set flags i false)) (range_with_len 0 n)) (length-set flags i false)
-    ∙ filter_twice (flag flags) (λ j. not (j == i)) (flag (set flags i false)) (flag_set flags i within) (range_with_len 0 (length flags))
+    ap (λ n. filter (flag_of (set flags i false)) (range_with_len 0 n)) (length-set flags i false)
+    ∙ filter_twice (flag_of flags) (λ j. not (j == i)) (flag_of (set flags i false)) (flag_set flags i within) (range_with_len 0 (length flags))
 
-head_stays : (i a : ℕ) (xs : List ℕ) → a ≢ i → without i (a ∷ xs) ≡ a ∷ without i xs
-unfolding without
+head_stays : (i a : ℕ) (xs : List ℕ) → a ≢ i → without_index i (a ∷ xs) ≡ a ∷ without_index i xs
+unfolding without_index
 head_stays i a xs apart =
     let test : (a == i) ≡ false = grind (arith, nat_tests) in ap (λ b. cond (not b) (a ∷ filter (λ j. not (j == i)) xs) (filter (λ j. not (j == i)) xs)) test
 
-head_goes : (i a : ℕ) (xs : List ℕ) → a ≡ i → without i (a ∷ xs) ≡ without i xs
-unfolding without
+head_goes : (i a : ℕ) (xs : List ℕ) → a ≡ i → without_index i (a ∷ xs) ≡ without_index i xs
+unfolding without_index
 head_goes i a xs same =
     let test : (a == i) ≡ true = grind (arith, nat_tests) in ap (λ b. cond (not b) (a ∷ filter (λ j. not (j == i)) xs) (filter (λ j. not (j == i)) xs)) test
 
@@ -141,52 +141,52 @@ taken_in p a n yes' = ap (λ b. cond b (a ∷ filter p (range_with_len (a + 1) n
 left_out : (p : ℕ → Bool) (a n : ℕ) → p a ≡ false → filter p (range_with_len a (suc n)) ≡ filter p (range_with_len (a + 1) n)
 left_out p a n no' = ap (λ b. cond b (a ∷ filter p (range_with_len (a + 1) n)) (filter p (range_with_len (a + 1) n))) no'
 
-nothing : (i : ℕ) → without i [] ≡ []
-unfolding without
+nothing : (i : ℕ) → without_index i [] ≡ []
+unfolding without_index
 nothing i = refl
 
-not_among : (p : ℕ → Bool) (n a i : ℕ) → i < a → without i (filter p (range_with_len a n)) ≡ filter p (range_with_len a n)
+not_among : (p : ℕ → Bool) (n a i : ℕ) → i < a → without_index i (filter p (range_with_len a n)) ≡ filter p (range_with_len a n)
 not_among p zero a i low = nothing i
 not_among p (suc n) a i low =
     let rest = not_among p n (a + 1) i (omega arith) in
     elim (cases_Bool (p a)) [
-      | inl yes' ↦ ap (without i) (taken_in p a n yes') ∙ head_stays i a (filter p (range_with_len (a + 1) n)) (λ same. omega arith) ∙ ap (λ xs. a ∷ xs) rest ∙ sym (taken_in p a n yes')
-      | inr no' ↦ ap (without i) (left_out p a n no') ∙ rest ∙ sym (left_out p a n no')
+      | inl yes' ↦ ap (without_index i) (taken_in p a n yes') ∙ head_stays i a (filter p (range_with_len (a + 1) n)) (λ same. omega arith) ∙ ap (λ xs. a ∷ xs) rest ∙ sym (taken_in p a n yes')
+      | inr no' ↦ ap (without_index i) (left_out p a n no') ∙ rest ∙ sym (left_out p a n no')
     ]
 
-one_less : (p : ℕ → Bool) (n a i : ℕ) → a ≤ i → i < a + n → p i ≡ true → length (without i (filter p (range_with_len a n))) + 1 ≡ length (filter p (range_with_len a n))
+one_less : (p : ℕ → Bool) (n a i : ℕ) → a ≤ i → i < a + n → p i ≡ true → length (without_index i (filter p (range_with_len a n))) + 1 ≡ length (filter p (range_with_len a n))
 one_less p zero a i low high e = absurd (omega arith)
 one_less p (suc n) a i low high e =
     let rest = filter p (range_with_len (a + 1) n) in
     elim (cases_eq a i) [
       | inl same ↦
           let whole = taken_in p a n (ap p same ∙ e) in
-          let left = ap (without i) whole ∙ head_goes i a rest same ∙ not_among p n (a + 1) i (omega arith) in
+          let left = ap (without_index i) whole ∙ head_goes i a rest same ∙ not_among p n (a + 1) i (omega arith) in
           omega (arith, ap length whole, ap length left)
       | inr apart ↦
           let less = one_less p n (a + 1) i (omega arith) (omega arith) e in
           elim (cases_Bool (p a)) [
             | inl yes' ↦
                 let whole = taken_in p a n yes' in
-                let left = ap (without i) whole ∙ head_stays i a rest apart in
+                let left = ap (without_index i) whole ∙ head_stays i a rest apart in
                 omega (arith, ap length whole, ap length left, less)
             | inr no' ↦
                 let whole = left_out p a n no' in
-                let left = ap (without i) whole in
+                let left = ap (without_index i) whole in
                 omega (arith, ap length whole, ap length left, less)
           ]
     ]
 
 -- and one less is waited for
-pub waited_less : (flags : List Bool) (i : ℕ) → i < length flags → flag flags i ≡ true → length (waited_for (set flags i false)) + 1 ≡ length (waited_for flags)
+pub waited_less : (flags : List Bool) (i : ℕ) → i < length flags → flag_of flags i ≡ true → length (waited_for (set flags i false)) + 1 ≡ length (waited_for flags)
 unfolding waited_for
-waited_less flags i within waits = ap (λ xs. length xs + 1) (waited_set flags i within) ∙ one_less (flag flags) (length flags) 0 i (omega arith) (omega arith) waits
+waited_less flags i within waits = ap (λ xs. length xs + 1) (waited_set flags i within) ∙ one_less (flag_of flags) (length flags) 0 i (omega arith) (omega arith) waits
 
 -- Entries that are set twice, and put back.
 
 -- an entry that was set is changed
 pub set_then : (g : Forest) (i : ℕ) (e : Entry) (f : Entry → Entry) → i < length g.entries →
-    change (record { entries = set g.entries i e; margin = g.margin }) i f ≡ record { entries = set g.entries i (f e); margin = g.margin }
+    with_entry_changed (record { entries = set g.entries i e; margin = g.margin }) i f ≡ record { entries = set g.entries i (f e); margin = g.margin }
 set_then g i e f within =
     ap (λ (x : Entry). record { entries = set (set g.entries i e) i (f x); margin = g.margin }) (entry_at_set_same g.entries i e within)
     ∙ ap (λ es. record { entries = es; margin = g.margin }) (set-set g.entries i e (f e))
@@ -196,8 +196,8 @@ set_own g i within =
     let e = entry_at g.entries i in
     sym (ap (λ es. record { entries = es; margin = g.margin }) (set-set g.entries i e e)) ∙ set_back g i e within
 
-own_again : (at : ℕ) (event : Event) (e : Entry) → record (answered at event e) { end = e.end; renewable = e.renewable } ≡ e
-unfolding answered
+own_again : (at : ℕ) (event : Event) (e : Entry) → record (entry_after_answer at event e) { end = e.end; renewable = e.renewable } ≡ e
+unfolding entry_after_answer
 own_again at (Tick t) e = refl
 own_again at (Told i seconds renewable) e = refl
 own_again at (Refused i) e = refl
@@ -207,12 +207,12 @@ own_again at (Need i until) e = refl
 -- an end and a word on renewals, set back after an answer
 pub answer_back :
     (g h k : Forest) (i at : ℕ) (event : Event) (end : ℕ) (renewable : Bool) → i < length g.entries → end ≡ (entry_at g.entries i).end → renewable ≡ (entry_at g.entries i).renewable →
-    h ≡ change g i (answered at event) → k ≡ change h i (λ e. record e { end = end }) → change k i (λ e. record e { renewable = renewable }) ≡ g
+    h ≡ with_entry_changed g i (entry_after_answer at event) → k ≡ with_entry_changed h i (λ e. record e { end = end }) → with_entry_changed k i (λ e. record e { renewable = renewable }) ≡ g
 answer_back g h k i at event end renewable within ends able is next =
     let e = entry_at g.entries i in
-    let told = answered at event e in
-    let first = next ∙ ap (λ x. change x i (λ y. record y { end = end })) is ∙ set_then g i told (λ y. record y { end = end }) within in
-    ap (λ x. change x i (λ y. record y { renewable = renewable })) first
+    let told = entry_after_answer at event e in
+    let first = next ∙ ap (λ x. with_entry_changed x i (λ y. record y { end = end })) is ∙ set_then g i told (λ y. record y { end = end }) within in
+    ap (λ x. with_entry_changed x i (λ y. record y { renewable = renewable })) first
     ∙ set_then g i (record told { end = end }) (λ y. record y { renewable = renewable }) within
     ∙ ap (λ n. record { entries = set g.entries i (record told { end = n; renewable = renewable }); margin = g.margin }) ends
     ∙ ap (λ b. record { entries = set g.entries i (record told { end = e.end; renewable = b }); margin = g.margin }) able
@@ -221,8 +221,8 @@ answer_back g h k i at event end renewable within ends able is next =
 
 -- what neither tells nor refuses changes nothing
 pub untouched :
-    (at : ℕ) (event : Event) (e : Entry) → ((i : ℕ) × (event ≡ Lost i)) ⊎ (((t : ℕ) × (event ≡ Tick t)) ⊎ ((i : ℕ) × (until : ℕ) × (event ≡ Need i until))) → answered at event e ≡ e
-unfolding answered
-untouched at event e (inl lost) = ap (λ x. answered at x e) lost.1
-untouched at event e (inr (inl tick)) = ap (λ x. answered at x e) tick.1
-untouched at event e (inr (inr need)) = ap (λ x. answered at x e) need.2
+    (at : ℕ) (event : Event) (e : Entry) → ((i : ℕ) × (event ≡ Lost i)) ⊎ (((t : ℕ) × (event ≡ Tick t)) ⊎ ((i : ℕ) × (until : ℕ) × (event ≡ Need i until))) → entry_after_answer at event e ≡ e
+unfolding entry_after_answer
+untouched at event e (inl lost) = ap (λ x. entry_after_answer at x e) lost.1
+untouched at event e (inr (inl tick)) = ap (λ x. entry_after_answer at x e) tick.1
+untouched at event e (inr (inr need)) = ap (λ x. entry_after_answer at x e) need.2

@@ -10,16 +10,16 @@ use Rattle.keep_rule.specs.Forced.{bound}
 use Rattle.keep_rule.specs.declared.force.Force.{Force}
 use Rattle.keep_rule.specs.Runs.{moments_of}
 use Rattle.keep_schedule.specs.Forces.{AreForces}
-use Rattle.keep_plan.specs.Decides.{IsKept}
+use Rattle.keep_plan.specs.Decides.{IsBestPlan}
 use Rattle.keep_plan.specs.Planned.{Planned, to_come}
 use Rattle.keep_core.specs.declared.round.OpenRound.{OpenRound}
 use Rattle.keep_core.specs.declared.shortened.ShortNeed.{ShortNeed}
 use Rattle.keep_core.specs.InForce.{AllForcedAs}
-use Rattle.keep_core.specs.code.Keeping.{IsKeeper, seen, shown, waited_for}
+use Rattle.keep_core.specs.code.Keeping.{IsKeeper, seen_round, shown_round, waited_for}
 use Rattle.keep_core.specs.Replan.{IsPlanOf, Replan}
 use Rattle.keep_core.specs.Shorten.{pairs, shorten}
-use Rattle.keep_core.specs.State.{Round, State}
-use Rattle.keep_core.specs.States.{IsOpened, IsState}
+use Rattle.keep_core.specs.State.{CoreState, Round}
+use Rattle.keep_core.specs.States.{IsState, RoundIsOpened}
 
 pub count_moments : (xs : List Force) → length (moments_of xs) ≡ length xs
 count_moments [] = refl
@@ -46,7 +46,7 @@ forces_force es margin s ends prev (x ∷ xs) forces =
 
 -- the state that planning anew made
 pub made :
-    (s : State) (t : ℕ) (h : Forest) (p : Planned) (list : List ShortNeed) → h ≡ shorten s.forest t → list ≡ s.shortened ++ pairs s.forest t → IsKept h t p →
+    (s : CoreState) (t : ℕ) (h : Forest) (p : Planned) (list : List ShortNeed) → h ≡ shorten s.forest t → list ≡ s.shortened ++ pairs s.forest t → IsBestPlan h t p →
     Replan s t (record { forest = h; last = t; to_come = moments_of (to_come p); round = s.round; shortened = list })
 made s t h p list is noted kept = record {
   moments = moments_of (to_come p);
@@ -56,7 +56,7 @@ made s t h p list is noted kept = record {
       ∙ ap (λ xs. record { forest = shorten s.forest t; last = t; to_come = moments_of (to_come p); round = s.round; shortened = xs }) noted;
 }
 
-pub made_keeper : (h : Forest) (t : ℕ) (p : Planned) → IsForest h → t ≤ LAST → IsKept h t p → IsKeeper h t p None
+pub made_keeper : (h : Forest) (t : ℕ) (p : Planned) → IsForest h → t ≤ LAST → IsBestPlan h t p → IsKeeper h t p None
 made_keeper h t p forest late kept = record {
   forest = forest;
   late = late;
@@ -68,13 +68,13 @@ made_keeper h t p forest late kept = record {
   open_round = λ r is. absurd cc;
 }
 
-pub none_seen : (round : Option OpenRound) → seen round ≡ None → round ≡ None
+pub none_seen : (round : Option OpenRound) → seen_round round ≡ None → round ≡ None
 none_seen None e = refl
 none_seen (Some r) e = absurd cc
 
 -- what callers see of the parts of a keeper is a state
 pub keeper_state : (h : Forest) (last : ℕ) (p : Planned) (round : Option OpenRound) (list : List ShortNeed) → IsKeeper h last p round →
-    IsState (record { forest = h; last = last; to_come = moments_of (to_come p); round = seen round; shortened = list })
+    IsState (record { forest = h; last = last; to_come = moments_of (to_come p); round = seen_round round; shortened = list })
 keeper_state h last p None list k = record {
   forest = k.forest;
   last = k.late;
@@ -88,13 +88,13 @@ keeper_state h last p (Some r) list k =
     record {
       forest = k.forest;
       last = k.late;
-      open_since = λ round is. (let same : shown r ≡ round = cc in ap (λ (x : Round). x.at) (sym same) ∙ o.at);
+      open_since = λ round is. (let same : shown_round r ≡ round = cc in ap (λ (x : Round). x.at) (sym same) ∙ o.at);
       waits = λ round is nobody.
-          let same : shown r ≡ round = cc in
+          let same : shown_round r ≡ round = cc in
           let none : length (waited_for r.waiting.items) ≡ 0 = ap (λ (x : Round). length x.unanswered) same ∙ ap length nobody in
           let left = o.left in
           let some = o.some in
           absurd (omega arith);
-      opened = λ round is. (let same : shown r ≡ round = cc in subst (IsOpened h (moments_of (to_come p))) same o.opened);
+      opened = λ round is. (let same : shown_round r ≡ round = cc in subst (RoundIsOpened h (moments_of (to_come p))) same o.opened);
       sound = λ closed. absurd cc;
     }

@@ -13,7 +13,7 @@ use Rattle.keep_tree.specs.Push.{IsForest}
 use Rattle.keep_tree.specs.Renewal.{capped, renewal}
 use Rattle.keep_tree.proofs.Carrying.{carried_at_least, carried_is_of}
 use Rattle.keep_rule.specs.declared.wake.Wake.{Wake}
-use Rattle.keep_rule.specs.Asks.{first_of, is_wanted, with_asks}
+use Rattle.keep_rule.specs.Asks.{first_of, is_to_be_asked, with_asks}
 use Rattle.keep_rule.specs.Forced.{bound, latest_end}
 use Rattle.keep_rule.specs.Plans.{IsPlan, moments}
 use Rattle.keep_rule.specs.Unkeepable.{AllKeepable}
@@ -27,7 +27,7 @@ use Rattle.keep_rule.proofs.Tail.{moments_with_asks}
 use Rattle.keep_rule.proofs.Timely.{AllTimely, timely_keeps}
 use Rattle.keep_core.specs.LawsOfPlans.{NoLongerLaw}
 use Rattle.keep_core.specs.Replan.{IsPlanOf}
-use Rattle.keep_core.specs.States.{IsAnswered}
+use Rattle.keep_core.specs.States.{ForestIsAnswered}
 use Rattle.keep_core.specs.Shorten.{shorten}
 use Rattle.keep_core.proofs.Hearing.{over_same}
 use Rattle.keep_core.proofs.Kept.{unchanged}
@@ -152,13 +152,13 @@ need_less h t i =
 
 -- the end of an asked entry comes before its renewal there, or later
 ends_before :
-    (g h : Forest) (t : ℕ) (next : Option ℕ) → IsAnswered g h t next → (i p : ℕ) → t ≤ p → (end_of g.entries i ≤ end_of h.entries i) ⊎ (end_of g.entries i ≤ renewal (entry_at g.entries i) p)
+    (g h : Forest) (t : ℕ) (next : Option ℕ) → ForestIsAnswered g h t next → (i p : ℕ) → t ≤ p → (end_of g.entries i ≤ end_of h.entries i) ⊎ (end_of g.entries i ≤ renewal (entry_at g.entries i) p)
 unfolding end_of
 ends_before g h t next answered i p from =
     let es = g.entries in
     let ends : ℕ → ℕ = λ k. (entry_at es k).end in
     let same = asks_wanted es g.margin t ends t next i in
-    elim (cases_Bool (is_wanted es g.margin t ends t next i)) [
+    elim (cases_Bool (is_to_be_asked es g.margin t ends t next i)) [
       | inl wanted ↦
           let later = (asked_end es g.margin t ends t next i wanted).1 in
           let more = renewal_later (entry_at es i) t p from in
@@ -168,7 +168,7 @@ ends_before g h t next answered i p from =
 
 -- after answers and shortening, what the moments of g covered they cover still
 answered_serves :
-    (g h : Forest) (s t : ℕ) (next : Option ℕ) → IsAnswered g h t next → s ≤ t → AllKeepable (shorten h t) t (end_of (shorten h t).entries) → Serves g.entries (shorten h t).entries s t
+    (g h : Forest) (s t : ℕ) (next : Option ℕ) → ForestIsAnswered g h t next → s ≤ t → AllKeepable (shorten h t) t (end_of (shorten h t).entries) → Serves g.entries (shorten h t).entries s t
 answered_serves g h s t next answered later keepable i p from =
     let es = g.entries in
     let k = shorten h t in
@@ -190,7 +190,7 @@ answered_serves g h s t next answered later keepable i p from =
 
 -- so planning anew at t has at most the moments of g that come after t, and one more
 no_longer_behind :
-    (g h : Forest) (s t : ℕ) (next : Option ℕ) (ts us : List ℕ) → IsForest h → IsAnswered g h t next → s ≤ t → t ≤ LAST → InOrder t ts →
+    (g h : Forest) (s t : ℕ) (next : Option ℕ) (ts us : List ℕ) → IsForest h → ForestIsAnswered g h t next → s ≤ t → t ≤ LAST → InOrder t ts →
     AllTimely g.entries g.margin s (end_of g.entries) (Some t) ts → IsPlanOf (shorten h t) t us → length us ≤ length (t ∷ ts)
 no_longer_behind g h s t next ts us forest answered later late order timely best =
     let k = shorten h t in
@@ -200,7 +200,7 @@ no_longer_behind g h s t next ts us forest answered later late order timely best
     at_most_one_more k (shorten_forest h forest t) t ts us keepable late order (subst (λ m. AllTimely k.entries m t (end_of k.entries) (Some t) ts) margin still) best
 
 answered_no_longer :
-    (g h : Forest) (t : ℕ) (ts us : List ℕ) → IsForest g → IsForest h → IsPlanOf g t (t ∷ ts) → IsAnswered g h t (first_of ts) → IsPlanOf (shorten h t) t us → length us ≤ length (t ∷ ts)
+    (g h : Forest) (t : ℕ) (ts us : List ℕ) → IsForest g → IsForest h → IsPlanOf g t (t ∷ ts) → ForestIsAnswered g h t (first_of ts) → IsPlanOf (shorten h t) t us → length us ≤ length (t ∷ ts)
 answered_no_longer g h t ts us forest is_forest best answered anew =
     let order = best_order g t (t ∷ ts) best in
     no_longer_behind g h t t (first_of ts) ts us is_forest answered (omega arith) order.1.0 order.1.1 (best_timely g forest t (t ∷ ts) best).1 anew
@@ -234,7 +234,7 @@ behind es margin s ends t (w ∷ ws) u h order timely =
           record { rest = b.rest; timely = b.timely; order = b.order; fewer = omega arith }
     ]
 
-unanswered_is : (g : Forest) (t : ℕ) → IsAnswered g g t None
+unanswered_is : (g : Forest) (t : ℕ) → ForestIsAnswered g g t None
 unanswered_is g t = record { margin = refl; count = refl; each = λ i. refl; others = λ i _. refl }
 
 -- a tick that is not late keeps the plan

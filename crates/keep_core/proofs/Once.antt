@@ -9,24 +9,24 @@ use Rattle.keep_core.specs.declared.event.Output.{Output}
 use Rattle.keep_core.specs.declared.event.Output.TheVariants as out
 use Rattle.keep_core.specs.declared.fault.StepFault.{StepFault}
 use Rattle.keep_core.specs.declared.fault.StepFault.TheVariants.{ClockBack, RoundOpen, NotAsked, BadIndex, OutOfRange, TooLong, OutOfMemory}
-use Rattle.keep_core.specs.LawsOfSteps.{NextAsksLaw, OnceLaw}
-use Rattle.keep_core.specs.Refusal.{refusal}
+use Rattle.keep_core.specs.LawsOfSteps.{NextAsksLaw, OneResultLaw}
+use Rattle.keep_core.specs.Refusal.{step_refusal}
 use Rattle.keep_core.specs.Replan.{IsPlanOf, ReplanTooLong, Replan}
-use Rattle.keep_core.specs.History.{Turn}
-use Rattle.keep_core.specs.State.{Round, State}
-use Rattle.keep_core.specs.Step.{StepAnswer, StepNeed, StepTick, heard, left, needed, of_entry, opened}
+use Rattle.keep_core.specs.History.{CoreTurn}
+use Rattle.keep_core.specs.State.{CoreState, Round}
+use Rattle.keep_core.specs.Step.{StepAnswer, StepNeed, StepTick, entry_of_event, left, round_opened, state_after_answer, with_new_need}
 use Rattle.keep_core.proofs.Orders.{not_both, replan_once}
 use Rattle.keep_core.proofs.Standing.{best_first, kept_plan}
 
-abbrev Same : Result Output StepFault → State → Result Output StepFault → State → Type 0
+abbrev Same : Result Output StepFault → CoreState → Result Output StepFault → CoreState → Type 0
 Same a x b y = (a ≡ b) × (x ≡ y)
 
 -- planned anew from a state at a moment, and then decided by what that made; or too long, which leaves the old state
-abbrev Comes : State → State → ℕ → (State → Output) → (State → State) → Result Output StepFault → State → Type 0
-Comes old from at says leaves a x = ((mid : State) × Replan from at mid × (a ≡ Ok (says mid)) × (x ≡ leaves mid)) ⊎ (ReplanTooLong from.forest at × (a ≡ Err TooLong) × (x ≡ old))
+abbrev Comes : CoreState → CoreState → ℕ → (CoreState → Output) → (CoreState → CoreState) → Result Output StepFault → CoreState → Type 0
+Comes old from at says leaves a x = ((mid : CoreState) × Replan from at mid × (a ≡ Ok (says mid)) × (x ≡ leaves mid)) ⊎ (ReplanTooLong from.forest at × (a ≡ Err TooLong) × (x ≡ old))
 
 one_comes :
-    (old from : State) (at : ℕ) (says : State → Output) (leaves : State → State) (a b : Result Output StepFault) (x y : State) → Comes old from at says leaves a x →
+    (old from : CoreState) (at : ℕ) (says : CoreState → Output) (leaves : CoreState → CoreState) (a b : Result Output StepFault) (x y : CoreState) → Comes old from at says leaves a x →
     Comes old from at says leaves b y → Same a x b y
 one_comes old from at says leaves a b x y one two = elim one [
   | inl p ↦ elim two [
@@ -40,20 +40,20 @@ one_comes old from at says leaves a b x y one two = elim one [
 ]
 
 -- a tick: what the first of the moments to come says
-tick_says : State → ℕ → List ℕ → Output
+tick_says : CoreState → ℕ → List ℕ → Output
 tick_says mid t [] = out.Idle
-tick_says mid t (w ∷ rest) = cond (nat_lt t w) (out.Sleep w) (out.Ask (opened mid t (first_of rest)).unanswered)
+tick_says mid t (w ∷ rest) = cond (nat_lt t w) (out.Sleep w) (out.Ask (round_opened mid t (first_of rest)).unanswered)
 
-tick_leaves : State → ℕ → List ℕ → State
+tick_leaves : CoreState → ℕ → List ℕ → CoreState
 tick_leaves mid t [] = mid
-tick_leaves mid t (w ∷ rest) = cond (nat_lt t w) mid (record mid { to_come = rest; round = Some (opened mid t (first_of rest)) })
+tick_leaves mid t (w ∷ rest) = cond (nat_lt t w) mid (record mid { to_come = rest; round = Some (round_opened mid t (first_of rest)) })
 
 first_is : (ts : List ℕ) (w : ℕ) → first_of ts ≡ Some w → (rest : List ℕ) × (ts ≡ w ∷ rest)
 first_is [] w e = absurd cc
 first_is (t ∷ ts) w e = let same : t ≡ w = cc in (ts, ap (λ n. n ∷ ts) same)
 
 tick_comes :
-    (old : State) (t : ℕ) (output : Output) (new : State) → StepTick old t output new → Comes old old t (λ mid. tick_says mid t mid.to_come) (λ mid. tick_leaves mid t mid.to_come) (Ok output) new
+    (old : CoreState) (t : ℕ) (output : Output) (new : CoreState) → StepTick old t output new → Comes old old t (λ mid. tick_says mid t mid.to_come) (λ mid. tick_leaves mid t mid.to_come) (Ok output) new
 unfolding tick_says tick_leaves
 tick_comes old t out.Idle new step = inl (new, step.0, ap (λ ts. Ok (tick_says new t ts)) (sym step.1), ap (tick_leaves new t) (sym step.1))
 tick_comes old t (out.Sleep w) new step =
@@ -63,8 +63,8 @@ tick_comes old t (out.Sleep w) new step =
     inl (
       new,
       step.0,
-      ap (λ b. Ok (cond b (out.Sleep w) (out.Ask (opened new t (first_of front.0)).unanswered))) (sym later) ∙ ap (λ ts. Ok (tick_says new t ts)) (sym front.1),
-      ap (λ b. cond b new (record new { to_come = front.0; round = Some (opened new t (first_of front.0)) })) (sym later) ∙ ap (tick_leaves new t) (sym front.1),
+      ap (λ b. Ok (cond b (out.Sleep w) (out.Ask (round_opened new t (first_of front.0)).unanswered))) (sym later) ∙ ap (λ ts. Ok (tick_says new t ts)) (sym front.1),
+      ap (λ b. cond b new (record new { to_come = front.0; round = Some (round_opened new t (first_of front.0)) })) (sym later) ∙ ap (tick_leaves new t) (sym front.1),
     )
 tick_comes old t (out.Ask asked) new step =
     let mid = step.0 in
@@ -74,15 +74,15 @@ tick_comes old t (out.Ask asked) new step =
     inl (
       mid,
       step.1.0,
-      ap (λ (ns : List ℕ). Ok (out.Ask ns)) step.1.1.1.1.0 ∙ ap (λ b. Ok (cond b (out.Sleep t) (out.Ask (opened mid t (first_of rest)).unanswered))) (sym now)
+      ap (λ (ns : List ℕ). Ok (out.Ask ns)) step.1.1.1.1.0 ∙ ap (λ b. Ok (cond b (out.Sleep t) (out.Ask (round_opened mid t (first_of rest)).unanswered))) (sym now)
           ∙ ap (λ ts. Ok (tick_says mid t ts)) (sym front),
-      step.1.1.1.1.1 ∙ ap (λ b. cond b mid (record mid { to_come = rest; round = Some (opened mid t (first_of rest)) })) (sym now) ∙ ap (tick_leaves mid t) (sym front),
+      step.1.1.1.1.1 ∙ ap (λ b. cond b mid (record mid { to_come = rest; round = Some (round_opened mid t (first_of rest)) })) (sym now) ∙ ap (tick_leaves mid t) (sym front),
     )
 tick_comes old t out.Waiting new step = absurd step
 tick_comes old t (out.Round next) new step = absurd step
 tick_comes old t out.Planned new step = absurd step
 
-need_comes : (old : State) (i until : ℕ) (output : Output) (new : State) → StepNeed old i until output new → Comes old (needed old i until) old.last (λ mid. out.Planned) (λ mid. mid) (Ok output) new
+need_comes : (old : CoreState) (i until : ℕ) (output : Output) (new : CoreState) → StepNeed old i until output new → Comes old (with_new_need old i until) old.last (λ mid. out.Planned) (λ mid. mid) (Ok output) new
 need_comes old i until out.Planned new step = inl (new, step, refl, refl)
 need_comes old i until out.Idle new step = absurd step
 need_comes old i until (out.Sleep w) new step = absurd step
@@ -91,15 +91,15 @@ need_comes old i until out.Waiting new step = absurd step
 need_comes old i until (out.Round next) new step = absurd step
 
 -- an answer to a round: it waits for others, or is the last
-abbrev Answered : State → Event → Round → Result Output StepFault → State → Type 0
+abbrev Answered : CoreState → Event → Round → Result Output StepFault → CoreState → Type 0
 Answered old event round a x =
-    ((left round (of_entry event)).unanswered ≢ []) × (a ≡ Ok out.Waiting) × (x ≡ heard old event round.at (Some (left round (of_entry event))))
-    ⊎ ((left round (of_entry event)).unanswered ≡ []) × Comes old (heard old event round.at None) round.at (λ mid. out.Round (first_of mid.to_come)) (λ mid. mid) a x
+    ((left round (entry_of_event event)).unanswered ≢ []) × (a ≡ Ok out.Waiting) × (x ≡ state_after_answer old event round.at (Some (left round (entry_of_event event))))
+    ⊎ ((left round (entry_of_event event)).unanswered ≡ []) × Comes old (state_after_answer old event round.at None) round.at (λ mid. out.Round (first_of mid.to_come)) (λ mid. mid) a x
 
-abbrev AnswerComes : State → Event → Result Output StepFault → State → Type 0
+abbrev AnswerComes : CoreState → Event → Result Output StepFault → CoreState → Type 0
 AnswerComes old event a x = (round : Round) × (old.round ≡ Some round) × Answered old event round a x
 
-one_answer : (old : State) (event : Event) (round : Round) (a b : Result Output StepFault) (x y : State) → Answered old event round a x → Answered old event round b y → Same a x b y
+one_answer : (old : CoreState) (event : Event) (round : Round) (a b : Result Output StepFault) (x y : CoreState) → Answered old event round a x → Answered old event round b y → Same a x b y
 one_answer old event round a b x y one two = elim one [
   | inl p ↦ elim two [
     | inl q ↦ (p.1 ∙ sym q.1, p.2 ∙ sym q.2)
@@ -107,17 +107,17 @@ one_answer old event round a b x y one two = elim one [
   ]
   | inr p ↦ elim two [
     | inl q ↦ absurd (q.0 p.0)
-    | inr q ↦ one_comes old (heard old event round.at None) round.at (λ mid. out.Round (first_of mid.to_come)) (λ mid. mid) a b x y p.1 q.1
+    | inr q ↦ one_comes old (state_after_answer old event round.at None) round.at (λ mid. out.Round (first_of mid.to_come)) (λ mid. mid) a b x y p.1 q.1
   ]
 ]
 
-one_round : (old : State) (event : Event) (a b : Result Output StepFault) (x y : State) → AnswerComes old event a x → AnswerComes old event b y → Same a x b y
+one_round : (old : CoreState) (event : Event) (a b : Result Output StepFault) (x y : CoreState) → AnswerComes old event a x → AnswerComes old event b y → Same a x b y
 one_round old event a b x y one two =
     let round_is : Some two.0 ≡ Some one.0 = sym two.1 ∙ one.1 in
     let same : two.0 ≡ one.0 = cc in
     one_answer old event one.0 a b x y one.2 (subst (λ (r : Round). Answered old event r b y) same two.2)
 
-answer_comes : (old : State) (event : Event) (output : Output) (new : State) → StepAnswer old event output new → AnswerComes old event (Ok output) new
+answer_comes : (old : CoreState) (event : Event) (output : Output) (new : CoreState) → StepAnswer old event output new → AnswerComes old event (Ok output) new
 answer_comes old event out.Waiting new step = (step.0, step.1.0, inl (step.1.1.0, refl, step.1.1.1))
 answer_comes old event (out.Round next) new step = (step.0, step.1.0, inr (step.1.1.0, inl (new, step.1.1.1.0, ap (λ o. Ok (out.Round o)) step.1.1.1.1, refl)))
 answer_comes old event out.Idle new step = absurd step
@@ -126,28 +126,28 @@ answer_comes old event (out.Ask asked) new step = absurd step
 answer_comes old event out.Planned new step = absurd step
 
 -- what an event gives that is not refused
-abbrev EventComes : State → Event → Result Output StepFault → State → Type 0
+abbrev EventComes : CoreState → Event → Result Output StepFault → CoreState → Type 0
 EventComes old (Tick t) a x = Comes old old t (λ mid. tick_says mid t mid.to_come) (λ mid. tick_leaves mid t mid.to_come) a x
 EventComes old (Told i seconds renewable) a x = AnswerComes old (Told i seconds renewable) a x
 EventComes old (Refused i) a x = AnswerComes old (Refused i) a x
 EventComes old (Lost i) a x = AnswerComes old (Lost i) a x
-EventComes old (Need i until) a x = Comes old (needed old i until) old.last (λ mid. out.Planned) (λ mid. mid) a x
+EventComes old (Need i until) a x = Comes old (with_new_need old i until) old.last (λ mid. out.Planned) (λ mid. mid) a x
 
-one_event : (old : State) (event : Event) (a b : Result Output StepFault) (x y : State) → EventComes old event a x → EventComes old event b y → Same a x b y
+one_event : (old : CoreState) (event : Event) (a b : Result Output StepFault) (x y : CoreState) → EventComes old event a x → EventComes old event b y → Same a x b y
 one_event old (Tick t) a b x y one two = one_comes old old t (λ mid. tick_says mid t mid.to_come) (λ mid. tick_leaves mid t mid.to_come) a b x y one two
 one_event old (Told i seconds renewable) a b x y one two = one_round old (Told i seconds renewable) a b x y one two
 one_event old (Refused i) a b x y one two = one_round old (Refused i) a b x y one two
 one_event old (Lost i) a b x y one two = one_round old (Lost i) a b x y one two
-one_event old (Need i until) a b x y one two = one_comes old (needed old i until) old.last (λ mid. out.Planned) (λ mid. mid) a b x y one two
+one_event old (Need i until) a b x y one two = one_comes old (with_new_need old i until) old.last (λ mid. out.Planned) (λ mid. mid) a b x y one two
 
 -- a turn is a refusal, or what the event gives
-abbrev Refuses : State → Event → Result Output StepFault → State → Type 0
-Refuses old event a x = (fault : StepFault) × (refusal old event ≡ Some fault) × (a ≡ Err fault) × (x ≡ old)
+abbrev Refuses : CoreState → Event → Result Output StepFault → CoreState → Type 0
+Refuses old event a x = (fault : StepFault) × (step_refusal old event ≡ Some fault) × (a ≡ Err fault) × (x ≡ old)
 
-abbrev Takes : State → Event → Result Output StepFault → State → Type 0
-Takes old event a x = (refusal old event ≡ None) × EventComes old event a x
+abbrev Takes : CoreState → Event → Result Output StepFault → CoreState → Type 0
+Takes old event a x = (step_refusal old event ≡ None) × EventComes old event a x
 
-turn_comes : (old : State) (event : Event) (a : Result Output StepFault) (x : State) → a ≢ Err OutOfMemory → Turn old event a x → Refuses old event a x ⊎ Takes old event a x
+turn_comes : (old : CoreState) (event : Event) (a : Result Output StepFault) (x : CoreState) → a ≢ Err OutOfMemory → CoreTurn old event a x → Refuses old event a x ⊎ Takes old event a x
 turn_comes old (Tick t) (Ok output) x memory turn = inr (turn.0, tick_comes old t output x turn.1)
 turn_comes old (Told i seconds renewable) (Ok output) x memory turn = inr (turn.0, answer_comes old (Told i seconds renewable) output x turn.1)
 turn_comes old (Refused i) (Ok output) x memory turn = inr (turn.0, answer_comes old (Refused i) output x turn.1)
@@ -165,7 +165,7 @@ turn_comes old event (Err BadIndex) x memory turn = inl (BadIndex, turn.0, refl,
 turn_comes old event (Err OutOfRange) x memory turn = inl (OutOfRange, turn.0, refl, turn.1)
 turn_comes old event (Err OutOfMemory) x memory turn = absurd (memory refl)
 
-pub once : OnceLaw
+pub once : OneResultLaw
 once old x y event a b memory other_memory one two = elim (turn_comes old event a x memory one) [
   | inl p ↦ elim (turn_comes old event b y other_memory two) [
     | inl q ↦
@@ -188,8 +188,8 @@ next_asks s new w output in_force first turn =
     let plan : IsPlanOf s.forest s.last (w ∷ rest) = subst (IsPlanOf s.forest s.last) front.1 in_force.0 in
     let low = best_first s.forest s.last w rest plan in
     let replan = kept_plan s w in_force low.0 (subst (All (λ u. w ≤ u)) (sym front.1) low.1) in
-    let mid : State = record s { last = w } in
-    let round = opened mid w (first_of rest) in
-    let known : Turn s (Tick w) (Ok (out.Ask round.unanswered)) (record mid { to_come = rest; round = Some round }) = (turn.0, (mid, (replan, (rest, (front.1, (refl, refl)))))) in
+    let mid : CoreState = record s { last = w } in
+    let round = round_opened mid w (first_of rest) in
+    let known : CoreTurn s (Tick w) (Ok (out.Ask round.unanswered)) (record mid { to_come = rest; round = Some round }) = (turn.0, (mid, (replan, (rest, (front.1, (refl, refl)))))) in
     let one = once s new (record mid { to_come = rest; round = Some round }) (Tick w) (Ok output) (Ok (out.Ask round.unanswered)) (λ bad. cc) (λ bad. cc) turn known in
     (round.unanswered, (let same : ◌≡◌ {A = Result Output StepFault} (Ok output) (Ok (out.Ask round.unanswered)) = one.0 in cc))

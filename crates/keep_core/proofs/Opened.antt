@@ -15,18 +15,18 @@ use Rattle.keep_core.specs.declared.event.Event.TheVariants.{Tick, Told, Refused
 use Rattle.keep_core.specs.Refusal.{waits_for}
 use Rattle.keep_core.specs.Replan.{IsPlanOf, ReplanTooLong}
 use Rattle.keep_core.specs.State.{Round}
-use Rattle.keep_core.specs.States.{IsAnswered, IsOpened}
-use Rattle.keep_core.specs.Step.{answered, change, left, of_entry, without}
+use Rattle.keep_core.specs.States.{ForestIsAnswered, RoundIsOpened}
+use Rattle.keep_core.specs.Step.{entry_after_answer, entry_of_event, left, with_entry_changed, without_index}
 use Rattle.keep_core.proofs.NoLonger.{no_longer}
 use Rattle.keep_core.proofs.Orders.{none_within}
 
-unanswered_is : (g : Forest) (t : ℕ) (rest : List ℕ) → IsAnswered g g t (first_of rest)
+unanswered_is : (g : Forest) (t : ℕ) (rest : List ℕ) → ForestIsAnswered g g t (first_of rest)
 unanswered_is g t rest = record { margin = refl; count = refl; each = λ i. refl; others = λ i _. refl }
 
 -- a round that opens
 pub opens :
     (h : Forest) (t : ℕ) (rest : List ℕ) → IsForest h → IsPlanOf h t (t ∷ rest) → length (t ∷ rest) ≤ LIMIT →
-    IsOpened h rest (record { at = t; unanswered = asks h.entries h.margin t (end_of h.entries) t (first_of rest) })
+    RoundIsOpened h rest (record { at = t; unanswered = asks h.entries h.margin t (end_of h.entries) t (first_of rest) })
 unfolding is_asked
 opens h t rest forest best few = record {
   before = h;
@@ -38,8 +38,8 @@ opens h t rest forest best few = record {
 }
 
 -- what an answer changes of an entry
-pub answered_only : (at : ℕ) (event : Event) (e : Entry) → answered at event e ≡ record e { end = (answered at event e).end; renewable = (answered at event e).renewable }
-unfolding answered
+pub answered_only : (at : ℕ) (event : Event) (e : Entry) → entry_after_answer at event e ≡ record e { end = (entry_after_answer at event e).end; renewable = (entry_after_answer at event e).renewable }
+unfolding entry_after_answer
 answered_only at (Tick t) e = refl
 answered_only at (Told i seconds renewable) e = refl
 answered_only at (Refused i) e = refl
@@ -48,7 +48,7 @@ answered_only at (Need i until) e = refl
 
 -- who is waited for after an answer, was before it
 still_waits : (round : Round) (i j : ℕ) → waits_for (Some (left round i)) j ≡ true → waits_for (Some round) j ≡ true
-unfolding without
+unfolding without_index
 still_waits round i j waits =
     elim (cases_Bool (list_any (λ k. k == j) round.unanswered)) [
       | inl there ↦ there
@@ -57,12 +57,12 @@ still_waits round i j waits =
 
 -- one answer more, of an entry that is waited for
 answered_more :
-    (g h : Forest) (t : ℕ) (rest : List ℕ) → IsAnswered g h t (first_of rest) → (event : Event) (at : ℕ) → of_entry event < length h.entries →
-    is_asked (asking g.entries g.margin t (end_of g.entries) t (first_of rest)) (of_entry event) ≡ true → IsAnswered g (change h (of_entry event) (answered at event)) t (first_of rest)
+    (g h : Forest) (t : ℕ) (rest : List ℕ) → ForestIsAnswered g h t (first_of rest) → (event : Event) (at : ℕ) → entry_of_event event < length h.entries →
+    is_asked (asking g.entries g.margin t (end_of g.entries) t (first_of rest)) (entry_of_event event) ≡ true → ForestIsAnswered g (with_entry_changed h (entry_of_event event) (entry_after_answer at event)) t (first_of rest)
 answered_more g h t rest a event at within asked =
-    let i = of_entry event in
+    let i = entry_of_event event in
     let e = entry_at h.entries i in
-    let new = answered at event e in
+    let new = entry_after_answer at event e in
     let fs = set h.entries i new in
     let Same : Entry → Entry → Type 0 = λ x y. y ≡ record x { end = y.end; renewable = y.renewable } in
     record {
@@ -83,25 +83,25 @@ answered_more g h t rest a event at within asked =
     }
 
 pub hears_more :
-    (h : Forest) (ts : List ℕ) (round : Round) (event : Event) → IsOpened h ts round → of_entry event < length h.entries → waits_for (Some round) (of_entry event) ≡ true →
-    IsOpened (change h (of_entry event) (answered round.at event)) ts (left round (of_entry event))
+    (h : Forest) (ts : List ℕ) (round : Round) (event : Event) → RoundIsOpened h ts round → entry_of_event event < length h.entries → waits_for (Some round) (entry_of_event event) ≡ true →
+    RoundIsOpened (with_entry_changed h (entry_of_event event) (entry_after_answer round.at event)) ts (left round (entry_of_event event))
 hears_more h ts round event o within waits = record {
   before = o.before;
   forest = o.forest;
   best = o.best;
   few = o.few;
-  answered = answered_more o.before h round.at ts o.answered event round.at within (o.asked (of_entry event) waits);
-  asked = λ i still. o.asked i (still_waits round (of_entry event) i still);
+  answered = answered_more o.before h round.at ts o.answered event round.at within (o.asked (entry_of_event event) waits);
+  asked = λ i still. o.asked i (still_waits round (entry_of_event event) i still);
 }
 
 -- and the last, which closes the round: planning anew is not too long
 pub last_fits :
-    (h : Forest) (ts : List ℕ) (round : Round) (event : Event) → IsOpened h ts round → of_entry event < length h.entries → waits_for (Some round) (of_entry event) ≡ true →
-    let k = change h (of_entry event) (answered round.at event) in IsForest k → ReplanTooLong k round.at → ⊥
+    (h : Forest) (ts : List ℕ) (round : Round) (event : Event) → RoundIsOpened h ts round → entry_of_event event < length h.entries → waits_for (Some round) (entry_of_event event) ≡ true →
+    let k = with_entry_changed h (entry_of_event event) (entry_after_answer round.at event) in IsForest k → ReplanTooLong k round.at → ⊥
 last_fits h ts round event o within waits forest long =
     let few = o.few in
     let many = long.many in
-    let answered = answered_more o.before h round.at ts o.answered event round.at within (o.asked (of_entry event) waits) in
+    let answered = answered_more o.before h round.at ts o.answered event round.at within (o.asked (entry_of_event event) waits) in
     let most = no_longer.1 o.before _ round.at ts long.moments o.forest forest o.best answered long.best in
     absurd (omega arith)
 

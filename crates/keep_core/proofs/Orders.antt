@@ -16,25 +16,25 @@ use Rattle.keep_core.specs.declared.event.Output.{Output}
 use Rattle.keep_core.specs.declared.event.Output.TheVariants as out
 use Rattle.keep_core.specs.declared.fault.StepFault.{StepFault}
 use Rattle.keep_core.specs.declared.fault.StepFault.TheVariants.{OutOfRange}
-use Rattle.keep_core.specs.LawsOfHistories.{AllTaken, IsAnswer, answer_for}
+use Rattle.keep_core.specs.LawsOfHistories.{AllTaken, IsAnswerEvent, answer_for}
 use Rattle.keep_core.specs.declared.refusal.TheConstants.{LONGEST}
-use Rattle.keep_core.specs.Refusal.{refusal, unless_asked, waits_for}
-use Rattle.keep_core.specs.Replan.{ReplanTooLong, Replan, planned}
-use Rattle.keep_core.specs.History.{History}
+use Rattle.keep_core.specs.Refusal.{step_refusal, unless_waited_for, waits_for}
+use Rattle.keep_core.specs.Replan.{ReplanTooLong, Replan, state_planned}
+use Rattle.keep_core.specs.History.{CoreHistory}
 use Rattle.keep_core.specs.Shorten.{shorten}
-use Rattle.keep_core.specs.State.{Round, State}
-use Rattle.keep_core.specs.Step.{Step, StepAnswer, answered, change, heard, left, of_entry, without}
+use Rattle.keep_core.specs.State.{CoreState, Round}
+use Rattle.keep_core.specs.Step.{CoreStep, StepAnswer, entry_after_answer, entry_of_event, left, state_after_answer, with_entry_changed, without_index}
 use Rattle.keep_core.proofs.Refusals.{asked_parts, first_none}
 use Rattle.keep_core.proofs.Kept.{same_entries}
 
 abbrev pub AreAnswers : List Event → Type 0
 AreAnswers [] = Unit {0}
-AreAnswers (event ∷ events) = IsAnswer event × AreAnswers events
+AreAnswers (event ∷ events) = IsAnswerEvent event × AreAnswers events
 
 -- what an answer, if there is one, makes of an entry
 unfoldable pub applied : ℕ → Option Event → Entry → Entry
 applied at None e = e
-applied at (Some event) e = answered at event e
+applied at (Some event) e = entry_after_answer at event e
 
 -- the forest after these answers, entry by entry
 unfoldable pub told : ℕ → (ℕ → Option Event) → Forest → Forest
@@ -45,26 +45,26 @@ unfoldable pub left_over : (ℕ → Option Event) → List ℕ → List ℕ
 left_over ans us = filter (λ j. is_none (ans j)) us
 
 -- the state that still waits, and the one that is planned anew
-abbrev waiting : State → Round → (ℕ → Option Event) → State
+abbrev waiting : CoreState → Round → (ℕ → Option Event) → CoreState
 waiting old round ans = record old { forest = told round.at ans old.forest; round = Some (record { at = round.at; unanswered = left_over ans round.unanswered }) }
 
-abbrev closing : State → Round → (ℕ → Option Event) → State
+abbrev closing : CoreState → Round → (ℕ → Option Event) → CoreState
 closing old round ans = record old { forest = told round.at ans old.forest; round = None }
 
-abbrev Waits : State → Round → (ℕ → Option Event) → State → Type 0
+abbrev Waits : CoreState → Round → (ℕ → Option Event) → CoreState → Type 0
 Waits old round ans new = (left_over ans round.unanswered ≢ []) × (new ≡ waiting old round ans)
 
-abbrev Closes : State → Round → (ℕ → Option Event) → State → Type 0
+abbrev Closes : CoreState → Round → (ℕ → Option Event) → CoreState → Type 0
 Closes old round ans new = (left_over ans round.unanswered ≡ []) × Replan (closing old round ans) round.at new
 
 -- where a history of answers leads; who is not unanswered has no answer
-record Outcome (old : State) (round : Round) (ans : ℕ → Option Event) (new : State) : Type 0 where
+record Outcome (old : CoreState) (round : Round) (ans : ℕ → Option Event) (new : CoreState) : Type 0 where
   asked : (i : ℕ) → list_any (λ j. j == i) round.unanswered ≡ false → ans i ≡ None
   ends : Waits old round ans new ⊎ Closes old round ans new
 
 -- lists without an element
-not_there : (i : ℕ) (us : List ℕ) → list_any (λ j. j == i) (without i us) ≡ false
-unfolding without
+not_there : (i : ℕ) (us : List ℕ) → list_any (λ j. j == i) (without_index i us) ≡ false
+unfolding without_index
 not_there i [] = refl
 not_there i (u ∷ us) = by_test (u == i) refl (not_there i us) where
   by_test : (b : Bool) → (u == i) ≡ b → list_any (λ j. j == i) (filter (λ j. not (j == i)) us) ≡ false → list_any (λ j. j == i) (cond (not (u == i)) (u ∷ filter (λ j. not (j == i)) us) (filter (λ j. not (j == i)) us)) ≡ false
@@ -90,7 +90,7 @@ none_within p i (u ∷ us) none =
       by_test true head rest = ap (λ c. c || list_any (λ j. j == i) (filter p us)) head ∙ rest
       by_test false head rest = rest
 
-answer_first : (event : Event) (rest : List Event) (j : ℕ) → answer_for (event ∷ rest) j ≡ cond (of_entry event == j) (Some event) (answer_for rest j)
+answer_first : (event : Event) (rest : List Event) (j : ℕ) → answer_for (event ∷ rest) j ≡ cond (entry_of_event event == j) (Some event) (answer_for rest j)
 unfolding answer_for
 answer_first event rest j = refl
 
@@ -99,12 +99,12 @@ unfolding answer_for
 answer_none j = refl
 
 -- who is left over after a first answer and others
-left_more : (event : Event) (rest : List Event) (us : List ℕ) → left_over (answer_for (event ∷ rest)) us ≡ left_over (answer_for rest) (without (of_entry event) us)
-unfolding left_over without answer_for
+left_more : (event : Event) (rest : List Event) (us : List ℕ) → left_over (answer_for (event ∷ rest)) us ≡ left_over (answer_for rest) (without_index (entry_of_event event) us)
+unfolding left_over without_index answer_for
 left_more event rest [] = refl
-left_more event rest (u ∷ us) = elim (cases_eq u (of_entry event)) [
+left_more event rest (u ∷ us) = elim (cases_eq u (entry_of_event event)) [
   | inl same ↦
-      let i = of_entry event in
+      let i = entry_of_event event in
       let one : (i == u) ≡ true = grind (arith, nat_tests) in
       let other : (u == i) ≡ true = grind (arith, nat_tests) in
       let p : ℕ → Bool = λ j. is_none (cond (i == j) (Some event) (answer_for rest j)) in
@@ -114,7 +114,7 @@ left_more event rest (u ∷ us) = elim (cases_eq u (of_entry event)) [
       ∙ left_more event rest us
       ∙ sym (ap (λ b. filter q (cond (not b) (u ∷ ws) ws)) other)
   | inr apart ↦
-      let i = of_entry event in
+      let i = entry_of_event event in
       let one : (i == u) ≡ false = grind (arith, nat_tests) in
       let other : (u == i) ≡ false = grind (arith, nat_tests) in
       let p : ℕ → Bool = λ j. is_none (cond (i == j) (Some event) (answer_for rest j)) in
@@ -146,7 +146,7 @@ applied_none : (at : ℕ) (e : Entry) → applied at None e ≡ e
 unfolding applied
 applied_none at e = refl
 
-applied_some : (at : ℕ) (event : Event) (e : Entry) → applied at (Some event) e ≡ answered at event e
+applied_some : (at : ℕ) (event : Event) (e : Entry) → applied at (Some event) e ≡ entry_after_answer at event e
 unfolding applied
 applied_some at event e = refl
 
@@ -164,12 +164,12 @@ told_none at g = same_forest (told at (answer_for []) g) g (length_told at (answ
 
 -- a first answer, and others to the round that it leaves
 pub told_more :
-    (at : ℕ) (event : Event) (rest : List Event) (g : Forest) → of_entry event < length g.entries → answer_for rest (of_entry event) ≡ None →
-    told at (answer_for rest) (change g (of_entry event) (answered at event)) ≡ told at (answer_for (event ∷ rest)) g
+    (at : ℕ) (event : Event) (rest : List Event) (g : Forest) → entry_of_event event < length g.entries → answer_for rest (entry_of_event event) ≡ None →
+    told at (answer_for rest) (with_entry_changed g (entry_of_event event) (entry_after_answer at event)) ≡ told at (answer_for (event ∷ rest)) g
 told_more at event rest g within once =
-    let i = of_entry event in
-    let e = answered at event (entry_at g.entries i) in
-    let h = change g i (answered at event) in
+    let i = entry_of_event event in
+    let e = entry_after_answer at event (entry_at g.entries i) in
+    let h = with_entry_changed g i (entry_after_answer at event) in
     let size : length h.entries ≡ length g.entries = length-set g.entries i e in
     let one = length_told at (answer_for rest) h in
     let other = length_told at (answer_for (event ∷ rest)) g in
@@ -183,7 +183,7 @@ told_more at event rest g within once =
           let none : answer_for rest k ≡ None = ap (answer_for rest) same ∙ once in
           let is : entry_at h.entries k ≡ e = ap (entry_at h.entries) same ∙ entry_at_set_same g.entries i e within in
           let first : answer_for (event ∷ rest) k ≡ Some event = answer_first event rest k ∙ cond-true (i == k) (Some event) (answer_for rest k) hit in
-          ap (λ o. applied at o (entry_at h.entries k)) none ∙ applied_none at (entry_at h.entries k) ∙ is ∙ ap (λ n. answered at event (entry_at g.entries n)) (sym same)
+          ap (λ o. applied at o (entry_at h.entries k)) none ∙ applied_none at (entry_at h.entries k) ∙ is ∙ ap (λ n. entry_after_answer at event (entry_at g.entries n)) (sym same)
           ∙ sym (applied_some at event (entry_at g.entries k)) ∙ ap (λ o. applied at o (entry_at g.entries k)) (sym first)
       | inr apart ↦
           let miss : (i == k) ≡ false = grind (arith, nat_tests) in
@@ -192,20 +192,20 @@ told_more at event rest g within once =
     ]
     ∙ sym (told_at at (answer_for (event ∷ rest)) g k there))
 
-never_asked : (s : State) (i : ℕ) → s.round ≡ None → unless_asked s i ≡ None → ⊥
+never_asked : (s : CoreState) (i : ℕ) → s.round ≡ None → unless_waited_for s i ≡ None → ⊥
 never_asked s i closed none =
     let waits = (asked_parts s i none).1 in
     let bad : false ≡ true = sym (ap (λ r. waits_for r i) closed) ∙ waits in absurd cc
 
-taken : (s : State) (event : Event) → IsAnswer event → refusal s event ≡ None → unless_asked s (of_entry event) ≡ None
-unfolding refusal
+taken : (s : CoreState) (event : Event) → IsAnswerEvent event → step_refusal s event ≡ None → unless_waited_for s (entry_of_event event) ≡ None
+unfolding step_refusal
 taken s (Tick t) answer none = absurd answer
-taken s (Told i seconds renewable) answer none = (first_none (nat_lt LONGEST seconds) OutOfRange (unless_asked s i) none).1
+taken s (Told i seconds renewable) answer none = (first_none (nat_lt LONGEST seconds) OutOfRange (unless_waited_for s i) none).1
 taken s (Refused i) answer none = none
 taken s (Lost i) answer none = none
 taken s (Need i until) answer none = absurd answer
 
-pub step_taken : (old : State) (event : Event) (output : Output) (new : State) → IsAnswer event → Step old event output new → StepAnswer old event output new
+pub step_taken : (old : CoreState) (event : Event) (output : Output) (new : CoreState) → IsAnswerEvent event → CoreStep old event output new → StepAnswer old event output new
 step_taken old (Tick t) output new answer step = absurd answer
 step_taken old (Told i seconds renewable) output new answer step = step
 step_taken old (Refused i) output new answer step = step
@@ -213,95 +213,95 @@ step_taken old (Lost i) output new answer step = step
 step_taken old (Need i until) output new answer step = absurd answer
 
 -- no answer is taken once the round is closed
-closed_end : (s new : State) (rest : List Event) (results : List (Result Output StepFault)) → s.round ≡ None → AreAnswers rest → AllTaken results → History s rest results new → (rest ≡ []) × (new ≡ s)
+closed_end : (s new : CoreState) (rest : List Event) (results : List (Result Output StepFault)) → s.round ≡ None → AreAnswers rest → AllTaken results → CoreHistory s rest results new → (rest ≡ []) × (new ≡ s)
 closed_end s new [] [] closed answers well history = (refl, history)
 closed_end s new [] (result ∷ results) closed answers well history = absurd history
 closed_end s new (event ∷ rest) [] closed answers well history = absurd history
-closed_end s new (event ∷ rest) (Ok output ∷ results) closed answers well history = absurd (never_asked s (of_entry event) closed (taken s event answers.0 history.1.0.0))
+closed_end s new (event ∷ rest) (Ok output ∷ results) closed answers well history = absurd (never_asked s (entry_of_event event) closed (taken s event answers.0 history.1.0.0))
 closed_end s new (event ∷ rest) (Err fault ∷ results) closed answers well history = absurd well
 
 asked_more :
-    (event : Event) (rest : List Event) (us : List ℕ) → list_any (λ j. j == of_entry event) us ≡ true → ((j : ℕ) → list_any (λ k. k == j) (without (of_entry event) us) ≡ false → answer_for rest j ≡ None) →
+    (event : Event) (rest : List Event) (us : List ℕ) → list_any (λ j. j == entry_of_event event) us ≡ true → ((j : ℕ) → list_any (λ k. k == j) (without_index (entry_of_event event) us) ≡ false → answer_for rest j ≡ None) →
     (j : ℕ) → list_any (λ k. k == j) us ≡ false → answer_for (event ∷ rest) j ≡ None
-unfolding without
-asked_more event rest us there asked j none = elim (cases_eq (of_entry event) j) [
+unfolding without_index
+asked_more event rest us there asked j none = elim (cases_eq (entry_of_event event) j) [
   | inl same ↦ absurd (let bad : true ≡ false = sym there ∙ ap (λ n. list_any (λ k. k == n) us) same ∙ none in cc)
   | inr apart ↦
-      let miss : (of_entry event == j) ≡ false = grind (arith, nat_tests) in
-      answer_first event rest j ∙ cond-false (of_entry event == j) (Some event) (answer_for rest j) miss ∙ asked j (none_within (λ k. not (k == of_entry event)) j us none)
+      let miss : (entry_of_event event == j) ≡ false = grind (arith, nat_tests) in
+      answer_first event rest j ∙ cond-false (entry_of_event event == j) (Some event) (answer_for rest j) miss ∙ asked j (none_within (λ k. not (k == entry_of_event event)) j us none)
 ]
 
 -- the state that one answer closes, in words of the answers
-one_closes : (old : State) (round : Round) (event : Event) → of_entry event < length old.forest.entries → closing old round (answer_for (event ∷ [])) ≡ heard old event round.at None
+one_closes : (old : CoreState) (round : Round) (event : Event) → entry_of_event event < length old.forest.entries → closing old round (answer_for (event ∷ [])) ≡ state_after_answer old event round.at None
 one_closes old round event within =
     ap (λ g. record old { forest = g; round = None })
-    (sym (told_more round.at event [] old.forest within (answer_none (of_entry event))) ∙ told_none round.at (change old.forest (of_entry event) (answered round.at event)))
+    (sym (told_more round.at event [] old.forest within (answer_none (entry_of_event event))) ∙ told_none round.at (with_entry_changed old.forest (entry_of_event event) (entry_after_answer round.at event)))
 
-one_left : (event : Event) (us : List ℕ) → left_over (answer_for (event ∷ [])) us ≡ without (of_entry event) us
-one_left event us = left_more event [] us ∙ left_none (without (of_entry event) us)
+one_left : (event : Event) (us : List ℕ) → left_over (answer_for (event ∷ [])) us ≡ without_index (entry_of_event event) us
+one_left event us = left_more event [] us ∙ left_none (without_index (entry_of_event event) us)
 
 -- an answer before others
 more_waits :
-    (old : State) (round : Round) (event : Event) (rest : List Event) → of_entry event < length old.forest.entries → answer_for rest (of_entry event) ≡ None →
-    waiting (heard old event round.at (Some (left round (of_entry event)))) (left round (of_entry event)) (answer_for rest) ≡ waiting old round (answer_for (event ∷ rest))
+    (old : CoreState) (round : Round) (event : Event) (rest : List Event) → entry_of_event event < length old.forest.entries → answer_for rest (entry_of_event event) ≡ None →
+    waiting (state_after_answer old event round.at (Some (left round (entry_of_event event)))) (left round (entry_of_event event)) (answer_for rest) ≡ waiting old round (answer_for (event ∷ rest))
 more_waits old round event rest within once =
-    ap (λ g. record old { forest = g; round = Some (record { at = round.at; unanswered = left_over (answer_for rest) (without (of_entry event) round.unanswered) }) }) (told_more round.at event rest old.forest within once)
+    ap (λ g. record old { forest = g; round = Some (record { at = round.at; unanswered = left_over (answer_for rest) (without_index (entry_of_event event) round.unanswered) }) }) (told_more round.at event rest old.forest within once)
     ∙ ap (λ us. record old { forest = told round.at (answer_for (event ∷ rest)) old.forest; round = Some (record { at = round.at; unanswered = us }) }) (sym (left_more event rest round.unanswered))
 
 more_closes :
-    (old : State) (round : Round) (event : Event) (rest : List Event) → of_entry event < length old.forest.entries → answer_for rest (of_entry event) ≡ None →
-    closing (heard old event round.at (Some (left round (of_entry event)))) (left round (of_entry event)) (answer_for rest) ≡ closing old round (answer_for (event ∷ rest))
+    (old : CoreState) (round : Round) (event : Event) (rest : List Event) → entry_of_event event < length old.forest.entries → answer_for rest (entry_of_event event) ≡ None →
+    closing (state_after_answer old event round.at (Some (left round (entry_of_event event)))) (left round (entry_of_event event)) (answer_for rest) ≡ closing old round (answer_for (event ∷ rest))
 more_closes old round event rest within once = ap (λ g. record old { forest = g; round = None }) (told_more round.at event rest old.forest within once)
 
 one_more :
-    (old new : State) (round : Round) (event : Event) (rest : List Event) → of_entry event < length old.forest.entries → list_any (λ j. j == of_entry event) round.unanswered ≡ true →
-    Outcome (heard old event round.at (Some (left round (of_entry event)))) (left round (of_entry event)) (answer_for rest) new → Outcome old round (answer_for (event ∷ rest)) new
+    (old new : CoreState) (round : Round) (event : Event) (rest : List Event) → entry_of_event event < length old.forest.entries → list_any (λ j. j == entry_of_event event) round.unanswered ≡ true →
+    Outcome (state_after_answer old event round.at (Some (left round (entry_of_event event)))) (left round (entry_of_event event)) (answer_for rest) new → Outcome old round (answer_for (event ∷ rest)) new
 one_more old new round event rest within there o =
-    let once : answer_for rest (of_entry event) ≡ None = o.asked (of_entry event) (not_there (of_entry event) round.unanswered) in
+    let once : answer_for rest (entry_of_event event) ≡ None = o.asked (entry_of_event event) (not_there (entry_of_event event) round.unanswered) in
     let same = left_more event rest round.unanswered in
     record {
       asked = asked_more event rest round.unanswered there o.asked;
       ends = elim o.ends [
         | inl waits ↦ inl (λ none. waits.0 (sym same ∙ none), waits.1 ∙ more_waits old round event rest within once)
-        | inr closes ↦ inr (same ∙ closes.0, subst (λ (s : State). Replan s round.at new) (more_closes old round event rest within once) closes.1)
+        | inr closes ↦ inr (same ∙ closes.0, subst (λ (s : CoreState). Replan s round.at new) (more_closes old round event rest within once) closes.1)
       ];
     }
 
 -- the last answer, which closes the round
 last_closes :
-    (old mid : State) (round : Round) (event : Event) → of_entry event < length old.forest.entries → list_any (λ j. j == of_entry event) round.unanswered ≡ true →
-    without (of_entry event) round.unanswered ≡ [] → Replan (heard old event round.at None) round.at mid → Outcome old round (answer_for (event ∷ [])) mid
+    (old mid : CoreState) (round : Round) (event : Event) → entry_of_event event < length old.forest.entries → list_any (λ j. j == entry_of_event event) round.unanswered ≡ true →
+    without_index (entry_of_event event) round.unanswered ≡ [] → Replan (state_after_answer old event round.at None) round.at mid → Outcome old round (answer_for (event ∷ [])) mid
 last_closes old mid round event within there none replan = record {
   asked = asked_more event [] round.unanswered there (λ j _. answer_none j);
-  ends = inr (one_left event round.unanswered ∙ none, subst (λ (s : State). Replan s round.at mid) (sym (one_closes old round event within)) replan);
+  ends = inr (one_left event round.unanswered ∙ none, subst (λ (s : CoreState). Replan s round.at mid) (sym (one_closes old round event within)) replan);
 }
 
-pub same_round : (old : State) (r round : Round) → old.round ≡ Some r → old.round ≡ Some round → r ≡ round
+pub same_round : (old : CoreState) (r round : Round) → old.round ≡ Some r → old.round ≡ Some round → r ≡ round
 same_round old r round a b = let both : Some r ≡ Some round = sym a ∙ b in cc
 
-abbrev FromHere : List Event → List (Result Output StepFault) → State → Type 0
+abbrev FromHere : List Event → List (Result Output StepFault) → CoreState → Type 0
 FromHere rest results new =
-    (s : State) (r : Round) → s.round ≡ Some r → r.unanswered ≢ [] → History s rest results new → Outcome s r (answer_for rest) new
+    (s : CoreState) (r : Round) → s.round ≡ Some r → r.unanswered ≢ [] → CoreHistory s rest results new → Outcome s r (answer_for rest) new
 
 step_outcome :
-    (old mid new : State) (round : Round) (event : Event) (rest : List Event) (output : Output) (results : List (Result Output StepFault)) → old.round ≡ Some round →
-    unless_asked old (of_entry event) ≡ None → AreAnswers rest → AllTaken results → StepAnswer old event output mid → History mid rest results new → FromHere rest results new →
+    (old mid new : CoreState) (round : Round) (event : Event) (rest : List Event) (output : Output) (results : List (Result Output StepFault)) → old.round ≡ Some round →
+    unless_waited_for old (entry_of_event event) ≡ None → AreAnswers rest → AllTaken results → StepAnswer old event output mid → CoreHistory mid rest results new → FromHere rest results new →
     Outcome old round (answer_for (event ∷ rest)) new
 step_outcome old mid new round event rest out.Waiting results is asked answers well step history onward =
-    let parts = asked_parts old (of_entry event) asked in
-    let there : list_any (λ j. j == of_entry event) round.unanswered ≡ true = sym (ap (λ r. waits_for r (of_entry event)) is) ∙ parts.1 in
+    let parts = asked_parts old (entry_of_event event) asked in
+    let there : list_any (λ j. j == entry_of_event event) round.unanswered ≡ true = sym (ap (λ r. waits_for r (entry_of_event event)) is) ∙ parts.1 in
     let r = same_round old step.0 round step.1.0 is in
-    let some : without (of_entry event) round.unanswered ≢ [] = subst (λ (x : Round). without (of_entry event) x.unanswered ≢ []) r step.1.1.0 in
-    let heard_is : mid ≡ heard old event round.at (Some (left round (of_entry event))) = subst (λ (x : Round). mid ≡ heard old event x.at (Some (left x (of_entry event)))) r step.1.1.1 in
+    let some : without_index (entry_of_event event) round.unanswered ≢ [] = subst (λ (x : Round). without_index (entry_of_event event) x.unanswered ≢ []) r step.1.1.0 in
+    let heard_is : mid ≡ state_after_answer old event round.at (Some (left round (entry_of_event event))) = subst (λ (x : Round). mid ≡ state_after_answer old event x.at (Some (left x (entry_of_event event)))) r step.1.1.1 in
     one_more old new round event rest parts.0 there
-    (onward (heard old event round.at (Some (left round (of_entry event)))) (left round (of_entry event)) refl some (subst (λ s. History s rest results new) heard_is history))
+    (onward (state_after_answer old event round.at (Some (left round (entry_of_event event)))) (left round (entry_of_event event)) refl some (subst (λ s. CoreHistory s rest results new) heard_is history))
 step_outcome old mid new round event rest (out.Round next) results is asked answers well step history onward =
-    let parts = asked_parts old (of_entry event) asked in
-    let there : list_any (λ j. j == of_entry event) round.unanswered ≡ true = sym (ap (λ r. waits_for r (of_entry event)) is) ∙ parts.1 in
+    let parts = asked_parts old (entry_of_event event) asked in
+    let there : list_any (λ j. j == entry_of_event event) round.unanswered ≡ true = sym (ap (λ r. waits_for r (entry_of_event event)) is) ∙ parts.1 in
     let r = same_round old step.0 round step.1.0 is in
-    let none : without (of_entry event) round.unanswered ≡ [] = subst (λ (x : Round). without (of_entry event) x.unanswered ≡ []) r step.1.1.0 in
-    let replan : Replan (heard old event round.at None) round.at mid = subst (λ (x : Round). Replan (heard old event x.at None) x.at mid) r step.1.1.1.0 in
-    let closed : mid.round ≡ None = ap (λ (s : State). s.round) replan.is in
+    let none : without_index (entry_of_event event) round.unanswered ≡ [] = subst (λ (x : Round). without_index (entry_of_event event) x.unanswered ≡ []) r step.1.1.0 in
+    let replan : Replan (state_after_answer old event round.at None) round.at mid = subst (λ (x : Round). Replan (state_after_answer old event x.at None) x.at mid) r step.1.1.1.0 in
+    let closed : mid.round ≡ None = ap (λ (s : CoreState). s.round) replan.is in
     let end = closed_end mid new rest results closed answers well history in
     let here = last_closes old mid round event parts.0 there none replan in
     subst (λ s. Outcome old round (answer_for (event ∷ rest)) s) (sym end.1) (subst (λ es. Outcome old round (answer_for (event ∷ es)) mid) (sym end.0) here)
@@ -310,7 +310,7 @@ step_outcome old mid new round event rest (out.Sleep w) results is asked answers
 step_outcome old mid new round event rest (out.Ask list) results is asked answers well step history onward = absurd step
 step_outcome old mid new round event rest out.Planned results is asked answers well step history onward = absurd step
 
-no_answers : (old new : State) (round : Round) → old.round ≡ Some round → round.unanswered ≢ [] → new ≡ old → Outcome old round (answer_for []) new
+no_answers : (old new : CoreState) (round : Round) → old.round ≡ Some round → round.unanswered ≢ [] → new ≡ old → Outcome old round (answer_for []) new
 no_answers old new round is some same = record {
   asked = λ i _. answer_none i;
   ends = inl (
@@ -321,8 +321,8 @@ no_answers old new round is some same = record {
 }
 
 outcome :
-    (events : List Event) (results : List (Result Output StepFault)) (old new : State) (round : Round) → old.round ≡ Some round → round.unanswered ≢ [] → AreAnswers events → AllTaken results →
-    History old events results new → Outcome old round (answer_for events) new
+    (events : List Event) (results : List (Result Output StepFault)) (old new : CoreState) (round : Round) → old.round ≡ Some round → round.unanswered ≢ [] → AreAnswers events → AllTaken results →
+    CoreHistory old events results new → Outcome old round (answer_for events) new
 outcome [] [] old new round is some answers well history = no_answers old new round is some history
 outcome [] (result ∷ results) old new round is some answers well history = absurd history
 outcome (event ∷ rest) [] old new round is some answers well history = absurd history
@@ -333,13 +333,13 @@ outcome (event ∷ rest) (Ok output ∷ results) old new round is some answers w
 outcome (event ∷ rest) (Err fault ∷ results) old new round is some answers well history = absurd well
 
 -- planning anew gives one state
-pub replan_once : (s : State) (t : ℕ) (x y : State) → Replan s t x → Replan s t y → x ≡ y
+pub replan_once : (s : CoreState) (t : ℕ) (x y : CoreState) → Replan s t x → Replan s t y → x ≡ y
 replan_once s t x y a b =
     let h = shorten s.forest t in
-    a.is ∙ ap (planned s t) (one_least h.entries h.margin t (end_of h.entries) a.moments b.moments a.best b.best) ∙ sym b.is
+    a.is ∙ ap (state_planned s t) (one_least h.entries h.margin t (end_of h.entries) a.moments b.moments a.best b.best) ∙ sym b.is
 
 -- and is not too long where it gives one
-pub not_both : (s : State) (t : ℕ) (x : State) → Replan s t x → ReplanTooLong s.forest t → ⊥
+pub not_both : (s : CoreState) (t : ℕ) (x : CoreState) → Replan s t x → ReplanTooLong s.forest t → ⊥
 not_both s t x a b =
     let h = shorten s.forest t in
     let same = ap length (one_least h.entries h.margin t (end_of h.entries) a.moments b.moments a.best b.best) in
@@ -347,7 +347,7 @@ not_both s t x a b =
     let many = b.many in
     absurd (omega arith)
 
-agree : (old x y : State) (round : Round) (ans : ℕ → Option Event) → Outcome old round ans x → Outcome old round ans y → x ≡ y
+agree : (old x y : CoreState) (round : Round) (ans : ℕ → Option Event) → Outcome old round ans x → Outcome old round ans y → x ≡ y
 agree old x y round ans a b =
     elim a.ends [
       | inl waits ↦ elim b.ends [ inl too ↦ waits.1 ∙ sym too.1 | inr closes ↦ absurd (waits.0 closes.0) ]
@@ -356,9 +356,9 @@ agree old x y round ans a b =
 
 -- two orders of the same answers to one round, none refused, end in equal states
 pub taken_alike :
-    (old x y : State) (round : Round) → old.round ≡ Some round → round.unanswered ≢ [] → (these others : List Event) → AreAnswers these → AreAnswers others →
+    (old x y : CoreState) (round : Round) → old.round ≡ Some round → round.unanswered ≢ [] → (these others : List Event) → AreAnswers these → AreAnswers others →
     ((i : ℕ) → answer_for these i ≡ answer_for others i) → (results more : List (Result Output StepFault)) → AllTaken results → AllTaken more →
-    History old these results x → History old others more y → x ≡ y
+    CoreHistory old these results x → CoreHistory old others more y → x ≡ y
 taken_alike old x y round is some these others answers too same results more well also history onward =
     let a = outcome these results old x round is some answers well history in
     let b = outcome others more old y round is some too also onward in

@@ -17,7 +17,7 @@ use Rattle.keep_plan.proofs.Wanted.{asked_more}
 use Rattle.keep_core.specs.declared.fault.StepFault.{StepFault}
 use Rattle.keep_core.specs.declared.fault.StepFault.TheVariants.{ClockBack, RoundOpen, NotAsked, BadIndex, OutOfRange, TooLong, OutOfMemory}
 use Rattle.keep_core.specs.declared.shortened.ShortNeed.{ShortNeed}
-use Rattle.keep_core.specs.code.Passes.{AreLeast, AreNeeds, HasNeeds, PlanRefused, needing, shorter, so_far, with_needs}
+use Rattle.keep_core.specs.code.Passes.{AreLeast, AreNeeds, ForestHasNeeds, PlanRefused, forest_with_needs, needing, shorter, so_far}
 use Rattle.keep_core.specs.Replan.{PlanFails}
 use Rattle.keep_core.specs.Shorten.{cut_to, exceeds, is_short, least_of, least_reach, lesser, need_left, pair_of, pairs, shorten}
 use Rattle.keep_core.proofs.Kept.{plannable, same_entries}
@@ -185,8 +185,8 @@ restored g h t needs is are =
 
 -- shortening taken back
 pub taken_back :
-    (g h : Forest) (t : ℕ) (list more : List ShortNeed) (needs : List ℕ) (noted : ℕ) → h ≡ shorten g t → more ≡ list ++ pairs g t → noted ≡ length list → HasNeeds g needs →
-    (with_needs h needs ≡ g) × (take noted more ≡ list)
+    (g h : Forest) (t : ℕ) (list more : List ShortNeed) (needs : List ℕ) (noted : ℕ) → h ≡ shorten g t → more ≡ list ++ pairs g t → noted ≡ length list → ForestHasNeeds g needs →
+    (forest_with_needs h needs ≡ g) × (take noted more ≡ list)
 taken_back g h t list more needs noted is notes count has =
     (restored g h t needs is has, ap (take noted) notes ∙ ap (λ n. take n (list ++ pairs g t)) count ∙ take-append_seam list (pairs g t))
 

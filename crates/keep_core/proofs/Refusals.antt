@@ -5,11 +5,11 @@ use Rattle.keep_moment.specs.declared.moment.TheConstants.{LAST}
 use Rattle.keep_core.specs.declared.event.Event.{Event}
 use Rattle.keep_core.specs.declared.event.Event.TheVariants.{Tick, Told, Refused, Lost, Need}
 use Rattle.keep_core.specs.declared.fault.StepFault.TheVariants.{BadIndex, ClockBack, NotAsked, OutOfRange, RoundOpen}
-use Rattle.keep_core.specs.LawsOfHistories.{IsAnswer}
+use Rattle.keep_core.specs.LawsOfHistories.{IsAnswerEvent}
 use Rattle.keep_core.specs.declared.refusal.TheConstants.{LONGEST}
-use Rattle.keep_core.specs.Refusal.{TellsSpan, refusal, unless_asked, unless_closed, waits_for}
-use Rattle.keep_core.specs.State.{Round, State}
-use Rattle.keep_core.specs.Step.{of_entry}
+use Rattle.keep_core.specs.Refusal.{TellsSpan, step_refusal, unless_closed, unless_waited_for, waits_for}
+use Rattle.keep_core.specs.State.{CoreState, Round}
+use Rattle.keep_core.specs.Step.{entry_of_event}
 
 -- the first test failed, and so did the others
 pub first_none : {X : Type 0} (b : Bool) (x : X) (o : Option X) → cond b (Some x) o ≡ None → (b ≡ false) × (o ≡ None)
@@ -24,32 +24,32 @@ is_waited_for : (waits : Bool) → cond waits None (Some NotAsked) ≡ None → 
 is_waited_for true e = refl
 is_waited_for false e = absurd cc
 
-pub asked_parts : (s : State) (i : ℕ) → unless_asked s i ≡ None → (i < length s.forest.entries) × (waits_for s.round i ≡ true)
+pub asked_parts : (s : CoreState) (i : ℕ) → unless_waited_for s i ≡ None → (i < length s.forest.entries) × (waits_for s.round i ≡ true)
 asked_parts s i e =
     let tests = first_none (nat_le (length s.forest.entries) i) BadIndex (cond (waits_for s.round i) None (Some NotAsked)) e in
     let one : nat_le (length s.forest.entries) i ≡ false = tests.0 in
     (grind (arith, nat_tests), is_waited_for (waits_for s.round i) tests.1)
 
 -- an answer that is not refused: its entry is one, and is waited for
-pub record IsTaken (s : State) (event : Event) : Type 0 where
+pub record IsTaken (s : CoreState) (event : Event) : Type 0 where
   pub seconds : TellsSpan event
-  pub within : of_entry event < length s.forest.entries
-  pub waits : waits_for s.round (of_entry event) ≡ true
+  pub within : entry_of_event event < length s.forest.entries
+  pub waits : waits_for s.round (entry_of_event event) ≡ true
 
-pub answer_taken : (s : State) (event : Event) → IsAnswer event → refusal s event ≡ None → IsTaken s event
-unfolding refusal
+pub answer_taken : (s : CoreState) (event : Event) → IsAnswerEvent event → step_refusal s event ≡ None → IsTaken s event
+unfolding step_refusal
 answer_taken s (Tick t) answer e = absurd answer
 answer_taken s (Need i until) answer e = absurd answer
 answer_taken s (Refused i) answer e = let taken = asked_parts s i e in record { seconds = tt; within = taken.0; waits = taken.1 }
 answer_taken s (Lost i) answer e = let taken = asked_parts s i e in record { seconds = tt; within = taken.0; waits = taken.1 }
 answer_taken s (Told i seconds renewable) answer e =
-    let test = first_none (nat_lt LONGEST seconds) OutOfRange (unless_asked s i) e in
+    let test = first_none (nat_lt LONGEST seconds) OutOfRange (unless_waited_for s i) e in
     let short : nat_lt LONGEST seconds ≡ false = test.0 in
     let taken = asked_parts s i test.1 in
     record { seconds = grind (arith, nat_tests); within = taken.0; waits = taken.1 }
 
-pub need_taken : (s : State) (i until : ℕ) → refusal s (Need i until) ≡ None → (until ≤ LAST) × (i < length s.forest.entries) × (s.round ≡ None)
-unfolding refusal
+pub need_taken : (s : CoreState) (i until : ℕ) → step_refusal s (Need i until) ≡ None → (until ≤ LAST) × (i < length s.forest.entries) × (s.round ≡ None)
+unfolding step_refusal
 need_taken s i until e =
     let range = first_none (nat_lt LAST until) OutOfRange _ e in
     let index = first_none (nat_le (length s.forest.entries) i) BadIndex (unless_closed s) range.1 in
@@ -57,8 +57,8 @@ need_taken s i until e =
     let other : nat_le (length s.forest.entries) i ≡ false = index.0 in
     (grind (arith, nat_tests), grind (arith, nat_tests), none_open s.round index.1)
 
-pub tick_taken : (s : State) (t : ℕ) → refusal s (Tick t) ≡ None → (t ≤ LAST) × (s.last ≤ t) × (s.round ≡ None)
-unfolding refusal
+pub tick_taken : (s : CoreState) (t : ℕ) → step_refusal s (Tick t) ≡ None → (t ≤ LAST) × (s.last ≤ t) × (s.round ≡ None)
+unfolding step_refusal
 tick_taken s t e =
     let range = first_none (nat_lt LAST t) OutOfRange _ e in
     let clock = first_none (nat_lt t s.last) ClockBack (unless_closed s) range.1 in

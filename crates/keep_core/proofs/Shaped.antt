@@ -12,8 +12,8 @@ use Rattle.keep_core.specs.declared.event.Output.TheVariants as out
 use Rattle.keep_core.specs.declared.fault.StepFault.TheVariants.{ClockBack, RoundOpen, NotAsked, BadIndex, OutOfRange, TooLong, OutOfMemory}
 use Rattle.keep_core.specs.Replan.{Replan}
 use Rattle.keep_core.specs.Shorten.{shorten}
-use Rattle.keep_core.specs.State.{State}
-use Rattle.keep_core.specs.Step.{StepAnswer, StepNeed, StepTick, answered, change, heard, needed, of_entry}
+use Rattle.keep_core.specs.State.{CoreState}
+use Rattle.keep_core.specs.Step.{StepAnswer, StepNeed, StepTick, entry_after_answer, entry_of_event, state_after_answer, with_entry_changed, with_new_need}
 use Rattle.keep_core.proofs.Shortening.{shorten_at, shorten_count, shorten_margin}
 use Rattle.keep_core.specs.LawsOfSteps.{IsShaped, ShapeLaw}
 
@@ -46,7 +46,7 @@ shortened g t = record {
   ];
 }
 
-changed : (g : Forest) (i : ℕ) (f : Entry → Entry) → ((e : Entry) → Like e (f e)) → IsShaped g (change g i f)
+changed : (g : Forest) (i : ℕ) (f : Entry → Entry) → ((e : Entry) → Like e (f e)) → IsShaped g (with_entry_changed g i f)
 changed g i f like =
     let es = g.entries in
     let e = f (entry_at es i) in
@@ -65,45 +65,45 @@ changed g i f like =
       ];
     }
 
-answer_like : (at : ℕ) (event : Event) (e : Entry) → Like e (answered at event e)
-unfolding answered
+answer_like : (at : ℕ) (event : Event) (e : Entry) → Like e (entry_after_answer at event e)
+unfolding entry_after_answer
 answer_like at (Told i seconds renewable) e = refl
 answer_like at (Refused i) e = refl
 answer_like at (Lost i) e = refl
 answer_like at (Tick t) e = refl
 answer_like at (Need i until) e = refl
 
-pub replanned : (g : Forest) (old : State) (t : ℕ) (new : State) → IsShaped g old.forest → Replan old t new → IsShaped g new.forest
-replanned g old t new a r = subst (λ (s : State). IsShaped g s.forest) (sym r.is) (both_shaped g old.forest (shorten old.forest t) a (shortened old.forest t))
+pub replanned : (g : Forest) (old : CoreState) (t : ℕ) (new : CoreState) → IsShaped g old.forest → Replan old t new → IsShaped g new.forest
+replanned g old t new a r = subst (λ (s : CoreState). IsShaped g s.forest) (sym r.is) (both_shaped g old.forest (shorten old.forest t) a (shortened old.forest t))
 
-tick_shaped : (old : State) (t : ℕ) (output : Output) (new : State) → StepTick old t output new → IsShaped old.forest new.forest
+tick_shaped : (old : CoreState) (t : ℕ) (output : Output) (new : CoreState) → StepTick old t output new → IsShaped old.forest new.forest
 tick_shaped old t out.Idle new step = replanned old.forest old t new (same old.forest) step.0
 tick_shaped old t (out.Sleep w) new step = replanned old.forest old t new (same old.forest) step.0
-tick_shaped old t (out.Ask asked) new step = subst (λ (s : State). IsShaped old.forest s.forest) (sym step.1.1.1.1.1) (replanned old.forest old t step.0 (same old.forest) step.1.0)
+tick_shaped old t (out.Ask asked) new step = subst (λ (s : CoreState). IsShaped old.forest s.forest) (sym step.1.1.1.1.1) (replanned old.forest old t step.0 (same old.forest) step.1.0)
 tick_shaped old t out.Waiting new step = absurd step
 tick_shaped old t (out.Round next) new step = absurd step
 tick_shaped old t out.Planned new step = absurd step
 
-answer_shaped : (old : State) (event : Event) (output : Output) (new : State) → StepAnswer old event output new → IsShaped old.forest new.forest
+answer_shaped : (old : CoreState) (event : Event) (output : Output) (new : CoreState) → StepAnswer old event output new → IsShaped old.forest new.forest
 answer_shaped old event out.Waiting new step =
-    subst (λ (s : State). IsShaped old.forest s.forest) (sym step.1.1.1) (changed old.forest (of_entry event) (answered step.0.at event) (answer_like step.0.at event))
+    subst (λ (s : CoreState). IsShaped old.forest s.forest) (sym step.1.1.1) (changed old.forest (entry_of_event event) (entry_after_answer step.0.at event) (answer_like step.0.at event))
 answer_shaped old event (out.Round next) new step =
-    replanned old.forest (heard old event step.0.at None) step.0.at new (changed old.forest (of_entry event) (answered step.0.at event) (answer_like step.0.at event)) step.1.1.1.0
+    replanned old.forest (state_after_answer old event step.0.at None) step.0.at new (changed old.forest (entry_of_event event) (entry_after_answer step.0.at event) (answer_like step.0.at event)) step.1.1.1.0
 answer_shaped old event out.Idle new step = absurd step
 answer_shaped old event (out.Sleep w) new step = absurd step
 answer_shaped old event (out.Ask asked) new step = absurd step
 answer_shaped old event out.Planned new step = absurd step
 
-need_shaped : (old : State) (i until : ℕ) (output : Output) (new : State) → StepNeed old i until output new → IsShaped old.forest new.forest
-need_shaped old i until out.Planned new step = replanned old.forest (needed old i until) old.last new (changed old.forest i (λ e. record e { need = until }) (λ e. refl)) step
+need_shaped : (old : CoreState) (i until : ℕ) (output : Output) (new : CoreState) → StepNeed old i until output new → IsShaped old.forest new.forest
+need_shaped old i until out.Planned new step = replanned old.forest (with_new_need old i until) old.last new (changed old.forest i (λ e. record e { need = until }) (λ e. refl)) step
 need_shaped old i until out.Idle new step = absurd step
 need_shaped old i until (out.Sleep w) new step = absurd step
 need_shaped old i until (out.Ask asked) new step = absurd step
 need_shaped old i until out.Waiting new step = absurd step
 need_shaped old i until (out.Round next) new step = absurd step
 
-stays : (old new : State) → new ≡ old → IsShaped old.forest new.forest
-stays old new is = subst (λ (s : State). IsShaped old.forest s.forest) (sym is) (same old.forest)
+stays : (old new : CoreState) → new ≡ old → IsShaped old.forest new.forest
+stays old new is = subst (λ (s : CoreState). IsShaped old.forest s.forest) (sym is) (same old.forest)
 
 pub shape : ShapeLaw
 shape old new (Tick t) (Ok output) turn = tick_shaped old t output new turn.1

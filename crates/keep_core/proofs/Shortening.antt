@@ -15,7 +15,7 @@ use Rattle.keep_tree.proofs.Placed.{parents_first}
 use Rattle.keep_rule.specs.Reach.{reach}
 use Rattle.keep_rule.specs.Unkeepable.{AllKeepable}
 use Rattle.keep_rule.proofs.Lists.{need_within}
-use Rattle.keep_core.specs.Shorten.{cut, cut_to, exceeds, is_short, least_of, least_reach, lesser, need_left, shorten}
+use Rattle.keep_core.specs.Shorten.{cut_to, entry_shortened, exceeds, is_short, least_of, least_reach, lesser, need_left, shorten}
 use Rattle.keep_core.specs.code.Passes.{needing}
 use Rattle.keep_core.proofs.Alike.{Alike, over_alike, reach_alike}
 use Rattle.keep_core.proofs.Needing.{length_needing, needing_alike, needing_at, needing_end, needing_forest}
@@ -123,11 +123,11 @@ short_where g t i most least later less = ap (λ o. exceeds t o (entry_at g.entr
 
 -- the forest after shortening, as one with other needs
 pub shorten_is : (g : Forest) (t : ℕ) → shorten g t ≡ record { entries = needing g.entries (need_left g t); margin = g.margin }
-unfolding shorten cut needing
+unfolding shorten entry_shortened needing
 shorten_is g t = refl
 
 pub shorten_entries : (g : Forest) (t : ℕ) → (shorten g t).entries ≡ needing g.entries (need_left g t)
-unfolding shorten cut needing
+unfolding shorten entry_shortened needing
 shorten_entries g t = refl
 
 pub shorten_count : (g : Forest) (t : ℕ) → length (shorten g t).entries ≡ length g.entries

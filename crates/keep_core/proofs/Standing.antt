@@ -11,8 +11,8 @@ use Rattle.keep_tree.specs.Push.{IsForest}
 use Rattle.keep_tree.specs.Renewal.{renewal, renewed}
 use Rattle.keep_tree.proofs.Placed.{parents_first}
 use Rattle.keep_rule.specs.declared.wake.Wake.{Wake}
-use Rattle.keep_rule.specs.Asks.{asking, asks, first_of, is_wanted}
-use Rattle.keep_rule.specs.Ends.{after, is_asked}
+use Rattle.keep_rule.specs.Asks.{asking, asks, first_of, is_to_be_asked}
+use Rattle.keep_rule.specs.Ends.{ends_after_wake_up, is_asked}
 use Rattle.keep_rule.specs.Least.{IsLeastAndLatest}
 use Rattle.keep_rule.specs.Plans.{IsPlan, moments}
 use Rattle.keep_rule.specs.Unkeepable.{AllKeepable}
@@ -71,7 +71,7 @@ pub best_from : (g : Forest) (s : ℕ) (ts : List ℕ) → IsPlanOf g s ts → A
 best_from g s ts best = subst (All (λ u. s ≤ u)) best.at_these (all_from s best.plan best.in_order)
 
 -- a round that was answered by the rule leaves the ends that its Asks give
-pub after_answers : (g h : Forest) (t : ℕ) (next : Option ℕ) → IsAnsweredByRule g h t next → after g.entries g.margin (end_of g.entries) (asking g.entries g.margin t (end_of g.entries) t next) ≡ end_of h.entries
+pub after_answers : (g h : Forest) (t : ℕ) (next : Option ℕ) → IsAnsweredByRule g h t next → ends_after_wake_up g.entries g.margin (end_of g.entries) (asking g.entries g.margin t (end_of g.entries) t next) ≡ end_of h.entries
 unfolding end_of
 after_answers g h t next answered = fun_ext λ i.
     let es = g.entries in
@@ -79,7 +79,7 @@ after_answers g h t next answered = fun_ext λ i.
     let asked = is_asked (asking es g.margin t ends t next) i in
     let is : (entry_at h.entries i).end ≡ cond asked (renewal (entry_at es i) t) (ends i) = ap (λ (e : Entry). e.end) (answered.each i) in
     let same = asks_wanted es g.margin t ends t next i in
-    elim (cases_Bool (is_wanted es g.margin t ends t next i)) [
+    elim (cases_Bool (is_to_be_asked es g.margin t ends t next i)) [
       | inl wanted ↦ after_wanted es g.margin t ends t next i wanted ∙ sym (is ∙ cond-true asked (renewal (entry_at es i) t) (ends i) (same ∙ wanted))
       | inr unwanted ↦ after_unwanted es g.margin t ends t next i unwanted ∙ sym (is ∙ cond-false asked (renewal (entry_at es i) t) (ends i) (same ∙ unwanted))
     ]
@@ -104,8 +104,8 @@ tail_kept g h t ts forest best answered =
     (same.0, (same.1, now))
 
 -- a wake-up that asks nobody leaves the ends
-after_nobody : (es : List Entry) (margin : ℕ) (ends : ℕ → ℕ) (w : Wake) → w.asked ≡ [] → after es margin ends w ≡ ends
-unfolding after is_asked
+after_nobody : (es : List Entry) (margin : ℕ) (ends : ℕ → ℕ) (w : Wake) → w.asked ≡ [] → ends_after_wake_up es margin ends w ≡ ends
+unfolding ends_after_wake_up is_asked
 after_nobody es margin ends w nobody = fun_ext λ i. ap (λ (asked : List ℕ). cond (list_any (λ j. j == i) asked) (renewed es margin ends w.at i) (ends i)) nobody
 
 some_or_none : (xs : List ℕ) (P : Type 0) → (xs ≡ [] → P) → (0 < length xs → P) → P

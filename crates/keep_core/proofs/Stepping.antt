@@ -7,9 +7,9 @@ use Rattle.keep_core.specs.declared.event.Output.{Output}
 use Rattle.keep_core.specs.declared.fault.StepFault.{StepFault}
 use Rattle.keep_core.specs.declared.fault.StepFault.TheVariants.{ClockBack, RoundOpen, NotAsked, BadIndex, OutOfRange, TooLong, OutOfMemory}
 use Rattle.keep_core.specs.declared.refusal.TheConstants.{LONGEST}
-use Rattle.keep_core.specs.Refusal.{refusal, waits_for}
-use Rattle.keep_core.specs.History.{History, Turn}
-use Rattle.keep_core.specs.State.{Round, State}
+use Rattle.keep_core.specs.Refusal.{step_refusal, waits_for}
+use Rattle.keep_core.specs.History.{CoreHistory, CoreTurn}
+use Rattle.keep_core.specs.State.{CoreState, Round}
 
 -- a fault that does not come of planning anew
 abbrev IsEarly : StepFault → Type 0
@@ -30,8 +30,8 @@ not_waited true waited = tt
 not_waited false true = tt
 not_waited false false = tt
 
-refusal_early : (s : State) (event : Event) → IfSome (refusal s event) IsEarly
-unfolding refusal
+refusal_early : (s : CoreState) (event : Event) → IfSome (step_refusal s event) IsEarly
+unfolding step_refusal
 refusal_early s (Tick t) = by_test (nat_lt LAST t) OutOfRange _ tt (by_test (nat_lt t s.last) ClockBack _ tt (while_open s.round))
 refusal_early s (Told i seconds renewable) = by_test (nat_lt LONGEST seconds) OutOfRange _ tt (not_waited (nat_le (length s.forest.entries) i) (waits_for s.round i))
 refusal_early s (Refused i) = not_waited (nat_le (length s.forest.entries) i) (waits_for s.round i)
@@ -39,9 +39,9 @@ refusal_early s (Lost i) = not_waited (nat_le (length s.forest.entries) i) (wait
 refusal_early s (Need i until) = by_test (nat_lt LAST until) OutOfRange _ tt (by_test (nat_le (length s.forest.entries) i) BadIndex _ tt (while_open s.round))
 
 -- a refused event is a turn that leaves the state
-pub refused : (s : State) (event : Event) (fault : StepFault) → refusal s event ≡ Some fault → Turn s event (Err fault) s
+pub refused : (s : CoreState) (event : Event) (fault : StepFault) → step_refusal s event ≡ Some fault → CoreTurn s event (Err fault) s
 refused s event fault is = by_fault fault is (subst (λ o. IfSome o IsEarly) is (refusal_early s event)) where
-  by_fault : (fault : StepFault) → refusal s event ≡ Some fault → IsEarly fault → Turn s event (Err fault) s
+  by_fault : (fault : StepFault) → step_refusal s event ≡ Some fault → IsEarly fault → CoreTurn s event (Err fault) s
   by_fault ClockBack is early = (is, refl)
   by_fault RoundOpen is early = (is, refl)
   by_fault NotAsked is early = (is, refl)
@@ -52,9 +52,9 @@ refused s event fault is = by_fault fault is (subst (λ o. IfSome o IsEarly) is 
 
 -- one turn more
 pub history_more :
-    (old mid new : State) (events : List Event) (event : Event) (results : List (Result Output StepFault)) (result : Result Output StepFault) →
-    History old events results mid → Turn mid event result new → History old (events ++ event ∷ []) (results ++ result ∷ []) new
-history_more old mid new [] event [] result history turn = (new, (subst (λ s. Turn s event result new) history turn, refl))
+    (old mid new : CoreState) (events : List Event) (event : Event) (results : List (Result Output StepFault)) (result : Result Output StepFault) →
+    CoreHistory old events results mid → CoreTurn mid event result new → CoreHistory old (events ++ event ∷ []) (results ++ result ∷ []) new
+history_more old mid new [] event [] result history turn = (new, (subst (λ s. CoreTurn s event result new) history turn, refl))
 history_more old mid new [] event (r ∷ results) result history turn = absurd history
 history_more old mid new (e ∷ events) event [] result history turn = absurd history
 history_more old mid new (e ∷ events) event (r ∷ results) result history turn = (history.0, (history.1.0, history_more history.0 mid new events event results result history.1.1 turn))

@@ -5,7 +5,7 @@ use Rattle.std.proofs.lemmas.Bool.Decides.{nat_tests}
 use Rattle.std.proofs.lemmas.List.{get_or_past}
 use Rattle.std.specs.List.{list_any, range_with_len}
 use Rattle.keep_tree.proofs.Carrying.{or_left, or_parts, or_right}
-use Rattle.keep_core.specs.code.Keeping.{flag, waited_for}
+use Rattle.keep_core.specs.code.Keeping.{flag_of, waited_for}
 
 pub kept_test : (p : ℕ → Bool) (n a i : ℕ) → list_any (λ j. j == i) (filter p (range_with_len a n)) ≡ true → p i ≡ true
 kept_test p zero a i e = absurd cc
@@ -34,15 +34,15 @@ kept_there p (suc n) a i low high e =
     ]
 
 -- whether an entry is among those that are waited for: its flag, and none past the flags
-pub waits_flag : (flags : List Bool) (i : ℕ) → list_any (λ j. j == i) (waited_for flags) ≡ flag flags i
+pub waits_flag : (flags : List Bool) (i : ℕ) → list_any (λ j. j == i) (waited_for flags) ≡ flag_of flags i
 unfolding waited_for
-waits_flag flags i = elim (cases_Bool (flag flags i)) [
+waits_flag flags i = elim (cases_Bool (flag_of flags i)) [
   | inl yes' ↦ elim (cases_lt i (length flags)) [
-    | inl within ↦ kept_there (flag flags) (length flags) 0 i (omega arith) (omega arith) yes' ∙ sym yes'
-    | inr past ↦ absurd (let no' : flag flags i ≡ false = get_or_past flags i false past in cc)
+    | inl within ↦ kept_there (flag_of flags) (length flags) 0 i (omega arith) (omega arith) yes' ∙ sym yes'
+    | inr past ↦ absurd (let no' : flag_of flags i ≡ false = get_or_past flags i false past in cc)
   ]
-  | inr no' ↦ not_kept (list_any (λ j. j == i) (filter (flag flags) (range_with_len 0 (length flags)))) (kept_test (flag flags) (length flags) 0 i) no'
+  | inr no' ↦ not_kept (list_any (λ j. j == i) (filter (flag_of flags) (range_with_len 0 (length flags)))) (kept_test (flag_of flags) (length flags) 0 i) no'
 ] where
-  not_kept : (b : Bool) → (b ≡ true → flag flags i ≡ true) → flag flags i ≡ false → b ≡ flag flags i
+  not_kept : (b : Bool) → (b ≡ true → flag_of flags i ≡ true) → flag_of flags i ≡ false → b ≡ flag_of flags i
   not_kept true f h = absurd (let y = f refl in cc)
   not_kept false f h = sym h

@@ -11,7 +11,7 @@ use Rattle.keep_tree.specs.declared.entry.Entry.{Entry}
 use Rattle.keep_tree.specs.Forest.{Forest, end_of}
 use Rattle.keep_tree.specs.Push.{IsForest}
 use Rattle.keep_tree.proofs.Carrying.{or_left, or_right}
-use Rattle.keep_rule.specs.Asks.{asks, first_of, is_wanted}
+use Rattle.keep_rule.specs.Asks.{asks, first_of, is_to_be_asked}
 use Rattle.keep_rule.specs.Plans.{asks_past}
 use Rattle.keep_rule.proofs.Asking.{asks_within}
 use Rattle.keep_rule.proofs.LaterStart.{same_asks}
@@ -23,12 +23,12 @@ use Rattle.keep_core.specs.declared.event.Output.{Output}
 use Rattle.keep_core.specs.declared.event.Output.TheVariants as out
 use Rattle.keep_core.specs.declared.opening.Opening.{Opening}
 use Rattle.keep_core.specs.InForce.{AllForcedAs}
-use Rattle.keep_core.specs.code.Keeping.{IsKeeper, IsOpen, flag, waited_for}
+use Rattle.keep_core.specs.code.Keeping.{IsKeeper, IsOpen, flag_of, waited_for}
 use Rattle.keep_core.specs.Replan.{IsPlanOf, Replan}
-use Rattle.keep_core.specs.State.{State}
-use Rattle.keep_core.specs.States.{IsOpened}
-use Rattle.keep_core.specs.Step.{IsDueBy, StepTick, opened}
-use Rattle.keep_core.specs.code.Waking.{AreFlags, IsOpening, Wakes, is_late}
+use Rattle.keep_core.specs.State.{CoreState}
+use Rattle.keep_core.specs.States.{RoundIsOpened}
+use Rattle.keep_core.specs.Step.{IsDueBy, StepTick, round_opened}
+use Rattle.keep_core.specs.code.Waking.{AreFlags, CoreWakes, IsRoundOpening, is_late}
 use Rattle.keep_core.proofs.ByRule.{next_is, opens_by_rule, rises_strictly}
 use Rattle.keep_core.proofs.Forces.{still_forced}
 use Rattle.keep_core.proofs.Made.{count_moments}
@@ -52,23 +52,23 @@ waited_asked : (p : ℕ → Bool) (n : ℕ) (flags : List Bool) → AreFlags n (
 unfolding waited_for
 waited_asked p n flags f =
     let asked = filter p (range_with_len 0 n) in
-    ap (λ k. filter (flag flags) (range_with_len 0 k)) f.count
-    ∙ agree_in (flag flags) p n 0 (λ i low high. f.each i ∙ by_answer (list_any (λ j. j == i) asked) (p i) (kept_test p n 0 i) (kept_there p n 0 i low high))
+    ap (λ k. filter (flag_of flags) (range_with_len 0 k)) f.count
+    ∙ agree_in (flag_of flags) p n 0 (λ i low high. f.each i ∙ by_answer (list_any (λ j. j == i) asked) (p i) (kept_test p n 0 i) (kept_there p n 0 i low high))
 
 module _ (es : List Entry) (margin s : ℕ) (ends : ℕ → ℕ) (t : ℕ) (next : Option ℕ) where
   -- with such flags the answers of those are waited for that are asked
   pub asks_waited : (flags : List Bool) → AreFlags (length es) (asks es margin s ends t next) flags → waited_for flags ≡ asks es margin s ends t next
   unfolding asks
-  asks_waited flags f = waited_asked (is_wanted es margin s ends t next) (length es) flags f
+  asks_waited flags f = waited_asked (is_to_be_asked es margin s ends t next) (length es) flags f
 
   -- the Asks are entries, and no more than there are
   pub asks_inside : asks_past (length es) (asks es margin s ends t next) ≡ false
   unfolding asks
-  asks_inside = asks_within (is_wanted es margin s ends t next) (length es) 0 (length es) (omega arith)
+  asks_inside = asks_within (is_to_be_asked es margin s ends t next) (length es) 0 (length es) (omega arith)
 
   pub asks_few : length (asks es margin s ends t next) ≤ length es
   unfolding asks
-  asks_few = length-filter_within (is_wanted es margin s ends t next) (length es) 0 where
+  asks_few = length-filter_within (is_to_be_asked es margin s ends t next) (length es) 0 where
     length-filter_within : (p : ℕ → Bool) (n a : ℕ) → length (filter p (range_with_len a n)) ≤ n
     length-filter_within p zero a = omega arith
     length-filter_within p (suc n) a =
@@ -95,7 +95,7 @@ flags_more n items flags k j within is inside so_far =
       each = λ i. elim (cases_eq i j) [
         | inl same ↦
             let here : (j == i) ≡ true = grind (arith, nat_tests) in
-            ap (flag (set flags j true)) same ∙ get_or-set_same flags j true false (omega (arith, so_far.count))
+            ap (flag_of (set flags j true)) same ∙ get_or-set_same flags j true false (omega (arith, so_far.count))
             ∙ sym (step i ∙ or_right (before i) ((j == i) || false) (or_left (j == i) false here))
         | inr apart ↦
             let away : (j == i) ≡ false = grind (arith, nat_tests) in
@@ -155,7 +155,7 @@ kept_keeper h s t p k later late e =
 
 -- and once a round has opened at its first wake-up
 pub opened_keeper :
-    (h : Forest) (t : ℕ) (p q : Planned) (o : Opening) → IsKeeper h t p None → IsOpening h t (moments_of (to_come p)) o → q.start ≡ p.start → q.carried ≡ p.carried →
+    (h : Forest) (t : ℕ) (p q : Planned) (o : Opening) → IsKeeper h t p None → IsRoundOpening h t (moments_of (to_come p)) o → q.start ≡ p.start → q.carried ≡ p.carried →
     IsTail (to_come p) (to_come q) → IsKeeper h t q (Some o.round)
 opened_keeper h t p q o k opens start carried tail =
     let es = h.entries in
@@ -173,7 +173,7 @@ opened_keeper h t p q o k opens start carried tail =
       count = opens.count;
       left = opens.left ∙ ap length (sym opens.waiting);
       some = (let l = opens.left in let n = opens.some in omega arith);
-      opened = subst (IsOpened h ts) (sym (ap (λ n. record { at = n; unanswered = waited_for o.round.waiting.items }) opens.at ∙ ap (λ us. record { at = t; unanswered = us }) (opens.waiting ∙ asked)))
+      opened = subst (RoundIsOpened h ts) (sym (ap (λ n. record { at = n; unanswered = waited_for o.round.waiting.items }) opens.at ∙ ap (λ us. record { at = t; unanswered = us }) (opens.waiting ∙ asked)))
           (opens_whole h t ts k.forest best (let c = count_moments (to_come q) in let l = ap length tail.1 in let n = k.few in omega arith));
       by_rule = λ _. opens_by_rule h opens.forest t x q at best forced o.round.waiting.items (opens.waiting ∙ asked);
     } in
@@ -189,15 +189,15 @@ opened_keeper h t p q o k opens start carried tail =
     }
 
 -- what a state says that was planned anew, or whose plan stayed, is the step of a tick
-pub tick_step : (old mid new : State) (t : ℕ) (output : Output) → Replan old t mid → Wakes mid output new → StepTick old t output new
-tick_step old mid new t out.Idle r w = (subst (Replan old t) (sym w.1) r, ap (λ (s : State). s.to_come) w.1 ∙ w.0)
+pub tick_step : (old mid new : CoreState) (t : ℕ) (output : Output) → Replan old t mid → CoreWakes mid output new → StepTick old t output new
+tick_step old mid new t out.Idle r w = (subst (Replan old t) (sym w.1) r, ap (λ (s : CoreState). s.to_come) w.1 ∙ w.0)
 tick_step old mid new t (out.Sleep u) r w =
-    let last : mid.last ≡ t = ap (λ (s : State). s.last) r.is in
-    (subst (Replan old t) (sym w.1.1) r, (ap (λ (s : State). first_of s.to_come) w.1.1 ∙ w.0, (let l = w.1.0 in omega arith)))
+    let last : mid.last ≡ t = ap (λ (s : CoreState). s.last) r.is in
+    (subst (Replan old t) (sym w.1.1) r, (ap (λ (s : CoreState). first_of s.to_come) w.1.1 ∙ w.0, (let l = w.1.0 in omega arith)))
 tick_step old mid new t (out.Ask asked) r w =
-    let last : mid.last ≡ t = ap (λ (s : State). s.last) r.is in
+    let last : mid.last ≡ t = ap (λ (s : CoreState). s.last) r.is in
     let Goal : ℕ → Type 0 = λ n.
-    (mid.to_come ≡ n ∷ w.0) × ((asked ≡ (opened mid n (first_of w.0)).unanswered) × (new ≡ record mid { to_come = w.0; round = Some (opened mid n (first_of w.0)) })) in
+    (mid.to_come ≡ n ∷ w.0) × ((asked ≡ (round_opened mid n (first_of w.0)).unanswered) × (new ≡ record mid { to_come = w.0; round = Some (round_opened mid n (first_of w.0)) })) in
     (mid, (r, (w.0, subst Goal last w.1)))
 tick_step old mid new t out.Waiting r w = absurd w
 tick_step old mid new t (out.Round next) r w = absurd w

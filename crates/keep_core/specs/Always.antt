@@ -16,12 +16,12 @@ until_reach None s = min (s + YEAR) LAST
 until_reach (Some most) s = min most LAST
 
 -- whether the entry i is needed always
-abbrev pub is_always : List Bool → ℕ → Bool
-is_always always i = slice_index_or always i false
+abbrev pub is_always_needed : List Bool → ℕ → Bool
+is_always_needed always i = slice_index_or always i false
 
 -- the need of the entry i from s on: of one that is needed always, the least reach over it
 unfoldable pub need_from : Forest → List Bool → ℕ → ℕ → ℕ
-need_from g always s i = if is_always always i then until_reach (least_reach g s i) s else (entry_at g.entries i).need
+need_from g always s i = if is_always_needed always i then until_reach (least_reach g s i) s else (entry_at g.entries i).need
 
 -- the needs of all entries from s on
 unfoldable pub needs_from : Forest → List Bool → ℕ → List ℕ
@@ -40,9 +40,9 @@ forest_from g always s = record { entries = map (entry_from g always s) (range_w
 abbrev pub AlwaysLaw : Type 0
 AlwaysLaw =
     (g : Forest) (always : List Bool) (s : ℕ) → IsForest g → IsForest (forest_from g always s)
-    × ((i : ℕ) → is_always always i ≡ true → is_short (forest_from g always s) s i ≡ false)
-    × (((i : ℕ) → is_always always i ≡ false → (entry_at g.entries i).need ≤ s) → AllKeepable (forest_from g always s) s (end_of (forest_from g always s).entries))
+    × ((i : ℕ) → is_always_needed always i ≡ true → is_short (forest_from g always s) s i ≡ false)
+    × (((i : ℕ) → is_always_needed always i ≡ false → (entry_at g.entries i).need ≤ s) → AllKeepable (forest_from g always s) s (end_of (forest_from g always s).entries))
 
 -- where no entry is needed always, the forest is as it was
 abbrev pub NeverLaw : Type 0
-NeverLaw = (g : Forest) (always : List Bool) (s : ℕ) → ((i : ℕ) → is_always always i ≡ false) → forest_from g always s ≡ g
+NeverLaw = (g : Forest) (always : List Bool) (s : ℕ) → ((i : ℕ) → is_always_needed always i ≡ false) → forest_from g always s ≡ g

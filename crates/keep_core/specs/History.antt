@@ -5,19 +5,19 @@ use Rattle.keep_core.specs.declared.event.Event.{Event}
 use Rattle.keep_core.specs.declared.event.Output.{Output}
 use Rattle.keep_core.specs.declared.fault.StepFault.{StepFault}
 use Rattle.keep_core.specs.declared.fault.StepFault.TheVariants.{TooLong, OutOfMemory}
-use Rattle.keep_core.specs.Refusal.{refusal}
-use Rattle.keep_core.specs.State.{State}
-use Rattle.keep_core.specs.Step.{MayWant, Step, StepTooLong}
+use Rattle.keep_core.specs.Refusal.{step_refusal}
+use Rattle.keep_core.specs.State.{CoreState}
+use Rattle.keep_core.specs.Step.{CoreStep, StepMayWantMemory, StepTooLong}
 
 -- what an event gives: a step; or a refusal, which leaves the state. Lack of memory may take the place of a step
-abbrev pub Turn : State → Event → Result Output StepFault → State → Type 0
-Turn old event (Ok output) new = (refusal old event ≡ None) × Step old event output new
-Turn old event (Err TooLong) new = (refusal old event ≡ None) × (StepTooLong old event × (new ≡ old))
-Turn old event (Err OutOfMemory) new = (refusal old event ≡ None) × (MayWant old event × (new ≡ old))
-Turn old event (Err fault) new = (refusal old event ≡ Some fault) × (new ≡ old)
+abbrev pub CoreTurn : CoreState → Event → Result Output StepFault → CoreState → Type 0
+CoreTurn old event (Ok output) new = (step_refusal old event ≡ None) × CoreStep old event output new
+CoreTurn old event (Err TooLong) new = (step_refusal old event ≡ None) × (StepTooLong old event × (new ≡ old))
+CoreTurn old event (Err OutOfMemory) new = (step_refusal old event ≡ None) × (StepMayWantMemory old event × (new ≡ old))
+CoreTurn old event (Err fault) new = (step_refusal old event ≡ Some fault) × (new ≡ old)
 
 -- what events give one after another
-abbrev pub History : State → List Event → List (Result Output StepFault) → State → Type 0
-History old [] [] new = new ≡ old
-History old (event ∷ events) (result ∷ results) new = (mid : State) × (Turn old event result mid × History mid events results new)
-History old events results new = ⊥
+abbrev pub CoreHistory : CoreState → List Event → List (Result Output StepFault) → CoreState → Type 0
+CoreHistory old [] [] new = new ≡ old
+CoreHistory old (event ∷ events) (result ∷ results) new = (mid : CoreState) × (CoreTurn old event result mid × CoreHistory mid events results new)
+CoreHistory old events results new = ⊥

@@ -6,16 +6,16 @@ use Rattle.keep_rule.specs.Forced.{Forced}
 use Rattle.keep_rule.specs.declared.force.Force.{Force}
 use Rattle.keep_rule.specs.declared.limit.TheConstants.{LIMIT}
 use Rattle.keep_core.specs.Replan.{IsPlanOf}
-use Rattle.keep_core.specs.State.{State}
+use Rattle.keep_core.specs.State.{CoreState}
 
 -- the moments to come are those of the least and latest plan for the ends as told and the needs in force, from the last
 -- moment
-abbrev pub InForce : State → Type 0
+abbrev pub InForce : CoreState → Type 0
 InForce s = IsPlanOf s.forest s.last s.to_come × (length s.to_come ≤ LIMIT)
 
 -- so they are wherever no round is open
-abbrev pub IsSound : State → Type 0
-IsSound s = s.round ≡ None → InForce s
+abbrev pub InForceBetweenRounds : CoreState → Type 0
+InForceBetweenRounds s = s.round ≡ None → InForce s
 
 -- each wake-up is Forced as it is named, after one at prev
 abbrev pub AllForcedAs : List Entry → ℕ → ℕ → (ℕ → ℕ) → Option ℕ → List Force → Type 0

@@ -5,29 +5,29 @@ use Rattle.keep_core.specs.declared.event.Event.TheVariants.{Tick, Told, Refused
 use Rattle.keep_core.specs.declared.event.Output.{Output}
 use Rattle.keep_core.specs.declared.fault.StepFault.{StepFault}
 use Rattle.keep_core.specs.declared.fault.StepFault.TheVariants.{OutOfMemory}
-use Rattle.keep_core.specs.InForce.{IsSound}
+use Rattle.keep_core.specs.InForce.{InForceBetweenRounds}
 use Rattle.keep_core.specs.Refusal.{TellsSpan, waits_for}
-use Rattle.keep_core.specs.History.{History}
-use Rattle.keep_core.specs.State.{Round, State}
+use Rattle.keep_core.specs.History.{CoreHistory}
+use Rattle.keep_core.specs.State.{CoreState, Round}
 use Rattle.keep_core.specs.States.{IsState}
-use Rattle.keep_core.specs.Step.{left, of_entry}
+use Rattle.keep_core.specs.Step.{entry_of_event, left}
 
-abbrev pub IsAnswer : Event → Type 0
-IsAnswer (Tick t) = ⊥
-IsAnswer (Told i seconds renewable) = Unit {0}
-IsAnswer (Refused i) = Unit {0}
-IsAnswer (Lost i) = Unit {0}
-IsAnswer (Need i until) = ⊥
+abbrev pub IsAnswerEvent : Event → Type 0
+IsAnswerEvent (Tick t) = ⊥
+IsAnswerEvent (Told i seconds renewable) = Unit {0}
+IsAnswerEvent (Refused i) = Unit {0}
+IsAnswerEvent (Lost i) = Unit {0}
+IsAnswerEvent (Need i until) = ⊥
 
 -- these answer a round: each is of an entry that is then waited for, and tells no more seconds than can be told
 abbrev pub AnswerEach : Round → List Event → Type 0
 AnswerEach round [] = Unit {0}
-AnswerEach round (event ∷ events) = IsAnswer event × (TellsSpan event × ((waits_for (Some round) (of_entry event) ≡ true) × AnswerEach (left round (of_entry event)) events))
+AnswerEach round (event ∷ events) = IsAnswerEvent event × (TellsSpan event × ((waits_for (Some round) (entry_of_event event) ≡ true) × AnswerEach (left round (entry_of_event event)) events))
 
 -- who is then left
-abbrev pub left_by : Round → List Event → List ℕ
-left_by round [] = round.unanswered
-left_by round (event ∷ events) = left_by (left round (of_entry event)) events
+abbrev pub unanswered_after : Round → List Event → List ℕ
+unanswered_after round [] = round.unanswered
+unanswered_after round (event ∷ events) = unanswered_after (left round (entry_of_event event)) events
 
 -- none is refused for lack of memory
 abbrev pub NoneWants : List (Result Output StepFault) → Type 0
@@ -43,23 +43,23 @@ AllTaken (Err fault ∷ results) = ⊥
 -- such answers are taken, lack of memory aside; and where nobody is left, they close the round
 abbrev pub ClosesLaw : Type 0
 ClosesLaw =
-    (old new : State) (round : Round) (events : List Event) (results : List (Result Output StepFault)) → IsState old → old.round ≡ Some round → AnswerEach round events →
-    NoneWants results → History old events results new → AllTaken results × (left_by round events ≡ [] → new.round ≡ None)
+    (old new : CoreState) (round : Round) (events : List Event) (results : List (Result Output StepFault)) → IsState old → old.round ≡ Some round → AnswerEach round events →
+    NoneWants results → CoreHistory old events results new → AllTaken results × (unanswered_after round events ≡ [] → new.round ≡ None)
 
 -- the first answer for i, None where there is none
 unfoldable pub answer_for : List Event → ℕ → Option Event
 answer_for [] i = None
-answer_for (event ∷ events) i = if of_entry event == i then Some event else answer_for events i
+answer_for (event ∷ events) i = if entry_of_event event == i then Some event else answer_for events i
 
 -- two orders of the same such answers end in equal states, lack of memory aside. No entry has two answers; so "the same
 -- answers" is "the same for each entry"
 abbrev pub OrderLaw : Type 0
 OrderLaw =
-    (old x y : State) (round : Round) → IsState old → old.round ≡ Some round → (these others : List Event) → AnswerEach round these → AnswerEach round others →
+    (old x y : CoreState) (round : Round) → IsState old → old.round ≡ Some round → (these others : List Event) → AnswerEach round these → AnswerEach round others →
     ((i : ℕ) → answer_for these i ≡ answer_for others i) → (results more : List (Result Output StepFault)) → NoneWants results → NoneWants more →
-    History old these results x → History old others more y → x ≡ y
+    CoreHistory old these results x → CoreHistory old others more y → x ≡ y
 
 -- whatever events come, the plan in force is the least and latest one whenever no round is open
 abbrev pub InForceLaw : Type 0
 InForceLaw =
-    (old new : State) (events : List Event) (results : List (Result Output StepFault)) → IsSound old → History old events results new → IsSound new
+    (old new : CoreState) (events : List Event) (results : List (Result Output StepFault)) → InForceBetweenRounds old → CoreHistory old events results new → InForceBetweenRounds new

@@ -12,8 +12,8 @@ use Rattle.keep_rule.specs.declared.force.Force.{Force}
 use Rattle.keep_core.specs.InForce.{AllForcedAs, InForce}
 use Rattle.keep_core.specs.Replan.{IsPlanOf, Replan}
 use Rattle.keep_core.specs.Shorten.{pairs, shorten}
-use Rattle.keep_core.specs.State.{State}
-use Rattle.keep_core.specs.States.{IsAnswered}
+use Rattle.keep_core.specs.State.{CoreState}
+use Rattle.keep_core.specs.States.{ForestIsAnswered}
 
 -- a tick that is not late: the plan in force is what planning anew gives, and no need is shortened
 abbrev pub TickLaw : Type 0
@@ -23,7 +23,7 @@ TickLaw =
 
 -- so such a tick changes the last moment alone
 abbrev pub KeptPlanLaw : Type 0
-KeptPlanLaw = (s : State) (t : ℕ) → InForce s → s.last ≤ t → All (λ u. t ≤ u) s.to_come → Replan s t (record s { last = t })
+KeptPlanLaw = (s : CoreState) (t : ℕ) → InForce s → s.last ≤ t → All (λ u. t ≤ u) s.to_come → Replan s t (record s { last = t })
 
 -- h is g after a round at t in which each entry of the Asks was told the rule's end and stays renewable
 pub record IsAnsweredByRule (g h : Forest) (t : ℕ) (next : Option ℕ) : Type 0 where
@@ -56,5 +56,5 @@ StillForcedLaw =
 abbrev pub NoLongerLaw : Type 0
 NoLongerLaw =
     ((g : Forest) (s t : ℕ) (ts us : List ℕ) → IsForest g → s ≤ t → IsPlanOf g s ts → IsPlanOf (shorten g t) t us → length us ≤ length ts)
-    × ((g h : Forest) (t : ℕ) (ts us : List ℕ) → IsForest g → IsForest h → IsPlanOf g t (t ∷ ts) → IsAnswered g h t (first_of ts) → IsPlanOf (shorten h t) t us →
+    × ((g h : Forest) (t : ℕ) (ts us : List ℕ) → IsForest g → IsForest h → IsPlanOf g t (t ∷ ts) → ForestIsAnswered g h t (first_of ts) → IsPlanOf (shorten h t) t us →
     length us ≤ length (t ∷ ts))

@@ -16,40 +16,40 @@ use Rattle.keep_core.specs.declared.shortened.ShortNeed.{ShortNeed}
 use Rattle.keep_core.specs.InForce.{InForce}
 use Rattle.keep_core.specs.LawsOfNeeds.{IsShortened}
 use Rattle.keep_core.specs.Replan.{Replan}
-use Rattle.keep_core.specs.History.{History, Turn}
-use Rattle.keep_core.specs.State.{State, unplanned}
+use Rattle.keep_core.specs.History.{CoreHistory, CoreTurn}
+use Rattle.keep_core.specs.State.{CoreState, unplanned}
 use Rattle.keep_core.specs.States.{IsState}
-use Rattle.keep_core.specs.Step.{needed}
+use Rattle.keep_core.specs.Step.{with_new_need}
 
 -- whatever events come after the opening, and whatever of them is refused, they lead to such a state
 abbrev pub StateLaw : Type 0
 StateLaw =
-    (g : Forest) (start : ℕ) (old new : State) (events : List Event) (results : List (Result Output StepFault)) → IsForest g → start ≤ LAST → Replan (unplanned g) start old →
-    History old events results new → IsState old × IsState new
+    (g : Forest) (start : ℕ) (old new : CoreState) (events : List Event) (results : List (Result Output StepFault)) → IsForest g → start ≤ LAST → Replan (unplanned g) start old →
+    CoreHistory old events results new → IsState old × IsState new
 
 -- planning anew adds these pairs to the needs that were shortened, where it plans with the ends and needs of this state: each
 -- pair is shortened, as far as it has to be and no farther, and no other need is changed
-pub record Adds (before new : State) : Type 0 where
+pub record Adds (before new : CoreState) : Type 0 where
   pub pairs : List ShortNeed
   pub noted : new.shortened ≡ before.shortened ++ pairs
   pub each : All (IsShortened before.forest new.forest new.last) pairs
   pub others : (i : ℕ) → ((need : ℕ) → Contains pairs (record { entry = i; need = need }) → ⊥) → (entry_at new.forest.entries i).need ≡ (entry_at before.forest.entries i).need
 
 -- the state with the needs that an event plans anew with: with the new one, if it gives one
-abbrev pub with_need : State → Event → State
-with_need old (Need i until) = needed old i until
-with_need old event = old
+abbrev pub state_with_need : CoreState → Event → CoreState
+state_with_need old (Need i until) = with_new_need old i until
+state_with_need old event = old
 
 -- the opening adds such pairs, and so does each event that is not refused. Hence no other need is changed but by Need
 abbrev pub AddsLaw : Type 0
 AddsLaw =
-    ((g : Forest) (start : ℕ) (new : State) → IsForest g → Replan (unplanned g) start new → Adds (unplanned g) new)
-    × ((old new : State) (event : Event) (output : Output) → IsState old → Turn old event (Ok output) new → Adds (with_need old event) new)
+    ((g : Forest) (start : ℕ) (new : CoreState) → IsForest g → Replan (unplanned g) start new → Adds (unplanned g) new)
+    × ((old new : CoreState) (event : Event) (output : Output) → IsState old → CoreTurn old event (Ok output) new → Adds (state_with_need old event) new)
 
 -- these entries are asked at t: the first moment of the plan in force there, which is that of before where the tick is not
 -- late. They are the Asks, and someone is asked
-pub record IsAskedAt (old : State) (t : ℕ) (asked : List ℕ) (new : State) : Type 0 where
-  pub plan : State
+pub record IsAskedAt (old : CoreState) (t : ℕ) (asked : List ℕ) (new : CoreState) : Type 0 where
+  pub plan : CoreState
   pub made : Replan old t plan
   pub in_force : InForce plan
   pub kept : All (λ u. t ≤ u) old.to_come → plan ≡ record old { last = t }
@@ -60,14 +60,14 @@ pub record IsAskedAt (old : State) (t : ℕ) (asked : List ℕ) (new : State) : 
 -- Ask is answered to such a tick alone
 abbrev pub AskLaw : Type 0
 AskLaw =
-    (old new : State) (event : Event) (asked : List ℕ) → IsState old → Turn old event (Ok (out.Ask asked)) new →
+    (old new : CoreState) (event : Event) (asked : List ℕ) → IsState old → CoreTurn old event (Ok (out.Ask asked)) new →
     (t : ℕ) × ((event ≡ Tick t) × IsAskedAt old t asked new)
 
 -- an event gives one result and one state, lack of memory aside
-abbrev pub OnceLaw : Type 0
-OnceLaw =
-    (old x y : State) (event : Event) (result other : Result Output StepFault) → result ≢ Err OutOfMemory → other ≢ Err OutOfMemory → Turn old event result x →
-    Turn old event other y → (result ≡ other) × (x ≡ y)
+abbrev pub OneResultLaw : Type 0
+OneResultLaw =
+    (old x y : CoreState) (event : Event) (result other : Result Output StepFault) → result ≢ Err OutOfMemory → other ≢ Err OutOfMemory → CoreTurn old event result x →
+    CoreTurn old event other y → (result ≡ other) × (x ≡ y)
 
 -- h has the entries of g, but for their ends, their needs and whether they are renewable
 pub record IsShaped (g h : Forest) : Type 0 where
@@ -78,9 +78,9 @@ pub record IsShaped (g h : Forest) : Type 0 where
 
 -- no event changes more of a forest
 abbrev pub ShapeLaw : Type 0
-ShapeLaw = (old new : State) (event : Event) (result : Result Output StepFault) → Turn old event result new → IsShaped old.forest new.forest
+ShapeLaw = (old new : CoreState) (event : Event) (result : Result Output StepFault) → CoreTurn old event result new → IsShaped old.forest new.forest
 
 -- a tick at the first moment to come asks, and so does the one that comes at the moment of a Sleep, or at the next one of a
 -- Round
 abbrev pub NextAsksLaw : Type 0
-NextAsksLaw = (s new : State) (w : ℕ) (output : Output) → InForce s → first_of s.to_come ≡ Some w → Turn s (Tick w) (Ok output) new → (asked : List ℕ) × (output ≡ out.Ask asked)
+NextAsksLaw = (s new : CoreState) (w : ℕ) (output : Output) → InForce s → first_of s.to_come ≡ Some w → CoreTurn s (Tick w) (Ok output) new → (asked : List ℕ) × (output ≡ out.Ask asked)

@@ -7,22 +7,22 @@ use Rattle.keep_rule.specs.declared.limit.TheConstants.{LIMIT}
 use Rattle.keep_core.specs.declared.fault.StepFault.{StepFault}
 use Rattle.keep_core.specs.declared.fault.StepFault.TheVariants.{OutOfMemory, TooLong}
 use Rattle.keep_core.specs.Shorten.{pairs, shorten}
-use Rattle.keep_core.specs.State.{State}
+use Rattle.keep_core.specs.State.{CoreState}
 
 -- the moments are those of the one least and latest plan from t, for the ends and needs of a forest
 abbrev pub IsPlanOf : Forest → ℕ → List ℕ → Type 0
 IsPlanOf g t ts = IsLeastAndLatest g.entries g.margin t (end_of g.entries) ts
 
 -- the state planned anew at t with these moments: needs are shortened and noted, and t is the last moment
-abbrev pub planned : State → ℕ → List ℕ → State
-planned s t ts = record s { forest = shorten s.forest t; last = t; to_come = ts; shortened = s.shortened ++ pairs s.forest t }
+abbrev pub state_planned : CoreState → ℕ → List ℕ → CoreState
+state_planned s t ts = record s { forest = shorten s.forest t; last = t; to_come = ts; shortened = s.shortened ++ pairs s.forest t }
 
 -- new is old, planned anew at t
-pub record Replan (old : State) (t : ℕ) (new : State) : Type 0 where
+pub record Replan (old : CoreState) (t : ℕ) (new : CoreState) : Type 0 where
   pub moments : List ℕ
   pub best : IsPlanOf (shorten old.forest t) t moments
   pub few : length moments ≤ LIMIT
-  pub is : new ≡ planned old t moments
+  pub is : new ≡ state_planned old t moments
 
 -- planned anew at t, the forest has more than LIMIT moments to come
 pub record ReplanTooLong (g : Forest) (t : ℕ) : Type 0 where

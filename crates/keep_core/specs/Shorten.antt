@@ -42,12 +42,12 @@ unfoldable pub need_left : Forest → ℕ → ℕ → ℕ
 need_left g t i = if is_short g t i then cut_to (least_reach g t i) (entry_at g.entries i).need else (entry_at g.entries i).need
 
 -- the entry i after shortening at t
-unfoldable pub cut : Forest → ℕ → ℕ → Entry
-cut g t i = record (entry_at g.entries i) { need = need_left g t i }
+unfoldable pub entry_shortened : Forest → ℕ → ℕ → Entry
+entry_shortened g t i = record (entry_at g.entries i) { need = need_left g t i }
 
 -- the forest with each need after t that is greater than its entry's least reach set to that reach
 unfoldable pub shorten : Forest → ℕ → Forest
-shorten g t = record { entries = map (cut g t) (range_with_len 0 (length g.entries)); margin = g.margin }
+shorten g t = record { entries = map (entry_shortened g t) (range_with_len 0 (length g.entries)); margin = g.margin }
 
 -- the entry i with its need after shortening
 abbrev pub pair_of : Forest → ℕ → ℕ → ShortNeed

@@ -10,13 +10,13 @@ pub record Round : Type 0 where
   pub unanswered : List ℕ
 
 -- the moment of a round, where one is open
-abbrev pub moment_of : Option Round → Option ℕ
-moment_of None = None
-moment_of (Some round) = Some round.at
+abbrev pub moment_of_round : Option Round → Option ℕ
+moment_of_round None = None
+moment_of_round (Some round) = Some round.at
 
 -- the forest, with ends as told and needs in force; the last moment; the moments to come; the round that is open, if any;
 -- and the needs that were shortened
-pub record State : Type 0 where
+pub record CoreState : Type 0 where
   pub forest : Forest
   pub last : ℕ
   pub to_come : List ℕ
@@ -24,5 +24,5 @@ pub record State : Type 0 where
   pub shortened : List ShortNeed
 
 -- the state that is planned at the opening: a forest, and nothing that happened
-abbrev pub unplanned : Forest → State
+abbrev pub unplanned : Forest → CoreState
 unplanned g = record { forest = g; last = 0; to_come = []; round = None; shortened = [] }

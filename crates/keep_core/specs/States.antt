@@ -7,14 +7,14 @@ use Rattle.keep_tree.specs.Push.{IsForest}
 use Rattle.keep_rule.specs.Asks.{asking, first_of}
 use Rattle.keep_rule.specs.Ends.{is_asked}
 use Rattle.keep_rule.specs.declared.limit.TheConstants.{LIMIT}
-use Rattle.keep_core.specs.InForce.{IsSound}
+use Rattle.keep_core.specs.InForce.{InForceBetweenRounds}
 use Rattle.keep_core.specs.Refusal.{waits_for}
 use Rattle.keep_core.specs.Replan.{IsPlanOf}
-use Rattle.keep_core.specs.State.{Round, State}
+use Rattle.keep_core.specs.State.{CoreState, Round}
 
 -- h is g after answers to a round at t, whatever they were: an entry has changed in its end and in whether it is renewable
 -- alone, and only where it is among the Asks
-pub record IsAnswered (g h : Forest) (t : ℕ) (next : Option ℕ) : Type 0 where
+pub record ForestIsAnswered (g h : Forest) (t : ℕ) (next : Option ℕ) : Type 0 where
   pub margin : h.margin ≡ g.margin
   pub count : length h.entries ≡ length g.entries
   pub each : (i : ℕ) → entry_at h.entries i ≡ record (entry_at g.entries i) { end = (entry_at h.entries i).end; renewable = (entry_at h.entries i).renewable }
@@ -23,20 +23,20 @@ pub record IsAnswered (g h : Forest) (t : ℕ) (next : Option ℕ) : Type 0 wher
 -- what an open round has left of its opening, where h is the forest now and ts are the moments to come: a forest for which the
 -- round's moment and these moments were the plan in force. Since then answers have changed what was asked alone, and each who
 -- is waited for was asked
-pub record IsOpened (h : Forest) (ts : List ℕ) (round : Round) : Type 0 where
+pub record RoundIsOpened (h : Forest) (ts : List ℕ) (round : Round) : Type 0 where
   pub before : Forest
   pub forest : IsForest before
   pub best : IsPlanOf before round.at (round.at ∷ ts)
   pub few : length (round.at ∷ ts) ≤ LIMIT
-  pub answered : IsAnswered before h round.at (first_of ts)
+  pub answered : ForestIsAnswered before h round.at (first_of ts)
   pub asked : (i : ℕ) → waits_for (Some round) i ≡ true → is_asked (asking before.entries before.margin round.at (end_of before.entries) round.at (first_of ts)) i ≡ true
 
 -- a forest and a last moment; a round that is open since then, in which someone is waited for; and a plan in force wherever
 -- no round is open
-pub record IsState (s : State) : Type 0 where
+pub record IsState (s : CoreState) : Type 0 where
   pub forest : IsForest s.forest
   pub last : s.last ≤ LAST
   pub open_since : (round : Round) → s.round ≡ Some round → round.at ≡ s.last
   pub waits : (round : Round) → s.round ≡ Some round → round.unanswered ≢ []
-  pub opened : (round : Round) → s.round ≡ Some round → IsOpened s.forest s.to_come round
-  pub sound : IsSound s
+  pub opened : (round : Round) → s.round ≡ Some round → RoundIsOpened s.forest s.to_come round
+  pub sound : InForceBetweenRounds s

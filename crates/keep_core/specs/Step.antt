@@ -9,80 +9,80 @@ use Rattle.keep_core.specs.declared.event.Event.TheVariants.{Tick, Told, Refused
 use Rattle.keep_core.specs.declared.event.Output.{Output}
 use Rattle.keep_core.specs.declared.event.Output.TheVariants as out
 use Rattle.keep_core.specs.Replan.{ReplanTooLong, Replan}
-use Rattle.keep_core.specs.State.{Round, State}
+use Rattle.keep_core.specs.State.{CoreState, Round}
 
 -- the forest with the entry i changed
-abbrev pub change : Forest → ℕ → (Entry → Entry) → Forest
-change g i f = record { entries = slice_set g.entries i (f (entry_at g.entries i)); margin = g.margin }
+abbrev pub with_entry_changed : Forest → ℕ → (Entry → Entry) → Forest
+with_entry_changed g i f = record { entries = slice_set g.entries i (f (entry_at g.entries i)); margin = g.margin }
 
 -- the entry that an answer is of
-abbrev pub of_entry : Event → ℕ
-of_entry (Tick t) = 0
-of_entry (Told i seconds renewable) = i
-of_entry (Refused i) = i
-of_entry (Lost i) = i
-of_entry (Need i until) = i
+abbrev pub entry_of_event : Event → ℕ
+entry_of_event (Tick t) = 0
+entry_of_event (Told i seconds renewable) = i
+entry_of_event (Refused i) = i
+entry_of_event (Lost i) = i
+entry_of_event (Need i until) = i
 
 -- what an answer to a round at this moment makes of its entry: told, it ends so many seconds after the round's moment, and
 -- is renewable as told; refused, it is not renewable; lost, it is as it was
-unfoldable pub answered : ℕ → Event → Entry → Entry
-answered at (Told i seconds renewable) e = record e { end = at + seconds; renewable = renewable }
-answered at (Refused i) e = record e { renewable = false }
-answered at event e = e
+unfoldable pub entry_after_answer : ℕ → Event → Entry → Entry
+entry_after_answer at (Told i seconds renewable) e = record e { end = at + seconds; renewable = renewable }
+entry_after_answer at (Refused i) e = record e { renewable = false }
+entry_after_answer at event e = e
 
-unfoldable pub without : ℕ → List ℕ → List ℕ
-without i xs = filter (λ j. not (j == i)) xs
+unfoldable pub without_index : ℕ → List ℕ → List ℕ
+without_index i xs = filter (λ j. not (j == i)) xs
 
 -- the round without an entry that has answered
 abbrev pub left : Round → ℕ → Round
-left round i = record { at = round.at; unanswered = without i round.unanswered }
+left round i = record { at = round.at; unanswered = without_index i round.unanswered }
 
 -- the state after an answer to a round, with what is then the round
-abbrev pub heard : State → Event → ℕ → Option Round → State
-heard s event at round = record s { forest = change s.forest (of_entry event) (answered at event); round = round }
+abbrev pub state_after_answer : CoreState → Event → ℕ → Option Round → CoreState
+state_after_answer s event at round = record s { forest = with_entry_changed s.forest (entry_of_event event) (entry_after_answer at event); round = round }
 
 -- the state with a new need
-abbrev pub needed : State → ℕ → ℕ → State
-needed s i until = record s { forest = change s.forest i (λ e. record e { need = until }) }
+abbrev pub with_new_need : CoreState → ℕ → ℕ → CoreState
+with_new_need s i until = record s { forest = with_entry_changed s.forest i (λ e. record e { need = until }) }
 
 -- the round that opens at t: the Asks, where the next moment is that
-abbrev pub opened : State → ℕ → Option ℕ → Round
-opened s t next = record { at = t; unanswered = asks s.forest.entries s.forest.margin t (end_of s.forest.entries) t next }
+abbrev pub round_opened : CoreState → ℕ → Option ℕ → Round
+round_opened s t next = record { at = t; unanswered = asks s.forest.entries s.forest.margin t (end_of s.forest.entries) t next }
 
 -- a tick: planned anew at t, and then by the first of the moments to come
-abbrev pub StepTick : State → ℕ → Output → State → Type 0
+abbrev pub StepTick : CoreState → ℕ → Output → CoreState → Type 0
 StepTick old t out.Idle new = Replan old t new × (new.to_come ≡ [])
 StepTick old t (out.Sleep w) new = Replan old t new × ((first_of new.to_come ≡ Some w) × (t < w))
 StepTick old t (out.Ask asked) new =
-    (mid : State) × (Replan old t mid × ((rest : List ℕ) × ((mid.to_come ≡ t ∷ rest)
-    × ((asked ≡ (opened mid t (first_of rest)).unanswered) × (new ≡ record mid { to_come = rest; round = Some (opened mid t (first_of rest)) })))))
+    (mid : CoreState) × (Replan old t mid × ((rest : List ℕ) × ((mid.to_come ≡ t ∷ rest)
+    × ((asked ≡ (round_opened mid t (first_of rest)).unanswered) × (new ≡ record mid { to_come = rest; round = Some (round_opened mid t (first_of rest)) })))))
 StepTick old t output new = ⊥
 
 -- an answer: others are still waited for, or the round closes and is planned anew at its moment
-abbrev pub StepAnswer : State → Event → Output → State → Type 0
+abbrev pub StepAnswer : CoreState → Event → Output → CoreState → Type 0
 StepAnswer old event out.Waiting new =
-    (round : Round) × ((old.round ≡ Some round) × (((left round (of_entry event)).unanswered ≢ []) × (new ≡ heard old event round.at (Some (left round (of_entry event))))))
+    (round : Round) × ((old.round ≡ Some round) × (((left round (entry_of_event event)).unanswered ≢ []) × (new ≡ state_after_answer old event round.at (Some (left round (entry_of_event event))))))
 StepAnswer old event (out.Round next) new =
-    (round : Round) × ((old.round ≡ Some round) × (((left round (of_entry event)).unanswered ≡ [])
-    × (Replan (heard old event round.at None) round.at new × (next ≡ first_of new.to_come))))
+    (round : Round) × ((old.round ≡ Some round) × (((left round (entry_of_event event)).unanswered ≡ [])
+    × (Replan (state_after_answer old event round.at None) round.at new × (next ≡ first_of new.to_come))))
 StepAnswer old event output new = ⊥
 
 -- a new need: it is set, and planned anew at the last moment
-abbrev pub StepNeed : State → ℕ → ℕ → Output → State → Type 0
-StepNeed old i until out.Planned new = Replan (needed old i until) old.last new
+abbrev pub StepNeed : CoreState → ℕ → ℕ → Output → CoreState → Type 0
+StepNeed old i until out.Planned new = Replan (with_new_need old i until) old.last new
 StepNeed old i until output new = ⊥
 
 -- one step that is not refused
-abbrev pub Step : State → Event → Output → State → Type 0
-Step old (Tick t) output new = StepTick old t output new
-Step old (Told i seconds renewable) output new = StepAnswer old (Told i seconds renewable) output new
-Step old (Refused i) output new = StepAnswer old (Refused i) output new
-Step old (Lost i) output new = StepAnswer old (Lost i) output new
-Step old (Need i until) output new = StepNeed old i until output new
+abbrev pub CoreStep : CoreState → Event → Output → CoreState → Type 0
+CoreStep old (Tick t) output new = StepTick old t output new
+CoreStep old (Told i seconds renewable) output new = StepAnswer old (Told i seconds renewable) output new
+CoreStep old (Refused i) output new = StepAnswer old (Refused i) output new
+CoreStep old (Lost i) output new = StepAnswer old (Lost i) output new
+CoreStep old (Need i until) output new = StepNeed old i until output new
 
 -- the plan made anew is too long: with a new need alone. No tick and no answer makes a plan longer than the one in force was
-abbrev pub StepTooLong : State → Event → Type 0
-StepTooLong old (Need i until) = ReplanTooLong (needed old i until).forest old.last
+abbrev pub StepTooLong : CoreState → Event → Type 0
+StepTooLong old (Need i until) = ReplanTooLong (with_new_need old i until).forest old.last
 StepTooLong old event = ⊥
 
 -- the first moment to come is there, and is no later than t
@@ -91,13 +91,13 @@ IsDueBy t None = ⊥
 IsDueBy t (Some w) = w ≤ t
 
 -- the answer is the last of its round
-abbrev pub IsLastAnswer : State → Event → Type 0
-IsLastAnswer old event = (round : Round) × ((old.round ≡ Some round) × ((left round (of_entry event)).unanswered ≡ []))
+abbrev pub IsLastAnswer : CoreState → Event → Type 0
+IsLastAnswer old event = (round : Round) × ((old.round ≡ Some round) × ((left round (entry_of_event event)).unanswered ≡ []))
 
 -- what may want memory: a tick at the first moment to come or after it, the last answer of a round, and a need
-abbrev pub MayWant : State → Event → Type 0
-MayWant old (Tick t) = IsDueBy t (first_of old.to_come)
-MayWant old (Told i seconds renewable) = IsLastAnswer old (Told i seconds renewable)
-MayWant old (Refused i) = IsLastAnswer old (Refused i)
-MayWant old (Lost i) = IsLastAnswer old (Lost i)
-MayWant old (Need i until) = Unit {0}
+abbrev pub StepMayWantMemory : CoreState → Event → Type 0
+StepMayWantMemory old (Tick t) = IsDueBy t (first_of old.to_come)
+StepMayWantMemory old (Told i seconds renewable) = IsLastAnswer old (Told i seconds renewable)
+StepMayWantMemory old (Refused i) = IsLastAnswer old (Refused i)
+StepMayWantMemory old (Lost i) = IsLastAnswer old (Lost i)
+StepMayWantMemory old (Need i until) = Unit {0}

@@ -1,15 +1,15 @@
 ghost use Rattle.std.specs.Prelude.{◌≡◌, ◌++◌, ◌<◌, None, true, length, nat_lt, IfErr, IfOk, IfSome, OnErr};
 ghost use Rattle.keep_tree.specs.Forest.{entry_at};
 ghost use Rattle.keep_rule.specs.Asks.{first_of};
-ghost use Rattle.keep_plan.specs.Decides.{IsKept};
+ghost use Rattle.keep_plan.specs.Decides.{IsBestPlan};
 ghost use Rattle.keep_core.specs.declared.fault.StepFault.TheVariants.{OutOfMemory};
-ghost use Rattle.keep_core.specs.code.Hearing.{heard_in, is_rules, others};
-ghost use Rattle.keep_core.specs.LawsOfHistories.{IsAnswer};
+ghost use Rattle.keep_core.specs.code.Hearing.{heard_in_round, is_rules, others};
+ghost use Rattle.keep_core.specs.LawsOfHistories.{IsAnswerEvent};
 ghost use Rattle.keep_core.specs.Replan.{PlanFails, Replan};
-ghost use Rattle.keep_core.specs.Refusal.{TellsSpan, refusal, waits_for};
-ghost use Rattle.keep_core.specs.History.{Turn};
+ghost use Rattle.keep_core.specs.Refusal.{TellsSpan, step_refusal, waits_for};
+ghost use Rattle.keep_core.specs.History.{CoreTurn};
 ghost use Rattle.keep_core.specs.Shorten.{pairs, shorten};
-ghost use Rattle.keep_core.specs.Step.{answered, change, heard, of_entry};
+ghost use Rattle.keep_core.specs.Step.{entry_after_answer, entry_of_event, state_after_answer, with_entry_changed};
 
 use crate::event::{Event, Output};
 use crate::fault::StepFault;
@@ -24,10 +24,10 @@ use std::alloc::Global;
 impl Keeper {
     /// An answer for entry `i`, which is waited for. The last one closes the round.
     pub(crate) fn answer(&mut self, i: u32, event: Event) -> Result<Output, StepFault>
-        requires taken { refusal self.old event ≡ None }
-        requires answer { IsAnswer event }
-        requires entry { of_entry event ≡ i }
-        ensures { Turn self.old event result self.new }
+        requires taken { step_refusal self.old event ≡ None }
+        requires answer { IsAnswerEvent event }
+        requires entry { entry_of_event event ≡ i }
+        ensures { CoreTurn self.old event result self.new }
     {
         if self.waits_for_others(i) {
             self.hear(i, event);
@@ -60,11 +60,11 @@ impl Keeper {
 
     /// An answer to a round that others are still to answer.
     fn hear(&mut self, i: u32, event: Event)
-        requires taken { refusal self.old event ≡ None }
-        requires answer { IsAnswer event }
-        requires entry { of_entry event ≡ i }
+        requires taken { step_refusal self.old event ≡ None }
+        requires answer { IsAnswerEvent event }
+        requires entry { entry_of_event event ≡ i }
         requires others { 0 < length (others self.old.round i) }
-        ensures { self.new ≡ heard_in self.old.round self.old event }
+        ensures { self.new ≡ heard_in_round self.old.round self.old event }
     {
         // an answer is taken only where a round is open
         let Some(mut round) = self.round.take() else {
@@ -81,11 +81,11 @@ impl Keeper {
     /// of the plan is what planning anew would give, and stands; else it is made anew from the round's moment. Refused, the
     /// round stays open and the answer untaken.
     fn close(&mut self, i: u32, event: Event) -> Result<(), StepFault>
-        requires taken { refusal self.old event ≡ None }
-        requires answer { IsAnswer event }
-        requires entry { of_entry event ≡ i }
+        requires taken { step_refusal self.old event ≡ None }
+        requires answer { IsAnswerEvent event }
+        requires entry { entry_of_event event ≡ i }
         requires last { length (others self.old.round i) ≡ 0 }
-        ensures planned { IfOk result (λ _. IfSome self.old.round (λ round. Replan (heard self.old event round.at None) round.at self.new)) }
+        ensures planned { IfOk result (λ _. IfSome self.old.round (λ round. Replan (state_after_answer self.old event round.at None) round.at self.new)) }
         ensures refused { IfErr result (λ fault. fault ≡ OutOfMemory) }
         ensures unchanged { OnErr result (self.new ≡ self.old) }
     {
@@ -139,7 +139,7 @@ fn is_rules(forest: &Forest, i: u32, event: Event, at: Moment) -> bool
 fn tell(forest: &mut Forest, i: u32, event: Event, at: Moment)
     requires within { i < length forest.old.entries }
     requires seconds { TellsSpan event }
-    ensures { forest.new ≡ change forest.old i (answered at event) }
+    ensures { forest.new ≡ with_entry_changed forest.old i (entry_after_answer at event) }
 {
     match event {
         Event::Told {
@@ -166,10 +166,10 @@ fn replan_with_answer(
 ) -> Result<Plan, StepFault>
     requires within { i < length forest.old.entries }
     requires seconds { TellsSpan event }
-    ensures shortened { IfOk result (λ _. (forest.new ≡ shorten (change forest.old i (answered at event)) at)
-        × (shortened.new.items ≡ shortened.old.items ++ pairs (change forest.old i (answered at event)) at)) }
-    ensures planned { IfOk result (λ plan. IsKept forest.new at plan) }
-    ensures refused { IfErr result (λ fault. PlanFails (change forest.old i (answered at event)) at fault) }
+    ensures shortened { IfOk result (λ _. (forest.new ≡ shorten (with_entry_changed forest.old i (entry_after_answer at event)) at)
+        × (shortened.new.items ≡ shortened.old.items ++ pairs (with_entry_changed forest.old i (entry_after_answer at event)) at)) }
+    ensures planned { IfOk result (λ plan. IsBestPlan forest.new at plan) }
+    ensures refused { IfErr result (λ fault. PlanFails (with_entry_changed forest.old i (entry_after_answer at event)) at fault) }
     ensures unchanged { OnErr result ((forest.new ≡ forest.old) × (shortened.new.items ≡ shortened.old.items)) }
 {
     let end = forest.get(i).end;

@@ -7,7 +7,7 @@ ghost use Rattle.keep_plan.specs.Planned.{to_come};
 ghost use Rattle.keep_core.specs.InForce.{AllForcedAs, InForce};
 ghost use Rattle.keep_core.specs.Replan.{PlanFails, Replan};
 ghost use Rattle.keep_core.specs.Refusal.{waits_for};
-ghost use Rattle.keep_core.specs.State.{moment_of, unplanned};
+ghost use Rattle.keep_core.specs.State.{moment_of_round, unplanned};
 ghost use Rattle.keep_core.specs.States.{IsState};
 
 use crate::fault::StepFault;
@@ -36,12 +36,12 @@ impl Model for Keeper {
     ghost use Rattle.std.specs.Prelude.{◌≡◌};
     ghost use Rattle.keep_rule.specs.Runs.{moments_of};
     ghost use Rattle.keep_plan.specs.Planned.{to_come};
-    ghost use Rattle.keep_core.specs.code.Keeping.{IsKeeper, seen};
-    ghost use Rattle.keep_core.specs.State.{State};
+    ghost use Rattle.keep_core.specs.code.Keeping.{IsKeeper, seen_round};
+    ghost use Rattle.keep_core.specs.State.{CoreState};
 
-    ghost Value = { State };
+    ghost Value = { CoreState };
 
-    ghost view = { λ k. record { forest = k.forest; last = k.last; to_come = moments_of (to_come k.plan); round = seen k.round; shortened = k.shortened.items } };
+    ghost view = { λ k. record { forest = k.forest; last = k.last; to_come = moments_of (to_come k.plan); round = seen_round k.round; shortened = k.shortened.items } };
 
     ghost invariant = { λ k. IsKeeper k.forest k.last k.plan k.round };
 }
@@ -91,7 +91,7 @@ impl Keeper {
     /// The moment of the open round, `None` where no round is open. The contract says beside it what every keeper is: a round is
     /// open since the last moment and waits for somebody, and the plan is in force whenever no round is open.
     pub fn open_round(&self) -> Option<Moment>
-        ensures value { result ≡ moment_of self.now.round }
+        ensures value { result ≡ moment_of_round self.now.round }
         ensures state { IsState self.now }
     {
         match &self.round {

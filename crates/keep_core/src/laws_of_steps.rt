@@ -1,6 +1,6 @@
 ghost use Rattle.std.specs.Prelude.{◌≡◌};
 ghost use Rattle.keep_core.specs.declared.refusal.TheConstants.{LONGEST};
-ghost use Rattle.keep_core.specs.LawsOfSteps.{AddsLaw, AskLaw, NextAsksLaw, OnceLaw, ShapeLaw, StateLaw};
+ghost use Rattle.keep_core.specs.LawsOfSteps.{AddsLaw, AskLaw, NextAsksLaw, OneResultLaw, ShapeLaw, StateLaw};
 
 /// The limit of events as a number: no more seconds are told. It does nothing.
 pub fn limits_of_events()
@@ -28,7 +28,7 @@ pub fn ask_law()
 
 /// The law of one answer: lack of memory aside, an event gives one result, and leaves one state.
 pub fn once_law()
-    ensures { OnceLaw }
+    ensures { OneResultLaw }
 {}
 
 /// The law of shape: no event changes an entry but in its end, its need and whether it is renewable; names, kinds, parents,

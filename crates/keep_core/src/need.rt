@@ -1,11 +1,11 @@
 ghost use Rattle.std.specs.Prelude.{◌≡◌, ◌++◌, ◌<◌, None, length, IfErr, IfOk, OnErr};
-ghost use Rattle.keep_plan.specs.Decides.{IsKept};
+ghost use Rattle.keep_plan.specs.Decides.{IsBestPlan};
 ghost use Rattle.keep_core.specs.declared.event.Event.TheVariants as events;
 ghost use Rattle.keep_core.specs.Replan.{PlanFails};
-ghost use Rattle.keep_core.specs.Refusal.{refusal};
-ghost use Rattle.keep_core.specs.History.{Turn};
+ghost use Rattle.keep_core.specs.Refusal.{step_refusal};
+ghost use Rattle.keep_core.specs.History.{CoreTurn};
 ghost use Rattle.keep_core.specs.Shorten.{pairs, shorten};
-ghost use Rattle.keep_core.specs.Step.{change};
+ghost use Rattle.keep_core.specs.Step.{with_entry_changed};
 
 use crate::event::Output;
 use crate::fault::StepFault;
@@ -20,8 +20,8 @@ use std::alloc::Global;
 impl Keeper {
     /// A new need: it is set, and planned anew from the last moment.
     pub(crate) fn need(&mut self, i: u32, until: u64) -> Result<Output, StepFault>
-        requires { refusal self.old (events.Need i until) ≡ None }
-        ensures { Turn self.old (events.Need i until) result self.new }
+        requires { step_refusal self.old (events.Need i until) ≡ None }
+        ensures { CoreTurn self.old (events.Need i until) result self.new }
     {
         let alloc = *self.shortened.allocator();
         let until = Moment::new(until).unwrap();
@@ -48,10 +48,10 @@ fn replan_with_need(
     at: Moment,
 ) -> Result<Plan, StepFault>
     requires { i < length forest.old.entries }
-    ensures shortened { IfOk result (λ _. (forest.new ≡ shorten (change forest.old i (λ e. record e { need = until })) at)
-        × (shortened.new.items ≡ shortened.old.items ++ pairs (change forest.old i (λ e. record e { need = until })) at)) }
-    ensures planned { IfOk result (λ plan. IsKept forest.new at plan) }
-    ensures refused { IfErr result (λ fault. PlanFails (change forest.old i (λ e. record e { need = until })) at fault) }
+    ensures shortened { IfOk result (λ _. (forest.new ≡ shorten (with_entry_changed forest.old i (λ e. record e { need = until })) at)
+        × (shortened.new.items ≡ shortened.old.items ++ pairs (with_entry_changed forest.old i (λ e. record e { need = until })) at)) }
+    ensures planned { IfOk result (λ plan. IsBestPlan forest.new at plan) }
+    ensures refused { IfErr result (λ fault. PlanFails (with_entry_changed forest.old i (λ e. record e { need = until })) at fault) }
     ensures unchanged { OnErr result ((forest.new ≡ forest.old) × (shortened.new.items ≡ shortened.old.items)) }
 {
     let before = Moment::new(forest.get(i).need).unwrap();

@@ -8,7 +8,7 @@ ghost use Rattle.keep_rule.specs.Runs.{moments_of};
 ghost use Rattle.keep_core.specs.declared.fault.StepFault.TheVariants.{OutOfMemory};
 ghost use Rattle.keep_core.specs.Replan.{IsPlanOf};
 ghost use Rattle.keep_core.specs.Step.{IsDueBy};
-ghost use Rattle.keep_core.specs.code.Waking.{AreFlags, Opens};
+ghost use Rattle.keep_core.specs.code.Waking.{AreFlags, OpensRound};
 
 use crate::fault::StepFault;
 use crate::round::OpenRound;
@@ -35,7 +35,7 @@ pub(crate) fn opening_at(
     requires carried { IsCarried forest.now plan.now.start plan.now.carried }
     requires start { plan.now.start ≤ at }
     requires best { IsPlanOf forest.now at (moments_of (to_come plan.now)) }
-    ensures opens { IfOk result (λ opening. Opens forest.now at (moments_of (to_come plan.now)) opening) }
+    ensures opens { IfOk result (λ opening. OpensRound forest.now at (moments_of (to_come plan.now)) opening) }
     ensures sound { IsForest forest.now }
     ensures memory { IfErr result (λ fault. (fault ≡ OutOfMemory) × IsDueBy at (first_of (moments_of (to_come plan.now)))) }
 {

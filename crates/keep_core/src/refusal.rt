@@ -1,5 +1,5 @@
 ghost use Rattle.std.specs.Prelude.{◌≡◌};
-ghost use Rattle.keep_core.specs.Refusal.{refusal, unless_asked, unless_closed};
+ghost use Rattle.keep_core.specs.Refusal.{step_refusal, unless_closed, unless_waited_for};
 
 use crate::event::Event;
 use crate::fault::StepFault;
@@ -11,9 +11,9 @@ pub const LONGEST: u64 = 4294967295;
 
 impl Keeper {
     /// Why the event is refused, whatever the plan made anew would be; `None` where it is not.
-    #[tactic(auto, unfolding(crate::specs::Refusal::refusal))]
+    #[tactic(auto, unfolding(crate::specs::Refusal::step_refusal))]
     pub(crate) fn refusal(&self, event: Event) -> Option<StepFault>
-        ensures { result ≡ refusal self.now event }
+        ensures { result ≡ step_refusal self.now event }
     {
         match event {
             Event::Tick(at) => {
@@ -58,7 +58,7 @@ impl Keeper {
 
     /// The refusal of an answer: there is no such entry, or it is not waited for.
     fn unless_asked(&self, i: u32) -> Option<StepFault>
-        ensures { result ≡ unless_asked self.now i }
+        ensures { result ≡ unless_waited_for self.now i }
     {
         if i >= self.forest.len() {
             Some(StepFault::BadIndex)

@@ -3,8 +3,8 @@ ghost use Rattle.keep_moment.specs.declared.moment.TheConstants.{LAST};
 ghost use Rattle.keep_tree.specs.Forest.{end_of};
 ghost use Rattle.keep_tree.specs.Push.{IsForest};
 ghost use Rattle.keep_rule.specs.Unkeepable.{AllKeepable};
-ghost use Rattle.keep_plan.specs.Decides.{IsKept};
-ghost use Rattle.keep_core.specs.code.Passes.{HasNeeds, PlanRefused, with_needs};
+ghost use Rattle.keep_plan.specs.Decides.{IsBestPlan};
+ghost use Rattle.keep_core.specs.code.Passes.{ForestHasNeeds, PlanRefused, forest_with_needs};
 ghost use Rattle.keep_core.specs.Replan.{PlanFails};
 ghost use Rattle.keep_core.specs.Shorten.{pairs, shorten};
 
@@ -27,7 +27,7 @@ pub(crate) fn replan(
 ) -> Result<Plan, StepFault>
     ensures sound { IsForest forest.old × (at ≤ LAST) }
     ensures shortened { IfOk result (λ _. (forest.new ≡ shorten forest.old at) × (shortened.new.items ≡ shortened.old.items ++ pairs forest.old at)) }
-    ensures planned { IfOk result (λ plan. IsKept forest.new at plan) }
+    ensures planned { IfOk result (λ plan. IsBestPlan forest.new at plan) }
     ensures refused { IfErr result (λ fault. PlanFails forest.old at fault) }
     ensures unchanged { OnErr result ((forest.new ≡ forest.old) × (shortened.new.items ≡ shortened.old.items)) }
 {
@@ -52,7 +52,7 @@ pub(crate) fn shorten(
 ) -> Result<Vec<Moment>, AllocError>
     ensures sound { IsForest forest.old × (at ≤ LAST) }
     ensures shortened { IfOk result (λ _. (forest.new ≡ shorten forest.old at) × (shortened.new.items ≡ shortened.old.items ++ pairs forest.old at)) }
-    ensures before { IfOk result (λ needs. HasNeeds forest.old needs.items) }
+    ensures before { IfOk result (λ needs. ForestHasNeeds forest.old needs.items) }
     ensures unchanged { OnErr result ((forest.new ≡ forest.old) × (shortened.new.items ≡ shortened.old.items)) }
 {
     // asked only for what each of them tells the proof: that this is a forest, and that a moment
@@ -74,7 +74,7 @@ pub(crate) fn restore(
     noted: usize,
 )
     requires { length needs.now ≡ length forest.old.entries }
-    ensures forest { forest.new ≡ with_needs forest.old needs.now }
+    ensures forest { forest.new ≡ forest_with_needs forest.old needs.now }
     ensures shortened { shortened.new.items ≡ take noted shortened.old.items }
 {
     set_needs(forest, needs);
@@ -84,7 +84,7 @@ pub(crate) fn restore(
 /// The plan from `at` for a forest in which no pair is unkeepable.
 pub(crate) fn plan_kept(alloc: Global, forest: &Forest, at: Moment) -> Result<Plan, StepFault>
     requires { AllKeepable forest.now at (end_of forest.now.entries) }
-    ensures kept { IfOk result (λ plan. IsKept forest.now at plan) }
+    ensures kept { IfOk result (λ plan. IsBestPlan forest.now at plan) }
     ensures refused { IfErr result (λ fault. PlanRefused forest.now at fault) }
 {
     // tells the proof that this is a forest

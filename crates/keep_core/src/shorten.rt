@@ -1,5 +1,5 @@
 ghost use Rattle.std.specs.Prelude.{◌≡◌, ◌<◌, length, IfOk};
-ghost use Rattle.keep_core.specs.code.Passes.{AreLeast, AreNeeds, HasNeeds, shorter, with_needs};
+ghost use Rattle.keep_core.specs.code.Passes.{AreLeast, AreNeeds, ForestHasNeeds, forest_with_needs, shorter};
 ghost use Rattle.keep_core.specs.Shorten.{need_left, pairs};
 
 use crate::shortened::ShortNeed;
@@ -65,7 +65,7 @@ pub(crate) fn needs_left(
 
 /// The needs of all entries.
 pub(crate) fn needs_of(alloc: Global, forest: &Forest) -> Result<Vec<Moment>, AllocError>
-    ensures { IfOk result (λ needs. HasNeeds forest.now needs.items) }
+    ensures { IfOk result (λ needs. ForestHasNeeds forest.now needs.items) }
 {
     let mut needs = Vec::new(alloc);
     for index in 0..forest.len() {
@@ -77,7 +77,7 @@ pub(crate) fn needs_of(alloc: Global, forest: &Forest) -> Result<Vec<Moment>, Al
 /// Gives the entries these needs.
 pub(crate) fn set_needs(forest: &mut Forest, needs: &[Moment])
     requires { length needs.now ≡ length forest.old.entries }
-    ensures { forest.new ≡ with_needs forest.old needs.now }
+    ensures { forest.new ≡ forest_with_needs forest.old needs.now }
 {
     for index in 0..forest.len() {
         forest.set_need(index, needs[index as usize]);

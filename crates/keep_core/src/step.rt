@@ -1,4 +1,4 @@
-ghost use Rattle.keep_core.specs.History.{Turn};
+ghost use Rattle.keep_core.specs.History.{CoreTurn};
 
 use crate::event::{Event, Output};
 use crate::fault::StepFault;
@@ -31,7 +31,7 @@ impl Keeper {
     ///
     /// Source: Vault, "Lease, renew, and revoke" (a renewal's TTL counts from the renewal).
     pub fn step(&mut self, event: Event) -> Result<Output, StepFault>
-        ensures { Turn self.old event result self.new }
+        ensures { CoreTurn self.old event result self.new }
     {
         if let Some(fault) = self.refusal(event) {
             return Err(fault);

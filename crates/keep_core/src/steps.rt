@@ -1,5 +1,5 @@
 ghost use Rattle.std.specs.Prelude.{◌≡◌, IfOk, OnErr};
-ghost use Rattle.keep_core.specs.History.{History};
+ghost use Rattle.keep_core.specs.History.{CoreHistory};
 
 use crate::event::{Event, Output};
 use crate::fault::StepFault;
@@ -11,7 +11,7 @@ impl Keeper {
     /// or why it is refused. A refused event leaves the keeper as it was, and the next one is taken. The only error is want
     /// of memory for the list, which comes before the first event is taken and leaves the keeper as it was.
     pub fn steps(&mut self, events: &[Event]) -> Result<Vec<Result<Output, StepFault>>, AllocError>
-        ensures ran { IfOk result (λ results. History self.old events.now results.items self.new) }
+        ensures ran { IfOk result (λ results. CoreHistory self.old events.now results.items self.new) }
         ensures unchanged { OnErr result (self.new ≡ self.old) }
     {
         // room for all results is taken first, so that none of them is lost

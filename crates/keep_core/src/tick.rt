@@ -2,16 +2,16 @@ ghost use Rattle.std.specs.Prelude.{◌≡◌, ◌++◌, None, IfErr, IfOk, OnEr
 ghost use Rattle.keep_tree.specs.Forest.{end_of};
 ghost use Rattle.keep_rule.specs.Asks.{first_of};
 ghost use Rattle.keep_rule.specs.Unkeepable.{AllKeepable};
-ghost use Rattle.keep_plan.specs.Decides.{IsKept};
+ghost use Rattle.keep_plan.specs.Decides.{IsBestPlan};
 ghost use Rattle.keep_plan.specs.Planned.{to_come};
 ghost use Rattle.keep_rule.specs.Runs.{moments_of};
 ghost use Rattle.keep_core.specs.declared.event.Event.TheVariants as events;
 ghost use Rattle.keep_core.specs.code.Passes.{PlanRefused};
 ghost use Rattle.keep_core.specs.Replan.{PlanFails};
-ghost use Rattle.keep_core.specs.Refusal.{refusal};
-ghost use Rattle.keep_core.specs.History.{Turn};
+ghost use Rattle.keep_core.specs.Refusal.{step_refusal};
+ghost use Rattle.keep_core.specs.History.{CoreTurn};
 ghost use Rattle.keep_core.specs.Shorten.{pairs, shorten};
-ghost use Rattle.keep_core.specs.code.Waking.{Opens, Wakes, is_late};
+ghost use Rattle.keep_core.specs.code.Waking.{CoreWakes, OpensRound, is_late};
 
 use crate::event::Output;
 use crate::fault::StepFault;
@@ -28,8 +28,8 @@ impl Keeper {
     /// A tick. Where it is not late the plan in force is what planning anew would give, and stays; else it is made anew from
     /// the tick's moment. Then its first wake-up decides.
     pub(crate) fn tick(&mut self, at: u64) -> Result<Output, StepFault>
-        requires { refusal self.old (events.Tick at) ≡ None }
-        ensures { Turn self.old (events.Tick at) result self.new }
+        requires { step_refusal self.old (events.Tick at) ≡ None }
+        ensures { CoreTurn self.old (events.Tick at) result self.new }
     {
         let alloc = *self.shortened.allocator();
         let at = Moment::new(at).unwrap();
@@ -57,8 +57,8 @@ impl Keeper {
     /// What the plan in force says at the last moment, from which it is planned. Where a wake-up is due, its round opens.
     fn wake(&mut self, opening: Option<Opening>) -> Output
         requires closed { self.old.round ≡ None }
-        requires opening { Opens self.old.forest self.old.last self.old.to_come opening }
-        ensures { Wakes self.old result self.new }
+        requires opening { OpensRound self.old.forest self.old.last self.old.to_come opening }
+        ensures { CoreWakes self.old result self.new }
     {
         if let Some(opening) = opening {
             self.plan.drop_first();
@@ -87,8 +87,8 @@ fn replan_late(
     at: Moment,
 ) -> Result<Late, StepFault>
     ensures shortened { IfOk result (λ _. (forest.new ≡ shorten forest.old at) × (shortened.new.items ≡ shortened.old.items ++ pairs forest.old at)) }
-    ensures planned { IfOk result (λ late. IsKept forest.new at late.plan) }
-    ensures opening { IfOk result (λ late. Opens forest.new at (moments_of (to_come late.plan)) late.opening) }
+    ensures planned { IfOk result (λ late. IsBestPlan forest.new at late.plan) }
+    ensures opening { IfOk result (λ late. OpensRound forest.new at (moments_of (to_come late.plan)) late.opening) }
     ensures refused { IfErr result (λ fault. PlanFails forest.old at fault) }
     ensures unchanged { OnErr result ((forest.new ≡ forest.old) × (shortened.new.items ≡ shortened.old.items)) }
 {
@@ -106,8 +106,8 @@ fn replan_late(
 /// The plan from `at` for a forest in which no pair is unkeepable, with what opens a round there.
 fn plan_late(alloc: Global, forest: &Forest, at: Moment) -> Result<Late, StepFault>
     requires { AllKeepable forest.now at (end_of forest.now.entries) }
-    ensures planned { IfOk result (λ late. IsKept forest.now at late.plan) }
-    ensures opening { IfOk result (λ late. Opens forest.now at (moments_of (to_come late.plan)) late.opening) }
+    ensures planned { IfOk result (λ late. IsBestPlan forest.now at late.plan) }
+    ensures opening { IfOk result (λ late. OpensRound forest.now at (moments_of (to_come late.plan)) late.opening) }
     ensures refused { IfErr result (λ fault. PlanRefused forest.now at fault) }
 {
     let plan = plan_kept(alloc, forest, at)?;

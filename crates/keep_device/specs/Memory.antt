@@ -42,8 +42,8 @@ next_piece [] left = left
 next_piece (piece ∷ pieces) left = max piece 1
 
 -- how many bytes the next read hands out where it offers so much room
-abbrev pub handed : Supply → ℕ → ℕ
-handed s room = min (min (length s.bytes) room) (next_piece s.pieces (length s.bytes))
+abbrev pub handed_out : Supply → ℕ → ℕ
+handed_out s room = min (min (length s.bytes) room) (next_piece s.pieces (length s.bytes))
 
 -- how many reads hand out so many bytes, where each offers the most room: a piece each, and full rooms after the last
 unfoldable pub reads_of : List ℕ → ℕ → ℕ
@@ -60,9 +60,9 @@ abbrev pub input_of : Supply → Input
 input_of s = record { remaining = Some s.bytes; reads_left = reads_needed s; reads_made = s.reads }
 
 -- one read with so much room: the next bytes are handed out, or the call's turn to fail has come and no byte is lost
-abbrev pub IsRead : Result ℕ Failed → Supply → Supply → ℕ → Type 0
-IsRead (Ok n) old new room = (n ≡ handed old room) × (new.bytes ≡ drop n old.bytes) × (new.pieces ≡ drop 1 old.pieces)
-IsRead (Err fault) old new room = (new.bytes ≡ old.bytes) × (new.pieces ≡ old.pieces)
+abbrev pub IsPieceRead : Result ℕ Failed → Supply → Supply → ℕ → Type 0
+IsPieceRead (Ok n) old new room = (n ≡ handed_out old room) × (new.bytes ≡ drop n old.bytes) × (new.pieces ≡ drop 1 old.pieces)
+IsPieceRead (Err fault) old new room = (new.bytes ≡ old.bytes) × (new.pieces ≡ old.pieces)
 
 -- the bytes that a sink in memory collected, its calls, and whether it took nothing since the last flush that went well
 pub record Collected : Type 0 where

@@ -48,5 +48,5 @@ abbrev pub no_output : Output
 no_output = record { written = None; is_flushed = true }
 
 -- a device outside: only the count of its failures is known
-abbrev pub outside : ℕ → Seen
-outside failures = record { input = no_input; output = no_output; failed_calls = failures }
+abbrev pub outside_device : ℕ → Seen
+outside_device failures = record { input = no_input; output = no_output; failed_calls = failures }

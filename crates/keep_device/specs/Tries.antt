@@ -10,10 +10,10 @@ MatchTried (Done n) P Q = P n
 MatchTried Waits P Q = Q
 MatchTried Failed P Q = Q
 
-abbrev pub IfDone : Tried → (ℕ → Type 0) → Type 0
-IfDone tried P = MatchTried tried P (Unit {0})
+abbrev pub IfTryDone : Tried → (ℕ → Type 0) → Type 0
+IfTryDone tried P = MatchTried tried P (Unit {0})
 
 -- the try that a call of the system is
-abbrev pub IsTried : {E : Type 0} → Result ℕ E → Tried → Type 0
-IsTried (Ok n) tried = tried ≡ Done n
-IsTried (Err e) tried = (tried ≡ Waits) ⊎ (tried ≡ Failed)
+abbrev pub IsTryOf : {E : Type 0} → Result ℕ E → Tried → Type 0
+IsTryOf (Ok n) tried = tried ≡ Done n
+IsTryOf (Err e) tried = (tried ≡ Waits) ⊎ (tried ≡ Failed)

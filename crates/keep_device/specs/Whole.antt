@@ -19,11 +19,11 @@ PassesReads before now = (MOST_READS + now ≤ before) × (0 < now)
 
 -- what reading `bytes` to their end answers: all of them where they are at most `max`; too long where they are more, or
 -- where more reads are needed than are allowed
-abbrev pub IsWhole : ℕ → List ℕ → ℕ → ℕ → Result (List ℕ) InputFault → Type 0
-IsWhole max bytes before now (Ok all) = (all ≡ bytes) × (length bytes ≤ max)
-IsWhole max bytes before now (Err faults.TooLong) = (max < length bytes) ⊎ PassesReads before now
-IsWhole max bytes before now (Err faults.ReadFailed) = Unit {0}
-IsWhole max bytes before now (Err faults.OutOfMemory) = Unit {0}
+abbrev pub IsReadToEnd : ℕ → List ℕ → ℕ → ℕ → Result (List ℕ) InputFault → Type 0
+IsReadToEnd max bytes before now (Ok all) = (all ≡ bytes) × (length bytes ≤ max)
+IsReadToEnd max bytes before now (Err faults.TooLong) = (max < length bytes) ⊎ PassesReads before now
+IsReadToEnd max bytes before now (Err faults.ReadFailed) = Unit {0}
+IsReadToEnd max bytes before now (Err faults.OutOfMemory) = Unit {0}
 
 -- the input of a file with these bytes to come, where they are known: each read hands out one at least, and one is for the end
 abbrev pub file_input : Option (List ℕ) → ℕ → Input
@@ -44,6 +44,6 @@ input_fault more.ReadFailed = faults.ReadFailed
 input_fault more.OutOfMemory = faults.OutOfMemory
 
 -- a file that was not opened, as the fault of the whole input
-abbrev pub open_fault : ErrorKind → InputFault
-open_fault kinds.OutOfMemory = faults.OutOfMemory
-open_fault kind = faults.ReadFailed
+abbrev pub fault_of_open : ErrorKind → InputFault
+fault_of_open kinds.OutOfMemory = faults.OutOfMemory
+fault_of_open kind = faults.ReadFailed

@@ -1,7 +1,7 @@
 ghost use Rattle.std.specs.IoError.{error_kind};
 ghost use Rattle.std.specs.Prelude.{◌≡◌, ◌≤◌, Err, IfErr, IfOk, IfSome, length};
 ghost use Rattle.keep_device.specs.Seen.{no_output};
-ghost use Rattle.keep_device.specs.Whole.{IsFile, file_input, open_fault};
+ghost use Rattle.keep_device.specs.Whole.{IsFile, fault_of_open, file_input};
 
 use crate::{Device, Failed, InputFault, Source, read_all};
 use keep_moment::Text;
@@ -26,7 +26,7 @@ pub fn read_opened<F: Read + Drop>(
     opened: io::Result<F>,
     max: usize,
 ) -> Result<Text, InputFault>
-    ensures unopened { IfErr opened (λ error. result ≡ Err (open_fault (error_kind error))) }
+    ensures unopened { IfErr opened (λ error. result ≡ Err (fault_of_open (error_kind error))) }
     ensures short { IfOk result (λ text. length text ≤ max) }
 
     // The file's own bytes, where they are known.

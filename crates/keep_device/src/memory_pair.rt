@@ -2,7 +2,7 @@ ghost use Rattle.std.specs.Prelude.{◌≡◌, ◌<◌, ◌≤◌, ◌⊎◌, []
 ghost use Rattle.std.specs.Io.KnownBytes.{ReadConsumes};
 ghost use Rattle.keep_device.specs.declared.fault.SinkFault.TheVariants as faults;
 ghost use Rattle.keep_device.specs.Failures.{one_more, Counts, CountsRead};
-ghost use Rattle.keep_device.specs.Memory.{IsCall, IsRead, failures_of, input_of, is_failed, output_of, reads_needed};
+ghost use Rattle.keep_device.specs.Memory.{IsCall, IsPieceRead, failures_of, input_of, is_failed, output_of, reads_needed};
 ghost use Rattle.keep_device.specs.declared.limits.TheConstants.{MOST_ROOM};
 
 use crate::{Device, Failed, MemorySink, MemorySource, Sink, SinkFault, Source};
@@ -61,7 +61,7 @@ impl Source for MemoryPair {
 
         // As the source does alone.
         ensures calls { IsCall (is_err result) self.old.source.calls self.new.source.calls }
-        ensures pieces { IsRead result self.old.source self.new.source (length buf.new) }
+        ensures pieces { IsPieceRead result self.old.source self.new.source (length buf.new) }
         ensures reads { self.new.source.reads ≡ one_more self.old.source.reads }
     {
         self.source.read_some(buf)

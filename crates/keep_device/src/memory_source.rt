@@ -1,7 +1,7 @@
 ghost use Rattle.std.specs.Prelude.{◌≡◌, ◌+◌, ◌-◌, ◌<◌, ◌≤◌, ◌⊎◌, [], length, take, drop, Some, is_err, IfOk, MatchResult};
 ghost use Rattle.std.specs.Io.KnownBytes.{Keeps, Consumes, IsAtEnd};
 ghost use Rattle.keep_device.specs.Failures.{one_more, CountsRead};
-ghost use Rattle.keep_device.specs.Memory.{IsCall, IsRead, handed, input_of, reads_needed};
+ghost use Rattle.keep_device.specs.Memory.{IsCall, IsPieceRead, handed_out, input_of, reads_needed};
 ghost use Rattle.keep_device.specs.Seen.{no_output};
 ghost use Rattle.keep_device.specs.declared.limits.TheConstants.{MOST_ROOM};
 
@@ -61,7 +61,7 @@ impl MemorySource {
 
     /// How many bytes a read with so much room hands out.
     fn next_length(&self, room: usize) -> usize
-        ensures { result ≡ handed self.now room }
+        ensures { result ≡ handed_out self.now room }
     {
         let left = self.bytes.len() - self.place;
         let piece = match self.pieces.get(self.next) {
@@ -95,7 +95,7 @@ impl Source for MemorySource {
 
         // Which read fails, and how much a read hands out.
         ensures calls { IsCall (is_err result) self.old.calls self.new.calls }
-        ensures pieces { IsRead result self.old self.new (length buf.new) }
+        ensures pieces { IsPieceRead result self.old self.new (length buf.new) }
         ensures reads { self.new.reads ≡ one_more self.old.reads }
     {
         let n = self.next_length(buf.len());

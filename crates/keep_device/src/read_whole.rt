@@ -3,7 +3,7 @@ ghost use Rattle.std.specs.Result.{result_map_both};
 ghost use Rattle.std.specs.Io.KnownBytes.{Keeps, IsAtEnd};
 ghost use Rattle.keep_device.specs.Failures.{CountsInput};
 ghost use Rattle.keep_device.specs.declared.limits.TheConstants.{MOST_READS, MOST_ROOM};
-ghost use Rattle.keep_device.specs.Whole.{IsWhole, MakesAtMost};
+ghost use Rattle.keep_device.specs.Whole.{IsReadToEnd, MakesAtMost};
 
 use crate::limits::{MOST_READS, MOST_ROOM};
 use crate::one_read::{read_more, zeros};
@@ -18,7 +18,7 @@ use std::alloc::Global;
 /// After a fault the source is where it stopped.
 pub fn read_all<R: Source>(alloc: Global, source: &mut R, max: usize) -> Result<Text, InputFault>
     ensures read { IfSome (R.seen source.old).input.remaining (λ bytes.
-        IsWhole max bytes (R.seen source.old).input.reads_left (R.seen source.new).input.reads_left result) }
+        IsReadToEnd max bytes (R.seen source.old).input.reads_left (R.seen source.new).input.reads_left result) }
     ensures short { IfOk result (λ text. length text ≤ max) }
     ensures end { OnOk result (IsAtEnd (R.seen source.new).input.remaining) }
     ensures reads { MakesAtMost MOST_READS (R.seen source.old).input (R.seen source.new).input }
@@ -41,7 +41,7 @@ fn read_to_end<R: Source>(
     requires room { length room.old ≡ MOST_ROOM }
     requires none { bytes.old.items ≡ [] }
     ensures read { IfSome (R.seen source.old).input.remaining (λ whole.
-        IsWhole max whole (R.seen source.old).input.reads_left (R.seen source.new).input.reads_left (result_map_both (λ _. bytes.new.items) (λ fault. fault) result)) }
+        IsReadToEnd max whole (R.seen source.old).input.reads_left (R.seen source.new).input.reads_left (result_map_both (λ _. bytes.new.items) (λ fault. fault) result)) }
     ensures short { OnOk result (vec_len bytes.new ≤ max) }
     ensures end { OnOk result (IsAtEnd (R.seen source.new).input.remaining) }
     ensures reads { MakesAtMost MOST_READS (R.seen source.old).input (R.seen source.new).input }

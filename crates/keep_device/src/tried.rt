@@ -1,4 +1,4 @@
-ghost use Rattle.keep_device.specs.Tries.{IsTried};
+ghost use Rattle.keep_device.specs.Tries.{IsTryOf};
 
 use std::io;
 use std::io::ErrorKind;
@@ -17,7 +17,7 @@ pub enum Tried {
 impl Tried {
     /// What a call of the system came to. One that would wait, or was interrupted, is to be tried again.
     pub fn of(call: io::Result<usize>) -> Tried
-        ensures { IsTried call result }
+        ensures { IsTryOf call result }
     {
         match call {
             Ok(n) => Tried::Done(n),

@@ -6,7 +6,7 @@ use Rattle.std.specs.List.{flat_map, range_with_len}
 use Rattle.keep_tree.proofs.Ranges.{range_more}
 use Rattle.keep_agent.specs.declared.ends.KnownEnd.{KnownEnd}
 use Rattle.keep_inventory.specs.Inventories.{Inventory}
-use Rattle.keep_ends.specs.Ends.{event_for, events_for}
+use Rattle.keep_ends.specs.Ends.{events_for, events_for_known}
 
 -- one entry more of an agent
 pub told_more : (f : ℕ → List KnownEnd) (n : ℕ) → flat_map f (range_with_len 0 n) ++ f n ≡ flat_map f (range_with_len 0 (n + 1))
@@ -21,11 +21,11 @@ pub events_none : (s : Inventory) → events_for s [] ≡ []
 unfolding events_for
 events_none s = refl
 
-pub events_more : (s : Inventory) (ends : List KnownEnd) (i : ℕ) (k : KnownEnd) → i < length ends → k ≡ get_or ends i k → events_for s (take (i + 1) ends) ≡ events_for s (take i ends) ++ event_for s k
+pub events_more : (s : Inventory) (ends : List KnownEnd) (i : ℕ) (k : KnownEnd) → i < length ends → k ≡ get_or ends i k → events_for s (take (i + 1) ends) ≡ events_for s (take i ends) ++ events_for_known s k
 unfolding events_for
 events_more s ends i k h read =
-    ap (flat_map (event_for s)) (take_more ends i k h ∙ ap (λ (x : KnownEnd). take i ends ++ x ∷ []) (sym read))
-    ∙ sym (flat_map_more (event_for s) [] (take i ends) k)
+    ap (flat_map (events_for_known s)) (take_more ends i k h ∙ ap (λ (x : KnownEnd). take i ends ++ x ∷ []) (sym read))
+    ∙ sym (flat_map_more (events_for_known s) [] (take i ends) k)
 
 pub events_all : (s : Inventory) (ends : List KnownEnd) (i : ℕ) → length ends ≤ i → events_for s (take i ends) ≡ events_for s ends
 events_all s ends i past = ap (events_for s) (take_all i ends past)

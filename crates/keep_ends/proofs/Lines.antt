@@ -8,8 +8,8 @@ use Rattle.std.specs.List.{flat_map, list_all, onto_first, slice_split}
 use Rattle.keep_words.specs.Laws.{Lacks}
 use Rattle.keep_words.specs.Pieces.{pieces}
 use Rattle.keep_agent.specs.declared.ends.KnownEnd.{KnownEnd}
-use Rattle.keep_agent.specs.Ends.{IsKnownEnd, LineLaw, WrittenIsRead, end_of_text, end_text, in_boot}
-use Rattle.keep_ends.specs.Ends.{end_in, ends_in, ends_text, line_of}
+use Rattle.keep_agent.specs.Ends.{EndLineLaw, EndWrittenIsRead, IsKnownEnd, end_of_text, end_text, in_boot}
+use Rattle.keep_ends.specs.Ends.{ends_in, ends_in_line, ends_text, line_of_end}
 use Rattle.keep_ends.specs.Laws.{ReadBackLaw}
 
 -- ---- as they are written
@@ -21,22 +21,22 @@ text_none = refl
 pub text_more : (ends : List KnownEnd) (i : ℕ) (k : KnownEnd) → i < length ends → k ≡ get_or ends i k → ends_text (take (i + 1) ends) ≡ (ends_text (take i ends) ++ end_text k) ++ 10 ∷ []
 unfolding ends_text
 text_more ends i k h read =
-    ap (flat_map line_of) (take_more ends i k h ∙ ap (λ (x : KnownEnd). take i ends ++ x ∷ []) (sym read))
-    ∙ sym (flat_map_more line_of [] (take i ends) k)
-    ∙ sym (append_assoc (flat_map line_of (take i ends)) (end_text k) (10 ∷ []))
+    ap (flat_map line_of_end) (take_more ends i k h ∙ ap (λ (x : KnownEnd). take i ends ++ x ∷ []) (sym read))
+    ∙ sym (flat_map_more line_of_end [] (take i ends) k)
+    ∙ sym (append_assoc (flat_map line_of_end (take i ends)) (end_text k) (10 ∷ []))
 
 pub text_all : (ends : List KnownEnd) (i : ℕ) → length ends ≤ i → ends_text (take i ends) ≡ ends_text ends
 text_all ends i past = ap ends_text (take_all i ends past)
 
 -- ---- as they are read
 
-pub read_cut : (boot text line after : List ℕ) → pieces 10 text ≡ line ∷ pieces 10 after → ends_in boot text ≡ end_in boot line ++ ends_in boot after
+pub read_cut : (boot text line after : List ℕ) → pieces 10 text ≡ line ∷ pieces 10 after → ends_in boot text ≡ ends_in_line boot line ++ ends_in boot after
 unfolding ends_in
-read_cut boot text line after cut = ap (flat_map (end_in boot)) cut
+read_cut boot text line after cut = ap (flat_map (ends_in_line boot)) cut
 
-pub read_last : (boot text : List ℕ) → pieces 10 text ≡ text ∷ [] → ends_in boot text ≡ end_in boot text
+pub read_last : (boot text : List ℕ) → pieces 10 text ≡ text ∷ [] → ends_in boot text ≡ ends_in_line boot text
 unfolding ends_in
-read_last boot text cut = ap (flat_map (end_in boot)) cut ∙ append-nil (end_in boot text)
+read_last boot text cut = ap (flat_map (ends_in_line boot)) cut ∙ append-nil (ends_in_line boot text)
 
 -- ---- read back
 
@@ -54,7 +54,7 @@ line_first (x ∷ xs) rest lacks =
     cond-false (x == 10) ([] ∷ slice_split p (xs ++ 10 ∷ rest)) (onto_first x (slice_split p (xs ++ 10 ∷ rest))) (not_same (x == 10) parts.0)
     ∙ ap (onto_first x) (line_first xs rest parts.1)
 
-one_back : WrittenIsRead → (boot : List ℕ) (k : KnownEnd) → IsKnownEnd k → k.boot ≡ boot → end_in boot (end_text k) ≡ k ∷ []
+one_back : EndWrittenIsRead → (boot : List ℕ) (k : KnownEnd) → IsKnownEnd k → k.boot ≡ boot → ends_in_line boot (end_text k) ≡ k ∷ []
 one_back found boot k is same =
     ap (λ (o : Option KnownEnd). option_to_list (in_boot boot o)) (found k is)
     ∙ ap (λ (b : Bool). option_to_list (cond b (Some k) None)) ((bytes_decides k.boot boot).1 same)
@@ -63,7 +63,7 @@ nothing_back : (boot : List ℕ) → ends_in boot (ends_text []) ≡ []
 unfolding ends_in ends_text pieces end_of_text
 nothing_back boot = refl
 
-pub read_back : WrittenIsRead → LineLaw → ReadBackLaw
+pub read_back : EndWrittenIsRead → EndLineLaw → ReadBackLaw
 unfolding ends_text
 read_back found line boot [] all = nothing_back boot
 read_back found line boot (k ∷ ks) all =

@@ -6,18 +6,18 @@ use Rattle.std.specs.List.{flat_map, range_with_len}
 use Rattle.std.specs.Prelude.{slice_set}
 use Rattle.keep_tree.specs.declared.entry.Entry.{Entry}
 use Rattle.keep_tree.specs.Forest.{entry_at, no_entry}
-use Rattle.keep_inventory.specs.Inventories.{Inventory, credential_at, with_need}
+use Rattle.keep_inventory.specs.Inventories.{Inventory, credential_at, inventory_with_need}
 use Rattle.watch_machine.specs.declared.event.Event.{Event}
 use Rattle.watch_machine.specs.declared.event.Event.TheVariants.{Clock, Looked, Renewed, Need, Begin, Known}
 use Rattle.watch_machine.specs.declared.event.Reply.TheVariants.{Told, Refused, Busy, Lost}
-use Rattle.watch_machine.specs.State.{State}
+use Rattle.watch_machine.specs.State.{WatchState}
 use Rattle.keep_agent.specs.declared.ends.KnownEnd.{KnownEnd}
 use Rattle.keep_agent.specs.declared.standing.Standing.{Standing}
 use Rattle.keep_agent.specs.declared.standing.Told as told
 use Rattle.keep_agent.specs.Agent.{Agent}
 use Rattle.keep_agent.specs.Standings.{fresh_standing, standing_in, standings_after}
 use Rattle.keep_agent.specs.Turns.{inventory_after}
-use Rattle.keep_ends.specs.Ends.{end_at, end_with, ends_of, known_by, mark_of}
+use Rattle.keep_ends.specs.Ends.{end_with, ends_of, ends_told_at, known_by, mark_of}
 use Rattle.keep_ends.specs.Laws.{OnlyToldLaw, tells_end}
 
 -- one element is another, of which something is as it was of the one before
@@ -33,7 +33,7 @@ set_same f d (x ∷ xs) (suc j) y made (suc i) = set_same f d xs j y made i
 set_told : (xs : List Standing) (j : ℕ) (y : Standing) → y.told ≡ (standing_in xs j).told → (i : ℕ) → (standing_in (slice_set xs j y) i).told ≡ (standing_in xs i).told
 set_told xs = set_same (λ (x : Standing). x.told) fresh_standing xs
 
-told_same : (m : State) (event : Event) (xs : List Standing) → tells_end event ≡ false → (i : ℕ) → (standing_in (standings_after m event xs) i).told ≡ (standing_in xs i).told
+told_same : (m : WatchState) (event : Event) (xs : List Standing) → tells_end event ≡ false → (i : ℕ) → (standing_in (standings_after m event xs) i).told ≡ (standing_in xs i).told
 told_same m (Clock wall elapsed) xs quiet i = refl
 told_same m (Looked j (Told seconds renewable date) terms) xs quiet i = cc
 told_same m (Looked j (Refused status date) terms) xs quiet i = set_told xs j _ refl i
@@ -59,8 +59,8 @@ record AreKnownAlike (s t : Inventory) : Type 0 where
 itself : (s : Inventory) → AreKnownAlike s s
 itself s = record { count = refl; name = λ i. refl; kind = λ i. refl; credentials = refl }
 
-needed : (s : Inventory) (j need : ℕ) → AreKnownAlike s (with_need s j need)
-unfolding with_need entry_at
+needed : (s : Inventory) (j need : ℕ) → AreKnownAlike s (inventory_with_need s j need)
+unfolding inventory_with_need entry_at
 needed s j need = record {
   count = length-set s.forest.entries j _;
   name = set_same (λ (e : Entry). e.name) no_entry s.forest.entries j _ refl;
@@ -102,5 +102,5 @@ untold old new event output taken quiet boot =
     let alike = alike_after old new event taken.inventory in
     let same : (i : ℕ) → (standing_in new.standings i).told ≡ (standing_in old.standings i).told =
     λ i. ap (λ (xs : List Standing). (standing_in xs i).told) taken.standings ∙ told_same new.machine event old.standings quiet i in
-    ap (λ n. flat_map (end_at new boot) (range_with_len 0 n)) alike.count
-    ∙ all_same (end_at old boot) (end_at new boot) (λ i. ap (end_with new.inventory boot i) (same i) ∙ end_same old.inventory new.inventory alike boot i (standing_in old.standings i).told) (range_with_len 0 (length old.inventory.forest.entries))
+    ap (λ n. flat_map (ends_told_at new boot) (range_with_len 0 n)) alike.count
+    ∙ all_same (ends_told_at old boot) (ends_told_at new boot) (λ i. ap (end_with new.inventory boot i) (same i) ∙ end_same old.inventory new.inventory alike boot i (standing_in old.standings i).told) (range_with_len 0 (length old.inventory.forest.entries))

@@ -16,20 +16,20 @@ use Rattle.keep_agent.specs.Ends.{end_of_text, end_text, in_boot}
 
 -- ---- the file
 
-abbrev pub line_of : KnownEnd → List ℕ
-line_of k = end_text k ++ 10 ∷ []
+abbrev pub line_of_end : KnownEnd → List ℕ
+line_of_end k = end_text k ++ 10 ∷ []
 
 -- a line for each end, with its line feed
 unfoldable pub ends_text : List KnownEnd → List ℕ
-ends_text ends = flat_map line_of ends
+ends_text ends = flat_map line_of_end ends
 
 -- the end of this boot that a line keeps, where it keeps one
-abbrev pub end_in : List ℕ → List ℕ → List KnownEnd
-end_in boot line = option_to_list (in_boot boot (end_of_text line))
+abbrev pub ends_in_line : List ℕ → List ℕ → List KnownEnd
+ends_in_line boot line = option_to_list (in_boot boot (end_of_text line))
 
 -- those that a text keeps, line by line
 unfoldable pub ends_in : List ℕ → List ℕ → List KnownEnd
-ends_in boot text = flat_map (end_in boot) (pieces 10 text)
+ends_in boot text = flat_map (ends_in_line boot) (pieces 10 text)
 
 -- ---- what is kept of an agent
 
@@ -45,11 +45,11 @@ end_with s boot i None = []
 end_with s boot i (Some t) = record { name = (entry_at s.forest.entries i).name; fingerprint = mark_of s i; boot = boot; told = t } ∷ []
 
 -- what was told of an entry in this boot
-abbrev pub end_at : Agent → List ℕ → ℕ → List KnownEnd
-end_at a boot i = end_with a.inventory boot i (standing_at a i).told
+abbrev pub ends_told_at : Agent → List ℕ → ℕ → List KnownEnd
+ends_told_at a boot i = end_with a.inventory boot i (standing_at a i).told
 
 unfoldable pub ends_of : Agent → List ℕ → List KnownEnd
-ends_of a boot = flat_map (end_at a boot) (range_with_len 0 (length a.inventory.forest.entries))
+ends_of a boot = flat_map (ends_told_at a boot) (range_with_len 0 (length a.inventory.forest.entries))
 
 -- ---- what a Watch is handed
 
@@ -58,8 +58,8 @@ abbrev pub event_at : Inventory → KnownEnd → Option ℕ → List Event
 event_at s k None = []
 event_at s k (Some i) = if bytes_eq (mark_of s i) k.fingerprint then Known i k.told.end k.told.renewable ∷ [] else []
 
-abbrev pub event_for : Inventory → KnownEnd → List Event
-event_for s k = event_at s k (index_named s.forest.entries k.name)
+abbrev pub events_for_known : Inventory → KnownEnd → List Event
+events_for_known s k = event_at s k (index_named s.forest.entries k.name)
 
 unfoldable pub events_for : Inventory → List KnownEnd → List Event
-events_for s ends = flat_map (event_for s) ends
+events_for s ends = flat_map (events_for_known s) ends

@@ -3,7 +3,7 @@ use Rattle.std.specs.Prelude.{◌≡◌, ℕ, Bool, true, false, List, [], ◌�
 use Rattle.keep_agent.specs.declared.ends.KnownEnd.{KnownEnd}
 use Rattle.keep_agent.specs.Agent.{Agent}
 use Rattle.keep_agent.specs.Ends.{IsKnownEnd}
-use Rattle.keep_agent.specs.Turns.{IsTaken}
+use Rattle.keep_agent.specs.Turns.{EventIsTaken}
 use Rattle.watch_machine.specs.declared.command.Output.{Output}
 use Rattle.watch_machine.specs.declared.event.Event.{Event}
 use Rattle.watch_machine.specs.declared.event.Event.TheVariants.{Clock, Looked, Renewed, Need, Begin, Known}
@@ -30,4 +30,4 @@ tells_end (Known i end renewable) = true
 
 -- by no other event does what is kept of an agent change
 abbrev pub OnlyToldLaw : Type 0
-OnlyToldLaw = (old new : Agent) (event : Event) (output : Output) → IsTaken old event output new → tells_end event ≡ false → (boot : List ℕ) → ends_of new boot ≡ ends_of old boot
+OnlyToldLaw = (old new : Agent) (event : Event) (output : Output) → EventIsTaken old event output new → tells_end event ≡ false → (boot : List ℕ) → ends_of new boot ≡ ends_of old boot

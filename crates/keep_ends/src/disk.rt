@@ -1,9 +1,9 @@
 ghost use Rattle.std.specs.Prelude.{◌≡◌, IfOk, IsTrue, MatchOption, None, OnOk, Some, []};
-ghost use Rattle.keep_disk.specs.Image.{File, placed};
-ghost use Rattle.keep_disk.specs.State.{IsAfter, IsKept, LeavesAlone, LeavesOnly, Tells};
-ghost use Rattle.keep_disk.specs.Torn.{Moves};
+ghost use Rattle.keep_disk.specs.Image.{File, with_file_at};
+ghost use Rattle.keep_disk.specs.State.{DiskKeeps, IsAfter, LeavesAlone, LeavesOnly, TellsFailure};
+ghost use Rattle.keep_disk.specs.Torn.{MovesFile};
 ghost use Rattle.keep_ends.specs.Ends.{ends_in, ends_text};
-ghost use Rattle.keep_journal.specs.Journals.{bytes_of};
+ghost use Rattle.keep_journal.specs.Journals.{bytes_of_file};
 
 use crate::text::{ends_text, read_ends};
 use keep_agent::KnownEnd;
@@ -21,15 +21,15 @@ pub fn keep_ends<D: Disk>(
     ends: &[KnownEnd],
 ) -> Result<(), DiskFault>
     ensures kept { OnOk result (IsTrue D.is_known
-        → ((D.state disk.new).seen ≡ placed path.now (record { mode = FILE_MODE; bytes = ends_text ends.now }) (D.state disk.old).seen)
-        × IsKept path.now (D.state disk.new)) }
+        → ((D.state disk.new).seen ≡ with_file_at path.now (record { mode = FILE_MODE; bytes = ends_text ends.now }) (D.state disk.old).seen)
+        × DiskKeeps path.now (D.state disk.new)) }
 
     // A crash at any moment leaves the file that was there, or the new one whole; and so does a fault.
     ensures any_moment { IsTrue D.is_known → LeavesOnly (D.state disk.old) (D.state disk.new)
-        (IsAfter (Moves path.now (record { mode = FILE_MODE; bytes = ends_text ends.now })) (D.state disk.old)) }
+        (IsAfter (MovesFile path.now (record { mode = FILE_MODE; bytes = ends_text ends.now })) (D.state disk.old)) }
     ensures seen { IsTrue D.is_known
-        → Moves path.now (record { mode = FILE_MODE; bytes = ends_text ends.now }) (D.state disk.old).seen (D.state disk.new).seen }
-    ensures cause { Tells (D.state disk.old) (D.state disk.new) result }
+        → MovesFile path.now (record { mode = FILE_MODE; bytes = ends_text ends.now }) (D.state disk.old).seen (D.state disk.new).seen }
+    ensures cause { TellsFailure (D.state disk.old) (D.state disk.new) result }
 {
     let text = ends_text(alloc, ends)?;
     replace(disk, path, FILE_MODE, &text)
@@ -47,7 +47,7 @@ pub fn load_ends<D: Disk>(
     ensures loaded { IfOk result (λ ends. IsTrue D.is_known → MatchOption ((D.state disk.old).seen path.now)
         (ends.items ≡ []) (λ file. ends.items ≡ ends_in boot.now file.bytes)) }
     ensures alone { IsTrue D.is_known → LeavesAlone (D.state disk.old) (D.state disk.new) }
-    ensures cause { Tells (D.state disk.old) (D.state disk.new) result }
+    ensures cause { TellsFailure (D.state disk.old) (D.state disk.new) result }
 {
     let Some(text) = disk.read(alloc, path, MOST_ENDS)? else {
         return Ok(Vec::new(alloc));

@@ -1,6 +1,6 @@
 ghost use Rattle.std.specs.Prelude.{◌≡◌, ◌++◌, ◌<◌, IfOk, OnOk, length};
 ghost use Rattle.keep_change.specs.Words.{kind_word};
-ghost use Rattle.keep_ends.specs.Ends.{end_with, ends_of, event_for, events_for, known_by, mark_of};
+ghost use Rattle.keep_ends.specs.Ends.{end_with, ends_of, events_for, events_for_known, known_by, mark_of};
 
 use keep_agent::{Agent, KnownEnd, Told};
 use keep_change::fingerprint;
@@ -106,7 +106,7 @@ fn push_event(
     end: &KnownEnd,
     events: &mut Vec<Event>,
 ) -> Result<(), AllocError>
-    ensures { OnOk result (events.new.items ≡ events.old.items ++ event_for inventory.now «end».now) }
+    ensures { OnOk result (events.new.items ≡ events.old.items ++ events_for_known inventory.now «end».now) }
 {
     let Some(entry) = inventory.forest().find(end.name.list()) else {
         return Ok(());

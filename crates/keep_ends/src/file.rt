@@ -1,8 +1,8 @@
 ghost use Rattle.std.specs.Prelude.{◌≡◌, ◌||◌, IsTrue, OnOk, false, true};
-ghost use Rattle.keep_disk.specs.Image.{placed};
-ghost use Rattle.keep_disk.specs.State.{IsAfter, IsKept, LeavesOnly, Tells};
-ghost use Rattle.keep_disk.specs.Torn.{Moves};
-ghost use Rattle.keep_ends.specs.Files.{GoesOn, IsTried, ends_file, is_due, later, tells_of_end};
+ghost use Rattle.keep_disk.specs.Image.{with_file_at};
+ghost use Rattle.keep_disk.specs.State.{DiskKeeps, IsAfter, LeavesOnly, TellsFailure};
+ghost use Rattle.keep_disk.specs.Torn.{MovesFile};
+ghost use Rattle.keep_ends.specs.Files.{EndsFileGoesOn, FileIsTried, a_second_later, ends_file, is_file_due, tells_of_end};
 
 use crate::disk::keep_ends;
 use crate::events::ends_of;
@@ -63,7 +63,7 @@ impl<D> EndsFile<D> {
 
     /// Whether it is stale, and was left alone for a second.
     fn is_due(&self, now: Millis) -> bool
-        ensures { result ≡ is_due self.now now }
+        ensures { result ≡ is_file_due self.now now }
     {
         self.is_stale && now >= self.next
     }
@@ -79,7 +79,7 @@ impl<D: Disk> EndsFile<D> {
         agent: &Agent,
         now: Millis,
     ) -> Option<Result<(), DiskFault>>
-        ensures { GoesOn D.is_known D.state agent.now now result self.old self.new }
+        ensures { EndsFileGoesOn D.is_known D.state agent.now now result self.old self.new }
     {
         if self.is_due(now) {
             Some(self.keep(alloc, agent, now))
@@ -90,7 +90,7 @@ impl<D: Disk> EndsFile<D> {
 
     /// Makes the file keep what the agent was told in this boot.
     fn keep(&mut self, alloc: Global, agent: &Agent, now: Millis) -> Result<(), DiskFault>
-        ensures { IsTried D.is_known D.state agent.now now result self.old self.new }
+        ensures { FileIsTried D.is_known D.state agent.now now result self.old self.new }
     {
         let kept = keep_now(
             alloc,
@@ -115,13 +115,13 @@ fn keep_now<D: Disk>(
     agent: &Agent,
 ) -> Result<(), DiskFault>
     ensures kept { OnOk result (IsTrue D.is_known
-        → ((D.state disk.new).seen ≡ placed path.now (ends_file agent.now boot.now) (D.state disk.old).seen)
-        × IsKept path.now (D.state disk.new)) }
+        → ((D.state disk.new).seen ≡ with_file_at path.now (ends_file agent.now boot.now) (D.state disk.old).seen)
+        × DiskKeeps path.now (D.state disk.new)) }
     ensures any_moment { IsTrue D.is_known → LeavesOnly (D.state disk.old) (D.state disk.new)
-        (IsAfter (Moves path.now (ends_file agent.now boot.now)) (D.state disk.old)) }
+        (IsAfter (MovesFile path.now (ends_file agent.now boot.now)) (D.state disk.old)) }
     ensures seen { IsTrue D.is_known
-        → Moves path.now (ends_file agent.now boot.now) (D.state disk.old).seen (D.state disk.new).seen }
-    ensures cause { Tells (D.state disk.old) (D.state disk.new) result }
+        → MovesFile path.now (ends_file agent.now boot.now) (D.state disk.old).seen (D.state disk.new).seen }
+    ensures cause { TellsFailure (D.state disk.old) (D.state disk.new) result }
 {
     let ends = ends_of(alloc, agent, boot)?;
     keep_ends(alloc, disk, path, &ends)

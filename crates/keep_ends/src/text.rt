@@ -1,5 +1,5 @@
 ghost use Rattle.std.specs.Prelude.{◌≡◌, ◌++◌, IfOk, OnOk};
-ghost use Rattle.keep_ends.specs.Ends.{end_in, ends_in, ends_text};
+ghost use Rattle.keep_ends.specs.Ends.{ends_in, ends_in_line, ends_text};
 
 use keep_agent::{KnownEnd, end_text, read_end};
 use keep_words::cut;
@@ -45,7 +45,7 @@ fn push_end(
     line: &[u8],
     ends: &mut Vec<KnownEnd>,
 ) -> Result<(), AllocError>
-    ensures { OnOk result (ends.new.items ≡ ends.old.items ++ end_in boot.now line.now) }
+    ensures { OnOk result (ends.new.items ≡ ends.old.items ++ ends_in_line boot.now line.now) }
 {
     if let Some(end) = read_end(alloc, boot, line)? {
         ends.push(end)?;

@@ -10,7 +10,7 @@ use Rattle.keep_core.specs.Shorten.{least_of, least_reach, lesser}
 use Rattle.keep_rule.specs.Reach.{reach}
 use Rattle.keep_engine.specs.declared.bound.Bound.{Bound}
 use Rattle.keep_engine.specs.ReachLaws.{Binds, BoundLaw}
-use Rattle.keep_engine.specs.ReachText.{bound, nearer}
+use Rattle.keep_engine.specs.ReachText.{binding_reach, nearer}
 use Rattle.keep_core.proofs.Shortening.{least_reach_most}
 use Rattle.keep_engine.proofs.Reaching.{bound_child, bound_root}
 
@@ -116,9 +116,9 @@ module _ (g : Forest) (s : ℕ) where
       itself = λ none. absurd (some (sym most ∙ none));
     }
 
-  binds_child : (i q : ℕ) → ParentsFirst g.entries → (entry_at g.entries i).parent ≡ Some q → Binds g s q (bound g s q) → Binds g s i (bound g s i)
+  binds_child : (i q : ℕ) → ParentsFirst g.entries → (entry_at g.entries i).parent ≡ Some q → Binds g s q (binding_reach g s q) → Binds g s i (binding_reach g s i)
   binds_child i q first child up =
-      let over = bound g s q in
+      let over = binding_reach g s q in
       let is = bound_child g s i q first child in
       let b = nearer (p i) i over.most over.by in
       let least = nearer_least (p i) i over.most over.by in
@@ -128,10 +128,10 @@ module _ (g : Forest) (s : ℕ) where
         | inr above ↦ binds_above i q first child over up b least above.0 above.1 above.2
       ])
 
-  binds_all : ParentsFirst g.entries → (n i : ℕ) → i < n → Binds g s i (bound g s i)
+  binds_all : ParentsFirst g.entries → (n i : ℕ) → i < n → Binds g s i (binding_reach g s i)
   binds_all first zero i within = absurd (omega arith)
   binds_all first (suc n) i within =
-      cases_Option (entry_at g.entries i).parent (Binds g s i (bound g s i))
+      cases_Option (entry_at g.entries i).parent (Binds g s i (binding_reach g s i))
       (λ root. subst (Binds g s i) (sym (bound_root g s i root)) (root_binds_itself i root))
       (λ q child. let below : q < i = first i q child in binds_child i q first child (binds_all first n q (omega arith)))
 

@@ -5,11 +5,11 @@ use Rattle.keep_moment.specs.declared.text.Text.{Text}
 use Rattle.keep_tree.specs.declared.entry.Entry.{Entry}
 use Rattle.keep_tree.specs.Forest.{Forest}
 use Rattle.keep_rule.specs.declared.run.Run.{Run}
-use Rattle.keep_rule.specs.Runs.{counted}
+use Rattle.keep_rule.specs.Runs.{wake_count}
 use Rattle.keep_plan.specs.declared.decision.Decision.{Decision}
 use Rattle.keep_plan.specs.declared.decision.Decision.TheVariants as decision
 use Rattle.keep_plan.specs.Decides.{Decides}
-use Rattle.keep_cert.specs.CertificateText.{end_text, line_text, name_of, unkeepable_text}
+use Rattle.keep_cert.specs.CertificateText.{end_line_text, line_text, name_of_entry, unkeepable_text}
 use Rattle.keep_report.specs.declared.exit.Exit.{Exit}
 use Rattle.keep_report.specs.declared.exit.Exit.TheVariants as exits
 use Rattle.keep_report.specs.declared.stop.Stop.{Stop}
@@ -26,10 +26,10 @@ use Rattle.keep_engine.proofs.OneText.{best_or_none, one_best, one_shortfall}
 pub run_is : (es : List Entry) (r : Run) (date line : List ℕ) → IsMomentWord true r.first date → line ≡ run_line es r date → IsRunLine es r line
 run_is es r date line word spelled = (date, word, spelled)
 
-pub runs_are : (es : List Entry) (s : ℕ) (rs : List Run) (count : ℕ) (date lines text : List ℕ) → IsMomentWord true s date → AreRunLines es rs lines → count ≡ counted rs →
-    text ≡ start_line date ++ (lines ++ end_text count) → AreRunsInDates es s rs text
+pub runs_are : (es : List Entry) (s : ℕ) (rs : List Run) (count : ℕ) (date lines text : List ℕ) → IsMomentWord true s date → AreRunLines es rs lines → count ≡ wake_count rs →
+    text ≡ start_line date ++ (lines ++ end_line_text count) → AreRunsInDates es s rs text
 runs_are es s rs count date lines text word are is spelled =
-    record { start = date; is_start = word; lines = lines; are_lines = are; spelled = spelled ∙ ap (λ n. start_line date ++ (lines ++ end_text n)) is }
+    record { start = date; is_start = word; lines = lines; are_lines = are; spelled = spelled ∙ ap (λ n. start_line date ++ (lines ++ end_line_text n)) is }
 
 pub pair_is : (es : List Entry) (s entry needed : ℕ) (date text : List ℕ) → IsMomentWord true s date → text ≡ start_line date ++ unkeepable_text es entry needed → IsPairInDates es s entry needed text
 pair_is es s entry needed date text word spelled = record { start = date; is_start = word; spelled = spelled }
@@ -39,13 +39,13 @@ pair_is es s entry needed date text word spelled = record { start = date; is_sta
 -- what is appended in turn is the line of these words
 pub run_spelled :
     (es : List Entry) (r : Run) (date a b c d e f line : List ℕ) → a ≡ [] ++ codes "run " → b ≡ a ++ date → c ≡ b ++ 32 ∷ [] → d ≡ c ++ (decimal r.step ++ 32 ∷ []) → e ≡ d ++ (decimal r.count ++ 32 ∷ []) →
-    f ≡ e ++ (name_of es r.entry ++ (32 ∷ (name_of es r.needed ++ 10 ∷ []))) → line ≡ f → line ≡ run_line es r date
+    f ≡ e ++ (name_of_entry es r.entry ++ (32 ∷ (name_of_entry es r.needed ++ 10 ∷ []))) → line ≡ f → line ≡ run_line es r date
 unfolding run_line line_text
 run_spelled es r date a b c d e f line one two three four five six is =
     let s = decimal r.step in
     let n = decimal r.count in
-    let x = name_of es r.entry in
-    let y = name_of es r.needed in
+    let x = name_of_entry es r.entry in
+    let y = name_of_entry es r.needed in
     let z : List ℕ = x ++ (32 ∷ (y ++ 10 ∷ [])) in
     let q : List ℕ = x ++ (32 ∷ y) in
     let end : q ++ (10 ∷ []) ≡ z = append_assoc x (32 ∷ y) (10 ∷ []) in
@@ -108,8 +108,8 @@ one_lines es (r ∷ rs) text other a b =
 
 one_of_runs : (es : List Entry) (s : ℕ) (rs : List Run) (text other : List ℕ) → AreRunsInDates es s rs text → AreRunsInDates es s rs other → text ≡ other
 one_of_runs es s rs text other a b =
-    a.spelled ∙ ap (λ date. start_line date ++ (a.lines ++ end_text (counted rs))) (one_moment true s a.start b.start a.is_start b.is_start)
-    ∙ ap (λ lines. start_line b.start ++ (lines ++ end_text (counted rs))) (one_lines es rs a.lines b.lines a.are_lines b.are_lines) ∙ sym b.spelled
+    a.spelled ∙ ap (λ date. start_line date ++ (a.lines ++ end_line_text (wake_count rs))) (one_moment true s a.start b.start a.is_start b.is_start)
+    ∙ ap (λ lines. start_line b.start ++ (lines ++ end_line_text (wake_count rs))) (one_lines es rs a.lines b.lines a.are_lines b.are_lines) ∙ sym b.spelled
 
 one_of_pair : (es : List Entry) (s entry needed : ℕ) (text other : List ℕ) → IsPairInDates es s entry needed text → IsPairInDates es s entry needed other → text ≡ other
 one_of_pair es s entry needed text other a b =

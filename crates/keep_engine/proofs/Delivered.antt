@@ -6,20 +6,20 @@ use Rattle.keep_plan.specs.declared.decision.Decision.{Decision}
 use Rattle.keep_plan.specs.declared.decision.Decision.TheVariants as decision
 use Rattle.keep_plan.specs.Decides.{Decides}
 use Rattle.keep_cert.specs.declared.printer.PrintFault.TheVariants.{NoCertificate}
-use Rattle.keep_cert.specs.Printing.{Prints, claim}
+use Rattle.keep_cert.specs.Printing.{PrintsClaim, claim}
 use Rattle.keep_inventory.specs.declared.fault.InvFault.{InvFault}
 use Rattle.keep_inventory.specs.Inventories.{Inventory}
 use Rattle.keep_report.specs.declared.exit.Exit.{Exit}
 use Rattle.keep_report.specs.declared.stop.Stop.{Stop}
 use Rattle.keep_report.specs.declared.stop.Stop.TheVariants as stops
 use Rattle.keep_engine.specs.declared.outcome.Outcome.{Outcome}
-use Rattle.keep_engine.specs.code.Making.{Delivers, Makes, decided_exit}
+use Rattle.keep_engine.specs.code.Making.{Delivers, MakesOutcome, decided_exit}
 use Rattle.keep_engine.specs.PlanRun.{IsCertified, PlanHalts}
 use Rattle.keep_engine.specs.Running.{Halted, Halts, RunOf, Texts}
 
 -- ---- any command
 
-halted : (Text : Texts) (Halt : Halts) (answer : Result Inventory InvFault) (stop : Stop) → Makes Text Halt answer (Err stop) → Halted Halt answer stop
+halted : (Text : Texts) (Halt : Halts) (answer : Result Inventory InvFault) (stop : Stop) → MakesOutcome Text Halt answer (Err stop) → Halted Halt answer stop
 halted Text Halt answer (stops.Inventory fault) makes = makes
 halted Text Halt answer (stops.Moments fault) makes = makes
 halted Text Halt answer (stops.FaultWord position) makes = makes
@@ -31,7 +31,7 @@ halted Text Halt answer (stops.Line number) makes = makes
 halted Text Halt answer stops.Memory makes = makes
 
 pub run_delivered : (Text : Texts) (Halt : Halts) (answer : Result Inventory InvFault) (made : Result Outcome Stop) (exit : Exit) (out errors : Change) →
-    Makes Text Halt answer made → Delivers made exit out errors → RunOf Text Halt answer exit out errors
+    MakesOutcome Text Halt answer made → Delivers made exit out errors → RunOf Text Halt answer exit out errors
 run_delivered Text Halt answer (Ok outcome) exit out errors makes (inl sent) =
     inl (makes.0, makes.1, outcome.text, subst (λ e. Text makes.0.forest e outcome.text) (sym sent.0) makes.2, sent.1, sent.2)
 run_delivered Text Halt answer (Ok outcome) exit out errors makes (inr cut) =
@@ -40,12 +40,12 @@ run_delivered Text Halt answer (Err stop) exit out errors makes told = inr (inl 
 
 -- ---- a forest's decision
 
-pub decided_text : (g : Forest) (s : ℕ) (d : Decision) (text : List ℕ) → Decides g s d → Prints g.entries s (claim d) (Ok text) → IsCertified g s (decided_exit d) text
+pub decided_text : (g : Forest) (s : ℕ) (d : Decision) (text : List ℕ) → Decides g s d → PrintsClaim g.entries s (claim d) (Ok text) → IsCertified g s (decided_exit d) text
 decided_text g s (decision.Keep p) text decides printed = record { runs = p.runs; best = decides.best; spelled = printed }
 decided_text g s (decision.Unkeepable entry needed) text decides printed = record { entry = entry; needed = needed; short = decides.0; none = decides.1; spelled = printed }
 decided_text g s decision.TooLong text decides printed = absurd cc
 
-pub decided_long : (g : Forest) (s : ℕ) (d : Decision) → Decides g s d → Prints g.entries s (claim d) (Err NoCertificate) → PlanHalts s g stops.TooLong
+pub decided_long : (g : Forest) (s : ℕ) (d : Decision) → Decides g s d → PrintsClaim g.entries s (claim d) (Err NoCertificate) → PlanHalts s g stops.TooLong
 decided_long g s (decision.Keep p) decides printed = absurd cc
 decided_long g s (decision.Unkeepable entry needed) decides printed = absurd cc
 decided_long g s decision.TooLong decides printed = (refl, decides)

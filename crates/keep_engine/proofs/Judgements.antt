@@ -9,27 +9,27 @@ use Rattle.keep_cert.specs.declared.cert.Cert.{Cert}
 use Rattle.keep_cert.specs.declared.fault.CertFault.{CertFault}
 use Rattle.keep_cert.specs.declared.fault.CertFault.TheVariants as certs
 use Rattle.keep_cert.specs.Answers.{Fails}
-use Rattle.keep_cert.specs.CertificateText.{Writes}
+use Rattle.keep_cert.specs.CertificateText.{WritesCertificate}
 use Rattle.keep_cert.specs.Reading.{certificate_of}
 use Rattle.keep_check.specs.declared.answer.Answer.TheVariants.{No}
 use Rattle.keep_check.specs.declared.answer.Cause.{Cause}
 use Rattle.keep_check.specs.declared.answer.Cause.TheVariants as cause
-use Rattle.keep_check.specs.Answer.{IsAnswer, IsBodyAnswer}
+use Rattle.keep_check.specs.Answer.{IsBodyAnswer, IsCertificateAnswer}
 use Rattle.keep_check.proofs.Judged.{kept_past}
 use Rattle.keep_report.specs.declared.exit.Exit.{Exit}
 use Rattle.keep_report.specs.declared.exit.Exit.TheVariants as exits
 use Rattle.keep_engine.specs.declared.outcome.Outcome.{Outcome}
 use Rattle.keep_report.specs.declared.stop.Stop.{Stop}
 use Rattle.keep_report.specs.declared.stop.Stop.TheVariants as stops
-use Rattle.keep_engine.specs.code.CheckAnswers.{IsNamed, IsStartVerdict, IsVerdict, StartTexts, VerdictTexts}
-use Rattle.keep_engine.specs.CheckRun.{CheckTexts, IsJudged, IsUnreadable, StartsAsAsked}
+use Rattle.keep_engine.specs.code.CheckAnswers.{CauseIsNamed, IsStartVerdict, IsVerdict, StartTexts, VerdictTexts}
+use Rattle.keep_engine.specs.CheckRun.{CertificateIsUnreadable, CheckTexts, IsJudged, StartsAsAsked}
 use Rattle.keep_engine.specs.Running.{NoHalts}
 use Rattle.keep_engine.specs.CheckText.{unreadable_line}
 use Rattle.keep_engine.specs.code.Making.{MakesOf}
 
 -- ---- an entry that is not kept is one of the forest
 
-named_in_body : (g : Forest) (s : ℕ) (b : Body) (why : Cause) → IsBodyAnswer g s b (No why) → IsNamed (length g.entries) why
+named_in_body : (g : Forest) (s : ℕ) (b : Body) (why : Cause) → IsBodyAnswer g s b (No why) → CauseIsNamed (length g.entries) why
 named_in_body g s b (cause.NotRising k) says = tt
 named_in_body g s b (cause.NotForced k) says = tt
 named_in_body g s b cause.NotUnkeepable says = tt
@@ -40,12 +40,12 @@ named_in_body g s (body.Runs rs) (cause.NotKept i) says =
       | inr past ↦ absurd (says.1.0 (kept_past g s (all_wakes rs) i past))
     ]
 
-pub cause_named : (g : Forest) (c : Cert) (why : Cause) → IsAnswer g c (No why) → IsNamed (length g.entries) why
+pub cause_named : (g : Forest) (c : Cert) (why : Cause) → IsCertificateAnswer g c (No why) → CauseIsNamed (length g.entries) why
 cause_named g c why says = named_in_body g c.start c.body why says
 
 -- ---- the line about a text
 
-verdict_judged : (asked : Option ℕ) (g : Forest) (text : List ℕ) (c : Cert) (exit : Exit) (line : List ℕ) → Writes g.entries text c → StartsAsAsked asked c → IsVerdict g c exit line → IsJudged asked g text exit line
+verdict_judged : (asked : Option ℕ) (g : Forest) (text : List ℕ) (c : Cert) (exit : Exit) (line : List ℕ) → WritesCertificate g.entries text c → StartsAsAsked asked c → IsVerdict g c exit line → IsJudged asked g text exit line
 verdict_judged asked g text c exits.Done line writes starts is = record { cert = c; writes = writes; starts = starts; answer = is.0; holds = is.1.0; spelled = is.1.1 }
 verdict_judged asked g text c exits.No line writes starts is = inl (record { cert = c; writes = writes; starts = starts; cause = is.0; answer = is.1; spelled = is.2 })
 verdict_judged asked g text c exits.Inventory line writes starts is = absurd is
@@ -55,7 +55,7 @@ verdict_judged asked g text c exits.TooLong line writes starts is = absurd is
 verdict_judged asked g text c exits.Device line writes starts is = absurd is
 verdict_judged asked g text c exits.Memory line writes starts is = absurd is
 
-start_judged : (asked : Option ℕ) (g : Forest) (text : List ℕ) (c : Cert) (exit : Exit) (line : List ℕ) → Writes g.entries text c → IsStartVerdict asked g c exit line → IsJudged asked g text exit line
+start_judged : (asked : Option ℕ) (g : Forest) (text : List ℕ) (c : Cert) (exit : Exit) (line : List ℕ) → WritesCertificate g.entries text c → IsStartVerdict asked g c exit line → IsJudged asked g text exit line
 start_judged asked g text c exit line writes (inl is) = verdict_judged asked g text c exit line writes is.0 is.1
 start_judged asked g text c exit line writes (inr is) =
     subst (λ (e : Exit). IsJudged asked g text e line) (sym is.1) (inr (inl (record { cert = c; writes = writes; elsewhere = is.0; spelled = is.2 })))
@@ -73,7 +73,7 @@ judged_from asked g c (Err stops.Write) starts judged = absurd judged
 judged_from asked g c (Err (stops.Broker name)) starts judged = absurd judged
 judged_from asked g c (Err (stops.Line number)) starts judged = absurd judged
 
-pub text_judged : (asked : Option ℕ) (g : Forest) (text : List ℕ) (c : Cert) (made : Result Outcome Stop) → Writes g.entries text c → MakesOf (StartTexts asked c) NoHalts g made → MakesOf (CheckTexts asked text) NoHalts g made
+pub text_judged : (asked : Option ℕ) (g : Forest) (text : List ℕ) (c : Cert) (made : Result Outcome Stop) → WritesCertificate g.entries text c → MakesOf (StartTexts asked c) NoHalts g made → MakesOf (CheckTexts asked text) NoHalts g made
 text_judged asked g text c (Ok outcome) writes judged = start_judged asked g text c outcome.exit outcome.text writes judged
 text_judged asked g text c (Err stops.Memory) writes judged = tt
 text_judged asked g text c (Err (stops.Inventory fault)) writes judged = absurd judged
@@ -85,7 +85,7 @@ text_judged asked g text c (Err stops.Write) writes judged = absurd judged
 text_judged asked g text c (Err (stops.Broker name)) writes judged = absurd judged
 text_judged asked g text c (Err (stops.Line number)) writes judged = absurd judged
 
-pub text_unreadable : (g : Forest) (text line : List ℕ) (fault : CertFault) → Fails fault (certificate_of g.entries text) → unreadable_line fault ≡ Some line → IsUnreadable g text line
+pub text_unreadable : (g : Forest) (text line : List ℕ) (fault : CertFault) → Fails fault (certificate_of g.entries text) → unreadable_line fault ≡ Some line → CertificateIsUnreadable g text line
 unfolding unreadable_line
 text_unreadable g text line certs.BadHeader fails is = record { fault = certs.BadHeader; fails = fails; spelled = is }
 text_unreadable g text line (certs.BadLine n) fails is = record { fault = certs.BadLine n; fails = fails; spelled = is }

@@ -12,7 +12,7 @@ use Rattle.keep_schedule.proofs.Bridge.{one_from}
 use Rattle.keep_plan.specs.declared.decision.Decision.TheVariants as decision
 use Rattle.keep_plan.specs.declared.pair.Shortfall.{Shortfall}
 use Rattle.keep_plan.specs.declared.widest.Widest.{Widest}
-use Rattle.keep_plan.specs.Decides.{IsTooLong, NoneKeeps, SomeKeeps}
+use Rattle.keep_plan.specs.Decides.{NoneKeeps, PlanIsTooLong, SomeKeeps}
 use Rattle.keep_plan.specs.Shortfall.{IsShortfall}
 use Rattle.keep_plan.specs.Widest.{IsFewest, IsWidest, NoneIsEnough}
 use Rattle.keep_cert.specs.CertificateText.{unkeepable_text}
@@ -226,7 +226,7 @@ pub one_reason : (g : Forest) (s : ℕ) (most : Option ℕ) (x y : Stop) → Has
 one_reason g s None x y a b = a.0 ∙ sym b.0
 one_reason g s (Some most) x y a b = absurd a
 
-long_or_own : {X : Type 0} (g : Forest) (s : ℕ) (text : List ℕ) → AreOwnAndWidest g s text → IsTooLong g s → X
+long_or_own : {X : Type 0} (g : Forest) (s : ℕ) (text : List ℕ) → AreOwnAndWidest g s text → PlanIsTooLong g s → X
 long_or_own g s text own long =
     let some = own.fewest.some in
     let more = long.long some.0 some.1.0 some.1.1.0 in
@@ -234,7 +234,7 @@ long_or_own g s text own long =
     let l = some.1.1.1 in
     absurd (omega (arith, more, few, l))
 
-apart_by_exit : (g : Forest) (s : ℕ) (exit : Exit) (text : List ℕ) → IsDoneOrNot exit (IsMarginText g s None exits.Done text) (IsMarginText g s None exits.Unkeepable text) → IsTooLong g s → ⊥
+apart_by_exit : (g : Forest) (s : ℕ) (exit : Exit) (text : List ℕ) → IsDoneOrNot exit (IsMarginText g s None exits.Done text) (IsMarginText g s None exits.Unkeepable text) → PlanIsTooLong g s → ⊥
 apart_by_exit g s exits.Done text is long = long_or_own g s text is long
 apart_by_exit g s exits.Unkeepable text is long = is.0 long.some.0 long.some.1.0 long.some.1.1
 apart_by_exit g s exits.Inventory text is long = is

@@ -7,10 +7,10 @@ use Rattle.keep_cert.specs.declared.cert.TheConstants.{MOST_CERTIFICATE}
 use Rattle.keep_report.specs.declared.exit.Exit.{Exit}
 use Rattle.keep_engine.specs.CheckRun.{CheckRun}
 use Rattle.keep_engine.specs.From.{RunFrom}
-use Rattle.keep_files.specs.Files.{Files, IsRead}
+use Rattle.keep_files.specs.Files.{FileIsRead, Files}
 use Rattle.keep_engine.specs.Obeys.{ObeysOver}
 
-pub run_read : (known : Option (List ℕ)) (max : ℕ) (Over : List ℕ → Exit → Change → Change → Type 0) (exit : Exit) (out errors : Change) (read bytes : List ℕ) → IsRead known max (Ok read) → bytes ≡ read → Over bytes exit out errors → RunFrom known max Over exit out errors
+pub run_read : (known : Option (List ℕ)) (max : ℕ) (Over : List ℕ → Exit → Change → Change → Type 0) (exit : Exit) (out errors : Change) (read bytes : List ℕ) → FileIsRead known max (Ok read) → bytes ≡ read → Over bytes exit out errors → RunFrom known max Over exit out errors
 run_read known max Over exit out errors read bytes is same run = inl (read, is, subst (λ (b : List ℕ). Over b exit out errors) same run)
 
 -- what is done depends on the files only path by path

@@ -16,14 +16,14 @@ use Rattle.keep_plan.specs.Shortfall.{IsShortfall}
 use Rattle.keep_plan.proofs.Walking.{length_all_cons}
 use Rattle.keep_cert.specs.declared.cert.Body.TheVariants as body
 use Rattle.keep_cert.specs.declared.cert.Cert.{Cert}
-use Rattle.keep_cert.specs.CertificateText.{Writes, certificate_text}
+use Rattle.keep_cert.specs.CertificateText.{WritesCertificate, certificate_text}
 use Rattle.keep_cert.specs.Printing.{certified}
 use Rattle.keep_cert.proofs.ReadBackAll.{written_is_read}
 use Rattle.keep_check.specs.declared.answer.Answer.TheVariants.{No, Yes}
-use Rattle.keep_check.specs.Answer.{IsAnswer}
+use Rattle.keep_check.specs.Answer.{IsCertificateAnswer}
 use Rattle.keep_check.proofs.Answers.{one_answer}
 use Rattle.keep_report.specs.declared.exit.Exit.TheVariants as exits
-use Rattle.keep_engine.specs.CheckRun.{IsAccepted, IsJudged, IsRefused, IsUnreadable, StartsAsAsked, StartsElsewhere}
+use Rattle.keep_engine.specs.CheckRun.{CertificateIsUnreadable, IsAccepted, IsJudged, IsRefused, StartsAsAsked, StartsElsewhere}
 use Rattle.keep_engine.specs.CheckText.{no_line, unreadable_line}
 use Rattle.keep_engine.specs.EndsText.{IsEndsText, all_asked, end_lines, keeps_line}
 use Rattle.keep_engine.specs.Laws.{OneCheckText, OnePlanText}
@@ -143,7 +143,7 @@ one_plan_text g s exits.Memory exit text other a b = absurd a
 -- ---- check
 
 module _ (asked : Option ℕ) (g : Forest) (forest : IsForest g) (text : List ℕ) where
-  one_cert : (c d : Cert) → Writes g.entries text c → Writes g.entries text d → c ≡ d
+  one_cert : (c d : Cert) → WritesCertificate g.entries text c → WritesCertificate g.entries text d → c ≡ d
   one_cert c d a b =
       let read = written_is_read g forest text c a in
       let read' = written_is_read g forest text d b in
@@ -155,14 +155,14 @@ module _ (asked : Option ℕ) (g : Forest) (forest : IsForest g) (text : List �
   yes_or_no : {X : Type 0} (line other : List ℕ) → IsAccepted asked g text line → IsRefused asked g text other → X
   yes_or_no line other a b =
       let same = one_cert a.cert b.cert a.writes b.writes in
-      let answers : Yes ≡ No b.cause = one_answer g b.cert Yes (No b.cause) (subst (λ c. IsAnswer g c Yes) same a.answer) b.answer in
+      let answers : Yes ≡ No b.cause = one_answer g b.cert Yes (No b.cause) (subst (λ c. IsCertificateAnswer g c Yes) same a.answer) b.answer in
       absurd cc
 
   -- one certificate does not start as it is asked for and elsewhere
-  one_start : {X : Type 0} (c : Cert) (other : List ℕ) → Writes g.entries text c → StartsAsAsked asked c → StartsElsewhere asked g text other → X
+  one_start : {X : Type 0} (c : Cert) (other : List ℕ) → WritesCertificate g.entries text c → StartsAsAsked asked c → StartsElsewhere asked g text other → X
   one_start c other a starts b = absurd (b.elsewhere (subst (StartsAsAsked asked) (one_cert c b.cert a b.writes) starts))
 
-  read_or_not : {X : Type 0} (c : Cert) (other : List ℕ) → Writes g.entries text c → IsUnreadable g text other → X
+  read_or_not : {X : Type 0} (c : Cert) (other : List ℕ) → WritesCertificate g.entries text c → CertificateIsUnreadable g text other → X
   read_or_not c other a b =
       let read = written_is_read g forest text c a in
       let fails = b.fails in
@@ -171,11 +171,11 @@ module _ (asked : Option ℕ) (g : Forest) (forest : IsForest g) (text : List �
   one_refusal : (line other : List ℕ) → IsRefused asked g text line → IsRefused asked g text other → line ≡ other
   one_refusal line other a b =
       let same = one_cert a.cert b.cert a.writes b.writes in
-      let answers : No a.cause ≡ No b.cause = one_answer g b.cert (No a.cause) (No b.cause) (subst (λ c. IsAnswer g c (No a.cause)) same a.answer) b.answer in
+      let answers : No a.cause ≡ No b.cause = one_answer g b.cert (No a.cause) (No b.cause) (subst (λ c. IsCertificateAnswer g c (No a.cause)) same a.answer) b.answer in
       let cause : a.cause ≡ b.cause = cc in
       a.spelled ∙ ap (no_line g.entries) cause ∙ sym b.spelled
 
-  one_fault : (line other : List ℕ) → IsUnreadable g text line → IsUnreadable g text other → line ≡ other
+  one_fault : (line other : List ℕ) → CertificateIsUnreadable g text line → CertificateIsUnreadable g text other → line ≡ other
   one_fault line other a b =
       let fails = a.fails in
       let fails' = b.fails in

@@ -20,11 +20,11 @@ use Rattle.keep_cert.specs.declared.cert.Body.{Body}
 use Rattle.keep_cert.specs.declared.cert.Body.TheVariants as body
 use Rattle.keep_cert.specs.declared.cert.Version.TheVariants.{Two}
 use Rattle.keep_cert.specs.CertificateText.{certificate_text}
-use Rattle.keep_cert.specs.Printing.{Prints, certified, claim}
+use Rattle.keep_cert.specs.Printing.{PrintsClaim, certified, claim}
 use Rattle.keep_cert.specs.Reading.{certificate_of}
 use Rattle.keep_cert.proofs.Printing.{claim_is_body, printed_is_read}
 use Rattle.keep_check.specs.declared.answer.Answer.TheVariants.{Yes}
-use Rattle.keep_check.specs.Answer.{IsAnswer, IsWalkAnswer}
+use Rattle.keep_check.specs.Answer.{IsCertificateAnswer, IsWalkAnswer}
 use Rattle.keep_check.specs.Walk.{fault, is_forced, rises}
 use Rattle.keep_check.proofs.Answers.{forced_tests, from_behind, one_answer}
 use Rattle.keep_check.proofs.Written.{body_fits}
@@ -65,17 +65,17 @@ best_gets_yes g s rs forest best =
     (walk_faultless es g.margin s (end_of es) None 1 (all_wakes rs) (omega arith) rise forced, λ i. best.kept i)
 
 -- what a decision claims gets Yes
-claim_gets_yes : (g : Forest) (s : ℕ) (d : Decision) (b : Body) → IsForest g → Decides g s d → claim d ≡ Some b → IsAnswer g (certified s b) Yes
+claim_gets_yes : (g : Forest) (s : ℕ) (d : Decision) (b : Body) → IsForest g → Decides g s d → claim d ≡ Some b → IsCertificateAnswer g (certified s b) Yes
 claim_gets_yes g s (decision.Keep p) b forest decides is =
     let is' : body.Runs p.runs ≡ b = cc in
-    subst (λ x. IsAnswer g (certified s x) Yes) is' (best_gets_yes g s p.runs forest decides.best)
+    subst (λ x. IsCertificateAnswer g (certified s x) Yes) is' (best_gets_yes g s p.runs forest decides.best)
 claim_gets_yes g s (decision.Unkeepable entry needed) b forest decides is =
     let is' : body.Unkeepable entry needed ≡ b = cc in
-    subst (λ x. IsAnswer g (certified s x) Yes) is' decides.0.pair
+    subst (λ x. IsCertificateAnswer g (certified s x) Yes) is' decides.0.pair
 claim_gets_yes g s decision.TooLong b forest decides is = absurd cc
 
 -- what is printed is the text of what is claimed
-claim_printed : (es : List Entry) (s : ℕ) (o : Option Body) (text : List ℕ) → Prints es s o (Ok text) → (b : Body) × (o ≡ Some b) × (text ≡ certificate_text es (certified s b))
+claim_printed : (es : List Entry) (s : ℕ) (o : Option Body) (text : List ℕ) → PrintsClaim es s o (Ok text) → (b : Body) × (o ≡ Some b) × (text ≡ certificate_text es (certified s b))
 claim_printed es s None text printed = absurd cc
 claim_printed es s (Some b) text printed = (b, refl, printed)
 

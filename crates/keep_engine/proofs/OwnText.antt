@@ -10,14 +10,14 @@ use Rattle.keep_cert.specs.declared.cert.Body.{Body}
 use Rattle.keep_cert.specs.declared.cert.Body.TheVariants as body
 use Rattle.keep_cert.specs.declared.cert.Cert.{Cert}
 use Rattle.keep_cert.specs.declared.cert.Version.TheVariants.{Two}
-use Rattle.keep_cert.specs.CertificateText.{IsBody, certificate_text}
+use Rattle.keep_cert.specs.CertificateText.{IsCertificateBody, certificate_text}
 use Rattle.keep_cert.specs.Printing.{certified}
 use Rattle.keep_cert.specs.Reading.{certificate_of}
 use Rattle.keep_cert.proofs.Printing.{claim_is_body, counted_wakes, runs_within}
 use Rattle.keep_cert.proofs.ReadBackAll.{written_is_read}
 use Rattle.keep_cert.proofs.Stated.{start_stated}
 use Rattle.keep_check.specs.declared.answer.Answer.TheVariants.{Yes}
-use Rattle.keep_check.specs.Answer.{IsAnswer}
+use Rattle.keep_check.specs.Answer.{IsCertificateAnswer}
 use Rattle.keep_check.proofs.Answers.{yes_holds}
 use Rattle.keep_check.proofs.Written.{body_fits}
 use Rattle.keep_start.proofs.Started.{start_law}
@@ -32,7 +32,7 @@ use Rattle.keep_engine.proofs.Own.{best_gets_yes}
 use Rattle.keep_engine.proofs.Sizes.{HasFewRuns, certificate_size}
 
 -- the runs of a plan are those of a certificate
-best_is_body : (g : Forest) (s : ℕ) (rs : List Run) → IsForest g → AreBest g s rs → IsBody Two g.entries (body.Runs rs)
+best_is_body : (g : Forest) (s : ℕ) (rs : List Run) → IsForest g → AreBest g s rs → IsCertificateBody Two g.entries (body.Runs rs)
 best_is_body g s rs forest best =
     let few_runs = best.few_runs in
     let entries = forest.few in
@@ -49,7 +49,7 @@ is_stated : (g : Forest) (text : List ℕ) (c : Cert) → certificate_of g.entri
 unfolding stated_start
 is_stated g text c read = ap or_zero (start_stated g.entries text c read)
 
-body_accepted : (g : Forest) (s : ℕ) (b : Body) (text : List ℕ) → IsForest g → s ≤ LAST → IsBody Two g.entries b → HasFewRuns g b → IsAnswer g (certified s b) Yes
+body_accepted : (g : Forest) (s : ℕ) (b : Body) (text : List ℕ) → IsForest g → s ≤ LAST → IsCertificateBody Two g.entries b → HasFewRuns g b → IsCertificateAnswer g (certified s b) Yes
     → text ≡ certificate_text g.entries (certified s b) → IsOwnText g s text
 body_accepted g s b text forest start is few right spelled =
     let c = certified s b in

@@ -6,41 +6,41 @@ use Rattle.keep_tree.proofs.Chains.{ParentsFirst, chain_child, chain_root}
 use Rattle.keep_rule.specs.Reach.{reach}
 use Rattle.keep_engine.specs.declared.bound.Bound.{Bound}
 use Rattle.keep_engine.specs.EndsText.{keeps_line}
-use Rattle.keep_engine.specs.ReachText.{AreReachLines, IsKept, IsMomentWord, IsNeedWord, IsReachLine, IsUntilWord, OneReachText, binding, bound, four_words, nearer}
+use Rattle.keep_engine.specs.ReachText.{AreReachLines, IsMomentWord, IsNeedWord, IsReachLine, IsUntilWord, OneReachText, SaysWhetherKept, binding, binding_reach, four_word_line, nearer}
 
 -- ---- what binds an entry
 
-pub bound_root : (g : Forest) (s i : ℕ) → (entry_at g.entries i).parent ≡ None → bound g s i ≡ record { most = reach g.entries g.margin s (end_of g.entries) i; by = i }
-unfolding bound
+pub bound_root : (g : Forest) (s i : ℕ) → (entry_at g.entries i).parent ≡ None → binding_reach g s i ≡ record { most = reach g.entries g.margin s (end_of g.entries) i; by = i }
+unfolding binding_reach
 bound_root g s i root = ap (binding (reach g.entries g.margin s (end_of g.entries))) (chain_root g.entries i root)
 
 pub bound_child : (g : Forest) (s i p : ℕ) → ParentsFirst g.entries → (entry_at g.entries i).parent ≡ Some p →
-    bound g s i ≡ nearer (reach g.entries g.margin s (end_of g.entries) i) i (bound g s p).most (bound g s p).by
-unfolding bound
+    binding_reach g s i ≡ nearer (reach g.entries g.margin s (end_of g.entries) i) i (binding_reach g s p).most (binding_reach g s p).by
+unfolding binding_reach
 bound_child g s i p first child = ap (binding (reach g.entries g.margin s (end_of g.entries))) (chain_child g.entries i p first child)
 
 abbrev made : Option ℕ → ℕ → Bound
 made m by = record { most = m; by = by }
 
-pub root_binds : (g : Forest) (s i : ℕ) (most : Option ℕ) → most ≡ reach g.entries g.margin s (end_of g.entries) i → (entry_at g.entries i).parent ≡ None → made most i ≡ bound g s i
+pub root_binds : (g : Forest) (s i : ℕ) (most : Option ℕ) → most ≡ reach g.entries g.margin s (end_of g.entries) i → (entry_at g.entries i).parent ≡ None → made most i ≡ binding_reach g s i
 root_binds g s i most is root = ap (λ (m : Option ℕ). made m i) is ∙ sym (bound_root g s i root)
 
 pub child_binds : (g : Forest) (s i p : ℕ) (most : Option ℕ) (over result : Bound) → ParentsFirst g.entries → (entry_at g.entries i).parent ≡ Some p →
-    most ≡ reach g.entries g.margin s (end_of g.entries) i → over ≡ bound g s p → result ≡ nearer most i over.most over.by → result ≡ bound g s i
+    most ≡ reach g.entries g.margin s (end_of g.entries) i → over ≡ binding_reach g s p → result ≡ nearer most i over.most over.by → result ≡ binding_reach g s i
 child_binds g s i p most over result first child is over_is made_is =
     made_is ∙ ap (λ (m : Option ℕ). nearer m i over.most over.by) is
     ∙ ap (λ (o : Bound). nearer (reach g.entries g.margin s (end_of g.entries) i) i o.most o.by) over_is ∙ sym (bound_child g s i p first child)
 
 -- ---- the line of an entry
 
-pub line_of : (g : Forest) (s : ℕ) (dates : Bool) (i : ℕ) (b : Bound) (name until by need line : List ℕ) (needed : ℕ) → b ≡ bound g s i → name ≡ (entry_at g.entries i).name →
-    by ≡ (entry_at g.entries b.by).name → needed ≡ (entry_at g.entries i).need → IsUntilWord dates b.most until → IsNeedWord dates needed need → line ≡ four_words name until by need → IsReachLine g s dates i line
+pub line_of : (g : Forest) (s : ℕ) (dates : Bool) (i : ℕ) (b : Bound) (name until by need line : List ℕ) (needed : ℕ) → b ≡ binding_reach g s i → name ≡ (entry_at g.entries i).name →
+    by ≡ (entry_at g.entries b.by).name → needed ≡ (entry_at g.entries i).need → IsUntilWord dates b.most until → IsNeedWord dates needed need → line ≡ four_word_line name until by need → IsReachLine g s dates i line
 line_of g s dates i b name until by need line needed binds named by_named is_needed is_until is_need spelled = record {
   until = until;
   is_until = subst (λ (x : Bound). IsUntilWord dates x.most until) binds is_until;
   need = need;
   is_need = subst (λ n. IsNeedWord dates n need) is_needed is_need;
-  spelled = spelled ∙ ap (λ n. four_words n until by need) named ∙ ap (λ n. four_words (entry_at g.entries i).name until n need) (by_named ∙ ap (λ (x : Bound). (entry_at g.entries x.by).name) binds);
+  spelled = spelled ∙ ap (λ n. four_word_line n until by need) named ∙ ap (λ n. four_word_line (entry_at g.entries i).name until n need) (by_named ∙ ap (λ (x : Bound). (entry_at g.entries x.by).name) binds);
 }
 
 -- ---- one line more
@@ -70,12 +70,12 @@ one_need dates (suc n) a b x y = one_moment dates (suc n) a b x y
 module _ (g : Forest) (s : ℕ) (dates : Bool) where
   one_line : (i : ℕ) (line other : List ℕ) → IsReachLine g s dates i line → IsReachLine g s dates i other → line ≡ other
   one_line i line other a b =
-      let until = one_until dates (bound g s i).most a.until b.until a.is_until b.is_until in
+      let until = one_until dates (binding_reach g s i).most a.until b.until a.is_until b.is_until in
       let need = one_need dates (entry_at g.entries i).need a.need b.need a.is_need b.is_need in
-      let by = (entry_at g.entries (bound g s i).by).name in
+      let by = (entry_at g.entries (binding_reach g s i).by).name in
       a.spelled
-      ∙ ap (λ w. four_words (entry_at g.entries i).name w by a.need) until
-      ∙ ap (four_words (entry_at g.entries i).name b.until by) need
+      ∙ ap (λ w. four_word_line (entry_at g.entries i).name w by a.need) until
+      ∙ ap (four_word_line (entry_at g.entries i).name b.until by) need
       ∙ sym b.spelled
 
   one_lines : (n : ℕ) (text other : List ℕ) → AreReachLines g s dates n text → AreReachLines g s dates n other → text ≡ other
@@ -83,7 +83,7 @@ module _ (g : Forest) (s : ℕ) (dates : Bool) where
   one_lines (suc n) text other a b =
       a.4 ∙ ap (λ front. front ++ a.1) (one_lines n a.0 b.0 a.2 b.2) ∙ ap (λ line. b.0 ++ line) (one_line n a.1 b.1 a.3 b.3) ∙ sym b.4
 
-  one_kept : (a b : Bool) → IsKept g s a → IsKept g s b → a ≡ b
+  one_kept : (a b : Bool) → SaysWhetherKept g s a → SaysWhetherKept g s b → a ≡ b
   one_kept true true x y = refl
   one_kept false false x y = refl
   one_kept true false x y = absurd (y x.0 x.1.0 x.1.1)

@@ -24,36 +24,36 @@ use Rattle.keep_report.specs.Sent.{IsUntouched}
 use Rattle.keep_report.specs.Told.{Reports}
 use Rattle.keep_report.proofs.Fronts.{whole_front}
 use Rattle.keep_report.proofs.Pieces.{front_cut}
-use Rattle.keep_run.specs.Closed.{Course, IsClosedRun, World}
+use Rattle.keep_run.specs.Closed.{IsClosedRun, RunCourse, World}
 use Rattle.keep_run.specs.FaultWords.{faults_of}
 use Rattle.keep_run.specs.Rehearse.{IsRunText, RehearseRun, RehearseTold}
-use Rattle.keep_run.specs.Stops.{IsStopped}
+use Rattle.keep_run.specs.Stops.{RunIsStopped}
 use Rattle.keep_run.specs.Text.{course_text}
 use Rattle.keep_run.proofs.AlikeCourses.{courses_both, not_stopped, stops_both}
 use Rattle.keep_run.proofs.AlikeFronts.{fronts_both, run_of_course, run_of_stopped}
-use Rattle.keep_engine.specs.Running.{line_of}
-use Rattle.keep_engine.specs.Secrecy.{IsWhole, RehearseSecrecy, TellSame, WriteFronts, WriteSame}
+use Rattle.keep_engine.specs.Running.{line_of_stop}
+use Rattle.keep_engine.specs.Secrecy.{RehearseSecrecy, RunIsWhole, TellSame, WriteFronts, WriteSame}
 use Rattle.keep_run.proofs.Written.{untouched_appends}
 
 -- ---- how a rehearsal of an inventory comes to its end
 
 abbrev IsDone : Inventory → ℕ → List (List ℕ) → Exit → Change → Change → Type 0
 IsDone v start words exit out errors =
-    (exit ≡ exits.Done) × ((faults : List NumberedFault) × ((faults_of words ≡ Ok faults) × ((course : Course) × ((final : World) × (IsClosedRun v faults start course final
+    (exit ≡ exits.Done) × ((faults : List NumberedFault) × ((faults_of words ≡ Ok faults) × ((course : RunCourse) × ((final : World) × (IsClosedRun v faults start course final
     × (Appends out.old.output.written out.new.output.written (course_text v course) × IsUntouched errors))))))
 
 abbrev IsMisspelt : List (List ℕ) → Exit → Change → Change → Type 0
 IsMisspelt words exit out errors =
-    (exit ≡ exits.CommandLine) × ((position : ℕ) × ((faults_of words ≡ Err position) × (IsUntouched out × Reports (line_of (stops.FaultWord position)) errors)))
+    (exit ≡ exits.CommandLine) × ((position : ℕ) × ((faults_of words ≡ Err position) × (IsUntouched out × Reports (line_of_stop (stops.FaultWord position)) errors)))
 
 abbrev IsUnplanned : Inventory → ℕ → List (List ℕ) → Exit → Change → Change → Type 0
 IsUnplanned v start words exit out errors =
-    (exit ≡ exits.TooLong) × ((faults : List NumberedFault) × ((faults_of words ≡ Ok faults) × (ReplanTooLong v.forest start × (IsUntouched out × Reports (line_of stops.TooLong) errors))))
+    (exit ≡ exits.TooLong) × ((faults : List NumberedFault) × ((faults_of words ≡ Ok faults) × (ReplanTooLong v.forest start × (IsUntouched out × Reports (line_of_stop stops.TooLong) errors))))
 
 abbrev IsHalted : Inventory → ℕ → List (List ℕ) → Exit → Change → Change → Type 0
 IsHalted v start words exit out errors =
-    (exit ≡ exits.TooLong) × ((faults : List NumberedFault) × ((faults_of words ≡ Ok faults) × ((final : World) × ((text : List ℕ) × (IsStopped v faults start final text
-    × (Appends out.old.output.written out.new.output.written text × Reports (line_of stops.TooLong) errors))))))
+    (exit ≡ exits.TooLong) × ((faults : List NumberedFault) × ((faults_of words ≡ Ok faults) × ((final : World) × ((text : List ℕ) × (RunIsStopped v faults start final text
+    × (Appends out.old.output.written out.new.output.written text × Reports (line_of_stop stops.TooLong) errors))))))
 
 abbrev EndsIn : Inventory → ℕ → List (List ℕ) → Exit → Change → Change → Type 0
 EndsIn v start words exit out errors = (IsDone v start words exit out errors ⊎ IsMisspelt words exit out errors) ⊎ (IsUnplanned v start words exit out errors ⊎ IsHalted v start words exit out errors)
@@ -61,19 +61,19 @@ EndsIn v start words exit out errors = (IsDone v start words exit out errors ⊎
 one_inventory : (answer : Result Inventory InvFault) (v x : Inventory) → answer ≡ Ok v → answer ≡ Ok x → x ≡ v
 one_inventory answer v x a b = let same : x ≡ v = cc in same
 
-ends_in : (answer : Result Inventory InvFault) (v : Inventory) (start : ℕ) (words : List (List ℕ)) (exit : Exit) (out errors : Change) (old new : Behind) → answer ≡ Ok v → IsWhole exit → RehearseRun answer start words exit out old new →
+ends_in : (answer : Result Inventory InvFault) (v : Inventory) (start : ℕ) (words : List (List ℕ)) (exit : Exit) (out errors : Change) (old new : Behind) → answer ≡ Ok v → RunIsWhole exit → RehearseRun answer start words exit out old new →
     RehearseTold answer words exit errors → EndsIn v start words exit out errors
 ends_in answer v start words exits.Done out errors old new reads end run told =
     let same = one_inventory answer v run.0 reads run.2.read in
     inl (inl (refl, (run.1, (run.2.faults_are, (run.3, (run.4, (subst (λ x. IsClosedRun x run.1 start run.3 run.4) same run.5, (subst (λ x. Appends out.old.output.written out.new.output.written (course_text x run.3)) same run.6.0, told))))))))
 ends_in answer v start words exits.CommandLine out errors old new reads end run told =
     let position : told.0 ≡ run.2 = (let e = sym told.1 ∙ run.3 in cc) in
-    inl (inr (refl, (run.2, (run.3, (run.4, subst (λ n. Reports (line_of (stops.FaultWord n)) errors) position told.2)))))
+    inl (inr (refl, (run.2, (run.3, (run.4, subst (λ n. Reports (line_of_stop (stops.FaultWord n)) errors) position told.2)))))
 ends_in answer v start words exits.TooLong out errors old new reads end run told =
     let same = one_inventory answer v run.0 reads run.2.read in
     elim run.3 [
       | inl long ↦ inr (inl (refl, (run.1, (run.2.faults_are, (subst (λ (x : Inventory). ReplanTooLong x.forest start) same long.0, (long.1, told))))))
-      | inr long ↦ inr (inr (refl, (run.1, (run.2.faults_are, (long.0, (long.1, (subst (λ x. IsStopped x run.1 start long.0 long.1) same long.2, (long.3.0, told))))))))
+      | inr long ↦ inr (inr (refl, (run.1, (run.2.faults_are, (long.0, (long.1, (subst (λ x. RunIsStopped x run.1 start long.0 long.1) same long.2, (long.3.0, told))))))))
     ]
 ends_in answer v start words exits.Inventory out errors old new reads end run told = absurd (let fault = run.1 in cc)
 ends_in answer v start words exits.Unkeepable out errors old new reads end run told = absurd run
@@ -148,13 +148,13 @@ module _ (g : Forest) (cs ds : List (List ℕ)) (ts : List Terms) (one : IsInven
       absurd (not_both (unplanned g) start opened.keeper opened.planned b.1.1.1.0)
   both_end start words exit exit' out out' errors errors' (inl (inl a)) (inr (inr b)) =
       let faults = one_list words a.1.0 b.1.0 a.1.1.0 b.1.1.0 in
-      let stopped = subst (λ fs. IsStopped u fs start b.1.1.1.0 b.1.1.1.1.0) faults b.1.1.1.1.1.0 in
+      let stopped = subst (λ fs. RunIsStopped u fs start b.1.1.1.0 b.1.1.1.1.0) faults b.1.1.1.1.1.0 in
       absurd (not_stopped g cs ds ts one two a.1.0 start a.1.1.1.0 a.1.1.1.1.0 b.1.1.1.0 b.1.1.1.1.0 a.1.1.1.1.1.0 stopped)
   both_end start words exit exit' out out' errors errors' (inl (inr a)) (inl (inl b)) = not_misspelt words b.1.0 a.1.0 b.1.1.0 a.1.1.0
   both_end start words exit exit' out out' errors errors' (inl (inr a)) (inl (inr b)) =
       let position : b.1.0 ≡ a.1.0 = (let e = sym b.1.1.0 ∙ a.1.1.0 in cc) in
-      both_same exit exit' out out' errors errors' exits.CommandLine [] [] (line_of (stops.FaultWord a.1.0)) a.0 b.0 refl (untouched_appends out a.1.1.1.0) (untouched_appends out' b.1.1.1.0) a.1.1.1.1
-      (subst (λ n. Reports (line_of (stops.FaultWord n)) errors') position b.1.1.1.1)
+      both_same exit exit' out out' errors errors' exits.CommandLine [] [] (line_of_stop (stops.FaultWord a.1.0)) a.0 b.0 refl (untouched_appends out a.1.1.1.0) (untouched_appends out' b.1.1.1.0) a.1.1.1.1
+      (subst (λ n. Reports (line_of_stop (stops.FaultWord n)) errors') position b.1.1.1.1)
   both_end start words exit exit' out out' errors errors' (inl (inr a)) (inr (inl b)) = not_misspelt words b.1.0 a.1.0 b.1.1.0 a.1.1.0
   both_end start words exit exit' out out' errors errors' (inl (inr a)) (inr (inr b)) = not_misspelt words b.1.0 a.1.0 b.1.1.0 a.1.1.0
   both_end start words exit exit' out out' errors errors' (inr (inl a)) (inl (inl b)) =
@@ -162,7 +162,7 @@ module _ (g : Forest) (cs ds : List (List ℕ)) (ts : List Terms) (one : IsInven
       absurd (not_both (unplanned g) start opened.keeper opened.planned a.1.1.1.0)
   both_end start words exit exit' out out' errors errors' (inr (inl a)) (inl (inr b)) = not_misspelt words a.1.0 b.1.0 a.1.1.0 b.1.1.0
   both_end start words exit exit' out out' errors errors' (inr (inl a)) (inr (inl b)) =
-      both_same exit exit' out out' errors errors' exits.TooLong [] [] (line_of stops.TooLong) a.0 b.0 refl (untouched_appends out a.1.1.1.1.0) (untouched_appends out' b.1.1.1.1.0) a.1.1.1.1.1 b.1.1.1.1.1
+      both_same exit exit' out out' errors errors' exits.TooLong [] [] (line_of_stop stops.TooLong) a.0 b.0 refl (untouched_appends out a.1.1.1.1.0) (untouched_appends out' b.1.1.1.1.0) a.1.1.1.1.1 b.1.1.1.1.1
   both_end start words exit exit' out out' errors errors' (inr (inl a)) (inr (inr b)) =
       let opened = b.1.1.1.1.1.0.so_far.opened in
       absurd (not_both (unplanned g) start opened.keeper opened.planned a.1.1.1.0)
@@ -176,9 +176,9 @@ module _ (g : Forest) (cs ds : List (List ℕ)) (ts : List Terms) (one : IsInven
       absurd (not_both (unplanned g) start opened.keeper opened.planned b.1.1.1.0)
   both_end start words exit exit' out out' errors errors' (inr (inr a)) (inr (inr b)) =
       let faults = one_list words a.1.0 b.1.0 a.1.1.0 b.1.1.0 in
-      let stopped = subst (λ fs. IsStopped u fs start b.1.1.1.0 b.1.1.1.1.0) faults b.1.1.1.1.1.0 in
+      let stopped = subst (λ fs. RunIsStopped u fs start b.1.1.1.0 b.1.1.1.1.0) faults b.1.1.1.1.1.0 in
       let same = stops_both g cs ds ts one two a.1.0 start a.1.1.1.0 b.1.1.1.0 a.1.1.1.1.0 b.1.1.1.1.0 a.1.1.1.1.1.0 stopped in
-      both_same exit exit' out out' errors errors' exits.TooLong a.1.1.1.1.0 b.1.1.1.1.0 (line_of stops.TooLong) a.0 b.0 same a.1.1.1.1.1.1.0 b.1.1.1.1.1.1.0 a.1.1.1.1.1.1.1 b.1.1.1.1.1.1.1
+      both_same exit exit' out out' errors errors' exits.TooLong a.1.1.1.1.0 b.1.1.1.1.0 (line_of_stop stops.TooLong) a.0 b.0 same a.1.1.1.1.1.1.0 b.1.1.1.1.1.1.0 a.1.1.1.1.1.1.1 b.1.1.1.1.1.1.1
 
   two_fronts : (start : ℕ) (words : List (List ℕ)) (out out' : Change) → Fronts s start words out → Fronts u start words out' → WriteFronts out out'
   two_fronts start words out out' (inl a) (inl b) =

@@ -12,7 +12,7 @@ use Rattle.keep_rule.specs.declared.wake.Wake.{Wake}
 use Rattle.keep_rule.specs.Plans.{moments}
 use Rattle.keep_rule.specs.declared.run.Run.{Run}
 use Rattle.keep_rule.specs.Runs.{all_wakes, moments_of}
-use Rattle.keep_plan.specs.Decides.{AreBest, IsTooLong, NoneKeeps}
+use Rattle.keep_plan.specs.Decides.{AreBest, NoneKeeps, PlanIsTooLong}
 use Rattle.keep_inventory.specs.declared.fault.InvFault.{InvFault}
 use Rattle.keep_inventory.specs.Inventories.{Inventory}
 use Rattle.keep_served.specs.ForGood.{marks}
@@ -23,7 +23,7 @@ use Rattle.keep_report.specs.declared.exit.Exit.TheVariants as exits
 use Rattle.keep_report.specs.declared.stop.Stop.{Stop}
 use Rattle.keep_report.specs.declared.stop.Stop.TheVariants as stops
 use Rattle.keep_report.specs.Exits.{exit_of}
-use Rattle.keep_report.specs.Sent.{IsUntouched, Sends}
+use Rattle.keep_report.specs.Sent.{IsUntouched, SendsText}
 use Rattle.keep_report.specs.Told.{Reports}
 use Rattle.keep_report.proofs.Fronts.{whole_front}
 use Rattle.keep_engine.specs.CheckRun.{CheckTexts, stated_start}
@@ -33,8 +33,8 @@ use Rattle.keep_engine.specs.MarginRun.{MarginHalts, MarginTexts}
 use Rattle.keep_engine.specs.MarginText.{asked_about}
 use Rattle.keep_engine.specs.PlanDates.{IsInDates, PlanDatesTexts}
 use Rattle.keep_engine.specs.PlanRun.{IsCertified, PlanHalts, PlanTexts}
-use Rattle.keep_engine.specs.Running.{Halted, Halts, NoHalts, RunOf, Texts, line_of}
-use Rattle.keep_engine.specs.Secrecy.{CheckSecrecy, DifferInSecrets, EndsSecrecy, IsWhole, MarginSecrecy, PlanDatesSecrecy, PlanSecrecy, ReachSecrecy, RunAlike, TellSame, WriteFronts, WriteSame}
+use Rattle.keep_engine.specs.Running.{Halted, Halts, NoHalts, RunOf, Texts, line_of_stop}
+use Rattle.keep_engine.specs.Secrecy.{CheckSecrecy, DifferInSecrets, EndsSecrecy, MarginSecrecy, PlanDatesSecrecy, PlanSecrecy, ReachSecrecy, RunAlike, RunIsWhole, TellSame, WriteFronts, WriteSame}
 use Rattle.keep_engine.proofs.Dated.{one_plan_in_dates}
 use Rattle.keep_engine.proofs.Reaching.{one_reach_text}
 use Rattle.keep_engine.specs.ReachRun.{ReachTexts}
@@ -75,7 +75,7 @@ one_inventory answer x y a b = let same : x ≡ y = cc in ap (λ (s : Inventory)
 
 -- ---- sendings that were cut short
 
-cut_front : (stop : Stop) (text : List ℕ) (out : Change) → Sends (Err stop) text out → AppendsFront out.old.output.written out.new.output.written text
+cut_front : (stop : Stop) (text : List ℕ) (out : Change) → SendsText (Err stop) text out → AppendsFront out.old.output.written out.new.output.written text
 cut_front stops.Write text out sends = sends.1
 cut_front stops.Memory text out sends = sends.1
 cut_front (stops.Inventory fault) text out sends = absurd sends
@@ -86,7 +86,7 @@ cut_front stops.Read text out sends = absurd sends
 cut_front (stops.Broker name) text out sends = absurd sends
 cut_front (stops.Line number) text out sends = absurd sends
 
-not_cut : {X : Type 0} (stop : Stop) (text : List ℕ) (out : Change) → Sends (Err stop) text out → IsWhole (exit_of stop) → X
+not_cut : {X : Type 0} (stop : Stop) (text : List ℕ) (out : Change) → SendsText (Err stop) text out → RunIsWhole (exit_of stop) → X
 not_cut stops.Write text out sends whole = absurd whole
 not_cut stops.Memory text out sends whole = absurd whole
 not_cut (stops.Inventory fault) text out sends whole = absurd sends
@@ -110,9 +110,9 @@ module _ (Text : Texts) (Halt : Halts) where
   abbrev EndsIn : Forest → Exit → Change → Change → Type 0
   EndsIn g exit out errors =
       ((text : List ℕ) × Text g exit text × Appends out.old.output.written out.new.output.written text × IsUntouched errors)
-      ⊎ ((stop : Stop) × Halt g stop × (exit ≡ exit_of stop) × IsUntouched out × Reports (line_of stop) errors)
+      ⊎ ((stop : Stop) × Halt g stop × (exit ≡ exit_of stop) × IsUntouched out × Reports (line_of_stop stop) errors)
 
-  halted_in : (answer : Result Inventory InvFault) (inventory : Inventory) (stop : Stop) → answer ≡ Ok inventory → IsWhole (exit_of stop) → Halted Halt answer stop → Halt inventory.forest stop
+  halted_in : (answer : Result Inventory InvFault) (inventory : Inventory) (stop : Stop) → answer ≡ Ok inventory → RunIsWhole (exit_of stop) → Halted Halt answer stop → Halt inventory.forest stop
   halted_in answer inventory stops.Memory reads whole halted = absurd whole
   halted_in answer inventory (stops.Inventory fault) reads whole halted = absurd cc
   halted_in answer inventory (stops.Moments fault) reads whole halted = subst (λ g. Halt g (stops.Moments fault)) (one_inventory answer halted.0 inventory halted.1 reads) halted.2
@@ -123,12 +123,12 @@ module _ (Text : Texts) (Halt : Halts) where
   halted_in answer inventory (stops.Broker name) reads whole halted = absurd whole
   halted_in answer inventory (stops.Line number) reads whole halted = absurd whole
 
-  ends_in : (answer : Result Inventory InvFault) (inventory : Inventory) (exit : Exit) (out errors : Change) → answer ≡ Ok inventory → IsWhole exit → RunOf Text Halt answer exit out errors → EndsIn inventory.forest exit out errors
+  ends_in : (answer : Result Inventory InvFault) (inventory : Inventory) (exit : Exit) (out errors : Change) → answer ≡ Ok inventory → RunIsWhole exit → RunOf Text Halt answer exit out errors → EndsIn inventory.forest exit out errors
   ends_in answer inventory exit out errors reads whole (inl run) =
       inl (run.2, subst (λ g. Text g exit run.2) (one_inventory answer run.0 inventory run.1 reads) run.3, run.4.0, run.5)
   ends_in answer inventory exit out errors reads whole (inr (inl run)) =
-      inr (run.0, halted_in answer inventory run.0 reads (subst IsWhole run.2 whole) run.1, run.2, run.3, run.4)
-  ends_in answer inventory exit out errors reads whole (inr (inr run)) = not_cut run.5 run.3 out run.6 (subst IsWhole run.7 whole)
+      inr (run.0, halted_in answer inventory run.0 reads (subst RunIsWhole run.2 whole) run.1, run.2, run.3, run.4)
+  ends_in answer inventory exit out errors reads whole (inr (inr run)) = not_cut run.5 run.3 out run.6 (subst RunIsWhole run.7 whole)
 
   both_end : (g : Forest) (exit exit' : Exit) (out out' errors errors' : Change) → IsOne Text Halt → IsForest g → EndsIn g exit out errors → EndsIn g exit' out' errors' →
       (exit ≡ exit') × WriteSame out out' × TellSame errors errors'
@@ -137,7 +137,7 @@ module _ (Text : Texts) (Halt : Halts) where
       (same.0, (a.0, a.2, subst (Appends out'.old.output.written out'.new.output.written) (sym same.1) b.2), inl (a.3, b.3))
   both_end g exit exit' out out' errors errors' one forest (inr a) (inr b) =
       let same = one.reason g a.0 b.0 a.1 b.1 in
-      (a.2 ∙ ap exit_of same ∙ sym b.2, ([], untouched_appends out a.3, untouched_appends out' b.3), inr (line_of a.0, a.4, subst (λ (x : Stop). Reports (line_of x) errors') (sym same) b.4))
+      (a.2 ∙ ap exit_of same ∙ sym b.2, ([], untouched_appends out a.3, untouched_appends out' b.3), inr (line_of_stop a.0, a.4, subst (λ (x : Stop). Reports (line_of_stop x) errors') (sym same) b.4))
   both_end g exit exit' out out' errors errors' one forest (inl a) (inr b) = absurd (one.apart g exit a.0 b.0 a.1 b.1)
   both_end g exit exit' out out' errors errors' one forest (inr a) (inl b) = absurd (one.apart g exit' b.0 a.0 b.1 a.1)
 
@@ -181,7 +181,7 @@ one_ends s at = record {
 pub ends_secrecy : EndsSecrecy
 ends_secrecy bytes other s at exit exit' out out' errors errors' d a b = runs_alike (EndsTexts s at) (EndsHalts s at) (inventory_at s bytes) (inventory_at s other) exit exit' out out' errors errors' (one_ends s at) (alike_at s bytes other d) a b
 
-long_or_best : {X : Type 0} (g : Forest) (s : ℕ) (rs : List Run) → IsTooLong g s → AreBest g s rs → X
+long_or_best : {X : Type 0} (g : Forest) (s : ℕ) (rs : List Run) → PlanIsTooLong g s → AreBest g s rs → X
 long_or_best g s rs a best =
     let plan = best.least.plan in
     let long = a.long plan best.least.in_order best.least.kept in
@@ -191,10 +191,10 @@ long_or_best g s rs a best =
     let three = length_moments (all_wakes rs) in
     absurd (omega (arith, long, few, one, two, three))
 
-long_or_none : {X : Type 0} (g : Forest) (s : ℕ) → IsTooLong g s → NoneKeeps g s → X
+long_or_none : {X : Type 0} (g : Forest) (s : ℕ) → PlanIsTooLong g s → NoneKeeps g s → X
 long_or_none g s a none = absurd (none a.some.0 a.some.1.0 a.some.1.1)
 
-long_or_certified : (g : Forest) (s : ℕ) (exit : Exit) (text : List ℕ) → IsTooLong g s → IsCertified g s exit text → ⊥
+long_or_certified : (g : Forest) (s : ℕ) (exit : Exit) (text : List ℕ) → PlanIsTooLong g s → IsCertified g s exit text → ⊥
 long_or_certified g s exits.Done text long is = long_or_best g s is.runs long is.best
 long_or_certified g s exits.Unkeepable text long is = long_or_none g s long is.none
 long_or_certified g s exits.Inventory text long is = is
@@ -214,7 +214,7 @@ one_plan s = record {
 pub plan_secrecy : PlanSecrecy
 plan_secrecy bytes other s exit exit' out out' errors errors' d a b = runs_alike (PlanTexts s) (PlanHalts s) (inventory_at s bytes) (inventory_at s other) exit exit' out out' errors errors' (one_plan s) (alike_at s bytes other d) a b
 
-long_or_dated : (g : Forest) (s : ℕ) (exit : Exit) (text : List ℕ) → IsTooLong g s → IsInDates g s exit text → ⊥
+long_or_dated : (g : Forest) (s : ℕ) (exit : Exit) (text : List ℕ) → PlanIsTooLong g s → IsInDates g s exit text → ⊥
 long_or_dated g s exits.Done text long is = long_or_best g s is.runs long is.best
 long_or_dated g s exits.Unkeepable text long is = long_or_none g s long is.none
 long_or_dated g s exits.Inventory text long is = is

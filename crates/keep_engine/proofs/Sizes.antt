@@ -14,8 +14,8 @@ use Rattle.keep_rule.specs.declared.run.Run.{Run}
 use Rattle.keep_cert.specs.declared.cert.Body.{Body}
 use Rattle.keep_cert.specs.declared.cert.Body.TheVariants.{Runs, Unkeepable}
 use Rattle.keep_cert.specs.declared.cert.Version.TheVariants.{Two}
-use Rattle.keep_rule.specs.Runs.{counted}
-use Rattle.keep_cert.specs.CertificateText.{AreRunsOf, IsBody, IsRunOf, body_text, certificate_text, end_text, header_text, line_text, name_of, run_text, start_text, unkeepable_text}
+use Rattle.keep_rule.specs.Runs.{wake_count}
+use Rattle.keep_cert.specs.CertificateText.{AreRunsOf, IsCertificateBody, IsRunOf, body_text, certificate_text, end_line_text, header_text, line_text, name_of_entry, run_text, start_text, unkeepable_text}
 use Rattle.keep_cert.specs.Printing.{certified}
 use Rattle.keep_cert.specs.declared.cert.TheConstants.{MOST_CERTIFICATE}
 use Rattle.keep_inventory.proofs.Entered.{within_test}
@@ -41,8 +41,8 @@ line_size ws = let parts = length-append (join_with_byte 32 ws) (10 ∷ []) in l
 number_size : (n : ℕ) → n ≤ LAST → length (decimal n) ≤ 12
 number_size n within = length-decimal-le 12 n (omega arith) (omega arith) (omega arith)
 
-name_size : (g : Forest) → IsForest g → (i : ℕ) → i < length g.entries → length (name_of g.entries i) ≤ 64
-unfolding name_of is_name
+name_size : (g : Forest) → IsForest g → (i : ℕ) → i < length g.entries → length (name_of_entry g.entries i) ≤ 64
+unfolding name_of_entry is_name
 name_size g forest i within =
     let name = (entry_at g.entries i).name in
     let bounded = (and_parts _ _ (forest.placed i within).named).1 in
@@ -59,7 +59,7 @@ step_within r lone some within =
 run_size : (g : Forest) → IsForest g → (r : Run) → IsRunOf Two g.entries r → r.count ≤ LIMIT → length (run_text Two g.entries r) ≤ 174
 unfolding run_text
 run_size g forest r is few =
-    let line = line_size (codes "run" ∷ decimal r.first ∷ decimal r.step ∷ decimal r.count ∷ name_of g.entries r.entry ∷ name_of g.entries r.needed ∷ []) in
+    let line = line_size (codes "run" ∷ decimal r.first ∷ decimal r.step ∷ decimal r.count ∷ name_of_entry g.entries r.entry ∷ name_of_entry g.entries r.needed ∷ []) in
     let within = is.run.moments.last in
     let a = number_size r.first (omega arith) in
     let b = number_size r.step (step_within r is.run.lone is.run.moments.some within) in
@@ -68,7 +68,7 @@ run_size g forest r is few =
     let e = name_size g forest r.needed is.among.needed in
     omega arith
 
-runs_size : (g : Forest) → IsForest g → (rs : List Run) → AreRunsOf Two g.entries rs → counted rs ≤ LIMIT → length (flat_map (run_text Two g.entries) rs) ≤ length rs * 174
+runs_size : (g : Forest) → IsForest g → (rs : List Run) → AreRunsOf Two g.entries rs → wake_count rs ≤ LIMIT → length (flat_map (run_text Two g.entries) rs) ≤ length rs * 174
 runs_size g forest [] each few = omega arith
 runs_size g forest (r ∷ rs) each few =
     let parts = length-append (run_text Two g.entries r) (flat_map (run_text Two g.entries) rs) in
@@ -80,14 +80,14 @@ start_size : (s : ℕ) → s ≤ LAST → length (start_text s) ≤ 20
 unfolding start_text
 start_size s within = let line = line_size (codes "start" ∷ decimal s ∷ []) in let number = number_size s within in omega arith
 
-end_size : (count : ℕ) → count ≤ LIMIT → length (end_text count) ≤ 18
-unfolding end_text
+end_size : (count : ℕ) → count ≤ LIMIT → length (end_line_text count) ≤ 18
+unfolding end_line_text
 end_size count few = let line = line_size (codes "end" ∷ decimal count ∷ []) in let number = number_size count (omega arith) in omega arith
 
 pair_size : (g : Forest) → IsForest g → (entry needed : ℕ) → entry < length g.entries → needed < length g.entries → length (unkeepable_text g.entries entry needed) ≤ 142
 unfolding unkeepable_text
 pair_size g forest entry needed a b =
-    let line = line_size (codes "unkeepable" ∷ name_of g.entries entry ∷ name_of g.entries needed ∷ []) in
+    let line = line_size (codes "unkeepable" ∷ name_of_entry g.entries entry ∷ name_of_entry g.entries needed ∷ []) in
     let first = name_size g forest entry a in
     let second = name_size g forest needed b in
     omega arith
@@ -97,17 +97,17 @@ abbrev pub HasFewRuns : Forest → Body → Type 0
 HasFewRuns g (Runs rs) = length rs ≤ 2 * length g.entries - 1
 HasFewRuns g (Unkeepable entry needed) = Unit {0}
 
-body_size : (g : Forest) → IsForest g → (b : Body) → IsBody Two g.entries b → HasFewRuns g b → length (body_text Two g.entries b) ≤ 8191 * 174 + 18
+body_size : (g : Forest) → IsForest g → (b : Body) → IsCertificateBody Two g.entries b → HasFewRuns g b → length (body_text Two g.entries b) ≤ 8191 * 174 + 18
 unfolding body_text
 body_size g forest (Runs rs) is few =
-    let parts = length-append (flat_map (run_text Two g.entries) rs) (end_text (counted rs)) in
+    let parts = length-append (flat_map (run_text Two g.entries) rs) (end_line_text (wake_count rs)) in
     let runs = runs_size g forest rs is.0 is.1.1 in
-    let last = end_size (counted rs) is.1.1 in
+    let last = end_size (wake_count rs) is.1.1 in
     let entries = forest.few in
     omega arith
 body_size g forest (Unkeepable entry needed) is few = let line = pair_size g forest entry needed is.0 is.1 in omega arith
 
-pub certificate_size : (g : Forest) → IsForest g → (s : ℕ) → s ≤ LAST → (b : Body) → IsBody Two g.entries b → HasFewRuns g b → length (certificate_text g.entries (certified s b)) ≤ MOST_CERTIFICATE
+pub certificate_size : (g : Forest) → IsForest g → (s : ℕ) → s ≤ LAST → (b : Body) → IsCertificateBody Two g.entries b → HasFewRuns g b → length (certificate_text g.entries (certified s b)) ≤ MOST_CERTIFICATE
 unfolding certificate_text header_text
 certificate_size g forest s start b is few =
     let head = length-append (header_text Two) (start_text s ++ body_text Two g.entries b) in

@@ -13,8 +13,8 @@ use Rattle.keep_rule.specs.Reach.{reach, reach_of}
 use Rattle.keep_plan.specs.Decides.{NoneKeeps}
 use Rattle.keep_plan.proofs.Deciding.{none_keeps, some_keeps}
 use Rattle.keep_engine.specs.declared.bound.Bound.{Bound}
-use Rattle.keep_engine.specs.ReachLaws.{DifferInNeeds, IsWithin, UntilLaw, WhateverIsNeeded}
-use Rattle.keep_engine.specs.ReachText.{binding, bound, nearer}
+use Rattle.keep_engine.specs.ReachLaws.{DifferInNeeds, IsWithinReach, UntilLaw, WhateverIsNeeded}
+use Rattle.keep_engine.specs.ReachText.{binding, binding_reach, nearer}
 
 -- ---- of two reaches
 
@@ -79,7 +79,7 @@ module _ (p : ℕ → Option ℕ) where
       ]
 
 pub until_law : UntilLaw
-unfolding bound is_over
+unfolding binding_reach is_over
 until_law g s i forest needed =
     let p : ℕ → Option ℕ = reach g.entries g.margin s (end_of g.entries) in (
       λ within. some_keeps g s forest (λ entry other pair.
@@ -87,16 +87,16 @@ until_law g s i forest needed =
           let over = subst (Over g.entries entry) same pair.over in
           let least = binding_least p (chain g.entries i) entry pair.most over pair.reaches in
           let short : pair.most < (entry_at g.entries i).need = subst (λ n. pair.most < (entry_at g.entries n).need) same pair.short in
-          let long : (entry_at g.entries i).need ≤ least.0 = subst (IsWithin (entry_at g.entries i).need) least.1 within in
+          let long : (entry_at g.entries i).need ≤ least.0 = subst (IsWithinReach (entry_at g.entries i).need) least.1 within in
           let less = least.2 in
           absurd (omega (arith, short, long, less))),
       λ beyond. cases_Option (binding p (chain g.entries i)).most (NoneKeeps g s)
-          (λ none. absurd (beyond (subst (IsWithin (entry_at g.entries i).need) (sym none) tt)))
+          (λ none. absurd (beyond (subst (IsWithinReach (entry_at g.entries i).need) (sym none) tt)))
           (λ m some.
           let has = binding_has p (chain g.entries i) m some in
           elim (cases_lt m (entry_at g.entries i).need) [
             | inl short ↦ none_keeps g s has.0 i (record { over = has.1; later = needed.later; most = m; reaches = has.2; short = short })
-            | inr long ↦ absurd (beyond (subst (IsWithin (entry_at g.entries i).need) (sym some) long))
+            | inr long ↦ absurd (beyond (subst (IsWithinReach (entry_at g.entries i).need) (sym some) long))
           ]),
     )
 
@@ -113,7 +113,7 @@ reach_same g other s k differ =
     ap (λ m. reach_of (entry_at other.entries k) m s (entry_at other.entries k).end) differ.margin ∙ ap (λ (e : Entry). reach_of e g.margin s e.end) (differ.each k).1
 
 pub whatever_is_needed : WhateverIsNeeded
-unfolding bound
+unfolding binding_reach
 whatever_is_needed g other s i forest differ =
     let chains = chain_same (suc i) g.entries other.entries (parents_first g forest) (λ k h. ap (λ (e : Entry). e.parent) (differ.each k).1) i (omega arith) in
     ap (binding (reach other.entries other.margin s (end_of other.entries))) chains

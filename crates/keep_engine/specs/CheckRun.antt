@@ -5,12 +5,12 @@ use Rattle.keep_device.specs.Seen.{Change}
 use Rattle.keep_tree.specs.Forest.{Forest}
 use Rattle.keep_cert.specs.declared.cert.Cert.{Cert}
 use Rattle.keep_cert.specs.declared.fault.CertFault.{CertFault}
-use Rattle.keep_cert.specs.CertificateText.{Writes}
+use Rattle.keep_cert.specs.CertificateText.{WritesCertificate}
 use Rattle.keep_cert.specs.Reading.{certificate_of, text_start}
 use Rattle.keep_check.specs.declared.answer.Answer.TheVariants.{No, Yes}
 use Rattle.keep_check.specs.declared.answer.Cause.{Cause}
-use Rattle.keep_check.specs.Answer.{IsAnswer}
-use Rattle.keep_check.specs.Laws.{Holds}
+use Rattle.keep_check.specs.Answer.{IsCertificateAnswer}
+use Rattle.keep_check.specs.Laws.{ClaimHolds}
 use Rattle.keep_report.specs.declared.exit.Exit.{Exit}
 use Rattle.keep_report.specs.declared.exit.Exit.TheVariants as exits
 use Rattle.keep_engine.specs.CheckText.{no_line, unreadable_line}
@@ -33,30 +33,30 @@ StartsAsAsked asked c = IfSome asked (λ s. c.start ≡ s)
 -- no plan keeps
 pub record IsAccepted (asked : Option ℕ) (g : Forest) (text line : List ℕ) : Type 0 where
   pub cert : Cert
-  pub writes : Writes g.entries text cert
+  pub writes : WritesCertificate g.entries text cert
   pub starts : StartsAsAsked asked cert
-  pub answer : IsAnswer g cert Yes
-  pub holds : Holds g cert.start cert.body
+  pub answer : IsCertificateAnswer g cert Yes
+  pub holds : ClaimHolds g cert.start cert.body
   pub spelled : line ≡ codes "yes\n"
 
 -- the text writes a certificate from the start that is asked for that gets No for this cause
 pub record IsRefused (asked : Option ℕ) (g : Forest) (text line : List ℕ) : Type 0 where
   pub cert : Cert
-  pub writes : Writes g.entries text cert
+  pub writes : WritesCertificate g.entries text cert
   pub starts : StartsAsAsked asked cert
   pub cause : Cause
-  pub answer : IsAnswer g cert (No cause)
+  pub answer : IsCertificateAnswer g cert (No cause)
   pub spelled : line ≡ no_line g.entries cause
 
 -- the text writes a certificate from another start than the one that is asked for
 pub record StartsElsewhere (asked : Option ℕ) (g : Forest) (text line : List ℕ) : Type 0 where
   pub cert : Cert
-  pub writes : Writes g.entries text cert
+  pub writes : WritesCertificate g.entries text cert
   pub elsewhere : StartsAsAsked asked cert → ⊥
   pub spelled : line ≡ codes "no start\n"
 
 -- the text writes no certificate: this is its first fault
-pub record IsUnreadable (g : Forest) (text line : List ℕ) : Type 0 where
+pub record CertificateIsUnreadable (g : Forest) (text line : List ℕ) : Type 0 where
   pub fault : CertFault
   pub fails : certificate_of g.entries text ≡ Err fault
   pub spelled : unreadable_line fault ≡ Some line
@@ -64,7 +64,7 @@ pub record IsUnreadable (g : Forest) (text line : List ℕ) : Type 0 where
 -- the line about a text over a forest, and about the start that is asked for, that goes with an exit
 abbrev pub IsJudged : Option ℕ → Forest → List ℕ → Exit → List ℕ → Type 0
 IsJudged asked g text exits.Done line = IsAccepted asked g text line
-IsJudged asked g text exits.No line = IsRefused asked g text line ⊎ (StartsElsewhere asked g text line ⊎ IsUnreadable g text line)
+IsJudged asked g text exits.No line = IsRefused asked g text line ⊎ (StartsElsewhere asked g text line ⊎ CertificateIsUnreadable g text line)
 IsJudged asked g text exit line = ⊥
 
 abbrev pub CheckTexts : Option ℕ → List ℕ → Texts

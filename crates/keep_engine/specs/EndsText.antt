@@ -14,12 +14,12 @@ unfoldable pub all_asked : ℕ → List ℕ → List Wake
 all_asked n moments = map (λ t. record { at = t; asked = range_with_len 0 n }) moments
 
 -- `NAME END` and a line feed
-unfoldable pub end_line : Entry → ℕ → List ℕ
-end_line e end = e.name ++ (32 ∷ (decimal end ++ (10 ∷ [])))
+unfoldable pub name_end_line : Entry → ℕ → List ℕ
+name_end_line e end = e.name ++ (32 ∷ (decimal end ++ (10 ∷ [])))
 
 -- the lines of the first n entries, in order
 unfoldable pub end_lines : List Entry → (ℕ → ℕ) → ℕ → List ℕ
-end_lines es ends n = flat_map (λ i. end_line (entry_at es i) (ends i)) (range_with_len 0 n)
+end_lines es ends n = flat_map (λ i. name_end_line (entry_at es i) (ends i)) (range_with_len 0 n)
 
 unfoldable pub keeps_line : Bool → List ℕ
 keeps_line true = codes "keeps yes\n"

@@ -3,15 +3,15 @@
 use Rattle.std.specs.Prelude.{◌≡◌, ◌⊎◌, ℕ, List, Option, Ok, Err}
 use Rattle.keep_device.specs.Seen.{Change}
 use Rattle.keep_device.specs.declared.fault.InputFault.{InputFault}
-use Rattle.keep_files.specs.Files.{IsRead}
+use Rattle.keep_files.specs.Files.{FileIsRead}
 use Rattle.keep_report.specs.declared.exit.Exit.{Exit}
 use Rattle.keep_report.specs.Exits.{exit_of, stop_of_input}
 use Rattle.keep_report.specs.Sent.{IsUntouched}
 use Rattle.keep_report.specs.Told.{Reports}
-use Rattle.keep_engine.specs.Running.{line_of}
+use Rattle.keep_engine.specs.Running.{line_of_stop}
 
 -- a run over a file: one over its bytes; or it was not read, which was told, and nothing was written
 abbrev pub RunFrom : Option (List ℕ) → ℕ → (List ℕ → Exit → Change → Change → Type 0) → Exit → Change → Change → Type 0
 RunFrom known max Over exit out errors =
-    ((bytes : List ℕ) × IsRead known max (Ok bytes) × Over bytes exit out errors)
-    ⊎ ((fault : InputFault) × IsRead known max (Err fault) × (exit ≡ exit_of (stop_of_input fault)) × IsUntouched out × Reports (line_of (stop_of_input fault)) errors)
+    ((bytes : List ℕ) × FileIsRead known max (Ok bytes) × Over bytes exit out errors)
+    ⊎ ((fault : InputFault) × FileIsRead known max (Err fault) × (exit ≡ exit_of (stop_of_input fault)) × IsUntouched out × Reports (line_of_stop (stop_of_input fault)) errors)

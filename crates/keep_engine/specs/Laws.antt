@@ -6,11 +6,11 @@ use Rattle.keep_tree.specs.Push.{IsForest}
 use Rattle.keep_plan.specs.declared.decision.Decision.{Decision}
 use Rattle.keep_plan.specs.Decides.{Decides}
 use Rattle.keep_cert.specs.declared.cert.Cert.{Cert}
-use Rattle.keep_cert.specs.Printing.{Prints, claim}
+use Rattle.keep_cert.specs.Printing.{PrintsClaim, claim}
 use Rattle.keep_cert.specs.Reading.{certificate_of}
 use Rattle.keep_check.specs.declared.answer.Answer.{Answer}
 use Rattle.keep_check.specs.declared.answer.Answer.TheVariants.{Yes}
-use Rattle.keep_check.specs.Answer.{IsAnswer}
+use Rattle.keep_check.specs.Answer.{IsCertificateAnswer}
 use Rattle.keep_check.specs.Fit.{CanBeJudged}
 use Rattle.keep_inventory.specs.Inventories.{Inventory}
 use Rattle.keep_report.specs.declared.exit.Exit.{Exit}
@@ -24,8 +24,8 @@ use Rattle.keep_engine.specs.PlanRun.{IsCertified}
 -- answer to that is Yes
 abbrev pub OwnCertificateLaw : Type 0
 OwnCertificateLaw =
-    (g : Forest) (s : ℕ) (d : Decision) (text : List ℕ) → IsForest g → s ≤ LAST → Decides g s d → Prints g.entries s (claim d) (Ok text) →
-    (c : Cert) × (certificate_of g.entries text ≡ Ok c) × CanBeJudged g c.body × ((answer : Answer) → IsAnswer g c answer → answer ≡ Yes)
+    (g : Forest) (s : ℕ) (d : Decision) (text : List ℕ) → IsForest g → s ≤ LAST → Decides g s d → PrintsClaim g.entries s (claim d) (Ok text) →
+    (c : Cert) × (certificate_of g.entries text ≡ Ok c) × CanBeJudged g c.body × ((answer : Answer) → IsCertificateAnswer g c answer → answer ≡ Yes)
 
 -- a text that `check` accepts with `yes`, with no other line and no other exit, whether this start is asked for or none; that is
 -- short enough to be read; and that states this start, so that `check` reads the inventory from it on

@@ -10,12 +10,12 @@ use Rattle.keep_report.specs.Exits.{exit_of, stop_of_input}
 use Rattle.keep_report.specs.Sent.{IsUntouched}
 use Rattle.keep_report.specs.Told.{Reports}
 use Rattle.keep_run.specs.LiveRun.{LiveRun}
-use Rattle.keep_files.specs.Files.{IsRead}
-use Rattle.keep_engine.specs.Running.{line_of}
+use Rattle.keep_files.specs.Files.{FileIsRead}
+use Rattle.keep_engine.specs.Running.{line_of_stop}
 
 -- the live run over the bytes of the file at a path, by what is known of it, whatever exchange names this port; or the file was not
 -- read, which was told, and nothing was written, read of the events or asked
 abbrev pub LiveFrom : Option (List ℕ) → ℕ → ℕ → Option Behind → Exit → Change → Change → Change → Option Behind → Type 0
 LiveFrom known port start old exit fed out errors new =
-    ((bytes : List ℕ) × IsRead known MOST_INVENTORY (Ok bytes) × LiveRun port bytes start old exit fed out errors new)
-    ⊎ ((fault : InputFault) × IsRead known MOST_INVENTORY (Err fault) × (exit ≡ exit_of (stop_of_input fault)) × IsUntouched fed × IsUntouched out × (new ≡ old) × Reports (line_of (stop_of_input fault)) errors)
+    ((bytes : List ℕ) × FileIsRead known MOST_INVENTORY (Ok bytes) × LiveRun port bytes start old exit fed out errors new)
+    ⊎ ((fault : InputFault) × FileIsRead known MOST_INVENTORY (Err fault) × (exit ≡ exit_of (stop_of_input fault)) × IsUntouched fed × IsUntouched out × (new ≡ old) × Reports (line_of_stop (stop_of_input fault)) errors)

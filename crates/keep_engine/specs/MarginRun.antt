@@ -3,7 +3,7 @@
 use Rattle.std.specs.Prelude.{◌≡◌, ℕ, List, Option, Some, None}
 use Rattle.keep_device.specs.Seen.{Change}
 use Rattle.keep_tree.specs.Forest.{Forest}
-use Rattle.keep_plan.specs.Decides.{IsTooLong}
+use Rattle.keep_plan.specs.Decides.{PlanIsTooLong}
 use Rattle.keep_report.specs.declared.exit.Exit.{Exit}
 use Rattle.keep_report.specs.declared.stop.Stop.{Stop}
 use Rattle.keep_report.specs.declared.stop.Stop.TheVariants as stops
@@ -17,7 +17,7 @@ MarginTexts q g exit text = IsMarginText (asked_about q g) q.start q.most_wakes 
 
 -- WAKES is not given, and no plan that keeps with the forest's own margin is short enough
 abbrev pub HasNoCount : Forest → ℕ → Option ℕ → Stop → Type 0
-HasNoCount g s None stop = (stop ≡ stops.TooLong) × IsTooLong g s
+HasNoCount g s None stop = (stop ≡ stops.TooLong) × PlanIsTooLong g s
 HasNoCount g s (Some most) stop = ⊥
 
 abbrev pub MarginHalts : MarginQuery → Halts

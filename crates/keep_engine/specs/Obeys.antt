@@ -18,13 +18,13 @@ use Rattle.keep_engine.specs.ReachRun.{ReachRun}
 use Rattle.keep_engine.specs.RehearseFrom.{Rehearses}
 
 -- the path of a command's inventory
-abbrev pub path_of : Command → List ℕ
-path_of (commands.Ends file start moments) = string_bytes file
-path_of (commands.Plan file start dates) = string_bytes file
-path_of (commands.Margin file query) = string_bytes file
-path_of (commands.Reach file start dates) = string_bytes file
-path_of (commands.Rehearse file start words) = string_bytes file
-path_of (commands.Check file certificate start) = string_bytes file
+abbrev pub path_of_command : Command → List ℕ
+path_of_command (commands.Ends file start moments) = string_bytes file
+path_of_command (commands.Plan file start dates) = string_bytes file
+path_of_command (commands.Margin file query) = string_bytes file
+path_of_command (commands.Reach file start dates) = string_bytes file
+path_of_command (commands.Rehearse file start words) = string_bytes file
+path_of_command (commands.Check file certificate start) = string_bytes file
 
 -- a plan, as its certificate or in dates
 abbrev pub PlanIn : Bool → List ℕ → ℕ → Exit → Change → Change → Type 0
@@ -42,4 +42,4 @@ ObeysOver (commands.Check file certificate start) files bytes exit out errors = 
 
 -- each reads its inventory first
 abbrev pub Obeys : Command → Files → Exit → Change → Change → Type 0
-Obeys command files exit out errors = RunFrom (files (path_of command)) MOST_INVENTORY (λ bytes. ObeysOver command files bytes) exit out errors
+Obeys command files exit out errors = RunFrom (files (path_of_command command)) MOST_INVENTORY (λ bytes. ObeysOver command files bytes) exit out errors

@@ -6,10 +6,10 @@ use Rattle.keep_device.specs.Seen.{Change}
 use Rattle.keep_tree.specs.declared.entry.Entry.{Entry}
 use Rattle.keep_tree.specs.Forest.{Forest}
 use Rattle.keep_rule.specs.declared.run.Run.{Run}
-use Rattle.keep_rule.specs.Runs.{counted}
+use Rattle.keep_rule.specs.Runs.{wake_count}
 use Rattle.keep_plan.specs.Decides.{AreBest, NoneKeeps}
 use Rattle.keep_plan.specs.Shortfall.{IsShortfall}
-use Rattle.keep_cert.specs.CertificateText.{end_text, line_text, name_of, unkeepable_text}
+use Rattle.keep_cert.specs.CertificateText.{end_line_text, line_text, name_of_entry, unkeepable_text}
 use Rattle.keep_report.specs.declared.exit.Exit.{Exit}
 use Rattle.keep_report.specs.declared.exit.Exit.TheVariants as exits
 use Rattle.keep_start.specs.Start.{inventory_at}
@@ -23,7 +23,7 @@ start_line date = line_text (codes "start" ∷ date ∷ [])
 
 -- `run DATE STEP COUNT ENTRY NEEDED`
 unfoldable pub run_line : List Entry → Run → List ℕ → List ℕ
-run_line es r date = line_text (codes "run" ∷ date ∷ decimal r.step ∷ decimal r.count ∷ name_of es r.entry ∷ name_of es r.needed ∷ [])
+run_line es r date = line_text (codes "run" ∷ date ∷ decimal r.step ∷ decimal r.count ∷ name_of_entry es r.entry ∷ name_of_entry es r.needed ∷ [])
 
 abbrev pub IsRunLine : List Entry → Run → List ℕ → Type 0
 IsRunLine es r line = (date : List ℕ) × IsMomentWord true r.first date × (line ≡ run_line es r date)
@@ -39,7 +39,7 @@ pub record AreRunsInDates (es : List Entry) (s : ℕ) (rs : List Run) (text : Li
   pub is_start : IsMomentWord true s start
   pub lines : List ℕ
   pub are_lines : AreRunLines es rs lines
-  pub spelled : text ≡ start_line start ++ (lines ++ end_text (counted rs))
+  pub spelled : text ≡ start_line start ++ (lines ++ end_line_text (wake_count rs))
 
 -- the start, and a pair
 pub record IsPairInDates (es : List Entry) (s entry needed : ℕ) (text : List ℕ) : Type 0 where

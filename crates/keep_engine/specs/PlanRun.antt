@@ -4,7 +4,7 @@ use Rattle.std.specs.Prelude.{◌≡◌, ℕ, List}
 use Rattle.keep_device.specs.Seen.{Change}
 use Rattle.keep_tree.specs.Forest.{Forest}
 use Rattle.keep_rule.specs.declared.run.Run.{Run}
-use Rattle.keep_plan.specs.Decides.{AreBest, IsTooLong, NoneKeeps}
+use Rattle.keep_plan.specs.Decides.{AreBest, NoneKeeps, PlanIsTooLong}
 use Rattle.keep_plan.specs.Shortfall.{IsShortfall}
 use Rattle.keep_cert.specs.declared.cert.Body.TheVariants as body
 use Rattle.keep_cert.specs.CertificateText.{certificate_text}
@@ -38,7 +38,7 @@ IsCertified g s exit text = ⊥
 
 -- no plan that keeps is short enough
 abbrev pub PlanHalts : ℕ → Halts
-PlanHalts s g stop = (stop ≡ stops.TooLong) × IsTooLong g s
+PlanHalts s g stop = (stop ≡ stops.TooLong) × PlanIsTooLong g s
 
 abbrev pub PlanTexts : ℕ → Texts
 PlanTexts s g exit text = IsCertified g s exit text

@@ -7,7 +7,7 @@ use Rattle.keep_core.specs.Shorten.{least_reach}
 use Rattle.keep_rule.specs.Reach.{reach}
 use Rattle.keep_engine.specs.declared.bound.Bound.{Bound}
 use Rattle.keep_plan.specs.Decides.{NoneKeeps, SomeKeeps}
-use Rattle.keep_engine.specs.ReachText.{bound}
+use Rattle.keep_engine.specs.ReachText.{binding_reach}
 
 -- the entry `by` is over i, its reach from s is the least reach of i, and none nearer the root has that reach; where nothing
 -- limits i, it is i itself
@@ -20,22 +20,22 @@ pub record Binds (g : Forest) (s i : ℕ) (b : Bound) : Type 0 where
 
 -- of each line, UNTIL is `most` and BY is `by`
 abbrev pub BoundLaw : Type 0
-BoundLaw = (g : Forest) (s i : ℕ) → IsForest g → i < length g.entries → Binds g s i (bound g s i)
+BoundLaw = (g : Forest) (s i : ℕ) → IsForest g → i < length g.entries → Binds g s i (binding_reach g s i)
 
 -- the entry i is needed after s, and no other is
 pub record IsNeededAlone (g : Forest) (s i : ℕ) : Type 0 where
   pub later : s < (entry_at g.entries i).need
   pub alone : (k : ℕ) → s < (entry_at g.entries k).need → k ≡ i
 
-abbrev pub IsWithin : ℕ → Option ℕ → Type 0
-IsWithin need None = Unit {0}
-IsWithin need (Some most) = need ≤ most
+abbrev pub IsWithinReach : ℕ → Option ℕ → Type 0
+IsWithinReach need None = Unit {0}
+IsWithinReach need (Some most) = need ≤ most
 
 -- some plan keeps an entry that is needed alone until what binds it, and none a second longer
 abbrev pub UntilLaw : Type 0
 UntilLaw =
     (g : Forest) (s i : ℕ) → IsForest g → IsNeededAlone g s i →
-    (IsWithin (entry_at g.entries i).need (bound g s i).most → SomeKeeps g s) × ((IsWithin (entry_at g.entries i).need (bound g s i).most → ⊥) → NoneKeeps g s)
+    (IsWithinReach (entry_at g.entries i).need (binding_reach g s i).most → SomeKeeps g s) × ((IsWithinReach (entry_at g.entries i).need (binding_reach g s i).most → ⊥) → NoneKeeps g s)
 
 -- two forests that differ in needs alone
 pub record DifferInNeeds (g other : Forest) : Type 0 where
@@ -44,4 +44,4 @@ pub record DifferInNeeds (g other : Forest) : Type 0 where
 
 -- an entry is bound alike, whatever is needed
 abbrev pub WhateverIsNeeded : Type 0
-WhateverIsNeeded = (g other : Forest) (s i : ℕ) → IsForest g → DifferInNeeds g other → bound other s i ≡ bound g s i
+WhateverIsNeeded = (g other : Forest) (s i : ℕ) → IsForest g → DifferInNeeds g other → binding_reach other s i ≡ binding_reach g s i

@@ -25,8 +25,8 @@ binding reach [] = record { most = None; by = 0 }
 binding reach (i ∷ over) = nearer (reach i) i (binding reach over).most (binding reach over).by
 
 -- the least reach from s over the entry i, and the lowest entry over it that has it
-unfoldable pub bound : Forest → ℕ → ℕ → Bound
-bound g s i = binding (reach g.entries g.margin s (end_of g.entries)) (chain g.entries i)
+unfoldable pub binding_reach : Forest → ℕ → ℕ → Bound
+binding_reach g s i = binding (reach g.entries g.margin s (end_of g.entries)) (chain g.entries i)
 
 -- a moment as a number, or as a date where it has one
 abbrev pub IsMomentWord : Bool → ℕ → List ℕ → Type 0
@@ -43,16 +43,16 @@ IsNeedWord dates zero word = word ≡ decimal 0
 IsNeedWord dates (suc n) word = IsMomentWord dates (suc n) word
 
 -- four words, parted by blanks, and a line feed
-unfoldable pub four_words : List ℕ → List ℕ → List ℕ → List ℕ → List ℕ
-four_words a b c d = a ++ (32 ∷ (b ++ (32 ∷ (c ++ (32 ∷ (d ++ (10 ∷ [])))))))
+unfoldable pub four_word_line : List ℕ → List ℕ → List ℕ → List ℕ → List ℕ
+four_word_line a b c d = a ++ (32 ∷ (b ++ (32 ∷ (c ++ (32 ∷ (d ++ (10 ∷ [])))))))
 
 -- `NAME UNTIL BY NEED` and a line feed
 pub record IsReachLine (g : Forest) (s : ℕ) (dates : Bool) (i : ℕ) (line : List ℕ) : Type 0 where
   pub until : List ℕ
-  pub is_until : IsUntilWord dates (bound g s i).most until
+  pub is_until : IsUntilWord dates (binding_reach g s i).most until
   pub need : List ℕ
   pub is_need : IsNeedWord dates (entry_at g.entries i).need need
-  pub spelled : line ≡ four_words (entry_at g.entries i).name until (entry_at g.entries (bound g s i).by).name need
+  pub spelled : line ≡ four_word_line (entry_at g.entries i).name until (entry_at g.entries (binding_reach g s i).by).name need
 
 -- the lines of the first n entries, in order
 abbrev pub AreReachLines : Forest → ℕ → Bool → ℕ → List ℕ → Type 0
@@ -60,16 +60,16 @@ AreReachLines g s dates zero text = text ≡ []
 AreReachLines g s dates (suc n) text = (front : List ℕ) × (line : List ℕ) × AreReachLines g s dates n front × IsReachLine g s dates n line × (text ≡ front ++ line)
 
 -- whether some plan keeps
-abbrev pub IsKept : Forest → ℕ → Bool → Type 0
-IsKept g s true = SomeKeeps g s
-IsKept g s false = NoneKeeps g s
+abbrev pub SaysWhetherKept : Forest → ℕ → Bool → Type 0
+SaysWhetherKept g s true = SomeKeeps g s
+SaysWhetherKept g s false = NoneKeeps g s
 
 -- a line for each entry, and a line that says whether some plan from s keeps each entry until its need
 pub record IsReachText (g : Forest) (s : ℕ) (dates : Bool) (text : List ℕ) : Type 0 where
   pub lines : List ℕ
   pub are_lines : AreReachLines g s dates (length g.entries) lines
   pub kept : Bool
-  pub judged : IsKept g s kept
+  pub judged : SaysWhetherKept g s kept
   pub spelled : text ≡ lines ++ keeps_line kept
 
 -- a forest and a start have one such text: nothing else shows in it

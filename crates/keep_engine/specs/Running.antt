@@ -11,7 +11,7 @@ use Rattle.keep_report.specs.declared.stop.Stop.{Stop}
 use Rattle.keep_report.specs.declared.stop.Stop.TheVariants as stops
 use Rattle.keep_report.specs.Exits.{exit_of}
 use Rattle.keep_report.specs.FaultLine.{fault_line}
-use Rattle.keep_report.specs.Sent.{IsAll, IsUntouched, Sends}
+use Rattle.keep_report.specs.Sent.{IsAll, IsUntouched, SendsText}
 use Rattle.keep_report.specs.Told.{Reports}
 
 -- the texts that a command may write about a forest, each with its exit
@@ -27,8 +27,8 @@ abbrev pub NoHalts : Halts
 NoHalts g stop = ⊥
 
 -- the line that tells of a stop
-abbrev pub line_of : Stop → List ℕ
-line_of stop = fault_line (codes "leasekeep") stop
+abbrev pub line_of_stop : Stop → List ℕ
+line_of_stop stop = fault_line (codes "leasekeep") stop
 
 -- why a command makes no text of what was read
 abbrev pub Halted : Halts → Result Inventory InvFault → Stop → Type 0
@@ -43,13 +43,13 @@ RunsWhole Text answer exit out errors =
 
 -- there is no text: nothing was written, and why was told
 abbrev pub RunsHalted : Halts → Result Inventory InvFault → Exit → Change → Change → Type 0
-RunsHalted Halt answer exit out errors = (stop : Stop) × Halted Halt answer stop × (exit ≡ exit_of stop) × IsUntouched out × Reports (line_of stop) errors
+RunsHalted Halt answer exit out errors = (stop : Stop) × Halted Halt answer stop × (exit ≡ exit_of stop) × IsUntouched out × Reports (line_of_stop stop) errors
 
 -- the writing was cut short: no more than a front of the text was written, and that was told
 abbrev pub RunsCut : Texts → Result Inventory InvFault → Exit → Change → Change → Type 0
 RunsCut Text answer exit out errors =
     (inventory : Inventory) × (answer ≡ Ok inventory) × (given : Exit) × (text : List ℕ) × Text inventory.forest given text
-    × (stop : Stop) × Sends (Err stop) text out × (exit ≡ exit_of stop) × Reports (line_of stop) errors
+    × (stop : Stop) × SendsText (Err stop) text out × (exit ≡ exit_of stop) × Reports (line_of_stop stop) errors
 
 -- a run, by how it ended
 abbrev pub RunOf : Texts → Halts → Result Inventory InvFault → Exit → Change → Change → Type 0

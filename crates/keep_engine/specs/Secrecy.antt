@@ -1,7 +1,7 @@
 -- Secrecy: of two inventories that differ in their credentials alone a run writes the same.
 use Rattle.std.specs.Prelude.{◌≡◌, ◌⊎◌, ℕ, Bool, List, Option, Ok}
 use Rattle.keep_device.specs.Seen.{Change, Receives, ReceivesFront}
-use Rattle.keep_inventory.specs.Bare.{AreAlike}
+use Rattle.keep_inventory.specs.Bare.{DocumentsAreAlike}
 use Rattle.keep_inventory.specs.Inventory.{read_known}
 use Rattle.keep_inventory.specs.Served.{Served}
 use Rattle.keep_report.specs.declared.exit.Exit.{Exit}
@@ -20,17 +20,17 @@ use Rattle.keep_engine.specs.RehearseFrom.{Rehearses}
 -- two good inventories, each of whose tables writes its end, whose documents differ in the keys `secret` and `lease_id` and their
 -- values alone
 pub record DifferInSecrets (bytes other : List ℕ) : Type 0 where
-  pub alike : AreAlike bytes other
+  pub alike : DocumentsAreAlike bytes other
   pub served : Served
   pub reads : read_known bytes ≡ Ok served
   pub other_served : Served
   pub other_reads : read_known other ≡ Ok other_served
 
 -- the run came to its end: no device failed, and no memory was wanting
-abbrev pub IsWhole : Exit → Type 0
-IsWhole exits.Device = ⊥
-IsWhole exits.Memory = ⊥
-IsWhole exit = Unit {0}
+abbrev pub RunIsWhole : Exit → Type 0
+RunIsWhole exits.Device = ⊥
+RunIsWhole exits.Memory = ⊥
+RunIsWhole exit = Unit {0}
 
 -- two runs wrote the same
 abbrev pub WriteSame : Change → Change → Type 0
@@ -48,7 +48,7 @@ TellSame errors other = (IsUntouched errors × IsUntouched other) ⊎ ((line : L
 -- and report by one line
 abbrev pub RunAlike : Exit → Exit → Change → Change → Change → Change → Type 0
 RunAlike exit exit' out out' errors errors' =
-    WriteFronts out out' × (IsWhole exit → IsWhole exit' → (exit ≡ exit') × WriteSame out out' × TellSame errors errors')
+    WriteFronts out out' × (RunIsWhole exit → RunIsWhole exit' → (exit ≡ exit') × WriteSame out out' × TellSame errors errors')
 
 abbrev pub EndsSecrecy : Type 0
 EndsSecrecy =

@@ -1,5 +1,5 @@
 ghost use Rattle.std.specs.Prelude.{◌≡◌, ◌⊎◌, ◌<◌, length};
-ghost use Rattle.keep_engine.specs.ReachText.{bound, nearer};
+ghost use Rattle.keep_engine.specs.ReachText.{binding_reach, nearer};
 
 use keep_moment::Moment;
 use keep_rule::reach;
@@ -17,7 +17,7 @@ pub(crate) struct Bound {
 /// What binds the entry at `index` from `start` on.
 pub(crate) fn bound_of(forest: &Forest, start: Moment, index: u32) -> Bound
     requires { index < length forest.now.entries }
-    ensures value { result ≡ bound forest.now start index }
+    ensures value { result ≡ binding_reach forest.now start index }
     ensures within { result.by < length forest.now.entries }
 {
     let most = reach(forest, index, start);

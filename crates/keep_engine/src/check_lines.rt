@@ -1,7 +1,7 @@
 ghost use Rattle.std.specs.Prelude.{◌≡◌, IfOk, Some, length};
 ghost use Rattle.std.specs.Result.{IfErr};
 ghost use Rattle.keep_engine.specs.CheckText.{no_line, not_kept, numbered, unreadable_line};
-ghost use Rattle.keep_engine.specs.code.CheckAnswers.{IsNamed};
+ghost use Rattle.keep_engine.specs.code.CheckAnswers.{CauseIsNamed};
 ghost use Rattle.keep_report.specs.declared.stop.Stop.TheVariants.{Memory};
 
 use keep_cert::CertFault;
@@ -14,7 +14,7 @@ use std::alloc::{AllocError, Global};
 /// The line of a certificate that does not hold: the first test that it fails.
 #[tactic(auto, unfolding(crate::specs::CheckText::no_line))]
 pub(crate) fn no_line(alloc: Global, forest: &Forest, cause: Cause) -> Result<Text, AllocError>
-    requires { IsNamed (length forest.now.entries) cause }
+    requires { CauseIsNamed (length forest.now.entries) cause }
     ensures { IfOk result (λ line. line ≡ no_line forest.now.entries cause) }
 {
     match cause {

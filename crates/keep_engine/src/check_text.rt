@@ -3,7 +3,7 @@ ghost use Rattle.std.specs.Prelude.{◌≡◌, ◌↔◌, IfOk, IsTrue};
 ghost use Rattle.std.specs.Result.{IfErr};
 ghost use Rattle.keep_engine.specs.code.CheckAnswers.{StartTexts, VerdictTexts};
 ghost use Rattle.keep_engine.specs.CheckRun.{CheckTexts, StartsAsAsked, stated_start};
-ghost use Rattle.keep_engine.specs.code.Making.{Makes, MakesOf};
+ghost use Rattle.keep_engine.specs.code.Making.{MakesOf, MakesOutcome};
 ghost use Rattle.keep_engine.specs.Running.{NoHalts};
 ghost use Rattle.keep_report.specs.declared.stop.Stop.TheVariants.{Memory};
 ghost use Rattle.keep_start.specs.Start.{inventory_at};
@@ -25,7 +25,7 @@ pub(crate) fn check_text(
     certificate: &[u8],
     asked: Option<Moment>,
 ) -> Result<Outcome, Stop>
-    ensures { Makes (CheckTexts asked certificate.now) NoHalts (inventory_at (stated_start certificate.now) inventory.now) result }
+    ensures { MakesOutcome (CheckTexts asked certificate.now) NoHalts (inventory_at (stated_start certificate.now) inventory.now) result }
 {
     let start = stated_start(certificate)?;
     let inventory = read_at(alloc, inventory, start)?;

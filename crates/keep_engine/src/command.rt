@@ -1,8 +1,8 @@
 ghost use Rattle.std.specs.Prelude.{◌≡◌};
 ghost use Rattle.keep_report.specs.Exits.{exit_of, stop_of_input};
 ghost use Rattle.keep_report.specs.Told.{Reports};
-ghost use Rattle.keep_engine.specs.Running.{line_of};
-ghost use Rattle.keep_engine.specs.Obeys.{Obeys, ObeysOver, PlanIn, path_of};
+ghost use Rattle.keep_engine.specs.Running.{line_of_stop};
+ghost use Rattle.keep_engine.specs.Obeys.{Obeys, ObeysOver, PlanIn, path_of_command};
 
 use crate::check::run_check;
 use crate::deliver::PROGRAM;
@@ -63,7 +63,7 @@ pub enum Command {
 impl Command {
     /// The path of its inventory.
     pub fn inventory(&self) -> &str
-        ensures { result.now ≡ path_of self.now }
+        ensures { result.now ≡ path_of_command self.now }
     {
         match self {
             Command::Ends { file, .. }
@@ -153,7 +153,7 @@ fn plan_in<W: Sink, E: Sink>(
 /// Writes the line of a file that was not read, and gives the exit.
 pub(crate) fn tell_unread<E: Sink>(fault: InputFault, errors: &mut E) -> Exit
     ensures exit { result ≡ exit_of (stop_of_input fault) }
-    ensures told { Reports (line_of (stop_of_input fault)) (⟦<E as Watched>⟧.change errors.old errors.new) }
+    ensures told { Reports (line_of_stop (stop_of_input fault)) (⟦<E as Watched>⟧.change errors.old errors.new) }
 {
     let stop = Stop::from(fault);
     stop.report(PROGRAM, errors)

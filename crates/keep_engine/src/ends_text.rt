@@ -1,8 +1,8 @@
 ghost use Rattle.std.specs.Prelude.{◌≡◌, ◌++◌, ◌<◌, IfOk, OnOk, length};
 ghost use Rattle.std.specs.List.{range_with_len};
 ghost use Rattle.keep_engine.specs.EndsRun.{EndsHalts, EndsTexts};
-ghost use Rattle.keep_engine.specs.code.Making.{Makes, MakesOf, at_index};
-ghost use Rattle.keep_engine.specs.EndsText.{all_asked, end_line, end_lines, keeps_line};
+ghost use Rattle.keep_engine.specs.code.Making.{MakesOf, MakesOutcome, at_index};
+ghost use Rattle.keep_engine.specs.EndsText.{all_asked, end_lines, keeps_line, name_end_line};
 ghost use Rattle.keep_start.specs.Start.{inventory_at};
 
 use crate::outcome::Outcome;
@@ -20,7 +20,7 @@ pub(crate) fn ends_text(
     start: Moment,
     moments: &[Moment],
 ) -> Result<Outcome, Stop>
-    ensures { Makes (EndsTexts start moments.now) (EndsHalts start moments.now) (inventory_at start inventory.now) result }
+    ensures { MakesOutcome (EndsTexts start moments.now) (EndsHalts start moments.now) (inventory_at start inventory.now) result }
 {
     let inventory = read_at(alloc, inventory, start)?;
     replay_text(alloc, inventory.forest(), start, moments)
@@ -88,9 +88,9 @@ fn push_lines(
 }
 
 /// Appends `NAME END` and a line feed.
-#[tactic(auto, unfolding(crate::specs::EndsText::end_line))]
+#[tactic(auto, unfolding(crate::specs::EndsText::name_end_line))]
 fn push_line(alloc: Global, entry: &Entry, end: u64, text: &mut Vec<u8>) -> Result<(), AllocError>
-    ensures { OnOk result (text.new.items ≡ text.old.items ++ end_line entry.now end) }
+    ensures { OnOk result (text.new.items ≡ text.old.items ++ name_end_line entry.now end) }
 {
     let end = end.to_string(alloc)?;
     text.extend_from_slice(entry.name.list())?;

@@ -4,7 +4,7 @@ ghost use Rattle.keep_rule.specs.declared.limit.TheConstants.{LIMIT};
 ghost use Rattle.keep_plan.specs.Widest.{IsFewest, IsWidest};
 ghost use Rattle.keep_report.specs.declared.exit.Exit.TheVariants as exits;
 ghost use Rattle.keep_report.specs.declared.stop.Stop.TheVariants.{Memory};
-ghost use Rattle.keep_engine.specs.code.Making.{Makes, MakesOf};
+ghost use Rattle.keep_engine.specs.code.Making.{MakesOf, MakesOutcome};
 ghost use Rattle.keep_engine.specs.code.MarginMaking.{HaltsFrom, TextsFrom};
 ghost use Rattle.keep_engine.specs.MarginRun.{MarginHalts, MarginTexts};
 ghost use Rattle.keep_engine.specs.MarginText.{AreOwnAndWidest, IsWidestLine, asked_about, margin_line};
@@ -28,7 +28,7 @@ pub(crate) fn margin_text(
     inventory: &[u8],
     query: &MarginQuery,
 ) -> Result<Outcome, Stop>
-    ensures { Makes (MarginTexts query.now) (MarginHalts query.now) (inventory_at query.now.start inventory.now) result }
+    ensures { MakesOutcome (MarginTexts query.now) (MarginHalts query.now) (inventory_at query.now.start inventory.now) result }
 {
     let inventory = read_at(alloc, inventory, query.start)?;
     let (forest, _credentials) = inventory.into_parts();

@@ -68,7 +68,7 @@ fn pair_of(alloc: Global, forest: &Forest, start: Moment) -> Result<Option<Short
 }
 
 /// `unkeepable ENTRY NEEDED` and a line feed.
-#[tactic(auto, unfolding(keep_cert::specs::CertificateText::unkeepable_text, keep_cert::specs::CertificateText::line_text, keep_cert::specs::CertificateText::name_of))]
+#[tactic(auto, unfolding(keep_cert::specs::CertificateText::unkeepable_text, keep_cert::specs::CertificateText::line_text, keep_cert::specs::CertificateText::name_of_entry))]
 pub(crate) fn unkeepable_line(
     alloc: Global,
     forest: &Forest,

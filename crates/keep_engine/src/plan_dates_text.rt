@@ -1,11 +1,11 @@
 ghost use Rattle.std.specs.Prelude.{◌≡◌, ◌<◌, ◌++◌, ◌∷◌, [], All, IfOk, OnOk, decimal, length};
 ghost use Rattle.std.specs.Result.{IfErr};
-ghost use Rattle.keep_rule.specs.Runs.{IsAmong, counted};
-ghost use Rattle.keep_cert.specs.CertificateText.{end_text, name_of, unkeepable_text};
-ghost use Rattle.keep_cert.specs.Printing.{IsOf};
+ghost use Rattle.keep_rule.specs.Runs.{IsAmong, wake_count};
+ghost use Rattle.keep_cert.specs.CertificateText.{end_line_text, name_of_entry, unkeepable_text};
+ghost use Rattle.keep_cert.specs.Printing.{IsDecisionOver};
 ghost use Rattle.keep_report.specs.declared.stop.Stop.TheVariants.{Memory};
 ghost use Rattle.keep_start.specs.Start.{inventory_at};
-ghost use Rattle.keep_engine.specs.code.Making.{DatesOf, Makes, MakesOf};
+ghost use Rattle.keep_engine.specs.code.Making.{DatesOf, MakesOf, MakesOutcome};
 ghost use Rattle.keep_engine.specs.PlanRun.{PlanHalts};
 ghost use Rattle.keep_engine.specs.PlanDates.{AreRunLines, AreRunsInDates, IsPairInDates, IsRunLine, PlanDatesTexts, run_line, start_line};
 
@@ -27,7 +27,7 @@ pub(crate) fn plan_dates_text(
     inventory: &[u8],
     start: Moment,
 ) -> Result<Outcome, Stop>
-    ensures { Makes (PlanDatesTexts start) (PlanHalts start) (inventory_at start inventory.now) result }
+    ensures { MakesOutcome (PlanDatesTexts start) (PlanHalts start) (inventory_at start inventory.now) result }
 {
     let inventory = read_at(alloc, inventory, start)?;
     decision_in_dates(alloc, inventory.forest(), start)
@@ -60,7 +60,7 @@ fn dates_of(
     start: Moment,
     decision: &Decision,
 ) -> Result<Text, Stop>
-    requires { IsOf forest.now.entries decision.now }
+    requires { IsDecisionOver forest.now.entries decision.now }
     ensures { DatesOf forest.now.entries start result decision.now }
 {
     match decision {
@@ -82,7 +82,7 @@ fn runs_in_dates(
     count: u64,
 ) -> Result<Text, Stop>
     requires among { All (IsAmong (length forest.now.entries)) runs.now }
-    requires count { count ≡ counted runs.now }
+    requires count { count ≡ wake_count runs.now }
     ensures text { IfOk result (λ text. AreRunsInDates forest.now.entries start runs.now text) }
     ensures memory { IfErr result (λ stop. stop ≡ Memory) }
 {
@@ -135,9 +135,9 @@ fn run_line(alloc: Global, forest: &Forest, run: Run) -> Result<Text, Stop>
     Ok(spell_run(alloc, forest, run, date.list())?)
 }
 
-#[tactic(auto, unfolding(crate::specs::PlanDates::start_line, keep_cert::specs::CertificateText::line_text, keep_cert::specs::CertificateText::end_text))]
+#[tactic(auto, unfolding(crate::specs::PlanDates::start_line, keep_cert::specs::CertificateText::line_text, keep_cert::specs::CertificateText::end_line_text))]
 fn spell_runs(alloc: Global, date: &[u8], lines: &[u8], count: u64) -> Result<Text, AllocError>
-    ensures { IfOk result (λ text. text ≡ start_line date.now ++ (lines.now ++ end_text count)) }
+    ensures { IfOk result (λ text. text ≡ start_line date.now ++ (lines.now ++ end_line_text count)) }
 {
     let mut text = Vec::new(alloc);
     push_start(date, &mut text)?;
@@ -167,7 +167,7 @@ fn spell_pair(
     Ok(Text::from_vec(text))
 }
 
-#[tactic(auto, unfolding(crate::specs::PlanDates::run_line, keep_cert::specs::CertificateText::line_text, keep_cert::specs::CertificateText::name_of))]
+#[tactic(auto, unfolding(crate::specs::PlanDates::run_line, keep_cert::specs::CertificateText::line_text, keep_cert::specs::CertificateText::name_of_entry))]
 fn spell_run(alloc: Global, forest: &Forest, run: Run, date: &[u8]) -> Result<Text, AllocError>
     requires { IsAmong (length forest.now.entries) run }
     ensures { IfOk result (λ line. line ≡ run_line forest.now.entries run date.now) }
@@ -203,11 +203,11 @@ fn push_spaced(alloc: Global, number: u64, text: &mut Vec<u8>) -> Result<(), All
 }
 
 /// Appends two names, the last words of a line, and its line feed.
-#[tactic(auto, unfolding(keep_cert::specs::CertificateText::name_of))]
+#[tactic(auto, unfolding(keep_cert::specs::CertificateText::name_of_entry))]
 fn push_pair(forest: &Forest, entry: u32, needed: u32, text: &mut Vec<u8>) -> Result<(), AllocError>
     requires entry { entry < length forest.now.entries }
     requires needed { needed < length forest.now.entries }
-    ensures { OnOk result (text.new.items ≡ text.old.items ++ (name_of forest.now.entries entry ++ (32 ∷ (name_of forest.now.entries needed ++ 10 ∷ [])))) }
+    ensures { OnOk result (text.new.items ≡ text.old.items ++ (name_of_entry forest.now.entries entry ++ (32 ∷ (name_of_entry forest.now.entries needed ++ 10 ∷ [])))) }
 {
     text.extend_from_slice(forest.get(entry).name.list())?;
     text.push(b' ')?;

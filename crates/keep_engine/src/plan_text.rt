@@ -1,5 +1,5 @@
 ghost use Rattle.std.specs.Prelude.{◌≡◌};
-ghost use Rattle.keep_engine.specs.code.Making.{Makes, MakesOf, decided_exit};
+ghost use Rattle.keep_engine.specs.code.Making.{MakesOf, MakesOutcome, decided_exit};
 ghost use Rattle.keep_engine.specs.PlanRun.{PlanHalts, PlanTexts};
 ghost use Rattle.keep_start.specs.Start.{inventory_at};
 
@@ -14,7 +14,7 @@ use std::alloc::Global;
 
 /// The certificate of an inventory's decision with its exit, or why there is none.
 pub(crate) fn plan_text(alloc: Global, inventory: &[u8], start: Moment) -> Result<Outcome, Stop>
-    ensures { Makes (PlanTexts start) (PlanHalts start) (inventory_at start inventory.now) result }
+    ensures { MakesOutcome (PlanTexts start) (PlanHalts start) (inventory_at start inventory.now) result }
 {
     let inventory = read_at(alloc, inventory, start)?;
     certificate(alloc, inventory.forest(), start)

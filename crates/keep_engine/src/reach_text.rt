@@ -1,9 +1,9 @@
 ghost use Rattle.std.specs.Prelude.{◌≡◌, ◌<◌, IfOk, OnOk, decimal, length, []};
 ghost use Rattle.std.specs.Result.{IfErr};
 ghost use Rattle.keep_report.specs.declared.stop.Stop.TheVariants.{Memory};
-ghost use Rattle.keep_engine.specs.code.Making.{Makes, MakesOf};
+ghost use Rattle.keep_engine.specs.code.Making.{MakesOf, MakesOutcome};
 ghost use Rattle.keep_engine.specs.ReachRun.{ReachTexts};
-ghost use Rattle.keep_engine.specs.ReachText.{AreReachLines, IsKept, IsMomentWord, IsNeedWord, IsReachLine, IsUntilWord, four_words};
+ghost use Rattle.keep_engine.specs.ReachText.{AreReachLines, IsMomentWord, IsNeedWord, IsReachLine, IsUntilWord, SaysWhetherKept, four_word_line};
 ghost use Rattle.keep_engine.specs.Running.{NoHalts};
 ghost use Rattle.keep_start.specs.Start.{inventory_at};
 
@@ -25,7 +25,7 @@ pub(crate) fn reach_text(
     start: Moment,
     dates: bool,
 ) -> Result<Outcome, Stop>
-    ensures { Makes (ReachTexts start dates) NoHalts (inventory_at start inventory.now) result }
+    ensures { MakesOutcome (ReachTexts start dates) NoHalts (inventory_at start inventory.now) result }
 {
     let inventory = read_at(alloc, inventory, start)?;
     reaches_text(alloc, inventory.forest(), start, dates)
@@ -47,7 +47,7 @@ fn reaches_text(alloc: Global, forest: &Forest, start: Moment, dates: bool) -> R
 
 /// Whether some plan from `start` on keeps. The only error is out of memory.
 fn is_kept(alloc: Global, forest: &Forest, start: Moment) -> Result<bool, Stop>
-    ensures kept { IfOk result (λ kept. IsKept forest.now start kept) }
+    ensures kept { IfOk result (λ kept. SaysWhetherKept forest.now start kept) }
     ensures memory { IfErr result (λ stop. stop ≡ Memory) }
 {
     match carry(alloc, forest, start) {
@@ -103,7 +103,7 @@ fn reach_line(
 }
 
 /// These four, parted by blanks, and a line feed.
-#[tactic(auto, unfolding(crate::specs::ReachText::four_words))]
+#[tactic(auto, unfolding(crate::specs::ReachText::four_word_line))]
 fn spell(
     alloc: Global,
     name: &[u8],
@@ -111,7 +111,7 @@ fn spell(
     by: &[u8],
     need: &[u8],
 ) -> Result<Text, AllocError>
-    ensures { IfOk result (λ line. line ≡ four_words name.now until.now by.now need.now) }
+    ensures { IfOk result (λ line. line ≡ four_word_line name.now until.now by.now need.now) }
 {
     let mut line = Vec::new(alloc);
     line.extend_from_slice(name)?;

@@ -4,7 +4,7 @@ use Rattle.std.specs.Cmp.Lexicographic.{bytes_decides}
 use Rattle.std.specs.List.{find}
 use Rattle.keep_tree.specs.Push.{is_lease}
 use Rattle.keep_tree.proofs.Carrying.{and_right}
-use Rattle.keep_exchange.specs.Requests.{Fits, lease_renewal, token_renewal}
+use Rattle.keep_exchange.specs.Requests.{ReplyFits, lease_renewal, token_renewal}
 use Rattle.keep_exchange.proofs.Lengths.{errors_short, ok_short, refusal_short, refused_short, renewed_lease_short, renewed_self_short, reply_short, status_short}
 use Rattle.broker_table.specs.declared.call.Call.{Call}
 use Rattle.broker_table.specs.declared.call.Call.TheVariants.{RenewSelf, RenewLease, LookupSelf, LookupLease}
@@ -14,11 +14,11 @@ use Rattle.broker_table.specs.declared.refusal.Refusal.TheVariants.{NotRenewable
 use Rattle.broker_table.specs.declared.row.Row.{Row}
 use Rattle.broker_table.specs.declared.served.Served.{Served}
 use Rattle.broker_table.specs.declared.served.Served.TheVariants as served
-use Rattle.broker_table.specs.Table.{Table}
+use Rattle.broker_table.specs.Table.{BrokerTable}
 use Rattle.broker_table.specs.Faults.{fault_at, next_number}
-use Rattle.broker_table.specs.Renewing.{granted, is_deny, new_end, renewal}
-use Rattle.broker_table.specs.Request.{a_text, allows, answered, asked, call_of, increment_in, is_renewal, lease_id_in, of_lease}
-use Rattle.broker_table.specs.Step.{Answer, IsBody, Outcome, Says, after_sweep, by_call, drops, is_drop, looked, refuses, renewed, renews, seconds_to, step, tells}
+use Rattle.broker_table.specs.Renewing.{granted_row, is_deny, new_end, renewal_by_broker}
+use Rattle.broker_table.specs.Request.{a_text, allows, asked, asked_of_lease, call_of, increment_in, is_renewal, lease_id_in, read_or_none}
+use Rattle.broker_table.specs.Step.{BrokerAnswer, BrokerOutcome, IsReplyBody, SaysAnswer, after_sweep, broker_step, by_call, drops, is_drop, lookup_answer, refuses, renewal_answer, renewal_outcome, seconds_to, tells}
 use Rattle.broker_table.specs.Subject.{Subject, bearer, belongs, is_lease_with, lease_with, owned, subject, with_asked, with_bearer}
 use Rattle.std.proofs.lemmas.Bool.{cond-true}
 use Rattle.std.proofs.lemmas.Str.{is_utf8-from_IsUtf8}
@@ -65,11 +65,11 @@ subject_names rows call r id increment s is e = by_bearer (bearer rows r.token) 
 
 -- ---- the row of which an answer speaks
 
-looked_tells : (call c : Call) (found : Result Subject Refusal) (row : Row) → looked call found ≡ tells c row → (call ≡ c) × ((s : Subject) × ((found ≡ Ok s) × (s.row.credential ≡ row.credential)))
+looked_tells : (call c : Call) (found : Result Subject Refusal) (row : Row) → lookup_answer call found ≡ tells c row → (call ≡ c) × ((s : Subject) × ((found ≡ Ok s) × (s.row.credential ≡ row.credential)))
 looked_tells call c (Err refusal) row e = absurd cc
 looked_tells call c (Ok s) row e = let same : s.row ≡ row = cc in (cc, (s, (refl, ap (λ (r : Row). r.credential) same)))
 
-renewed_tells : (call c : Call) (fault : Option Fault) (found : Result Row Refusal) (row : Row) → renewed call fault found ≡ tells c row → (call ≡ c) × (found ≡ Ok row)
+renewed_tells : (call c : Call) (fault : Option Fault) (found : Result Row Refusal) (row : Row) → renewal_answer call fault found ≡ tells c row → (call ≡ c) × (found ≡ Ok row)
 renewed_tells call c fault (Err refusal) row e = absurd cc
 renewed_tells call c fault (Ok made) row e = by_drop (is_drop fault) e
   where
@@ -77,7 +77,7 @@ renewed_tells call c fault (Ok made) row e = by_drop (is_drop fault) e
     by_drop true e = absurd cc
     by_drop false e = (cc, cc)
 
-granted_names : (fault : Option Fault) (t : ℕ) (found : Result Subject Refusal) (row : Row) → granted fault t found ≡ Ok row → (s : Subject) × ((found ≡ Ok s) × (s.row.credential ≡ row.credential))
+granted_names : (fault : Option Fault) (t : ℕ) (found : Result Subject Refusal) (row : Row) → granted_row fault t found ≡ Ok row → (s : Subject) × ((found ≡ Ok s) × (s.row.credential ≡ row.credential))
 granted_names fault t (Err refusal) row e = absurd cc
 granted_names fault t (Ok s) row e = (s, (refl, by_renewable s.row.renewable e))
   where
@@ -86,13 +86,13 @@ granted_names fault t (Ok s) row e = (s, (refl, by_renewable s.row.renewable e))
     by_renewable false e = absurd cc
 
 renewal_names :
-    (rows : List Row) (t : ℕ) (call : Call) (r : Request) (fault : Option Fault) (row : Row) → renewal rows t call r fault ≡ Ok row →
+    (rows : List Row) (t : ℕ) (call : Call) (r : Request) (fault : Option Fault) (row : Row) → renewal_by_broker rows t call r fault ≡ Ok row →
     (s : Subject) × ((subject rows call r ≡ Ok s) × (s.row.credential ≡ row.credential))
-unfolding renewal
+unfolding renewal_by_broker
 renewal_names rows t call r fault row e = by_deny (is_deny fault) e
   where
     by_deny :
-        (b : Bool) → ◌≡◌ {A = Result Row Refusal} (if b then Err PermissionDenied else granted fault t (subject rows call r)) (Ok row) →
+        (b : Bool) → ◌≡◌ {A = Result Row Refusal} (if b then Err PermissionDenied else granted_row fault t (subject rows call r)) (Ok row) →
         (s : Subject) × ((subject rows call r ≡ Ok s) × (s.row.credential ≡ row.credential))
     by_deny true e = absurd cc
     by_deny false e = granted_names fault t (subject rows call r) row e
@@ -111,27 +111,27 @@ of_subject rows r call c row same found =
       λ id increment is. sym found.1.1 ∙ subject_names rows call r id increment s (ap (λ (x : Call). asked x r.body) same ∙ is) found.1.0,
     )
 
-split : (b : Bool) (x y : Outcome) (c : Call) (row : Row) → (if b then x else y).answer ≡ tells c row → (x.answer ≡ tells c row) ⊎ (y.answer ≡ tells c row)
+split : (b : Bool) (x y : BrokerOutcome) (c : Call) (row : Row) → (if b then x else y).answer ≡ tells c row → (x.answer ≡ tells c row) ⊎ (y.answer ≡ tells c row)
 split true x y c row e = inl e
 split false x y c row e = inr e
 
-by_call_names : (l : Table) (t : ℕ) (r : Request) (found : Option Call) (c : Call) (row : Row) → (by_call l t r found).answer ≡ tells c row → Names r found c row
-unfolding renews
+by_call_names : (l : BrokerTable) (t : ℕ) (r : Request) (found : Option Call) (c : Call) (row : Row) → (by_call l t r found).answer ≡ tells c row → Names r found c row
+unfolding renewal_outcome
 by_call_names l t r None c row e = absurd cc
 by_call_names l t r (Some call) c row e =
     elim (split (allows call r.method) _ _ c row e) [
       | inl e' ↦ elim (split (is_renewal call) _ _ c row e') [
         | inl e'' ↦
             let fault = fault_at l.faults (next_number l.count) in
-            let is = renewed_tells call c fault (renewal l.rows t call r fault) row e'' in
+            let is = renewed_tells call c fault (renewal_by_broker l.rows t call r fault) row e'' in
             of_subject l.rows r call c row is.0 (renewal_names l.rows t call r fault row is.1)
         | inr e'' ↦ let is = looked_tells call c (subject l.rows call r) row e'' in of_subject l.rows r call c row is.0 is.1
       ]
       | inr e' ↦ absurd cc
     ]
 
-answer_names : (l : Table) (t : ℕ) (r : Request) (c : Call) (row : Row) → (step l t r).answer ≡ tells c row → Names r (call_of r.path) c row
-unfolding step
+answer_names : (l : BrokerTable) (t : ℕ) (r : Request) (c : Call) (row : Row) → (broker_step l t r).answer ≡ tells c row → Names r (call_of r.path) c row
+unfolding broker_step
 answer_names l t r c row e = by_call_names (after_sweep l t) t r (call_of r.path) c row e
 
 -- ---- how long its reply is
@@ -140,8 +140,8 @@ seconds_small : (end t : ℕ) → seconds_to end t < 2 ^ 32
 seconds_small end t = omega arith
 
 fits :
-    (t : ℕ) (answer : Answer) → ((c : Call) (row : Row) (body : List ℕ) → answer ≡ tells c row → IsBody c row t body → length body ≤ 2000) →
-    (sent : Served) → Says t answer sent → Fits sent
+    (t : ℕ) (answer : BrokerAnswer) → ((c : Call) (row : Row) (body : List ℕ) → answer ≡ tells c row → IsReplyBody c row t body → length body ≤ 2000) →
+    (sent : Served) → SaysAnswer t answer sent → ReplyFits sent
 fits t (refuses refusal) short (served.Reply reply) says =
     reply_short reply (status_short reply.status _ says.0 (refused_short refusal))
     (subst (λ bs. length bs ≤ 2000) (sym says.1) (errors_short _ (refusal_short refusal)))
@@ -149,32 +149,32 @@ fits t (tells c row) short (served.Reply reply) says = reply_short reply (status
 fits t drops short (served.Reply reply) says = absurd says
 fits t answer short served.Dropped says = tt
 
-token_body : (t : ℕ) (c : Call) (row : Row) (body : List ℕ) → Some RenewSelf ≡ Some c → IsBody c row t body → length body ≤ 2000
-unfolding IsBody
+token_body : (t : ℕ) (c : Call) (row : Row) (body : List ℕ) → Some RenewSelf ≡ Some c → IsReplyBody c row t body → length body ≤ 2000
+unfolding IsReplyBody
 token_body t RenewSelf row body e is = subst (λ (bs : List ℕ). length bs ≤ 2000) (sym is) (renewed_self_short _ row.renewable (seconds_small row.end t))
 token_body t RenewLease row body e is = absurd cc
 token_body t LookupSelf row body e is = absurd cc
 token_body t LookupLease row body e is = absurd cc
 
 -- the reply to the renewal of a token
-pub token_fits : (port : ℕ) (credential : List ℕ) (step' : ℕ) (l : Table) (t : ℕ) (sent : Served) → Says t (step l t (token_renewal port credential step')).answer sent → Fits sent
+pub token_fits : (port : ℕ) (credential : List ℕ) (step' : ℕ) (l : BrokerTable) (t : ℕ) (sent : Served) → SaysAnswer t (broker_step l t (token_renewal port credential step')).answer sent → ReplyFits sent
 unfolding call_of
 token_fits port credential step' l t sent says =
     let r = token_renewal port credential step' in
-    fits t (step l t r).answer (λ c row body e is. token_body t c row body (answer_names l t r c row e).0 is) sent says
+    fits t (broker_step l t r).answer (λ c row body e is. token_body t c row body (answer_names l t r c row e).0 is) sent says
 
 -- the id and the step that the body of a lease's renewal asks for
 pub lease_renew_asked : (id : List ℕ) (n : ℕ) → IsUtf8 id → n < 2 ^ 32 → asked RenewLease (lease_text id n) ≡ Some (record { lease_id = Some id; increment = Some n })
 unfolding asked increment_in lease_id_in
 lease_renew_asked id n utf8 small =
     let read = lease_body_is_read id n utf8 (omega (arith, small)) in
-    ap (λ a. of_lease (a_text (answered a)) (answered (increment_answer (lease_text id n)))) read.0
-    ∙ ap (λ a. of_lease (a_text (Some id)) (answered a)) read.1
-    ∙ ap (λ a. of_lease a (Some (Some n))) (cond-true (is_utf8 id) (Some id) None (is_utf8-from_IsUtf8 id utf8))
+    ap (λ a. asked_of_lease (a_text (read_or_none a)) (read_or_none (increment_answer (lease_text id n)))) read.0
+    ∙ ap (λ a. asked_of_lease (a_text (Some id)) (read_or_none a)) read.1
+    ∙ ap (λ a. asked_of_lease a (Some (Some n))) (cond-true (is_utf8 id) (Some id) None (is_utf8-from_IsUtf8 id utf8))
 
 lease_body :
-    (t : ℕ) (id : List ℕ) → length id ≤ 256 → (c : Call) (row : Row) (body : List ℕ) → Some RenewLease ≡ Some c → (c ≡ RenewLease → row.credential ≡ id) → IsBody c row t body → length body ≤ 2000
-unfolding IsBody
+    (t : ℕ) (id : List ℕ) → length id ≤ 256 → (c : Call) (row : Row) (body : List ℕ) → Some RenewLease ≡ Some c → (c ≡ RenewLease → row.credential ≡ id) → IsReplyBody c row t body → length body ≤ 2000
+unfolding IsReplyBody
 lease_body t id small RenewSelf row body e names is = absurd cc
 lease_body t id small RenewLease row body e names is =
     subst (λ (bs : List ℕ). length bs ≤ 2000) (sym is) (renewed_lease_short row.credential _ row.renewable (subst (λ (bs : List ℕ). length bs ≤ 256) (sym (names refl)) small) (seconds_small row.end t))
@@ -184,11 +184,11 @@ lease_body t id small LookupLease row body e names is = absurd cc
 -- and to that of a lease
 pub lease_fits :
     (port : ℕ) (owner : Option (List ℕ)) (id : List ℕ) (step' : ℕ) → length id ≤ 256 → IsUtf8 id → step' < 2 ^ 32 →
-    (l : Table) (t : ℕ) (sent : Served) → Says t (step l t (lease_renewal port owner id step')).answer sent → Fits sent
+    (l : BrokerTable) (t : ℕ) (sent : Served) → SaysAnswer t (broker_step l t (lease_renewal port owner id step')).answer sent → ReplyFits sent
 unfolding call_of
 lease_fits port owner id step' short utf8 small l t sent says =
     let r = lease_renewal port owner id step' in
-    fits t (step l t r).answer (λ c row body e is.
+    fits t (broker_step l t r).answer (λ c row body e is.
     let names = answer_names l t r c row e in
     lease_body t id short c row body names.0
     (λ same. names.1 id (Some step') (ap (λ (x : Call). asked x (lease_text id step')) same ∙ lease_renew_asked id step' utf8 small)) is) sent says

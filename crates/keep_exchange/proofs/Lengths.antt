@@ -5,7 +5,7 @@ use Rattle.std.specs.Char.{digit_char}
 use Rattle.json.specs.Print.{escape, escape_byte, escape_letter, quoted}
 use Rattle.broker_table.specs.declared.refusal.Refusal.{Refusal}
 use Rattle.broker_table.specs.declared.refusal.Refusal.TheVariants as refusals
-use Rattle.broker_table.specs.Request.{status_of, text_of}
+use Rattle.broker_table.specs.Request.{status_of_refusal, text_of_refusal}
 use Rattle.vault_http.specs.declared.reply.Reply.{Reply}
 use Rattle.vault_http.specs.declared.request.Request.{Request}
 use Rattle.vault_http.specs.Written.{body_lines, host_lines, is_get, last_lines, length_lines, phrase, reply_text, request_text, status_line, token_line}
@@ -136,8 +136,8 @@ errors_short text fits =
     let h0 = quoted_short text fits in
     omega (arith, l0, l2, long, h0)
 
-pub refusal_short : (refusal : Refusal) → length (text_of refusal) ≤ 256
-unfolding text_of
+pub refusal_short : (refusal : Refusal) → length (text_of_refusal refusal) ≤ 256
+unfolding text_of_refusal
 refusal_short refusals.UnsupportedPath = omega arith
 refusal_short refusals.UnsupportedMethod = omega arith
 refusal_short refusals.PermissionDenied = omega arith
@@ -209,7 +209,7 @@ ok_phrase = refl
 pub ok_short : length (status_line 200) ≤ 40
 ok_short = line_short 200 (omega arith) (let is = ok_phrase in omega (arith, is))
 
-refused_phrase : (refusal : Refusal) → length (phrase (status_of refusal)) ≤ 18
+refused_phrase : (refusal : Refusal) → length (phrase (status_of_refusal refusal)) ≤ 18
 unfolding phrase
 refused_phrase refusals.UnsupportedPath = let is : length (phrase 404) ≡ 9 = refl in omega (arith, is)
 refused_phrase refusals.UnsupportedMethod = let is : length (phrase 405) ≡ 18 = refl in omega (arith, is)
@@ -218,7 +218,7 @@ refused_phrase refusals.BadRequest = let is : length (phrase 400) ≡ 11 = refl 
 refused_phrase refusals.UnknownLease = let is : length (phrase 400) ≡ 11 = refl in omega (arith, is)
 refused_phrase refusals.NotRenewable = let is : length (phrase 400) ≡ 11 = refl in omega (arith, is)
 
-small_status : (refusal : Refusal) → status_of refusal < 2 ^ 32
+small_status : (refusal : Refusal) → status_of_refusal refusal < 2 ^ 32
 small_status refusals.UnsupportedPath = omega arith
 small_status refusals.UnsupportedMethod = omega arith
 small_status refusals.PermissionDenied = omega arith
@@ -226,8 +226,8 @@ small_status refusals.BadRequest = omega arith
 small_status refusals.UnknownLease = omega arith
 small_status refusals.NotRenewable = omega arith
 
-pub refused_short : (refusal : Refusal) → length (status_line (status_of refusal)) ≤ 40
-refused_short refusal = line_short (status_of refusal) (small_status refusal) (refused_phrase refusal)
+pub refused_short : (refusal : Refusal) → length (status_line (status_of_refusal refusal)) ≤ 40
+refused_short refusal = line_short (status_of_refusal refusal) (small_status refusal) (refused_phrase refusal)
 
 -- ---- whole texts
 

@@ -2,7 +2,7 @@
 use Rattle.std.proofs.Common.{◌≡◌, ℕ, length, inr, Bool, refl, subst, ap, ◌∙◌, Option, Some, None, IfSome, IfOk, Result, Ok, Err}
 use Rattle.std.proofs.lemmas.List.{length-set}
 use Rattle.keep_exchange.specs.Exchanges.{Behind, IsExchanged}
-use Rattle.keep_exchange.specs.Lookups.{LooksUp, behind_if, looked}
+use Rattle.keep_exchange.specs.Lookups.{LooksUp, behind_if, inventory_after_lookup}
 use Rattle.keep_exchange.specs.Requests.{lookup_of}
 use Rattle.keep_inventory.specs.declared.lookup.LookupFault.{LookupFault}
 use Rattle.keep_inventory.specs.Lookup.{lookup_fault, told}
@@ -13,7 +13,7 @@ use Rattle.vault_json.specs.declared.lookup.Lookup.{Lookup}
 
 of_lookup :
     {E : Type 0} (before new : Option Behind) (port t i : ℕ) (s after : Inventory) (reply : Reply) (result : Result Bool E) →
-    IfSome before (λ old. IsExchanged old.table t (lookup_of port s.credentials s.forest i) (Ok reply) new) → IfOk result (λ is. looked s i t (Ok reply) ≡ behind_if is after) →
+    IfSome before (λ old. IsExchanged old.table t (lookup_of port s.credentials s.forest i) (Ok reply) new) → IfOk result (λ is. inventory_after_lookup s i t (Ok reply) ≡ behind_if is after) →
     LooksUp port before t s i result after new
 of_lookup before new port t i s after reply (Ok is) done applied = record { came = Ok reply; exchanged = done; applied_is = applied }
 of_lookup None new port t i s after reply (Err fault) done applied = tt
@@ -21,7 +21,7 @@ of_lookup (Some old) new port t i s after reply (Err fault) done applied = inr (
 
 pub looked_up :
     {E : Type 0} (before new : Option Behind) (port t i : ℕ) (s after : Inventory) (request : Request) (reply : Reply) (result : Result Bool E) → request ≡ lookup_of port s.credentials s.forest i →
-    IfSome before (λ old. IsExchanged old.table t request (Ok reply) new) → IfOk result (λ is. looked s i t (Ok reply) ≡ behind_if is after) →
+    IfSome before (λ old. IsExchanged old.table t request (Ok reply) new) → IfOk result (λ is. inventory_after_lookup s i t (Ok reply) ≡ behind_if is after) →
     LooksUp port before t s i result after new
 looked_up before new port t i s after request reply result same done applied =
     of_lookup before new port t i s after reply result (subst (λ (r : Request). IfSome before (λ old. IsExchanged old.table t r (Ok reply) new)) same done) applied

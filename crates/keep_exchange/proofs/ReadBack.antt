@@ -6,13 +6,13 @@ use Rattle.keep_exchange.specs.Exchanges.{exchange_fault}
 use Rattle.vault_http.specs.declared.http_fault.HttpFault.{HttpFault}
 use Rattle.vault_http.specs.declared.http_fault.HttpFault.TheVariants as https
 use Rattle.keep_device.specs.Memory.{Supply, input_of, reads_needed, reads_of}
-use Rattle.vault_http.specs.Reading.{CountsMessage, Settles, SettlesReply, SettlesRequest}
+use Rattle.vault_http.specs.Reading.{CountsMessage, SettlesMessage, SettlesReply, SettlesRequest}
 use Rattle.keep_device.specs.declared.limits.TheConstants.{MOST_READS}
 use Rattle.vault_http.specs.declared.reply.Reply.{Reply}
 use Rattle.vault_http.specs.declared.request.Request.{Request}
-use Rattle.vault_http.specs.Messages.{IsReply, IsRequest}
+use Rattle.vault_http.specs.Messages.{IsHttpReply, IsHttpRequest}
 use Rattle.vault_http.specs.RoundTrip.{ReadsBackReply, is_sent}
-use Rattle.vault_http.specs.RoundTripRequest.{IsSendable, IsWritable, ReadsBackRequest, without_port}
+use Rattle.vault_http.specs.RoundTripRequest.{IsSendableRequest, IsWritable, ReadsBackRequest, without_port}
 use Rattle.vault_http.specs.Written.{reply_text, request_text}
 
 -- the message, or lack of memory
@@ -26,7 +26,7 @@ no_message message fault e = cc
 pub read_back :
     {A : Type 0} (HasNoHead : List ℕ → Type 0) (IsAnswer : List ℕ → Result A HttpFault → Type 0) (bytes : List ℕ) (left : Option (List ℕ)) (before now : ℕ) (message : A) →
     before ≤ MOST_READS → ((answer : Result A HttpFault) → IsAnswer bytes answer → answer ≡ Ok message) →
-    (result : Result A HttpFault) → CountsMessage result 0 0 → Settles HasNoHead IsAnswer bytes left before now result → Reads message result
+    (result : Result A HttpFault) → CountsMessage result 0 0 → SettlesMessage HasNoHead IsAnswer bytes left before now result → Reads message result
 read_back HasNoHead IsAnswer bytes left before now message few one (Ok x) count said = let same : Ok x ≡ Ok message = one (Ok x) said in cc
 read_back HasNoHead IsAnswer bytes left before now message few one (Err https.ReadFailed) count said = let wrong : 0 ≡ 1 = count in let no' : ⊥ = omega (arith, wrong) in absurd no'
 read_back HasNoHead IsAnswer bytes left before now message few one (Err https.OutOfMemory) count said = refl
@@ -70,10 +70,10 @@ pub request_read :
     Reads (without_port r) result
 request_read source now r law writable port short is none result count said =
     let within = body_in_request r in
-    let sendable : IsSendable r = record { writable = writable; short = omega (arith, within, short); port = port } in
-    let one : (answer : Result Request HttpFault) → IsRequest 1048576 source.bytes answer → answer ≡ Ok (without_port r) =
-    λ answer h. law sendable [] 1048576 short answer (subst (λ bs. IsRequest 1048576 bs answer) (is ∙ sym (append-nil (request_text r))) h) in
-    read_back _ (IsRequest 1048576) source.bytes (Some now.bytes) (reads_needed source) (reads_needed now) (without_port r)
+    let sendable : IsSendableRequest r = record { writable = writable; short = omega (arith, within, short); port = port } in
+    let one : (answer : Result Request HttpFault) → IsHttpRequest 1048576 source.bytes answer → answer ≡ Ok (without_port r) =
+    λ answer h. law sendable [] 1048576 short answer (subst (λ bs. IsHttpRequest 1048576 bs answer) (is ∙ sym (append-nil (request_text r))) h) in
+    read_back _ (IsHttpRequest 1048576) source.bytes (Some now.bytes) (reads_needed source) (reads_needed now) (without_port r)
     (few_reads source.bytes (request_text r) source.pieces is none short) one result count said
 
 pub reply_read :
@@ -82,9 +82,9 @@ pub reply_read :
     Reads r result
 reply_read source now r law sent short is none result count said =
     let within = body_in_reply r in
-    let one : (answer : Result Reply HttpFault) → IsReply 1048576 source.bytes answer → answer ≡ Ok r =
-    λ answer h. law sent (omega (arith, within, short)) [] 1048576 short answer (subst (λ bs. IsReply 1048576 bs answer) (is ∙ sym (append-nil (reply_text r))) h) in
-    read_back _ (IsReply 1048576) source.bytes (Some now.bytes) (reads_needed source) (reads_needed now) r
+    let one : (answer : Result Reply HttpFault) → IsHttpReply 1048576 source.bytes answer → answer ≡ Ok r =
+    λ answer h. law sent (omega (arith, within, short)) [] 1048576 short answer (subst (λ bs. IsHttpReply 1048576 bs answer) (is ∙ sym (append-nil (reply_text r))) h) in
+    read_back _ (IsHttpReply 1048576) source.bytes (Some now.bytes) (reads_needed source) (reads_needed now) r
     (few_reads source.bytes (reply_text r) source.pieces is none short) one result count said
 
 -- lack of memory, as the fault of an exchange

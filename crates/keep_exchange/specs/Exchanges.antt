@@ -6,8 +6,8 @@ use Rattle.keep_exchange.specs.declared.fault.ExchangeFault.{ExchangeFault}
 use Rattle.keep_exchange.specs.declared.fault.ExchangeFault.TheVariants.{ConnectFailed, WriteFailed, Http, OutOfMemory}
 use Rattle.broker_table.specs.declared.served.Served.{Served}
 use Rattle.broker_table.specs.declared.served.Served.TheVariants as served
-use Rattle.broker_table.specs.Table.{Table}
-use Rattle.broker_table.specs.Step.{Says, after_sweep, step}
+use Rattle.broker_table.specs.Table.{BrokerTable}
+use Rattle.broker_table.specs.Step.{SaysAnswer, after_sweep, broker_step}
 use Rattle.vault_http.specs.declared.http_fault.HttpFault.{HttpFault}
 use Rattle.vault_http.specs.declared.http_fault.HttpFault.TheVariants as https
 use Rattle.vault_http.specs.declared.reply.Reply.{Reply}
@@ -19,7 +19,7 @@ use Rattle.vault_http.specs.Written.{reply_text, request_text}
 
 -- what stands after an exchange in memory: the broker's table, and the bytes of the last request and its reply, if one came
 pub record Behind : Type 0 where
-  pub table : Table
+  pub table : BrokerTable
   pub wire : List ℕ
 
 -- what is received of what a broker sends: a reply that is not sent ends before it begins, and one of more bytes than are
@@ -29,9 +29,9 @@ received (served.Reply reply) = if nat_le (length (reply_text reply)) MOST_MESSA
 received served.Dropped = Err (Http https.Truncated)
 
 -- the reply that came, if one did
-abbrev pub reply_of : Result Reply ExchangeFault → Option Reply
-reply_of (Ok reply) = Some reply
-reply_of (Err fault) = None
+abbrev pub reply_that_came : Result Reply ExchangeFault → Option Reply
+reply_that_came (Ok reply) = Some reply
+reply_that_came (Err fault) = None
 
 -- the bytes that an exchange leaves: those of the request and of its reply, one after the other; and none where no reply came
 abbrev pub wire_of : Request → Option Reply → List ℕ
@@ -39,20 +39,20 @@ wire_of r (Some reply) = request_text r ++ reply_text reply
 wire_of r None = []
 
 -- the request is served at t by the Broker step, and the messages of both are carried
-pub record IsExchanged (old : Table) (t : ℕ) (r : Request) (result : Result Reply ExchangeFault) (new : Option Behind) : Type 0 where
+pub record IsExchanged (old : BrokerTable) (t : ℕ) (r : Request) (result : Result Reply ExchangeFault) (new : Option Behind) : Type 0 where
   pub sent : Served
-  pub says : Says t (step old t r).answer sent
+  pub says : SaysAnswer t (broker_step old t r).answer sent
   pub received_as : result ≡ received sent
-  pub is : new ≡ Some (record { table = (step old t r).table; wire = wire_of r (reply_of result) })
+  pub is : new ≡ Some (record { table = (broker_step old t r).table; wire = wire_of r (reply_that_came result) })
 
 -- memory was wanting, before, while or after the request was served: nothing is told of the messages
-pub record IsGivenUp (old : Table) (t : ℕ) (r : Request) (new : Option Behind) : Type 0 where
-  pub table : Table
-  pub left : (table ≡ old) ⊎ ((table ≡ after_sweep old t) ⊎ (table ≡ (step old t r).table))
+pub record IsGivenUp (old : BrokerTable) (t : ℕ) (r : Request) (new : Option Behind) : Type 0 where
+  pub table : BrokerTable
+  pub left : (table ≡ old) ⊎ ((table ≡ after_sweep old t) ⊎ (table ≡ (broker_step old t r).table))
   pub is : new ≡ Some (record { table = table; wire = [] })
 
 -- what one exchange comes to
-abbrev pub Exchanges : Table → ℕ → Request → Result Reply ExchangeFault → Option Behind → Type 0
+abbrev pub Exchanges : BrokerTable → ℕ → Request → Result Reply ExchangeFault → Option Behind → Type 0
 Exchanges old t r (Err OutOfMemory) new = IsGivenUp old t r new
 Exchanges old t r result new = IsExchanged old t r result new
 

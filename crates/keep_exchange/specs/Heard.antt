@@ -17,42 +17,42 @@ use Rattle.vault_json.specs.Lookup.{never_ends_answer}
 use Rattle.vault_json.specs.Renewed.{renew_lease_answer, renew_self_answer}
 
 -- a reply whose status is not 200
-abbrev pub refuses : {T : Type 0} → ℕ → Option ℕ → Heard T
-refuses status date =
+abbrev pub refused_by_status : {T : Type 0} → ℕ → Option ℕ → Heard T
+refused_by_status status date =
     if status == 400 || (status == 403 || (status == 404 || status == 405)) then Refused status date else (if status == 429 then Busy else Lost)
 
 -- what was told, if it was
-abbrev pub told_at : {T : Type 0} → Option ℕ → Option T → Heard T
-told_at date (Some x) = Told x date
-told_at date None = Lost
+abbrev pub told_with_date : {T : Type 0} → Option ℕ → Option T → Heard T
+told_with_date date (Some x) = Told x date
+told_with_date date None = Lost
 
 -- ---- a renewal
 
-abbrev pub of_token : Result Renewed ReplyFault → Option Renewed
-of_token (Ok r) = Some r
-of_token (Err fault) = None
+abbrev pub renewed_of_token : Result Renewed ReplyFault → Option Renewed
+renewed_of_token (Ok r) = Some r
+renewed_of_token (Err fault) = None
 
 -- of a lease, with the lease id that was asked
-abbrev pub of_lease : List ℕ → Result RenewedLease ReplyFault → Option Renewed
-of_lease id (Ok r) = if bytes_eq r.lease_id id then Some (record { seconds = r.seconds; renewable = r.renewable }) else None
-of_lease id (Err fault) = None
+abbrev pub renewed_of_lease : List ℕ → Result RenewedLease ReplyFault → Option Renewed
+renewed_of_lease id (Ok r) = if bytes_eq r.lease_id id then Some (record { seconds = r.seconds; renewable = r.renewable }) else None
+renewed_of_lease id (Err fault) = None
 
 abbrev pub renewed_in : Kind → List ℕ → List ℕ → Option Renewed
-renewed_in Token id body = of_token (renew_self_answer body)
-renewed_in Lease id body = of_lease id (renew_lease_answer body)
+renewed_in Token id body = renewed_of_token (renew_self_answer body)
+renewed_in Lease id body = renewed_of_lease id (renew_lease_answer body)
 
-unfoldable pub renewed_by : Kind → List ℕ → DatedReply → Heard Renewed
-renewed_by kind id d = if d.reply.status == 200 then told_at d.date (renewed_in kind id d.reply.body) else refuses d.reply.status d.date
+unfoldable pub renewed_by_reply : Kind → List ℕ → DatedReply → Heard Renewed
+renewed_by_reply kind id d = if d.reply.status == 200 then told_with_date d.date (renewed_in kind id d.reply.body) else refused_by_status d.reply.status d.date
 
 -- ---- a lookup
 
-abbrev pub is_told : Result Bool ReplyFault → Bool
-is_told (Ok b) = b
-is_told (Err fault) = false
+abbrev pub told_or_false : Result Bool ReplyFault → Bool
+told_or_false (Ok b) = b
+told_or_false (Err fault) = false
 
 -- a lease never tells that it has no end
 abbrev pub has_no_end : Kind → List ℕ → Bool
-has_no_end Token body = is_told (never_ends_answer body)
+has_no_end Token body = told_or_false (never_ends_answer body)
 has_no_end Lease body = false
 
 abbrev pub looked_of : Bool → Result Lookup ReplyFault → Option Terms
@@ -62,5 +62,5 @@ looked_of never (Err fault) = None
 abbrev pub looked_in : Kind → List ℕ → Option Terms
 looked_in kind body = looked_of (has_no_end kind body) (lookup_in kind body)
 
-unfoldable pub looked_up : Kind → DatedReply → Heard Terms
-looked_up kind d = if d.reply.status == 200 then told_at d.date (looked_in kind d.reply.body) else refuses d.reply.status d.date
+unfoldable pub looked_up_by_reply : Kind → DatedReply → Heard Terms
+looked_up_by_reply kind d = if d.reply.status == 200 then told_with_date d.date (looked_in kind d.reply.body) else refused_by_status d.reply.status d.date

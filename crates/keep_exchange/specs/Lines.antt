@@ -12,14 +12,14 @@ use Rattle.vault_http.specs.Reading.{SettlesReply}
 use Rattle.vault_http.specs.Written.{request_text}
 
 -- the request is written whole, once, and this is what is read after it
-abbrev pub Reads : Request → Change → Result Reply HttpFault → Type 0
-Reads r line read = Receives (request_text r) line × SettlesReply MOST_MESSAGE line.old.input line.new.input read
+abbrev pub ReadsReply : Request → Change → Result Reply HttpFault → Type 0
+ReadsReply r line read = Receives (request_text r) line × SettlesReply MOST_MESSAGE line.old.input line.new.input read
 
 -- one exchange over a line: the request is written and the reply read; or no more than a front of the request is written, and
 -- nothing is read. Memory may be wanting before, between and after
 abbrev pub Carries : Request → Change → Result Reply ExchangeFault → Type 0
-Carries r line (Ok reply) = Reads r line (Ok reply)
-Carries r line (Err (Http fault)) = Reads r line (Err fault)
+Carries r line (Ok reply) = ReadsReply r line (Ok reply)
+Carries r line (Err (Http fault)) = ReadsReply r line (Err fault)
 Carries r line (Err WriteFailed) = ReceivesFront (request_text r) line × (line.new.input ≡ line.old.input)
 Carries r line (Err OutOfMemory) =
     ReceivesFront (request_text r) line ⊎ Receives (request_text r) line

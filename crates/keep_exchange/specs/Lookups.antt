@@ -10,7 +10,7 @@ use Rattle.keep_inventory.specs.Inventories.{Inventory}
 use Rattle.keep_tree.specs.declared.entry.Kind.{Kind}
 use Rattle.keep_tree.specs.declared.entry.Kind.TheVariants.{Token, Lease}
 use Rattle.keep_tree.specs.Forest.{entry_at}
-use Rattle.broker_table.specs.Table.{Table}
+use Rattle.broker_table.specs.Table.{BrokerTable}
 use Rattle.vault_http.specs.declared.reply.Reply.{Reply}
 use Rattle.vault_http.specs.declared.request.Request.{Request}
 use Rattle.vault_json.specs.declared.fault.ReplyFault.{ReplyFault}
@@ -28,9 +28,9 @@ applied s i t (Ok lookup) = if is_none (lookup_fault s i lookup) then Some (told
 applied s i t (Err fault) = None
 
 -- of the reply to a lookup at t, which is nothing but a 200
-abbrev pub looked : Inventory → ℕ → ℕ → Result Reply ExchangeFault → Option Inventory
-looked s i t (Ok r) = if r.status == 200 then applied s i t (lookup_in (entry_at s.forest.entries i).kind r.body) else None
-looked s i t (Err fault) = None
+abbrev pub inventory_after_lookup : Inventory → ℕ → ℕ → Result Reply ExchangeFault → Option Inventory
+inventory_after_lookup s i t (Ok r) = if r.status == 200 then applied s i t (lookup_in (entry_at s.forest.entries i).kind r.body) else None
+inventory_after_lookup s i t (Err fault) = None
 
 -- the inventory after it, where there is one
 abbrev pub behind_if : Bool → Inventory → Option Inventory
@@ -38,21 +38,21 @@ behind_if is s = if is then Some s else None
 
 -- the entry i is looked up at t, and what came of it is applied, if it can be. Where the broker's table is known, that is what is
 -- received of the answer of its step
-pub record IsLookedUp (port : ℕ) (old : Option Behind) (t : ℕ) (s : Inventory) (i : ℕ) (is_applied : Bool) (after : Inventory) (new : Option Behind) : Type 0 where
+pub record EntryIsLookedUp (port : ℕ) (old : Option Behind) (t : ℕ) (s : Inventory) (i : ℕ) (is_applied : Bool) (after : Inventory) (new : Option Behind) : Type 0 where
   pub came : Result Reply ExchangeFault
   pub exchanged : IfSome old (λ b. IsExchanged b.table t (lookup_of port s.credentials s.forest i) came new)
-  pub applied_is : looked s i t came ≡ behind_if is_applied after
+  pub applied_is : inventory_after_lookup s i t came ≡ behind_if is_applied after
 
 -- the request was served, and a reply came
-abbrev pub IsServed : Table → ℕ → Request → Option Behind → Type 0
-IsServed old t r new = (reply : Reply) × IsExchanged old t r (Ok reply) new
+abbrev pub LookupIsServed : BrokerTable → ℕ → Request → Option Behind → Type 0
+LookupIsServed old t r new = (reply : Reply) × IsExchanged old t r (Ok reply) new
 
 -- where memory was wanting, and the table is known, there may have been no exchange, or one whose reply was not read
 abbrev pub IsLookupLeft : ℕ → Option Behind → ℕ → Inventory → ℕ → Option Behind → Type 0
 IsLookupLeft port old t s i new =
-    IfSome old (λ b. (new ≡ Some b) ⊎ (IsGivenUp b.table t (lookup_of port s.credentials s.forest i) new ⊎ IsServed b.table t (lookup_of port s.credentials s.forest i) new))
+    IfSome old (λ b. (new ≡ Some b) ⊎ (IsGivenUp b.table t (lookup_of port s.credentials s.forest i) new ⊎ LookupIsServed b.table t (lookup_of port s.credentials s.forest i) new))
 
 -- what a lookup comes to
 abbrev pub LooksUp : {E : Type 0} → ℕ → Option Behind → ℕ → Inventory → ℕ → Result Bool E → Inventory → Option Behind → Type 0
-LooksUp port old t s i (Ok is_applied) after new = IsLookedUp port old t s i is_applied after new
+LooksUp port old t s i (Ok is_applied) after new = EntryIsLookedUp port old t s i is_applied after new
 LooksUp port old t s i (Err fault) after new = IsLookupLeft port old t s i new

@@ -11,8 +11,8 @@ use Rattle.keep_tree.specs.Forest.{Forest, entry_at}
 use Rattle.broker_table.specs.declared.served.Served.{Served}
 use Rattle.broker_table.specs.declared.served.Served.TheVariants as served
 use Rattle.vault_http.specs.declared.known.TheConstants.{MOST_MESSAGE}
-use Rattle.broker_table.specs.Table.{Table}
-use Rattle.broker_table.specs.Step.{Says, step}
+use Rattle.broker_table.specs.Table.{BrokerTable}
+use Rattle.broker_table.specs.Step.{SaysAnswer, broker_step}
 use Rattle.vault_http.specs.declared.reply.Reply.{Reply}
 use Rattle.vault_http.specs.declared.request.Request.{Request}
 use Rattle.vault_http.specs.RoundTripRequest.{IsWritable}
@@ -35,8 +35,8 @@ asked_as Token port cs i e = token_renewal port (credential_at cs i) e.step
 asked_as Lease port cs i e = lease_renewal port (option_map (credential_at cs) e.parent) (credential_at cs i) e.step
 
 -- the request that renews the entry i
-unfoldable pub request_of : ℕ → List (List ℕ) → Forest → ℕ → Request
-request_of port cs g i = asked_as (entry_at g.entries i).kind port cs i (entry_at g.entries i)
+unfoldable pub renewal_request : ℕ → List (List ℕ) → Forest → ℕ → Request
+renewal_request port cs g i = asked_as (entry_at g.entries i).kind port cs i (entry_at g.entries i)
 
 -- a token is looked up with its own credential, a lease with that of the token it belongs to
 abbrev pub token_looked : ℕ → List ℕ → Request
@@ -56,33 +56,33 @@ lookup_of port cs g i = looked_as (entry_at g.entries i).kind port cs i (entry_a
 -- ---- what comes back
 
 -- what of that is a reply
-abbrev pub reply_in : Served → Option Reply
-reply_in (served.Reply reply) = Some reply
-reply_in served.Dropped = None
+abbrev pub reply_in_served : Served → Option Reply
+reply_in_served (served.Reply reply) = Some reply
+reply_in_served served.Dropped = None
 
 -- a reply, if it is one, that is not longer than is read
-abbrev pub Fits : Served → Type 0
-Fits (served.Reply reply) = length (reply_text reply) ≤ MOST_MESSAGE
-Fits served.Dropped = Unit {0}
+abbrev pub ReplyFits : Served → Type 0
+ReplyFits (served.Reply reply) = length (reply_text reply) ≤ MOST_MESSAGE
+ReplyFits served.Dropped = Unit {0}
 
 -- a request of at most 1 MiB
-abbrev pub IsShort : Request → Type 0
-IsShort r = length (request_text r) ≤ MOST_MESSAGE
+abbrev pub IsShortRequest : Request → Type 0
+IsShortRequest r = length (request_text r) ≤ MOST_MESSAGE
 
 -- a request that can be written and read, and whose replies can be read
-pub record IsFit (r : Request) : Type 0 where
+pub record RequestIsFit (r : Request) : Type 0 where
   pub writable : IsWritable r
-  pub short : IsShort r
-  pub answered : (l : Table) (t : ℕ) (sent : Served) → Says t (step l t r).answer sent → Fits sent
+  pub short : IsShortRequest r
+  pub answered : (l : BrokerTable) (t : ℕ) (sent : Served) → SaysAnswer t (broker_step l t r).answer sent → ReplyFits sent
 
 -- the request was served at t, and its reply read, if there was one
-pub record IsAsked (old : Table) (t : ℕ) (r : Request) (reply : Option Reply) (new : Option Behind) : Type 0 where
+pub record RequestIsAsked (old : BrokerTable) (t : ℕ) (r : Request) (reply : Option Reply) (new : Option Behind) : Type 0 where
   pub sent : Served
-  pub says : Says t (step old t r).answer sent
-  pub reply_is : reply ≡ reply_in sent
-  pub is : new ≡ Some (record { table = (step old t r).table; wire = wire_of r reply })
+  pub says : SaysAnswer t (broker_step old t r).answer sent
+  pub reply_is : reply ≡ reply_in_served sent
+  pub is : new ≡ Some (record { table = (broker_step old t r).table; wire = wire_of r reply })
 
 -- what asking comes to; where memory was wanting there may have been no exchange
-abbrev pub Asks : {E : Type 0} → Behind → ℕ → Request → Result (Option Reply) E → Option Behind → Type 0
-Asks old t r (Ok reply) new = IsAsked old.table t r reply new
-Asks old t r (Err fault) new = (new ≡ Some old) ⊎ IsGivenUp old.table t r new
+abbrev pub ExchangeAsks : {E : Type 0} → Behind → ℕ → Request → Result (Option Reply) E → Option Behind → Type 0
+ExchangeAsks old t r (Ok reply) new = RequestIsAsked old.table t r reply new
+ExchangeAsks old t r (Err fault) new = (new ≡ Some old) ⊎ IsGivenUp old.table t r new

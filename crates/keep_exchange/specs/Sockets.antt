@@ -9,7 +9,7 @@ use Rattle.keep_device.specs.declared.place.Place.{Place}
 use Rattle.keep_device.specs.declared.place.Place.TheVariants.{Port, Path}
 use Rattle.keep_device.specs.Seen.{Change}
 use Rattle.broker_table.specs.Stream.{IsStreamed}
-use Rattle.broker_table.specs.Table.{Table}
+use Rattle.broker_table.specs.Table.{BrokerTable}
 use Rattle.vault_http.specs.declared.reply.Reply.{Reply}
 
 -- an exchange, one request after another: where its broker listens, the longest time that a call may take, in nanoseconds,
@@ -21,9 +21,9 @@ pub record Socket : Type 0 where
   pub failures : ℕ
 
 -- an exchange with a table that is served in the same thread, at a port
-pub record Served : Type 0 where
+pub record ServedTable : Type 0 where
   pub port : ℕ
-  pub table : Table
+  pub table : BrokerTable
   pub failures : ℕ
 
 -- the port that requests to a broker at that place name
@@ -69,5 +69,5 @@ abbrev pub IsHere : ℕ → SocketAddr → Type 0
 IsHere port address = (socket_port address ≡ port) × MatchIp (socket_ip address) (λ ip. ipv4_octets ip ≡ 127 ∷ 0 ∷ 0 ∷ 1 ∷ []) (λ ip. ⊥)
 
 -- one message that some client has sent was handled at t
-abbrev pub IsServedOnce : Table → ℕ → Table → Type 0
+abbrev pub IsServedOnce : BrokerTable → ℕ → BrokerTable → Type 0
 IsServedOnce old t new = (stream : Change) × IsStreamed stream old t new

@@ -1,5 +1,5 @@
 ghost use Rattle.std.specs.Prelude.{◌≡◌, ◌≢◌, ◌<◌, IfSome, None, Ok, length};
-ghost use Rattle.keep_exchange.specs.Requests.{Asks, request_of};
+ghost use Rattle.keep_exchange.specs.Requests.{ExchangeAsks, renewal_request};
 ghost use Rattle.keep_exchange.specs.Sockets.{PacesAsked};
 
 use crate::exchange::Exchange;
@@ -27,7 +27,7 @@ pub fn ask<E: Exchange>(
 ) -> Result<Option<Reply>, AllocError>
     requires within { i < length forest.now.entries }
     requires credentials { length credentials.now ≡ length forest.now.entries }
-    ensures asked { IfSome (E.behind exchange.old) (λ old. Asks old t (request_of (E.host_port exchange.old) credentials.now forest.now i) result (E.behind exchange.new)) }
+    ensures asked { IfSome (E.behind exchange.old) (λ old. ExchangeAsks old t (renewal_request (E.host_port exchange.old) credentials.now forest.now i) result (E.behind exchange.new)) }
     ensures unanswered { result ≢ Ok None → (E.seen exchange.new).failed_calls ≡ (E.seen exchange.old).failed_calls }
     ensures longest { E.longest exchange.new ≡ E.longest exchange.old }
     ensures limit { PacesAsked result (E.longest exchange.old) (E.limit exchange.old) (E.limit exchange.new) }

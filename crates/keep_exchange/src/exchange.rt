@@ -1,7 +1,7 @@
 ghost use Rattle.std.specs.Prelude.{◌≡◌, ◌≤◌, ℕ, Option, IfSome, IsTrue, length};
 ghost use Rattle.vault_http.specs.RoundTripRequest.{IsWritable};
 ghost use Rattle.keep_exchange.specs.Exchanges.{Behind, Exchanges, CountsExchange};
-ghost use Rattle.keep_exchange.specs.Requests.{IsShort};
+ghost use Rattle.keep_exchange.specs.Requests.{IsShortRequest};
 ghost use Rattle.keep_exchange.specs.Sockets.{Paces};
 
 use crate::ExchangeFault;
@@ -55,7 +55,7 @@ pub trait Exchange: Device {
         request: &Request,
     ) -> Result<Reply, ExchangeFault>
         requires writable { IsWritable request.now }
-        requires short { IsShort request.now }
+        requires short { IsShortRequest request.now }
         ensures exchanged { IfSome (Self.behind self.old) (λ old. Exchanges old.table t request.now result (Self.behind self.new)) }
         ensures count { CountsExchange result (Self.seen self.old).failed_calls (Self.seen self.new).failed_calls }
         ensures longest { Self.longest self.new ≡ Self.longest self.old }
@@ -68,7 +68,7 @@ pub trait Exchange: Device {
 #[tactic(auto, using(crate::proofs::Sendable::carried))]
 pub fn can_carry(request: &Request) -> bool
     ensures writable { IsTrue result → IsWritable request.now }
-    ensures short { IsTrue result → IsShort request.now }
+    ensures short { IsTrue result → IsShortRequest request.now }
     ensures each { IsWritable request.now → length request.now.body ≤ 2000 → IsTrue result }
 {
     is_port(request.port);

@@ -1,6 +1,6 @@
 //! What a reply comes to, for who keeps a watch.
 ghost use Rattle.std.specs.Prelude.{◌≡◌, IfOk};
-ghost use Rattle.keep_exchange.specs.Heard.{has_no_end, looked_in, looked_up, refuses, renewed_by, renewed_in};
+ghost use Rattle.keep_exchange.specs.Heard.{has_no_end, looked_in, looked_up_by_reply, refused_by_status, renewed_by_reply, renewed_in};
 
 use crate::looking::lookup_in;
 use keep_moment::Moment;
@@ -34,14 +34,14 @@ pub struct Terms {
 }
 
 /// What the reply to the renewal of an entry of that kind and credential comes to. The only error is out of memory.
-#[tactic(auto, unfolding(crate::specs::Heard::renewed_by))]
+#[tactic(auto, unfolding(crate::specs::Heard::renewed_by_reply))]
 pub fn hear_renewal(
     alloc: Global,
     kind: Kind,
     id: &[u8],
     dated: &DatedReply,
 ) -> Result<Heard<Renewed>, AllocError>
-    ensures { IfOk result (λ heard. heard ≡ renewed_by kind id.now dated.now) }
+    ensures { IfOk result (λ heard. heard ≡ renewed_by_reply kind id.now dated.now) }
 {
     if dated.reply.status != 200 {
         return Ok(refused(dated.reply.status, dated.date));
@@ -53,13 +53,13 @@ pub fn hear_renewal(
 }
 
 /// What the reply to the lookup of an entry of that kind comes to. The only error is out of memory.
-#[tactic(auto, unfolding(crate::specs::Heard::looked_up))]
+#[tactic(auto, unfolding(crate::specs::Heard::looked_up_by_reply))]
 pub fn hear_lookup(
     alloc: Global,
     kind: Kind,
     dated: &DatedReply,
 ) -> Result<Heard<Terms>, AllocError>
-    ensures { IfOk result (λ heard. heard ≡ looked_up kind dated.now) }
+    ensures { IfOk result (λ heard. heard ≡ looked_up_by_reply kind dated.now) }
 {
     if dated.reply.status != 200 {
         return Ok(refused(dated.reply.status, dated.date));
@@ -72,7 +72,7 @@ pub fn hear_lookup(
 
 /// What a reply comes to that does not say what was asked.
 fn refused<T>(status: u16, date: Option<Moment>) -> Heard<T>
-    ensures { result ≡ refuses status date }
+    ensures { result ≡ refused_by_status status date }
 {
     match status {
         400 | 403 | 404 | 405 => Heard::Refused(status, date),

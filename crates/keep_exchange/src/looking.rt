@@ -1,8 +1,8 @@
 ghost use Rattle.std.specs.Prelude.{◌≡◌, ◌<◌, ◌≢◌, IfOk, IfSome, IsUtf8, Ok, false, true, length};
-ghost use Rattle.keep_exchange.specs.Lookups.{LooksUp, lookup_in, looked, behind_if};
-ghost use Rattle.keep_exchange.specs.Requests.{IsShort, lease_looked, lookup_of, token_looked};
+ghost use Rattle.keep_exchange.specs.Lookups.{LooksUp, lookup_in, inventory_after_lookup, behind_if};
+ghost use Rattle.keep_exchange.specs.Requests.{IsShortRequest, lease_looked, lookup_of, token_looked};
 ghost use Rattle.keep_exchange.specs.Sockets.{PacesLooked, Slows};
-ghost use Rattle.keep_inventory.specs.Inventories.{IsSendable};
+ghost use Rattle.keep_inventory.specs.Inventories.{IsSendableText};
 ghost use Rattle.vault_http.specs.RoundTripRequest.{IsWritable};
 ghost use Rattle.vault_json.specs.Answer.{Gives};
 
@@ -65,7 +65,7 @@ pub fn lookup_for(
     requires { i < length inventory.now.forest.entries }
     ensures is { IfOk result (λ r. r ≡ lookup_of port inventory.now.credentials inventory.now.forest i) }
     ensures writable { IfOk result IsWritable }
-    ensures short { IfOk result IsShort }
+    ensures short { IfOk result IsShortRequest }
 {
     let entry = inventory.forest().get(i);
     match entry.kind {
@@ -89,7 +89,7 @@ fn apply(
     reply: &Reply,
 ) -> Result<bool, AllocError>
     requires { i < length inventory.old.forest.entries }
-    ensures applied { IfOk result (λ is. looked inventory.old i t (Ok reply.now) ≡ behind_if is inventory.new) }
+    ensures applied { IfOk result (λ is. inventory_after_lookup inventory.old i t (Ok reply.now) ≡ behind_if is inventory.new) }
     ensures unapplied { result ≢ Ok true → inventory.new ≡ inventory.old }
     ensures count { length inventory.new.forest.entries ≡ length inventory.old.forest.entries }
 {
@@ -115,10 +115,10 @@ pub(crate) fn lookup_in(alloc: Global, kind: Kind, body: &[u8]) -> Result<Lookup
 }
 
 fn token_lookup(alloc: Global, port: u16, credential: &[u8]) -> Result<Request, AllocError>
-    requires { IsSendable credential.now }
+    requires { IsSendableText credential.now }
     ensures is { IfOk result (λ r. r ≡ token_looked port credential.now) }
     ensures writable { IfOk result IsWritable }
-    ensures short { IfOk result IsShort }
+    ensures short { IfOk result IsShortRequest }
 {
     is_port(port);
     let request = token_message(alloc, port, credential)?;
@@ -143,11 +143,11 @@ fn lease_lookup(
     owner: Option<Text>,
     id: &[u8],
 ) -> Result<Request, AllocError>
-    requires owner { IfSome owner IsSendable }
-    requires id { IsSendable id.now }
+    requires owner { IfSome owner IsSendableText }
+    requires id { IsSendableText id.now }
     ensures is { IfOk result (λ r. r ≡ lease_looked port owner id.now) }
     ensures writable { IfOk result IsWritable }
-    ensures short { IfOk result IsShort }
+    ensures short { IfOk result IsShortRequest }
 {
     is_port(port);
     credentials_are_sendable();

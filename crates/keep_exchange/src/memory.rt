@@ -1,5 +1,5 @@
 ghost use Rattle.std.specs.Prelude.{◌≡◌, [], Some};
-ghost use Rattle.keep_device.specs.Seen.{outside};
+ghost use Rattle.keep_device.specs.Seen.{outside_device};
 
 use crate::exchange::Exchange;
 use crate::fault::ExchangeFault;
@@ -77,7 +77,7 @@ impl MemoryExchange {
 }
 
 impl Device for MemoryExchange {
-    ghost seen = { λ _. outside 0 };
+    ghost seen = { λ _. outside_device 0 };
 
     fn failures(&self) -> u64 {
         0

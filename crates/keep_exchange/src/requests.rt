@@ -1,6 +1,6 @@
 ghost use Rattle.std.specs.Prelude.{◌≡◌, ◌<◌, ◌^◌, IfOk, IfSome, IsUtf8, length};
-ghost use Rattle.keep_exchange.specs.Requests.{IsFit, lease_renewal, request_of, token_renewal};
-ghost use Rattle.keep_inventory.specs.Inventories.{IsSendable};
+ghost use Rattle.keep_exchange.specs.Requests.{RequestIsFit, lease_renewal, renewal_request, token_renewal};
+ghost use Rattle.keep_inventory.specs.Inventories.{IsSendableText};
 
 use http::Method;
 use keep_inventory::{Credentials, credentials_are_sendable};
@@ -12,7 +12,7 @@ use vault_json::{lease_body, renew_body};
 
 /// The request that renews an entry, to a broker at that port: a token is asked with its own credential, a lease with that
 /// of the token that it belongs to; each for its fixed step. The only error is out of memory.
-#[tactic(auto, unfolding(crate::specs::Requests::request_of))]
+#[tactic(auto, unfolding(crate::specs::Requests::renewal_request))]
 pub fn request_for(
     alloc: Global,
     port: u16,
@@ -22,8 +22,8 @@ pub fn request_for(
 ) -> Result<Request, AllocError>
     requires within { i < length forest.now.entries }
     requires credentials { length credentials.now ≡ length forest.now.entries }
-    ensures is { IfOk result (λ r. r ≡ request_of port credentials.now forest.now i) }
-    ensures fit { IfOk result IsFit }
+    ensures is { IfOk result (λ r. r ≡ renewal_request port credentials.now forest.now i) }
+    ensures fit { IfOk result RequestIsFit }
 {
     let entry = forest.get(i);
     match entry.kind {
@@ -45,9 +45,9 @@ fn token_request(
     credential: &[u8],
     step: u32,
 ) -> Result<Request, AllocError>
-    requires { IsSendable credential.now }
+    requires { IsSendableText credential.now }
     ensures is { IfOk result (λ r. r ≡ token_renewal port credential.now step) }
-    ensures fit { IfOk result IsFit }
+    ensures fit { IfOk result RequestIsFit }
 {
     are_bounded(port, step);
     let request = token_message(alloc, port, credential, step)?;
@@ -79,10 +79,10 @@ fn lease_request(
     id: &[u8],
     step: u32,
 ) -> Result<Request, AllocError>
-    requires owner { IfSome owner IsSendable }
-    requires id { IsSendable id.now }
+    requires owner { IfSome owner IsSendableText }
+    requires id { IsSendableText id.now }
     ensures is { IfOk result (λ r. r ≡ lease_renewal port owner id.now step) }
-    ensures fit { IfOk result IsFit }
+    ensures fit { IfOk result RequestIsFit }
 {
     are_bounded(port, step);
     credentials_are_sendable();

@@ -1,6 +1,6 @@
 ghost use Rattle.std.specs.Prelude.{◌≡◌, ◌⊎◌, None, IfOk, OnOk};
 ghost use Rattle.std.specs.Result.{IfErr};
-ghost use Rattle.keep_device.specs.Seen.{outside};
+ghost use Rattle.keep_device.specs.Seen.{outside_device};
 ghost use Rattle.keep_exchange.specs.Sockets.{IsServedOnce};
 ghost use Rattle.keep_exchange.specs.declared.fault.ExchangeFault.TheVariants as faults;
 ghost use Rattle.vault_http.specs.RoundTripRequest.{IsWritable};
@@ -28,9 +28,9 @@ pub struct SelfServed<'a, R: Net> {
 }
 
 impl<'a, R: Net> Model for SelfServed<'a, R> {
-    ghost use Rattle.keep_exchange.specs.Sockets.{Served};
+    ghost use Rattle.keep_exchange.specs.Sockets.{ServedTable};
 
-    ghost Value = { Served };
+    ghost Value = { ServedTable };
 
     ghost view = { λ e. record { port = e.port; table = e.table; failures = e.failures } };
 }
@@ -100,7 +100,7 @@ impl<'a, R: Net> SelfServed<'a, R> {
 }
 
 impl<'a, R: Net> Device for SelfServed<'a, R> {
-    ghost seen = { λ e. outside e.failures };
+    ghost seen = { λ e. outside_device e.failures };
 
     fn failures(&self) -> u64 {
         self.failures

@@ -1,7 +1,7 @@
 ghost use Rattle.std.specs.Prelude.{◌≡◌, ◌*◌, ◌⊎◌, None, OnOk, false, true};
 ghost use Rattle.std.specs.Result.{IfErr};
 ghost use Rattle.std.specs.Duration.{as_nanos};
-ghost use Rattle.keep_device.specs.Seen.{outside};
+ghost use Rattle.keep_device.specs.Seen.{outside_device};
 ghost use Rattle.keep_exchange.specs.Sockets.{limit_of, port_of};
 ghost use Rattle.keep_exchange.specs.declared.fault.ExchangeFault.TheVariants as faults;
 ghost use Rattle.keep_device.specs.declared.place.Place.TheVariants as places;
@@ -79,7 +79,7 @@ impl<'a, R: Net> TcpExchange<'a, R> {
 }
 
 impl<'a, R: Net> Device for TcpExchange<'a, R> {
-    ghost seen = { λ e. outside e.failures };
+    ghost seen = { λ e. outside_device e.failures };
 
     fn failures(&self) -> u64 {
         self.failures

@@ -1,9 +1,9 @@
 //! Messages by way of their texts: each is written whole, and read of what was written.
 ghost use Rattle.std.specs.Prelude.{◌≡◌, ◌<◌, ◌≤◌, ◌^◌, IfOk, IsOkUnless, IsTrue, length};
 ghost use Rattle.keep_exchange.specs.Exchanges.{received};
-ghost use Rattle.keep_exchange.specs.Requests.{IsShort};
+ghost use Rattle.keep_exchange.specs.Requests.{IsShortRequest};
 ghost use Rattle.keep_exchange.specs.declared.fault.ExchangeFault.TheVariants.{OutOfMemory};
-ghost use Rattle.broker_table.specs.Stream.{MaySend, sent_of};
+ghost use Rattle.broker_table.specs.Stream.{MaySend, bytes_sent_of};
 ghost use Rattle.vault_http.specs.declared.known.TheConstants.{MOST_MESSAGE};
 ghost use Rattle.broker_table.specs.declared.served.Served.TheVariants as served;
 ghost use Rattle.vault_http.specs.RoundTrip.{is_sent};
@@ -39,7 +39,7 @@ pub(crate) fn request_of_text(
     request: &Request,
 ) -> Result<Request, ExchangeFault>
     requires writable { IsWritable request.now }
-    requires short { IsShort request.now }
+    requires short { IsShortRequest request.now }
     requires text { text.now ≡ request_text request.now }
     ensures read { IfOk result (λ read. read ≡ without_port request.now) }
     ensures memory { IsOkUnless result OutOfMemory }
@@ -81,7 +81,7 @@ pub(crate) fn deliver(
     served: &Served,
 ) -> Result<Delivery, ExchangeFault>
     requires { MaySend served.now }
-    ensures text { IfOk result (λ d. d.text.items ≡ sent_of served.now) }
+    ensures text { IfOk result (λ d. d.text.items ≡ bytes_sent_of served.now) }
     ensures reply { IfOk result (λ d. d.reply ≡ received served.now) }
     ensures memory { IsOkUnless result OutOfMemory }
 {

@@ -10,8 +10,8 @@ Files = List ℕ → Option (List ℕ)
 
 -- what reading a file of at most so many bytes gives: all of them where they are known, and a fault else; one that is
 -- known is too long only where it is longer
-abbrev pub IsRead : Option (List ℕ) → ℕ → Result (List ℕ) InputFault → Type 0
-IsRead known max (Ok text) = (length text ≤ max) × IfSome known (λ bytes. text ≡ bytes)
-IsRead known max (Err inputs.TooLong) = IfSome known (λ bytes. max < length bytes)
-IsRead known max (Err inputs.ReadFailed) = known ≡ None
-IsRead known max (Err inputs.OutOfMemory) = Unit {0}
+abbrev pub FileIsRead : Option (List ℕ) → ℕ → Result (List ℕ) InputFault → Type 0
+FileIsRead known max (Ok text) = (length text ≤ max) × IfSome known (λ bytes. text ≡ bytes)
+FileIsRead known max (Err inputs.TooLong) = IfSome known (λ bytes. max < length bytes)
+FileIsRead known max (Err inputs.ReadFailed) = known ≡ None
+FileIsRead known max (Err inputs.OutOfMemory) = Unit {0}

@@ -1,5 +1,5 @@
 ghost use Rattle.std.specs.Prelude.{◌≡◌, ℕ, List, Option};
-ghost use Rattle.keep_files.specs.Files.{IsRead};
+ghost use Rattle.keep_files.specs.Files.{FileIsRead};
 
 use keep_device::InputFault;
 use keep_moment::Text;
@@ -15,6 +15,6 @@ pub trait Inputs {
     /// `ReadFailed`: it can't be opened, or a read failed. `TooLong`: it has more than `max` bytes, or too many reads did not
     /// come to its end. `OutOfMemory`: opening or reading it was refused memory.
     fn read(&mut self, alloc: Global, path: &str, max: usize) -> Result<Text, InputFault>
-        ensures read { IsRead (bytes_at self.old path.now) max result }
+        ensures read { FileIsRead (bytes_at self.old path.now) max result }
         ensures same { (other : List ℕ) → bytes_at self.new other ≡ bytes_at self.old other };
 }

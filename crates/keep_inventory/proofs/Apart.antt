@@ -6,7 +6,7 @@ use Rattle.std.proofs.lemmas.Bool.{cases_lt, or_right}
 use Rattle.std.proofs.lemmas.List.{length_push}
 use Rattle.keep_inventory.specs.Values.{text}
 use Rattle.keep_inventory.specs.Inventories.{credential_at}
-use Rattle.keep_inventory.specs.Intake.{holds}
+use Rattle.keep_inventory.specs.Intake.{has_text}
 use Rattle.keep_inventory.proofs.Inventories.{credential_new, credential_old}
 
 -- ---- texts of which none stands twice
@@ -18,17 +18,17 @@ pub last_or_before : (n i : ℕ) (P : Type 0) → i < n + 1 → (i ≡ n → P) 
 last_or_before n i P h last before = ⊎_elim (λ below. before below) (λ above. last (omega (arith, above, h))) (cases_lt i n)
 
 -- a text that stands there is held
-held : (texts : List (List ℕ)) (i : ℕ) → i < length texts → holds texts (credential_at texts i) ≡ true
-unfolding holds credential_at
+held : (texts : List (List ℕ)) (i : ℕ) → i < length texts → has_text texts (credential_at texts i) ≡ true
+unfolding has_text credential_at
 held [] i h = absurd (omega (arith, h))
 held (t ∷ ts) zero h = ap (λ b. b || list_any (λ u. bytes_eq u t) ts) (nat_list_eq_equiv.refl t)
 held (t ∷ ts) (suc i) h = or_right (bytes_eq t (get_or ts i [])) _ (held ts i (omega (arith, h)))
 
-fresh_not : (texts : List (List ℕ)) (text : List ℕ) (i : ℕ) → i < length texts → holds texts text ≡ false → credential_at texts i ≡ text → ⊥
+fresh_not : (texts : List (List ℕ)) (text : List ℕ) (i : ℕ) → i < length texts → has_text texts text ≡ false → credential_at texts i ≡ text → ⊥
 fresh_not texts text i h fresh same =
-    let both : false ≡ true = sym fresh ∙ subst (λ t. holds texts t ≡ true) same (held texts i h) in cc
+    let both : false ≡ true = sym fresh ∙ subst (λ t. has_text texts t ≡ true) same (held texts i h) in cc
 
-pub unlike_more : (texts : List (List ℕ)) (text : List ℕ) → holds texts text ≡ false → Unlike texts → Unlike (texts ++ text ∷ [])
+pub unlike_more : (texts : List (List ℕ)) (text : List ℕ) → has_text texts text ≡ false → Unlike texts → Unlike (texts ++ text ∷ [])
 unlike_more texts text fresh unlike i j a b same =
     let n = length texts in
     let l = length_push texts text in

@@ -18,16 +18,16 @@ use Rattle.keep_inventory.specs.declared.row.Row.{Row}
 use Rattle.keep_inventory.specs.declared.terms.Terms.{Terms}
 use Rattle.keep_inventory.specs.Keys.{top_keys, key_text}
 use Rattle.keep_inventory.specs.Answers.{◌>>=◌}
-use Rattle.keep_inventory.specs.Values.{alone_if, ending, flag, has_if, moment, need, needed, only, path, read_if, span, tables, text, there, value_at}
+use Rattle.keep_inventory.specs.Values.{alone_if, end_value, flag_value, has_if, is_key_there, moment_value, need, needed_value, only, path, read_if, span, tables, text, value_at}
 use Rattle.keep_inventory.specs.Terms.{max_ttl_of}
 use Rattle.keep_inventory.specs.Inventories.{Inventory}
-use Rattle.keep_inventory.specs.Intake.{Intake, nothing, inventory_with}
-use Rattle.keep_inventory.specs.Rows.{file_at, life_of, lease_terms, step_or, token_terms}
-use Rattle.keep_inventory.specs.Inventory.{token_entered, lease_entered, entered_by, intake_of, read_served, served_of, tree_of}
+use Rattle.keep_inventory.specs.Intake.{Intake, empty_intake, inventory_of_intake}
+use Rattle.keep_inventory.specs.Rows.{file_at, life_of_table, lease_terms, step_or, token_terms}
+use Rattle.keep_inventory.specs.Inventory.{token_entered, lease_entered, entered_by, intake_of, read_served, served_of, document_tree}
 use Rattle.keep_inventory.specs.Languages.{full}
 use Rattle.keep_inventory.specs.Served.{Served}
-use Rattle.keep_inventory.specs.Bare.{bare, bare_items, bare_members, is_secret_key}
-use Rattle.keep_inventory.specs.Laws.{SecrecyLaw, ServedSecrecyLaw}
+use Rattle.keep_inventory.specs.Bare.{bare_items, bare_members, bare_value, is_secret_key}
+use Rattle.keep_inventory.specs.Laws.{ReadSecrecyLaw, ServedSecrecyLaw}
 use Rattle.keep_inventory.proofs.Chains.{bind_ok, follow}
 use Rattle.keep_inventory.proofs.Inventoried.{whole_is}
 use Rattle.keep_inventory.proofs.Parts.{LeaseParts, TokenParts, lease_parts, made_lease, made_token, token_parts}
@@ -42,30 +42,30 @@ other_key k l stays goes same =
     let both : false ≡ true = sym stays ∙ ap is_secret_key one ∙ goes in cc
 
 -- the member goes
-found_past : (o : Ordering) (d : Data) (x : Option Data) (y : Option Data) → (is_eq o ≡ true → ⊥) → x ≡ option_map bare y → x ≡ option_map bare (match_ordering o y (Some d) y)
+found_past : (o : Ordering) (d : Data) (x : Option Data) (y : Option Data) → (is_eq o ≡ true → ⊥) → x ≡ option_map bare_value y → x ≡ option_map bare_value (match_ordering o y (Some d) y)
 found_past Less d x y other e = e
 found_past Equal d x y other e = absurd (other refl)
 found_past Greater d x y other e = e
 
 -- the member stays
-found_here : (o : Ordering) (d : Data) (x : Option Data) (y : Option Data) → x ≡ option_map bare y → match_ordering o x (Some (bare d)) x ≡ option_map bare (match_ordering o y (Some d) y)
+found_here : (o : Ordering) (d : Data) (x : Option Data) (y : Option Data) → x ≡ option_map bare_value y → match_ordering o x (Some (bare_value d)) x ≡ option_map bare_value (match_ordering o y (Some d) y)
 found_here Less d x y e = e
 found_here Equal d x y e = refl
 found_here Greater d x y e = e
 
-found_in : (k l : List ℕ) (d : Data) (ms : Members) (b : Bool) → (b ≡ true → is_eq (slice_cmp nat_cmp k l) ≡ true → ⊥) → get_member k (bare_members ms) ≡ option_map bare (get_member k ms) →
-    get_member k (cond b (bare_members ms) (member l (bare d) (bare_members ms))) ≡ option_map bare (get_member k (member l d ms))
+found_in : (k l : List ℕ) (d : Data) (ms : Members) (b : Bool) → (b ≡ true → is_eq (slice_cmp nat_cmp k l) ≡ true → ⊥) → get_member k (bare_members ms) ≡ option_map bare_value (get_member k ms) →
+    get_member k (cond b (bare_members ms) (member l (bare_value d) (bare_members ms))) ≡ option_map bare_value (get_member k (member l d ms))
 found_in k l d ms true other e = found_past (slice_cmp nat_cmp k l) d _ _ (other refl) e
 found_in k l d ms false other e = found_here (slice_cmp nat_cmp k l) d _ _ e
 
-bare_found : (k : List ℕ) → is_secret_key k ≡ false → (ms : Members) → get_member k (bare_members ms) ≡ option_map bare (get_member k ms)
+bare_found : (k : List ℕ) → is_secret_key k ≡ false → (ms : Members) → get_member k (bare_members ms) ≡ option_map bare_value (get_member k ms)
 bare_found k stays no_members = refl
 bare_found k stays (member l d ms) = found_in k l d ms (is_secret_key l) (λ goes. other_key k l stays goes) (bare_found k stays ms)
 
 -- ---- the readers of values see no difference
 
 abbrev Blind : {A : Type 0} → (Data → Option A) → Type 0
-Blind f = (d : Data) → f (bare d) ≡ f d
+Blind f = (d : Data) → f (bare_value d) ≡ f d
 
 blind_span : (low high : ℕ) → Blind (span full low high)
 blind_span low high (string s) = refl
@@ -94,7 +94,7 @@ blind_path (datetime dt) = refl
 blind_path (array ds) = refl
 blind_path (table ms) = refl
 
-blind_moment : Blind moment
+blind_moment : Blind moment_value
 blind_moment (string s) = refl
 blind_moment (integer z) = refl
 blind_moment (float x) = refl
@@ -103,7 +103,7 @@ blind_moment (datetime dt) = refl
 blind_moment (array ds) = refl
 blind_moment (table ms) = refl
 
-blind_ending : Blind ending
+blind_ending : Blind end_value
 blind_ending (string s) = refl
 blind_ending (integer z) = refl
 blind_ending (float x) = refl
@@ -112,7 +112,7 @@ blind_ending (datetime dt) = refl
 blind_ending (array ds) = refl
 blind_ending (table ms) = refl
 
-blind_flag : Blind flag
+blind_flag : Blind flag_value
 blind_flag (string s) = refl
 blind_flag (integer z) = refl
 blind_flag (float x) = refl
@@ -130,7 +130,7 @@ blind_text (datetime dt) = refl
 blind_text (array ds) = refl
 blind_text (table ms) = refl
 
-read_bare : {A : Type 0} (f : Data → Option A) → Blind f → (place : Option ℕ) (key : Key) (o : Option Data) → read_if f place key (option_map bare o) ≡ read_if f place key o
+read_bare : {A : Type 0} (f : Data → Option A) → Blind f → (place : Option ℕ) (key : Key) (o : Option Data) → read_if f place key (option_map bare_value o) ≡ read_if f place key o
 read_bare {A = A} f blind place key None = refl
 read_bare {A = A} f blind place key (Some d) = ap (λ (o : Option A). ◌taken◌ o place key) (blind d)
   where
@@ -144,10 +144,10 @@ kept_span : (low high : ℕ) (place : Option ℕ) (key : Key) → is_secret_key 
 kept_span low high place key stays ms = kept (span full low high) (blind_span low high) place key stays ms
 
 -- whether a key is there
-there_bare : (key : Key) → is_secret_key (key_text key) ≡ false → (ms : Members) → there key (bare_members ms) ≡ there key ms
+there_bare : (key : Key) → is_secret_key (key_text key) ≡ false → (ms : Members) → is_key_there key (bare_members ms) ≡ is_key_there key ms
 there_bare key stays ms = ap is_some (bare_found (key_text key) stays ms) ∙ mapped (get_member (key_text key) ms)
   where
-    mapped : (o : Option Data) → is_some (option_map bare o) ≡ is_some o
+    mapped : (o : Option Data) → is_some (option_map bare_value o) ≡ is_some o
     mapped None = refl
     mapped (Some d) = refl
 
@@ -167,7 +167,7 @@ if_tables : (b : Bool) (ds : Items) → cond b (Some (bare_items ds)) None ≡ o
 if_tables true ds = refl
 if_tables false ds = refl
 
-tables_bare : (d : Data) → tables (bare d) ≡ option_map bare_items (tables d)
+tables_bare : (d : Data) → tables (bare_value d) ≡ option_map bare_items (tables d)
 tables_bare (string s) = refl
 tables_bare (integer z) = refl
 tables_bare (float x) = refl
@@ -183,7 +183,7 @@ taken_bare : (o found : Option Items) (key : Key) → taken o key ≡ Ok found �
 taken_bare None found key e = absurd cc
 taken_bare (Some ds) found key e = let same : Some ds ≡ found = cc in ap (λ (o : Option Items). Ok (option_map bare_items o)) same
 
-read_tables : (o : Option Data) (found : Option Items) (key : Key) → read_if tables None key o ≡ Ok found → read_if tables None key (option_map bare o) ≡ Ok (option_map bare_items found)
+read_tables : (o : Option Data) (found : Option Items) (key : Key) → read_if tables None key o ≡ Ok found → read_if tables None key (option_map bare_value o) ≡ Ok (option_map bare_items found)
 read_tables None found key e = let same : None ≡ found = cc in ap (λ (o : Option Items). Ok (option_map bare_items o)) same
 read_tables (Some d) found key e = ap (λ (o : Option Items). taken o key) (tables_bare d) ∙ taken_bare (tables d) found key e
 
@@ -205,17 +205,17 @@ life_by index here a b c = do
   renewable ← c
   Ok (record { issued = unwrap_or issued 0; end = unwrap_or ends 0; renewable = unwrap_or renewable true; is_told = is_some issued })
 
-life_bare : (index : ℕ) (ms : Members) → life_of full index (bare_members ms) ≡ life_of full index ms
-unfolding life_of is_secret_key
+life_bare : (index : ℕ) (ms : Members) → life_of_table full index (bare_members ms) ≡ life_of_table full index ms
+unfolding life_of_table is_secret_key
 life_bare index ms =
     let here = there_bare End refl ms in
-    let a = kept moment blind_moment (Some index) Issued refl ms in
-    let b = kept ending blind_ending (Some index) End refl ms in
-    let c = kept flag blind_flag (Some index) Renewable refl ms in
-    ap (λ x. life_by index x (value_at moment (Some index) Issued (bare_members ms)) (value_at ending (Some index) End (bare_members ms)) (value_at flag (Some index) Renewable (bare_members ms))) here
-    ∙ ap (λ x. life_by index (there End ms) x (value_at ending (Some index) End (bare_members ms)) (value_at flag (Some index) Renewable (bare_members ms))) a
-    ∙ ap (λ y. life_by index (there End ms) (value_at moment (Some index) Issued ms) y (value_at flag (Some index) Renewable (bare_members ms))) b
-    ∙ ap (life_by index (there End ms) (value_at moment (Some index) Issued ms) (value_at ending (Some index) End ms)) c
+    let a = kept moment_value blind_moment (Some index) Issued refl ms in
+    let b = kept end_value blind_ending (Some index) End refl ms in
+    let c = kept flag_value blind_flag (Some index) Renewable refl ms in
+    ap (λ x. life_by index x (value_at moment_value (Some index) Issued (bare_members ms)) (value_at end_value (Some index) End (bare_members ms)) (value_at flag_value (Some index) Renewable (bare_members ms))) here
+    ∙ ap (λ x. life_by index (is_key_there End ms) x (value_at end_value (Some index) End (bare_members ms)) (value_at flag_value (Some index) Renewable (bare_members ms))) a
+    ∙ ap (λ y. life_by index (is_key_there End ms) (value_at moment_value (Some index) Issued ms) y (value_at flag_value (Some index) Renewable (bare_members ms))) b
+    ∙ ap (life_by index (is_key_there End ms) (value_at moment_value (Some index) Issued ms) (value_at end_value (Some index) End ms)) c
 
 abbrev token_terms_by : ℕ → ℕ → Result (Option ℕ) InvFault → Result (Option ℕ) InvFault → Result (Option ℕ) InvFault → Result (Option ℕ) InvFault → Result Terms InvFault
 token_terms_by system_max issued a b c d = do
@@ -261,9 +261,9 @@ lease_terms_bare system_max index issued ms =
 abbrev plain_token : ℕ → Forest → Members → Result Row InvFault
 plain_token system_max g ms = do
   name_if ← value_at text (Some (length g.entries)) Name ms
-  name ← needed (length g.entries) Name name_if
+  name ← needed_value (length g.entries) Name name_if
   parent ← value_at text (Some (length g.entries)) Parent ms
-  life ← life_of full (length g.entries) ms
+  life ← life_of_table full (length g.entries) ms
   terms ← token_terms full system_max (length g.entries) life.issued ms
   need_if ← value_at (need full) (Some (length g.entries)) Need ms
   file ← value_at path (Some (length g.entries)) SecretFile ms
@@ -272,10 +272,10 @@ plain_token system_max g ms = do
 abbrev plain_lease : ℕ → Forest → Members → Result Row InvFault
 plain_lease system_max g ms = do
   name_if ← value_at text (Some (length g.entries)) Name ms
-  name ← needed (length g.entries) Name name_if
+  name ← needed_value (length g.entries) Name name_if
   token_if ← value_at text (Some (length g.entries)) Token ms
-  token ← needed (length g.entries) Token token_if
-  life ← life_of full (length g.entries) ms
+  token ← needed_value (length g.entries) Token token_if
+  life ← life_of_table full (length g.entries) ms
   terms ← lease_terms full system_max (length g.entries) life.issued ms
   need_if ← value_at (need full) (Some (length g.entries)) Need ms
   file ← value_at path (Some (length g.entries)) LeaseIdFile ms
@@ -362,7 +362,7 @@ plain_intake ms = do
   margin ← value_at (span full 1 MARGIN_MAX) None Margin ms
   tokens ← value_at tables None Token ms
   leases ← value_at tables None Lease ms
-  with_tokens ← entered_by (plain_token_entered (unwrap_or system_max SYSTEM_MAX)) Token (nothing (unwrap_or margin 1)) (unwrap_or tokens no_items)
+  with_tokens ← entered_by (plain_token_entered (unwrap_or system_max SYSTEM_MAX)) Token (empty_intake (unwrap_or margin 1)) (unwrap_or tokens no_items)
   entered_by (plain_lease_entered (unwrap_or system_max SYSTEM_MAX)) Lease with_tokens (unwrap_or leases no_items)
 
 bare_intake : (ms : Members) (t : Intake) → intake_of full ms ≡ Ok t → plain_intake (bare_members ms) ≡ Ok (shorn t)
@@ -373,27 +373,27 @@ bare_intake ms t e =
     bind_ok (value_at (span full 1 MARGIN_MAX) None Margin ms) _ t e2 (λ margin b e3.
     bind_ok (value_at tables None Token ms) _ t e3 (λ tokens c e4.
     bind_ok (value_at tables None Lease ms) _ t e4 (λ leases d e5.
-    bind_ok (entered_by (token_entered full (unwrap_or system_max SYSTEM_MAX)) Token (nothing (unwrap_or margin 1)) (unwrap_or tokens no_items)) _ t e5 (λ u f e6.
+    bind_ok (entered_by (token_entered full (unwrap_or system_max SYSTEM_MAX)) Token (empty_intake (unwrap_or margin 1)) (unwrap_or tokens no_items)) _ t e5 (λ u f e6.
     let max = unwrap_or system_max SYSTEM_MAX in
-    let first = all_shorn (token_entered full max) (plain_token_entered max) (token_shorn max) Token (nothing (unwrap_or margin 1)) u (unwrap_or tokens no_items) f in
+    let first = all_shorn (token_entered full max) (plain_token_entered max) (token_shorn max) Token (empty_intake (unwrap_or margin 1)) u (unwrap_or tokens no_items) f in
     let second = all_shorn (lease_entered full max) (plain_lease_entered max) (lease_shorn max) Lease u t (unwrap_or leases no_items) e6 in
     follow _ system_max _ _ (kept_span 1 SPAN_MAX None SystemMax refl ms ∙ a)
     (follow _ margin _ _ (kept_span 1 MARGIN_MAX None Margin refl ms ∙ b)
     (follow _ (option_map bare_items tokens) _ _ (kept_tables Token refl ms tokens c)
     (follow _ (option_map bare_items leases) _ _ (kept_tables Lease refl ms leases d)
-    (follow _ (shorn u) _ _ (ap (entered_by (plain_token_entered max) Token (nothing (unwrap_or margin 1))) (or_none tokens) ∙ first)
+    (follow _ (shorn u) _ _ (ap (entered_by (plain_token_entered max) Token (empty_intake (unwrap_or margin 1))) (or_none tokens) ∙ first)
     (ap (entered_by (plain_lease_entered max) Lease (shorn u)) (or_none leases) ∙ second)))))))))))
 
 -- ---- two documents
 
-served_is_read : (bytes : List ℕ) (ms : Members) (v : Served) → tree_of bytes ≡ Ok ms → read_served bytes ≡ Ok v →
+served_is_read : (bytes : List ℕ) (ms : Members) (v : Served) → document_tree bytes ≡ Ok ms → read_served bytes ≡ Ok v →
     plain_intake (bare_members ms) ≡ Ok (record { forest = v.inventory.forest; secrets = []; lease_ids = []; terms = v.inventory.terms; notes = v.notes })
 unfolding read_served served_of
 served_is_read bytes ms v reads e =
-    bind_ok (tree_of bytes) _ v e (λ ns read e1.
+    bind_ok (document_tree bytes) _ v e (λ ns read e1.
     bind_ok (intake_of full ns) _ v e1 (λ t is e2.
     let tree : ns ≡ ms = cc in
-    let same : ◌≡◌ {A = Served} (record { inventory = inventory_with t; notes = t.notes; has_margin = there Margin ns }) v = cc in
+    let same : ◌≡◌ {A = Served} (record { inventory = inventory_of_intake t; notes = t.notes; has_margin = is_key_there Margin ns }) v = cc in
     ap (λ (i : Members). plain_intake (bare_members i)) (sym tree) ∙ bare_intake ns t is
     ∙ ap (λ (x : Served). Ok (record { forest = x.inventory.forest; secrets = []; lease_ids = []; terms = x.inventory.terms; notes = x.notes })) same))
 
@@ -405,7 +405,7 @@ served_secrecy_law bytes other v w alike e f =
     let same : ◌≡◌ {A = Intake} (record { forest = v.inventory.forest; secrets = []; lease_ids = []; terms = v.inventory.terms; notes = v.notes }) (record { forest = w.inventory.forest; secrets = []; lease_ids = []; terms = w.inventory.terms; notes = w.notes }) = cc in
     ((ap (λ (i : Intake). i.forest) same, ap (λ (i : Intake). i.terms) same), ap (λ (i : Intake). i.notes) same)
 
-pub secrecy_law : SecrecyLaw
+pub secrecy_law : ReadSecrecyLaw
 secrecy_law bytes other inventory other_inventory alike e f =
     let one = whole_is bytes inventory e in
     let two = whole_is other other_inventory f in

@@ -6,7 +6,7 @@ use Rattle.std.proofs.lemmas.List.{append-nil, drop_more}
 use Rattle.std.specs.Char.{is_ascii_digit}
 use Rattle.std.specs.List.{list_all}
 use Rattle.std.specs.Str.Parse.{digits_value}
-use Rattle.keep_inventory.specs.Durations.{DurationFound, DurationOnly, IsDuration, IsNumber, IsPart, after_part, digits_before, duration_of, has_part, hours_on, minutes_on, part_seconds, seconds_on}
+use Rattle.keep_inventory.specs.Durations.{DurationFound, DurationOnly, IsDuration, IsNumber, IsPart, after_part, digits_before, duration_of_text, has_part, hours_on, minutes_on, part_seconds, seconds_on}
 use Rattle.keep_inventory.proofs.Durations.{both_true, front_digit, front_other}
 
 less : (a b : ℕ) → nat_lt a b ≡ true → a < b
@@ -111,7 +111,7 @@ some_is true m n e = (refl, cc)
 some_is false m n e = absurd cc
 
 pub duration_found : DurationFound
-unfolding duration_of
+unfolding duration_of_text
 duration_found text n e =
     let days = part_of 100 86400 text in
     let hours = part_of 104 3600 (hours_on text) in
@@ -213,7 +213,7 @@ reads_part letter size part n rest non (inr is) lacks =
     (ap (after_part letter) parts ∙ after_is digits letter rest is.1.2 non has, ap (part_seconds letter size) parts ∙ worth_is digits letter rest is.1.2 non size has ∙ sym is.3)
 
 pub duration_only : DurationOnly
-unfolding duration_of
+unfolding duration_of_text
 duration_only text n d =
     let seconds : d.seconds ++ [] ≡ d.seconds = append-nil d.seconds in
     let lacks_s : (letter : ℕ) → 115 ≢ letter → Lacks letter d.seconds = λ letter apart. subst (Lacks letter) seconds (lacks_part letter 115 1 d.seconds d.in_seconds [] refl apart d.are_seconds (lacks_nothing letter)) in

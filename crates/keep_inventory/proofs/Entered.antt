@@ -11,10 +11,10 @@ use Rattle.keep_inventory.specs.declared.fault.InvFault.TheVariants.{BadValue}
 use Rattle.keep_inventory.specs.declared.key.Key.{Key}
 use Rattle.keep_inventory.specs.declared.key.Key.TheVariants.{SystemMax, Margin, Token, Lease}
 use Rattle.keep_inventory.specs.Languages.{Language, strict, full}
-use Rattle.keep_inventory.specs.Durations.{duration_of}
+use Rattle.keep_inventory.specs.Durations.{duration_of_text}
 use Rattle.keep_inventory.specs.Keys.{top_keys, key_text}
 use Rattle.keep_inventory.specs.Values.{if_within, in_units, only, read_if, span, tables, value_at, whole}
-use Rattle.keep_inventory.specs.Intake.{Intake, nothing}
+use Rattle.keep_inventory.specs.Intake.{Intake, empty_intake}
 use Rattle.keep_inventory.specs.Inventory.{token_entered, lease_entered, entered_by, intake_of}
 use Rattle.keep_inventory.proofs.Chains.{bind_ok}
 use Rattle.keep_inventory.proofs.Taken.{KeepsIt, all_keep}
@@ -48,7 +48,7 @@ whole_is low high (table x) = tt
 
 span_text : (l : Language) (low high : ℕ) (s : List ℕ) → IfSome (in_units l low high s) (Within low high)
 span_text strict low high s = tt
-span_text full low high s = of_range (duration_of s)
+span_text full low high s = of_range (duration_of_text s)
   where
     of_range : (o : Option ℕ) → IfSome (if_within low high o) (Within low high)
     of_range None = tt
@@ -79,7 +79,7 @@ within_read l low high absent k place key ms found e = read_is l low high absent
 
 -- ---- all tables
 
-pub intake_keeps : (First Rest : Intake → Type 0) → ((margin : ℕ) → Within 1 MARGIN_MAX margin → First (nothing margin)) → ((s : Intake) → First s → Rest s) →
+pub intake_keeps : (First Rest : Intake → Type 0) → ((margin : ℕ) → Within 1 MARGIN_MAX margin → First (empty_intake margin)) → ((s : Intake) → First s → Rest s) →
     (l : Language) → ((system_max : ℕ) → KeepsIt First (token_entered l system_max)) → ((system_max : ℕ) → KeepsIt Rest (lease_entered l system_max)) →
     (ms : Members) (t : Intake) → intake_of l ms ≡ Ok t → Rest t
 unfolding intake_of
@@ -89,8 +89,8 @@ intake_keeps First Rest begins passes l tokens_keep leases_keep ms t e =
     bind_ok (value_at (span l 1 MARGIN_MAX) None Margin ms) _ t e2 (λ margin b e3.
     bind_ok (value_at tables None Token ms) _ t e3 (λ tokens c e4.
     bind_ok (value_at tables None Lease ms) _ t e4 (λ leases d e5.
-    bind_ok (entered_by (token_entered l (unwrap_or system_max SYSTEM_MAX)) Token (nothing (unwrap_or margin 1)) (unwrap_or tokens no_items)) _ t e5 (λ u f e6.
+    bind_ok (entered_by (token_entered l (unwrap_or system_max SYSTEM_MAX)) Token (empty_intake (unwrap_or margin 1)) (unwrap_or tokens no_items)) _ t e5 (λ u f e6.
     let most = unwrap_or system_max SYSTEM_MAX in
     let first = begins (unwrap_or margin 1) (within_read l 1 MARGIN_MAX 1 (omega arith, omega arith) None Margin ms margin b) in
-    let second = all_keep First (token_entered l most) (tokens_keep most) Token (nothing (unwrap_or margin 1)) u (unwrap_or tokens no_items) first f in
+    let second = all_keep First (token_entered l most) (tokens_keep most) Token (empty_intake (unwrap_or margin 1)) u (unwrap_or tokens no_items) first f in
     all_keep Rest (lease_entered l most) (leases_keep most) Lease u t (unwrap_or leases no_items) (passes u second) e6))))))

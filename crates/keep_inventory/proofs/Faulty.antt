@@ -10,7 +10,7 @@ use Rattle.keep_tree.specs.declared.entry.Entry.{Entry}
 use Rattle.keep_tree.specs.declared.fault.TreeFault.{TreeFault}
 use Rattle.keep_tree.specs.declared.forest.TheConstants.{MARGIN_MAX}
 use Rattle.keep_tree.specs.Forest.{Forest}
-use Rattle.keep_tree.specs.Push.{refusal}
+use Rattle.keep_tree.specs.Push.{entry_refusal}
 use Rattle.keep_inventory.specs.declared.fault.InvFault.{InvFault}
 use Rattle.keep_inventory.specs.declared.fault.InvFault.TheVariants.{NotToml, MissingKey, UnknownKey, BadValue, Tree}
 use Rattle.keep_inventory.specs.declared.key.Key.{Key}
@@ -20,13 +20,13 @@ use Rattle.keep_inventory.specs.declared.row.Life.{Life}
 use Rattle.keep_inventory.specs.declared.row.Row.{Row}
 use Rattle.keep_inventory.specs.declared.terms.Terms.{Terms}
 use Rattle.keep_inventory.specs.Answers.{◌>>=◌}
-use Rattle.keep_inventory.specs.FirstFault.{FirstFaultLaw, IsFirst, IsFirstIn, IsInTables, LeaseFails, TokenFails, bad, bad_if, beside, fault_if, first_of, front, lease_faults, missing, row_faults, token_faults, top_faults, unknown}
-use Rattle.keep_inventory.specs.Intake.{Intake, appended, distinct, holds, nothing, pushed, with_lease, with_token}
-use Rattle.keep_inventory.specs.Inventory.{entered_by, intake_of, lease_entered, or_not_toml, read_served, served_of, token_entered, tree_of}
+use Rattle.keep_inventory.specs.FirstFault.{FirstFaultLaw, IsFirstFault, IsFirstIn, IsInTables, LeaseFails, TokenFails, bad, bad_if, excluded_beside, fault_if, first_fault_of, front, lease_faults, missing_key, row_faults, token_faults, top_faults, unknown}
+use Rattle.keep_inventory.specs.Intake.{Intake, appended, distinct, empty_intake, has_text, pushed, with_lease, with_token}
+use Rattle.keep_inventory.specs.Inventory.{document_tree, entered_by, intake_of, lease_entered, or_not_toml, read_served, served_of, token_entered}
 use Rattle.keep_inventory.specs.Keys.{all_keys, is_one_of, key_text, lease_keys, token_keys, top_keys}
 use Rattle.keep_inventory.specs.Languages.{full}
-use Rattle.keep_inventory.specs.Rows.{file_at, lease_row, lease_terms, life_of, token_row, token_terms}
-use Rattle.keep_inventory.specs.Values.{alone_if, credential, ending, flag, has_if, moment, need, needed, only, path, read_if, span, tables, text, there, value_at}
+use Rattle.keep_inventory.specs.Rows.{file_at, lease_row, lease_terms, life_of_table, token_row, token_terms}
+use Rattle.keep_inventory.specs.Values.{alone_if, credential, end_value, flag_value, has_if, is_key_there, moment_value, need, needed_value, only, path, read_if, span, tables, text, value_at}
 use Rattle.keep_inventory.proofs.Chains.{follow}
 use Rattle.keep_inventory.proofs.Rowed.{writes_is}
 use Rattle.keep_inventory.proofs.Taken.{lease_entered_ok, token_entered_ok}
@@ -38,26 +38,26 @@ fault_of (Ok x) = None
 fault_of (Err e) = Some e
 
 -- one fault, and then those of the rest
-chain : {A B : Type 0} (r : Result A InvFault) (k : A → Result B InvFault) (here : Option InvFault) (rest : List (Option InvFault)) → fault_of r ≡ here → ((x : A) → r ≡ Ok x → fault_of (k x) ≡ first_of rest) → fault_of (r >>= k) ≡ first_of (here ∷ rest)
-chain (Ok x) k here rest is more = more x refl ∙ ap (λ o. first_of (o ∷ rest)) is
-chain (Err e) k here rest is more = ap (λ o. first_of (o ∷ rest)) is
+chain : {A B : Type 0} (r : Result A InvFault) (k : A → Result B InvFault) (here : Option InvFault) (rest : List (Option InvFault)) → fault_of r ≡ here → ((x : A) → r ≡ Ok x → fault_of (k x) ≡ first_fault_of rest) → fault_of (r >>= k) ≡ first_fault_of (here ∷ rest)
+chain (Ok x) k here rest is more = more x refl ∙ ap (λ o. first_fault_of (o ∷ rest)) is
+chain (Err e) k here rest is more = ap (λ o. first_fault_of (o ∷ rest)) is
 
-first_append : (here rest : List (Option InvFault)) → first_of here ≡ None → first_of (here ++ rest) ≡ first_of rest
+first_append : (here rest : List (Option InvFault)) → first_fault_of here ≡ None → first_fault_of (here ++ rest) ≡ first_fault_of rest
 first_append [] rest none = refl
 first_append (Some e ∷ here) rest none = absurd cc
 first_append (None ∷ here) rest none = first_append here rest none
 
-first_found : (here rest : List (Option InvFault)) (e : InvFault) → first_of here ≡ Some e → first_of (here ++ rest) ≡ Some e
+first_found : (here rest : List (Option InvFault)) (e : InvFault) → first_fault_of here ≡ Some e → first_fault_of (here ++ rest) ≡ Some e
 first_found [] rest e some = absurd cc
 first_found (Some x ∷ here) rest e some = some
 first_found (None ∷ here) rest e some = first_found here rest e some
 
 -- several faults, and then those of the rest
-chain_all : {A B : Type 0} (r : Result A InvFault) (k : A → Result B InvFault) (here rest : List (Option InvFault)) → fault_of r ≡ first_of here → ((x : A) → r ≡ Ok x → fault_of (k x) ≡ first_of rest) → fault_of (r >>= k) ≡ first_of (here ++ rest)
+chain_all : {A B : Type 0} (r : Result A InvFault) (k : A → Result B InvFault) (here rest : List (Option InvFault)) → fault_of r ≡ first_fault_of here → ((x : A) → r ≡ Ok x → fault_of (k x) ≡ first_fault_of rest) → fault_of (r >>= k) ≡ first_fault_of (here ++ rest)
 chain_all (Ok x) k here rest is more = more x refl ∙ sym (first_append here rest (sym is))
 chain_all (Err e) k here rest is more = sym (first_found here rest e (sym is))
 
-last : {A B : Type 0} (r : Result A InvFault) (k : A → Result B InvFault) (here : Option InvFault) → fault_of r ≡ here → ((x : A) → r ≡ Ok x → fault_of (k x) ≡ None) → fault_of (r >>= k) ≡ first_of (here ∷ [])
+last : {A B : Type 0} (r : Result A InvFault) (k : A → Result B InvFault) (here : Option InvFault) → fault_of r ≡ here → ((x : A) → r ≡ Ok x → fault_of (k x) ≡ None) → fault_of (r >>= k) ≡ first_fault_of (here ∷ [])
 last r k here is more = chain r k here [] is more
 
 cond_fault : {A : Type 0} (b : Bool) (e : InvFault) (x : A) → fault_of (cond b (Err e) (Ok x)) ≡ fault_if b e
@@ -88,7 +88,7 @@ read_there : {A : Type 0} (f : Data → Option A) (place : Option ℕ) (key : Ke
 read_there {A = A} f place key None found e = let same : ◌≡◌ {A = Option A} None found = cc in ap (λ (x : Option A). is_some x) (sym same)
 read_there f place key (Some d) found e = taken_there place key (f d) found e
 
-value_there : {A : Type 0} (f : Data → Option A) (place : Option ℕ) (key : Key) (ms : Members) (found : Option A) → value_at f place key ms ≡ Ok found → is_some found ≡ there key ms
+value_there : {A : Type 0} (f : Data → Option A) (place : Option ℕ) (key : Key) (ms : Members) (found : Option A) → value_at f place key ms ≡ Ok found → is_some found ≡ is_key_there key ms
 value_there f place key ms found e = read_there f place key (get_member (key_text key) ms) found e
 
 only_fault : (keys : List Key) (place : Option ℕ) (ms : Members) → fault_of (only keys place ms) ≡ unknown keys place ms
@@ -98,7 +98,7 @@ only_fault keys place ms = by_test (all_keys (is_one_of keys) ms)
     by_test true = refl
     by_test false = refl
 
-needed_fault : {A : Type 0} (i : ℕ) (key : Key) (o : Option A) (here : Bool) → is_some o ≡ here → fault_of (needed i key o) ≡ fault_if (true && not here) (MissingKey i key)
+needed_fault : {A : Type 0} (i : ℕ) (key : Key) (o : Option A) (here : Bool) → is_some o ≡ here → fault_of (needed_value i key o) ≡ fault_if (true && not here) (MissingKey i key)
 needed_fault i key None here is = ap (λ b. fault_if (not b) (MissingKey i key)) is
 needed_fault i key (Some x) here is = ap (λ b. fault_if (not b) (MissingKey i key)) is
 
@@ -113,21 +113,21 @@ alone_fault first first' i key here here' one two =
 -- ---- the parts of a table
 
 life_faults : ℕ → Members → List (Option InvFault)
-life_faults i ms = bad moment (Some i) Issued ms ∷ missing (there End ms) i Issued ms ∷ bad ending (Some i) End ms ∷ missing (there Issued ms) i End ms ∷ bad flag (Some i) Renewable ms ∷ []
+life_faults i ms = bad moment_value (Some i) Issued ms ∷ missing_key (is_key_there End ms) i Issued ms ∷ bad end_value (Some i) End ms ∷ missing_key (is_key_there Issued ms) i End ms ∷ bad flag_value (Some i) Renewable ms ∷ []
 
-life_fault : (i : ℕ) (ms : Members) → fault_of (life_of full i ms) ≡ first_of (life_faults i ms)
-unfolding life_of life_faults
+life_fault : (i : ℕ) (ms : Members) → fault_of (life_of_table full i ms) ≡ first_fault_of (life_faults i ms)
+unfolding life_of_table life_faults
 life_fault i ms =
-    chain (value_at moment (Some i) Issued ms) _ _ _ (value_fault moment (Some i) Issued ms) (λ issued a.
-    chain (has_if (there End ms) i Issued (is_some issued)) _ _ _ (has_fault _ _ i Issued _ _ refl (value_there moment (Some i) Issued ms issued a)) (λ issue_there b.
-    chain (value_at ending (Some i) End ms) _ _ _ (value_fault ending (Some i) End ms) (λ ends c.
-    chain (has_if (is_some issued) i End (is_some ends)) _ _ _ (has_fault _ _ i End _ _ (value_there moment (Some i) Issued ms issued a) (value_there ending (Some i) End ms ends c)) (λ end_there d.
-    last (value_at flag (Some i) Renewable ms) _ _ (value_fault flag (Some i) Renewable ms) (λ renewable f. refl)))))
+    chain (value_at moment_value (Some i) Issued ms) _ _ _ (value_fault moment_value (Some i) Issued ms) (λ issued a.
+    chain (has_if (is_key_there End ms) i Issued (is_some issued)) _ _ _ (has_fault _ _ i Issued _ _ refl (value_there moment_value (Some i) Issued ms issued a)) (λ issue_there b.
+    chain (value_at end_value (Some i) End ms) _ _ _ (value_fault end_value (Some i) End ms) (λ ends c.
+    chain (has_if (is_some issued) i End (is_some ends)) _ _ _ (has_fault _ _ i End _ _ (value_there moment_value (Some i) Issued ms issued a) (value_there end_value (Some i) End ms ends c)) (λ end_there d.
+    last (value_at flag_value (Some i) Renewable ms) _ _ (value_fault flag_value (Some i) Renewable ms) (λ renewable f. refl)))))
 
 token_terms_faults : ℕ → Members → List (Option InvFault)
 token_terms_faults i ms = bad (span full 0 SPAN_MAX) (Some i) Increment ms ∷ bad (span full 0 SPAN_MAX) (Some i) Period ms ∷ bad (span full 0 SPAN_MAX) (Some i) MaxTtl ms ∷ bad (span full 0 SPAN_MAX) (Some i) ExplicitMaxTtl ms ∷ []
 
-token_terms_fault : (system_max i issued : ℕ) (ms : Members) → fault_of (token_terms full system_max i issued ms) ≡ first_of (token_terms_faults i ms)
+token_terms_fault : (system_max i issued : ℕ) (ms : Members) → fault_of (token_terms full system_max i issued ms) ≡ first_fault_of (token_terms_faults i ms)
 unfolding token_terms token_terms_faults
 token_terms_fault system_max i issued ms =
     chain (value_at (span full 0 SPAN_MAX) (Some i) Increment ms) _ _ _ (value_fault (span full 0 SPAN_MAX) (Some i) Increment ms) (λ increment a.
@@ -138,47 +138,47 @@ token_terms_fault system_max i issued ms =
 lease_terms_faults : ℕ → Members → List (Option InvFault)
 lease_terms_faults i ms = bad (span full 0 SPAN_MAX) (Some i) Increment ms ∷ bad (span full 0 SPAN_MAX) (Some i) MaxTtl ms ∷ []
 
-lease_terms_fault : (system_max i issued : ℕ) (ms : Members) → fault_of (lease_terms full system_max i issued ms) ≡ first_of (lease_terms_faults i ms)
+lease_terms_fault : (system_max i issued : ℕ) (ms : Members) → fault_of (lease_terms full system_max i issued ms) ≡ first_fault_of (lease_terms_faults i ms)
 unfolding lease_terms lease_terms_faults
 lease_terms_fault system_max i issued ms =
     chain (value_at (span full 0 SPAN_MAX) (Some i) Increment ms) _ _ _ (value_fault (span full 0 SPAN_MAX) (Some i) Increment ms) (λ increment a.
     last (value_at (span full 0 SPAN_MAX) (Some i) MaxTtl ms) _ _ (value_fault (span full 0 SPAN_MAX) (Some i) MaxTtl ms) (λ max_ttl b. refl))
 
-file_fault : (i : ℕ) (other key : Key) (has_credential : Bool) (ms : Members) → has_credential ≡ there other ms → fault_of (file_at i key has_credential ms) ≡ first_of (bad path (Some i) key ms ∷ beside other i key ms ∷ [])
+file_fault : (i : ℕ) (other key : Key) (has_credential : Bool) (ms : Members) → has_credential ≡ is_key_there other ms → fault_of (file_at i key has_credential ms) ≡ first_fault_of (bad path (Some i) key ms ∷ excluded_beside other i key ms ∷ [])
 file_fault i other key has_credential ms is =
     chain (value_at path (Some i) key ms) _ _ _ (value_fault path (Some i) key ms) (λ file a.
     last (alone_if has_credential i key (is_some file)) _ _ (alone_fault _ _ i key _ _ is (value_there path (Some i) key ms file a)) (λ alone b. refl))
 
 -- ---- a table
 
-token_fault : (system_max : ℕ) (g : Forest) (ms : Members) → fault_of (token_row full system_max g ms) ≡ first_of (token_faults (length g.entries) ms)
+token_fault : (system_max : ℕ) (g : Forest) (ms : Members) → fault_of (token_row full system_max g ms) ≡ first_fault_of (token_faults (length g.entries) ms)
 unfolding token_row life_faults token_terms_faults
 token_fault system_max g ms =
     let i = length g.entries in
     chain (only (token_keys full) (Some i) ms) _ _ _ (only_fault (token_keys full) (Some i) ms) (λ known a.
     chain (value_at text (Some i) Name ms) _ _ _ (value_fault text (Some i) Name ms) (λ name_if b.
-    chain (needed i Name name_if) _ _ _ (needed_fault i Name name_if _ (value_there text (Some i) Name ms name_if b)) (λ name c.
+    chain (needed_value i Name name_if) _ _ _ (needed_fault i Name name_if _ (value_there text (Some i) Name ms name_if b)) (λ name c.
     chain (value_at text (Some i) Parent ms) _ _ _ (value_fault text (Some i) Parent ms) (λ parent d.
-    chain_all (life_of full i ms) _ (life_faults i ms) _ (life_fault i ms) (λ life f.
+    chain_all (life_of_table full i ms) _ (life_faults i ms) _ (life_fault i ms) (λ life f.
     chain_all (token_terms full system_max i life.issued ms) _ (token_terms_faults i ms) _ (token_terms_fault system_max i life.issued ms) (λ terms h.
     chain (value_at (need full) (Some i) Need ms) _ _ _ (value_fault (need full) (Some i) Need ms) (λ need_if j.
     chain (value_at credential (Some i) Secret ms) _ _ _ (value_fault credential (Some i) Secret ms) (λ secret k.
-    chain_all (file_at i SecretFile (is_some secret) ms) _ (bad path (Some i) SecretFile ms ∷ beside Secret i SecretFile ms ∷ []) [] (file_fault i Secret SecretFile (is_some secret) ms (value_there credential (Some i) Secret ms secret k)) (λ file l. refl)))))))))
+    chain_all (file_at i SecretFile (is_some secret) ms) _ (bad path (Some i) SecretFile ms ∷ excluded_beside Secret i SecretFile ms ∷ []) [] (file_fault i Secret SecretFile (is_some secret) ms (value_there credential (Some i) Secret ms secret k)) (λ file l. refl)))))))))
 
-lease_fault : (system_max : ℕ) (g : Forest) (ms : Members) → fault_of (lease_row full system_max g ms) ≡ first_of (lease_faults (length g.entries) ms)
+lease_fault : (system_max : ℕ) (g : Forest) (ms : Members) → fault_of (lease_row full system_max g ms) ≡ first_fault_of (lease_faults (length g.entries) ms)
 unfolding lease_row life_faults lease_terms_faults
 lease_fault system_max g ms =
     let i = length g.entries in
     chain (only (lease_keys full) (Some i) ms) _ _ _ (only_fault (lease_keys full) (Some i) ms) (λ known a.
     chain (value_at text (Some i) Name ms) _ _ _ (value_fault text (Some i) Name ms) (λ name_if b.
-    chain (needed i Name name_if) _ _ _ (needed_fault i Name name_if _ (value_there text (Some i) Name ms name_if b)) (λ name c.
+    chain (needed_value i Name name_if) _ _ _ (needed_fault i Name name_if _ (value_there text (Some i) Name ms name_if b)) (λ name c.
     chain (value_at text (Some i) Token ms) _ _ _ (value_fault text (Some i) Token ms) (λ token_if d.
-    chain (needed i Token token_if) _ _ _ (needed_fault i Token token_if _ (value_there text (Some i) Token ms token_if d)) (λ token e.
-    chain_all (life_of full i ms) _ (life_faults i ms) _ (life_fault i ms) (λ life f.
+    chain (needed_value i Token token_if) _ _ _ (needed_fault i Token token_if _ (value_there text (Some i) Token ms token_if d)) (λ token e.
+    chain_all (life_of_table full i ms) _ (life_faults i ms) _ (life_fault i ms) (λ life f.
     chain_all (lease_terms full system_max i life.issued ms) _ (lease_terms_faults i ms) _ (lease_terms_fault system_max i life.issued ms) (λ terms h.
     chain (value_at (need full) (Some i) Need ms) _ _ _ (value_fault (need full) (Some i) Need ms) (λ need_if j.
     chain (value_at credential (Some i) LeaseId ms) _ _ _ (value_fault credential (Some i) LeaseId ms) (λ lease_id k.
-    chain_all (file_at i LeaseIdFile (is_some lease_id) ms) _ (bad path (Some i) LeaseIdFile ms ∷ beside LeaseId i LeaseIdFile ms ∷ []) [] (file_fault i LeaseId LeaseIdFile (is_some lease_id) ms (value_there credential (Some i) LeaseId ms lease_id k)) (λ file l. refl))))))))))
+    chain_all (file_at i LeaseIdFile (is_some lease_id) ms) _ (bad path (Some i) LeaseIdFile ms ∷ excluded_beside LeaseId i LeaseIdFile ms ∷ []) [] (file_fault i LeaseId LeaseIdFile (is_some lease_id) ms (value_there credential (Some i) LeaseId ms lease_id k)) (λ file l. refl))))))))))
 
 -- ---- its row
 
@@ -186,21 +186,21 @@ appended_fault : (g : Forest) (e : Entry) (o : Option TreeFault) → fault_of (a
 appended_fault g e None = refl
 appended_fault g e (Some fault) = refl
 
-pushed_fault : (g : Forest) (e : Entry) → fault_of (pushed g e) ≡ option_map (Tree (length g.entries)) (refusal g e)
+pushed_fault : (g : Forest) (e : Entry) → fault_of (pushed g e) ≡ option_map (Tree (length g.entries)) (entry_refusal g e)
 unfolding pushed
-pushed_fault g e = appended_fault g e (refusal g e)
+pushed_fault g e = appended_fault g e (entry_refusal g e)
 
-distinct_fault : (key : Key) (i : ℕ) (texts : List (List ℕ)) (text : List ℕ) → fault_of (distinct key i texts text) ≡ fault_if (holds texts text) (BadValue (Some i) key)
+distinct_fault : (key : Key) (i : ℕ) (texts : List (List ℕ)) (text : List ℕ) → fault_of (distinct key i texts text) ≡ fault_if (has_text texts text) (BadValue (Some i) key)
 unfolding distinct
-distinct_fault key i texts text = cond_fault (holds texts text) (BadValue (Some i) key) (texts ++ text ∷ [])
+distinct_fault key i texts text = cond_fault (has_text texts text) (BadValue (Some i) key) (texts ++ text ∷ [])
 
-token_row_fault : (s : Intake) (row : Row) → fault_of (with_token s row) ≡ first_of (row_faults Secret s.forest s.secrets row)
+token_row_fault : (s : Intake) (row : Row) → fault_of (with_token s row) ≡ first_fault_of (row_faults Secret s.forest s.secrets row)
 unfolding with_token
 token_row_fault s row =
     chain (pushed s.forest row.entry) _ _ _ (pushed_fault s.forest row.entry) (λ forest a.
     last (distinct Secret (length s.forest.entries) s.secrets row.credential) _ _ (distinct_fault Secret (length s.forest.entries) s.secrets row.credential) (λ secrets b. refl))
 
-lease_row_fault : (s : Intake) (row : Row) → fault_of (with_lease s row) ≡ first_of (row_faults LeaseId s.forest s.lease_ids row)
+lease_row_fault : (s : Intake) (row : Row) → fault_of (with_lease s row) ≡ first_fault_of (row_faults LeaseId s.forest s.lease_ids row)
 unfolding with_lease
 lease_row_fault s row =
     chain (pushed s.forest row.entry) _ _ _ (pushed_fault s.forest row.entry) (λ forest a.
@@ -293,11 +293,11 @@ read_tables place key (Some d) found e = found_tables place key (tables d) found
 
 -- one fault, or those of the rest, or none of these and then another
 chain_or : {A B Q : Type 0} (r : Result A InvFault) (k : A → Result B InvFault) (fault : InvFault) (here : Option InvFault) (rest : List (Option InvFault)) → fault_of r ≡ here → (r >>= k) ≡ Err fault →
-    ((x : A) → r ≡ Ok x → k x ≡ Err fault → (first_of rest ≡ Some fault) ⊎ ((first_of rest ≡ None) × Q)) → (first_of (here ∷ rest) ≡ Some fault) ⊎ ((first_of (here ∷ rest) ≡ None) × Q)
-chain_or {Q = Q} (Ok x) k fault here rest is e more = subst (λ o. (first_of (o ∷ rest) ≡ Some fault) ⊎ ((first_of (o ∷ rest) ≡ None) × Q)) is (more x refl e)
-chain_or {Q = Q} (Err d) k fault here rest is e more = subst (λ o. (first_of (o ∷ rest) ≡ Some fault) ⊎ ((first_of (o ∷ rest) ≡ None) × Q)) is (inl (let same : d ≡ fault = cc in ap (λ (f : InvFault). Some f) same))
+    ((x : A) → r ≡ Ok x → k x ≡ Err fault → (first_fault_of rest ≡ Some fault) ⊎ ((first_fault_of rest ≡ None) × Q)) → (first_fault_of (here ∷ rest) ≡ Some fault) ⊎ ((first_fault_of (here ∷ rest) ≡ None) × Q)
+chain_or {Q = Q} (Ok x) k fault here rest is e more = subst (λ o. (first_fault_of (o ∷ rest) ≡ Some fault) ⊎ ((first_fault_of (o ∷ rest) ≡ None) × Q)) is (more x refl e)
+chain_or {Q = Q} (Err d) k fault here rest is e more = subst (λ o. (first_fault_of (o ∷ rest) ≡ Some fault) ⊎ ((first_fault_of (o ∷ rest) ≡ None) × Q)) is (inl (let same : d ≡ fault = cc in ap (λ (f : InvFault). Some f) same))
 
-intake_first : (ms : Members) (fault : InvFault) → intake_of full ms ≡ Err fault → IsFirst ms fault
+intake_first : (ms : Members) (fault : InvFault) → intake_of full ms ≡ Err fault → IsFirstFault ms fault
 unfolding intake_of
 intake_first ms fault e =
     chain_or (only top_keys None ms) _ fault _ _ (only_fault top_keys None ms) e (λ known k e1.
@@ -306,7 +306,7 @@ intake_first ms fault e =
     chain_or (value_at tables None Token ms) _ fault _ _ (value_fault tables None Token ms) e3 (λ tokens c e4.
     chain_or (value_at tables None Lease ms) _ fault _ _ (value_fault tables None Lease ms) e4 (λ leases d e5.
     let most = unwrap_or system_max SYSTEM_MAX in
-    let begin = nothing (unwrap_or margin 1) in
+    let begin = empty_intake (unwrap_or margin 1) in
     inr (
       refl,
       record {
@@ -330,12 +330,12 @@ no_tree true None fault e = cc
 no_tree true (Some ms) fault e = absurd cc
 no_tree false o fault e = cc
 
-tree_fails : (bytes : List ℕ) (fault : InvFault) → tree_of bytes ≡ Err fault → fault ≡ NotToml
-unfolding tree_of
+tree_fails : (bytes : List ℕ) (fault : InvFault) → document_tree bytes ≡ Err fault → fault ≡ NotToml
+unfolding document_tree
 tree_fails bytes fault e = no_tree (is_utf8 bytes) (parse_document bytes) fault e
 
 pub first_fault_law : FirstFaultLaw
 unfolding read_served served_of
 first_fault_law bytes fault e =
-    bind_err (tree_of bytes) _ fault e (λ fails. inl (fails, tree_fails bytes fault fails)) (λ ms read later.
+    bind_err (document_tree bytes) _ fault e (λ fails. inl (fails, tree_fails bytes fault fails)) (λ ms read later.
     bind_err (intake_of full ms) _ fault later (λ fails. inr (ms, read, intake_first ms fault fails)) (λ t is ok. absurd cc))

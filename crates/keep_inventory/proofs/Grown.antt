@@ -13,16 +13,16 @@ use Rattle.keep_inventory.specs.declared.row.Row.{Row}
 use Rattle.keep_inventory.specs.declared.terms.Terms.{Terms}
 use Rattle.keep_inventory.specs.Inventories.{credential_at, terms_at}
 use Rattle.keep_inventory.specs.Served.{Served, note_at}
-use Rattle.keep_inventory.specs.Intake.{Intake, inventory_with}
+use Rattle.keep_inventory.specs.Intake.{Intake, inventory_of_intake}
 use Rattle.keep_inventory.specs.Inventory.{entered_by}
-use Rattle.keep_inventory.specs.Written.{IsLease, IsNamed, IsParent, IsToken, count_of}
+use Rattle.keep_inventory.specs.Written.{IsLease, IsParent, IsToken, ParentIsNamed, count_of}
 use Rattle.keep_inventory.proofs.Chains.{bind_ok}
 use Rattle.keep_inventory.proofs.Inventories.{credential_new, credential_old, note_new, note_old, terms_new, terms_old}
 use Rattle.keep_inventory.proofs.Taken.{KeepsIt}
 
 -- what is served by the tables that were taken, whether or not a margin is written
 abbrev pub read_so_far : Intake → Served
-read_so_far s = record { inventory = inventory_with s; notes = s.notes; has_margin = false }
+read_so_far s = record { inventory = inventory_of_intake s; notes = s.notes; has_margin = false }
 
 -- ---- more entries, and the others as they were
 
@@ -90,7 +90,7 @@ pushed_new s t row p = record {
 abbrev pub SameNames : List Entry → List Entry → ℕ → Type 0
 SameNames es fs i = (p : ℕ) → p < i → (entry_at fs p).name ≡ (entry_at es p).name
 
-named_stays : (es fs : List Entry) (i : ℕ) (name : List ℕ) (parent : Option ℕ) → SameNames es fs i → IsNamed es i name parent → IsNamed fs i name parent
+named_stays : (es fs : List Entry) (i : ℕ) (name : List ℕ) (parent : Option ℕ) → SameNames es fs i → ParentIsNamed es i name parent → ParentIsNamed fs i name parent
 named_stays es fs i name None same is = is
 named_stays es fs i name (Some p) same is = (is.0, same p is.0 ∙ is.1)
 

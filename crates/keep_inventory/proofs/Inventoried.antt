@@ -19,12 +19,12 @@ use Rattle.keep_inventory.specs.declared.fault.InvFault.{InvFault}
 use Rattle.keep_inventory.specs.declared.key.Key.TheVariants.{Margin}
 use Rattle.keep_inventory.specs.declared.row.Row.{Row}
 use Rattle.keep_inventory.specs.declared.terms.Terms.{Terms}
-use Rattle.keep_inventory.specs.Inventories.{AreApart, IsSendable, IsInventory, Inventory, terms_at}
-use Rattle.keep_inventory.specs.Intake.{Intake, nothing, inventory_with}
+use Rattle.keep_inventory.specs.Inventories.{CredentialsAreApart, IsSendableText, IsInventory, Inventory, terms_at}
+use Rattle.keep_inventory.specs.Intake.{Intake, empty_intake, inventory_of_intake}
 use Rattle.keep_inventory.specs.Languages.{Language, full}
-use Rattle.keep_inventory.specs.Served.{IsServed, Served, first_open, unless, whole_of}
-use Rattle.keep_inventory.specs.Values.{there}
-use Rattle.keep_inventory.specs.Inventory.{token_entered, lease_entered, intake_of, read_inventory, read_served, served_of, tree_of}
+use Rattle.keep_inventory.specs.Served.{IsServedInventory, Served, first_open, inventory_if_whole, unless}
+use Rattle.keep_inventory.specs.Values.{is_key_there}
+use Rattle.keep_inventory.specs.Inventory.{token_entered, lease_entered, intake_of, read_inventory, read_served, served_of, document_tree}
 use Rattle.keep_inventory.specs.Laws.{InventoryLaw, SendableLaw, ServedLaw}
 use Rattle.keep_inventory.proofs.Chains.{bind_ok}
 use Rattle.keep_inventory.proofs.Apart.{Unlike, last_or_before, unlike_more}
@@ -46,8 +46,8 @@ record Sorted (s : Intake) : Type 0 where
   leases : (i : ℕ) → length s.secrets ≤ i → i < length s.forest.entries → (entry_at s.forest.entries i).kind ≡ kind.Lease
   secrets_unlike : Unlike s.secrets
   lease_ids_unlike : Unlike s.lease_ids
-  secrets_sendable : All IsSendable s.secrets
-  lease_ids_sendable : All IsSendable s.lease_ids
+  secrets_sendable : All IsSendableText s.secrets
+  lease_ids_sendable : All IsSendableText s.lease_ids
   good : (i : ℕ) → i < length s.forest.entries → IsGood (entry_at s.forest.entries i) (terms_at s.terms i)
 
 -- no lease yet
@@ -57,7 +57,7 @@ TokensAlone s = Sorted s × (length s.lease_ids ≡ 0)
 -- what a row has by itself
 record IsRowOf (k : Kind) (row : Row) : Type 0 where
   kind : row.entry.kind ≡ k
-  sendable : IsSendable row.credential
+  sendable : IsSendableText row.credential
   good : IsGood row.entry row.terms
 
 kind_old : (es : List Entry) (e : Entry) (k : Kind) (i : ℕ) → i < length es → (entry_at es i).kind ≡ k → (entry_at (es ++ e ∷ []) i).kind ≡ k
@@ -100,7 +100,7 @@ token_sorted s row is fits alone =
         leases = λ i past h. absurd (omega (arith, past, h, l, k, m, none));
         secrets_unlike = unlike_more s.secrets row.credential fits.fresh old.secrets_unlike;
         lease_ids_unlike = old.lease_ids_unlike;
-        secrets_sendable = All-push IsSendable s.secrets row.credential old.secrets_sendable is.sendable;
+        secrets_sendable = All-push IsSendableText s.secrets row.credential old.secrets_sendable is.sendable;
         lease_ids_sendable = old.lease_ids_sendable;
         good = good_more s.forest.entries s.terms row.entry row.terms c old.good is.good;
       },
@@ -128,7 +128,7 @@ lease_sorted s row is fits old =
       secrets_unlike = old.secrets_unlike;
       lease_ids_unlike = unlike_more s.lease_ids row.credential fits.fresh old.lease_ids_unlike;
       secrets_sendable = old.secrets_sendable;
-      lease_ids_sendable = All-push IsSendable s.lease_ids row.credential old.lease_ids_sendable is.sendable;
+      lease_ids_sendable = All-push IsSendableText s.lease_ids row.credential old.lease_ids_sendable is.sendable;
       good = good_more s.forest.entries s.terms row.entry row.terms c old.good is.good;
     }
 
@@ -158,7 +158,7 @@ lease_step l system_max s t ms m e =
     let row = taken.0 in
     subst Sorted taken.3 (lease_sorted s row (lease_is l system_max s.forest s.lease_ids ms row (lease_parts l system_max s.forest ms row taken.1) taken.2) taken.2 m)
 
-none_sorted : (margin : ℕ) → Within 1 MARGIN_MAX margin → TokensAlone (nothing margin)
+none_sorted : (margin : ℕ) → Within 1 MARGIN_MAX margin → TokensAlone (empty_intake margin)
 none_sorted margin within = (
   record {
     forest = empty_is_forest margin (omega (arith, within.0)) within.1;
@@ -169,8 +169,8 @@ none_sorted margin within = (
     leases = λ i past h. absurd (omega (arith, h));
     secrets_unlike = λ i j a b same. absurd (omega (arith, a));
     lease_ids_unlike = λ i j a b same. absurd (omega (arith, a));
-    secrets_sendable = All-nil IsSendable;
-    lease_ids_sendable = All-nil IsSendable;
+    secrets_sendable = All-nil IsSendableText;
+    lease_ids_sendable = All-nil IsSendableText;
     good = λ i h. absurd (omega (arith, h));
   },
   refl,
@@ -182,7 +182,7 @@ differ : (s : Intake) → Sorted s → (i j : ℕ) → i < length s.secrets → 
 differ s sorted i j a b c same =
     let both : kind.Token ≡ kind.Lease = sym (sorted.tokens i a) ∙ same ∙ sorted.leases j b c in cc
 
-sorted_apart : (s : Intake) → Sorted s → AreApart (inventory_with s)
+sorted_apart : (s : Intake) → Sorted s → CredentialsAreApart (inventory_of_intake s)
 sorted_apart s sorted i j a b kinds same =
     let n = length s.secrets in
     let m = sorted.matched in
@@ -200,37 +200,37 @@ sorted_apart s sorted i j a b kinds same =
     (cases_lt j n))
     (cases_lt i n)
 
-sorted_is_inventory : (s : Intake) → Sorted s → IsInventory (inventory_with s)
+sorted_is_inventory : (s : Intake) → Sorted s → IsInventory (inventory_of_intake s)
 sorted_is_inventory s sorted = record {
   forest = sorted.forest;
   credentials = length-append s.secrets s.lease_ids ∙ sorted.matched;
   terms = sorted.termed;
   apart = sorted_apart s sorted;
-  sendable = All-append IsSendable s.secrets s.lease_ids sorted.secrets_sendable sorted.lease_ids_sendable;
+  sendable = All-append IsSendableText s.secrets s.lease_ids sorted.secrets_sendable sorted.lease_ids_sendable;
   steps = λ i h. (sorted.good i h).0;
   step_is = λ i h. (sorted.good i h).1;
   ceiling_is = λ i h. (sorted.good i h).2;
 }
 
-pub intake_is_served : (l : Language) (ms : Members) (t : Intake) (has_margin : Bool) → intake_of l ms ≡ Ok t → IsServed (record { inventory = inventory_with t; notes = t.notes; has_margin = has_margin })
+pub intake_is_served : (l : Language) (ms : Members) (t : Intake) (has_margin : Bool) → intake_of l ms ≡ Ok t → IsServedInventory (record { inventory = inventory_of_intake t; notes = t.notes; has_margin = has_margin })
 intake_is_served l ms t has_margin e =
     let sorted = intake_keeps TokensAlone Sorted none_sorted (λ s alone. alone.0) l (token_step l) (lease_step l) ms t e in
     record { inventory = sorted_is_inventory t sorted; notes = sorted.noted }
 
-served_of_is : (l : Language) (ms : Members) (v : Served) → served_of l ms ≡ Ok v → IsServed v
+served_of_is : (l : Language) (ms : Members) (v : Served) → served_of l ms ≡ Ok v → IsServedInventory v
 unfolding served_of
 served_of_is l ms v e =
     bind_ok (intake_of l ms) _ v e (λ t is e1.
-    let same : ◌≡◌ {A = Served} (record { inventory = inventory_with t; notes = t.notes; has_margin = there Margin ms }) v = cc in
-    subst IsServed same (intake_is_served l ms t (there Margin ms) is))
+    let same : ◌≡◌ {A = Served} (record { inventory = inventory_of_intake t; notes = t.notes; has_margin = is_key_there Margin ms }) v = cc in
+    subst IsServedInventory same (intake_is_served l ms t (is_key_there Margin ms) is))
 
 pub served_law : ServedLaw
 unfolding read_served
-served_law bytes v e = bind_ok (tree_of bytes) _ v e (λ ms read e1. served_of_is full ms v e1)
+served_law bytes v e = bind_ok (document_tree bytes) _ v e (λ ms read e1. served_of_is full ms v e1)
 
 -- an inventory that is read was read of what is served
 pub whole_is : (bytes : List ℕ) (inventory : Inventory) → read_inventory bytes ≡ Ok inventory → (v : Served) × (read_served bytes ≡ Ok v) × (v.inventory ≡ inventory)
-unfolding read_inventory whole_of
+unfolding read_inventory inventory_if_whole
 whole_is bytes inventory e = bind_ok (read_served bytes) _ inventory e (λ v read e1. (v, read, closed v.inventory (first_open 0 v.notes) e1))
   where
     closed : (i : Inventory) (o : Option InvFault) → unless i o ≡ Ok inventory → i ≡ inventory

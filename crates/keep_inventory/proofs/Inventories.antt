@@ -11,13 +11,13 @@ use Rattle.std.proofs.Math.Seq.{get_or-append_right}
 use Rattle.keep_tree.specs.Forest.{entry_at}
 use Rattle.keep_inventory.specs.declared.note.Note.{Note}
 use Rattle.keep_inventory.specs.declared.terms.Terms.{Terms}
-use Rattle.keep_inventory.specs.Inventories.{IsSendable, IsInventory, Inventory, no_terms, terms_at, credential_at}
+use Rattle.keep_inventory.specs.Inventories.{IsSendableText, IsInventory, Inventory, empty_terms, terms_at, credential_at}
 use Rattle.keep_inventory.specs.Served.{no_note, note_at}
 use Rattle.keep_inventory.specs.Laws.{TextLaw}
 
 pub terms_read : (ts : List Terms) (i : ℕ) (x : Terms) → i < length ts → x ≡ get_or ts i x → x ≡ terms_at ts i
 unfolding terms_at
-terms_read ts i x h e = get_or_read ts i x h e no_terms
+terms_read ts i x h e = get_or_read ts i x h e empty_terms
 
 pub credential_read : (cs : List (List ℕ)) (i : ℕ) (x : List ℕ) → i < length cs → x ≡ get_or cs i x → x ≡ credential_at cs i
 unfolding credential_at
@@ -34,11 +34,11 @@ second_half ss ls i h = sym (get_or-append_right ss ls i [] h)
 -- what is read at an index after one more was pushed
 pub terms_old : (ts : List Terms) (t : Terms) (i : ℕ) → i < length ts → terms_at (ts ++ t ∷ []) i ≡ terms_at ts i
 unfolding terms_at
-terms_old ts t i h = get_or_append_left ts (t ∷ []) no_terms i h
+terms_old ts t i h = get_or_append_left ts (t ∷ []) empty_terms i h
 
 pub terms_new : (ts : List Terms) (t : Terms) (n : ℕ) → length ts ≡ n → terms_at (ts ++ t ∷ []) n ≡ t
 unfolding terms_at
-terms_new ts t n h = get_or_push ts t no_terms n h
+terms_new ts t n h = get_or_push ts t empty_terms n h
 
 pub note_old : (ns : List Note) (n : Note) (i : ℕ) → i < length ns → note_at (ns ++ n ∷ []) i ≡ note_at ns i
 unfolding note_at
@@ -57,9 +57,9 @@ unfolding credential_at
 credential_new cs c n h = get_or_push cs c [] n h
 
 -- each of these texts can be sent
-pub sendable_at : (cs : List (List ℕ)) (i : ℕ) → i < length cs → All IsSendable cs → IsSendable (credential_at cs i)
+pub sendable_at : (cs : List (List ℕ)) (i : ℕ) → i < length cs → All IsSendableText cs → IsSendableText (credential_at cs i)
 unfolding credential_at
-sendable_at cs i h all = All-get_or IsSendable cs i [] h all
+sendable_at cs i h all = All-get_or IsSendableText cs i [] h all
 
 -- what can be sent is ASCII, so UTF-8
 pub text_law : TextLaw

@@ -11,10 +11,10 @@ use Rattle.keep_inventory.specs.declared.row.Row.{Row}
 use Rattle.keep_inventory.specs.declared.terms.Terms.{Terms}
 use Rattle.keep_inventory.specs.Languages.{Language}
 use Rattle.keep_inventory.specs.Keys.{token_keys, lease_keys}
-use Rattle.keep_inventory.specs.Values.{only, need, text, credential, value_at, needed}
+use Rattle.keep_inventory.specs.Values.{only, need, text, credential, value_at, needed_value}
 use Rattle.keep_inventory.specs.Terms.{step_of, ceiling_of}
 use Rattle.keep_inventory.specs.Needs.{until_of}
-use Rattle.keep_inventory.specs.Rows.{file_at, index_or_none, note_of, life_of, lease_row, lease_terms, token_row, token_terms}
+use Rattle.keep_inventory.specs.Rows.{file_at, index_or_none, note_of, life_of_table, lease_row, lease_terms, token_row, token_terms}
 use Rattle.keep_inventory.proofs.Chains.{bind_ok}
 
 abbrev pub made_token : Forest → List ℕ → Option (List ℕ) → Life → Terms → Option needs.Need → Option (List ℕ) → Option (List ℕ) → Row
@@ -39,11 +39,11 @@ pub record TokenParts (l : Language) (system_max : ℕ) (g : Forest) (ms : Membe
   pub name_if : Option (List ℕ)
   pub name_read : value_at text (Some (length g.entries)) Name ms ≡ Ok name_if
   pub name : List ℕ
-  pub name_there : needed (length g.entries) Name name_if ≡ Ok name
+  pub name_there : needed_value (length g.entries) Name name_if ≡ Ok name
   pub parent : Option (List ℕ)
   pub parent_read : value_at text (Some (length g.entries)) Parent ms ≡ Ok parent
   pub life : Life
-  pub life_read : life_of l (length g.entries) ms ≡ Ok life
+  pub life_read : life_of_table l (length g.entries) ms ≡ Ok life
   pub terms : Terms
   pub terms_read : token_terms l system_max (length g.entries) life.issued ms ≡ Ok terms
   pub need_if : Option needs.Need
@@ -60,13 +60,13 @@ pub record LeaseParts (l : Language) (system_max : ℕ) (g : Forest) (ms : Membe
   pub name_if : Option (List ℕ)
   pub name_read : value_at text (Some (length g.entries)) Name ms ≡ Ok name_if
   pub name : List ℕ
-  pub name_there : needed (length g.entries) Name name_if ≡ Ok name
+  pub name_there : needed_value (length g.entries) Name name_if ≡ Ok name
   pub token_if : Option (List ℕ)
   pub token_read : value_at text (Some (length g.entries)) Token ms ≡ Ok token_if
   pub token : List ℕ
-  pub token_there : needed (length g.entries) Token token_if ≡ Ok token
+  pub token_there : needed_value (length g.entries) Token token_if ≡ Ok token
   pub life : Life
-  pub life_read : life_of l (length g.entries) ms ≡ Ok life
+  pub life_read : life_of_table l (length g.entries) ms ≡ Ok life
   pub terms : Terms
   pub terms_read : lease_terms l system_max (length g.entries) life.issued ms ≡ Ok terms
   pub need_if : Option needs.Need
@@ -82,9 +82,9 @@ unfolding token_row
 token_parts l system_max g ms row e =
     bind_ok (only (token_keys l) (Some (length g.entries)) ms) _ row e (λ known a0 e0.
     bind_ok (value_at text (Some (length g.entries)) Name ms) _ row e0 (λ name_if a1 e1.
-    bind_ok (needed (length g.entries) Name name_if) _ row e1 (λ name a2 e2.
+    bind_ok (needed_value (length g.entries) Name name_if) _ row e1 (λ name a2 e2.
     bind_ok (value_at text (Some (length g.entries)) Parent ms) _ row e2 (λ parent a3 e3.
-    bind_ok (life_of l (length g.entries) ms) _ row e3 (λ life a4 e4.
+    bind_ok (life_of_table l (length g.entries) ms) _ row e3 (λ life a4 e4.
     bind_ok (token_terms l system_max (length g.entries) life.issued ms) _ row e4 (λ terms a5 e5.
     bind_ok (value_at (need l) (Some (length g.entries)) Need ms) _ row e5 (λ need_if a6 e6.
     bind_ok (value_at credential (Some (length g.entries)) Secret ms) _ row e6 (λ secret a7 e7.
@@ -116,10 +116,10 @@ unfolding lease_row
 lease_parts l system_max g ms row e =
     bind_ok (only (lease_keys l) (Some (length g.entries)) ms) _ row e (λ known a0 e0.
     bind_ok (value_at text (Some (length g.entries)) Name ms) _ row e0 (λ name_if a1 e1.
-    bind_ok (needed (length g.entries) Name name_if) _ row e1 (λ name a2 e2.
+    bind_ok (needed_value (length g.entries) Name name_if) _ row e1 (λ name a2 e2.
     bind_ok (value_at text (Some (length g.entries)) Token ms) _ row e2 (λ token_if a3 e3.
-    bind_ok (needed (length g.entries) Token token_if) _ row e3 (λ token a4 e4.
-    bind_ok (life_of l (length g.entries) ms) _ row e4 (λ life a5 e5.
+    bind_ok (needed_value (length g.entries) Token token_if) _ row e3 (λ token a4 e4.
+    bind_ok (life_of_table l (length g.entries) ms) _ row e4 (λ life a5 e5.
     bind_ok (lease_terms l system_max (length g.entries) life.issued ms) _ row e5 (λ terms a6 e6.
     bind_ok (value_at (need l) (Some (length g.entries)) Need ms) _ row e6 (λ need_if a7 e7.
     bind_ok (value_at credential (Some (length g.entries)) LeaseId ms) _ row e7 (λ lease_id a8 e8.

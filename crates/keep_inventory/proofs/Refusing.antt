@@ -4,11 +4,11 @@ use Rattle.keep_tree.specs.declared.entry.Entry.{Entry}
 use Rattle.keep_tree.specs.declared.fault.TreeFault.{TreeFault}
 use Rattle.keep_tree.specs.declared.fault.TreeFault.TheVariants.{BadName, NameTwice, NoParent, ParentIsLease, LeaseWithoutToken, StepTooSmall, OutOfRange, TooDeep, Full, OutOfMemory}
 use Rattle.keep_tree.specs.Forest.{Forest}
-use Rattle.keep_tree.specs.Push.{refusal}
+use Rattle.keep_tree.specs.Push.{entry_refusal}
 use Rattle.keep_inventory.specs.declared.fault.InvFault.{InvFault}
 use Rattle.keep_inventory.specs.declared.fault.InvFault.TheVariants.{Tree}
 use Rattle.keep_inventory.specs.Answers.{Fails}
-use Rattle.keep_inventory.specs.Intake.{appended, pushed, told_as}
+use Rattle.keep_inventory.specs.Intake.{appended, pushed, tree_fault_told}
 
 skip : (b : Bool) (fault : TreeFault) (rest : Option TreeFault) → fault ≢ OutOfMemory → rest ≢ Some OutOfMemory → cond b (Some fault) rest ≢ Some OutOfMemory
 skip true fault rest other later e = other cc
@@ -24,7 +24,7 @@ differs fault no_memory same = let bad : false ≡ true = sym no_memory ∙ ap i
 none_left : ◌≡◌ {A = Option TreeFault} None (Some OutOfMemory) → ⊥
 none_left e = cc
 
-pub never_memory : (g : Forest) (e : Entry) → refusal g e ≢ Some OutOfMemory
+pub never_memory : (g : Forest) (e : Entry) → entry_refusal g e ≢ Some OutOfMemory
 never_memory g e =
     skip _ BadName _ (differs BadName refl)
     (skip _ NameTwice _ (differs NameTwice refl)
@@ -37,7 +37,7 @@ never_memory g e =
     (skip _ Full _ (differs Full refl) none_left))))))))
 
 -- a refusal is told as one
-told_tree : (index : ℕ) (fault : TreeFault) → fault ≢ OutOfMemory → told_as index fault ≡ Tree index fault
+told_tree : (index : ℕ) (fault : TreeFault) → fault ≢ OutOfMemory → tree_fault_told index fault ≡ Tree index fault
 told_tree index BadName other = refl
 told_tree index NameTwice other = refl
 told_tree index NoParent other = refl
@@ -49,7 +49,7 @@ told_tree index TooDeep other = refl
 told_tree index Full other = refl
 told_tree index OutOfMemory other = absurd (other refl)
 
-module _ (g : Forest) (e : Entry) (answer : Result ℕ TreeFault) (fault : TreeFault) (index : ℕ) (result : InvFault) (place : index ≡ length g.entries) (failed : answer ≡ Err fault) (is : result ≡ told_as index fault) where
+module _ (g : Forest) (e : Entry) (answer : Result ℕ TreeFault) (fault : TreeFault) (index : ℕ) (result : InvFault) (place : index ≡ length g.entries) (failed : answer ≡ Err fault) (is : result ≡ tree_fault_told index fault) where
   abbrev Told : Option TreeFault → Type 0
   Told o = Fails result (appended g e o) × IfSome o (λ f. ◌≡◌ {A = Result (Unit {0}) InvFault} (Err result) (Err (Tree (length g.entries) f)))
 
@@ -61,9 +61,9 @@ module _ (g : Forest) (e : Entry) (answer : Result ℕ TreeFault) (fault : TreeF
       (subst (λ (x : InvFault). Fails x (appended g e (Some f))) (sym told) refl, ap (λ (x : InvFault). Err x) told)
   by_refusal None other refused memory =
       let same : fault ≡ OutOfMemory = subst (λ (r : Result ℕ TreeFault). IsOkUnless r OutOfMemory) failed (memory refl) in
-      (subst (λ (x : InvFault). Fails x (appended g e None)) (sym (is ∙ ap (told_as index) same)) tt, tt)
+      (subst (λ (x : InvFault). Fails x (appended g e None)) (sym (is ∙ ap (tree_fault_told index) same)) tt, tt)
 
-  pub told_refused : IfSome (refusal g e) (λ f. answer ≡ Err f) → (refusal g e ≡ None → IsOkUnless answer OutOfMemory) →
-      Fails result (pushed g e) × IfSome (refusal g e) (λ f. ◌≡◌ {A = Result (Unit {0}) InvFault} (Err result) (Err (Tree (length g.entries) f)))
+  pub told_refused : IfSome (entry_refusal g e) (λ f. answer ≡ Err f) → (entry_refusal g e ≡ None → IsOkUnless answer OutOfMemory) →
+      Fails result (pushed g e) × IfSome (entry_refusal g e) (λ f. ◌≡◌ {A = Result (Unit {0}) InvFault} (Err result) (Err (Tree (length g.entries) f)))
   unfolding pushed
-  told_refused refused memory = by_refusal (refusal g e) (never_memory g e) refused memory
+  told_refused refused memory = by_refusal (entry_refusal g e) (never_memory g e) refused memory

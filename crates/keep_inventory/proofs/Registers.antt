@@ -10,11 +10,11 @@ use Rattle.std.specs.Ordering.{nat_cmp, is_eq}
 use Rattle.std.specs.Set.{KeepsOthers}
 use Rattle.keep_tree.proofs.Names.{apart}
 use Rattle.keep_inventory.specs.Found.{has}
-use Rattle.keep_inventory.specs.Intake.{holds}
+use Rattle.keep_inventory.specs.Intake.{has_text}
 
 -- a set with no text
-pub has_none : (s : BTreeSet (Vec ℕ Global)) → IsEmpty s → (q : List ℕ) → has s q ≡ holds [] q
-unfolding holds
+pub has_none : (s : BTreeSet (Vec ℕ Global)) → IsEmpty s → (q : List ℕ) → has s q ≡ has_text [] q
+unfolding has_text
 has_none s empty q = ap (list_any (λ k. is_eq (slice_cmp nat_cmp q k.items))) empty
 
 module _ {K : Type 0} (eq : K → K → Bool) (test : K → Bool) where
@@ -44,8 +44,8 @@ any_push p [] text = or_none (p text)
 any_push p (t ∷ ts) text = or_last (p text) (p t) (list_any p ts) ∙ ap (λ b. p t || b) (any_push p ts text)
 
 -- one text more in the set, and one more in the list, at the end
-pub registered : (texts : List (List ℕ)) (text : List ℕ) (m n : BTreeSet (Vec ℕ Global)) (key : Vec ℕ Global) → key.items ≡ text → ((q : List ℕ) → has m q ≡ holds texts q) → Updates (λ x y. slice_cmp nat_cmp x.items y.items) m n key true → (q : List ℕ) → has n q ≡ holds (texts ++ text ∷ []) q
-unfolding holds
+pub registered : (texts : List (List ℕ)) (text : List ℕ) (m n : BTreeSet (Vec ℕ Global)) (key : Vec ℕ Global) → key.items ≡ text → ((q : List ℕ) → has m q ≡ has_text texts q) → Updates (λ x y. slice_cmp nat_cmp x.items y.items) m n key true → (q : List ℕ) → has n q ≡ has_text (texts ++ text ∷ []) q
+unfolding has_text
 registered texts text m n key is found updates q =
     has-insert m n key updates q
     ∙ ap (λ k. cond (bytes_eq k q) true (has m q)) is

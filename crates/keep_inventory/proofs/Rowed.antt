@@ -5,7 +5,7 @@ use Rattle.std.specs.Cmp.Lexicographic.{bytes_decides}
 use Rattle.toml.specs.Data.{Data, Members, get_member}
 use Rattle.keep_tree.specs.declared.entry.Entry.{Entry}
 use Rattle.keep_tree.specs.Forest.{Forest, entry_at, index_named}
-use Rattle.keep_tree.specs.Push.{lacks_parent, refusal}
+use Rattle.keep_tree.specs.Push.{entry_refusal, lacks_parent}
 use Rattle.keep_tree.proofs.Placed.{parent_below, taken_from_refusal}
 use Rattle.keep_inventory.specs.declared.fault.InvFault.{InvFault}
 use Rattle.keep_inventory.specs.declared.fault.InvFault.TheVariants.{BadValue, UnknownKey}
@@ -17,10 +17,10 @@ use Rattle.keep_inventory.specs.declared.row.Row.{Row}
 use Rattle.keep_inventory.specs.declared.terms.Terms.{Terms}
 use Rattle.keep_inventory.specs.Languages.{full}
 use Rattle.keep_inventory.specs.Keys.{all_keys, is_one_of, key_text, lease_keys, token_keys}
-use Rattle.keep_inventory.specs.Values.{alone_if, credential, ending, flag, has_if, moment, need, needed, only, path, read_if, span, text, there, value_at}
+use Rattle.keep_inventory.specs.Values.{alone_if, credential, end_value, flag_value, has_if, is_key_there, moment_value, need, needed_value, only, path, read_if, span, text, value_at}
 use Rattle.keep_inventory.specs.Terms.{max_ttl_of}
-use Rattle.keep_inventory.specs.Rows.{file_at, index_or_none, lease_row, lease_terms, life_of, step_or, token_row, token_terms}
-use Rattle.keep_inventory.specs.Written.{IsLease, IsNamed, IsParent, IsSecret, IsToken, IsTold, Writes, WritesMost, WritesOr}
+use Rattle.keep_inventory.specs.Rows.{file_at, index_or_none, lease_row, lease_terms, life_of_table, step_or, token_row, token_terms}
+use Rattle.keep_inventory.specs.Written.{EndIsTold, IsLease, IsParent, IsSecret, IsToken, ParentIsNamed, WritesKey, WritesMost, WritesOr}
 use Rattle.keep_inventory.proofs.Chains.{bind_ok, test_passed}
 use Rattle.keep_inventory.proofs.Parts.{lease_parts, made_lease, made_token, token_parts}
 
@@ -29,23 +29,23 @@ use Rattle.keep_inventory.proofs.Parts.{lease_parts, made_lease, made_token, tok
 abbrev taken : {A : Type 0} → Option ℕ → Key → Option A → Result (Option A) InvFault
 taken place key o = elim o [ Some x ↦ Ok (Some x) | None ↦ Err (BadValue place key) ]
 
-found_writes : {A : Type 0} (f : Data → Option A) (place : Option ℕ) (key : Key) (ms : Members) (d : Data) (r o : Option A) → get_member (key_text key) ms ≡ Some d → f d ≡ r → taken place key r ≡ Ok o → Writes f key ms o
-found_writes f place key ms d (Some x) o there reads e = let same : Some x ≡ o = cc in subst (λ u. Writes f key ms u) same (d, there, reads)
+found_writes : {A : Type 0} (f : Data → Option A) (place : Option ℕ) (key : Key) (ms : Members) (d : Data) (r o : Option A) → get_member (key_text key) ms ≡ Some d → f d ≡ r → taken place key r ≡ Ok o → WritesKey f key ms o
+found_writes f place key ms d (Some x) o there reads e = let same : Some x ≡ o = cc in subst (λ u. WritesKey f key ms u) same (d, there, reads)
 found_writes f place key ms d None o there reads e = absurd cc
 
-member_writes : {A : Type 0} (f : Data → Option A) (place : Option ℕ) (key : Key) (ms : Members) (m : Option Data) (o : Option A) → get_member (key_text key) ms ≡ m → read_if f place key m ≡ Ok o → Writes f key ms o
-member_writes f place key ms None o absent e = let same : None ≡ o = cc in subst (λ u. Writes f key ms u) same absent
+member_writes : {A : Type 0} (f : Data → Option A) (place : Option ℕ) (key : Key) (ms : Members) (m : Option Data) (o : Option A) → get_member (key_text key) ms ≡ m → read_if f place key m ≡ Ok o → WritesKey f key ms o
+member_writes f place key ms None o absent e = let same : None ≡ o = cc in subst (λ u. WritesKey f key ms u) same absent
 member_writes f place key ms (Some d) o there e = found_writes f place key ms d (f d) o there refl e
 
-pub writes_is : {A : Type 0} (f : Data → Option A) (place : Option ℕ) (key : Key) (ms : Members) (o : Option A) → value_at f place key ms ≡ Ok o → Writes f key ms o
+pub writes_is : {A : Type 0} (f : Data → Option A) (place : Option ℕ) (key : Key) (ms : Members) (o : Option A) → value_at f place key ms ≡ Ok o → WritesKey f key ms o
 writes_is f place key ms o e = member_writes f place key ms (get_member (key_text key) ms) o refl e
 
-needed_is : {A : Type 0} (index : ℕ) (key : Key) (o : Option A) (x : A) → needed index key o ≡ Ok x → o ≡ Some x
+needed_is : {A : Type 0} (index : ℕ) (key : Key) (o : Option A) (x : A) → needed_value index key o ≡ Ok x → o ≡ Some x
 needed_is index key (Some y) x e = let same : y ≡ x = cc in ap Some same
 needed_is index key None x e = absurd cc
 
-needed_writes : {A : Type 0} (f : Data → Option A) (place : Option ℕ) (index : ℕ) (key : Key) (ms : Members) (o : Option A) (x : A) → value_at f place key ms ≡ Ok o → needed index key o ≡ Ok x → Writes f key ms (Some x)
-needed_writes f place index key ms o x read there = subst (λ u. Writes f key ms u) (needed_is index key o x there) (writes_is f place key ms o read)
+needed_writes : {A : Type 0} (f : Data → Option A) (place : Option ℕ) (index : ℕ) (key : Key) (ms : Members) (o : Option A) (x : A) → value_at f place key ms ≡ Ok o → needed_value index key o ≡ Ok x → WritesKey f key ms (Some x)
+needed_writes f place index key ms o x read there = subst (λ u. WritesKey f key ms u) (needed_is index key o x there) (writes_is f place key ms o read)
 
 passed : (b : Bool) (f : InvFault) (u : Unit {0}) → cond b (Ok tt) (Err f) ≡ Ok u → b ≡ true
 passed true f u e = refl
@@ -57,32 +57,32 @@ only_is keys place ms u e = passed (all_keys (is_one_of keys) ms) (UnknownKey pl
 -- ---- issue, end, and whether it can be renewed
 
 record Lived (ms : Members) (life : Life) (e : Entry) (t : Terms) : Type 0 where
-  told : t.issued ≡ life.issued → e.end ≡ life.end → IsTold ms e t life.is_told
-  renewable : WritesOr flag Renewable ms true life.renewable
+  told : t.issued ≡ life.issued → e.end ≡ life.end → EndIsTold ms e t life.is_told
+  renewable : WritesOr flag_value Renewable ms true life.renewable
 
-told_is : (ms : Members) (e : Entry) (t : Terms) (issued ends : Option ℕ) (u w : Unit {0}) (index : ℕ) → Writes moment Issued ms issued → Writes ending End ms ends →
-    has_if (there End ms) index Issued (is_some issued) ≡ Ok u → has_if (is_some issued) index End (is_some ends) ≡ Ok w → t.issued ≡ unwrap_or issued 0 → e.end ≡ unwrap_or ends 0 → IsTold ms e t (is_some issued)
-told_is ms e t (Some n) (Some m) u w index a b c d same_issue same_end = (subst (λ k. Writes moment Issued ms (Some k)) (sym same_issue) a, subst (λ k. Writes ending End ms (Some k)) (sym same_end) b)
+told_is : (ms : Members) (e : Entry) (t : Terms) (issued ends : Option ℕ) (u w : Unit {0}) (index : ℕ) → WritesKey moment_value Issued ms issued → WritesKey end_value End ms ends →
+    has_if (is_key_there End ms) index Issued (is_some issued) ≡ Ok u → has_if (is_some issued) index End (is_some ends) ≡ Ok w → t.issued ≡ unwrap_or issued 0 → e.end ≡ unwrap_or ends 0 → EndIsTold ms e t (is_some issued)
+told_is ms e t (Some n) (Some m) u w index a b c d same_issue same_end = (subst (λ k. WritesKey moment_value Issued ms (Some k)) (sym same_issue) a, subst (λ k. WritesKey end_value End ms (Some k)) (sym same_end) b)
 told_is ms e t (Some n) None u w index a b c d same_issue same_end = absurd cc
 told_is ms e t None (Some m) u w index a b c d same_issue same_end = absurd (no_end ms index u b.0 b.1 c)
   where
-    no_end : (ms : Members) (index : ℕ) (u : Unit {0}) (d : Data) → get_member (key_text End) ms ≡ Some d → has_if (there End ms) index Issued false ≡ Ok u → ⊥
+    no_end : (ms : Members) (index : ℕ) (u : Unit {0}) (d : Data) → get_member (key_text End) ms ≡ Some d → has_if (is_key_there End ms) index Issued false ≡ Ok u → ⊥
     no_end ms index u d is e = let here : has_if true index Issued false ≡ Ok u = ap (λ (o : Option Data). has_if (is_some o) index Issued false) (sym is) ∙ e in cc
 told_is ms e t None None u w index a b c d same_issue same_end = (a, b, same_issue, same_end)
 
-lived : (index : ℕ) (ms : Members) (life : Life) (e : Entry) (t : Terms) → life_of full index ms ≡ Ok life → Lived ms life e t
-unfolding life_of
+lived : (index : ℕ) (ms : Members) (life : Life) (e : Entry) (t : Terms) → life_of_table full index ms ≡ Ok life → Lived ms life e t
+unfolding life_of_table
 lived index ms life e t read =
-    bind_ok (value_at moment (Some index) Issued ms) _ life read (λ issued a e1.
-    bind_ok (has_if (there End ms) index Issued (is_some issued)) _ life e1 (λ u b e2.
-    bind_ok (value_at ending (Some index) End ms) _ life e2 (λ ends c e3.
+    bind_ok (value_at moment_value (Some index) Issued ms) _ life read (λ issued a e1.
+    bind_ok (has_if (is_key_there End ms) index Issued (is_some issued)) _ life e1 (λ u b e2.
+    bind_ok (value_at end_value (Some index) End ms) _ life e2 (λ ends c e3.
     bind_ok (has_if (is_some issued) index End (is_some ends)) _ life e3 (λ w d e4.
-    bind_ok (value_at flag (Some index) Renewable ms) _ life e4 (λ renewable f e5.
+    bind_ok (value_at flag_value (Some index) Renewable ms) _ life e4 (λ renewable f e5.
     let made : Life = record { issued = unwrap_or issued 0; end = unwrap_or ends 0; renewable = unwrap_or renewable true; is_told = is_some issued } in
     let same : made ≡ life = cc in
     subst (λ (x : Life). Lived ms x e t) same (record {
-      told = λ same_issue same_end. told_is ms e t issued ends u w index (writes_is moment (Some index) Issued ms issued a) (writes_is ending (Some index) End ms ends c) b d same_issue same_end;
-      renewable = (renewable, writes_is flag (Some index) Renewable ms renewable f, refl);
+      told = λ same_issue same_end. told_is ms e t issued ends u w index (writes_is moment_value (Some index) Issued ms issued a) (writes_is end_value (Some index) End ms ends c) b d same_issue same_end;
+      renewable = (renewable, writes_is flag_value (Some index) Renewable ms renewable f, refl);
     }))))))
 
 -- ---- the terms
@@ -90,7 +90,7 @@ lived index ms life e t read =
 record TokenTerms (system_max from : ℕ) (ms : Members) (t : Terms) : Type 0 where
   issued : t.issued ≡ from
   increment : Option ℕ
-  written : Writes (span full 0 SPAN_MAX) Increment ms increment
+  written : WritesKey (span full 0 SPAN_MAX) Increment ms increment
   increment_is : t.increment ≡ step_or increment t.period
   period : WritesOr (span full 0 SPAN_MAX) Period ms 0 t.period
   max_ttl : WritesMost system_max ms t.max_ttl
@@ -118,7 +118,7 @@ token_termed system_max index issued ms t e =
 record LeaseTerms (system_max from : ℕ) (ms : Members) (t : Terms) : Type 0 where
   issued : t.issued ≡ from
   increment : Option ℕ
-  written : Writes (span full 0 SPAN_MAX) Increment ms increment
+  written : WritesKey (span full 0 SPAN_MAX) Increment ms increment
   increment_is : t.increment ≡ Some (unwrap_or increment STEP_ABSENT)
   period : t.period ≡ 0
   max_ttl : WritesMost system_max ms t.max_ttl
@@ -153,7 +153,7 @@ secret_is index key file_key ms name secret file a b =
       secret = secret;
       written = writes_is credential (Some index) key ms secret a;
       sent_is = refl;
-      file_written = subst (λ (x : Option (List ℕ)). Writes path file_key ms x) same (writes_is path (Some index) file_key ms o c);
+      file_written = subst (λ (x : Option (List ℕ)). WritesKey path file_key ms x) same (writes_is path (Some index) file_key ms o c);
       alone = subst (λ (x : Option (List ℕ)). is_some secret && is_some x ≡ false) same (test_passed (is_some secret && is_some o) (BadValue (Some index) file_key) u d);
     }))
 
@@ -179,7 +179,7 @@ found_index : (o : Option ℕ) (n p : ℕ) → unwrap_or o n ≡ p → p < n →
 found_index (Some i) n p e h = ap Some e
 found_index None n p e h = absurd (omega (arith, e, h))
 
-named_is : (g : Forest) (name : List ℕ) → index_or_none g name < length g.entries → IsNamed g.entries (length g.entries) name (Some (index_or_none g name))
+named_is : (g : Forest) (name : List ℕ) → index_or_none g name < length g.entries → ParentIsNamed g.entries (length g.entries) name (Some (index_or_none g name))
 unfolding index_or_none
 named_is g name h = (h, named_at g.entries name _ (found_index (index_named g.entries name) (length g.entries) _ refl h))
 
@@ -203,7 +203,7 @@ IsTokenRow system_max g ms row = IsToken system_max g.entries (length g.entries)
 abbrev IsLeaseRow : ℕ → Forest → Members → Row → Type 0
 IsLeaseRow system_max g ms row = IsLease system_max g.entries (length g.entries) ms row.entry row.credential row.terms row.note
 
-pub token_row_is : (system_max : ℕ) (g : Forest) (ms : Members) (row : Row) → token_row full system_max g ms ≡ Ok row → refusal g row.entry ≡ None → IsTokenRow system_max g ms row
+pub token_row_is : (system_max : ℕ) (g : Forest) (ms : Members) (row : Row) → token_row full system_max g ms ≡ Ok row → entry_refusal g row.entry ≡ None → IsTokenRow system_max g ms row
 token_row_is system_max g ms row read fits =
     let parts = token_parts full system_max g ms row read in
     let place = Some (length g.entries) in
@@ -236,7 +236,7 @@ token_row_is system_max g ms row read fits =
       secret = secret_is (length g.entries) Secret SecretFile ms parts.name parts.secret parts.file parts.secret_read parts.file_read;
     })
 
-pub lease_row_is : (system_max : ℕ) (g : Forest) (ms : Members) (row : Row) → lease_row full system_max g ms ≡ Ok row → refusal g row.entry ≡ None → IsLeaseRow system_max g ms row
+pub lease_row_is : (system_max : ℕ) (g : Forest) (ms : Members) (row : Row) → lease_row full system_max g ms ≡ Ok row → entry_refusal g row.entry ≡ None → IsLeaseRow system_max g ms row
 lease_row_is system_max g ms row read fits =
     let parts = lease_parts full system_max g ms row read in
     let place = Some (length g.entries) in

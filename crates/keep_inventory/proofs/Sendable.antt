@@ -10,7 +10,7 @@ use Rattle.std.proofs.lemmas.List.Elements.{All-append, All-nil, All-push}
 use Rattle.toml.specs.Data.{string, integer, float, boolean, datetime, array, table, Data, Members, get_member}
 use Rattle.keep_tree.specs.declared.forest.TheConstants.{NAME_MAX}
 use Rattle.keep_tree.specs.Forest.{Forest}
-use Rattle.keep_tree.specs.Push.{is_name, is_name_byte, refusal}
+use Rattle.keep_tree.specs.Push.{entry_refusal, is_name, is_name_byte}
 use Rattle.keep_tree.proofs.Placed.{taken_from_refusal}
 use Rattle.keep_inventory.specs.declared.fault.InvFault.{InvFault}
 use Rattle.keep_inventory.specs.declared.fault.InvFault.TheVariants.{BadValue}
@@ -20,7 +20,7 @@ use Rattle.keep_inventory.specs.declared.row.Row.{Row}
 use Rattle.keep_inventory.specs.Languages.{Language}
 use Rattle.keep_inventory.specs.Keys.{key_text}
 use Rattle.keep_inventory.specs.Values.{read_if, credential, is_credential}
-use Rattle.keep_inventory.specs.Inventories.{IsSendable}
+use Rattle.keep_inventory.specs.Inventories.{IsSendableText}
 use Rattle.keep_inventory.proofs.Parts.{TokenParts, LeaseParts}
 
 -- ---- bytes
@@ -50,7 +50,7 @@ within low high b l h e =
 visible : (b : ℕ) → is_in_range 0x21 0x7E b ≡ true → Fine b
 visible b e = within 0x21 0x7E b (omega arith) (omega arith) e
 
-credential_sendable : (bs : List ℕ) → is_credential bs ≡ true → IsSendable bs
+credential_sendable : (bs : List ℕ) → is_credential bs ≡ true → IsSendableText bs
 credential_sendable bs e =
     let one = and_parts (nat_lt 0 (length bs)) _ e in
     let two = and_parts (nat_le (length bs) 256) (list_all (is_in_range 0x21 0x7E) bs) one.1 in
@@ -72,7 +72,7 @@ name_byte b e =
     (λ k. either (b == 95) _ k (is 95 b (omega arith) (omega arith))
     (λ l. either (b == 46) (b == 47) l (is 46 b (omega arith) (omega arith)) (is 47 b (omega arith) (omega arith)))))
 
-name_sendable : (bs : List ℕ) → is_name bs ≡ true → IsSendable bs
+name_sendable : (bs : List ℕ) → is_name bs ≡ true → IsSendableText bs
 unfolding is_name
 name_sendable bs e =
     let one = and_parts (nat_lt 0 (length bs)) _ e in
@@ -83,10 +83,10 @@ name_sendable bs e =
 
 -- ---- the credential of a row
 
-judged : (d : Data) → IfSome (credential d) IsSendable
+judged : (d : Data) → IfSome (credential d) IsSendableText
 judged (string s) = judged_text s (is_credential s) (credential_sendable s)
   where
-    judged_text : (s : List ℕ) (b : Bool) → (b ≡ true → IsSendable s) → IfSome (cond b (Some s) None) IsSendable
+    judged_text : (s : List ℕ) (b : Bool) → (b ≡ true → IsSendableText s) → IfSome (cond b (Some s) None) IsSendableText
     judged_text s true h = h refl
     judged_text s false h = tt
 judged (integer z) = tt
@@ -99,28 +99,28 @@ judged (table ms) = tt
 abbrev taken : Option (List ℕ) → Option ℕ → Key → Result (Option (List ℕ)) InvFault
 taken o place key = elim o [ Some x ↦ Ok (Some x) | None ↦ Err (BadValue place key) ]
 
-found_sendable : (o : Option (List ℕ)) (place : Option ℕ) (key : Key) (written : Option (List ℕ)) → IfSome o IsSendable → taken o place key ≡ Ok written → IfSome written IsSendable
+found_sendable : (o : Option (List ℕ)) (place : Option ℕ) (key : Key) (written : Option (List ℕ)) → IfSome o IsSendableText → taken o place key ≡ Ok written → IfSome written IsSendableText
 found_sendable None place key written h e = absurd cc
-found_sendable (Some x) place key written h e = let same : Some x ≡ written = cc in subst (λ o. IfSome o IsSendable) same h
+found_sendable (Some x) place key written h e = let same : Some x ≡ written = cc in subst (λ o. IfSome o IsSendableText) same h
 
-read_sendable : (o : Option Data) (place : Option ℕ) (key : Key) (written : Option (List ℕ)) → read_if credential place key o ≡ Ok written → IfSome written IsSendable
-read_sendable None place key written e = let same : None ≡ written = cc in subst (λ o. IfSome o IsSendable) same tt
+read_sendable : (o : Option Data) (place : Option ℕ) (key : Key) (written : Option (List ℕ)) → read_if credential place key o ≡ Ok written → IfSome written IsSendableText
+read_sendable None place key written e = let same : None ≡ written = cc in subst (λ o. IfSome o IsSendableText) same tt
 read_sendable (Some d) place key written e = found_sendable (credential d) place key written (judged d) e
 
-either_sendable : (written : Option (List ℕ)) (name : List ℕ) → IfSome written IsSendable → IsSendable name → IsSendable (unwrap_or written name)
+either_sendable : (written : Option (List ℕ)) (name : List ℕ) → IfSome written IsSendableText → IsSendableText name → IsSendableText (unwrap_or written name)
 either_sendable None name h k = k
 either_sendable (Some x) name h k = h
 
-pub token_sendable : (l : Language) (system_max : ℕ) (g : Forest) (ms : Members) (row : Row) → TokenParts l system_max g ms row → refusal g row.entry ≡ None → IsSendable row.credential
+pub token_sendable : (l : Language) (system_max : ℕ) (g : Forest) (ms : Members) (row : Row) → TokenParts l system_max g ms row → entry_refusal g row.entry ≡ None → IsSendableText row.credential
 token_sendable l system_max g ms row parts fits =
     let name : is_name row.entry.name ≡ true = (taken_from_refusal g row.entry fits).named in
-    subst (λ (r : Row). IsSendable r.credential) parts.made
+    subst (λ (r : Row). IsSendableText r.credential) parts.made
     (either_sendable parts.secret parts.name (read_sendable (get_member (key_text Secret) ms) (Some (length g.entries)) Secret parts.secret parts.secret_read)
     (name_sendable parts.name (subst (λ (r : Row). is_name r.entry.name ≡ true) (sym parts.made) name)))
 
-pub lease_sendable : (l : Language) (system_max : ℕ) (g : Forest) (ms : Members) (row : Row) → LeaseParts l system_max g ms row → refusal g row.entry ≡ None → IsSendable row.credential
+pub lease_sendable : (l : Language) (system_max : ℕ) (g : Forest) (ms : Members) (row : Row) → LeaseParts l system_max g ms row → entry_refusal g row.entry ≡ None → IsSendableText row.credential
 lease_sendable l system_max g ms row parts fits =
     let name : is_name row.entry.name ≡ true = (taken_from_refusal g row.entry fits).named in
-    subst (λ (r : Row). IsSendable r.credential) parts.made
+    subst (λ (r : Row). IsSendableText r.credential) parts.made
     (either_sendable parts.lease_id parts.name (read_sendable (get_member (key_text LeaseId) ms) (Some (length g.entries)) LeaseId parts.lease_id parts.lease_id_read)
     (name_sendable parts.name (subst (λ (r : Row). is_name r.entry.name ≡ true) (sym parts.made) name)))

@@ -27,12 +27,12 @@ use Rattle.keep_inventory.specs.declared.row.Row.{Row}
 use Rattle.keep_inventory.specs.declared.terms.Terms.{Terms}
 use Rattle.keep_inventory.specs.Languages.{strict, full}
 use Rattle.keep_inventory.specs.Keys.{all_keys, is_one_of, key_text, lease_keys, token_keys, top_keys}
-use Rattle.keep_inventory.specs.Values.{alone_if, ending, flag, has_if, is_always, moment, need, only, path, read_if, span, tables, there, until_if, value_at, whole}
-use Rattle.keep_inventory.specs.Intake.{Intake, inventory_with, nothing}
+use Rattle.keep_inventory.specs.Values.{alone_if, end_value, flag_value, has_if, is_always, is_key_there, moment_value, need, only, path, read_if, span, tables, until_if, value_at, whole}
+use Rattle.keep_inventory.specs.Intake.{Intake, empty_intake, inventory_of_intake}
 use Rattle.keep_inventory.specs.Needs.{is_for_good}
-use Rattle.keep_inventory.specs.Rows.{file_at, lease_row, lease_terms, life_of, token_row, token_terms}
-use Rattle.keep_inventory.specs.Inventory.{entered_by, intake_of, lease_entered, read_inventory, read_served, read_strict, served_of, token_entered, tree_of}
-use Rattle.keep_inventory.specs.Served.{Served, first_open, open_fault, unless, whole_of}
+use Rattle.keep_inventory.specs.Rows.{file_at, lease_row, lease_terms, life_of_table, token_row, token_terms}
+use Rattle.keep_inventory.specs.Inventory.{document_tree, entered_by, intake_of, lease_entered, read_inventory, read_served, read_strict, served_of, token_entered}
+use Rattle.keep_inventory.specs.Served.{Served, first_open, inventory_if_whole, open_fault, unless}
 use Rattle.keep_inventory.specs.Laws.{IsClosed, StrictLaw}
 use Rattle.keep_inventory.proofs.Chains.{bind_ok, follow}
 use Rattle.keep_inventory.proofs.Entered.{intake_keeps}
@@ -151,20 +151,20 @@ must_lifts false index key here is = refl
 
 -- ---- the parts of a row
 
-life_strict : (index : ℕ) (ms : Members) (life : Life) → life_of strict index ms ≡ Ok life → (life_of full index ms ≡ Ok life) × (life.is_told ≡ true)
-unfolding life_of
+life_strict : (index : ℕ) (ms : Members) (life : Life) → life_of_table strict index ms ≡ Ok life → (life_of_table full index ms ≡ Ok life) × (life.is_told ≡ true)
+unfolding life_of_table
 life_strict index ms life e =
-    bind_ok (value_at moment (Some index) Issued ms) _ life e (λ issued a e1.
+    bind_ok (value_at moment_value (Some index) Issued ms) _ life e (λ issued a e1.
     bind_ok (has_if true index Issued (is_some issued)) _ life e1 (λ u b e2.
-    bind_ok (value_at ending (Some index) End ms) _ life e2 (λ ends c e3.
+    bind_ok (value_at end_value (Some index) End ms) _ life e2 (λ ends c e3.
     bind_ok (has_if true index End (is_some ends)) _ life e3 (λ w d e4.
-    bind_ok (value_at flag (Some index) Renewable ms) _ life e4 (λ renewable f e5.
+    bind_ok (value_at flag_value (Some index) Renewable ms) _ life e4 (λ renewable f e5.
     let made : Life = record { issued = unwrap_or issued 0; end = unwrap_or ends 0; renewable = unwrap_or renewable true; is_told = is_some issued } in
     let same : made ≡ life = cc in
     let issue = must_here index Issued (is_some issued) u b in
     let ending = must_here index End (is_some ends) w d in (
       follow _ issued _ _ a
-          (follow _ tt _ _ (must_lifts (there End ms) index Issued (is_some issued) issue)
+          (follow _ tt _ _ (must_lifts (is_key_there End ms) index Issued (is_some issued) issue)
           (follow _ ends _ _ c
           (follow _ tt _ _ (must_lifts (is_some issued) index End (is_some ends) ending)
           (follow _ renewable _ _ f e5)))),
@@ -295,14 +295,14 @@ intake_strict ms t e =
     bind_ok (value_at (span strict 1 MARGIN_MAX) None Margin ms) _ t e2 (λ margin b e3.
     bind_ok (value_at tables None Token ms) _ t e3 (λ tokens c e4.
     bind_ok (value_at tables None Lease ms) _ t e4 (λ leases d e5.
-    bind_ok (entered_by (token_entered strict (unwrap_or system_max SYSTEM_MAX)) Token (nothing (unwrap_or margin 1)) (unwrap_or tokens no_items)) _ t e5 (λ u f e6.
+    bind_ok (entered_by (token_entered strict (unwrap_or system_max SYSTEM_MAX)) Token (empty_intake (unwrap_or margin 1)) (unwrap_or tokens no_items)) _ t e5 (λ u f e6.
     let most = unwrap_or system_max SYSTEM_MAX in
     follow _ known _ _ k
     (follow _ system_max _ _ (span_read 1 SPAN_MAX None SystemMax ms system_max a)
     (follow _ margin _ _ (span_read 1 MARGIN_MAX None Margin ms margin b)
     (follow _ tokens _ _ c
     (follow _ leases _ _ d
-    (follow _ u _ _ (all_lift (token_entered strict most) (token_entered full most) (tokens_lift most) Token (nothing (unwrap_or margin 1)) u (unwrap_or tokens no_items) f)
+    (follow _ u _ _ (all_lift (token_entered strict most) (token_entered full most) (tokens_lift most) Token (empty_intake (unwrap_or margin 1)) u (unwrap_or tokens no_items) f)
     (all_lift (lease_entered strict most) (lease_entered full most) (leases_lift most) Lease u t (unwrap_or leases no_items) e6))))))))))))
 
 abbrev AreClosed : Intake → Type 0
@@ -336,11 +336,11 @@ never_open index (note ∷ notes) closed =
     told_fault told always = open_fault index (record note { is_told = told; is_always = always })
 
 pub strict_law : StrictLaw
-unfolding read_strict read_served read_inventory whole_of served_of
+unfolding read_strict read_served read_inventory inventory_if_whole served_of
 strict_law bytes v e =
-    bind_ok (tree_of bytes) _ v e (λ ms read e1.
+    bind_ok (document_tree bytes) _ v e (λ ms read e1.
     bind_ok (intake_of strict ms) _ v e1 (λ t a e2.
-    let same : ◌≡◌ {A = Served} (record { inventory = inventory_with t; notes = t.notes; has_margin = there Margin ms }) v = cc in
+    let same : ◌≡◌ {A = Served} (record { inventory = inventory_of_intake t; notes = t.notes; has_margin = is_key_there Margin ms }) v = cc in
     let served : read_served bytes ≡ Ok v = follow _ ms _ _ read (follow _ t _ _ (intake_strict ms t a) e2) in
     let closed : All IsClosed v.notes = subst (λ (x : Served). All IsClosed x.notes) same (intake_closed ms t a) in
     (served, follow _ v _ _ served (ap (unless v.inventory) (never_open 0 v.notes closed)), closed)))

@@ -3,7 +3,7 @@ use Rattle.std.proofs.Common.{◌≡◌, ℕ, Bool, true, false, cond, List, ◌
 use Rattle.keep_tree.specs.declared.entry.Entry.{Entry}
 use Rattle.keep_tree.specs.declared.fault.TreeFault.{TreeFault}
 use Rattle.keep_tree.specs.Forest.{Forest}
-use Rattle.keep_tree.specs.Push.{refusal}
+use Rattle.keep_tree.specs.Push.{entry_refusal}
 use Rattle.toml.specs.Data.{string, integer, float, boolean, datetime, array, table, Items, no_items, item, Members}
 use Rattle.keep_inventory.specs.declared.fault.InvFault.{InvFault}
 use Rattle.keep_inventory.specs.declared.fault.InvFault.TheVariants.{BadValue}
@@ -11,7 +11,7 @@ use Rattle.keep_inventory.specs.declared.key.Key.{Key}
 use Rattle.keep_inventory.specs.declared.key.Key.TheVariants.{Secret, LeaseId}
 use Rattle.keep_inventory.specs.declared.row.Row.{Row}
 use Rattle.keep_inventory.specs.Languages.{Language}
-use Rattle.keep_inventory.specs.Intake.{Intake, appended, pushed, holds, distinct, with_token, with_lease}
+use Rattle.keep_inventory.specs.Intake.{Intake, appended, pushed, has_text, distinct, with_token, with_lease}
 use Rattle.keep_inventory.specs.Rows.{token_row, lease_row}
 use Rattle.keep_inventory.specs.Inventory.{token_entered, lease_entered, entered_by}
 use Rattle.keep_inventory.proofs.Chains.{bind_ok}
@@ -30,24 +30,24 @@ took_lease s row = record { forest = grown s.forest row.entry; secrets = s.secre
 
 -- the forest takes the entry of a row, and none of these texts is its credential
 pub record Fits (g : Forest) (texts : List (List ℕ)) (row : Row) : Type 0 where
-  pub entry : refusal g row.entry ≡ None
-  pub fresh : holds texts row.credential ≡ false
+  pub entry : entry_refusal g row.entry ≡ None
+  pub fresh : has_text texts row.credential ≡ false
 
 appended_ok : (g h : Forest) (e : Entry) (o : Option TreeFault) → appended g e o ≡ Ok h → (o ≡ None) × (grown g e ≡ h)
 appended_ok g h e (Some fault) k = absurd (cc)
 appended_ok g h e None k = (refl, cc)
 
-pushed_ok : (g h : Forest) (e : Entry) → pushed g e ≡ Ok h → (refusal g e ≡ None) × (grown g e ≡ h)
+pushed_ok : (g h : Forest) (e : Entry) → pushed g e ≡ Ok h → (entry_refusal g e ≡ None) × (grown g e ≡ h)
 unfolding pushed
-pushed_ok g h e k = appended_ok g h e (refusal g e) k
+pushed_ok g h e k = appended_ok g h e (entry_refusal g e) k
 
 cond_ok : (b : Bool) (f : InvFault) (xs ys : List (List ℕ)) → cond b (Err f) (Ok xs) ≡ Ok ys → (b ≡ false) × (xs ≡ ys)
 cond_ok true f xs ys e = absurd (cc)
 cond_ok false f xs ys e = (refl, cc)
 
-distinct_ok : (key : Key) (index : ℕ) (texts news : List (List ℕ)) (text : List ℕ) → distinct key index texts text ≡ Ok news → (holds texts text ≡ false) × (texts ++ text ∷ [] ≡ news)
+distinct_ok : (key : Key) (index : ℕ) (texts news : List (List ℕ)) (text : List ℕ) → distinct key index texts text ≡ Ok news → (has_text texts text ≡ false) × (texts ++ text ∷ [] ≡ news)
 unfolding distinct
-distinct_ok key index texts news text e = cond_ok (holds texts text) (BadValue (Some index) key) (texts ++ text ∷ []) news e
+distinct_ok key index texts news text e = cond_ok (has_text texts text) (BadValue (Some index) key) (texts ++ text ∷ []) news e
 
 pub token_taken : (s t : Intake) (row : Row) → with_token s row ≡ Ok t → Fits s.forest s.secrets row × (took_token s row ≡ t)
 unfolding with_token

@@ -14,7 +14,7 @@ use Rattle.keep_inventory.specs.declared.lookup.LookupFault.{LookupFault}
 use Rattle.keep_inventory.specs.declared.lookup.LookupFault.TheVariants.{OtherKind, OtherTree, NoStep}
 use Rattle.keep_inventory.specs.declared.terms.Terms.{Terms}
 use Rattle.keep_inventory.specs.Terms.{ceiling_of, step_of}
-use Rattle.keep_inventory.specs.Inventories.{IsInventory, Inventory, no_terms, terms_at, with_need}
+use Rattle.keep_inventory.specs.Inventories.{IsInventory, Inventory, empty_terms, terms_at, inventory_with_need}
 use Rattle.keep_inventory.specs.Lookup.{lookup_fault, told, told_entry, told_terms}
 
 -- the entry that a lookup makes of the one at an index
@@ -65,11 +65,11 @@ set_thrice g h k l i a b c within one two three =
 
 terms_set_same : (ts : List Terms) (i : ℕ) (t : Terms) → i < length ts → terms_at (set ts i t) i ≡ t
 unfolding terms_at
-terms_set_same ts i t h = get_or-set_same ts i t no_terms h
+terms_set_same ts i t h = get_or-set_same ts i t empty_terms h
 
 terms_set_other : (ts : List Terms) (i j : ℕ) (t : Terms) → j ≢ i → terms_at (set ts i t) j ≡ terms_at ts j
 unfolding terms_at
-terms_set_other ts i j t h = get_or-set_other ts i j t no_terms h
+terms_set_other ts i j t h = get_or-set_other ts i j t empty_terms h
 
 kind_stays : (now : ℕ) (lookup : Lookup) (t : Terms) (e : Entry) → (told_entry now lookup t e).kind ≡ e.kind
 kind_stays now (Token ttl created explicit_max orphan renewable period) t e = refl
@@ -140,8 +140,8 @@ told_is_inventory s inventory i within lookup now span forest =
 
 -- ---- an inventory with another need of one entry is one still
 
-pub needed_is_inventory : (s : Inventory) → IsInventory s → (i : ℕ) → i < length s.forest.entries → (need : ℕ) → IsForest (with_need s i need).forest → IsInventory (with_need s i need)
-unfolding with_need
+pub needed_is_inventory : (s : Inventory) → IsInventory s → (i : ℕ) → i < length s.forest.entries → (need : ℕ) → IsForest (inventory_with_need s i need).forest → IsInventory (inventory_with_need s i need)
+unfolding inventory_with_need
 needed_is_inventory s inventory i within need forest =
     let es = s.forest.entries in
     let e : Entry = record (entry_at es i) { need = need } in

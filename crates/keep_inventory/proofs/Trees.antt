@@ -13,15 +13,15 @@ use Rattle.toml.specs.declared.value.Value.{Value}
 use Rattle.keep_inventory.specs.Answers.{Gives}
 use Rattle.keep_inventory.specs.declared.fault.InvFault.{InvFault}
 use Rattle.keep_inventory.specs.declared.fault.InvFault.TheVariants.{NotToml, OutOfMemory}
-use Rattle.keep_inventory.specs.Inventory.{or_not_toml, tree_of}
+use Rattle.keep_inventory.specs.Inventory.{document_tree, or_not_toml}
 
-pub tree_of_bytes : (bytes : List ℕ) → ¬ (IsUtf8 bytes) → tree_of bytes ≡ Err NotToml
-unfolding tree_of
+pub tree_of_bytes : (bytes : List ℕ) → ¬ (IsUtf8 bytes) → document_tree bytes ≡ Err NotToml
+unfolding document_tree
 tree_of_bytes bytes h =
     cond-false (is_utf8 bytes) (or_not_toml (parse_document bytes)) (Err NotToml) (false_from_ne_true _ (λ t. h (IsUtf8-from_is_utf8 bytes t)))
 
-pub tree_of_text : (bytes text : List ℕ) → text ≡ bytes → IsUtf8 bytes → tree_of bytes ≡ or_not_toml (parse_document text)
-unfolding tree_of
+pub tree_of_text : (bytes text : List ℕ) → text ≡ bytes → IsUtf8 bytes → document_tree bytes ≡ or_not_toml (parse_document text)
+unfolding document_tree
 tree_of_text bytes text same utf8 =
     cond-true (is_utf8 bytes) (or_not_toml (parse_document bytes)) (Err NotToml) (is_utf8-from_IsUtf8 bytes utf8) ∙ ap or_not_toml (ap parse_document (sym same))
 

@@ -7,13 +7,13 @@ use Rattle.keep_tree.specs.declared.forest.TheConstants.{MARGIN_MAX}
 use Rattle.keep_inventory.specs.declared.key.Key.TheVariants.{SystemMax, Margin, Token, Lease}
 use Rattle.keep_inventory.specs.declared.limits.TheConstants.{SPAN_MAX, SYSTEM_MAX}
 use Rattle.keep_inventory.specs.declared.row.Row.{Row}
-use Rattle.keep_inventory.specs.Intake.{Intake, nothing}
-use Rattle.keep_inventory.specs.Inventory.{entered_by, intake_of, lease_entered, read_served, served_of, token_entered, tree_of}
+use Rattle.keep_inventory.specs.Intake.{Intake, empty_intake}
+use Rattle.keep_inventory.specs.Inventory.{document_tree, entered_by, intake_of, lease_entered, read_served, served_of, token_entered}
 use Rattle.keep_inventory.specs.Languages.{full}
 use Rattle.keep_inventory.specs.Keys.{top_keys}
 use Rattle.keep_inventory.specs.Laws.{WrittenLaw}
-use Rattle.keep_inventory.specs.Values.{only, span, tables, there, value_at}
-use Rattle.keep_inventory.specs.Written.{IsLease, IsLeaseAt, IsToken, IsWritten, count_of}
+use Rattle.keep_inventory.specs.Values.{is_key_there, only, span, tables, value_at}
+use Rattle.keep_inventory.specs.Written.{DocumentWrites, IsLease, IsLeaseAt, IsToken, count_of}
 use Rattle.keep_inventory.proofs.Chains.{bind_ok}
 use Rattle.keep_inventory.proofs.Grown.{Pushed, Takes, all_taken, lease_over, read_so_far, stays_written, token_over}
 use Rattle.keep_inventory.proofs.Rowed.{lease_row_is, only_is, token_row_is, writes_is}
@@ -98,10 +98,10 @@ leases_taken system_max s t ms matched e =
 
 -- ---- a document
 
-none_matched : (margin : ℕ) → TokensAlone (nothing margin)
+none_matched : (margin : ℕ) → TokensAlone (empty_intake margin)
 none_matched margin = (record { credited = refl; termed = refl; noted = refl }, refl)
 
-intake_written : (ms : Members) (t : Intake) → intake_of full ms ≡ Ok t → IsWritten ms (record (read_so_far t) { has_margin = there Margin ms })
+intake_written : (ms : Members) (t : Intake) → intake_of full ms ≡ Ok t → DocumentWrites ms (record (read_so_far t) { has_margin = is_key_there Margin ms })
 unfolding intake_of
 intake_written ms t e =
     bind_ok (only top_keys None ms) _ t e (λ known k e1.
@@ -109,9 +109,9 @@ intake_written ms t e =
     bind_ok (value_at (span full 1 MARGIN_MAX) None Margin ms) _ t e2 (λ margin b e3.
     bind_ok (value_at tables None Token ms) _ t e3 (λ tokens c e4.
     bind_ok (value_at tables None Lease ms) _ t e4 (λ leases d e5.
-    bind_ok (entered_by (token_entered full (unwrap_or system_max SYSTEM_MAX)) Token (nothing (unwrap_or margin 1)) (unwrap_or tokens no_items)) _ t e5 (λ u f e6.
+    bind_ok (entered_by (token_entered full (unwrap_or system_max SYSTEM_MAX)) Token (empty_intake (unwrap_or margin 1)) (unwrap_or tokens no_items)) _ t e5 (λ u f e6.
     let most = unwrap_or system_max SYSTEM_MAX in
-    let start = nothing (unwrap_or margin 1) in
+    let start = empty_intake (unwrap_or margin 1) in
     let first = all_taken (IsToken most) (token_over most) TokensAlone (token_entered full most) (token_step most) (tokens_taken most) Token start u (unwrap_or tokens no_items) (none_matched (unwrap_or margin 1)) f in
     let alone = all_keep TokensAlone (token_entered full most) (token_step most) Token start u (unwrap_or tokens no_items) (none_matched (unwrap_or margin 1)) f in
     let rest = all_taken (IsLease most) (lease_over most) Matched (lease_entered full most) (lease_step most) (leases_taken most) Lease u t (unwrap_or leases no_items) alone.0 e6 in
@@ -135,7 +135,7 @@ intake_written ms t e =
 pub written_law : WrittenLaw
 unfolding read_served served_of
 written_law bytes v e =
-    bind_ok (tree_of bytes) _ v e (λ ms read e1.
+    bind_ok (document_tree bytes) _ v e (λ ms read e1.
     bind_ok (intake_of full ms) _ v e1 (λ t is e2.
-    let same : record (read_so_far t) { has_margin = there Margin ms } ≡ v = cc in
-    (ms, read, subst (IsWritten ms) same (intake_written ms t is))))
+    let same : record (read_so_far t) { has_margin = is_key_there Margin ms } ≡ v = cc in
+    (ms, read, subst (DocumentWrites ms) same (intake_written ms t is))))

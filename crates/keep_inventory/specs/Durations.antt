@@ -34,8 +34,8 @@ abbrev pub seconds_on : List ℕ → List ℕ
 seconds_on text = after_part 109 (minutes_on text)
 
 -- one of them at least, and nothing else
-unfoldable pub duration_of : List ℕ → Option ℕ
-duration_of text =
+unfoldable pub duration_of_text : List ℕ → Option ℕ
+duration_of_text text =
     if nat_lt 0 (length text) && (length (after_part 115 (seconds_on text)) == 0)
     then Some (part_seconds 100 86400 text + (part_seconds 104 3600 (hours_on text) + (part_seconds 109 60 (minutes_on text) + part_seconds 115 1 (seconds_on text))))
     else None
@@ -69,7 +69,7 @@ pub record IsDuration (text : List ℕ) (n : ℕ) : Type 0 where
 
 -- what is read is a duration of so many seconds, and each is read
 abbrev pub DurationFound : Type 0
-DurationFound = (text : List ℕ) (n : ℕ) → duration_of text ≡ Some n → IsDuration text n
+DurationFound = (text : List ℕ) (n : ℕ) → duration_of_text text ≡ Some n → IsDuration text n
 
 abbrev pub DurationOnly : Type 0
-DurationOnly = (text : List ℕ) (n : ℕ) → IsDuration text n → duration_of text ≡ Some n
+DurationOnly = (text : List ℕ) (n : ℕ) → IsDuration text n → duration_of_text text ≡ Some n

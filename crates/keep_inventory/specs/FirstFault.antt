@@ -4,26 +4,26 @@ use Rattle.std.specs.Prelude.{◌≡◌, ◌⊎◌, ℕ, zero, suc, ◌+◌, Boo
 use Rattle.toml.specs.Data.{Data, table, Items, no_items, item, Members, get_item, get_member}
 use Rattle.keep_tree.specs.declared.forest.TheConstants.{MARGIN_MAX}
 use Rattle.keep_tree.specs.Forest.{Forest}
-use Rattle.keep_tree.specs.Push.{refusal}
+use Rattle.keep_tree.specs.Push.{entry_refusal}
 use Rattle.keep_inventory.specs.declared.fault.InvFault.{InvFault}
 use Rattle.keep_inventory.specs.declared.fault.InvFault.TheVariants.{NotToml, MissingKey, UnknownKey, BadValue, Tree}
 use Rattle.keep_inventory.specs.declared.key.Key.{Key}
 use Rattle.keep_inventory.specs.declared.key.Key.TheVariants.{SystemMax, Margin, Token, Lease, Name, Parent, Issued, End, Renewable, Increment, Period, MaxTtl, ExplicitMaxTtl, Need, Secret, SecretFile, LeaseId, LeaseIdFile}
 use Rattle.keep_inventory.specs.declared.limits.TheConstants.{SPAN_MAX, SYSTEM_MAX}
 use Rattle.keep_inventory.specs.declared.row.Row.{Row}
-use Rattle.keep_inventory.specs.Intake.{Intake, holds, nothing}
-use Rattle.keep_inventory.specs.Inventory.{entered_by, lease_entered, read_served, token_entered, tree_of}
+use Rattle.keep_inventory.specs.Intake.{Intake, empty_intake, has_text}
+use Rattle.keep_inventory.specs.Inventory.{document_tree, entered_by, lease_entered, read_served, token_entered}
 use Rattle.keep_inventory.specs.Keys.{all_keys, is_one_of, key_text, lease_keys, token_keys, top_keys}
 use Rattle.keep_inventory.specs.Languages.{full}
 use Rattle.keep_inventory.specs.Rows.{lease_row, token_row}
-use Rattle.keep_inventory.specs.Values.{credential, ending, flag, moment, need, path, span, tables, text, there}
+use Rattle.keep_inventory.specs.Values.{credential, end_value, flag_value, is_key_there, moment_value, need, path, span, tables, text}
 use Rattle.keep_inventory.specs.Written.{WritesOr}
 
 -- the first of these that there is
-abbrev pub first_of : List (Option InvFault) → Option InvFault
-first_of [] = None
-first_of (Some fault ∷ rest) = Some fault
-first_of (None ∷ rest) = first_of rest
+abbrev pub first_fault_of : List (Option InvFault) → Option InvFault
+first_fault_of [] = None
+first_fault_of (Some fault ∷ rest) = Some fault
+first_fault_of (None ∷ rest) = first_fault_of rest
 
 abbrev pub fault_if : Bool → InvFault → Option InvFault
 fault_if at_fault fault = if at_fault then Some fault else None
@@ -43,12 +43,12 @@ abbrev pub bad : {A : Type 0} → (Data → Option A) → Option ℕ → Key →
 bad f place key ms = bad_if f place key (get_member (key_text key) ms)
 
 -- a key that has to be there is not
-abbrev pub missing : Bool → ℕ → Key → Members → Option InvFault
-missing must i key ms = fault_if (must && not (there key ms)) (MissingKey i key)
+abbrev pub missing_key : Bool → ℕ → Key → Members → Option InvFault
+missing_key must i key ms = fault_if (must && not (is_key_there key ms)) (MissingKey i key)
 
 -- a key stands beside one that excludes it
-abbrev pub beside : Key → ℕ → Key → Members → Option InvFault
-beside other i key ms = fault_if (there other ms && there key ms) (BadValue (Some i) key)
+abbrev pub excluded_beside : Key → ℕ → Key → Members → Option InvFault
+excluded_beside other i key ms = fault_if (is_key_there other ms && is_key_there key ms) (BadValue (Some i) key)
 
 -- ---- all faults, in their order
 
@@ -67,13 +67,13 @@ abbrev pub token_faults : ℕ → Members → List (Option InvFault)
 token_faults i ms =
     unknown (token_keys full) (Some i) ms
     ∷ bad text (Some i) Name ms
-    ∷ missing true i Name ms
+    ∷ missing_key true i Name ms
     ∷ bad text (Some i) Parent ms
-    ∷ bad moment (Some i) Issued ms
-    ∷ missing (there End ms) i Issued ms
-    ∷ bad ending (Some i) End ms
-    ∷ missing (there Issued ms) i End ms
-    ∷ bad flag (Some i) Renewable ms
+    ∷ bad moment_value (Some i) Issued ms
+    ∷ missing_key (is_key_there End ms) i Issued ms
+    ∷ bad end_value (Some i) End ms
+    ∷ missing_key (is_key_there Issued ms) i End ms
+    ∷ bad flag_value (Some i) Renewable ms
     ∷ bad (span full 0 SPAN_MAX) (Some i) Increment ms
     ∷ bad (span full 0 SPAN_MAX) (Some i) Period ms
     ∷ bad (span full 0 SPAN_MAX) (Some i) MaxTtl ms
@@ -81,7 +81,7 @@ token_faults i ms =
     ∷ bad (need full) (Some i) Need ms
     ∷ bad credential (Some i) Secret ms
     ∷ bad path (Some i) SecretFile ms
-    ∷ beside Secret i SecretFile ms
+    ∷ excluded_beside Secret i SecretFile ms
     ∷ []
 
 -- and of the lease
@@ -89,27 +89,27 @@ abbrev pub lease_faults : ℕ → Members → List (Option InvFault)
 lease_faults i ms =
     unknown (lease_keys full) (Some i) ms
     ∷ bad text (Some i) Name ms
-    ∷ missing true i Name ms
+    ∷ missing_key true i Name ms
     ∷ bad text (Some i) Token ms
-    ∷ missing true i Token ms
-    ∷ bad moment (Some i) Issued ms
-    ∷ missing (there End ms) i Issued ms
-    ∷ bad ending (Some i) End ms
-    ∷ missing (there Issued ms) i End ms
-    ∷ bad flag (Some i) Renewable ms
+    ∷ missing_key true i Token ms
+    ∷ bad moment_value (Some i) Issued ms
+    ∷ missing_key (is_key_there End ms) i Issued ms
+    ∷ bad end_value (Some i) End ms
+    ∷ missing_key (is_key_there Issued ms) i End ms
+    ∷ bad flag_value (Some i) Renewable ms
     ∷ bad (span full 0 SPAN_MAX) (Some i) Increment ms
     ∷ bad (span full 0 SPAN_MAX) (Some i) MaxTtl ms
     ∷ bad (need full) (Some i) Need ms
     ∷ bad credential (Some i) LeaseId ms
     ∷ bad path (Some i) LeaseIdFile ms
-    ∷ beside LeaseId i LeaseIdFile ms
+    ∷ excluded_beside LeaseId i LeaseIdFile ms
     ∷ []
 
 -- of the row of a table that has none of these: why the forest refuses the entry, and that an earlier one has its credential
 abbrev pub row_faults : Key → Forest → List (List ℕ) → Row → List (Option InvFault)
 row_faults key g texts row =
-    option_map (Tree (length g.entries)) (refusal g row.entry)
-    ∷ fault_if (holds texts row.credential) (BadValue (Some (length g.entries)) key)
+    option_map (Tree (length g.entries)) (entry_refusal g row.entry)
+    ∷ fault_if (has_text texts row.credential) (BadValue (Some (length g.entries)) key)
     ∷ []
 
 -- ---- the first of them
@@ -117,13 +117,13 @@ row_faults key g texts row =
 -- the first fault of the table of a token, or else of its row, where these entries stand before it
 abbrev pub TokenFails : ℕ → Intake → Members → InvFault → Type 0
 TokenFails system_max s ms fault =
-    (first_of (token_faults (length s.forest.entries) ms) ≡ Some fault)
-    ⊎ ((row : Row) × (token_row full system_max s.forest ms ≡ Ok row) × (first_of (row_faults Secret s.forest s.secrets row) ≡ Some fault))
+    (first_fault_of (token_faults (length s.forest.entries) ms) ≡ Some fault)
+    ⊎ ((row : Row) × (token_row full system_max s.forest ms ≡ Ok row) × (first_fault_of (row_faults Secret s.forest s.secrets row) ≡ Some fault))
 
 abbrev pub LeaseFails : ℕ → Intake → Members → InvFault → Type 0
 LeaseFails system_max s ms fault =
-    (first_of (lease_faults (length s.forest.entries) ms) ≡ Some fault)
-    ⊎ ((row : Row) × (lease_row full system_max s.forest ms ≡ Ok row) × (first_of (row_faults LeaseId s.forest s.lease_ids row) ≡ Some fault))
+    (first_fault_of (lease_faults (length s.forest.entries) ms) ≡ Some fault)
+    ⊎ ((row : Row) × (lease_row full system_max s.forest ms ≡ Ok row) × (first_fault_of (row_faults LeaseId s.forest s.lease_ids row) ≡ Some fault))
 
 -- the first n tables
 abbrev pub front : ℕ → Items → Items
@@ -157,15 +157,15 @@ pub record IsInTables (ms : Members) (fault : InvFault) : Type 0 where
   pub tokens_written : WritesOr tables Token ms no_items tokens
   pub leases : Items
   pub leases_written : WritesOr tables Lease ms no_items leases
-  pub first : IsFirstToken system_max (nothing margin) tokens fault
-      ⊎ ((s : Intake) × (entered_by (token_entered full system_max) Token (nothing margin) tokens ≡ Ok s) × IsFirstLease system_max s leases fault)
+  pub first : IsFirstToken system_max (empty_intake margin) tokens fault
+      ⊎ ((s : Intake) × (entered_by (token_entered full system_max) Token (empty_intake margin) tokens ≡ Ok s) × IsFirstLease system_max s leases fault)
 
 -- the first fault of a document's tree
-abbrev pub IsFirst : Members → InvFault → Type 0
-IsFirst ms fault = (first_of (top_faults ms) ≡ Some fault) ⊎ ((first_of (top_faults ms) ≡ None) × IsInTables ms fault)
+abbrev pub IsFirstFault : Members → InvFault → Type 0
+IsFirstFault ms fault = (first_fault_of (top_faults ms) ≡ Some fault) ⊎ ((first_fault_of (top_faults ms) ≡ None) × IsInTables ms fault)
 
 -- the fault that is told of a text is its first: it has no tree, or that is the first of its tree
 abbrev pub FirstFaultLaw : Type 0
 FirstFaultLaw =
     (bytes : List ℕ) (fault : InvFault) → read_served bytes ≡ Err fault →
-    ((tree_of bytes ≡ Err fault) × (fault ≡ NotToml)) ⊎ ((ms : Members) × (tree_of bytes ≡ Ok ms) × IsFirst ms fault)
+    ((document_tree bytes ≡ Err fault) × (fault ≡ NotToml)) ⊎ ((ms : Members) × (document_tree bytes ≡ Ok ms) × IsFirstFault ms fault)

@@ -5,7 +5,7 @@ use Rattle.keep_tree.specs.declared.entry.Entry.{Entry}
 use Rattle.keep_tree.specs.declared.fault.TreeFault.{TreeFault}
 use Rattle.keep_tree.specs.declared.fault.TreeFault.TheVariants as trees
 use Rattle.keep_tree.specs.Forest.{Forest}
-use Rattle.keep_tree.specs.Push.{refusal}
+use Rattle.keep_tree.specs.Push.{entry_refusal}
 use Rattle.keep_inventory.specs.declared.fault.InvFault.{InvFault}
 use Rattle.keep_inventory.specs.declared.fault.InvFault.TheVariants.{Tree, BadValue, OutOfMemory}
 use Rattle.keep_inventory.specs.declared.key.Key.{Key}
@@ -24,33 +24,33 @@ pub record Intake : Type 0 where
   pub terms : List Terms
   pub notes : List Note
 
-abbrev pub nothing : ℕ → Intake
-nothing margin = record { forest = record { entries = []; margin = margin }; secrets = []; lease_ids = []; terms = []; notes = [] }
+abbrev pub empty_intake : ℕ → Intake
+empty_intake margin = record { forest = record { entries = []; margin = margin }; secrets = []; lease_ids = []; terms = []; notes = [] }
 
 -- all tokens stand before all leases, and so do their credentials
-abbrev pub inventory_with : Intake → Inventory
-inventory_with s = record { forest = s.forest; credentials = s.secrets ++ s.lease_ids; terms = s.terms }
+abbrev pub inventory_of_intake : Intake → Inventory
+inventory_of_intake s = record { forest = s.forest; credentials = s.secrets ++ s.lease_ids; terms = s.terms }
 
 abbrev pub appended : Forest → Entry → Option TreeFault → Result Forest InvFault
 appended g e (Some fault) = Err (Tree (length g.entries) fault)
 appended g e None = Ok (record g { entries = g.entries ++ e ∷ [] })
 
 -- what a forest says of the entry at an index: why it refuses that, or that memory was wanting
-abbrev pub told_as : ℕ → TreeFault → InvFault
-told_as index trees.OutOfMemory = OutOfMemory
-told_as index fault = Tree index fault
+abbrev pub tree_fault_told : ℕ → TreeFault → InvFault
+tree_fault_told index trees.OutOfMemory = OutOfMemory
+tree_fault_told index fault = Tree index fault
 
 -- a forest with one entry more, or why it refuses that
 unfoldable pub pushed : Forest → Entry → Result Forest InvFault
-pushed g e = appended g e (refusal g e)
+pushed g e = appended g e (entry_refusal g e)
 
 -- one of these texts has these bytes
-unfoldable pub holds : List (List ℕ) → List ℕ → Bool
-holds texts text = list_any (λ t. bytes_eq t text) texts
+unfoldable pub has_text : List (List ℕ) → List ℕ → Bool
+has_text texts text = list_any (λ t. bytes_eq t text) texts
 
 -- one text more, which none of them may be
 unfoldable pub distinct : Key → ℕ → List (List ℕ) → List ℕ → Result (List (List ℕ)) InvFault
-distinct key index texts text = if holds texts text then Err (BadValue (Some index) key) else Ok (texts ++ text ∷ [])
+distinct key index texts text = if has_text texts text then Err (BadValue (Some index) key) else Ok (texts ++ text ∷ [])
 
 -- one token more
 unfoldable pub with_token : Intake → Row → Result Intake InvFault

@@ -13,26 +13,26 @@ pub record Inventory : Type 0 where
   pub terms : List Terms
 
 -- what is read past the last entry
-abbrev pub no_terms : Terms
-no_terms = record { issued = 0; increment = None; period = 0; max_ttl = 0; explicit_max = 0 }
+abbrev pub empty_terms : Terms
+empty_terms = record { issued = 0; increment = None; period = 0; max_ttl = 0; explicit_max = 0 }
 
 -- the terms of an entry
 unfoldable pub terms_at : List Terms → ℕ → Terms
-terms_at ts i = slice_index_or ts i no_terms
+terms_at ts i = slice_index_or ts i empty_terms
 
 -- the credential of an entry
 unfoldable pub credential_at : List (List ℕ) → ℕ → List ℕ
 credential_at cs i = slice_index_or cs i []
 
 -- no two tokens have the same credential, and no two leases
-abbrev pub AreApart : Inventory → Type 0
-AreApart s =
+abbrev pub CredentialsAreApart : Inventory → Type 0
+CredentialsAreApart s =
     (i j : ℕ) → i < length s.forest.entries → j < length s.forest.entries → (entry_at s.forest.entries i).kind ≡ (entry_at s.forest.entries j).kind →
     credential_at s.credentials i ≡ credential_at s.credentials j → i ≡ j
 
 -- 1 to 256 bytes, each from 0x21 to 0x7E: they can stand in the head of a message, and are UTF-8
-abbrev pub IsSendable : List ℕ → Type 0
-IsSendable text = (0 < length text) × (length text ≤ CREDENTIAL_MAX) × All (λ b. (0x21 ≤ b) × (b ≤ 0x7E)) text
+abbrev pub IsSendableText : List ℕ → Type 0
+IsSendableText text = (0 < length text) × (length text ≤ CREDENTIAL_MAX) × All (λ b. (0x21 ≤ b) × (b ≤ 0x7E)) text
 
 -- what every inventory keeps: a forest, one credential and one set of terms for each entry, of one kind no credential
 -- twice, and each can be sent; a step is a duration, and step and ceiling are those of the terms
@@ -40,12 +40,12 @@ pub record IsInventory (s : Inventory) : Type 0 where
   pub forest : IsForest s.forest
   pub credentials : length s.credentials ≡ length s.forest.entries
   pub terms : length s.terms ≡ length s.forest.entries
-  pub apart : AreApart s
-  pub sendable : All IsSendable s.credentials
+  pub apart : CredentialsAreApart s
+  pub sendable : All IsSendableText s.credentials
   pub steps : (i : ℕ) → i < length s.forest.entries → (entry_at s.forest.entries i).step ≤ SPAN_MAX
   pub step_is : (i : ℕ) → i < length s.forest.entries → (entry_at s.forest.entries i).step ≡ step_of (terms_at s.terms i)
   pub ceiling_is : (i : ℕ) → i < length s.forest.entries → (entry_at s.forest.entries i).ceiling ≡ ceiling_of (terms_at s.terms i)
 
 -- the inventory with another need of one entry
-unfoldable pub with_need : Inventory → ℕ → ℕ → Inventory
-with_need s i need = record s { forest = record s.forest { entries = slice_set s.forest.entries i (record (entry_at s.forest.entries i) { need = need }) } }
+unfoldable pub inventory_with_need : Inventory → ℕ → ℕ → Inventory
+inventory_with_need s i need = record s { forest = record s.forest { entries = slice_set s.forest.entries i (record (entry_at s.forest.entries i) { need = need }) } }

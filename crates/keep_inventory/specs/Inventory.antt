@@ -13,10 +13,10 @@ use Rattle.keep_inventory.specs.declared.key.Key.TheVariants.{SystemMax, Margin,
 use Rattle.keep_inventory.specs.Keys.{top_keys}
 use Rattle.keep_inventory.specs.Answers.{◌>>=◌}
 use Rattle.keep_inventory.specs.Languages.{Language, strict, full}
-use Rattle.keep_inventory.specs.Values.{only, span, tables, there, value_at}
+use Rattle.keep_inventory.specs.Values.{is_key_there, only, span, tables, value_at}
 use Rattle.keep_inventory.specs.Inventories.{Inventory}
-use Rattle.keep_inventory.specs.Served.{Served, known_of, whole_of}
-use Rattle.keep_inventory.specs.Intake.{Intake, nothing, inventory_with, with_token, with_lease}
+use Rattle.keep_inventory.specs.Served.{Served, inventory_if_whole, served_if_told}
+use Rattle.keep_inventory.specs.Intake.{Intake, empty_intake, inventory_of_intake, with_token, with_lease}
 use Rattle.keep_inventory.specs.Rows.{token_row, lease_row}
 
 -- the table of one token more, and of one lease more
@@ -40,33 +40,33 @@ intake_of l ms = do
   margin ← value_at (span l 1 MARGIN_MAX) None Margin ms
   tokens ← value_at tables None Token ms
   leases ← value_at tables None Lease ms
-  with_tokens ← entered_by (token_entered l (unwrap_or system_max SYSTEM_MAX)) Token (nothing (unwrap_or margin 1)) (unwrap_or tokens no_items)
+  with_tokens ← entered_by (token_entered l (unwrap_or system_max SYSTEM_MAX)) Token (empty_intake (unwrap_or margin 1)) (unwrap_or tokens no_items)
   entered_by (lease_entered l (unwrap_or system_max SYSTEM_MAX)) Lease with_tokens (unwrap_or leases no_items)
 
 -- what is served by a document's tree
 unfoldable pub served_of : Language → Members → Result Served InvFault
-served_of l ms = intake_of l ms >>= λ s. Ok (record { inventory = inventory_with s; notes = s.notes; has_margin = there Margin ms })
+served_of l ms = intake_of l ms >>= λ s. Ok (record { inventory = inventory_of_intake s; notes = s.notes; has_margin = is_key_there Margin ms })
 
 abbrev pub or_not_toml : Option Members → Result Members InvFault
 or_not_toml None = Err NotToml
 or_not_toml (Some ms) = Ok ms
 
 -- the tree of a document
-unfoldable pub tree_of : List ℕ → Result Members InvFault
-tree_of bytes = if is_utf8 bytes then or_not_toml (parse_document bytes) else Err NotToml
+unfoldable pub document_tree : List ℕ → Result Members InvFault
+document_tree bytes = if is_utf8 bytes then or_not_toml (parse_document bytes) else Err NotToml
 
 -- what is served by a text
 unfoldable pub read_served : List ℕ → Result Served InvFault
-read_served bytes = tree_of bytes >>= served_of full
+read_served bytes = document_tree bytes >>= served_of full
 
 -- what a text of the strict language is read as
 unfoldable pub read_strict : List ℕ → Result Served InvFault
-read_strict bytes = tree_of bytes >>= served_of strict
+read_strict bytes = document_tree bytes >>= served_of strict
 
 -- what is served by a text, each of whose tables writes its end
 unfoldable pub read_known : List ℕ → Result Served InvFault
-read_known bytes = read_served bytes >>= known_of
+read_known bytes = read_served bytes >>= served_if_told
 
 -- the inventory of a text that leaves nothing open
 unfoldable pub read_inventory : List ℕ → Result Inventory InvFault
-read_inventory bytes = read_served bytes >>= whole_of
+read_inventory bytes = read_served bytes >>= inventory_if_whole

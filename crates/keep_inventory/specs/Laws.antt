@@ -3,15 +3,15 @@ use Rattle.std.specs.Prelude.{◌≡◌, ℕ, true, false, List, Ok, None, IsUtf
 use Rattle.std.specs.List.{All}
 use Rattle.toml.specs.Data.{Members}
 use Rattle.keep_inventory.specs.declared.note.Note.{Note}
-use Rattle.keep_inventory.specs.Bare.{AreAlike}
-use Rattle.keep_inventory.specs.Inventories.{IsSendable, IsInventory, Inventory}
-use Rattle.keep_inventory.specs.Inventory.{read_inventory, read_served, read_strict, tree_of}
-use Rattle.keep_inventory.specs.Served.{IsServed, Served}
-use Rattle.keep_inventory.specs.Written.{IsWritten}
+use Rattle.keep_inventory.specs.Bare.{DocumentsAreAlike}
+use Rattle.keep_inventory.specs.Inventories.{IsSendableText, IsInventory, Inventory}
+use Rattle.keep_inventory.specs.Inventory.{document_tree, read_inventory, read_served, read_strict}
+use Rattle.keep_inventory.specs.Served.{IsServedInventory, Served}
+use Rattle.keep_inventory.specs.Written.{DocumentWrites}
 
 -- what is read of a text is an inventory, a forest with what else an inventory always keeps, with a note for each entry
 abbrev pub ServedLaw : Type 0
-ServedLaw = (bytes : List ℕ) (v : Served) → read_served bytes ≡ Ok v → IsServed v
+ServedLaw = (bytes : List ℕ) (v : Served) → read_served bytes ≡ Ok v → IsServedInventory v
 
 -- and one that leaves nothing open is an inventory
 abbrev pub InventoryLaw : Type 0
@@ -19,11 +19,11 @@ InventoryLaw = (bytes : List ℕ) (inventory : Inventory) → read_inventory byt
 
 -- each credential of the inventory of a text can be sent in the head of a message
 abbrev pub SendableLaw : Type 0
-SendableLaw = (bytes : List ℕ) (v : Served) → read_served bytes ≡ Ok v → All IsSendable v.inventory.credentials
+SendableLaw = (bytes : List ℕ) (v : Served) → read_served bytes ≡ Ok v → All IsSendableText v.inventory.credentials
 
 -- what can be sent is a text in UTF-8
 abbrev pub TextLaw : Type 0
-TextLaw = (text : List ℕ) → IsSendable text → IsUtf8 text
+TextLaw = (text : List ℕ) → IsSendableText text → IsUtf8 text
 
 -- two inventories are the same but for their credentials: the forest, with its margin, and the terms
 abbrev pub DifferInCredentials : Inventory → Inventory → Type 0
@@ -33,17 +33,17 @@ DifferInCredentials inventory other = (inventory.forest ≡ other.forest) × (in
 -- credentials, with the same notes
 abbrev pub ServedSecrecyLaw : Type 0
 ServedSecrecyLaw =
-    (bytes other : List ℕ) (v w : Served) → AreAlike bytes other → read_served bytes ≡ Ok v → read_served other ≡ Ok w →
+    (bytes other : List ℕ) (v w : Served) → DocumentsAreAlike bytes other → read_served bytes ≡ Ok v → read_served other ≡ Ok w →
     DifferInCredentials v.inventory w.inventory × (v.notes ≡ w.notes)
 
-abbrev pub SecrecyLaw : Type 0
-SecrecyLaw =
-    (bytes other : List ℕ) (inventory other_inventory : Inventory) → AreAlike bytes other → read_inventory bytes ≡ Ok inventory → read_inventory other ≡ Ok other_inventory →
+abbrev pub ReadSecrecyLaw : Type 0
+ReadSecrecyLaw =
+    (bytes other : List ℕ) (inventory other_inventory : Inventory) → DocumentsAreAlike bytes other → read_inventory bytes ≡ Ok inventory → read_inventory other ≡ Ok other_inventory →
     DifferInCredentials inventory other_inventory
 
 -- where a text is read, what is read is what its document writes
 abbrev pub WrittenLaw : Type 0
-WrittenLaw = (bytes : List ℕ) (v : Served) → read_served bytes ≡ Ok v → (ms : Members) × (tree_of bytes ≡ Ok ms) × IsWritten ms v
+WrittenLaw = (bytes : List ℕ) (v : Served) → read_served bytes ≡ Ok v → (ms : Members) × (document_tree bytes ≡ Ok ms) × DocumentWrites ms v
 
 -- a table that leaves nothing open
 pub record IsClosed (note : Note) : Type 0 where

@@ -17,7 +17,7 @@ use Rattle.keep_inventory.specs.Languages.{Language, is_strict}
 use Rattle.keep_inventory.specs.Needs.{is_for_good, until_of}
 use Rattle.keep_inventory.specs.Keys.{token_keys, lease_keys}
 use Rattle.keep_inventory.specs.Answers.{◌>>=◌}
-use Rattle.keep_inventory.specs.Values.{only, span, moment, ending, need, flag, text, credential, path, value_at, there, has_if, alone_if, needed}
+use Rattle.keep_inventory.specs.Values.{only, span, moment_value, end_value, need, flag_value, text, credential, path, value_at, is_key_there, has_if, alone_if, needed_value}
 use Rattle.keep_inventory.specs.Terms.{step_of, ceiling_of, max_ttl_of}
 
 -- the index of the entry of that name, or that of no entry
@@ -25,13 +25,13 @@ unfoldable pub index_or_none : Forest → List ℕ → ℕ
 index_or_none g name = unwrap_or (index_named g.entries name) (length g.entries)
 
 -- issue, end, and whether it can be renewed. In the full language issue and end may both be left out: a lookup tells them
-unfoldable pub life_of : Language → ℕ → Members → Result Life InvFault
-life_of l index ms = do
-  issued ← value_at moment (Some index) Issued ms
-  issue_there ← has_if (is_strict l || there End ms) index Issued (is_some issued)
-  ends ← value_at ending (Some index) End ms
+unfoldable pub life_of_table : Language → ℕ → Members → Result Life InvFault
+life_of_table l index ms = do
+  issued ← value_at moment_value (Some index) Issued ms
+  issue_there ← has_if (is_strict l || is_key_there End ms) index Issued (is_some issued)
+  ends ← value_at end_value (Some index) End ms
   end_there ← has_if (is_strict l || is_some issued) index End (is_some ends)
-  renewable ← value_at flag (Some index) Renewable ms
+  renewable ← value_at flag_value (Some index) Renewable ms
   Ok (record { issued = unwrap_or issued 0; end = unwrap_or ends 0; renewable = unwrap_or renewable true; is_told = is_some issued })
 
 -- what is asked for where there is no period: the increment, or an hour where none is written
@@ -71,9 +71,9 @@ unfoldable pub token_row : Language → ℕ → Forest → Members → Result Ro
 token_row l system_max g ms = do
   known ← only (token_keys l) (Some (length g.entries)) ms
   name_if ← value_at text (Some (length g.entries)) Name ms
-  name ← needed (length g.entries) Name name_if
+  name ← needed_value (length g.entries) Name name_if
   parent ← value_at text (Some (length g.entries)) Parent ms
-  life ← life_of l (length g.entries) ms
+  life ← life_of_table l (length g.entries) ms
   terms ← token_terms l system_max (length g.entries) life.issued ms
   need_if ← value_at (need l) (Some (length g.entries)) Need ms
   secret ← value_at credential (Some (length g.entries)) Secret ms
@@ -85,10 +85,10 @@ unfoldable pub lease_row : Language → ℕ → Forest → Members → Result Ro
 lease_row l system_max g ms = do
   known ← only (lease_keys l) (Some (length g.entries)) ms
   name_if ← value_at text (Some (length g.entries)) Name ms
-  name ← needed (length g.entries) Name name_if
+  name ← needed_value (length g.entries) Name name_if
   token_if ← value_at text (Some (length g.entries)) Token ms
-  token ← needed (length g.entries) Token token_if
-  life ← life_of l (length g.entries) ms
+  token ← needed_value (length g.entries) Token token_if
+  life ← life_of_table l (length g.entries) ms
   terms ← lease_terms l system_max (length g.entries) life.issued ms
   need_if ← value_at (need l) (Some (length g.entries)) Need ms
   lease_id ← value_at credential (Some (length g.entries)) LeaseId ms

@@ -24,7 +24,7 @@ unfoldable pub note_at : List Note → ℕ → Note
 note_at notes i = slice_index_or notes i no_note
 
 -- what it always keeps
-pub record IsServed (v : Served) : Type 0 where
+pub record IsServedInventory (v : Served) : Type 0 where
   pub inventory : IsInventory v.inventory
   pub notes : length v.notes ≡ length v.inventory.forest.entries
 
@@ -38,8 +38,8 @@ told_unless v None = Ok v
 told_unless v (Some index) = Err (MissingKey index Issued)
 
 -- what is served, where each table writes its end
-unfoldable pub known_of : Served → Result Served InvFault
-known_of v = told_unless v (first_untold 0 v.notes)
+unfoldable pub served_if_told : Served → Result Served InvFault
+served_if_told v = told_unless v (first_untold 0 v.notes)
 
 -- why a table cannot be planned: neither its issue nor its end is written
 abbrev pub open_fault : ℕ → Note → Option InvFault
@@ -55,5 +55,5 @@ unless x None = Ok x
 unless x (Some fault) = Err fault
 
 -- the inventory, where nothing is left open
-unfoldable pub whole_of : Served → Result Inventory InvFault
-whole_of v = unless v.inventory (first_open 0 v.notes)
+unfoldable pub inventory_if_whole : Served → Result Inventory InvFault
+inventory_if_whole v = unless v.inventory (first_open 0 v.notes)

@@ -16,7 +16,7 @@ use Rattle.keep_inventory.specs.declared.key.Key.{Key}
 use Rattle.keep_inventory.specs.declared.fault.InvFault.{InvFault}
 use Rattle.keep_inventory.specs.declared.fault.InvFault.TheVariants.{MissingKey, UnknownKey, BadValue}
 use Rattle.keep_inventory.specs.Languages.{Language, strict, full}
-use Rattle.keep_inventory.specs.Durations.{duration_of}
+use Rattle.keep_inventory.specs.Durations.{duration_of_text}
 use Rattle.keep_inventory.specs.Keys.{key_text, all_keys, is_one_of}
 
 -- a table has no key but these
@@ -35,7 +35,7 @@ if_within low high (Some n) = if nat_le low n && nat_le n high then Some n else 
 -- a text with units, which the strict language has not
 abbrev pub in_units : Language → ℕ → ℕ → List ℕ → Option ℕ
 in_units strict low high s = None
-in_units full low high s = if_within low high (duration_of s)
+in_units full low high s = if_within low high (duration_of_text s)
 
 -- a duration: a whole number of seconds, or a text with units
 abbrev pub span : Language → ℕ → ℕ → Data → Option ℕ
@@ -43,14 +43,14 @@ span l low high (string s) = in_units l low high s
 span l low high d = whole low high d
 
 -- a moment: a whole number of seconds, or a date and time by RFC 3339
-abbrev pub moment : Data → Option ℕ
-moment (string s) = result_ok (moment_of s)
-moment d = whole 0 LAST d
+abbrev pub moment_value : Data → Option ℕ
+moment_value (string s) = result_ok (moment_of s)
+moment_value d = whole 0 LAST d
 
 -- an end: a moment, or a whole number of seconds up to the greatest end
-abbrev pub ending : Data → Option ℕ
-ending (string s) = result_ok (moment_of s)
-ending d = whole 0 END_MAX d
+abbrev pub end_value : Data → Option ℕ
+end_value (string s) = result_ok (moment_of s)
+end_value d = whole 0 END_MAX d
 
 -- the text `always`, which is no date
 unfoldable pub is_always : List ℕ → Bool
@@ -69,9 +69,9 @@ abbrev pub need : Language → Data → Option Need
 need l (string s) = need_text l s
 need l d = until_if (whole 0 LAST d)
 
-abbrev pub flag : Data → Option Bool
-flag (boolean b) = Some b
-flag _ = None
+abbrev pub flag_value : Data → Option Bool
+flag_value (boolean b) = Some b
+flag_value _ = None
 
 abbrev pub text : Data → Option (List ℕ)
 text (string s) = Some s
@@ -111,8 +111,8 @@ abbrev pub value_at : {A : Type 0} → (Data → Option A) → Option ℕ → Ke
 value_at f place key ms = read_if f place key (get_member (key_text key) ms)
 
 -- whether a key is there
-abbrev pub there : Key → Members → Bool
-there key ms = is_some (get_member (key_text key) ms)
+abbrev pub is_key_there : Key → Members → Bool
+is_key_there key ms = is_some (get_member (key_text key) ms)
 
 -- a key that has to be there where this is so
 abbrev pub has_if : Bool → ℕ → Key → Bool → Result (Unit {0}) InvFault
@@ -123,6 +123,6 @@ abbrev pub alone_if : Bool → ℕ → Key → Bool → Result (Unit {0}) InvFau
 alone_if beside index key here = if beside && here then Err (BadValue (Some index) key) else Ok tt
 
 -- a value that has to be there
-abbrev pub needed : {A : Type 0} → ℕ → Key → Option A → Result A InvFault
-needed index key (Some x) = Ok x
-needed index key None = Err (MissingKey index key)
+abbrev pub needed_value : {A : Type 0} → ℕ → Key → Option A → Result A InvFault
+needed_value index key (Some x) = Ok x
+needed_value index key None = Err (MissingKey index key)

@@ -19,43 +19,43 @@ use Rattle.keep_inventory.specs.Rows.{step_or}
 use Rattle.keep_inventory.specs.Served.{Served, note_at}
 use Rattle.keep_inventory.specs.Keys.{all_keys, is_one_of, key_text, lease_keys, token_keys, top_keys}
 use Rattle.keep_inventory.specs.Terms.{ceiling_of, max_ttl_of, step_of}
-use Rattle.keep_inventory.specs.Values.{credential, ending, flag, moment, need, path, span, tables, text, there}
+use Rattle.keep_inventory.specs.Values.{credential, end_value, flag_value, is_key_there, moment_value, need, path, span, tables, text}
 
 -- the key is absent, or its value reads so
-abbrev pub Writes : {A : Type 0} → (Data → Option A) → Key → Members → Option A → Type 0
-Writes f key ms None = get_member (key_text key) ms ≡ None
-Writes f key ms (Some x) = (d : Data) × (get_member (key_text key) ms ≡ Some d) × (f d ≡ Some x)
+abbrev pub WritesKey : {A : Type 0} → (Data → Option A) → Key → Members → Option A → Type 0
+WritesKey f key ms None = get_member (key_text key) ms ≡ None
+WritesKey f key ms (Some x) = (d : Data) × (get_member (key_text key) ms ≡ Some d) × (f d ≡ Some x)
 
 -- what is written at a key, or what stands for it where the key is absent
 abbrev pub WritesOr : {A : Type 0} → (Data → Option A) → Key → Members → A → A → Type 0
-WritesOr {A = A} f key ms absent x = (o : Option A) × Writes f key ms o × (x ≡ unwrap_or o absent)
+WritesOr {A = A} f key ms absent x = (o : Option A) × WritesKey f key ms o × (x ≡ unwrap_or o absent)
 
 -- the maximum TTL: what is written, or the system's where that is 0 or absent
 abbrev pub WritesMost : ℕ → Members → ℕ → Type 0
-WritesMost system_max ms n = (o : Option ℕ) × Writes (span full 0 SPAN_MAX) MaxTtl ms o × (n ≡ max_ttl_of system_max o)
+WritesMost system_max ms n = (o : Option ℕ) × WritesKey (span full 0 SPAN_MAX) MaxTtl ms o × (n ≡ max_ttl_of system_max o)
 
 -- the parent of the entry at an index is an earlier entry of that name
-abbrev pub IsNamed : List Entry → ℕ → List ℕ → Option ℕ → Type 0
-IsNamed es i name None = ⊥
-IsNamed es i name (Some p) = (p < i) × ((entry_at es p).name ≡ name)
+abbrev pub ParentIsNamed : List Entry → ℕ → List ℕ → Option ℕ → Type 0
+ParentIsNamed es i name None = ⊥
+ParentIsNamed es i name (Some p) = (p < i) × ((entry_at es p).name ≡ name)
 
 -- and there is none where no name is written
 abbrev pub IsParent : List Entry → ℕ → Option (List ℕ) → Option ℕ → Type 0
 IsParent es i None parent = parent ≡ None
-IsParent es i (Some name) parent = IsNamed es i name parent
+IsParent es i (Some name) parent = ParentIsNamed es i name parent
 
 -- issue and end are both written, or neither is, and then both are 0
-abbrev pub IsTold : Members → Entry → Terms → Bool → Type 0
-IsTold ms e t true = Writes moment Issued ms (Some t.issued) × Writes ending End ms (Some e.end)
-IsTold ms e t false = Writes moment Issued ms None × Writes ending End ms None × (t.issued ≡ 0) × (e.end ≡ 0)
+abbrev pub EndIsTold : Members → Entry → Terms → Bool → Type 0
+EndIsTold ms e t true = WritesKey moment_value Issued ms (Some t.issued) × WritesKey end_value End ms (Some e.end)
+EndIsTold ms e t false = WritesKey moment_value Issued ms None × WritesKey end_value End ms None × (t.issued ≡ 0) × (e.end ≡ 0)
 
 -- a table of either kind: when its entry was issued, its end, whether it can be renewed, and until when it is needed
 pub record IsLife (ms : Members) (e : Entry) (t : Terms) (note : Note) : Type 0 where
-  pub name : Writes text Name ms (Some e.name)
-  pub told : IsTold ms e t note.is_told
-  pub renewable : WritesOr flag Renewable ms true e.renewable
+  pub name : WritesKey text Name ms (Some e.name)
+  pub told : EndIsTold ms e t note.is_told
+  pub renewable : WritesOr flag_value Renewable ms true e.renewable
   pub until : Option needs.Need
-  pub need : Writes (need full) Need ms until
+  pub need : WritesKey (need full) Need ms until
   pub need_is : e.need ≡ until_of until
   pub always_is : note.is_always ≡ is_for_good until
   pub step : e.step ≡ step_of t
@@ -64,9 +64,9 @@ pub record IsLife (ms : Members) (e : Entry) (t : Terms) (note : Note) : Type 0 
 -- the credential that is written, or the name; or, and then no credential is written, the file that holds it
 pub record IsSecret (key file_key : Key) (ms : Members) (name sent : List ℕ) (file : Option (List ℕ)) : Type 0 where
   pub secret : Option (List ℕ)
-  pub written : Writes credential key ms secret
+  pub written : WritesKey credential key ms secret
   pub sent_is : sent ≡ unwrap_or secret name
-  pub file_written : Writes path file_key ms file
+  pub file_written : WritesKey path file_key ms file
   pub alone : is_some secret && is_some file ≡ false
 
 -- the entry at an index, its credential, its terms and its note are those of a table `[[token]]`
@@ -75,10 +75,10 @@ pub record IsToken (system_max : ℕ) (es : List Entry) (i : ℕ) (ms : Members)
   pub kind : e.kind ≡ kind.Token
   pub life : IsLife ms e t note
   pub name : Option (List ℕ)
-  pub parent : Writes text Parent ms name
+  pub parent : WritesKey text Parent ms name
   pub parent_is : IsParent es i name e.parent
   pub increment : Option ℕ
-  pub increment_written : Writes (span full 0 SPAN_MAX) Increment ms increment
+  pub increment_written : WritesKey (span full 0 SPAN_MAX) Increment ms increment
   pub increment_is : t.increment ≡ step_or increment t.period
   pub period : WritesOr (span full 0 SPAN_MAX) Period ms 0 t.period
   pub max_ttl : WritesMost system_max ms t.max_ttl
@@ -91,10 +91,10 @@ pub record IsLease (system_max : ℕ) (es : List Entry) (i : ℕ) (ms : Members)
   pub kind : e.kind ≡ kind.Lease
   pub life : IsLife ms e t note
   pub token : List ℕ
-  pub token_written : Writes text Token ms (Some token)
-  pub token_is : IsNamed es i token e.parent
+  pub token_written : WritesKey text Token ms (Some token)
+  pub token_is : ParentIsNamed es i token e.parent
   pub increment : Option ℕ
-  pub increment_written : Writes (span full 0 SPAN_MAX) Increment ms increment
+  pub increment_written : WritesKey (span full 0 SPAN_MAX) Increment ms increment
   pub increment_is : t.increment ≡ Some (unwrap_or increment STEP_ABSENT)
   pub period : t.period ≡ 0
   pub max_ttl : WritesMost system_max ms t.max_ttl
@@ -113,12 +113,12 @@ count_of (item d ds) = suc (count_of ds)
 
 -- what is served has the margin that a document writes, and one entry for each of its tables and no other: the tokens in their
 -- order, then the leases in theirs
-pub record IsWritten (ms : Members) (v : Served) : Type 0 where
+pub record DocumentWrites (ms : Members) (v : Served) : Type 0 where
   pub keys : all_keys (is_one_of top_keys) ms ≡ true
   pub system_max : ℕ
   pub system_max_written : WritesOr (span full 1 SPAN_MAX) SystemMax ms SYSTEM_MAX system_max
   pub margin : WritesOr (span full 1 MARGIN_MAX) Margin ms 1 v.inventory.forest.margin
-  pub has_margin : v.has_margin ≡ there Margin ms
+  pub has_margin : v.has_margin ≡ is_key_there Margin ms
   pub tokens : Items
   pub tokens_written : WritesOr tables Token ms no_items tokens
   pub leases : Items

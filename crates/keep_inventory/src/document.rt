@@ -3,7 +3,7 @@ ghost use Rattle.toml.specs.Errors.{IsMemory};
 ghost use Rattle.toml.specs.View.{table_view};
 ghost use Rattle.keep_inventory.specs.Answers.{Gives};
 ghost use Rattle.keep_inventory.specs.declared.fault.InvFault.TheVariants.{NotToml, OutOfMemory};
-ghost use Rattle.keep_inventory.specs.Inventory.{intake_of, served_of, tree_of, read_inventory, read_known, read_served};
+ghost use Rattle.keep_inventory.specs.Inventory.{intake_of, served_of, document_tree, read_inventory, read_known, read_served};
 ghost use Rattle.keep_inventory.specs.Languages.{full};
 
 use crate::draft::Draft;
@@ -57,9 +57,9 @@ pub fn read(alloc: Global, bytes: &[u8]) -> Result<Inventory, InvFault>
 }
 
 // The tree of a document.
-#[tactic(auto, unfolding(crate::specs::Inventory::tree_of))]
+#[tactic(auto, unfolding(crate::specs::Inventory::document_tree))]
 fn read_tree(alloc: Global, bytes: &[u8]) -> Result<Table, InvFault>
-    ensures { Gives table_view result (tree_of bytes.now) }
+    ensures { Gives table_view result (document_tree bytes.now) }
 {
     let Ok(text) = std::str::from_utf8(bytes) else {
         return Err(InvFault::NotToml);

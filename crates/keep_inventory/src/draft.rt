@@ -1,8 +1,8 @@
 ghost use Rattle.std.specs.Prelude.{◌≡◌, ◌<◌, Err, IfSome, length};
 ghost use Rattle.toml.specs.View.{items_view, table_view};
-ghost use Rattle.keep_tree.specs.Push.{refusal};
+ghost use Rattle.keep_tree.specs.Push.{entry_refusal};
 ghost use Rattle.keep_inventory.specs.declared.fault.InvFault.TheVariants.{Tree};
-ghost use Rattle.keep_inventory.specs.Intake.{Changes, nothing, told_as, pushed, distinct, with_token, with_lease};
+ghost use Rattle.keep_inventory.specs.Intake.{Changes, empty_intake, tree_fault_told, pushed, distinct, with_token, with_lease};
 ghost use Rattle.keep_inventory.specs.Languages.{full};
 ghost use Rattle.keep_inventory.specs.Inventory.{token_entered, lease_entered, entered_by};
 
@@ -41,7 +41,7 @@ impl Draft {
     pub fn new(alloc: Global, margin: u32) -> Draft
         requires least { 0 < margin }
         requires most { margin < 3601 }
-        ensures { result ≡ nothing margin }
+        ensures { result ≡ empty_intake margin }
     {
         Draft {
             forest: Forest::with_margin(alloc, margin),
@@ -153,7 +153,7 @@ impl Draft {
 #[tactic(auto, unfolding(crate::specs::Intake::pushed))]
 fn push(forest: &mut Forest, entry: Entry) -> Result<(), InvFault>
     ensures pushed { Changes (pushed forest.old entry) forest.new result }
-    ensures refused { IfSome (refusal forest.old entry) (λ fault. result ≡ Err (Tree (length forest.old.entries) fault)) }
+    ensures refused { IfSome (entry_refusal forest.old entry) (λ fault. result ≡ Err (Tree (length forest.old.entries) fault)) }
 {
     let index = forest.len();
     match forest.push(entry) {
@@ -164,7 +164,7 @@ fn push(forest: &mut Forest, entry: Entry) -> Result<(), InvFault>
 
 // What a forest said of the entry at an index.
 fn told(index: u32, fault: TreeFault) -> InvFault
-    ensures { result ≡ told_as index fault }
+    ensures { result ≡ tree_fault_told index fault }
 {
     match fault {
         TreeFault::OutOfMemory => InvFault::OutOfMemory,

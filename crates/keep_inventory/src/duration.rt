@@ -2,13 +2,13 @@ ghost use Rattle.std.specs.Prelude.{◌≡◌, ◌≤◌, ◌<◌, IsTrue, lengt
 ghost use Rattle.std.specs.Char.{is_ascii_digit};
 ghost use Rattle.std.specs.List.{list_all};
 ghost use Rattle.std.specs.Str.Parse.{digits_value};
-ghost use Rattle.keep_inventory.specs.Durations.{after_part, digits_before, duration_of, has_part, part_seconds};
+ghost use Rattle.keep_inventory.specs.Durations.{after_part, digits_before, duration_of_text, has_part, part_seconds};
 
 /// The seconds of a text such as "90m" or "1h30m": one unit or more, of `d`, `h`, `m` and `s` in this order, each with a number
 /// of 1 to 10 digits. `None` where it is none.
-#[tactic(auto, unfolding(crate::specs::Durations::duration_of))]
+#[tactic(auto, unfolding(crate::specs::Durations::duration_of_text))]
 pub fn read_duration(text: &[u8]) -> Option<u64>
-    ensures { result ≡ duration_of text.now }
+    ensures { result ≡ duration_of_text text.now }
 {
     let hours = after_part(text, b'd');
     let minutes = after_part(hours, b'h');

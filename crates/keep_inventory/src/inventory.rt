@@ -1,6 +1,6 @@
 ghost use Rattle.std.specs.Prelude.{◌≡◌, ◌<◌, None, Ok, Err, IfSome, length};
-ghost use Rattle.keep_inventory.specs.Inventories.{IsSendable, IsInventory, terms_at, credential_at, with_need};
-ghost use Rattle.keep_inventory.specs.Intake.{inventory_with};
+ghost use Rattle.keep_inventory.specs.Inventories.{IsSendableText, IsInventory, terms_at, credential_at, inventory_with_need};
+ghost use Rattle.keep_inventory.specs.Intake.{inventory_of_intake};
 ghost use Rattle.keep_inventory.specs.Lookup.{lookup_fault, told};
 
 use crate::draft::Draft;
@@ -23,13 +23,13 @@ pub struct Credentials {
 impl Model for Credentials {
     ghost use Rattle.std.specs.Prelude.{List, ℕ, ◌++◌};
     ghost use Rattle.std.specs.List.{All};
-    ghost use Rattle.keep_inventory.specs.Inventories.{IsSendable};
+    ghost use Rattle.keep_inventory.specs.Inventories.{IsSendableText};
 
     ghost Value = { List (List ℕ) };
 
     ghost view = { λ c. c.secrets ++ c.lease_ids };
 
-    ghost invariant = { λ c. All IsSendable (c.secrets ++ c.lease_ids) };
+    ghost invariant = { λ c. All IsSendableText (c.secrets ++ c.lease_ids) };
 }
 
 impl Credentials {
@@ -38,7 +38,7 @@ impl Credentials {
     pub fn get(&self, index: u32) -> &[u8]
         requires { index < length self.now }
         ensures value { result.now ≡ credential_at self.now index }
-        ensures sendable { IsSendable result.now }
+        ensures sendable { IsSendableText result.now }
     {
         let (index, tokens) = (index as usize, self.secrets.len());
         if index < tokens {
@@ -80,7 +80,7 @@ impl Inventory {
     pub fn credential(&self, index: u32) -> &[u8]
         requires { index < length self.now.forest.entries }
         ensures value { result.now ≡ credential_at self.now.credentials index }
-        ensures sendable { IsSendable result.now }
+        ensures sendable { IsSendableText result.now }
         ensures sound { IsInventory self.now }
     {
         self.credentials.get(index)
@@ -131,7 +131,7 @@ impl Inventory {
     /// Sets until when the entry at an index is needed. It takes no memory.
     pub fn set_need(&mut self, index: u32, need: Moment)
         requires { index < length self.old.forest.entries }
-        ensures { self.new ≡ with_need self.old index need }
+        ensures { self.new ≡ inventory_with_need self.old index need }
     {
         set_need(&mut self.forest, index, need);
     }
@@ -180,8 +180,8 @@ impl Inventory {
 
     /// The inventory of a draft whose tables are all read, and what they leave open.
     pub(crate) fn of(draft: Draft) -> (Inventory, Vec<Note>)
-        requires { IsInventory (inventory_with draft) }
-        ensures inventory { result.0 ≡ inventory_with draft }
+        requires { IsInventory (inventory_of_intake draft) }
+        ensures inventory { result.0 ≡ inventory_of_intake draft }
         ensures notes { result.1.items ≡ draft.notes }
     {
         let inventory = Inventory {

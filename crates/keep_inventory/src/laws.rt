@@ -4,7 +4,7 @@ ghost use Rattle.keep_tree.specs.declared.forest.TheConstants.{END_MAX, MARGIN_M
 ghost use Rattle.keep_inventory.specs.declared.limits.TheConstants.{CREDENTIAL_MAX, MOST_INVENTORY, PATH_MAX, SPAN_MAX, STEP_ABSENT, SYSTEM_MAX};
 ghost use Rattle.keep_inventory.specs.Durations.{DurationFound, DurationOnly};
 ghost use Rattle.keep_inventory.specs.FirstFault.{FirstFaultLaw};
-ghost use Rattle.keep_inventory.specs.Laws.{InventoryLaw, SecrecyLaw, SendableLaw, ServedLaw, ServedSecrecyLaw, StrictLaw, TextLaw, WrittenLaw};
+ghost use Rattle.keep_inventory.specs.Laws.{InventoryLaw, ReadSecrecyLaw, SendableLaw, ServedLaw, ServedSecrecyLaw, StrictLaw, TextLaw, WrittenLaw};
 
 /// The limits of inventories, each by its number; those of moments and margins are cited from the crates below.
 pub fn limits_of_inventories()
@@ -68,5 +68,5 @@ pub fn credentials_are_sendable()
 /// differ in these keys and their values alone have the same forest, the same terms and the same notes.
 pub fn secrets_stay_in_credentials()
     ensures served { ServedSecrecyLaw }
-    ensures inventory { SecrecyLaw }
+    ensures inventory { ReadSecrecyLaw }
 {}

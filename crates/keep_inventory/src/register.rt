@@ -1,5 +1,5 @@
 ghost use Rattle.std.specs.Prelude.{◌≡◌, ◌<◌, ◌++◌, ◌∷◌, [], not, length, IfOk, OnErr};
-ghost use Rattle.keep_inventory.specs.Intake.{holds};
+ghost use Rattle.keep_inventory.specs.Intake.{has_text};
 ghost use Rattle.keep_inventory.specs.Inventories.{credential_at};
 
 use keep_moment::Text;
@@ -17,14 +17,14 @@ pub struct Register {
 
 impl Model for Register {
     ghost use Rattle.std.specs.Prelude.{◌≡◌, List, ℕ};
-    ghost use Rattle.keep_inventory.specs.Intake.{holds};
+    ghost use Rattle.keep_inventory.specs.Intake.{has_text};
     ghost use Rattle.keep_inventory.specs.Found.{has};
 
     ghost Value = { List (List ℕ) };
 
     ghost view = { λ r. r.texts.items };
 
-    ghost invariant = { λ r. (q : List ℕ) → has r.found q ≡ holds r.texts.items q };
+    ghost invariant = { λ r. (q : List ℕ) → has r.found q ≡ has_text r.texts.items q };
 }
 
 impl fmt::Debug for Register {
@@ -64,7 +64,7 @@ impl Register {
 
     /// Appends a text, and says whether it is none of those before it.
     pub fn add(&mut self, alloc: Global, text: Text) -> Result<bool, AllocError>
-        ensures fresh { IfOk result (λ fresh. fresh ≡ not (holds self.old text)) }
+        ensures fresh { IfOk result (λ fresh. fresh ≡ not (has_text self.old text)) }
         ensures added { IfOk result (λ fresh. self.new ≡ self.old ++ text ∷ []) }
         ensures unchanged { OnErr result (self.new ≡ self.old) }
     {

@@ -3,7 +3,7 @@ ghost use Rattle.toml.specs.View.{table_view};
 ghost use Rattle.keep_inventory.specs.Answers.{Gives};
 ghost use Rattle.keep_inventory.specs.Languages.{full};
 ghost use Rattle.keep_inventory.specs.Needs.{is_for_good, until_of};
-ghost use Rattle.keep_inventory.specs.Rows.{file_at, index_or_none, life_of, step_or, token_terms, lease_terms, token_row, lease_row};
+ghost use Rattle.keep_inventory.specs.Rows.{file_at, index_or_none, life_of_table, step_or, token_terms, lease_terms, token_row, lease_row};
 ghost use Rattle.keep_inventory.specs.Values.{alone_if, has_if};
 
 use crate::fault::InvFault;
@@ -234,9 +234,9 @@ fn text_or<'a>(written: Option<&'a str>, name: &'a str) -> &'a str
 }
 
 // Issue, end, and whether it can be renewed. Issue and end may both be left out.
-#[tactic(auto, unfolding(crate::specs::Rows::life_of))]
+#[tactic(auto, unfolding(crate::specs::Rows::life_of_table))]
 fn read_life(table: &Table, index: u32) -> Result<Life, InvFault>
-    ensures { result ≡ life_of full index (table_view table.now) }
+    ensures { result ≡ life_of_table full index (table_view table.now) }
 {
     let issued = moment_at(table, Some(index), Key::Issued)?;
     let has_end = is_there(table, Key::End);

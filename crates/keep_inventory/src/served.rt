@@ -1,7 +1,7 @@
 ghost use Rattle.std.specs.Prelude.{◌≡◌, ◌<◌, length};
 ghost use Rattle.keep_inventory.specs.Answers.{Gives};
-ghost use Rattle.keep_inventory.specs.Intake.{inventory_with};
-ghost use Rattle.keep_inventory.specs.Served.{IsServed, first_open, first_untold, known_of, open_fault, whole_of};
+ghost use Rattle.keep_inventory.specs.Intake.{inventory_of_intake};
+ghost use Rattle.keep_inventory.specs.Served.{IsServedInventory, first_open, first_untold, inventory_if_whole, open_fault, served_if_told};
 
 use crate::draft::Draft;
 use crate::fault::InvFault;
@@ -20,13 +20,13 @@ pub struct Served {
 }
 
 impl Model for Served {
-    ghost use Rattle.keep_inventory.specs.Served.{IsServed, Served};
+    ghost use Rattle.keep_inventory.specs.Served.{IsServedInventory, Served};
 
     ghost Value = { Served };
 
     ghost view = { λ v. record { inventory = v.inventory; notes = v.notes.items; has_margin = v.has_margin } };
 
-    ghost invariant = { λ v. IsServed (record { inventory = v.inventory; notes = v.notes.items; has_margin = v.has_margin }) };
+    ghost invariant = { λ v. IsServedInventory (record { inventory = v.inventory; notes = v.notes.items; has_margin = v.has_margin }) };
 }
 
 impl Served {
@@ -34,7 +34,7 @@ impl Served {
     /// credential in a file.
     pub fn inventory(&self) -> &Inventory
         ensures value { result.now ≡ self.now.inventory }
-        ensures sound { IsServed self.now }
+        ensures sound { IsServedInventory self.now }
     {
         &self.inventory
     }
@@ -42,7 +42,7 @@ impl Served {
     /// What each table leaves open, in the order of the entries.
     pub fn notes(&self) -> &[Note]
         ensures value { result.now ≡ self.now.notes }
-        ensures sound { IsServed self.now }
+        ensures sound { IsServedInventory self.now }
     {
         &self.notes
     }
@@ -56,9 +56,9 @@ impl Served {
 
     /// The inventory, where nothing is left open; else why the first table that leaves something open cannot be planned. It takes
     /// no memory.
-    #[tactic(auto, unfolding(crate::specs::Served::whole_of))]
+    #[tactic(auto, unfolding(crate::specs::Served::inventory_if_whole))]
     pub fn into_whole(self) -> Result<Inventory, InvFault>
-        ensures { result ≡ whole_of self }
+        ensures { result ≡ inventory_if_whole self }
     {
         match first_open(&self.notes) {
             None => Ok(self.inventory),
@@ -68,9 +68,9 @@ impl Served {
 
     /// What is served, where each table writes its end; else `MissingKey` with `issued` of the first that leaves it to a lookup. It
     /// takes no memory.
-    #[tactic(auto, unfolding(crate::specs::Served::known_of))]
+    #[tactic(auto, unfolding(crate::specs::Served::served_if_told))]
     pub fn into_known(self) -> Result<Served, InvFault>
-        ensures { result ≡ known_of self }
+        ensures { result ≡ served_if_told self }
     {
         match first_untold(&self.notes) {
             None => Ok(self),
@@ -82,15 +82,15 @@ impl Served {
     pub fn into_parts(self) -> (Inventory, Vec<Note>)
         ensures inventory { result.0 ≡ self.inventory }
         ensures notes { result.1.items ≡ self.notes }
-        ensures sound { IsServed self }
+        ensures sound { IsServedInventory self }
     {
         (self.inventory, self.notes)
     }
 
     /// What is served by a draft whose tables are all read.
     pub(crate) fn of(draft: Draft, has_margin: bool) -> Served
-        requires { IsServed (record { inventory = inventory_with draft; notes = draft.notes; has_margin = has_margin }) }
-        ensures { result ≡ record { inventory = inventory_with draft; notes = draft.notes; has_margin = has_margin } }
+        requires { IsServedInventory (record { inventory = inventory_of_intake draft; notes = draft.notes; has_margin = has_margin }) }
+        ensures { result ≡ record { inventory = inventory_of_intake draft; notes = draft.notes; has_margin = has_margin } }
     {
         let (inventory, notes) = Inventory::of(draft);
         Served {

@@ -7,7 +7,7 @@ ghost use Rattle.toml.specs.Text.{are_tables};
 ghost use Rattle.keep_inventory.specs.Keys.{key_text};
 ghost use Rattle.keep_inventory.specs.Answers.{Gives};
 ghost use Rattle.keep_inventory.specs.Languages.{full};
-ghost use Rattle.keep_inventory.specs.Values.{whole, if_within, span, moment, ending, is_always, need, flag, text, credential, is_credential, is_path, path, tables, there, value_at};
+ghost use Rattle.keep_inventory.specs.Values.{whole, if_within, span, moment_value, end_value, is_always, need, flag_value, text, credential, is_credential, is_path, path, tables, is_key_there, value_at};
 
 use crate::duration::read_duration;
 use crate::fault::InvFault;
@@ -74,7 +74,7 @@ fn is_always(text: &str) -> bool
 
 // A moment: a whole number of seconds, or a date and time by RFC 3339.
 fn as_moment(value: &Value) -> Option<Moment>
-    ensures { result ≡ moment (view value.now) }
+    ensures { result ≡ moment_value (view value.now) }
 {
     match value {
         Value::String(text) => read_rfc3339(text.as_str()).ok(),
@@ -84,7 +84,7 @@ fn as_moment(value: &Value) -> Option<Moment>
 
 // An end: a moment, or a whole number of seconds up to the greatest end.
 fn as_end(value: &Value) -> Option<u64>
-    ensures { result ≡ ending (view value.now) }
+    ensures { result ≡ end_value (view value.now) }
 {
     match value {
         Value::String(text) => Some(read_rfc3339(text.as_str()).ok()?.get()),
@@ -94,7 +94,7 @@ fn as_end(value: &Value) -> Option<u64>
 
 /// The moment at a key, in whole seconds since 1970-01-01T00:00:00Z, if the key is there.
 pub fn moment_at(table: &Table, place: Option<u32>, key: Key) -> Result<Option<Moment>, InvFault>
-    ensures { result ≡ value_at moment place key (table_view table.now) }
+    ensures { result ≡ value_at moment_value place key (table_view table.now) }
 {
     let Some(value) = at(table, key) else {
         return Ok(None);
@@ -107,7 +107,7 @@ pub fn moment_at(table: &Table, place: Option<u32>, key: Key) -> Result<Option<M
 
 /// The end at a key, in whole seconds since 1970-01-01T00:00:00Z, if the key is there.
 pub fn end_at(table: &Table, place: Option<u32>, key: Key) -> Result<Option<u64>, InvFault>
-    ensures { result ≡ value_at ending place key (table_view table.now) }
+    ensures { result ≡ value_at end_value place key (table_view table.now) }
 {
     let Some(value) = at(table, key) else {
         return Ok(None);
@@ -152,7 +152,7 @@ pub fn span_at(
 
 /// Whether the value at a key is true, if the key is there.
 pub fn flag_at(table: &Table, place: Option<u32>, key: Key) -> Result<Option<bool>, InvFault>
-    ensures { result ≡ value_at flag place key (table_view table.now) }
+    ensures { result ≡ value_at flag_value place key (table_view table.now) }
 {
     let Some(value) = at(table, key) else {
         return Ok(None);
@@ -231,7 +231,7 @@ pub fn path_at(table: &Table, place: Option<u32>, key: Key) -> Result<Option<&st
 
 /// Whether a key is there.
 pub fn is_there(table: &Table, key: Key) -> bool
-    ensures { result ≡ there key (table_view table.now) }
+    ensures { result ≡ is_key_there key (table_view table.now) }
 {
     at(table, key).is_some()
 }

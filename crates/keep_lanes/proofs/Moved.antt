@@ -4,11 +4,11 @@ use Rattle.std.proofs.lemmas.Grind.{drop_more_same}
 use Rattle.std.proofs.lemmas.List.{drop-set-lt, drop_more, take_more_set}
 use Rattle.std.proofs.Math.Seq.{take-add}
 use Rattle.std.proofs.KnownBytes.{Appends-nil}
-use Rattle.keep_lanes.specs.Lanes.{IsWritten}
+use Rattle.keep_lanes.specs.Lanes.{FrontIsWritten}
 use Rattle.keep_lanes.specs.Losses.{Answer}
 use Rattle.keep_lanes.specs.Out as outs_of
-use Rattle.keep_lanes.specs.code.Seats.{out_of, outs}
-use Rattle.keep_lanes.specs.code.Ways.{Begins, GoesOn, IsAhead, Move, Moves, StaysOrMoves}
+use Rattle.keep_lanes.specs.code.Seats.{out_of_seat, outs}
+use Rattle.keep_lanes.specs.code.Ways.{DeadlineIsAhead, HasBegun, LaneGoesOn, Move, StaysOrMoves, WayMoves}
 use Rattle.keep_lanes.specs.declared.allowance.Allowance.{Allowance}
 use Rattle.keep_lanes.specs.declared.lane.Lane.{Lane}
 use Rattle.keep_lanes.specs.declared.seats.Seat.{Seat}
@@ -17,7 +17,7 @@ use Rattle.keep_lanes.specs.declared.way.Way.TheVariants.{Out, Over}
 
 module _ {L : Type 0} (written remaining : L → Option (List ℕ)) (now : ℕ) where
   pub move_more : (old new : List (Seat (Way L))) (s n : Seat (Way L)) → Move written remaining now old new
-      → (n.index ≡ s.index) × (StaysOrMoves written remaining now s.standing n.standing × IsAhead now n.standing) → Move written remaining now (old ++ s ∷ []) (new ++ n ∷ [])
+      → (n.index ≡ s.index) × (StaysOrMoves written remaining now s.standing n.standing × DeadlineIsAhead now n.standing) → Move written remaining now (old ++ s ∷ []) (new ++ n ∷ [])
   move_more [] new s n h one = subst (λ l. Move written remaining now (s ∷ []) (l ++ n ∷ [])) (sym h) (one, refl)
   move_more (o ∷ os) [] s n h one = absurd h
   move_more (o ∷ os) (x ∷ xs) s n h one = (h.0, move_more os xs s n h.1 one)
@@ -27,14 +27,14 @@ module _ {L : Type 0} (written remaining : L → Option (List ℕ)) (now : ℕ) 
   outs_move [] new h = ap (outs (λ _. None)) h
   outs_move (o ∷ os) [] h = absurd h
   outs_move (o ∷ os) (x ∷ xs) h =
-      let first : out_of {T = Way L} (λ _. None) x ≡ out_of (λ _. None) o = ap (λ (i : ℕ). let it : outs_of.Out = record { index = i; comes = None } in it) h.0.0 in
-      ap (λ (it : outs_of.Out). it ∷ outs (λ _. None) xs) first ∙ ap (λ l. out_of (λ _. None) o ∷ l) (outs_move os xs h.1)
+      let first : out_of_seat {T = Way L} (λ _. None) x ≡ out_of_seat (λ _. None) o = ap (λ (i : ℕ). let it : outs_of.Out = record { index = i; comes = None } in it) h.0.0 in
+      ap (λ (it : outs_of.Out). it ∷ outs (λ _. None) xs) first ∙ ap (λ l. out_of_seat (λ _. None) o ∷ l) (outs_move os xs h.1)
 
   pub rest_next : (old out : List (Seat (Way L))) (i : ℕ) (n : Seat (Way L)) → drop i out ≡ drop i old → drop (i + 1) (set out i n) ≡ drop (i + 1) old
   rest_next old out i n rest = drop-set-lt (i + 1) out i n (omega arith) ∙ drop_more_same out old i rest
 
   pub move_next : (old out : List (Seat (Way L))) (i : ℕ) (d n : Seat (Way L)) (from : Way L) → i < length out → drop i out ≡ drop i old
-      → Move written remaining now (take i old) (take i out) → StaysOrMoves written remaining now from n.standing → from ≡ (get_or out i d).standing → IsAhead now n.standing
+      → Move written remaining now (take i old) (take i out) → StaysOrMoves written remaining now from n.standing → from ≡ (get_or out i d).standing → DeadlineIsAhead now n.standing
       → n.index ≡ (get_or out i d).index → Move written remaining now (take (i + 1) old) (take (i + 1) (set out i n))
   move_next old out i d n from within rest h moved is ahead same =
       let s = get_or out i d in
@@ -45,23 +45,23 @@ module _ {L : Type 0} (written remaining : L → Option (List ℕ)) (now : ℕ) 
       (move_more (take i old) (take i out) s n h (same, (subst (λ w. StaysOrMoves written remaining now w n.standing) is moved, ahead))))
 
   -- one goes on, and is answered
-  pub moves_over : (old : Way L) (lane next : Lane L) (got : Option Answer) (a : Answer) → old ≡ Out lane → got ≡ Some a → GoesOn written remaining now lane next got
+  pub moves_over : (old : Way L) (lane next : Lane L) (got : Option Answer) (a : Answer) → old ≡ Out lane → got ≡ Some a → LaneGoesOn written remaining now lane next got
       → StaysOrMoves written remaining now old (Over a)
   moves_over old lane next got a is answered goes =
-      inr (subst (λ w. Moves written remaining now w (Over a)) (sym is) (next, subst (λ g. GoesOn written remaining now lane next g) answered goes))
+      inr (subst (λ w. WayMoves written remaining now w (Over a)) (sym is) (next, subst (λ g. LaneGoesOn written remaining now lane next g) answered goes))
 
   -- one that goes on from its begin has begun
   pub begun : (text : List ℕ) (allowance : Allowance) (lane : Lane L) (way : Way L) → text ≡ lane.unsent.items → lane.course.allowance ≡ allowance → IfSome (written lane.line) (λ bytes. bytes ≡ [])
-      → StaysOrMoves written remaining now (Out lane) way → Begins written text allowance way
+      → StaysOrMoves written remaining now (Out lane) way → HasBegun written text allowance way
   begun text allowance lane (Over a) of al fresh h = tt
   begun text allowance lane (Out next) of al fresh (inl same) =
-      subst (λ w. Begins written text allowance w) (sym same)
+      subst (λ w. HasBegun written text allowance w) (sym same)
       (al, record { fresh = lane.line; unwritten = fresh; sent = record { front = []; parts = of; appended = Appends-nil (written lane.line) } })
   begun text allowance lane (Out next) of al fresh (inr goes) =
-      (goes.allowance ∙ al, record { fresh = lane.line; unwritten = fresh; sent = subst (λ l. IsWritten l next.unsent.items (written lane.line) (written next.line)) (sym of) goes.sent })
+      (goes.allowance ∙ al, record { fresh = lane.line; unwritten = fresh; sent = subst (λ l. FrontIsWritten l next.unsent.items (written lane.line) (written next.line)) (sym of) goes.sent })
 
 -- a change of one under its index
 pub outs_set : {L : Type 0} (out : List (Seat (Way L))) (i : ℕ) (d n : Seat (Way L)) → n.index ≡ (get_or out i d).index → outs (λ _. None) (set out i n) ≡ outs (λ _. None) out
 outs_set [] i d n e = refl
 outs_set (o ∷ os) zero d n e = ap (λ (i : ℕ). let it : outs_of.Out = record { index = i; comes = None } in it ∷ outs (λ _. None) os) e
-outs_set (o ∷ os) (suc i) d n e = ap (λ l. out_of (λ _. None) o ∷ l) (outs_set os i d n e)
+outs_set (o ∷ os) (suc i) d n e = ap (λ l. out_of_seat (λ _. None) o ∷ l) (outs_set os i d n e)

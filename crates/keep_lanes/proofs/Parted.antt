@@ -1,9 +1,9 @@
 -- One more of those that are out is handed back, or stays: for `take_out`.
 use Rattle.std.proofs.Common.{◌++◌, inl, inr, List, [], ◌∷◌, refl, ap}
-use Rattle.keep_lanes.specs.Out.{IsOf, IsParted, Out}
+use Rattle.keep_lanes.specs.Out.{IsAnswerTo, IsParted, Out}
 use Rattle.keep_lanes.specs.declared.lanes.Answered.{Answered}
 
-pub parted_there : (os : List Out) (o : Out) (as' : List Answered) (a : Answered) (ls : List Out) → IsParted os as' ls → IsOf o a → IsParted (os ++ o ∷ []) (as' ++ a ∷ []) ls
+pub parted_there : (os : List Out) (o : Out) (as' : List Answered) (a : Answered) (ls : List Out) → IsParted os as' ls → IsAnswerTo o a → IsParted (os ++ o ∷ []) (as' ++ a ∷ []) ls
 parted_there [] o as' a ls (none, left) is = inl (a, [], (ap (λ xs. xs ++ a ∷ []) none, (is, (refl, left))))
 parted_there (x ∷ os) o as' a ls (inl (b, later, (e, (first, rest)))) is = inl (b, later ++ a ∷ [], (ap (λ xs. xs ++ a ∷ []) e, (first, parted_there os o later a ls rest is)))
 parted_there (x ∷ os) o as' a ls (inr (rest, (e, p))) is = inr (rest, (e, parted_there os o as' a rest p is))

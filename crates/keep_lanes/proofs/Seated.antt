@@ -2,8 +2,8 @@
 use Rattle.std.proofs.Common.{◌≡◌, ℕ, ◌<◌, ◌≤◌, ◌+◌, ◌++◌, List, [], ◌∷◌, length, take, drop, get_or, sym, subst, ap, ◌∙◌, All, Option, take-append-drop}
 use Rattle.std.proofs.lemmas.List.{drop_all, drop_more, map-append}
 use Rattle.std.proofs.lemmas.List.Elements.{All-map, All-more}
-use Rattle.keep_lanes.specs.Out.{IsBelow, IsPut, Out}
-use Rattle.keep_lanes.specs.code.Seats.{out_of, outs}
+use Rattle.keep_lanes.specs.Out.{IsBelow, Out, OutIsPut}
+use Rattle.keep_lanes.specs.code.Seats.{out_of_seat, outs}
 use Rattle.keep_lanes.specs.declared.coming.Coming.{Coming}
 use Rattle.keep_lanes.specs.declared.seats.Seat.{Seat}
 
@@ -28,12 +28,12 @@ module _ {T : Type 0} where
   below_end comes seats index place past = subst (λ ss. IsBelow index (outs comes ss)) (sym (drop_all place seats past)) tt
 
   pub is_put : (comes other : T → Option Coming) (old new : List (Seat T)) (s : Seat T) (place : ℕ) → All (λ x. x.index ≤ s.index) (take place old) → IsBelow s.index (outs other (drop place old))
-      → new ≡ take place old ++ s ∷ drop place old → IsPut (out_of comes s) (outs comes old) (outs comes new)
+      → new ≡ take place old ++ s ∷ drop place old → OutIsPut (out_of_seat comes s) (outs comes old) (outs comes new)
   is_put comes other old new s place lower higher is = record {
     before = outs comes (take place old);
     behind = outs comes (drop place old);
-    old_is = ap (outs comes) (sym (take-append-drop place old)) ∙ map-append (out_of comes) (take place old) (drop place old);
-    new_is = ap (outs comes) is ∙ map-append (out_of comes) (take place old) (s ∷ drop place old);
-    lower = All-map (λ (x : Out). x.index ≤ s.index) (out_of comes) (take place old) lower;
+    old_is = ap (outs comes) (sym (take-append-drop place old)) ∙ map-append (out_of_seat comes) (take place old) (drop place old);
+    new_is = ap (outs comes) is ∙ map-append (out_of_seat comes) (take place old) (s ∷ drop place old);
+    lower = All-map (λ (x : Out). x.index ≤ s.index) (out_of_seat comes) (take place old) lower;
     higher = below_known other comes s.index (drop place old) higher;
   }

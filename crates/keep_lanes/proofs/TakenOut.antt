@@ -4,8 +4,8 @@ use Rattle.keep_lanes.specs.Losses.{Answer}
 use Rattle.std.proofs.lemmas.List.{length-take-le, drop_all, drop_at, drop_more, map-append, take_at}
 use Rattle.std.proofs.lemmas.List.Elements.{filter-append}
 use Rattle.std.proofs.Math.Seq.{take-add}
-use Rattle.keep_lanes.specs.Out.{IsOf, IsParted}
-use Rattle.keep_lanes.specs.code.Seats.{AreTakenOut, out_of, outs}
+use Rattle.keep_lanes.specs.Out.{IsAnswerTo, IsParted}
+use Rattle.keep_lanes.specs.code.Seats.{AreTakenOut, out_of_seat, outs}
 use Rattle.keep_lanes.specs.declared.coming.Coming.{Coming}
 use Rattle.keep_lanes.specs.declared.lanes.Answered.{Answered}
 use Rattle.keep_lanes.specs.declared.seats.Seat.{Seat}
@@ -50,29 +50,29 @@ module _ {T : Type 0} (comes : T → Option Coming) (there : T → Bool) where
       let next = next_is out all at so.done s within is so.rest in
       let some : take (so.done + 1) all ≡ take so.done all ++ s ∷ [] = more_of all (drop (at + 1) out) so.done s next in
       let more : take (at + 1) out ≡ take at out ++ s ∷ [] = more_of out (drop (at + 1) out) at s (so.rest ∙ next) in
-      let outs_more : (xs : List (Seat T)) → outs comes (xs ++ s ∷ []) ≡ outs comes xs ++ out_of comes s ∷ [] = λ xs. map-append (out_of comes) xs (s ∷ []) in record {
+      let outs_more : (xs : List (Seat T)) → outs comes (xs ++ s ∷ []) ≡ outs comes xs ++ out_of_seat comes s ∷ [] = λ xs. map-append (out_of_seat comes) xs (s ∷ []) in record {
         done = so.done + 1;
         rest = rest_of all (drop (at + 1) out) so.done s next;
         parted = subst (λ ls. IsParted (outs comes (take (so.done + 1) all)) answers ls) (sym (ap (outs comes) more ∙ outs_more (take at out)))
-            (subst (λ os. IsParted os answers (outs comes (take at out) ++ out_of comes s ∷ [])) (sym (ap (outs comes) some ∙ outs_more (take so.done all)))
-            (parted_left (outs comes (take so.done all)) (out_of comes s) answers (outs comes (take at out)) so.parted));
+            (subst (λ os. IsParted os answers (outs comes (take at out) ++ out_of_seat comes s ∷ [])) (sym (ap (outs comes) some ∙ outs_more (take so.done all)))
+            (parted_left (outs comes (take so.done all)) (out_of_seat comes s) answers (outs comes (take at out)) so.parted));
         left = more ∙ ap (λ l. l ++ s ∷ []) so.left ∙ sym (filter_true (λ seat. not (there seat.standing)) (take so.done all) s (ap not away))
             ∙ ap (filter (λ seat. not (there seat.standing))) (sym some);
         indices = so.indices ∙ ap (map (λ (seat : Seat T). seat.index)) (sym (filter_false (λ seat. there seat.standing) (take so.done all) s away) ∙ ap (filter (λ seat. there seat.standing)) (sym some));
       }
 
   pub goes : (all out new : List (Seat T)) (at : ℕ) (answers : List Answered) (s : Seat T) (a : Answered) → at < length out → s ≡ get_or out at s → there s.standing ≡ true
-      → IsOf (out_of comes s) a → new ≡ take at out ++ drop (at + 1) out → length (take at out) ≡ at → SoFar comes there all out at answers → SoFar comes there all new at (answers ++ a ∷ [])
+      → IsAnswerTo (out_of_seat comes s) a → new ≡ take at out ++ drop (at + 1) out → length (take at out) ≡ at → SoFar comes there all out at answers → SoFar comes there all new at (answers ++ a ∷ [])
   goes all out new at answers s a within is here opens removed short so =
       let next = next_is out all at so.done s within is so.rest in
       let some : take (so.done + 1) all ≡ take so.done all ++ s ∷ [] = more_of all (drop (at + 1) out) so.done s next in
       let front : take at new ≡ take at out = ap (take at) removed ∙ take_at (take at out) (drop (at + 1) out) at short in
-      let outs_more : (xs : List (Seat T)) → outs comes (xs ++ s ∷ []) ≡ outs comes xs ++ out_of comes s ∷ [] = λ xs. map-append (out_of comes) xs (s ∷ []) in record {
+      let outs_more : (xs : List (Seat T)) → outs comes (xs ++ s ∷ []) ≡ outs comes xs ++ out_of_seat comes s ∷ [] = λ xs. map-append (out_of_seat comes) xs (s ∷ []) in record {
         done = so.done + 1;
         rest = ap (drop at) removed ∙ drop_at (take at out) (drop (at + 1) out) at short ∙ rest_of all (drop (at + 1) out) so.done s next;
         parted = subst (λ ls. IsParted (outs comes (take (so.done + 1) all)) (answers ++ a ∷ []) ls) (sym (ap (outs comes) front))
             (subst (λ os. IsParted os (answers ++ a ∷ []) (outs comes (take at out))) (sym (ap (outs comes) some ∙ outs_more (take so.done all)))
-            (parted_there (outs comes (take so.done all)) (out_of comes s) answers a (outs comes (take at out)) so.parted opens));
+            (parted_there (outs comes (take so.done all)) (out_of_seat comes s) answers a (outs comes (take at out)) so.parted opens));
         left = front ∙ so.left ∙ sym (filter_false (λ seat. not (there seat.standing)) (take so.done all) s (ap not here)) ∙ ap (filter (λ seat. not (there seat.standing))) (sym some);
         indices = map-append (λ (b : Answered). b.index) answers (a ∷ []) ∙ ap (λ l. l ++ a.index ∷ []) so.indices ∙ ap (λ i. map (λ (seat : Seat T). seat.index) (filter (λ seat. there seat.standing) (take so.done all)) ++ i ∷ []) opens.0
             ∙ sym (map-append (λ (seat : Seat T). seat.index) (filter (λ seat. there seat.standing) (take so.done all)) (s ∷ []))

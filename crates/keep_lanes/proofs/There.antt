@@ -2,13 +2,13 @@
 use Rattle.std.proofs.Common.{◌≡◌, ℕ, ◌<◌, List, [], ◌∷◌, Bool, true, false, cond, not, filter, map, nat_le, Option, None, Some, Result, Ok, Err, IfOk, OnOk, arith, refl, ap, subst, sym, ◌∙◌}
 use Rattle.std.proofs.lemmas.Bool.{false≢true, leb-false}
 use Rattle.keep_lanes.specs.Out.{AreThere, AreThereAt, IsDueAfter, Out, earlier, first_at, is_there, is_there_at, sooner_at, up_to}
-use Rattle.keep_lanes.specs.code.Seats.{AreTakenOut, out_of, outs}
+use Rattle.keep_lanes.specs.code.Seats.{AreTakenOut, out_of_seat, outs}
 use Rattle.keep_lanes.specs.declared.coming.Coming.{Coming}
 use Rattle.keep_lanes.specs.declared.lanes.Answered.{Answered}
 use Rattle.keep_lanes.specs.declared.seats.Seat.{Seat}
 
 abbrev known : Seat Coming → Out
-known seat = out_of (λ coming. Some coming) seat
+known seat = out_of_seat (λ coming. Some coming) seat
 
 kept_or_not : (b : Bool) (s : Seat Coming) (rest : List (Seat Coming)) → map known (cond b (s ∷ rest) rest) ≡ cond b (known s ∷ map known rest) (map known rest)
 kept_or_not true s rest = refl

@@ -20,10 +20,10 @@ heard_with why heard.Busy = Busy
 heard_with why heard.Lost = Lost why
 
 -- of a renewal, and of a lookup
-abbrev pub renewed_by : Kind → List ℕ → Answer → Heard Renewed
-renewed_by kind id (Err loss) = Lost loss
-renewed_by kind id (Ok dated) = heard_with (lost_by dated.reply.status) (exchanged.renewed_by kind id dated)
+abbrev pub renewed_by_answer : Kind → List ℕ → Answer → Heard Renewed
+renewed_by_answer kind id (Err loss) = Lost loss
+renewed_by_answer kind id (Ok dated) = heard_with (lost_by dated.reply.status) (exchanged.renewed_by_reply kind id dated)
 
-abbrev pub looked_up : Kind → Answer → Heard Terms
-looked_up kind (Err loss) = Lost loss
-looked_up kind (Ok dated) = heard_with (lost_by dated.reply.status) (exchanged.looked_up kind dated)
+abbrev pub looked_up_by_answer : Kind → Answer → Heard Terms
+looked_up_by_answer kind (Err loss) = Lost loss
+looked_up_by_answer kind (Ok dated) = heard_with (lost_by dated.reply.status) (exchanged.looked_up_by_reply kind dated)

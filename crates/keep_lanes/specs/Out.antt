@@ -16,7 +16,7 @@ IsBelow index [] = Unit {0}
 IsBelow index (o ∷ os) = index < o.index
 
 -- one more is out; it stands before the first with a greater index
-pub record IsPut (o : Out) (old new : List Out) : Type 0 where
+pub record OutIsPut (o : Out) (old new : List Out) : Type 0 where
   pub before : List Out
   pub behind : List Out
   pub old_is : old ≡ before ++ behind
@@ -25,14 +25,14 @@ pub record IsPut (o : Out) (old new : List Out) : Type 0 where
   pub higher : IsBelow o.index behind
 
 -- an answer is for a request that was out, and is what comes of it where that is known
-abbrev pub IsOf : Out → Answered → Type 0
-IsOf o a = (a.index ≡ o.index) × IfSome o.comes (λ c. a.answer ≡ c.answer)
+abbrev pub IsAnswerTo : Out → Answered → Type 0
+IsAnswerTo o a = (a.index ≡ o.index) × IfSome o.comes (λ c. a.answer ≡ c.answer)
 
 -- each that was out is handed back with its answer or is still out, in their order
 abbrev pub IsParted : List Out → List Answered → List Out → Type 0
 IsParted [] answers left = (answers ≡ []) × (left ≡ [])
 IsParted (o ∷ os) answers left =
-    ((a : Answered) × (later : List Answered) × ((answers ≡ a ∷ later) × (IsOf o a × IsParted os later left)))
+    ((a : Answered) × (later : List Answered) × ((answers ≡ a ∷ later) × (IsAnswerTo o a × IsParted os later left)))
     ⊎ ((rest : List Out) × ((left ≡ o ∷ rest) × IsParted os answers rest))
 
 -- ---- where it is known what comes

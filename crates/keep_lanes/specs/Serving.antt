@@ -5,9 +5,9 @@ use Rattle.std.specs.List.{find}
 use Rattle.keep_exchange.specs.Exchanges.{received}
 use Rattle.keep_exchange.specs.declared.fault.ExchangeFault.{ExchangeFault}
 use Rattle.keep_exchange.specs.declared.fault.ExchangeFault.TheVariants as exchange
-use Rattle.keep_lanes.specs.Allowed.{after, first_by}
+use Rattle.keep_lanes.specs.Allowed.{first_by, millis_after}
 use Rattle.keep_lanes.specs.Losses.{Answer, loss_of}
-use Rattle.keep_lanes.specs.Out.{IsPut, Out}
+use Rattle.keep_lanes.specs.Out.{Out, OutIsPut}
 use Rattle.keep_lanes.specs.declared.coming.Coming.{Coming}
 use Rattle.keep_lanes.specs.declared.allowance.Allowance.{Allowance}
 use Rattle.keep_lanes.specs.declared.fault.LaneFault.{LaneFault}
@@ -16,24 +16,24 @@ use Rattle.keep_lanes.specs.declared.fault.NumberedFault.{NumberedFault}
 use Rattle.keep_lanes.specs.declared.lanes.Ask.{Ask}
 use Rattle.keep_lanes.specs.declared.loss.Loss.TheVariants as losses
 use Rattle.broker_table.specs.declared.served.Served.{Served}
-use Rattle.broker_table.specs.Step.{Says, after_sweep, step}
-use Rattle.broker_table.specs.Table.{Table}
+use Rattle.broker_table.specs.Step.{SaysAnswer, after_sweep, broker_step}
+use Rattle.broker_table.specs.Table.{BrokerTable}
 use Rattle.vault_http.specs.declared.reply.Reply.{Reply}
 use Rattle.vault_http.specs.declared.request.Request.{Request}
 
 -- what stands behind lanes in memory: the table, the faults of the requests by number, and how many were sent
-pub record Behind : Type 0 where
-  pub table : Table
+pub record BehindLanes : Type 0 where
+  pub table : BrokerTable
   pub faults : List NumberedFault
   pub count : ℕ
 
 -- the number of the next request, counted from 1, up to the greatest u64
-abbrev pub next_number : ℕ → ℕ
-next_number count = min (count + 1) (2 ^ 64 - 1)
+abbrev pub next_lane_number : ℕ → ℕ
+next_lane_number count = min (count + 1) (2 ^ 64 - 1)
 
 -- the fault of a request: the first with its number
-unfoldable pub fault_at : List NumberedFault → ℕ → Option LaneFault
-fault_at faults n = option_map (λ f. f.fault) (find (λ f. f.number == n) faults)
+unfoldable pub lane_fault_at : List NumberedFault → ℕ → Option LaneFault
+lane_fault_at faults n = option_map (λ f. f.fault) (find (λ f. f.number == n) faults)
 
 -- what is received, as an answer: no date is told
 abbrev pub answer_in : Result Reply ExchangeFault → Answer
@@ -43,7 +43,7 @@ answer_in (Err fault) = Err losses.Connect
 
 -- what stands in lanes in memory: what is behind them, what is out, how many lanes there are, and the time-out in seconds
 pub record InMemory : Type 0 where
-  pub behind : Behind
+  pub behind : BehindLanes
   pub out : List Out
   pub width : ℕ
   pub seconds : ℕ
@@ -54,49 +54,49 @@ AnswersFor exchanged (Ok a) = (a ≡ answer_in exchanged) × (exchanged ≡ Err 
 AnswersFor exchanged (Err e) = exchanged ≡ Err exchange.OutOfMemory
 
 -- the request is served at t by the Broker step, and that is what is received of what it sends
-pub record IsServed (old : Table) (t : ℕ) (r : Request) (answer : Answer) (new : Table) : Type 0 where
+pub record RequestIsServed (old : BrokerTable) (t : ℕ) (r : Request) (answer : Answer) (new : BrokerTable) : Type 0 where
   pub sent : Served
-  pub says : Says t (step old t r).answer sent
+  pub says : SaysAnswer t (broker_step old t r).answer sent
   pub answer_is : answer ≡ answer_in (received sent)
-  pub new_is : new ≡ (step old t r).table
+  pub new_is : new ≡ (broker_step old t r).table
 
 -- an answer that is there so many milliseconds after its asking: too late where the patience is over by then
 abbrev pub later : Answer → Allowance → ℕ → Coming
-later answer a millis = if nat_lt (after a.asked millis) (first_by a) then record { answer = answer; at = after a.asked millis } else record { answer = Err losses.Timeout; at = first_by a }
+later answer a millis = if nat_lt (millis_after a.asked millis) (first_by a) then record { answer = answer; at = millis_after a.asked millis } else record { answer = Err losses.Timeout; at = first_by a }
 
 -- a request without a fault is served, and its answer is there at once. With one the broker is not reached, or closes the
 -- connection, or answers with another status, and does not serve it; or it serves it, and no reply comes, or none that can be
 -- read, or it comes later: too late where the patience is over by then
-abbrev pub Comes : Option LaneFault → Allowance → Table → ℕ → Request → Coming → Table → Type 0
-Comes None a old t r c new = IsServed old t r c.answer new × (c.at ≡ a.asked)
-Comes (Some Refuse) a old t r c new = (c ≡ record { answer = Err losses.Connect; at = a.asked }) × (new ≡ old)
-Comes (Some Lose) a old t r c new = (c ≡ record { answer = Err losses.Closed; at = a.asked }) × (new ≡ old)
-Comes (Some (Status status)) a old t r c new = (c ≡ record { answer = Ok (record { reply = record { status = status; body = [] }; date = None }); at = a.asked }) × (new ≡ old)
-Comes (Some Garble) a old t r c new = (c ≡ record { answer = Err losses.Reply; at = a.asked }) × (new ≡ (step old t r).table)
-Comes (Some Hang) a old t r c new = (c ≡ record { answer = Err losses.Timeout; at = first_by a }) × (new ≡ (step old t r).table)
-Comes (Some (Late millis)) a old t r c new = (answer : Answer) × (IsServed old t r answer new × (c ≡ later answer a millis))
+abbrev pub ComesOfRequest : Option LaneFault → Allowance → BrokerTable → ℕ → Request → Coming → BrokerTable → Type 0
+ComesOfRequest None a old t r c new = RequestIsServed old t r c.answer new × (c.at ≡ a.asked)
+ComesOfRequest (Some Refuse) a old t r c new = (c ≡ record { answer = Err losses.Connect; at = a.asked }) × (new ≡ old)
+ComesOfRequest (Some Lose) a old t r c new = (c ≡ record { answer = Err losses.Closed; at = a.asked }) × (new ≡ old)
+ComesOfRequest (Some (Status status)) a old t r c new = (c ≡ record { answer = Ok (record { reply = record { status = status; body = [] }; date = None }); at = a.asked }) × (new ≡ old)
+ComesOfRequest (Some Garble) a old t r c new = (c ≡ record { answer = Err losses.Reply; at = a.asked }) × (new ≡ (broker_step old t r).table)
+ComesOfRequest (Some Hang) a old t r c new = (c ≡ record { answer = Err losses.Timeout; at = first_by a }) × (new ≡ (broker_step old t r).table)
+ComesOfRequest (Some (Late millis)) a old t r c new = (answer : Answer) × (RequestIsServed old t r answer new × (c ≡ later answer a millis))
 
 -- the allowance of a request that is asked now
 abbrev pub allowed : ℕ → ℕ → Ask → Allowance
 allowed seconds now ask = record { asked = now; patience = min ask.patience (1000 * seconds); seconds = seconds }
 
 -- the request is sent by what stands behind the lanes, where that is known
-abbrev pub IsSentBy : ℕ → ℕ → ℕ → Ask → Option Behind → Option Coming → Option Behind → Type 0
+abbrev pub IsSentBy : ℕ → ℕ → ℕ → Ask → Option BehindLanes → Option Coming → Option BehindLanes → Type 0
 IsSentBy seconds t now ask None comes new = Unit {0}
 IsSentBy seconds t now ask (Some old) comes new =
-    (c : Coming) × (table : Table) × ((comes ≡ Some c) × (Comes (fault_at old.faults (next_number old.count)) (allowed seconds now ask) old.table t ask.request c table
-    × (new ≡ Some (record { table = table; faults = old.faults; count = next_number old.count }))))
+    (c : Coming) × (table : BrokerTable) × ((comes ≡ Some c) × (ComesOfRequest (lane_fault_at old.faults (next_lane_number old.count)) (allowed seconds now ask) old.table t ask.request c table
+    × (new ≡ Some (record { table = table; faults = old.faults; count = next_lane_number old.count }))))
 
 -- one request more is out, for its index
-pub record IsSent (seconds t now : ℕ) (ask : Ask) (before : Option Behind) (old : List Out) (behind : Option Behind) (new : List Out) : Type 0 where
+pub record RequestIsSent (seconds t now : ℕ) (ask : Ask) (before : Option BehindLanes) (old : List Out) (behind : Option BehindLanes) (new : List Out) : Type 0 where
   pub comes : Option Coming
-  pub put : IsPut (record { index = ask.index; comes = comes }) old new
+  pub put : OutIsPut (record { index = ask.index; comes = comes }) old new
   pub by : IsSentBy seconds t now ask before comes behind
 
 -- memory was wanting: the table is as it was, or as serving the request has left it, whole or in part
-abbrev pub IsTableLeft : Table → ℕ → Request → Table → Type 0
-IsTableLeft old t r new = (new ≡ old) ⊎ ((new ≡ after_sweep old t) ⊎ (new ≡ (step old t r).table))
+abbrev pub IsTableLeft : BrokerTable → ℕ → Request → BrokerTable → Type 0
+IsTableLeft old t r new = (new ≡ old) ⊎ ((new ≡ after_sweep old t) ⊎ (new ≡ (broker_step old t r).table))
 
-abbrev pub IsLeft : ℕ → Request → Behind → Option Behind → Type 0
-IsLeft t r old new = (table : Table) × (IsTableLeft old.table t r table
+abbrev pub BrokerIsLeft : ℕ → Request → BehindLanes → Option BehindLanes → Type 0
+BrokerIsLeft t r old new = (table : BrokerTable) × (IsTableLeft old.table t r table
     × (new ≡ Some (record { table = table; faults = old.faults; count = old.count })))

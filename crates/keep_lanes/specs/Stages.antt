@@ -15,11 +15,11 @@ wrote zero (suc left) stage = stage
 wrote (suc taken) (suc left) stage = Sending
 
 -- all of the request was taken
-abbrev pub sent : Stage → Stage
-sent Connecting = Silent
-sent Sending = Silent
-sent Silent = Silent
-sent (Coming reads since) = Coming reads since
+abbrev pub stage_once_sent : Stage → Stage
+stage_once_sent Connecting = Silent
+stage_once_sent Sending = Silent
+stage_once_sent Silent = Silent
+stage_once_sent (Coming reads since) = Coming reads since
 
 -- the reads with the one that just handed out bytes
 abbrev pub reads_with : Stage → ℕ

@@ -1,6 +1,6 @@
 //! What the answers come to, for who keeps a watch.
 ghost use Rattle.std.specs.Prelude.{◌≡◌, IfOk};
-ghost use Rattle.keep_lanes.specs.Heard.{heard_with, looked_up, renewed_by};
+ghost use Rattle.keep_lanes.specs.Heard.{heard_with, looked_up_by_answer, renewed_by_answer};
 
 use crate::loss::{Loss, lost_by};
 use keep_exchange::Terms;
@@ -31,7 +31,7 @@ pub fn hear_renewal(
     id: &[u8],
     answer: &Result<DatedReply, Loss>,
 ) -> Result<Heard<Renewed>, AllocError>
-    ensures { IfOk result (λ heard. heard ≡ renewed_by kind id.now answer.now) }
+    ensures { IfOk result (λ heard. heard ≡ renewed_by_answer kind id.now answer.now) }
 {
     match answer {
         Err(loss) => Ok(Heard::Lost(*loss)),
@@ -48,7 +48,7 @@ pub fn hear_lookup(
     kind: Kind,
     answer: &Result<DatedReply, Loss>,
 ) -> Result<Heard<Terms>, AllocError>
-    ensures { IfOk result (λ heard. heard ≡ looked_up kind answer.now) }
+    ensures { IfOk result (λ heard. heard ≡ looked_up_by_answer kind answer.now) }
 {
     match answer {
         Err(loss) => Ok(Heard::Lost(*loss)),

@@ -3,7 +3,7 @@ ghost use Rattle.std.specs.Prelude.{◌≡◌, ◌<◌, ◌≤◌, [], IfOk, OnE
 ghost use Rattle.std.specs.Io.KnownBytes.{Appends, Keeps};
 ghost use Rattle.keep_lanes.specs.Allowed.{deadline};
 ghost use Rattle.keep_device.specs.Front.{AppendsFront};
-ghost use Rattle.keep_lanes.specs.Lanes.{IsCounted, IsHeard, IsPatient, IsRead, IsSettled, IsTold, IsWritten};
+ghost use Rattle.keep_lanes.specs.Lanes.{AnswerIsTold, FrontIsWritten, IsCounted, IsPatient, ReplyIsHeard, ReplyIsRead, RequestIsSettled};
 ghost use Rattle.keep_lanes.specs.declared.stage.Stage.TheVariants.{Connecting};
 
 use crate::allowance::Allowance;
@@ -70,10 +70,10 @@ impl<L: Line> Lane<L> {
         requires room { 0 < length room.old }
         ensures room { length room.new ≡ length room.old }
         ensures allowance { self.new.course.allowance ≡ self.old.course.allowance }
-        ensures written { IfOk result (λ _. IsWritten self.old.unsent.items self.new.unsent.items (L.written self.old.line) (L.written self.new.line)) }
+        ensures written { IfOk result (λ _. FrontIsWritten self.old.unsent.items self.new.unsent.items (L.written self.old.line) (L.written self.new.line)) }
         ensures front { OnErr result (AppendsFront (L.written self.old.line) (L.written self.new.line) self.old.unsent.items) }
-        ensures heard { IfOk result (λ answer. IsHeard self.old.course.arriving answer self.new.course.arriving (L.remaining self.old.line) (L.remaining self.new.line)) }
-        ensures settled { IfOk result (λ answer. IsSettled self.new.course.allowance now self.new.course.stage self.new.unsent.items answer) }
+        ensures heard { IfOk result (λ answer. ReplyIsHeard self.old.course.arriving answer self.new.course.arriving (L.remaining self.old.line) (L.remaining self.new.line)) }
+        ensures settled { IfOk result (λ answer. RequestIsSettled self.new.course.allowance now self.new.course.stage self.new.unsent.items answer) }
     {
         if !self.unsent.is_empty() {
             if let Err(loss) = self.write_on(alloc, now)? {
@@ -91,7 +91,7 @@ impl<L: Line> Lane<L> {
         requires unsent { 0 < length self.old.unsent.items }
         ensures allowance { self.new.course.allowance ≡ self.old.course.allowance }
         ensures arriving { self.new.course.arriving ≡ self.old.course.arriving }
-        ensures written { IfOk result (λ _. IsWritten self.old.unsent.items self.new.unsent.items (L.written self.old.line) (L.written self.new.line)) }
+        ensures written { IfOk result (λ _. FrontIsWritten self.old.unsent.items self.new.unsent.items (L.written self.old.line) (L.written self.new.line)) }
         ensures front { OnErr result (AppendsFront (L.written self.old.line) (L.written self.new.line) self.old.unsent.items) }
         ensures remaining { Keeps (L.remaining self.old.line) (L.remaining self.new.line) }
         ensures patient { IfOk result (λ sent. IsPatient self.new.course.allowance now self.new.course.stage self.new.unsent.items sent) }
@@ -158,8 +158,8 @@ fn read_on<L: Line>(
     ensures room { length room.new ≡ length room.old }
     ensures allowance { course.new.allowance ≡ course.old.allowance }
     ensures written { Keeps (L.written line.old) (L.written line.new) }
-    ensures heard { IfOk result (λ answer. IsHeard course.old.arriving answer course.new.arriving (L.remaining line.old) (L.remaining line.new)) }
-    ensures settled { IfOk result (λ answer. IsSettled course.new.allowance now course.new.stage [] answer) }
+    ensures heard { IfOk result (λ answer. ReplyIsHeard course.old.arriving answer course.new.arriving (L.remaining line.old) (L.remaining line.new)) }
+    ensures settled { IfOk result (λ answer. RequestIsSettled course.new.allowance now course.new.stage [] answer) }
 {
     course.stage = course.stage.sent();
     for _ in 0..course.allowance.most_reads() {
@@ -191,7 +191,7 @@ impl Course {
     ) -> Result<Option<Result<DatedReply, Loss>>, AllocError>
         ensures allowance { self.new.allowance ≡ self.old.allowance }
         ensures counted { IfOk result (λ answer. IsCounted self.old.allowance now self.old.stage answer self.new.stage) }
-        ensures told { IfOk result (λ answer. IsTold self.old.arriving piece.now answer self.new.arriving) }
+        ensures told { IfOk result (λ answer. AnswerIsTold self.old.arriving piece.now answer self.new.arriving) }
     {
         match self.arriving.take(alloc, piece, piece.is_empty()) {
             Some(read) => {
@@ -211,7 +211,7 @@ impl Course {
 
 /// The answer that bytes are read as. The only error is out of memory.
 fn answer_of(read: Result<DatedReply, HttpFault>) -> Result<Result<DatedReply, Loss>, AllocError>
-    ensures { IfOk result (λ answer. IsRead read answer) }
+    ensures { IfOk result (λ answer. ReplyIsRead read answer) }
 {
     match read {
         Ok(dated) => Ok(Ok(dated)),
@@ -224,7 +224,7 @@ fn answer_of(read: Result<DatedReply, HttpFault>) -> Result<Result<DatedReply, L
 
 /// The loss that a fault of the bytes is. The only error is out of memory.
 fn lost_by(fault: HttpFault) -> Result<Loss, AllocError>
-    ensures { IfOk result (λ loss. IsRead (Err fault) (Err loss)) }
+    ensures { IfOk result (λ loss. ReplyIsRead (Err fault) (Err loss)) }
 {
     match fault {
         HttpFault::OutOfMemory => Err(AllocError),

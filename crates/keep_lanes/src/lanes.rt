@@ -1,7 +1,7 @@
 ghost use Rattle.std.specs.Prelude.{◌≡◌, ℕ, ◌-◌, ◌<◌, ◌≤◌, List, [], Option, IfOk, IfSome, OnErr, OnOk, length};
-ghost use Rattle.keep_exchange.specs.Requests.{IsShort};
+ghost use Rattle.keep_exchange.specs.Requests.{IsShortRequest};
 ghost use Rattle.keep_lanes.specs.Out.{AreThere, AreThereAt, IsDueAfter, IsParted, Out, earlier, first_at};
-ghost use Rattle.keep_lanes.specs.Serving.{Behind, IsLeft, IsSent};
+ghost use Rattle.keep_lanes.specs.Serving.{BehindLanes, BrokerIsLeft, RequestIsSent};
 ghost use Rattle.vault_http.specs.RoundTripRequest.{IsWritable};
 
 use crate::loss::Loss;
@@ -38,7 +38,7 @@ pub struct Answered {
 /// and what comes of each request and when; of those over sockets they know nothing of that.
 pub trait Lanes {
     /// The table, the faults to come and the count of requests, where they are known.
-    ghost behind: { Self → Option Behind };
+    ghost behind: { Self → Option BehindLanes };
 
     /// The requests that are out.
     ghost out: { Self → List Out };
@@ -70,10 +70,10 @@ pub trait Lanes {
     fn send(&mut self, alloc: Global, t: Moment, now: u64, ask: &Ask) -> Result<(), AllocError>
         requires free { length (out self.old) < width self.old }
         requires writable { IsWritable ask.now.request }
-        requires short { IsShort ask.now.request }
-        ensures sent { OnOk result (IsSent (Self.seconds self.old) t now ask.now (Self.behind self.old) (Self.out self.old) (Self.behind self.new) (Self.out self.new)) }
+        requires short { IsShortRequest ask.now.request }
+        ensures sent { OnOk result (RequestIsSent (Self.seconds self.old) t now ask.now (Self.behind self.old) (Self.out self.old) (Self.behind self.new) (Self.out self.new)) }
         ensures kept { OnErr result (Self.out self.new ≡ Self.out self.old) }
-        ensures left { OnErr result (IfSome (Self.behind self.old) (λ old. IsLeft t ask.now.request old (Self.behind self.new))) }
+        ensures left { OnErr result (IfSome (Self.behind self.old) (λ old. BrokerIsLeft t ask.now.request old (Self.behind self.new))) }
         ensures width { Self.width self.new ≡ Self.width self.old }
         ensures seconds { Self.seconds self.new ≡ Self.seconds self.old }
         ensures port { Self.host_port self.new ≡ Self.host_port self.old };

@@ -1,8 +1,8 @@
 //! Connections whose calls do not wait, and what tells when one can go on.
 ghost use Rattle.std.specs.Prelude.{◌≡◌, ℕ, ◌<◌, ◌≤◌, List, [], ◌∷◌, ◌++◌, length, take, Option, None, Some, Bool, IfSome, false};
 ghost use Rattle.std.specs.Io.KnownBytes.{Appends, Consumes, IsAtEnd, Keeps};
-ghost use Rattle.keep_device.specs.Tries.{IfDone, MatchTried};
-ghost use Rattle.keep_lanes.specs.Dials.{Log};
+ghost use Rattle.keep_device.specs.Tries.{IfTryDone, MatchTried};
+ghost use Rattle.keep_lanes.specs.Dials.{DialLog};
 
 use keep_device::Tried;
 
@@ -21,14 +21,14 @@ pub trait Line {
 
     /// Takes some bytes from the front of `piece`, at least one where there is one.
     fn give(&mut self, piece: &[u8]) -> Tried
-        ensures bound { IfDone result (λ n. (n ≤ length piece.now) × (0 < length piece.now → 0 < n)) }
+        ensures bound { IfTryDone result (λ n. (n ≤ length piece.now) × (0 < length piece.now → 0 < n)) }
         ensures bytes { MatchTried result (λ n. Appends (Self.written self.old) (Self.written self.new) (take n piece.now))
             (Keeps (Self.written self.old) (Self.written self.new)) }
         ensures remaining { Keeps (Self.remaining self.old) (Self.remaining self.new) };
 
     /// Reads some bytes into the front of `buf`, none only at the end of the input or where `buf` is empty.
     fn get(&mut self, buf: &mut [u8]) -> Tried
-        ensures bound { IfDone result (λ n. n ≤ length buf.new) }
+        ensures bound { IfTryDone result (λ n. n ≤ length buf.new) }
         ensures bytes { MatchTried result
             (λ n. Consumes (Self.remaining self.old) (Self.remaining self.new) (take n buf.new)
             × (n ≡ 0 → 0 < length buf.new → IsAtEnd (Self.remaining self.new)))
@@ -48,7 +48,7 @@ pub trait Wires {
     type Line: Line + Drop;
 
     /// What was asked of it, where it is known.
-    ghost log: { Self → Option Log } = { λ _. None };
+    ghost log: { Self → Option DialLog } = { λ _. None };
 
     /// The port that requests to its broker name.
     ghost host_port: { Self → ℕ } = { λ _. 8200 };

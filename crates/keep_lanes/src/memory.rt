@@ -1,8 +1,8 @@
 //! Lanes with a broker's table in memory.
 ghost use Rattle.std.specs.Prelude.{◌≡◌, ◌++◌, ◌∷◌, [], None, Some, IfOk, OnErr, OnOk, max, min, Ok, Err};
-ghost use Rattle.keep_exchange.specs.Requests.{IsShort};
+ghost use Rattle.keep_exchange.specs.Requests.{IsShortRequest};
 ghost use Rattle.keep_lanes.specs.Out.{earlier, first_at, up_to};
-ghost use Rattle.keep_lanes.specs.Serving.{AnswersFor, Comes, IsServed, IsTableLeft, fault_at, later};
+ghost use Rattle.keep_lanes.specs.Serving.{AnswersFor, ComesOfRequest, IsTableLeft, RequestIsServed, lane_fault_at, later};
 ghost use Rattle.keep_lanes.specs.code.Seats.{outs};
 ghost use Rattle.vault_http.specs.RoundTripRequest.{IsWritable};
 
@@ -87,8 +87,8 @@ fn serve(
     request: &Request,
 ) -> Result<Coming, AllocError>
     requires writable { IsWritable request.now }
-    requires short { IsShort request.now }
-    ensures comes { IfOk result (λ coming. Comes fault allowance.now exchange.old.table t request.now coming exchange.new.table) }
+    requires short { IsShortRequest request.now }
+    ensures comes { IfOk result (λ coming. ComesOfRequest fault allowance.now exchange.old.table t request.now coming exchange.new.table) }
     ensures left { OnErr result (IsTableLeft exchange.old.table t request.now exchange.new.table) }
 {
     let at = allowance.asked;
@@ -123,8 +123,8 @@ fn answer(
     request: &Request,
 ) -> Result<Result<DatedReply, Loss>, AllocError>
     requires writable { IsWritable request.now }
-    requires short { IsShort request.now }
-    ensures served { IfOk result (λ a. IsServed exchange.old.table t request.now a exchange.new.table) }
+    requires short { IsShortRequest request.now }
+    ensures served { IfOk result (λ a. RequestIsServed exchange.old.table t request.now a exchange.new.table) }
     ensures left { OnErr result (IsTableLeft exchange.old.table t request.now exchange.new.table) }
 {
     let exchanged = exchange.exchange(alloc, t, request);
@@ -180,9 +180,9 @@ fn later(answer: Result<DatedReply, Loss>, allowance: &Allowance, millis: u64) -
 }
 
 /// The fault of the request with that number: the first that was given to it.
-#[tactic(auto, unfolding(crate::specs::Serving::fault_at))]
+#[tactic(auto, unfolding(crate::specs::Serving::lane_fault_at))]
 fn fault_at(faults: &[NumberedFault], number: u64) -> Option<LaneFault>
-    ensures { result ≡ fault_at faults.now number }
+    ensures { result ≡ lane_fault_at faults.now number }
 {
     match faults.iter().find(|numbered| numbered.number == number) {
         Some(numbered) => Some(numbered.fault),

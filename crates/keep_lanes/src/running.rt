@@ -4,7 +4,7 @@ ghost use Rattle.std.specs.List.{list_all, list_any};
 ghost use Rattle.keep_device.specs.declared.limits.TheConstants.{MOST_ROOM};
 ghost use Rattle.keep_lanes.specs.Dials.{KeepsDials};
 ghost use Rattle.keep_lanes.specs.code.Seats.{outs};
-ghost use Rattle.keep_lanes.specs.code.Ways.{AreAhead, Begins, Move, due, is_over, soonest};
+ghost use Rattle.keep_lanes.specs.code.Ways.{AreAhead, HasBegun, Move, is_way_over, soonest, soonest_or_now};
 ghost use Rattle.vault_http.specs.RoundTripRequest.{IsWritable};
 ghost use Rattle.vault_http.specs.Written.{request_text};
 
@@ -123,7 +123,7 @@ fn begin<W: Wires>(
     requires room { 0 < length room.old }
     requires writable { IsWritable ask.now.request }
     ensures index { IfOk result (λ seat. seat.index ≡ ask.now.index) }
-    ensures begins { IfOk result (λ seat. Begins W.Line.written (request_text ask.now.request) allowance seat.standing) }
+    ensures begins { IfOk result (λ seat. HasBegun W.Line.written (request_text ask.now.request) allowance seat.standing) }
     ensures room { length room.new ≡ length room.old }
     ensures dialled { IfSome (W.log wires.old) (λ log. OnOk result (W.log wires.new ≡ Some (record log { dials = log.dials ++ ask.now.index ∷ [] }))) }
     ensures port { W.host_port wires.new ≡ W.host_port wires.old }
@@ -140,14 +140,14 @@ fn begin<W: Wires>(
 
 /// Whether none is on its way.
 fn are_over<L>(out: &[Seat<Way<L>>]) -> bool
-    ensures { result ≡ list_all (λ seat. is_over seat.standing) out.now }
+    ensures { result ≡ list_all (λ seat. is_way_over seat.standing) out.now }
 {
     out.iter().all(|seat| seat.standing.is_over())
 }
 
 /// Whether an answer has come.
 fn has_answer<L>(out: &[Seat<Way<L>>]) -> bool
-    ensures { result ≡ list_any (λ seat. is_over seat.standing) out.now }
+    ensures { result ≡ list_any (λ seat. is_way_over seat.standing) out.now }
 {
     out.iter().any(|seat| seat.standing.is_over())
 }
@@ -175,7 +175,7 @@ fn pass<W: Wires>(wires: &mut W, out: &[Seat<Way<W::Line>>], time: u64, by: u64)
 
 /// The moment by which they have to be looked at again, and no later than `by`.
 fn due<L: Line + Drop>(out: &[Seat<Way<L>>], now: u64, by: u64) -> u64
-    ensures due { result ≡ due L.restless now by out.now }
+    ensures due { result ≡ soonest_or_now L.restless now by out.now }
     ensures within { result ≤ by }
 {
     if has_answer(out) {
@@ -217,7 +217,7 @@ impl<W: Wires> Lanes for LanesOver<W> {
 
     ghost host_port = { λ lanes. W.host_port lanes.wires };
 
-    ghost due_by = { λ now by lanes. due W.Line.restless now by lanes.out.items };
+    ghost due_by = { λ now by lanes. soonest_or_now W.Line.restless now by lanes.out.items };
 
     fn port(&self) -> u16 {
         self.wires.port()

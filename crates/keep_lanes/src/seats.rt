@@ -1,8 +1,8 @@
 //! Those that are out, by rising index, and how their answers are taken out.
 ghost use Rattle.std.specs.Prelude.{◌≡◌, ℕ, ◌<◌, ◌≤◌, All, Bool, List, Option, IfOk, IsTrue, OnErr, drop, filter, length, map, not, take, vec_capacity, vec_len};
-ghost use Rattle.keep_lanes.specs.Out.{IsBelow, IsParted, IsPut};
+ghost use Rattle.keep_lanes.specs.Out.{IsBelow, IsParted, OutIsPut};
 ghost use Rattle.keep_lanes.specs.declared.coming.Coming.{Coming};
-ghost use Rattle.keep_lanes.specs.code.Seats.{AreTakenOut, Opens, out_of, outs};
+ghost use Rattle.keep_lanes.specs.code.Seats.{AnswerIsWhatComes, AreTakenOut, out_of_seat, outs};
 
 use crate::lanes::Answered;
 use crate::loss::Loss;
@@ -29,7 +29,7 @@ pub(crate) trait Standing: Drop {
 
     /// The answer, where it is there.
     fn into_answer(self) -> Option<Result<DatedReply, Loss>>
-        ensures { (moment : ℕ) → IsTrue (there moment self) → Opens (comes self) result };
+        ensures { (moment : ℕ) → IsTrue (there moment self) → AnswerIsWhatComes (comes self) result };
 }
 
 /// The place before the first with a greater index.
@@ -48,7 +48,7 @@ fn place_for<T>(out: &[Seat<T>], index: u32) -> usize
 /// Puts one more among those that are out, before the first with a greater index.
 pub(crate) fn put<T: Standing>(out: &mut Vec<Seat<T>>, seat: Seat<T>)
     requires { vec_len out.old < vec_capacity out.old }
-    ensures { IsPut (out_of T.comes seat) (outs T.comes out.old.items) (outs T.comes out.new.items) }
+    ensures { OutIsPut (out_of_seat T.comes seat) (outs T.comes out.old.items) (outs T.comes out.new.items) }
 {
     let place = place_for(out, seat.index);
     out.insert(place, seat).unwrap();

@@ -1,6 +1,6 @@
 //! How far a request has come, as a value: what each try at its connection makes of it.
 ghost use Rattle.std.specs.Prelude.{◌≡◌};
-ghost use Rattle.keep_lanes.specs.Stages.{came, failed, sent, waits, wrote};
+ghost use Rattle.keep_lanes.specs.Stages.{came, failed, stage_once_sent, waits, wrote};
 ghost use Rattle.keep_lanes.specs.declared.stage.Stage.TheVariants.{Connecting};
 
 use crate::allowance::Allowance;
@@ -40,7 +40,7 @@ impl Stage {
 
     /// All of the request was taken.
     pub(crate) fn sent(self) -> Stage
-        ensures stage { result ≡ sent self }
+        ensures stage { result ≡ stage_once_sent self }
         ensures further { result ≡ Connecting → ⊥ }
     {
         match self {

@@ -1,6 +1,6 @@
 //! A request that is on its way over a connection, or over.
 ghost use Rattle.std.specs.Prelude.{◌≡◌, ◌<◌, None, OnOk, length};
-ghost use Rattle.keep_lanes.specs.code.Ways.{IsAhead, StaysOrMoves, is_over, sooner};
+ghost use Rattle.keep_lanes.specs.code.Ways.{DeadlineIsAhead, StaysOrMoves, is_way_over, sooner};
 
 use crate::lane::Lane;
 use crate::line::Line;
@@ -22,7 +22,7 @@ pub(crate) enum Way<L> {
 impl<L: Drop> Standing for Way<L> {
     ghost comes = { λ _. None };
 
-    ghost there = { λ _ way. is_over way };
+    ghost there = { λ _ way. is_way_over way };
 
     fn is_there(&self, _moment: u64) -> bool {
         self.is_over()
@@ -39,7 +39,7 @@ impl<L: Drop> Standing for Way<L> {
 impl<L> Way<L> {
     /// Whether it is over.
     pub(crate) fn is_over(&self) -> bool
-        ensures { result ≡ is_over self.now }
+        ensures { result ≡ is_way_over self.now }
     {
         match self {
             Way::Out(_) => false,
@@ -73,7 +73,7 @@ impl<L: Line + Drop> Way<L> {
         requires room { 0 < length room.old }
         ensures room { length room.new ≡ length room.old }
         ensures moves { OnOk result (StaysOrMoves L.written L.remaining now self.old self.new) }
-        ensures ahead { OnOk result (IsAhead now self.new) }
+        ensures ahead { OnOk result (DeadlineIsAhead now self.new) }
     {
         if let Way::Out(lane) = self {
             if is_ready || lane.line.is_restless() || lane.deadline() <= now {

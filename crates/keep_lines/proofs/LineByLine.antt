@@ -9,8 +9,8 @@ use Rattle.keep_device.specs.Seen.{Change, Seen}
 use Rattle.keep_report.specs.declared.stop.Stop.{Stop}
 use Rattle.keep_report.specs.declared.stop.Stop.TheVariants as stops
 use Rattle.keep_report.specs.Sent.{IsAll, IsUntouched}
-use Rattle.keep_lines.specs.Hearing.{Hearing, HearsLine, IsSaid, IsSent, StopsAfter, counted, joined}
-use Rattle.keep_lines.specs.Listening.{AreHeard, Halts, HasEnded, IsNoLine, IsStopped, ListensTo}
+use Rattle.keep_lines.specs.Hearing.{Hearing, HearsLine, IsSaidWhole, StopsAfter, TextIsSaid, counted_line, joined_changes}
+use Rattle.keep_lines.specs.Listening.{AreHeard, HasEnded, HearerIsStopped, IsNoLine, ListeningHalts, ListensTo}
 use Rattle.keep_lines.specs.code.LineByLine.{HaltsWithin, HearsUpTo}
 use Rattle.keep_lines.specs.declared.limits.Limits.{Limits}
 use Rattle.keep_lines.specs.declared.limits.TheConstants.{MOST_LINE}
@@ -22,7 +22,7 @@ use Rattle.keep_words.specs.Pieces.{pieces}
 pub untouched_appends : (out : Change) → IsUntouched out → Appends out.old.output.written out.new.output.written []
 untouched_appends out none = subst (λ (s : Seen). Appends out.old.output.written s.output.written []) (sym none) (Appends-nil out.old.output.written)
 
-pub said_appends : (t : List ℕ) (a : Change) → IsSaid t a → Appends a.old.output.written a.new.output.written t
+pub said_appends : (t : List ℕ) (a : Change) → TextIsSaid t a → Appends a.old.output.written a.new.output.written t
 said_appends t a (inl all) = all.0
 said_appends t a (inr none) = subst (Appends a.old.output.written a.new.output.written) (sym none.0) (untouched_appends a none.1)
 
@@ -30,10 +30,10 @@ module _ (a b : Change) (same : a.new ≡ b.old) where
   pub appends_then : (t u : List ℕ) → Appends a.old.output.written a.new.output.written t → Appends b.old.output.written b.new.output.written u → Appends a.old.output.written b.new.output.written (t ++ u)
   appends_then t u first second = Appends-trans a.old.output.written a.new.output.written b.new.output.written t u first (subst (λ (o : Seen). Appends o.output.written b.new.output.written u) (sym same) second)
 
-  all_then : (t u : List ℕ) → IsSaid t a → IsAll u b → IsSaid (t ++ u) (joined a b)
+  all_then : (t u : List ℕ) → TextIsSaid t a → IsAll u b → TextIsSaid (t ++ u) (joined_changes a b)
   all_then t u first second = inl (appends_then t u (said_appends t a first) second.0, second.1)
 
-  pub said_then : (t u : List ℕ) → IsSaid t a → IsSaid u b → IsSaid (t ++ u) (joined a b)
+  pub said_then : (t u : List ℕ) → TextIsSaid t a → TextIsSaid u b → TextIsSaid (t ++ u) (joined_changes a b)
   said_then t u first (inl all) = all_then t u first all
   said_then t u (inl all) (inr none) =
       inl (
@@ -42,7 +42,7 @@ module _ (a b : Change) (same : a.new ≡ b.old) where
       )
   said_then t u (inr nothing) (inr none) = inr (ap (λ x. x ++ u) nothing.0 ∙ none.0, none.1 ∙ sym same ∙ nothing.1)
 
-  pub sent_then : (t u : List ℕ) → IsSent t a → IsSent u b → IsSent (t ++ u) (joined a b)
+  pub sent_then : (t u : List ℕ) → IsSaidWhole t a → IsSaidWhole u b → IsSaidWhole (t ++ u) (joined_changes a b)
   sent_then t u first second = (said_then t u first.0 second.0, second.1 ∙ sym (ap (λ (s : Seen). s.failed_calls) same) ∙ first.1)
 
 -- ---- a stop that is handed on
@@ -79,8 +79,8 @@ module _ (S : Type 0) (h : Hearing S) where
   no_line_where old (line ∷ next ∷ more) P Q f none = none
 
   pub halts_where :
-      (number : ℕ) (old : S) (behind : List (List ℕ)) (text : List ℕ) (stop : Stop) (new : S) (P Q : Type 0) (out : Change) → (P → Q) → Halts S h number old behind text stop new P out →
-      Halts S h number old behind text stop new Q out
+      (number : ℕ) (old : S) (behind : List (List ℕ)) (text : List ℕ) (stop : Stop) (new : S) (P Q : Type 0) (out : Change) → (P → Q) → ListeningHalts S h number old behind text stop new P out →
+      ListeningHalts S h number old behind text stop new Q out
   halts_where number old behind text (stops.Inventory fault) new P Q out f halts = halts
   halts_where number old behind text (stops.Moments fault) new P Q out f halts = halts
   halts_where number old behind text (stops.FaultWord n) new P Q out f halts = halts
@@ -95,7 +95,7 @@ module _ (S : Type 0) (h : Hearing S) where
 
   pub line_halts :
       (number : ℕ) (old : S) (line : List ℕ) (next : List ℕ) (more : List (List ℕ)) (stop : Stop) (new : S) (out : Change) → HearsLine S h number old line (Err stop) new out →
-      Halts S h number old (line ∷ next ∷ more) [] stop new ⊥ out
+      ListeningHalts S h number old (line ∷ next ∷ more) [] stop new ⊥ out
   line_halts number old line next more (stops.Inventory fault) new out one = (line, (refl, one))
   line_halts number old line next more (stops.Moments fault) new out one = (line, (refl, one))
   line_halts number old line next more (stops.FaultWord n) new out one = (line, (refl, one))
@@ -121,13 +121,13 @@ module _ (S : Type 0) (h : Hearing S) where
   -- ---- lines of these bytes
 
   -- none
-  pub up_to_first : (first : ℕ) (old : S) (bytes : List ℕ) (out : Change) → first ≤ 18446744073709551615 → IsSent [] out → HearsUpTo S h first old bytes (pieces 10 bytes) old first out
+  pub up_to_first : (first : ℕ) (old : S) (bytes : List ℕ) (out : Change) → first ≤ 18446744073709551615 → IsSaidWhole [] out → HearsUpTo S h first old bytes (pieces 10 bytes) old first out
   up_to_first first old bytes out few sent = record { lines = []; text = []; heard = record { parts = refl; heard = (refl, refl) }; count = omega (arith, few); sent = sent }
 
   -- one more
   up_to_line :
       (first : ℕ) (old : S) (bytes line : List ℕ) (behind : List (List ℕ)) (mid : S) (last : ℕ) (a b : Change) (new : S) (text : List ℕ) → a.new ≡ b.old →
-      HearsUpTo S h first old bytes (line ∷ behind) mid last a → h.is_heard mid line new text → IsSent text b → HearsUpTo S h first old bytes behind new (counted (last + 1)) (joined a b)
+      HearsUpTo S h first old bytes (line ∷ behind) mid last a → h.is_heard mid line new text → IsSaidWhole text b → HearsUpTo S h first old bytes behind new (counted_line (last + 1)) (joined_changes a b)
   up_to_line first old bytes line behind mid last a b new text same before one sent =
       let count : last ≡ min (first + length before.lines) 18446744073709551615 = before.count in
       let longer : length (before.lines ++ (line ∷ [])) ≡ length before.lines + 1 = length-append before.lines (line ∷ []) in
@@ -145,7 +145,7 @@ module _ (S : Type 0) (h : Hearing S) where
   -- those of what stands after
   abbrev pub up_to_then :
       (first : ℕ) (old : S) (bytes rest : List ℕ) (behind : List (List ℕ)) (mid : S) (middle : ℕ) (a b : Change) (new : S) (last : ℕ) → a.new ≡ b.old →
-      HearsUpTo S h first old bytes (pieces 10 rest) mid middle a → HearsUpTo S h middle mid rest behind new last b → HearsUpTo S h first old bytes behind new last (joined a b)
+      HearsUpTo S h first old bytes (pieces 10 rest) mid middle a → HearsUpTo S h middle mid rest behind new last b → HearsUpTo S h first old bytes behind new last (joined_changes a b)
   up_to_then first old bytes rest behind mid middle a b new last same one other =
       let before : middle ≡ min (first + length one.lines) 18446744073709551615 = one.count in
       let then' : last ≡ min (middle + length other.lines) 18446744073709551615 = other.count in
@@ -164,30 +164,30 @@ module _ (S : Type 0) (h : Hearing S) where
   -- what stands after the last line is as long as a line may be
   pub long_rest :
       (first : ℕ) (old : S) (bytes rest : List ℕ) (mid : S) (last : ℕ) (a : Change) → HearsUpTo S h first old bytes (rest ∷ []) mid last a → MOST_LINE ≤ length rest →
-      HaltsWithin S h first old bytes (stops.Line (counted (last + 1))) mid a
+      HaltsWithin S h first old bytes (stops.Line (counted_line (last + 1))) mid a
   long_rest first old bytes rest mid last a before long =
       let count : last ≡ min (first + length before.lines) 18446744073709551615 = before.count in
-      let number : counted (last + 1) ≡ counted (first + length before.lines + 1) = omega (arith, count) in
+      let number : counted_line (last + 1) ≡ counted_line (first + length before.lines + 1) = omega (arith, count) in
       record { lines = before.lines; behind = rest ∷ []; mid = mid; text = before.text; heard = before.heard; halts = (number, (inl long, (refl, before.sent.0))) }
 
   -- by the names that the loop over lines has
   pub heard_on :
       (first : ℕ) (old : S) (bytes rest line behind : List ℕ) (mid : S) (last : ℕ) (a b : Change) (new : S) → a.new ≡ b.old →
-      HearsUpTo S h first old bytes (pieces 10 rest) mid last a → pieces 10 rest ≡ line ∷ pieces 10 behind → HearsLine S h (counted (last + 1)) mid line (Ok tt) new b →
-      HearsUpTo S h first old bytes (pieces 10 behind) new (counted (last + 1)) (joined a b)
+      HearsUpTo S h first old bytes (pieces 10 rest) mid last a → pieces 10 rest ≡ line ∷ pieces 10 behind → HearsLine S h (counted_line (last + 1)) mid line (Ok tt) new b →
+      HearsUpTo S h first old bytes (pieces 10 behind) new (counted_line (last + 1)) (joined_changes a b)
   heard_on first old bytes rest line behind mid last a b new same before e one =
       up_to_line first old bytes line (pieces 10 behind) mid last a b new one.0 same (subst (λ ps. HearsUpTo S h first old bytes ps mid last a) e before) one.1.0 (inl one.1.1.0, one.1.1.1)
 
   module _ (after : StopsAfter S h) where
     stopped_then :
-        (a b : Change) → a.new ≡ b.old → (old : S) (behind : List (List ℕ)) (t u : List ℕ) (stop : Stop) (new : S) → IsSent t a → IsStopped S h old behind u stop new b →
-        IsStopped S h old behind (t ++ u) stop new (joined a b)
+        (a b : Change) → a.new ≡ b.old → (old : S) (behind : List (List ℕ)) (t u : List ℕ) (stop : Stop) (new : S) → IsSaidWhole t a → HearerIsStopped S h old behind u stop new b →
+        HearerIsStopped S h old behind (t ++ u) stop new (joined_changes a b)
     stopped_then a b same old behind t u stop new first second = (second.0, (second.1.0, after a b old second.0 t u stop new same first second.1.1))
 
     -- a stop after a text that was sent before
     pub halts_then :
-        (a b : Change) → a.new ≡ b.old → (number : ℕ) (old : S) (behind : List (List ℕ)) (t u : List ℕ) (stop : Stop) (new : S) (P : Type 0) → IsSent t a → Halts S h number old behind u stop new P b →
-        Halts S h number old behind (t ++ u) stop new P (joined a b)
+        (a b : Change) → a.new ≡ b.old → (number : ℕ) (old : S) (behind : List (List ℕ)) (t u : List ℕ) (stop : Stop) (new : S) (P : Type 0) → IsSaidWhole t a → ListeningHalts S h number old behind u stop new P b →
+        ListeningHalts S h number old behind (t ++ u) stop new P (joined_changes a b)
     halts_then a b same number old behind t u (stops.Inventory fault) new P first halts = stopped_then a b same old behind t u (stops.Inventory fault) new first halts
     halts_then a b same number old behind t u (stops.Moments fault) new P first halts = stopped_then a b same old behind t u (stops.Moments fault) new first halts
     halts_then a b same number old behind t u (stops.FaultWord n) new P first halts = stopped_then a b same old behind t u (stops.FaultWord n) new first halts
@@ -205,10 +205,10 @@ module _ (S : Type 0) (h : Hearing S) where
     -- a stop at the next line
     halts_at :
         (first : ℕ) (old : S) (bytes : List ℕ) (behind : List (List ℕ)) (mid : S) (last : ℕ) (a b : Change) (stop : Stop) (new : S) → a.new ≡ b.old →
-        HearsUpTo S h first old bytes behind mid last a → Halts S h (counted (last + 1)) mid behind [] stop new ⊥ b → HaltsWithin S h first old bytes stop new (joined a b)
+        HearsUpTo S h first old bytes behind mid last a → ListeningHalts S h (counted_line (last + 1)) mid behind [] stop new ⊥ b → HaltsWithin S h first old bytes stop new (joined_changes a b)
     halts_at first old bytes behind mid last a b stop new same before halts =
         let count : last ≡ min (first + length before.lines) 18446744073709551615 = before.count in
-        let number : counted (last + 1) ≡ counted (first + length before.lines + 1) = omega (arith, count) in
+        let number : counted_line (last + 1) ≡ counted_line (first + length before.lines + 1) = omega (arith, count) in
         record {
           lines = before.lines;
           behind = behind;
@@ -216,19 +216,19 @@ module _ (S : Type 0) (h : Hearing S) where
           text = before.text;
           heard = before.heard;
           halts =
-              subst (λ n. Halts S h n mid behind before.text stop new ⊥ (joined a b)) number
-              (subst (λ t. Halts S h (counted (last + 1)) mid behind t stop new ⊥ (joined a b)) (append-nil before.text)
-              (halts_then a b same (counted (last + 1)) mid behind before.text [] stop new ⊥ before.sent halts));
+              subst (λ n. ListeningHalts S h n mid behind before.text stop new ⊥ (joined_changes a b)) number
+              (subst (λ t. ListeningHalts S h (counted_line (last + 1)) mid behind t stop new ⊥ (joined_changes a b)) (append-nil before.text)
+              (halts_then a b same (counted_line (last + 1)) mid behind before.text [] stop new ⊥ before.sent halts));
         }
 
     -- a stop within what stands after
     abbrev pub halts_behind :
         (first : ℕ) (old : S) (bytes rest : List ℕ) (mid : S) (middle : ℕ) (a b : Change) (stop : Stop) (new : S) → a.new ≡ b.old →
-        HearsUpTo S h first old bytes (pieces 10 rest) mid middle a → HaltsWithin S h middle mid rest stop new b → HaltsWithin S h first old bytes stop new (joined a b)
+        HearsUpTo S h first old bytes (pieces 10 rest) mid middle a → HaltsWithin S h middle mid rest stop new b → HaltsWithin S h first old bytes stop new (joined_changes a b)
     halts_behind first old bytes rest mid middle a b stop new same one other =
         let count : middle ≡ min (first + length one.lines) 18446744073709551615 = one.count in
         let longer : length (one.lines ++ other.lines) ≡ length one.lines + length other.lines = length-append one.lines other.lines in
-        let number : counted (middle + length other.lines + 1) ≡ counted (first + length (one.lines ++ other.lines) + 1) = omega (arith, count, longer) in
+        let number : counted_line (middle + length other.lines + 1) ≡ counted_line (first + length (one.lines ++ other.lines) + 1) = omega (arith, count, longer) in
         record {
           lines = one.lines ++ other.lines;
           behind = other.behind;
@@ -239,24 +239,24 @@ module _ (S : Type 0) (h : Hearing S) where
             heard = heard_then old mid other.mid one.lines other.lines one.text other.text one.heard.heard other.heard.heard;
           };
           halts =
-              subst (λ n. Halts S h n other.mid other.behind (one.text ++ other.text) stop new ⊥ (joined a b)) number
-              (halts_then a b same (counted (middle + length other.lines + 1)) other.mid other.behind one.text other.text stop new ⊥ one.sent other.halts);
+              subst (λ n. ListeningHalts S h n other.mid other.behind (one.text ++ other.text) stop new ⊥ (joined_changes a b)) number
+              (halts_then a b same (counted_line (middle + length other.lines + 1)) other.mid other.behind one.text other.text stop new ⊥ one.sent other.halts);
         }
 
     pub stopped_on :
         (first : ℕ) (old : S) (bytes rest line behind : List ℕ) (mid : S) (last : ℕ) (a b : Change) (stop : Stop) (new : S) → a.new ≡ b.old →
-        HearsUpTo S h first old bytes (pieces 10 rest) mid last a → pieces 10 rest ≡ line ∷ pieces 10 behind → HearsLine S h (counted (last + 1)) mid line (Err stop) new b →
-        HaltsWithin S h first old bytes stop new (joined a b)
+        HearsUpTo S h first old bytes (pieces 10 rest) mid last a → pieces 10 rest ≡ line ∷ pieces 10 behind → HearsLine S h (counted_line (last + 1)) mid line (Err stop) new b →
+        HaltsWithin S h first old bytes stop new (joined_changes a b)
     stopped_on first old bytes rest line behind mid last a b stop new same before e one =
         let f = first_piece 10 behind in
         let all : pieces 10 rest ≡ line ∷ f.0 ∷ f.1.0 = e ∙ ap (λ ps. line ∷ ps) f.1.1 in
         halts_at first old bytes (line ∷ f.0 ∷ f.1.0) mid last a b stop new same (subst (λ ps. HearsUpTo S h first old bytes ps mid last a) all before)
-        (line_halts (counted (last + 1)) mid line f.0 f.1.0 stop new b one)
+        (line_halts (counted_line (last + 1)) mid line f.0 f.1.0 stop new b one)
 
     -- listening that ends after a text that was sent before
     pub listens_then :
-        (a b : Change) → a.new ≡ b.old → (limits : Limits) (read : List ℕ) (number : ℕ) (old : S) (behind : List (List ℕ)) (t u : List ℕ) (result : Result (Unit {0}) Stop) (new : S) (fed : Change) → IsSent t a →
-        ListensTo S h limits read number old behind u result new fed b → ListensTo S h limits read number old behind (t ++ u) result new fed (joined a b)
+        (a b : Change) → a.new ≡ b.old → (limits : Limits) (read : List ℕ) (number : ℕ) (old : S) (behind : List (List ℕ)) (t u : List ℕ) (result : Result (Unit {0}) Stop) (new : S) (fed : Change) → IsSaidWhole t a →
+        ListensTo S h limits read number old behind u result new fed b → ListensTo S h limits read number old behind (t ++ u) result new fed (joined_changes a b)
     listens_then a b same limits read number old behind t u (Ok v) new fed first ends = (ends.0, (ends.1.0, (ends.1.1.0, (ends.1.1.1.0, said_then a b same t u first.0 ends.1.1.1.1))))
     listens_then a b same limits read number old behind t u (Err stops.Read) new fed first ends = (ends.0, (ends.1.0, (ends.1.1.0, (ends.1.1.1.0, (ends.1.1.1.1.0, said_then a b same t u first.0 ends.1.1.1.1.1)))))
     listens_then a b same limits read number old behind t u (Err (stops.Inventory fault)) new fed first ends = (ends.0, halts_then a b same number old behind t u (stops.Inventory fault) new (HasEnded limits read fed) first ends.1)
@@ -269,6 +269,6 @@ module _ (S : Type 0) (h : Hearing S) where
     listens_then a b same limits read number old behind t u (Err stops.Memory) new fed first ends = (ends.0, halts_then a b same number old behind t u stops.Memory new (HasEnded limits read fed) first ends.1)
 
 -- all of a text was written and flushed, where the output is flushed now
-pub all_flushed : (text : List ℕ) (out : Change) → IsSaid text out → IsTrue out.new.output.is_flushed → IsAll text out
+pub all_flushed : (text : List ℕ) (out : Change) → TextIsSaid text out → IsTrue out.new.output.is_flushed → IsAll text out
 all_flushed text out (inl all) flushed = all
 all_flushed text out (inr none) flushed = (said_appends text out (inr none), flushed)

@@ -12,9 +12,9 @@ use Rattle.keep_device.specs.Failures.{one_more}
 use Rattle.keep_device.specs.Whole.{MakesAtMost}
 use Rattle.keep_report.specs.declared.stop.Stop.{Stop}
 use Rattle.keep_report.specs.declared.stop.Stop.TheVariants as stops
-use Rattle.keep_lines.specs.Hearing.{Hearing, IsSent, StopsAfter, counted, joined}
-use Rattle.keep_lines.specs.Listening.{Halts, HasEnded, IsHeardFirst, IsOver, IsPrompt, IsWithin, Listens, ListensTo, MakesAtLeast, first_of}
-use Rattle.keep_lines.specs.code.LineByLine.{HaltsWithin, HearsUpTo, IsLeft, IsListening, left_after, part}
+use Rattle.keep_lines.specs.Hearing.{Hearing, IsSaidWhole, StopsAfter, counted_line, joined_changes}
+use Rattle.keep_lines.specs.Listening.{HasEnded, IsHeardFirst, IsOver, IsPrompt, IsReadWithin, ListeningHalts, Listens, ListensTo, MakesAtLeast, part_to_hear}
+use Rattle.keep_lines.specs.code.LineByLine.{HaltsWithin, HearsUpTo, IsListening, SoManyAreLeft, left_after, part_left_to_hear}
 use Rattle.keep_lines.specs.declared.limits.Limits.{Limits}
 use Rattle.keep_lines.specs.declared.limits.TheConstants.{MOST_LINE, ROOM}
 use Rattle.keep_lines.proofs.Cut.{pieces_more}
@@ -68,21 +68,21 @@ none_least old = by_known old.remaining where
 
 -- ---- limits
 
-none_left : (most : Option ℕ) → IsLeft most most 0
+none_left : (most : Option ℕ) → SoManyAreLeft most most 0
 none_left None = tt
 none_left (Some n) = omega arith
 
-none_within : (most : Option ℕ) → IsWithin most []
+none_within : (most : Option ℕ) → IsReadWithin most []
 none_within None = tt
 none_within (Some n) = omega arith
 
-few_read : (most left : Option ℕ) (read : List ℕ) → IsLeft most left (length read) → IsWithin most read
+few_read : (most left : Option ℕ) (read : List ℕ) → SoManyAreLeft most left (length read) → IsReadWithin most read
 few_read None None read h = tt
 few_read None (Some left) read h = absurd h
 few_read (Some most) None read h = absurd h
 few_read (Some most) (Some left) read h = omega (arith, h)
 
-all_of : (most : Option ℕ) (read : List ℕ) → IsWithin most read → first_of most read ≡ read
+all_of : (most : Option ℕ) (read : List ℕ) → IsReadWithin most read → part_to_hear most read ≡ read
 all_of None read h = refl
 all_of (Some most) read h = take_all most read h
 
@@ -101,7 +101,7 @@ front_of room n left within =
           take_all left (take n room) (omega (arith, long, more)) ∙ ap (λ m. take m room) (sym least)
     ]
 
-first_more : (most left : Option ℕ) (read room : List ℕ) (n : ℕ) → IsLeft most left (length read) → n ≤ length room → first_of most (read ++ take n room) ≡ read ++ take (part left n) room
+first_more : (most left : Option ℕ) (read room : List ℕ) (n : ℕ) → SoManyAreLeft most left (length read) → n ≤ length room → part_to_hear most (read ++ take n room) ≡ read ++ take (part_left_to_hear left n) room
 first_more None None read room n h within = refl
 first_more None (Some left) read room n h within = absurd h
 first_more (Some most) None read room n h within = absurd h
@@ -109,7 +109,7 @@ first_more (Some most) (Some left) read room n h within =
     let so : most ≡ length read + left = omega (arith, h) in
     ap (λ m. take m (read ++ take n room)) so ∙ take-append-add read (take n room) left ∙ ap (λ t. read ++ t) (front_of room n left within)
 
-over : (most left : Option ℕ) (read room : List ℕ) (n : ℕ) → IsLeft most left (length read) → n ≤ length room → part left n < n → IsOver most (read ++ take n room)
+over : (most left : Option ℕ) (read room : List ℕ) (n : ℕ) → SoManyAreLeft most left (length read) → n ≤ length room → part_left_to_hear left n < n → IsOver most (read ++ take n room)
 over None None read room n h within less = omega (arith, less)
 over None (Some left) read room n h within less = absurd h
 over (Some most) None read room n h within less = absurd h
@@ -118,7 +118,7 @@ over (Some most) (Some left) read room n h within less =
     let l : length (read ++ take n room) ≡ length read + length (take n room) = length-append read (take n room) in
     omega (arith, h, long, l, less)
 
-left_more : (most left : Option ℕ) (read room : List ℕ) (n : ℕ) → IsLeft most left (length read) → n ≤ length room → n ≤ part left n → IsLeft most (left_after left (part left n)) (length (read ++ take n room))
+left_more : (most left : Option ℕ) (read room : List ℕ) (n : ℕ) → SoManyAreLeft most left (length read) → n ≤ length room → n ≤ part_left_to_hear left n → SoManyAreLeft most (left_after left (part_left_to_hear left n)) (length (read ++ take n room))
 left_more None None read room n h within all = tt
 left_more None (Some left) read room n h within all = absurd h
 left_more (Some most) None read room n h within all = absurd h
@@ -127,11 +127,11 @@ left_more (Some most) (Some left) read room n h within all =
     let l : length (read ++ take n room) ≡ length read + length (take n room) = length-append read (take n room) in
     omega (arith, h, long, l, all)
 
-part_within : (left : Option ℕ) (n : ℕ) → part left n ≤ n
+part_within : (left : Option ℕ) (n : ℕ) → part_left_to_hear left n ≤ n
 part_within None n = omega arith
 part_within (Some left) n = omega arith
 
-part_all : (left : Option ℕ) (n : ℕ) → n ≤ part left n → part left n ≡ n
+part_all : (left : Option ℕ) (n : ℕ) → n ≤ part_left_to_hear left n → part_left_to_hear left n ≡ n
 part_all left n all = let w = part_within left n in omega (arith, w, all)
 
 -- ---- under way
@@ -141,7 +141,7 @@ unfolding pieces
 nothing_cut = refl
 
 module _ (S : Type 0) (m : Hearing S) (limits : Limits) where
-  pub listening_first : (old : S) (source : Seen) (in_memory : Bool) (a : Change) → IsSent [] a → IsListening S m limits old 0 [] limits.bytes old 0 (change in_memory source source) a
+  pub listening_first : (old : S) (source : Seen) (in_memory : Bool) (a : Change) → IsSaidWhole [] a → IsListening S m limits old 0 [] limits.bytes old 0 (change in_memory source source) a
   listening_first old source in_memory a sent = record {
     read = [];
     consumed = Consumes-nil source.input.remaining;
@@ -156,7 +156,7 @@ module _ (S : Type 0) (m : Hearing S) (limits : Limits) where
 
   ends_at :
       (read : List ℕ) (number : ℕ) (old : S) (behind : List (List ℕ)) (text : List ℕ) (stop : Stop) (new : S) (fed : Change) (out : Change) → fed.new.failed_calls ≡ fed.old.failed_calls →
-      Halts S m number old behind text stop new ⊥ out → ListensTo S m limits read number old behind text (Err stop) new fed out
+      ListeningHalts S m number old behind text stop new ⊥ out → ListensTo S m limits read number old behind text (Err stop) new fed out
   ends_at read number old behind text (stops.Inventory fault) new fed out failed h = (failed, h)
   ends_at read number old behind text (stops.Moments fault) new fed out failed h = (failed, h)
   ends_at read number old behind text (stops.FaultWord n) new fed out failed h = (failed, h)
@@ -183,10 +183,10 @@ module _ (S : Type 0) (m : Hearing S) (limits : Limits) where
   }
 
   module _ (old : S) (k : ℕ) (pending : List ℕ) (left : Option ℕ) (now : S) (last : ℕ) (fed : Change) (a : Change) (h : IsListening S m limits old k pending left now last fed a) where
-    few : IsWithin limits.bytes h.read
+    few : IsReadWithin limits.bytes h.read
     few = few_read limits.bytes left h.read h.within
 
-    heard_so_far : IsHeardFirst S m old (first_of limits.bytes h.read) h.up_to.lines (pending ∷ []) now h.up_to.text
+    heard_so_far : IsHeardFirst S m old (part_to_hear limits.bytes h.read) h.up_to.lines (pending ∷ []) now h.up_to.text
     heard_so_far = subst (λ bs. IsHeardFirst S m old bs h.up_to.lines (pending ∷ []) now h.up_to.text) (sym (all_of limits.bytes h.read few)) h.up_to.heard
 
     prompt_so_far : IsPrompt limits.bytes h.read h.up_to.lines
@@ -204,8 +204,8 @@ module _ (S : Type 0) (m : Hearing S) (limits : Limits) where
       short = h.short;
     }
 
-    number : counted (last + 1) ≡ counted (length h.up_to.lines + 1)
-    number = let count : last ≡ counted (0 + length h.up_to.lines) = h.up_to.count in omega (arith, count)
+    number : counted_line (last + 1) ≡ counted_line (length h.up_to.lines + 1)
+    number = let count : last ≡ counted_line (0 + length h.up_to.lines) = h.up_to.count in omega (arith, count)
 
     -- a read failed
     pub read_failed :
@@ -257,7 +257,7 @@ module _ (S : Type 0) (m : Hearing S) (limits : Limits) where
       consumed_all : Consumes fed.old.input.remaining next.input.remaining h.read
       consumed_all = subst (Consumes fed.old.input.remaining next.input.remaining) (ap (λ p. h.read ++ p) none ∙ append-nil h.read) (Consumes-trans fed.old.input.remaining fed.new.input.remaining next.input.remaining h.read piece h.consumed taken)
 
-      ends_so : (result : Result (Unit {0}) Stop) → ListensTo S m limits h.read (counted (length h.up_to.lines + 1)) now (pending ∷ []) h.up_to.text result now (record fed { new = next }) a
+      ends_so : (result : Result (Unit {0}) Stop) → ListensTo S m limits h.read (counted_line (length h.up_to.lines + 1)) now (pending ∷ []) h.up_to.text result now (record fed { new = next }) a
           → Listens S m limits old result now (record fed { new = next }) a
       ends_so result ends = record {
         read = h.read;
@@ -275,11 +275,11 @@ module _ (S : Type 0) (m : Hearing S) (limits : Limits) where
       ended : pending ≡ [] → Listens S m limits old (Ok tt) now (record fed { new = next }) a
       ended empty = ends_so (Ok tt) (ap (λ p. p ∷ []) empty, ((end, few), (failed ∙ h.failed, (refl, h.up_to.sent.0))))
 
-      ended_within : 0 < length pending → Listens S m limits old (Err (stops.Line (counted (last + 1)))) now (record fed { new = next }) a
-      ended_within some = ends_so (Err (stops.Line (counted (last + 1)))) (failed ∙ h.failed, (number, (inr ((end, few), some), (refl, h.up_to.sent.0))))
+      ended_within : 0 < length pending → Listens S m limits old (Err (stops.Line (counted_line (last + 1)))) now (record fed { new = next }) a
+      ended_within some = ends_so (Err (stops.Line (counted_line (last + 1)))) (failed ∙ h.failed, (number, (inr ((end, few), some), (refl, h.up_to.sent.0))))
 
       pub ended_as :
-          (result : Result (Unit {0}) Stop) → OnOk result (pending ≡ []) → IfErr result (λ (stop : Stop). (stop ≡ stops.Line (counted (last + 1))) × (0 < length pending)) →
+          (result : Result (Unit {0}) Stop) → OnOk result (pending ≡ []) → IfErr result (λ (stop : Stop). (stop ≡ stops.Line (counted_line (last + 1))) × (0 < length pending)) →
           Listens S m limits old result now (record fed { new = next }) a
       ended_as (Ok u) none' some' = ended none'
       ended_as (Err stop) none' some' = subst (λ (r : Stop). Listens S m limits old (Err r) now (record fed { new = next }) a) (sym some'.0) (ended_within some'.1)
@@ -291,7 +291,7 @@ module _ (S : Type 0) (m : Hearing S) (limits : Limits) where
       after = record fed { new = next }
 
       abbrev pub took : List ℕ
-      took = take (part left n) room
+      took = take (part_left_to_hear left n) room
 
       abbrev now_read : List ℕ
       now_read = h.read ++ take n room
@@ -299,7 +299,7 @@ module _ (S : Type 0) (m : Hearing S) (limits : Limits) where
       length_piece : length (take n room) ≡ n
       length_piece = length-take-le n room within
 
-      heard_of : first_of limits.bytes now_read ≡ h.read ++ took
+      heard_of : part_to_hear limits.bytes now_read ≡ h.read ++ took
       heard_of = first_more limits.bytes left h.read room n h.within within
 
       abbrev behind_read : HearsUpTo S m 0 old (h.read ++ took) (pieces 10 (pending ++ took)) now last a
@@ -334,7 +334,7 @@ module _ (S : Type 0) (m : Hearing S) (limits : Limits) where
 
       listens_more :
           (result : Result (Unit {0}) Stop) (later : List (List ℕ)) (behind : List (List ℕ)) (mid : S) (text : List ℕ) (new : S) (out : Change) → IsHeardFirst S m old (h.read ++ took) (h.up_to.lines ++ later) behind mid text →
-          ListensTo S m limits now_read (counted (length (h.up_to.lines ++ later) + 1)) mid behind text result new after out → Listens S m limits old result new after out
+          ListensTo S m limits now_read (counted_line (length (h.up_to.lines ++ later) + 1)) mid behind text result new after out → Listens S m limits old result new after out
       listens_more result later behind mid text new out heard ends = record {
         read = now_read;
         consumed = consumed_more;
@@ -357,26 +357,26 @@ module _ (S : Type 0) (m : Hearing S) (limits : Limits) where
 
       module _ (b : Change) (same : a.new ≡ b.old) where
         -- a line stops it
-        pub halted : StopsAfter S m → (stop : Stop) (new : S) → HaltsWithin S m last now (pending ++ took) stop new b → Listens S m limits old (Err stop) new after (joined a b)
+        pub halted : StopsAfter S m → (stop : Stop) (new : S) → HaltsWithin S m last now (pending ++ took) stop new b → Listens S m limits old (Err stop) new after (joined_changes a b)
         halted law stop new w =
             let all = halts_behind S m law 0 old (h.read ++ took) (pending ++ took) now last a b stop new same behind_read w in
-            let none_before : counted (0 + length (h.up_to.lines ++ w.lines) + 1) ≡ counted (length (h.up_to.lines ++ w.lines) + 1) = omega arith in
-            listens_more (Err stop) w.lines w.behind w.mid all.text new (joined a b) all.heard
-            (ends_at now_read (counted (length (h.up_to.lines ++ w.lines) + 1)) w.mid w.behind all.text stop new after (joined a b) (failed ∙ h.failed)
-            (subst (λ c. Halts S m c w.mid w.behind all.text stop new ⊥ (joined a b)) none_before all.halts))
+            let none_before : counted_line (0 + length (h.up_to.lines ++ w.lines) + 1) ≡ counted_line (length (h.up_to.lines ++ w.lines) + 1) = omega arith in
+            listens_more (Err stop) w.lines w.behind w.mid all.text new (joined_changes a b) all.heard
+            (ends_at now_read (counted_line (length (h.up_to.lines ++ w.lines) + 1)) w.mid w.behind all.text stop new after (joined_changes a b) (failed ∙ h.failed)
+            (subst (λ c. ListeningHalts S m c w.mid w.behind all.text stop new ⊥ (joined_changes a b)) none_before all.halts))
 
         -- there is more than may be
         pub too_many :
-            (behind : List ℕ) (new : S) (count : ℕ) → part left n < n → length behind < MOST_LINE → HearsUpTo S m last now (pending ++ took) (behind ∷ []) new count b → Listens S m limits old (Err stops.Read) new after (joined a b)
+            (behind : List ℕ) (new : S) (count : ℕ) → part_left_to_hear left n < n → length behind < MOST_LINE → HearsUpTo S m last now (pending ++ took) (behind ∷ []) new count b → Listens S m limits old (Err stops.Read) new after (joined_changes a b)
         too_many behind new count less short u =
             let all = up_to_then S m 0 old (h.read ++ took) (pending ++ took) (behind ∷ []) now last a b new count same behind_read u in
-            listens_more (Err stops.Read) u.lines (behind ∷ []) new all.text new (joined a b) all.heard
+            listens_more (Err stops.Read) u.lines (behind ∷ []) new all.text new (joined_changes a b) all.heard
             (behind, (refl, (short, (inr (failed ∙ h.failed, inl (over limits.bytes left h.read room n h.within within less)), (refl, all.sent.0)))))
 
         -- and on
         pub listening_more :
-            (behind : List ℕ) (new : S) (count : ℕ) → 0 < n → n ≤ part left n → length behind < MOST_LINE → HearsUpTo S m last now (pending ++ took) (behind ∷ []) new count b →
-            IsListening S m limits old (k + 1) behind (left_after left (part left n)) new count after (joined a b)
+            (behind : List ℕ) (new : S) (count : ℕ) → 0 < n → n ≤ part_left_to_hear left n → length behind < MOST_LINE → HearsUpTo S m last now (pending ++ took) (behind ∷ []) new count b →
+            IsListening S m limits old (k + 1) behind (left_after left (part_left_to_hear left n)) new count after (joined_changes a b)
         listening_more behind new count some all short u =
             let up = up_to_then S m 0 old (h.read ++ took) (pending ++ took) (behind ∷ []) now last a b new count same behind_read u in
             let many = h.many in
@@ -390,7 +390,7 @@ module _ (S : Type 0) (m : Hearing S) (limits : Limits) where
               least = more_least fed.old.input fed.new.input next.input h.read k h.consumed h.least made;
               many = omega (arith, many, p, l, some);
               failed = failed ∙ h.failed;
-              up_to = subst (λ bs. HearsUpTo S m 0 old bs (behind ∷ []) new count (joined a b)) same' up;
+              up_to = subst (λ bs. HearsUpTo S m 0 old bs (behind ∷ []) new count (joined_changes a b)) same' up;
               short = short;
               within = left_more limits.bytes left h.read room n h.within within all;
             }

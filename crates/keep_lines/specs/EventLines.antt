@@ -14,26 +14,26 @@ abbrev pub tick_in : List ℕ → List ℕ → Option Heard
 tick_in word t = if bytes_eq word (codes "tick") then option_map Tick (number_up_to LAST t) else None
 
 -- the entry of that name, if there is one
-abbrev pub needed : Option ℕ → ℕ → Heard
-needed (Some i) until = Need i until
-needed None until = Unknown
+abbrev pub need_heard : Option ℕ → ℕ → Heard
+need_heard (Some i) until = Need i until
+need_heard None until = Unknown
 
 -- `need NAME T`, where a name has at least one byte
 abbrev pub need_in : Forest → List ℕ → List ℕ → List ℕ → Option Heard
 need_in g word name until =
-    if bytes_eq word (codes "need") then (if length name == 0 then None else option_map (needed (index_named g.entries name)) (number_up_to LAST until)) else None
+    if bytes_eq word (codes "need") then (if length name == 0 then None else option_map (need_heard (index_named g.entries name)) (number_up_to LAST until)) else None
 
-abbrev pub words_in : Forest → List (List ℕ) → Option Heard
-words_in g (word ∷ t ∷ []) = tick_in word t
-words_in g (word ∷ name ∷ until ∷ []) = need_in g word name until
-words_in g ws = None
+abbrev pub event_in_words : Forest → List (List ℕ) → Option Heard
+event_in_words g (word ∷ t ∷ []) = tick_in word t
+event_in_words g (word ∷ name ∷ until ∷ []) = need_in g word name until
+event_in_words g ws = None
 
 -- what a line without its line feed says, which has 256 bytes at most with it; none where it is no event line
 unfoldable pub heard_in : Forest → List ℕ → Option Heard
-heard_in g line = if nat_lt (length line) MOST_LINE then words_in g (words line) else None
+heard_in g line = if nat_lt (length line) MOST_LINE then event_in_words g (words line) else None
 
 -- the entry that is needed, if one is, is among so many
-abbrev pub IsWithin : ℕ → Heard → Type 0
-IsWithin n (Tick t) = Unit {0}
-IsWithin n (Need i until) = i < n
-IsWithin n Unknown = Unit {0}
+abbrev pub IsEventLineWithin : ℕ → Heard → Type 0
+IsEventLineWithin n (Tick t) = Unit {0}
+IsEventLineWithin n (Need i until) = i < n
+IsEventLineWithin n Unknown = Unit {0}

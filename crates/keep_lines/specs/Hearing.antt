@@ -14,16 +14,16 @@ pub record Hearing (S : Type 0) : Type 1 where
   pub stops : S → List ℕ → List ℕ → Stop → S → Change → Type 0
 
 -- a line's number as it is counted: from 1 on, and no further than 2^64 - 1
-abbrev pub counted : ℕ → ℕ
-counted n = min n 18446744073709551615
+abbrev pub counted_line : ℕ → ℕ
+counted_line n = min n 18446744073709551615
 
 -- a text was written and flushed, if there is any; else nothing was done
-abbrev pub IsSaid : List ℕ → Change → Type 0
-IsSaid text out = IsAll text out ⊎ ((text ≡ []) × IsUntouched out)
+abbrev pub TextIsSaid : List ℕ → Change → Type 0
+TextIsSaid text out = IsAll text out ⊎ ((text ≡ []) × IsUntouched out)
 
 -- and no call failed
-abbrev pub IsSent : List ℕ → Change → Type 0
-IsSent text out = IsSaid text out × (out.new.failed_calls ≡ out.old.failed_calls)
+abbrev pub IsSaidWhole : List ℕ → Change → Type 0
+IsSaidWhole text out = TextIsSaid text out × (out.new.failed_calls ≡ out.old.failed_calls)
 
 -- the line of that number is heard, and its text written and flushed; or it is none, and nothing is done; or it stops the program
 abbrev pub HearsLine : (S : Type 0) → Hearing S → ℕ → S → List ℕ → Result (Unit {0}) Stop → S → Change → Type 0
@@ -33,18 +33,18 @@ HearsLine S h number old line (Err stops.Read) new out = ⊥
 HearsLine S h number old line (Err stop) new out = h.stops old line [] stop new out
 
 -- a call that ended between two lines: all of its lines were heard, or one was none, or no more could be read
-abbrev pub IsBetween : {X : Type 0} → Result X Stop → Type 0
-IsBetween (Ok x) = Unit {0}
-IsBetween (Err (stops.Line n)) = Unit {0}
-IsBetween (Err stops.Read) = Unit {0}
-IsBetween (Err stop) = ⊥
+abbrev pub EndsBetweenLines : {X : Type 0} → Result X Stop → Type 0
+EndsBetweenLines (Ok x) = Unit {0}
+EndsBetweenLines (Err (stops.Line n)) = Unit {0}
+EndsBetweenLines (Err stops.Read) = Unit {0}
+EndsBetweenLines (Err stop) = ⊥
 
 -- what was done of one output, and then of another state of it
-abbrev pub joined : Change → Change → Change
-joined a b = record { old = a.old; new = b.new; is_in_memory = b.is_in_memory }
+abbrev pub joined_changes : Change → Change → Change
+joined_changes a b = record { old = a.old; new = b.new; is_in_memory = b.is_in_memory }
 
 -- a stop at a line is one after what was written before it, too
 abbrev pub StopsAfter : (S : Type 0) → Hearing S → Type 0
 StopsAfter S h =
-    (a b : Change) (old : S) (line t u : List ℕ) (stop : Stop) (new : S) → a.new ≡ b.old → IsSent t a → h.stops old line u stop new b →
-    h.stops old line (t ++ u) stop new (joined a b)
+    (a b : Change) (old : S) (line t u : List ℕ) (stop : Stop) (new : S) → a.new ≡ b.old → IsSaidWhole t a → h.stops old line u stop new b →
+    h.stops old line (t ++ u) stop new (joined_changes a b)

@@ -7,7 +7,7 @@ use Rattle.keep_device.specs.Failures.{one_more}
 use Rattle.keep_device.specs.Whole.{MakesAtMost}
 use Rattle.keep_report.specs.declared.stop.Stop.{Stop}
 use Rattle.keep_report.specs.declared.stop.Stop.TheVariants as stops
-use Rattle.keep_lines.specs.Hearing.{Hearing, IsSaid, counted}
+use Rattle.keep_lines.specs.Hearing.{Hearing, TextIsSaid, counted_line}
 use Rattle.keep_lines.specs.declared.limits.Limits.{Limits}
 use Rattle.keep_lines.specs.declared.limits.TheConstants.{MOST_LINE, ROOM}
 use Rattle.keep_words.specs.Pieces.{pieces}
@@ -40,28 +40,28 @@ IsNoLine S h old (rest ∷ []) HasEnded = (MOST_LINE ≤ length rest) ⊎ (HasEn
 IsNoLine S h old (line ∷ next ∷ more) HasEnded = h.is_none old line
 
 -- the first of these pieces is a whole line, at which the hearer stops for this reason after this text
-abbrev pub IsStopped : (S : Type 0) → Hearing S → S → List (List ℕ) → List ℕ → Stop → S → Change → Type 0
-IsStopped S h old behind text stop new out = (line : List ℕ) × ((whole_line behind ≡ Some line) × h.stops old line text stop new out)
+abbrev pub HearerIsStopped : (S : Type 0) → Hearing S → S → List (List ℕ) → List ℕ → Stop → S → Change → Type 0
+HearerIsStopped S h old behind text stop new out = (line : List ℕ) × ((whole_line behind ≡ Some line) × h.stops old line text stop new out)
 
 -- why listening stops after the lines of this text, at the piece that stands first, which would be the line of that number: it is no
 -- line; or memory was wanting before it was heard; or hearing it stops
-abbrev pub Halts : (S : Type 0) → Hearing S → ℕ → S → List (List ℕ) → List ℕ → Stop → S → Type 0 → Change → Type 0
-Halts S h number old behind text (stops.Line n) new HasEnded out = (n ≡ number) × (IsNoLine S h old behind HasEnded × ((new ≡ old) × IsSaid text out))
-Halts S h number old behind text stops.Memory new HasEnded out = ((new ≡ old) × Receives text out) ⊎ IsStopped S h old behind text stops.Memory new out
-Halts S h number old behind text stops.Read new HasEnded out = ⊥
-Halts S h number old behind text stop new HasEnded out = IsStopped S h old behind text stop new out
+abbrev pub ListeningHalts : (S : Type 0) → Hearing S → ℕ → S → List (List ℕ) → List ℕ → Stop → S → Type 0 → Change → Type 0
+ListeningHalts S h number old behind text (stops.Line n) new HasEnded out = (n ≡ number) × (IsNoLine S h old behind HasEnded × ((new ≡ old) × TextIsSaid text out))
+ListeningHalts S h number old behind text stops.Memory new HasEnded out = ((new ≡ old) × Receives text out) ⊎ HearerIsStopped S h old behind text stops.Memory new out
+ListeningHalts S h number old behind text stops.Read new HasEnded out = ⊥
+ListeningHalts S h number old behind text stop new HasEnded out = HearerIsStopped S h old behind text stop new out
 
 -- ---- the input
 
 -- the bytes that may be heard of these
-abbrev pub first_of : Option ℕ → List ℕ → List ℕ
-first_of None read = read
-first_of (Some most) read = take most read
+abbrev pub part_to_hear : Option ℕ → List ℕ → List ℕ
+part_to_hear None read = read
+part_to_hear (Some most) read = take most read
 
 -- these are no more than may be heard
-abbrev pub IsWithin : Option ℕ → List ℕ → Type 0
-IsWithin None read = Unit {0}
-IsWithin (Some most) read = length read ≤ most
+abbrev pub IsReadWithin : Option ℕ → List ℕ → Type 0
+IsReadWithin None read = Unit {0}
+IsReadWithin (Some most) read = length read ≤ most
 
 -- they are more
 abbrev pub IsOver : Option ℕ → List ℕ → Type 0
@@ -70,7 +70,7 @@ IsOver (Some most) read = most < length read
 
 -- the input has ended, and is as long as it may be at most
 abbrev pub HasEnded : Limits → List ℕ → Change → Type 0
-HasEnded limits read fed = IsAtEnd fed.new.input.remaining × IsWithin limits.bytes read
+HasEnded limits read fed = IsAtEnd fed.new.input.remaining × IsReadWithin limits.bytes read
 
 -- where its bytes are known, at least so many reads were made of the input between the two states, or the count is at its
 -- greatest
@@ -79,8 +79,8 @@ MakesAtLeast least before now = IfSome before.remaining (λ _. (before.reads_mad
 
 -- why the input is not read to its end: a read failed; or it is longer than it may be, or as many reads were made as there may be,
 -- of a byte each at least
-abbrev pub IsCutOff : Limits → List ℕ → Change → Type 0
-IsCutOff limits read fed =
+abbrev pub InputIsCutOff : Limits → List ℕ → Change → Type 0
+InputIsCutOff limits read fed =
     (fed.new.failed_calls ≡ one_more fed.old.failed_calls)
     ⊎ ((fed.new.failed_calls ≡ fed.old.failed_calls)
     × (IsOver limits.bytes read ⊎ ((limits.reads ≤ length read) × MakesAtLeast limits.reads fed.old.input fed.new.input)))
@@ -92,7 +92,7 @@ pub record IsPrompt (most : Option ℕ) (read : List ℕ) (lines : List (List �
   pub last : List ℕ
   pub parts : read ≡ before ++ last
   pub room : length last ≤ ROOM
-  pub few : IsWithin most before
+  pub few : IsReadWithin most before
   pub first : List (List ℕ)
   pub later : List (List ℕ)
   pub heard : lines ≡ first ++ later
@@ -104,11 +104,11 @@ pub record IsPrompt (most : Option ℕ) (read : List ℕ) (lines : List (List �
 -- all; or it is cut off; or a line stops it
 abbrev pub ListensTo : (S : Type 0) → Hearing S → Limits → List ℕ → ℕ → S → List (List ℕ) → List ℕ → Result (Unit {0}) Stop → S → Change → Change → Type 0
 ListensTo S h limits read number old behind text (Ok u) new fed out =
-    (behind ≡ [] ∷ []) × (HasEnded limits read fed × ((fed.new.failed_calls ≡ fed.old.failed_calls) × ((new ≡ old) × IsSaid text out)))
+    (behind ≡ [] ∷ []) × (HasEnded limits read fed × ((fed.new.failed_calls ≡ fed.old.failed_calls) × ((new ≡ old) × TextIsSaid text out)))
 ListensTo S h limits read number old behind text (Err stops.Read) new fed out =
-    (rest : List ℕ) × ((behind ≡ rest ∷ []) × ((length rest < MOST_LINE) × (IsCutOff limits read fed × ((new ≡ old) × IsSaid text out))))
+    (rest : List ℕ) × ((behind ≡ rest ∷ []) × ((length rest < MOST_LINE) × (InputIsCutOff limits read fed × ((new ≡ old) × TextIsSaid text out))))
 ListensTo S h limits read number old behind text (Err stop) new fed out =
-    (fed.new.failed_calls ≡ fed.old.failed_calls) × Halts S h number old behind text stop new (HasEnded limits read fed) out
+    (fed.new.failed_calls ≡ fed.old.failed_calls) × ListeningHalts S h number old behind text stop new (HasEnded limits read fed) out
 
 -- listening to an input: what was read of it, by as many reads as there may be at most; the lines of what may be heard of that
 -- which were heard, and what that came to; and how it ended after them
@@ -120,6 +120,6 @@ pub record Listens (S : Type 0) (h : Hearing S) (limits : Limits) (old : S) (res
   pub behind : List (List ℕ)
   pub mid : S
   pub text : List ℕ
-  pub heard : IsHeardFirst S h old (first_of limits.bytes read) lines behind mid text
+  pub heard : IsHeardFirst S h old (part_to_hear limits.bytes read) lines behind mid text
   pub prompt : IsPrompt limits.bytes read lines
-  pub ends : ListensTo S h limits read (counted (length lines + 1)) mid behind text result new fed out
+  pub ends : ListensTo S h limits read (counted_line (length lines + 1)) mid behind text result new fed out

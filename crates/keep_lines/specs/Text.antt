@@ -1,6 +1,6 @@
 -- Text: lines as words parted by one space, and the names of entries.
 -- Source: this project's own.
-use Rattle.std.specs.Prelude.{ℕ, List, [], ◌∷◌, ◌++◌}
+use Rattle.std.specs.Prelude.{ℕ, List, [], ◌∷◌, ◌++◌, codes, decimal}
 use Rattle.keep_tree.specs.Forest.{Forest, entry_at}
 
 -- words parted by one space, and a line feed after the last
@@ -16,3 +16,7 @@ name_of g i = (entry_at g.entries i).name
 abbrev pub names_of : Forest → List ℕ → List (List ℕ)
 names_of g [] = []
 names_of g (i ∷ is) = name_of g i ∷ names_of g is
+
+-- the line of an entry that was looked up: its name and its end
+abbrev pub entry_line : List ℕ → ℕ → List ℕ
+entry_line name end = line (codes "entry" ∷ name ∷ decimal end ∷ [])

@@ -1,6 +1,6 @@
 //! What an event line says.
 ghost use Rattle.std.specs.Prelude.{◌≡◌, IfSome, ℕ, length};
-ghost use Rattle.keep_lines.specs.EventLines.{IsWithin, heard_in, need_in, tick_in};
+ghost use Rattle.keep_lines.specs.EventLines.{IsEventLineWithin, heard_in, need_in, tick_in};
 ghost use Rattle.keep_moment.specs.declared.moment.TheConstants.{LAST};
 ghost use Rattle.keep_words.specs.Numbers.{number_up_to};
 
@@ -24,7 +24,7 @@ pub enum Heard {
 #[tactic(auto, unfolding(crate::specs::EventLines::heard_in))]
 pub fn heard_in(forest: &Forest, line: &[u8]) -> Option<Heard>
     ensures heard { result ≡ heard_in forest.now line.now }
-    ensures within { IfSome result (λ h. IsWithin (length forest.now.entries) h) }
+    ensures within { IfSome result (λ h. IsEventLineWithin (length forest.now.entries) h) }
 {
     if line.len() >= MOST_LINE {
         return None;
@@ -38,7 +38,7 @@ pub fn heard_in(forest: &Forest, line: &[u8]) -> Option<Heard>
 
 fn tick_in(word: &[u8], t: &[u8]) -> Option<Heard>
     ensures ticked { result ≡ tick_in word.now t.now }
-    ensures within { (n : ℕ) → IfSome result (λ h. IsWithin n h) }
+    ensures within { (n : ℕ) → IfSome result (λ h. IsEventLineWithin n h) }
 {
     if word != b"tick".as_slice() {
         return None;
@@ -48,7 +48,7 @@ fn tick_in(word: &[u8], t: &[u8]) -> Option<Heard>
 
 fn need_in(forest: &Forest, word: &[u8], name: &[u8], until: &[u8]) -> Option<Heard>
     ensures needed { result ≡ need_in forest.now word.now name.now until.now }
-    ensures within { IfSome result (λ h. IsWithin (length forest.now.entries) h) }
+    ensures within { IfSome result (λ h. IsEventLineWithin (length forest.now.entries) h) }
 {
     if word != b"need".as_slice() || name.is_empty() {
         return None;

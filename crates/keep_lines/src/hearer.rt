@@ -1,7 +1,7 @@
 //! What lines mean to a program.
 ghost use Rattle.std.specs.Prelude.{◌≡◌, OnOk};
 ghost use Rattle.keep_device.specs.Seen.{Seen};
-ghost use Rattle.keep_lines.specs.Hearing.{Hearing, HearsLine, IsBetween, StopsAfter};
+ghost use Rattle.keep_lines.specs.Hearing.{EndsBetweenLines, Hearing, HearsLine, StopsAfter};
 
 use keep_device::{Sink, Watched};
 use keep_report::Stop;
@@ -38,7 +38,7 @@ pub trait Hearer<N> {
     ) -> Result<(), Stop>
         requires ready { is_ready self.old neighbours.old (W.seen out.old) }
         ensures hears { HearsLine State (hearing (key self.old neighbours.old)) number (state self.old neighbours.old) line.now result (state self.new neighbours.new) (⟦<W as Watched>⟧.change out.old out.new) }
-        ensures ready { IsBetween result → is_ready self.new neighbours.new (W.seen out.new) }
+        ensures ready { EndsBetweenLines result → is_ready self.new neighbours.new (W.seen out.new) }
         ensures same { OnOk result (key self.new neighbours.new ≡ key self.old neighbours.old) };
 
     /// A stop at a line is one after what was written before it, too.

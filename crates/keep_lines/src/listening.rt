@@ -2,9 +2,9 @@
 ghost use Rattle.std.specs.Prelude.{◌≡◌, ◌+◌, ◌∷◌, [], ◌<◌, ◌≤◌, IfOk, OnOk, drop, length, option_map};
 ghost use Rattle.std.specs.Result.{IfErr};
 ghost use Rattle.keep_report.specs.declared.stop.Stop.TheVariants as stops;
-ghost use Rattle.keep_lines.specs.Hearing.{IsBetween, counted};
+ghost use Rattle.keep_lines.specs.Hearing.{EndsBetweenLines, counted_line};
 ghost use Rattle.keep_lines.specs.Listening.{Listens};
-ghost use Rattle.keep_lines.specs.code.LineByLine.{HaltsWithin, HearsUpTo, left_after, part};
+ghost use Rattle.keep_lines.specs.code.LineByLine.{HaltsWithin, HearsUpTo, left_after, part_left_to_hear};
 ghost use Rattle.keep_lines.specs.declared.limits.TheConstants.{MOST_LINE};
 
 use crate::hearer::Hearer;
@@ -29,7 +29,7 @@ pub fn listen<N, H: Hearer<N>, R: Source, W: Sink>(
 ) -> Result<(), Stop>
     requires ready { H.is_ready hearer.old neighbours.old (W.seen out.old) }
     ensures listens { Listens H.State (H.hearing (H.key hearer.old neighbours.old)) limits (H.state hearer.old neighbours.old) result (H.state hearer.new neighbours.new) (⟦<R as Watched>⟧.change lines.old lines.new) (⟦<W as Watched>⟧.change out.old out.new) }
-    ensures ready { IsBetween result → H.is_ready hearer.new neighbours.new (W.seen out.new) }
+    ensures ready { EndsBetweenLines result → H.is_ready hearer.new neighbours.new (W.seen out.new) }
     ensures output { (R.seen lines.new).output ≡ (R.seen lines.old).output }
 {
     let mut room = zeros(alloc, ROOM)?;
@@ -56,7 +56,7 @@ pub fn listen<N, H: Hearer<N>, R: Source, W: Sink>(
 
 /// As many of so many bytes as may be heard where so many are left.
 fn part(left: Option<usize>, n: usize) -> usize
-    ensures { result ≡ part left n }
+    ensures { result ≡ part_left_to_hear left n }
 {
     match left {
         None => n,
@@ -77,7 +77,7 @@ fn left_after(left: Option<usize>, taken: usize) -> Option<usize>
 /// What the end of the input comes to after so many lines: a line without its line feed is none.
 fn at_end(pending: &[u8], count: u64) -> Result<(), Stop>
     ensures none { OnOk result (pending.now ≡ []) }
-    ensures some { IfErr result (λ stop. (stop ≡ stops.Line (counted (count + 1))) × (0 < length pending.now)) }
+    ensures some { IfErr result (λ stop. (stop ≡ stops.Line (counted_line (count + 1))) × (0 < length pending.now)) }
 {
     if pending.is_empty() {
         Ok(())
@@ -97,10 +97,10 @@ fn hear_pending<N, H: Hearer<N>, W: Sink>(
     out: &mut W,
 ) -> Result<(), Stop>
     requires ready { H.is_ready hearer.old neighbours.old (W.seen out.old) }
-    requires numbered { counted count.old ≡ count.old }
+    requires numbered { counted_line count.old ≡ count.old }
     ensures heard { OnOk result (HearsUpTo H.State (H.hearing (H.key hearer.old neighbours.old)) count.old (H.state hearer.old neighbours.old) pending.old.items (pending.new.items ∷ []) (H.state hearer.new neighbours.new) count.new (⟦<W as Watched>⟧.change out.old out.new)) }
     ensures short { OnOk result (length pending.new.items < MOST_LINE) }
-    ensures ready { IsBetween result → H.is_ready hearer.new neighbours.new (W.seen out.new) }
+    ensures ready { EndsBetweenLines result → H.is_ready hearer.new neighbours.new (W.seen out.new) }
     ensures same { OnOk result (H.key hearer.new neighbours.new ≡ H.key hearer.old neighbours.old) }
     ensures halts { IfErr result (λ stop. HaltsWithin H.State (H.hearing (H.key hearer.old neighbours.old)) count.old (H.state hearer.old neighbours.old) pending.old.items stop (H.state hearer.new neighbours.new) (⟦<W as Watched>⟧.change out.old out.new)) }
 {
@@ -123,10 +123,10 @@ fn hear_whole<N, H: Hearer<N>, W: Sink>(
     out: &mut W,
 ) -> Result<usize, Stop>
     requires ready { H.is_ready hearer.old neighbours.old (W.seen out.old) }
-    requires numbered { counted count.old ≡ count.old }
+    requires numbered { counted_line count.old ≡ count.old }
     ensures heard { IfOk result (λ n. HearsUpTo H.State (H.hearing (H.key hearer.old neighbours.old)) count.old (H.state hearer.old neighbours.old) bytes.now (drop n bytes.now ∷ []) (H.state hearer.new neighbours.new) count.new (⟦<W as Watched>⟧.change out.old out.new)) }
     ensures within { IfOk result (λ n. n ≤ length bytes.now) }
-    ensures ready { IsBetween result → H.is_ready hearer.new neighbours.new (W.seen out.new) }
+    ensures ready { EndsBetweenLines result → H.is_ready hearer.new neighbours.new (W.seen out.new) }
     ensures same { IfOk result (λ _. H.key hearer.new neighbours.new ≡ H.key hearer.old neighbours.old) }
     ensures halts { IfErr result (λ stop. HaltsWithin H.State (H.hearing (H.key hearer.old neighbours.old)) count.old (H.state hearer.old neighbours.old) bytes.now stop (H.state hearer.new neighbours.new) (⟦<W as Watched>⟧.change out.old out.new)) }
 {

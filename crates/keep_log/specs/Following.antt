@@ -10,9 +10,9 @@ abbrev pub hears : Bool → Level → Bool
 hears alerts_alone level = not alerts_alone || is_alerted level
 
 -- a line of this level is put
-abbrev pub hearing : Bool → Level → List ℕ → List ℕ → Waiting → Waiting
-hearing alerts_alone level notice line w = if hears alerts_alone level then with_line notice line w else w
+abbrev pub put_if_heard : Bool → Level → List ℕ → List ℕ → Waiting → Waiting
+put_if_heard alerts_alone level notice line w = if hears alerts_alone level then with_line notice line w else w
 
 -- and one that could not be made is counted as dropped
-abbrev pub missing : Bool → Level → Waiting → Waiting
-missing alerts_alone level w = if hears alerts_alone level then dropping 1 w else w
+abbrev pub missed_line : Bool → Level → Waiting → Waiting
+missed_line alerts_alone level w = if hears alerts_alone level then dropping 1 w else w

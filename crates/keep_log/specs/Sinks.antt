@@ -14,7 +14,7 @@ CountsFailure tries.Waits before now = now ≡ before
 CountsFailure tries.Failed before now = now ≡ one_more before
 
 -- the answers to come, what it took, and its tries and failures, up to the greatest `u64`
-pub record Script : Type 0 where
+pub record SinkScript : Type 0 where
   pub to_come : List Answer
   pub written : List ℕ
   pub tries : ℕ

@@ -15,18 +15,18 @@ pub record Waiting : Type 0 where
 -- ---- what is dropped
 
 -- a count after so many more
-abbrev pub counted : ℕ → ℕ → ℕ
-counted n more = min (n + more) (2 ^ 64 - 1)
+abbrev pub counted_more : ℕ → ℕ → ℕ
+counted_more n more = min (n + more) (2 ^ 64 - 1)
 
 -- so many lines were dropped
 abbrev pub dropping : ℕ → Waiting → Waiting
-dropping n w = record w { untold = counted w.untold n; dropped = counted w.dropped n }
+dropping n w = record w { untold = counted_more w.untold n; dropped = counted_more w.dropped n }
 
 -- ---- what is put
 
 -- the line that tells of dropped lines, where there are any
-abbrev pub due : List ℕ → Waiting → List ℕ
-due notice w = if w.untold == 0 then [] else notice
+abbrev pub notice_due : List ℕ → Waiting → List ℕ
+notice_due notice w = if w.untold == 0 then [] else notice
 
 -- a text is put behind what waits where there is room for all of it
 abbrev pub fits : List ℕ → Waiting → Bool
@@ -35,11 +35,11 @@ fits text w = nat_le (length w.bytes + length text) w.room
 -- a line is taken whole, and before it the one that tells of dropped lines, in their place; or it is dropped whole and counted
 abbrev pub with_line : List ℕ → List ℕ → Waiting → Waiting
 with_line notice line w =
-    if fits (due notice w ++ line) w then record w { bytes = w.bytes ++ (due notice w ++ line); untold = 0 } else dropping 1 w
+    if fits (notice_due notice w ++ line) w then record w { bytes = w.bytes ++ (notice_due notice w ++ line); untold = 0 } else dropping 1 w
 
 -- the line that tells of dropped lines is put where there is room for it
 abbrev pub with_notice : List ℕ → Waiting → Waiting
-with_notice notice w = if fits (due notice w) w then record w { bytes = w.bytes ++ due notice w; untold = 0 } else w
+with_notice notice w = if fits (notice_due notice w) w then record w { bytes = w.bytes ++ notice_due notice w; untold = 0 } else w
 
 -- ---- what is given
 
@@ -62,16 +62,16 @@ line_length [] = 0
 line_length (b ∷ bytes) = if b == 10 then 1 else 1 + line_length bytes
 
 -- how much is kept where the rest is dropped: the rest of a line whose front was written
-abbrev pub kept : Waiting → ℕ
-kept w = if w.is_begun then line_length w.bytes else 0
+abbrev pub bytes_kept : Waiting → ℕ
+bytes_kept w = if w.is_begun then line_length w.bytes else 0
 
 -- what waits is dropped and counted, but for the rest of a line whose front was written
-abbrev pub closed : Waiting → Waiting
-closed w = dropping (feeds (drop (kept w) w.bytes)) (record w { bytes = take (kept w) w.bytes })
+abbrev pub closed_waiting : Waiting → Waiting
+closed_waiting w = dropping (feeds (drop (bytes_kept w) w.bytes)) (record w { bytes = take (bytes_kept w) w.bytes })
 
 -- where the sink failed, what waits is dropped
 abbrev pub closed_if : Bool → Waiting → Waiting
-closed_if failed w = if failed then closed w else w
+closed_if failed w = if failed then closed_waiting w else w
 
 -- ---- what a turn gives
 

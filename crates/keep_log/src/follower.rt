@@ -1,5 +1,5 @@
 ghost use Rattle.std.specs.Prelude.{◌≡◌, IfOk, [], false};
-ghost use Rattle.keep_log.specs.Following.{hearing, hears, missing};
+ghost use Rattle.keep_log.specs.Following.{hears, missed_line, put_if_heard};
 ghost use Rattle.keep_log.specs.declared.room.TheConstants.{FOLLOWER_ROOM};
 
 use crate::level::Level;
@@ -39,7 +39,7 @@ impl Follower {
 
     /// Takes a line of this level, where it is told of that level, as [`LogRoom::put`] does.
     pub fn hear(&mut self, level: Level, notice: &[u8], line: &[u8])
-        ensures { self.new ≡ record self.old { room = hearing self.old.alerts_alone level notice.now line.now self.old.room } }
+        ensures { self.new ≡ record self.old { room = put_if_heard self.old.alerts_alone level notice.now line.now self.old.room } }
     {
         if self.hears(level) {
             self.room.put(notice, line);
@@ -49,7 +49,7 @@ impl Follower {
     /// Counts a line of this level that could not be made, for lack of memory, where it is told of that level, as
     /// [`LogRoom::miss`] does.
     pub fn miss(&mut self, level: Level)
-        ensures { self.new ≡ record self.old { room = missing self.old.alerts_alone level self.old.room } }
+        ensures { self.new ≡ record self.old { room = missed_line self.old.alerts_alone level self.old.room } }
     {
         if self.hears(level) {
             self.room.miss();

@@ -1,7 +1,7 @@
 ghost use Rattle.std.specs.Prelude.{◌≡◌, ◌<◌, ◌≤◌, [], IfOk, Some, length, take, drop};
 ghost use Rattle.std.specs.Io.KnownBytes.{Appends, Keeps};
 ghost use Rattle.keep_device.specs.Failures.{one_more};
-ghost use Rattle.keep_device.specs.Tries.{IfDone, MatchTried};
+ghost use Rattle.keep_device.specs.Tries.{IfTryDone, MatchTried};
 ghost use Rattle.keep_device.specs.declared.tried.Tried.TheVariants.{Failed};
 ghost use Rattle.keep_log.specs.Sinks.{CountsFailure, next_answer};
 
@@ -34,9 +34,9 @@ pub struct MemorySink {
 
 impl Model for MemorySink {
     ghost use Rattle.std.specs.Prelude.{◌≤◌, drop, vec_len};
-    ghost use Rattle.keep_log.specs.Sinks.{Script};
+    ghost use Rattle.keep_log.specs.Sinks.{SinkScript};
 
-    ghost Value = { Script };
+    ghost Value = { SinkScript };
 
     ghost view = { λ s. record { to_come = drop s.next s.answers.items; written = s.taken.items; tries = s.tries; failures = s.failures } };
 
@@ -80,7 +80,7 @@ impl MemorySink {
     // Takes so many bytes.
     fn take(&mut self, piece: &[u8], n: usize) -> Tried
         requires { n ≤ length piece.now }
-        ensures bound { IfDone result (λ m. m ≡ n) }
+        ensures bound { IfTryDone result (λ m. m ≡ n) }
         ensures bytes { MatchTried result (λ m. Appends (Some self.old.written) (Some self.new.written) (take m piece.now))
             (self.new.written ≡ self.old.written) }
         ensures tries { self.new.tries ≡ self.old.tries }

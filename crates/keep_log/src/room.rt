@@ -1,7 +1,7 @@
 ghost use Rattle.std.specs.Prelude.{◌≡◌, ◌+◌, ◌≤◌, [], IfOk, false, length, min, take};
 ghost use Rattle.std.specs.Io.KnownBytes.{Appends};
 ghost use Rattle.keep_log.specs.declared.writing.TheConstants.{MOST_TRIES};
-ghost use Rattle.keep_log.specs.Waiting.{after_turn, closed, closed_if, dropping, giving, with_line, with_notice};
+ghost use Rattle.keep_log.specs.Waiting.{after_turn, closed_if, closed_waiting, dropping, giving, with_line, with_notice};
 
 use crate::sink::LogSink;
 use crate::writing::{MOST_TRIES, feeds, line_length, write_out};
@@ -135,7 +135,7 @@ impl LogRoom {
 
     // Drops what waits, but for the rest of a line whose front was given.
     fn close(&mut self)
-        ensures { self.new ≡ closed self.old }
+        ensures { self.new ≡ closed_waiting self.old }
     {
         let kept = if self.is_begun {
             line_length(&self.bytes)

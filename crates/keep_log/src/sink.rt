@@ -1,7 +1,7 @@
 ghost use Rattle.std.specs.Prelude.{◌≡◌, ℕ, ◌<◌, ◌≤◌, List, length, take, Option, None};
 ghost use Rattle.std.specs.Io.KnownBytes.{Appends, Keeps};
 ghost use Rattle.keep_device.specs.Failures.{one_more};
-ghost use Rattle.keep_device.specs.Tries.{IfDone, MatchTried};
+ghost use Rattle.keep_device.specs.Tries.{IfTryDone, MatchTried};
 ghost use Rattle.keep_log.specs.Sinks.{CountsFailure};
 
 use keep_device::Tried;
@@ -28,7 +28,7 @@ pub trait LogSink {
 
     /// Takes some bytes from the front of `piece`, at least one where there is one, and waits for nobody.
     fn give(&mut self, piece: &[u8]) -> Tried
-        ensures bound { IfDone result (λ n. (n ≤ length piece.now) × (0 < length piece.now → 0 < n)) }
+        ensures bound { IfTryDone result (λ n. (n ≤ length piece.now) × (0 < length piece.now → 0 < n)) }
         ensures bytes { MatchTried result (λ n. Appends (Self.written self.old) (Self.written self.new) (take n piece.now))
             (Keeps (Self.written self.old) (Self.written self.new)) }
         ensures tries { Self.tries self.new ≡ one_more (Self.tries self.old) }

@@ -11,13 +11,13 @@ use Rattle.keep_moment.specs.declared.stamp.Zone.TheVariants.{Utc}
 use Rattle.keep_moment.specs.declared.fault.TimeFault.{TimeFault}
 use Rattle.keep_moment.specs.declared.fault.TimeFault.TheVariants.{BadTime, OutOfRange, OutOfMemory}
 use Rattle.keep_moment.specs.declared.moment.TheConstants.{LAST}
-use Rattle.keep_moment.specs.Rfc3339.{IsDateTime, Writes, IsDateText, IsZoneText, face, clock_of, seconds_of}
+use Rattle.keep_moment.specs.Rfc3339.{IsDateTime, WritesDate, IsDateText, IsZoneText, face, clock_of, seconds_of}
 use Rattle.keep_moment.specs.MomentOf.{in_range, is_date_time, moment_at, moment_of, stamp_of}
 use Rattle.keep_moment.proofs.Calendar.{date_time_tells, date_time_holds}
 use Rattle.keep_moment.proofs.Stamps.{stamp_reads, stamp_tells}
 
 -- a text that writes a date and time has its moment
-pub moment_reads : (text : List ℕ) (s : Stamp) → IsDateTime s → Writes text s → moment_of text ≡ in_range (seconds_of s)
+pub moment_reads : (text : List ℕ) (s : Stamp) → IsDateTime s → WritesDate text s → moment_of text ≡ in_range (seconds_of s)
 unfolding moment_of
 moment_reads text s h w =
     ap moment_at (stamp_reads text s w h) ∙ cond-true (is_date_time s) (in_range (seconds_of s)) (Err BadTime) (date_time_holds s h)
@@ -30,7 +30,7 @@ in_range_is (pos n) =
     ]
 in_range_is (negsuc n) = inr refl
 
-by_stamp : (text : List ℕ) (o : Option Stamp) → stamp_of text ≡ o → ((s : Stamp) × IsDateTime s × Writes text s × (moment_of text ≡ in_range (seconds_of s))) ⊎ ((moment_of text ≡ Err BadTime) × ((s : Stamp) → IsDateTime s → Writes text s → ⊥))
+by_stamp : (text : List ℕ) (o : Option Stamp) → stamp_of text ≡ o → ((s : Stamp) × IsDateTime s × WritesDate text s × (moment_of text ≡ in_range (seconds_of s))) ⊎ ((moment_of text ≡ Err BadTime) × ((s : Stamp) → IsDateTime s → WritesDate text s → ⊥))
 unfolding moment_of
 by_stamp text None e =
     inr (ap moment_at e, λ s h w. absurd (cc (e, stamp_reads text s w h)))
@@ -41,10 +41,10 @@ by_stamp text (Some s) e =
     ]
 
 -- a moment that is found is that of a date and time that the text writes, and BadTime says that there is none
-pub moment_tells : (text : List ℕ) → ((s : Stamp) × IsDateTime s × Writes text s × (moment_of text ≡ in_range (seconds_of s))) ⊎ ((moment_of text ≡ Err BadTime) × ((s : Stamp) → IsDateTime s → Writes text s → ⊥))
+pub moment_tells : (text : List ℕ) → ((s : Stamp) × IsDateTime s × WritesDate text s × (moment_of text ≡ in_range (seconds_of s))) ⊎ ((moment_of text ≡ Err BadTime) × ((s : Stamp) → IsDateTime s → WritesDate text s → ⊥))
 moment_tells text = by_stamp text (stamp_of text) refl
 
-pub moment_found : (text : List ℕ) (m : ℕ) → moment_of text ≡ Ok m → (s : Stamp) × IsDateTime s × Writes text s × (seconds_of s ≡ pos m)
+pub moment_found : (text : List ℕ) (m : ℕ) → moment_of text ≡ Ok m → (s : Stamp) × IsDateTime s × WritesDate text s × (seconds_of s ≡ pos m)
 moment_found text m e =
     elim (moment_tells text) [
       | inl p ↦ elim (in_range_is (seconds_of p.0)) [
@@ -54,7 +54,7 @@ moment_found text m e =
       | inr p ↦ absurd (cc (e, p.0))
     ]
 
-pub moment_bad : (text : List ℕ) → moment_of text ≡ Err BadTime → (s : Stamp) → IsDateTime s → Writes text s → ⊥
+pub moment_bad : (text : List ℕ) → moment_of text ≡ Err BadTime → (s : Stamp) → IsDateTime s → WritesDate text s → ⊥
 moment_bad text e =
     elim (moment_tells text) [
       | inl p ↦ elim (in_range_is (seconds_of p.0)) [
@@ -64,7 +64,7 @@ moment_bad text e =
       | inr p ↦ p.1
     ]
 
-pub moment_none : (text : List ℕ) → ((s : Stamp) → IsDateTime s → Writes text s → ⊥) → moment_of text ≡ Err BadTime
+pub moment_none : (text : List ℕ) → ((s : Stamp) → IsDateTime s → WritesDate text s → ⊥) → moment_of text ≡ Err BadTime
 moment_none text none = elim (moment_tells text) [ inl p ↦ absurd (none p.0 p.1 p.2) | inr p ↦ p.0 ]
 
 pub moment_takes_none : (text : List ℕ) → moment_of text ≡ Err OutOfMemory → ⊥
@@ -74,7 +74,7 @@ moment_takes_none text e =
       | inr p ↦ absurd (cc (e, p.0))
     ]
 
-pub moment_if_found : (text : List ℕ) (r : Result ℕ TimeFault) → r ≡ moment_of text → IfOk r (λ m. (s : Stamp) × IsDateTime s × Writes text s × (seconds_of s ≡ pos m))
+pub moment_if_found : (text : List ℕ) (r : Result ℕ TimeFault) → r ≡ moment_of text → IfOk r (λ m. (s : Stamp) × IsDateTime s × WritesDate text s × (seconds_of s ≡ pos m))
 moment_if_found text (Ok m) e = moment_found text m (sym e)
 moment_if_found text (Err fault) e = tt
 
@@ -83,7 +83,7 @@ pub date_text_reads : (text : List ℕ) (m : ℕ) → m ≤ LAST → IsDateText 
 date_text_reads text m last (s, h, utc, seconds, is) =
     let P : Zone → Type 0 = λ z. IsZoneText z (90 ∷ []) in
     let zone : IsZoneText s.zone (90 ∷ []) = subst P (sym utc) (inl refl) in
-    let w : Writes text s = record { between = 84; fraction = []; zone = 90 ∷ []; is_t = inl refl; is_fraction = inl refl; is_zone = zone; is = is } in
+    let w : WritesDate text s = record { between = 84; fraction = []; zone = 90 ∷ []; is_t = inl refl; is_fraction = inl refl; is_zone = zone; is = is } in
     moment_reads text s h w ∙ ap in_range seconds ∙ cond-true (nat_le m LAST) (Ok m) (Err OutOfRange) (le-leb m LAST last)
 
 -- a moment has one stamp of UTC

@@ -7,7 +7,7 @@ use Rattle.std.specs.Option.{option_and_then}
 use Rattle.std.specs.Char.{is_ascii_digit}
 use Rattle.std.specs.Str.{all_ascii_digits}
 use Rattle.keep_moment.specs.Rfc3339.{IsFraction}
-use Rattle.keep_moment.specs.MomentOf.{two_of, two_at, four_at, mark_at, after_digits, after_fraction}
+use Rattle.keep_moment.specs.MomentOf.{two_of, two_at, four_at, either_byte_at, after_digits, after_fraction}
 
 digit_bounds : (b : ℕ) → is_ascii_digit b ≡ true → (48 ≤ b) × (b ≤ 57)
 digit_bounds b t = let p = and_parts _ _ t in (leb-true 48 b p.0, leb-true b 57 p.1)
@@ -59,7 +59,7 @@ four_tells text place n e =
       fourth = rw back b.2;
     }))
 
-pub mark_tells : (text : List ℕ) (place one other : ℕ) (u : Unit {0}) → mark_at text place one other ≡ Some u → (slice_index text place ≡ one) ⊎ (slice_index text place ≡ other)
+pub mark_tells : (text : List ℕ) (place one other : ℕ) (u : Unit {0}) → either_byte_at text place one other ≡ Some u → (slice_index text place ≡ one) ⊎ (slice_index text place ≡ other)
 mark_tells text place one other u e =
     let p = cond_some ((slice_index text place == one) || (slice_index text place == other)) tt u e in
     elim (or_cases (slice_index text place == one) (slice_index text place == other) p.0) [
@@ -67,7 +67,7 @@ mark_tells text place one other u e =
       | inr t ↦ inr (eqb-true _ _ t)
     ]
 
-pub same_mark : (text : List ℕ) (place one : ℕ) (u : Unit {0}) → mark_at text place one one ≡ Some u → slice_index text place ≡ one
+pub same_mark : (text : List ℕ) (place one : ℕ) (u : Unit {0}) → either_byte_at text place one one ≡ Some u → slice_index text place ≡ one
 same_mark text place one u e = elim (mark_tells text place one one u e) [ inl t ↦ t | inr t ↦ t ]
 
 -- a place with something other than 0 lies in the text

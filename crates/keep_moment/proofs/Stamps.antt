@@ -5,23 +5,23 @@ use Rattle.std.proofs.lemmas.Option.{option_and_then_some, same_Some}
 use Rattle.jiff_core.proofs.SignedLemmas.{signed_arith}
 use Rattle.jiff_core.proofs.CalendarLemmas.{days_in_month_bounds}
 use Rattle.keep_moment.specs.declared.stamp.Stamp.{Stamp}
-use Rattle.keep_moment.specs.Rfc3339.{IsDateTime, Writes, IsZoneText, face}
-use Rattle.keep_moment.specs.MomentOf.{two_at, four_at, mark_at, after_fraction, zone_of, stamp_of}
+use Rattle.keep_moment.specs.Rfc3339.{IsDateTime, WritesDate, IsZoneText, face}
+use Rattle.keep_moment.specs.MomentOf.{two_at, four_at, either_byte_at, after_fraction, zone_of, stamp_of}
 use Rattle.keep_moment.proofs.Pieces.{two_reads, two_tells, four_reads, four_tells, IsFour, mark_tells, same_mark, within, fraction_skipped, fraction_split}
 use Rattle.keep_moment.proofs.Zones.{zone_reads, zone_bare, zone_tells}
 
 -- what the places of a text tell together
-stamp_from_places : (text : List ℕ) (s : Stamp) → four_at text 0 ≡ Some s.year → mark_at text 4 45 45 ≡ Some tt → two_at text 5 ≡ Some s.month → mark_at text 7 45 45 ≡ Some tt → two_at text 8 ≡ Some s.day → mark_at text 10 84 116 ≡ Some tt → two_at text 11 ≡ Some s.hour → mark_at text 13 58 58 ≡ Some tt → two_at text 14 ≡ Some s.minute → mark_at text 16 58 58 ≡ Some tt → two_at text 17 ≡ Some s.second → zone_of (after_fraction (drop 19 text)) ≡ Some s.zone → stamp_of text ≡ Some s
+stamp_from_places : (text : List ℕ) (s : Stamp) → four_at text 0 ≡ Some s.year → either_byte_at text 4 45 45 ≡ Some tt → two_at text 5 ≡ Some s.month → either_byte_at text 7 45 45 ≡ Some tt → two_at text 8 ≡ Some s.day → either_byte_at text 10 84 116 ≡ Some tt → two_at text 11 ≡ Some s.hour → either_byte_at text 13 58 58 ≡ Some tt → two_at text 14 ≡ Some s.minute → either_byte_at text 16 58 58 ≡ Some tt → two_at text 17 ≡ Some s.second → zone_of (after_fraction (drop 19 text)) ≡ Some s.zone → stamp_of text ≡ Some s
 unfolding stamp_of
 stamp_from_places text s year dash month dash_2 day between hour colon minute colon_2 second zone =
     rw (year, dash, month, dash_2, day, between, hour, colon, minute, colon_2, second, zone) refl
 
-mark_between : (s : Stamp) (between : ℕ) (rest : List ℕ) → (between ≡ 84) ⊎ (between ≡ 116) → mark_at (face s between ++ rest) 10 84 116 ≡ Some tt
+mark_between : (s : Stamp) (between : ℕ) (rest : List ℕ) → (between ≡ 84) ⊎ (between ≡ 116) → either_byte_at (face s between ++ rest) 10 84 116 ≡ Some tt
 mark_between s between rest (inl e) = rw e refl
 mark_between s between rest (inr e) = rw e refl
 
 -- a text that writes a stamp is read as that stamp
-pub stamp_reads : (text : List ℕ) (s : Stamp) → Writes text s → IsDateTime s → stamp_of text ≡ Some s
+pub stamp_reads : (text : List ℕ) (s : Stamp) → WritesDate text s → IsDateTime s → stamp_of text ≡ Some s
 stamp_reads text s w h =
     let written = face s w.between ++ (w.fraction ++ w.zone) in
     let year : s.year < 10000 = omega (arith, signed_arith, h.date.0.1) in
@@ -42,7 +42,7 @@ front text h =
 abbrev IsTwo : List ℕ → ℕ → ℕ → Type 0
 IsTwo text place n = (n < 100) × (slice_index text place ≡ 48 + n / 10) × (slice_index text (place + 1) ≡ 48 + n % 10)
 
-writes_from_places : (text : List ℕ) (s : Stamp) → IsFour text 0 s.year → slice_index text 4 ≡ 45 → IsTwo text 5 s.month → slice_index text 7 ≡ 45 → IsTwo text 8 s.day → (slice_index text 10 ≡ 84) ⊎ (slice_index text 10 ≡ 116) → IsTwo text 11 s.hour → slice_index text 13 ≡ 58 → IsTwo text 14 s.minute → slice_index text 16 ≡ 58 → IsTwo text 17 s.second → IsZoneText s.zone (after_fraction (drop 19 text)) → Writes text s
+writes_from_places : (text : List ℕ) (s : Stamp) → IsFour text 0 s.year → slice_index text 4 ≡ 45 → IsTwo text 5 s.month → slice_index text 7 ≡ 45 → IsTwo text 8 s.day → (slice_index text 10 ≡ 84) ⊎ (slice_index text 10 ≡ 116) → IsTwo text 11 s.hour → slice_index text 13 ≡ 58 → IsTwo text 14 s.minute → slice_index text 16 ≡ 58 → IsTwo text 17 s.second → IsZoneText s.zone (after_fraction (drop 19 text)) → WritesDate text s
 writes_from_places text s year m1 month m2 day m3 hour m4 minute m5 second zone =
     let long : 18 < length text = within text 18 (omega (arith, second.2)) in
     let tail = fraction_split (drop 19 text) in
@@ -57,21 +57,21 @@ writes_from_places text s year m1 month m2 day m3 hour m4 minute m5 second zone 
     }
 
 -- and a stamp that is read is written so
-pub stamp_tells : (text : List ℕ) (s : Stamp) → stamp_of text ≡ Some s → Writes text s
+pub stamp_tells : (text : List ℕ) (s : Stamp) → stamp_of text ≡ Some s → WritesDate text s
 unfolding stamp_of
 stamp_tells text s e =
     option_and_then_some _ (four_at text 0) s e (λ year y e1.
-    option_and_then_some _ (mark_at text 4 45 45) s e1 (λ u1 m1 e2.
+    option_and_then_some _ (either_byte_at text 4 45 45) s e1 (λ u1 m1 e2.
     option_and_then_some _ (two_at text 5) s e2 (λ month mo e3.
-    option_and_then_some _ (mark_at text 7 45 45) s e3 (λ u2 m2 e4.
+    option_and_then_some _ (either_byte_at text 7 45 45) s e3 (λ u2 m2 e4.
     option_and_then_some _ (two_at text 8) s e4 (λ day d e5.
-    option_and_then_some _ (mark_at text 10 84 116) s e5 (λ u3 m3 e6.
+    option_and_then_some _ (either_byte_at text 10 84 116) s e5 (λ u3 m3 e6.
     option_and_then_some _ (two_at text 11) s e6 (λ hour h e7.
-    option_and_then_some _ (mark_at text 13 58 58) s e7 (λ u4 m4 e8.
+    option_and_then_some _ (either_byte_at text 13 58 58) s e7 (λ u4 m4 e8.
     option_and_then_some _ (two_at text 14) s e8 (λ minute mi e9.
-    option_and_then_some _ (mark_at text 16 58 58) s e9 (λ u5 m5 e10.
+    option_and_then_some _ (either_byte_at text 16 58 58) s e9 (λ u5 m5 e10.
     option_and_then_some _ (two_at text 17) s e10 (λ second se e11.
     option_and_then_some _ (zone_of (after_fraction (drop 19 text))) s e11 (λ zone z e12.
     let made : Stamp = record { year = year; month = month; day = day; hour = hour; minute = minute; second = second; zone = zone } in
-    let P : Stamp → Type 0 = λ t. Writes text t in
+    let P : Stamp → Type 0 = λ t. WritesDate text t in
     subst P (same_Some made s e12) (writes_from_places text made (four_tells text 0 year y) (same_mark text 4 45 u1 m1) (two_tells _ _ month mo) (same_mark text 7 45 u2 m2) (two_tells _ _ day d) (mark_tells text 10 84 116 u3 m3) (two_tells _ _ hour h) (same_mark text 13 58 u4 m4) (two_tells _ _ minute mi) (same_mark text 16 58 u5 m5) (two_tells _ _ second se) (zone_tells _ zone z))))))))))))))

@@ -6,7 +6,7 @@ use Rattle.std.specs.Option.{option_and_then}
 use Rattle.keep_moment.specs.declared.stamp.Zone.{Zone}
 use Rattle.keep_moment.specs.declared.stamp.Zone.TheVariants.{Utc, Ahead, Behind}
 use Rattle.keep_moment.specs.Rfc3339.{IsZoneText, IsOffset}
-use Rattle.keep_moment.specs.MomentOf.{two_at, mark_at, signed, numeric_zone, zone_of}
+use Rattle.keep_moment.specs.MomentOf.{two_at, either_byte_at, signed, numeric_zone, zone_of}
 use Rattle.keep_moment.proofs.Pieces.{two_reads, two_tells, mark_tells, same_mark, IsBare}
 
 -- a zone as it is written is read
@@ -55,7 +55,7 @@ signed_tells sign hours minutes z e =
 numeric_tells : (text : List ℕ) (z : Zone) → length text ≡ 6 → numeric_zone text ≡ Some z → IsZoneText z text
 numeric_tells text z six e =
     option_and_then_some _ (two_at text 1) z e (λ hours h e1.
-    option_and_then_some _ (mark_at text 3 58 58) z e1 (λ colon c e2.
+    option_and_then_some _ (either_byte_at text 3 58 58) z e1 (λ colon c e2.
     option_and_then_some _ (two_at text 4) z e2 (λ minutes m e3.
     let a = two_tells (slice_index text 1) (slice_index text 2) hours h in
     let b = two_tells (slice_index text 4) (slice_index text 5) minutes m in
@@ -73,11 +73,11 @@ unfolding zone_of
 zone_tells text z e =
     elim (cases_Bool (length text == 1)) [
       | inl t ↦ let one = one_byte text (eqb-true (length text) 1 t) in
-          let utc = sym (cond-true (length text == 1) (option_and_then (λ u. Some Utc) (mark_at text 0 90 122)) (if◌then◌else◌ (length text == 6) (numeric_zone text) None) t) ∙ e in
-          option_and_then_some _ (mark_at text 0 90 122) z utc (λ u m is.
+          let utc = sym (cond-true (length text == 1) (option_and_then (λ u. Some Utc) (either_byte_at text 0 90 122)) (if◌then◌else◌ (length text == 6) (numeric_zone text) None) t) ∙ e in
+          option_and_then_some _ (either_byte_at text 0 90 122) z utc (λ u m is.
           let P : Zone → Type 0 = λ y. IsZoneText y text in
           subst P (same_Some Utc z is) (elim (mark_tells text 0 90 122 u m) [ inl k ↦ inl (one ∙ ap (λ (b : ℕ). b ∷ []) k) | inr k ↦ inr (one ∙ ap (λ (b : ℕ). b ∷ []) k) ]))
-      | inr f ↦ let rest = sym (cond-false (length text == 1) (option_and_then (λ u. Some Utc) (mark_at text 0 90 122)) (if◌then◌else◌ (length text == 6) (numeric_zone text) None) f) ∙ e in
+      | inr f ↦ let rest = sym (cond-false (length text == 1) (option_and_then (λ u. Some Utc) (either_byte_at text 0 90 122)) (if◌then◌else◌ (length text == 6) (numeric_zone text) None) f) ∙ e in
           elim (cases_Bool (length text == 6)) [
             | inl t ↦ numeric_tells text z (eqb-true (length text) 6 t) (sym (cond-true (length text == 6) (numeric_zone text) None t) ∙ rest)
             | inr g ↦ absurd (none-some z (sym (cond-false (length text == 6) (numeric_zone text) None g) ∙ rest))

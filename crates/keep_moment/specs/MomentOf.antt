@@ -32,8 +32,8 @@ four_at text place = do
   Some (100 * high + low)
 
 -- nothing, where one of these two bytes stands at this place
-abbrev pub mark_at : List ℕ → ℕ → ℕ → ℕ → Option (Unit {0})
-mark_at text place one other =
+abbrev pub either_byte_at : List ℕ → ℕ → ℕ → ℕ → Option (Unit {0})
+either_byte_at text place one other =
     if (slice_index text place == one) || (slice_index text place == other) then Some tt else None
 
 -- what follows the digits at the front
@@ -55,29 +55,29 @@ signed sign hours minutes =
 abbrev pub numeric_zone : List ℕ → Option Zone
 numeric_zone text = do
   hours ← two_at text 1
-  colon ← mark_at text 3 58 58
+  colon ← either_byte_at text 3 58 58
   minutes ← two_at text 4
   signed (slice_index text 0) hours minutes
 
 -- the zone that these bytes write, up to their end
 unfoldable pub zone_of : List ℕ → Option Zone
 zone_of text =
-    if length text == 1 then (mark_at text 0 90 122 >>= λ z. Some Utc)
+    if length text == 1 then (either_byte_at text 0 90 122 >>= λ z. Some Utc)
     else (if length text == 6 then numeric_zone text else None)
 
 -- the numbers that a text writes
 unfoldable pub stamp_of : List ℕ → Option Stamp
 stamp_of text = do
   year ← four_at text 0
-  dash ← mark_at text 4 45 45
+  dash ← either_byte_at text 4 45 45
   month ← two_at text 5
-  dash_2 ← mark_at text 7 45 45
+  dash_2 ← either_byte_at text 7 45 45
   day ← two_at text 8
-  between ← mark_at text 10 84 116
+  between ← either_byte_at text 10 84 116
   hour ← two_at text 11
-  colon ← mark_at text 13 58 58
+  colon ← either_byte_at text 13 58 58
   minute ← two_at text 14
-  colon_2 ← mark_at text 16 58 58
+  colon_2 ← either_byte_at text 16 58 58
   second ← two_at text 17
   zone ← zone_of (after_fraction (drop 19 text))
   Some (record { year = year; month = month; day = day; hour = hour; minute = minute; second = second; zone = zone })

@@ -10,17 +10,17 @@ use Rattle.keep_moment.specs.declared.stamp.Zone.{Zone}
 use Rattle.keep_moment.specs.declared.stamp.Zone.TheVariants.{Utc, Ahead, Behind}
 
 -- the two digits of a number below 100: 48 is `0`
-abbrev pub two : ℕ → List ℕ
-two n = (48 + n / 10) ∷ (48 + n % 10) ∷ []
+abbrev pub two_digits_of : ℕ → List ℕ
+two_digits_of n = (48 + n / 10) ∷ (48 + n % 10) ∷ []
 
 -- the four digits of a number below 10000
-abbrev pub four : ℕ → List ℕ
-four n = two (n / 100) ++ two (n % 100)
+abbrev pub four_digits_of : ℕ → List ℕ
+four_digits_of n = two_digits_of (n / 100) ++ two_digits_of (n % 100)
 
 -- the nineteen bytes `YYYY-MM-DDTHH:MM:SS` of a stamp, with this byte between date and time: 45 is `-`, 58 is `:`
 abbrev pub face : Stamp → ℕ → List ℕ
 face s between =
-    four s.year ++ 45 ∷ (two s.month ++ 45 ∷ (two s.day ++ between ∷ (two s.hour ++ 58 ∷ (two s.minute ++ 58 ∷ two s.second))))
+    four_digits_of s.year ++ 45 ∷ (two_digits_of s.month ++ 45 ∷ (two_digits_of s.day ++ between ∷ (two_digits_of s.hour ++ 58 ∷ (two_digits_of s.minute ++ 58 ∷ two_digits_of s.second))))
 
 -- a fraction of a second: nothing, or `.` and one digit or more
 abbrev pub IsFraction : List ℕ → Type 0
@@ -29,11 +29,11 @@ IsFraction text = (text ≡ []) ⊎ ((digits : List ℕ) × (0 < length digits) 
 -- the text of a zone: `Z` or `z`, or `+HH:MM`, or `-HH:MM`
 abbrev pub IsZoneText : Zone → List ℕ → Type 0
 IsZoneText Utc text = (text ≡ 90 ∷ []) ⊎ (text ≡ 122 ∷ [])
-IsZoneText (Ahead hours minutes) text = text ≡ 43 ∷ (two hours ++ 58 ∷ two minutes)
-IsZoneText (Behind hours minutes) text = text ≡ 45 ∷ (two hours ++ 58 ∷ two minutes)
+IsZoneText (Ahead hours minutes) text = text ≡ 43 ∷ (two_digits_of hours ++ 58 ∷ two_digits_of minutes)
+IsZoneText (Behind hours minutes) text = text ≡ 45 ∷ (two_digits_of hours ++ 58 ∷ two_digits_of minutes)
 
 -- the text writes these numbers: `T` or `t` stands between date and time
-pub record Writes (text : List ℕ) (s : Stamp) : Type 0 where
+pub record WritesDate (text : List ℕ) (s : Stamp) : Type 0 where
   pub between : ℕ
   pub fraction : List ℕ
   pub zone : List ℕ

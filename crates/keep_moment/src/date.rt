@@ -1,5 +1,5 @@
 ghost use Rattle.std.specs.Prelude.{◌≡◌, ◌≤◌, ◌↔◌, List, ℕ, pos, Ok, Err, IfOk, IfErr};
-ghost use Rattle.keep_moment.specs.Rfc3339.{IsDateTime, Writes, IsDateText, seconds_of};
+ghost use Rattle.keep_moment.specs.Rfc3339.{IsDateTime, WritesDate, IsDateText, seconds_of};
 ghost use Rattle.keep_moment.specs.MomentOf.{moment_of, in_range};
 ghost use Rattle.keep_moment.specs.declared.stamp.Stamp.{Stamp};
 
@@ -23,9 +23,9 @@ use std::alloc::Global;
 ///
 /// No memory is taken, and so `OutOfMemory` is never the answer.
 pub fn read_rfc3339(text: &str) -> Result<Moment, TimeFault>
-    ensures moment { IfOk result (λ m. (s : Stamp) × IsDateTime s × Writes text.now s × (seconds_of s ≡ pos m)) }
-    ensures only { (s : Stamp) → IsDateTime s → Writes text.now s → result ≡ in_range (seconds_of s) }
-    ensures bad { (result ≡ Err TimeFault.BadTime) ↔ ((s : Stamp) → IsDateTime s → Writes text.now s → ⊥) }
+    ensures moment { IfOk result (λ m. (s : Stamp) × IsDateTime s × WritesDate text.now s × (seconds_of s ≡ pos m)) }
+    ensures only { (s : Stamp) → IsDateTime s → WritesDate text.now s → result ≡ in_range (seconds_of s) }
+    ensures bad { (result ≡ Err TimeFault.BadTime) ↔ ((s : Stamp) → IsDateTime s → WritesDate text.now s → ⊥) }
     ensures never_memory { ¬ (result ≡ Err TimeFault.OutOfMemory) }
     ensures exact { result ≡ moment_of text.now }
 {

@@ -1,5 +1,5 @@
 ghost use Rattle.std.specs.Prelude.{◌≡◌, ◌≤◌, IfSome, slice_index, drop};
-ghost use Rattle.keep_moment.specs.MomentOf.{two_at, four_at, mark_at, after_digits, after_fraction};
+ghost use Rattle.keep_moment.specs.MomentOf.{two_at, four_at, either_byte_at, after_digits, after_fraction};
 
 /// The byte at a place, 0 past the end.
 pub fn byte_at(text: &[u8], at: usize) -> u8
@@ -36,7 +36,7 @@ pub fn four_digits(text: &[u8], at: usize) -> Option<u16>
 
 /// `None` unless one of two bytes stands at this place.
 pub fn mark(text: &[u8], at: usize, one: u8, other: u8) -> Option<()>
-    ensures { result ≡ mark_at text.now at one other }
+    ensures { result ≡ either_byte_at text.now at one other }
 {
     let found = byte_at(text, at);
     if found == one || found == other {

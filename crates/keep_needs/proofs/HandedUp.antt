@@ -12,7 +12,7 @@ use Rattle.keep_tree.proofs.Chains.{ParentsFirst, cases_Option, over_child, over
 use Rattle.keep_tree.proofs.Entries.{entry_at_past}
 use Rattle.keep_needs.specs.declared.load.Load.{Load}
 use Rattle.keep_needs.specs.Carried.{IsCarried, NamesFrom}
-use Rattle.keep_needs.specs.code.Loads.{AllOwn, IsAtMost, IsHandedUp, IsHeavier, need_after, nth, own_load, seen}
+use Rattle.keep_needs.specs.code.Loads.{AllOwn, IsAtMost, IsHandedUp, IsHeavier, need_after, nth, own_load, seen_load}
 use Rattle.keep_needs.proofs.Loads.{at_most_self, at_most_trans, load_seen, nth_set_other, nth_set_same}
 
 -- a need after s is the own load's; an own load above 0 is a need after s
@@ -169,11 +169,11 @@ names_from es s i (suc n) from same is =
     let above : (suc n == 0) ≡ false = grind (arith, nat_tests) in
     subst (λ none. NamesFrom es s i (cond none None (Some from))) (sym above) (omega arith, is (omega arith))
 
-pub handed_is_carried : (g : Forest) (s : ℕ) (loads : List Load) → ParentsFirst g.entries → IsHandedUp g.entries s 0 loads → IsCarried g s (map seen loads)
+pub handed_is_carried : (g : Forest) (s : ℕ) (loads : List Load) → ParentsFirst g.entries → IsHandedUp g.entries s 0 loads → IsCarried g s (map seen_load loads)
 handed_is_carried g s loads first up =
     let count = up.count in
     record {
-      count = length-map loads seen ∙ up.count;
+      count = length-map loads seen_load ∙ up.count;
       need = λ i within. ap (λ l. l.need) (load_seen loads i (omega arith)) ∙ need_is_carried g.entries s loads first up i within;
       from = λ i within. subst (λ l. NamesFrom g.entries s i l.from) (sym (load_seen loads i (omega arith)))
           (names_from g.entries s i (nth loads i).need (nth loads i).from (need_is_carried g.entries s loads first up i within) (is_from g.entries s loads first up i within));

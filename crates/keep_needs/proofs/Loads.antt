@@ -3,19 +3,19 @@ use Rattle.std.proofs.Common.{◌≡◌, ◌≢◌, ℕ, ◌<◌, List, get_or, 
 use Rattle.std.proofs.lemmas.List.{get_or_read, get_or-map, get_or-set_other, get_or-set_same, length-map}
 use Rattle.keep_needs.specs.declared.load.Load.{Load}
 use Rattle.keep_needs.specs.Carried.{CarriedNeed, load_at}
-use Rattle.keep_needs.specs.code.Loads.{IsAtMost, nth, seen}
+use Rattle.keep_needs.specs.code.Loads.{IsAtMost, nth, seen_load}
 
-pub load_seen : (loads : List Load) (i : ℕ) → i < length loads → load_at (map seen loads) i ≡ seen (nth loads i)
+pub load_seen : (loads : List Load) (i : ℕ) → i < length loads → load_at (map seen_load loads) i ≡ seen_load (nth loads i)
 unfolding load_at nth
-load_seen loads i within = get_or-map seen loads i _ _ within
+load_seen loads i within = get_or-map seen_load loads i _ _ within
 
 -- what `loads[i]` gives is what callers see at i
-pub seen_read : (loads : List Load) (shown : List CarriedNeed) (i : ℕ) (l : Load) → map seen loads ≡ shown → i < length shown → l ≡ get_or loads i l → seen l ≡ load_at shown i
+pub seen_read : (loads : List Load) (shown : List CarriedNeed) (i : ℕ) (l : Load) → map seen_load loads ≡ shown → i < length shown → l ≡ get_or loads i l → seen_load l ≡ load_at shown i
 unfolding nth
 seen_read loads shown i l same within read =
-    let count : length (map seen loads) ≡ length loads = length-map loads seen in
+    let count : length (map seen_load loads) ≡ length loads = length-map loads seen_load in
     let there : i < length loads = subst (λ k. i < k) (sym (ap length same) ∙ count) within in
-    ap seen (get_or_read loads i l there read _) ∙ sym (load_seen loads i there) ∙ ap (λ ns. load_at ns i) same
+    ap seen_load (get_or_read loads i l there read _) ∙ sym (load_seen loads i there) ∙ ap (λ ns. load_at ns i) same
 
 pub nth_set_same : (loads : List Load) (i : ℕ) (l : Load) → i < length loads → nth (set loads i l) i ≡ l
 unfolding nth

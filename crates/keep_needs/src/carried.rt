@@ -19,11 +19,11 @@ pub struct Carried {
 impl Model for Carried {
     ghost use Rattle.std.specs.Prelude.{List, map};
     ghost use Rattle.keep_needs.specs.Carried.{CarriedNeed};
-    ghost use Rattle.keep_needs.specs.code.Loads.{seen};
+    ghost use Rattle.keep_needs.specs.code.Loads.{seen_load};
 
     ghost Value = { List CarriedNeed };
 
-    ghost view = { λ c. map seen c.loads.items };
+    ghost view = { λ c. map seen_load c.loads.items };
 }
 
 impl Carried {

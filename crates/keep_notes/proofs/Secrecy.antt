@@ -7,7 +7,7 @@ use Rattle.keep_change.specs.declared.fault.ChangeFault.{ChangeFault}
 use Rattle.keep_change.specs.declared.replaying.Why.{Why}
 use Rattle.keep_change.specs.declared.replaying.Why.TheVariants.{FileWins, Refused}
 use Rattle.keep_notes.specs.Laws.{IsSameBut}
-use Rattle.keep_notes.specs.Lines.{change_word, note_line, over_words, reason_text, step_words, twice_words, why_text}
+use Rattle.keep_notes.specs.Lines.{change_fault_text, change_word, note_line, over_words, reason_text, step_words, twice_words}
 
 -- the words that are said of the two are the same: the token over it, the step, a credential that is there twice, and the change
 keys_same : (w v : What) → IsSameBut w v → (over_words w ≡ over_words v) × (step_words w ≡ step_words v) × (twice_words w ≡ twice_words v) × (change_word w ≡ change_word v)
@@ -28,7 +28,7 @@ keys_same what.Drop (what.Replace other) h = elim h [ ]
 keys_same what.Drop (what.Add other) h = elim h [ ]
 keys_same what.Drop what.Drop h = (refl, refl, refl, refl)
 
-pub why_shows_none : (margin : ℕ) (name : List ℕ) (w v : What) (fault : ChangeFault) → IsSameBut w v → why_text margin name w fault ≡ why_text margin name v fault
+pub why_shows_none : (margin : ℕ) (name : List ℕ) (w v : What) (fault : ChangeFault) → IsSameBut w v → change_fault_text margin name w fault ≡ change_fault_text margin name v fault
 why_shows_none margin name w v fault h =
     let same = keys_same w v h in
     rw same.0 (rw same.1 (rw same.2 refl))

@@ -5,7 +5,7 @@ use Rattle.keep_change.specs.declared.change.What.{What}
 use Rattle.keep_change.specs.declared.change.What.TheVariants as what
 use Rattle.keep_change.specs.declared.fault.ChangeFault.{ChangeFault}
 use Rattle.keep_change.specs.declared.replaying.Why.{Why}
-use Rattle.keep_notes.specs.Lines.{note_line, why_text}
+use Rattle.keep_notes.specs.Lines.{change_fault_text, note_line}
 
 -- the two make the same of an entry, but for its credential
 abbrev pub IsSameBut : What → What → Type 0
@@ -17,7 +17,7 @@ IsSameBut w v = ⊥
 
 -- why a change cannot be made is the same whatever its credential
 abbrev pub WhyShowsNone : Type 0
-WhyShowsNone = (margin : ℕ) (name : List ℕ) (w v : What) (fault : ChangeFault) → IsSameBut w v → why_text margin name w fault ≡ why_text margin name v fault
+WhyShowsNone = (margin : ℕ) (name : List ℕ) (w v : What) (fault : ChangeFault) → IsSameBut w v → change_fault_text margin name w fault ≡ change_fault_text margin name v fault
 
 -- and so is the line about one of a journal, whatever the file said when it was made
 abbrev pub NoteShowsNone : Type 0

@@ -41,8 +41,8 @@ why_by margin name over step twice InFile = name ++ codes " has its credential i
 why_by margin name over step twice HasUnder = name ++ codes " has entries under it: drop them first"
 why_by margin name over step twice OutOfMemory = codes "out of memory"
 
-abbrev pub why_text : ℕ → List ℕ → What → ChangeFault → List ℕ
-why_text margin name w fault = why_by margin name (over_words w) (step_words w) (twice_words w) fault
+abbrev pub change_fault_text : ℕ → List ℕ → What → ChangeFault → List ℕ
+change_fault_text margin name w fault = why_by margin name (over_words w) (step_words w) (twice_words w) fault
 
 abbrev pub change_word : What → List ℕ
 change_word (what.Need until) = codes "need "
@@ -52,7 +52,7 @@ change_word what.Drop = codes "drop "
 
 abbrev pub reason_text : ℕ → Change → Why → List ℕ
 reason_text margin c FileWins = codes "the file has changed since, and wins"
-reason_text margin c (Refused fault) = why_text margin c.name c.what fault
+reason_text margin c (Refused fault) = change_fault_text margin c.name c.what fault
 
 -- the line about a change of a journal that was not made again
 unfoldable pub note_line : ℕ → Change → Why → List ℕ

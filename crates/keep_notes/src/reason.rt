@@ -1,6 +1,6 @@
 ghost use Rattle.std.specs.Prelude.{◌≡◌, ◌++◌, IfOk, OnOk};
 ghost use Rattle.keep_tree.specs.Push.{is_lease};
-ghost use Rattle.keep_notes.specs.Lines.{margin_text, over_words, step_words, twice_words, why_text};
+ghost use Rattle.keep_notes.specs.Lines.{change_fault_text, margin_text, over_words, step_words, twice_words};
 
 use keep_change::{ChangeFault, Row, What};
 use keep_moment::Text;
@@ -17,7 +17,7 @@ pub fn why(
     what: &What,
     fault: ChangeFault,
 ) -> Result<Text, AllocError>
-    ensures { IfOk result (λ text. text ≡ why_text margin name.now what.now fault) }
+    ensures { IfOk result (λ text. text ≡ change_fault_text margin name.now what.now fault) }
 {
     let mut text = Vec::new(alloc);
     push_why(alloc, margin, name, what, fault, &mut text)?;
@@ -33,7 +33,7 @@ pub(crate) fn push_why(
     fault: ChangeFault,
     text: &mut Vec<u8>,
 ) -> Result<(), AllocError>
-    ensures { OnOk result (text.new.items ≡ text.old.items ++ why_text margin name.now what.now fault) }
+    ensures { OnOk result (text.new.items ≡ text.old.items ++ change_fault_text margin name.now what.now fault) }
 {
     let over = over_words(what);
     match fault {

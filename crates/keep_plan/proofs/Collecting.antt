@@ -6,7 +6,7 @@ use Rattle.keep_rule.specs.declared.run.Run.{Run}
 use Rattle.keep_rule.specs.Runs.{AreRuns, IsRun, all_wakes, wakes}
 use Rattle.keep_schedule.specs.Given.{IsFirstRun}
 use Rattle.keep_rule.specs.declared.limit.TheConstants.{LIMIT}
-use Rattle.keep_plan.specs.code.Collecting.{AreLongestBefore, IsOverlong, IsTaken, IsWhole}
+use Rattle.keep_plan.specs.code.Collecting.{AreLongestBefore, ListIsOverlong, RunsAreTaken, RunsAreWhole}
 use Rattle.keep_plan.specs.Decides.{AreLongest}
 use Rattle.keep_plan.proofs.Walking.{length_wakes_of}
 
@@ -37,7 +37,7 @@ longest_alone : (rs : List Run) → AreLongestBefore rs [] → AreLongest rs
 longest_alone [] before = tt
 longest_alone (r ∷ rs) before = (λ other rest e. before.0 other rest (append-nil (all_wakes (r ∷ rs)) ∙ e), longest_alone rs before.1)
 
-pub none_taken : (comes : List Force → Type 0) (most : ℕ) → IsTaken comes comes most most [] (LIMIT + 1)
+pub none_taken : (comes : List Force → Type 0) (most : ℕ) → RunsAreTaken comes comes most most [] (LIMIT + 1)
 none_taken comes most = record {
   runs = tt;
   some = omega arith;
@@ -50,8 +50,8 @@ none_taken comes most = record {
 
 -- one run more
 pub one_more :
-    (old mid new : List Force → Type 0) (old_most mid_most new_most : ℕ) (taken : List Run) (room : ℕ) (r : Run) → IsTaken old mid old_most mid_most taken room → IsFirstRun mid new room r → r.count < room → new_most < mid_most →
-    IsTaken old new old_most new_most (taken ++ r ∷ []) (room - r.count)
+    (old mid new : List Force → Type 0) (old_most mid_most new_most : ℕ) (taken : List Run) (room : ℕ) (r : Run) → RunsAreTaken old mid old_most mid_most taken room → IsFirstRun mid new room r → r.count < room → new_most < mid_most →
+    RunsAreTaken old new old_most new_most (taken ++ r ∷ []) (room - r.count)
 one_more old mid new old_most mid_most new_most taken room r so_far first more fewer =
     let is : IsRun r = first.run in
     let in_all = so_far.filled in
@@ -77,7 +77,7 @@ one_more old mid new old_most mid_most new_most taken room r so_far first more f
     }
 
 -- all are taken
-pub whole : (old mid : List Force → Type 0) (old_most mid_most : ℕ) (taken : List Run) (room : ℕ) → IsTaken old mid old_most mid_most taken room → mid [] → IsWhole old old_most taken
+pub whole : (old mid : List Force → Type 0) (old_most mid_most : ℕ) (taken : List Run) (room : ℕ) → RunsAreTaken old mid old_most mid_most taken room → mid [] → RunsAreWhole old old_most taken
 whole old mid old_most mid_most taken room so_far none =
     let some = so_far.some in
     let in_all = so_far.filled in
@@ -91,7 +91,7 @@ whole old mid old_most mid_most taken room so_far none =
     }
 
 -- there is no room for the next run
-pub overlong : (old mid new : List Force → Type 0) (old_most mid_most : ℕ) (taken : List Run) (room : ℕ) (r : Run) → IsTaken old mid old_most mid_most taken room → IsFirstRun mid new room r → r.count ≡ room → IsOverlong old
+pub overlong : (old mid new : List Force → Type 0) (old_most mid_most : ℕ) (taken : List Run) (room : ℕ) (r : Run) → RunsAreTaken old mid old_most mid_most taken room → IsFirstRun mid new room r → r.count ≡ room → ListIsOverlong old
 overlong old mid new old_most mid_most taken room r so_far first full xs h =
     let a = so_far.splits xs h in
     let b = first.splits a.0 a.1.1 in

@@ -17,8 +17,8 @@ use Rattle.keep_rule.specs.Runs.{all_wakes, moments_of}
 use Rattle.keep_schedule.specs.Forces.{AreForces}
 use Rattle.keep_schedule.proofs.Bridge.{forces_schedule}
 use Rattle.keep_schedule.proofs.Forces.{forces_are_best}
-use Rattle.keep_plan.specs.code.Collecting.{IsOverlong, IsWhole}
-use Rattle.keep_plan.specs.Decides.{AreBest, IsTooLong, NoneKeeps, SomeKeeps}
+use Rattle.keep_plan.specs.code.Collecting.{ListIsOverlong, RunsAreWhole}
+use Rattle.keep_plan.specs.Decides.{AreBest, NoneKeeps, PlanIsTooLong, SomeKeeps}
 
 pub none_keeps : (g : Forest) (s i f : ℕ) → Unkeepable g.entries g.margin s (end_of g.entries) i f → NoneKeeps g s
 none_keeps g s i f pair = λ plan in_order keeps. unkeepable g.entries g.margin s (end_of g.entries) i f pair plan in_order keeps
@@ -35,7 +35,7 @@ length_moments (x ∷ xs) = ap (λ k. suc k) (length_moments xs)
 
 pub best_of :
     (g : Forest) (s : ℕ) → IsForest g → AllKeepable g s (end_of g.entries) → (comes : List Force → Type 0) → ((xs : List Force) → comes xs → AreForces g.entries g.margin s (end_of g.entries) None xs) →
-    (most : ℕ) → most ≤ 2 * length g.entries - 1 → (rs : List Run) → IsWhole comes most rs → AreBest g s rs
+    (most : ℕ) → most ≤ 2 * length g.entries - 1 → (rs : List Run) → RunsAreWhole comes most rs → AreBest g s rs
 best_of g s forest keepable comes tells most few rs whole =
     let es = g.entries in
     let forces = tells (all_wakes rs) whole.all in
@@ -55,7 +55,7 @@ best_of g s forest keepable comes tells most few rs whole =
 
 pub too_long :
     (g : Forest) (s : ℕ) → IsForest g → AllKeepable g s (end_of g.entries) → (comes : List Force → Type 0) → ((xs : List Force) → AreForces g.entries g.margin s (end_of g.entries) None xs → comes xs) →
-    IsOverlong comes → IsTooLong g s
+    ListIsOverlong comes → PlanIsTooLong g s
 too_long g s forest keepable comes tells over =
     let es = g.entries in
     let found = forces_are_best g s forest keepable in

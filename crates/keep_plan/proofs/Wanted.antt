@@ -10,7 +10,7 @@ use Rattle.keep_tree.specs.Forest.{Forest, end_of, entry_at}
 use Rattle.keep_tree.specs.Over.{chain}
 use Rattle.keep_tree.specs.Renewal.{all_last, is_granted, renewal, renewed}
 use Rattle.keep_tree.proofs.Ranges.{range_more}
-use Rattle.keep_rule.specs.Asks.{asks, is_due, is_wanted}
+use Rattle.keep_rule.specs.Asks.{asks, is_end_due, is_to_be_asked}
 use Rattle.keep_needs.specs.Carried.{CarriedNeed, IsCarried}
 use Rattle.keep_plan.specs.code.Wanted.{is_test, waits_until}
 
@@ -66,25 +66,25 @@ three_of_five false b c true e follow = absurd (let no = (follow refl).0 in cc)
 three_of_five true false c true e follow = absurd (let no = (follow refl).1 in cc)
 
 -- an end that comes before that is due
-due_until : (margin end : ℕ) (next o : Option ℕ) → o ≡ waits_until margin next → is_due 0 o end ≡ is_due margin next end
-due_until margin end None o is = ap (λ p. is_due 0 p end) is
-due_until margin end (Some next) o is = ap (λ p. is_due 0 p end) is ∙ ap (λ m. nat_lt end m) (let e : next + margin + 0 ≡ next + margin = omega arith in e)
+due_until : (margin end : ℕ) (next o : Option ℕ) → o ≡ waits_until margin next → is_end_due 0 o end ≡ is_end_due margin next end
+due_until margin end None o is = ap (λ p. is_end_due 0 p end) is
+due_until margin end (Some next) o is = ap (λ p. is_end_due 0 p end) is ∙ ap (λ m. nat_lt end m) (let e : next + margin + 0 ≡ next + margin = omega arith in e)
 
 pub test_is :
     (g : Forest) → 0 < g.margin → (s at : ℕ) (next until : Option ℕ) (loads : List CarriedNeed) (i : ℕ) → i < length g.entries → IsCarried g s loads →
-    until ≡ waits_until g.margin next → is_test g loads at until i ≡ is_wanted g.entries g.margin s (end_of g.entries) at next i
-unfolding is_wanted
+    until ≡ waits_until g.margin next → is_test g loads at until i ≡ is_to_be_asked g.entries g.margin s (end_of g.entries) at next i
+unfolding is_to_be_asked
 test_is g above s at next until loads i within is waits =
     let es = g.entries in
     let gains = nat_lt (end_of es i) (renewed es g.margin (end_of es) at i) in
-    ap (λ n. nat_lt (end_of es i) n && (is_due 0 until (end_of es i) && gains)) (is.need i within)
+    ap (λ n. nat_lt (end_of es i) n && (is_end_due 0 until (end_of es i) && gains)) (is.need i within)
     ∙ ap (λ d. nat_lt (end_of es i) (carried es s i) && (d && gains)) (due_until g.margin (end_of es i) next until waits)
-    ∙ sym (three_of_five (entry_at es i).renewable (all_last es (end_of es) (at + 1) i) (nat_lt (end_of es i) (carried es s i)) gains (is_due g.margin next (end_of es i)) (gaining es g.margin at i above))
+    ∙ sym (three_of_five (entry_at es i).renewable (all_last es (end_of es) (at + 1) i) (nat_lt (end_of es i) (carried es s i)) gains (is_end_due g.margin next (end_of es i)) (gaining es g.margin at i above))
 
 pub asked_more : (p : ℕ → Bool) (n : ℕ) → filter p (range_with_len 0 (n + 1)) ≡ filter p (range_with_len 0 n) ++ cond (p n) (n ∷ []) []
 asked_more p n =
     ap (filter p) (range_more 0 n n (omega arith)) ∙ filter-append p (range_with_len 0 n) (n ∷ [])
 
-pub asks_of : (es : List Entry) (margin s at : ℕ) (next : Option ℕ) (n : ℕ) → n ≡ length es → filter (is_wanted es margin s (end_of es) at next) (range_with_len 0 n) ≡ asks es margin s (end_of es) at next
+pub asks_of : (es : List Entry) (margin s at : ℕ) (next : Option ℕ) (n : ℕ) → n ≡ length es → filter (is_to_be_asked es margin s (end_of es) at next) (range_with_len 0 n) ≡ asks es margin s (end_of es) at next
 unfolding asks
-asks_of es margin s at next n count = ap (λ k. filter (is_wanted es margin s (end_of es) at next) (range_with_len 0 k)) count
+asks_of es margin s at next n count = ap (λ k. filter (is_to_be_asked es margin s (end_of es) at next) (range_with_len 0 k)) count

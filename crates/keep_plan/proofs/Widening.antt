@@ -9,8 +9,8 @@ use Rattle.keep_tree.proofs.Margins.{forest_with, less_allowed}
 use Rattle.keep_rule.specs.declared.limit.TheConstants.{LIMIT}
 use Rattle.keep_rule.proofs.Margin.{margin}
 use Rattle.keep_plan.specs.declared.widest.Widest.{Widest}
-use Rattle.keep_plan.specs.code.Widening.{IsBetween}
-use Rattle.keep_plan.specs.Decides.{IsKept, IsTooLong, NoneKeeps}
+use Rattle.keep_plan.specs.code.Widening.{WidestIsBetween}
+use Rattle.keep_plan.specs.Decides.{IsBestPlan, NoneKeeps, PlanIsTooLong}
 use Rattle.keep_plan.specs.Planned.{Planned, to_come}
 use Rattle.keep_plan.specs.Widest.{IsEnough, IsFewest, KeepsWithin}
 use Rattle.keep_plan.proofs.Deciding.{length_moments}
@@ -18,7 +18,7 @@ use Rattle.keep_plan.proofs.Deciding.{length_moments}
 -- ---- what a decision says
 
 -- a kept decision has the fewest wake-ups
-pub kept_fewest : (g : Forest) (s : ℕ) (p : Planned) → IsKept g s p → IsFewest g s (length (to_come p))
+pub kept_fewest : (g : Forest) (s : ℕ) (p : Planned) → IsBestPlan g s p → IsFewest g s (length (to_come p))
 kept_fewest g s p kept =
     let best = kept.best.least in
     let same = length_moments (to_come p) in
@@ -38,7 +38,7 @@ not_within g s most n fewest many within =
 pub none_within : (g : Forest) (s most : ℕ) → NoneKeeps g s → KeepsWithin g s most → ⊥
 none_within g s most none within = none within.0 within.1.0 within.1.1.0
 
-pub too_long_within : (g : Forest) (s most : ℕ) → most ≤ LIMIT → IsTooLong g s → KeepsWithin g s most → ⊥
+pub too_long_within : (g : Forest) (s most : ℕ) → most ≤ LIMIT → PlanIsTooLong g s → KeepsWithin g s most → ⊥
 too_long_within g s most few long within =
     let more = long.long within.0 within.1.0 within.1.1.0 in
     let less = within.1.1.1 in
@@ -52,7 +52,7 @@ fewest_within g s most n fewest few =
     (some.0, (some.1.0, (some.1.1.0, omega (arith, l, few))))
 
 -- what is told of a plan's number of wake-ups
-pub told_fewest : (g : Forest) (s most n : ℕ) (p : Planned) (found : Option ℕ) → IsKept g s p → n ≡ length (to_come p) → MatchOption found (most < n) (λ k. (k ≡ n) × (k ≤ most)) →
+pub told_fewest : (g : Forest) (s most n : ℕ) (p : Planned) (found : Option ℕ) → IsBestPlan g s p → n ≡ length (to_come p) → MatchOption found (most < n) (λ k. (k ≡ n) × (k ≤ most)) →
     MatchOption found (KeepsWithin g s most → ⊥) (λ k. (k ≤ most) × IsFewest g s k)
 told_fewest g s most n p None kept count many = not_within g s most n (subst (IsFewest g s) (sym count) (kept_fewest g s p kept)) many
 told_fewest g s most n p (Some k) kept count is = (is.1, subst (IsFewest g s) (sym (is.0 ∙ count)) (kept_fewest g s p kept))
@@ -71,7 +71,7 @@ enough_less g forest s most more less above small enough =
 abbrev nothing : Widest
 nothing = record { margin = 0; wakes = 0 }
 
-pub between_first : (g : Forest) (s most high : ℕ) → IsMostMargin g.entries high → IsBetween g s most nothing high
+pub between_first : (g : Forest) (s most high : ℕ) → IsMostMargin g.entries high → WidestIsBetween g s most nothing high
 between_first g s most high greatest =
     record {
       ordered = omega arith;
@@ -81,11 +81,11 @@ between_first g s most high greatest =
       none_over = λ margin enough. greatest.most margin enough.allowed;
     }
 
-pub between_allows : (g : Forest) (s most : ℕ) (low : Widest) (high middle : ℕ) → IsBetween g s most low high → 0 < middle → middle ≤ high → IsMargin g.entries middle
+pub between_allows : (g : Forest) (s most : ℕ) (low : Widest) (high middle : ℕ) → WidestIsBetween g s most low high → 0 < middle → middle ≤ high → IsMargin g.entries middle
 between_allows g s most low high middle between above small = less_allowed g.entries high middle above small (between.allowed (omega arith))
 
-pub between_up : (g : Forest) (s most : ℕ) (low : Widest) (high middle wakes : ℕ) → IsBetween g s most low high → 0 < middle → middle ≤ high → wakes ≤ most
-    → IsFewest (record g { margin = middle }) s wakes → IsBetween g s most (record { margin = middle; wakes = wakes }) high
+pub between_up : (g : Forest) (s most : ℕ) (low : Widest) (high middle wakes : ℕ) → WidestIsBetween g s most low high → 0 < middle → middle ≤ high → wakes ≤ most
+    → IsFewest (record g { margin = middle }) s wakes → WidestIsBetween g s most (record { margin = middle; wakes = wakes }) high
 between_up g s most low high middle wakes between above small few fewest =
     record {
       ordered = small;
@@ -96,8 +96,8 @@ between_up g s most low high middle wakes between above small few fewest =
     }
 
 pub between_down :
-    (g : Forest) → IsForest g → (s most : ℕ) (low : Widest) (high middle : ℕ) → IsBetween g s most low high → low.margin < middle → middle ≤ high →
-    (KeepsWithin (record g { margin = middle }) s most → ⊥) → IsBetween g s most low (middle - 1)
+    (g : Forest) → IsForest g → (s most : ℕ) (low : Widest) (high middle : ℕ) → WidestIsBetween g s most low high → low.margin < middle → middle ≤ high →
+    (KeepsWithin (record g { margin = middle }) s most → ⊥) → WidestIsBetween g s most low (middle - 1)
 between_down g forest s most low high middle between above small none =
     record {
       ordered = omega arith;

@@ -38,7 +38,7 @@ pub record AreBest (g : Forest) (s : ℕ) (rs : List Run) : Type 0 where
   pub few_runs : length rs ≤ 2 * length g.entries - 1
 
 -- a plan by the forest's needs from s on
-pub record IsKept (g : Forest) (s : ℕ) (p : Planned) : Type 0 where
+pub record IsBestPlan (g : Forest) (s : ℕ) (p : Planned) : Type 0 where
   pub start : p.start ≡ s
   pub carried : IsCarried g p.start p.carried
   pub best : AreBest g s p.runs
@@ -52,11 +52,11 @@ abbrev pub NoneKeeps : Forest → ℕ → Type 0
 NoneKeeps g s = (plan : List Wake) → IsPlan s plan → Keeps g.entries g.margin s (end_of g.entries) plan → ⊥
 
 -- some plan keeps, and each that does has more than LIMIT wake-ups
-pub record IsTooLong (g : Forest) (s : ℕ) : Type 0 where
+pub record PlanIsTooLong (g : Forest) (s : ℕ) : Type 0 where
   pub some : SomeKeeps g s
   pub long : (plan : List Wake) → IsPlan s plan → Keeps g.entries g.margin s (end_of g.entries) plan → LIMIT < length plan
 
 abbrev pub Decides : Forest → ℕ → Decision → Type 0
-Decides g s (Keep p) = IsKept g s p
+Decides g s (Keep p) = IsBestPlan g s p
 Decides g s (Unkeepable entry needed) = IsShortfall g s entry needed × NoneKeeps g s
-Decides g s TooLong = IsTooLong g s
+Decides g s TooLong = PlanIsTooLong g s

@@ -1,7 +1,7 @@
 ghost use Rattle.std.specs.Prelude.{◌≡◌, ℕ, ◌<◌, length, nat_lt, IfOk};
 ghost use Rattle.keep_tree.specs.Forest.{end_of};
 ghost use Rattle.keep_tree.specs.Renewal.{renewed};
-ghost use Rattle.keep_rule.specs.Asks.{asks, is_due};
+ghost use Rattle.keep_rule.specs.Asks.{asks, is_end_due};
 ghost use Rattle.keep_needs.specs.Carried.{IsCarried, load_at};
 ghost use Rattle.keep_plan.specs.code.Wanted.{is_test, waits_until};
 
@@ -78,7 +78,7 @@ fn gains(forest: &Forest, index: u32, at: Moment) -> bool
 #[tactic(auto, unfolding(keep_tree::specs::Forest::end_of))]
 fn is_before(forest: &Forest, index: u32, until: Option<u64>) -> bool
     requires { index < length forest.now.entries }
-    ensures { result ≡ is_due 0 until (end_of forest.now.entries index) }
+    ensures { result ≡ is_end_due 0 until (end_of forest.now.entries index) }
 {
     match until {
         None => true,

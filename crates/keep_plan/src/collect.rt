@@ -1,6 +1,6 @@
 ghost use Rattle.std.specs.Prelude.{IfOk, MatchOption};
 ghost use Rattle.keep_schedule.specs.Courses.{IsToCome};
-ghost use Rattle.keep_plan.specs.code.Collecting.{IsOverlong, IsWhole};
+ghost use Rattle.keep_plan.specs.code.Collecting.{ListIsOverlong, RunsAreWhole};
 
 use keep_schedule::{LIMIT, QueueSchedule, Run};
 use std::alloc::{AllocError, Global};
@@ -10,7 +10,7 @@ pub(crate) fn collect(
     alloc: Global,
     schedule: &mut QueueSchedule,
 ) -> Result<Option<Vec<Run>>, AllocError>
-    ensures { IfOk result (λ runs. MatchOption runs (IsOverlong (IsToCome schedule.old.course)) (λ v. IsWhole (IsToCome schedule.old.course) schedule.old.runs v.items)) }
+    ensures { IfOk result (λ runs. MatchOption runs (ListIsOverlong (IsToCome schedule.old.course)) (λ v. RunsAreWhole (IsToCome schedule.old.course) schedule.old.runs v.items)) }
 {
     let mut runs = Vec::new(alloc);
     let mut room = LIMIT + 1;

@@ -2,7 +2,7 @@ ghost use Rattle.std.specs.Prelude.{IfOk, MatchOption};
 ghost use Rattle.keep_tree.specs.Forest.{end_of};
 ghost use Rattle.keep_rule.specs.Unkeepable.{AllKeepable};
 ghost use Rattle.keep_needs.specs.Carried.{IsCarried};
-ghost use Rattle.keep_plan.specs.Decides.{AreBest, Decides, IsTooLong};
+ghost use Rattle.keep_plan.specs.Decides.{AreBest, Decides, PlanIsTooLong};
 
 use crate::collect::collect;
 use crate::decision::Decision;
@@ -46,7 +46,7 @@ fn best_runs(
 ) -> Result<Option<Vec<Run>>, PlanFault>
     requires carried { IsCarried forest.now start carried.now }
     requires keepable { AllKeepable forest.now start (end_of forest.now.entries) }
-    ensures { IfOk result (λ runs. MatchOption runs (IsTooLong forest.now start) (λ v. AreBest forest.now start v.items)) }
+    ensures { IfOk result (λ runs. MatchOption runs (PlanIsTooLong forest.now start) (λ v. AreBest forest.now start v.items)) }
 {
     // Its contract says that the forest is one, which the proof needs here.
     let _entries = forest.len();

@@ -1,6 +1,6 @@
 ghost use Rattle.std.specs.Prelude.{◌≡◌, ◌<◌, ◌≤◌, IfOk, MatchOption};
 ghost use Rattle.keep_plan.specs.Widest.{IsFewest, IsWidest, KeepsWithin, NoneIsEnough};
-ghost use Rattle.keep_plan.specs.code.Widening.{IsBetween};
+ghost use Rattle.keep_plan.specs.code.Widening.{WidestIsBetween};
 
 use crate::decision::Decision;
 use crate::fault::PlanFault;
@@ -52,7 +52,7 @@ fn bisect(
     most_wakes: u64,
 ) -> Result<Widest, PlanFault>
     requires { most_wakes ≤ LIMIT }
-    ensures value { IfOk result (λ low. IsBetween forest.old start most_wakes low low.margin) }
+    ensures value { IfOk result (λ low. WidestIsBetween forest.old start most_wakes low low.margin) }
     ensures entries { forest.new.entries ≡ forest.old.entries }
 {
     let mut low = Widest {

@@ -12,7 +12,7 @@ use Rattle.keep_device.specs.declared.fault.SinkFault.{SinkFault}
 use Rattle.keep_device.specs.declared.fault.SinkFault.TheVariants as sink
 use Rattle.keep_report.specs.declared.stop.Stop.{Stop}
 use Rattle.keep_report.specs.Exits.{stop_of_sink}
-use Rattle.keep_report.specs.Sent.{Sends}
+use Rattle.keep_report.specs.Sent.{SendsText}
 use Rattle.keep_report.proofs.Counting.{failed_once}
 
 -- all of it went out, and then the flush failed
@@ -21,8 +21,8 @@ whole_front old mid new text whole kept = (length text, subst (Appends old new) 
 
 pub unsent : (answer : Result (Unit {0}) Stop) (fault : SinkFault) (text : List ℕ) (out : Change) (between : ℕ) → IsErr answer × IsErrAnd answer (λ stop. stop ≡ stop_of_sink fault) →
     AppendsFront out.old.output.written out.new.output.written text → between ≡ out.old.failed_calls → Counts {X = Unit {0}} (Err fault) between out.new.failed_calls →
-    (IsErrOf {T = Unit {0}} {E = SinkFault} (Err fault) sink.OutOfMemory → IsTrue out.is_in_memory) → Sends answer text out
+    (IsErrOf {T = Unit {0}} {E = SinkFault} (Err fault) sink.OutOfMemory → IsTrue out.is_in_memory) → SendsText answer text out
 unsent (Ok u) fault text out between is front kept count memory = absurd (let no = is.0 in cc)
 unsent (Err stop) sink.Failed text out between is front kept count memory =
-    subst (λ (s : Stop). Sends (Err s) text out) (sym is.1) (failed_once out.old.failed_calls out.new.failed_calls (count ∙ ap one_more kept), front)
-unsent (Err stop) sink.OutOfMemory text out between is front kept count memory = subst (λ (s : Stop). Sends (Err s) text out) (sym is.1) (memory refl, front)
+    subst (λ (s : Stop). SendsText (Err s) text out) (sym is.1) (failed_once out.old.failed_calls out.new.failed_calls (count ∙ ap one_more kept), front)
+unsent (Err stop) sink.OutOfMemory text out between is front kept count memory = subst (λ (s : Stop). SendsText (Err s) text out) (sym is.1) (memory refl, front)

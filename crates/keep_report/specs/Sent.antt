@@ -20,11 +20,11 @@ abbrev pub GaveUp : Change → Type 0
 GaveUp out = HasFailed out.old.failed_calls out.new.failed_calls ⊎ IsTrue out.is_in_memory
 
 -- a text that was sent whole, or why only a front of it was
-abbrev pub Sends : Result (Unit {0}) Stop → List ℕ → Change → Type 0
-Sends (Ok u) text out = IsAll text out
-Sends (Err stops.Write) text out = HasFailed out.old.failed_calls out.new.failed_calls × ReceivesFront text out
-Sends (Err stops.Memory) text out = IsTrue out.is_in_memory × ReceivesFront text out
-Sends (Err stop) text out = ⊥
+abbrev pub SendsText : Result (Unit {0}) Stop → List ℕ → Change → Type 0
+SendsText (Ok u) text out = IsAll text out
+SendsText (Err stops.Write) text out = HasFailed out.old.failed_calls out.new.failed_calls × ReceivesFront text out
+SendsText (Err stops.Memory) text out = IsTrue out.is_in_memory × ReceivesFront text out
+SendsText (Err stop) text out = ⊥
 
 -- a piece that was written whole, or why only a front of it was
 abbrev pub Puts : Result (Unit {0}) SinkFault → List ℕ → Change → Type 0

@@ -1,5 +1,5 @@
 ghost use Rattle.std.specs.Prelude.{◌≡◌, OnOk};
-ghost use Rattle.keep_report.specs.Sent.{Sends};
+ghost use Rattle.keep_report.specs.Sent.{SendsText};
 
 use crate::stop::Stop;
 use keep_device::{Sink, Watched, write_all};
@@ -7,7 +7,7 @@ use keep_device::{Sink, Watched, write_all};
 /// Writes a whole text and flushes. `Write`, where the writer failed, and `Memory`, which one in memory alone answers, say
 /// that a front of the text went out, or all of it without the flush.
 pub fn send<W: Sink>(out: &mut W, text: &[u8]) -> Result<(), Stop>
-    ensures sent { Sends result text.now (⟦<W as Watched>⟧.change out.old out.new) }
+    ensures sent { SendsText result text.now (⟦<W as Watched>⟧.change out.old out.new) }
     ensures count { OnOk result ((W.seen out.new).failed_calls ≡ (W.seen out.old).failed_calls) }
 {
     write_all(out, text)?;

@@ -8,7 +8,7 @@ use Rattle.keep_tree.specs.Forest.{entry_at}
 use Rattle.keep_tree.specs.Over.{Over, chain, is_over}
 use Rattle.keep_tree.specs.Renewal.{all_last, is_granted, renewal, renewed}
 use Rattle.keep_tree.proofs.Entries.{entry_at_past}
-use Rattle.keep_rule.specs.Asks.{asking, asks, is_due, is_wanted}
+use Rattle.keep_rule.specs.Asks.{asking, asks, is_end_due, is_to_be_asked}
 use Rattle.keep_tree.specs.Carried.{carried}
 use Rattle.keep_rule.specs.Ends.{is_asked}
 use Rattle.keep_rule.specs.Plans.{asks_past}
@@ -48,7 +48,7 @@ pub covers_need : (margin : ℕ) (next : Option ℕ) (need end : ℕ) → need �
 covers_need margin None need end h = h
 covers_need margin (Some next) need end h = inl h
 
-pub covers_not_due : (margin : ℕ) (next : Option ℕ) (need end : ℕ) → is_due margin next end ≡ false → Covers margin next need end
+pub covers_not_due : (margin : ℕ) (next : Option ℕ) (need end : ℕ) → is_end_due margin next end ≡ false → Covers margin next need end
 covers_not_due margin None need end e = absurd cc
 covers_not_due margin (Some next) need end e = inr (let t : nat_lt end (next + margin) ≡ false = e in grind (arith, nat_tests))
 
@@ -95,15 +95,15 @@ asks_within p (suc n) a m h =
       | inr fails ↦ ap (λ b. list_any (λ j. nat_le m j) (cond b (a ∷ filter p (range_with_len (a + 1) n)) (filter p (range_with_len (a + 1) n)))) fails ∙ rest
     ]
 
-pub wanted_renewable : (es : List Entry) (margin s : ℕ) (e : ℕ → ℕ) (t : ℕ) (next : Option ℕ) (i : ℕ) → is_wanted es margin s e t next i ≡ true → (entry_at es i).renewable ≡ true
-unfolding is_wanted
+pub wanted_renewable : (es : List Entry) (margin s : ℕ) (e : ℕ → ℕ) (t : ℕ) (next : Option ℕ) (i : ℕ) → is_to_be_asked es margin s e t next i ≡ true → (entry_at es i).renewable ≡ true
+unfolding is_to_be_asked
 wanted_renewable es margin s e t next i wanted = and_left (entry_at es i).renewable _ wanted
 
 -- whether the wake-up that asks the Asks asks an index: exactly where that is wanted
-pub asks_wanted : (es : List Entry) (margin s : ℕ) (e : ℕ → ℕ) (t : ℕ) (next : Option ℕ) (i : ℕ) → is_asked (asking es margin s e t next) i ≡ is_wanted es margin s e t next i
+pub asks_wanted : (es : List Entry) (margin s : ℕ) (e : ℕ → ℕ) (t : ℕ) (next : Option ℕ) (i : ℕ) → is_asked (asking es margin s e t next) i ≡ is_to_be_asked es margin s e t next i
 unfolding is_asked asks
 asks_wanted es margin s e t next i =
-    let p = is_wanted es margin s e t next in
+    let p = is_to_be_asked es margin s e t next in
     elim (cases_Bool (p i)) [
       | inl wanted ↦
           elim (cases_lt i (length es)) [
@@ -115,13 +115,13 @@ asks_wanted es margin s e t next i =
           ]
       | inr not_wanted ↦ not_asked (list_any (λ j. j == i) (filter p (range_with_len 0 (length es)))) (λ asked. asked_in p (length es) 0 i asked) not_wanted
     ] where
-      not_asked : (b : Bool) → (b ≡ true → is_wanted es margin s e t next i ≡ true) → is_wanted es margin s e t next i ≡ false → b ≡ is_wanted es margin s e t next i
+      not_asked : (b : Bool) → (b ≡ true → is_to_be_asked es margin s e t next i ≡ true) → is_to_be_asked es margin s e t next i ≡ false → b ≡ is_to_be_asked es margin s e t next i
       not_asked true f h = absurd (let y = f refl in cc)
       not_asked false f h = sym h
 
 -- an entry that is asked has the end of its renewal, which is later than its end was
-pub asked_end : (es : List Entry) (margin s : ℕ) (e : ℕ → ℕ) (t : ℕ) (next : Option ℕ) (i : ℕ) → is_wanted es margin s e t next i ≡ true → (renewed es margin e t i ≡ renewal (entry_at es i) t) × (e i < renewal (entry_at es i) t)
-unfolding is_wanted renewed
+pub asked_end : (es : List Entry) (margin s : ℕ) (e : ℕ → ℕ) (t : ℕ) (next : Option ℕ) (i : ℕ) → is_to_be_asked es margin s e t next i ≡ true → (renewed es margin e t i ≡ renewal (entry_at es i) t) × (e i < renewal (entry_at es i) t)
+unfolding is_to_be_asked renewed
 asked_end es margin s e t next i wanted =
     let granted = is_granted es margin e t i in
     let gains = and_left (nat_lt (e i) (cond granted (renewal (entry_at es i) t) (e i))) _ (and_right (nat_lt (e i) (carried es s i)) _ (and_right (all_last es e (t + 1) i) _ (and_right (entry_at es i).renewable _ wanted))) in

@@ -8,8 +8,8 @@ use Rattle.keep_tree.specs.Carried.{carried}
 use Rattle.keep_tree.specs.Forest.{entry_at}
 use Rattle.keep_tree.specs.Over.{Over}
 use Rattle.keep_tree.specs.Renewal.{all_last, is_granted, renewal, renewed}
-use Rattle.keep_rule.specs.Asks.{asking, is_due, is_wanted}
-use Rattle.keep_rule.specs.Ends.{after, is_asked}
+use Rattle.keep_rule.specs.Asks.{asking, is_end_due, is_to_be_asked}
+use Rattle.keep_rule.specs.Ends.{ends_after_wake_up, is_asked}
 use Rattle.keep_rule.specs.Forced.{bound, latest_end}
 use Rattle.keep_rule.proofs.Asking.{Covers, asked_end, asks_wanted, covers_more, covers_need, covers_not_due, short_over}
 
@@ -25,19 +25,19 @@ unfolding bound latest_end
 bound_fixed es ends t i fixed = cond-false (entry_at es i).renewable (max (ends i) (renewal (entry_at es i) t)) (ends i) fixed
 
 -- the ends after a wake-up with its Asks
-pub after_wanted : (es : List Entry) (margin s : ℕ) (e : ℕ → ℕ) (t : ℕ) (next : Option ℕ) (i : ℕ) → is_wanted es margin s e t next i ≡ true → after es margin e (asking es margin s e t next) i ≡ renewal (entry_at es i) t
-unfolding after
+pub after_wanted : (es : List Entry) (margin s : ℕ) (e : ℕ → ℕ) (t : ℕ) (next : Option ℕ) (i : ℕ) → is_to_be_asked es margin s e t next i ≡ true → ends_after_wake_up es margin e (asking es margin s e t next) i ≡ renewal (entry_at es i) t
+unfolding ends_after_wake_up
 after_wanted es margin s e t next i wanted =
     cond-true (is_asked (asking es margin s e t next) i) (renewed es margin e t i) (e i) (asks_wanted es margin s e t next i ∙ wanted) ∙ (asked_end es margin s e t next i wanted).0
 
-pub after_unwanted : (es : List Entry) (margin s : ℕ) (e : ℕ → ℕ) (t : ℕ) (next : Option ℕ) (i : ℕ) → is_wanted es margin s e t next i ≡ false → after es margin e (asking es margin s e t next) i ≡ e i
-unfolding after
+pub after_unwanted : (es : List Entry) (margin s : ℕ) (e : ℕ → ℕ) (t : ℕ) (next : Option ℕ) (i : ℕ) → is_to_be_asked es margin s e t next i ≡ false → ends_after_wake_up es margin e (asking es margin s e t next) i ≡ e i
+unfolding ends_after_wake_up
 after_unwanted es margin s e t next i unwanted = cond-false (is_asked (asking es margin s e t next) i) (renewed es margin e t i) (e i) (asks_wanted es margin s e t next i ∙ unwanted)
 
 -- no end falls under the Asks
-pub asks_grow : (es : List Entry) (margin s : ℕ) (e : ℕ → ℕ) (t : ℕ) (next : Option ℕ) (i : ℕ) → e i ≤ after es margin e (asking es margin s e t next) i
+pub asks_grow : (es : List Entry) (margin s : ℕ) (e : ℕ → ℕ) (t : ℕ) (next : Option ℕ) (i : ℕ) → e i ≤ ends_after_wake_up es margin e (asking es margin s e t next) i
 asks_grow es margin s e t next i =
-    elim (cases_Bool (is_wanted es margin s e t next i)) [
+    elim (cases_Bool (is_to_be_asked es margin s e t next i)) [
       | inl wanted ↦ let is = after_wanted es margin s e t next i wanted in let later = (asked_end es margin s e t next i wanted).1 in omega arith
       | inr unwanted ↦ let is = after_unwanted es margin s e t next i unwanted in omega arith
     ]
@@ -97,10 +97,10 @@ module _ (es : List Entry) (margin s : ℕ) (above : 0 < margin) (P : ℕ → Ty
   still_covered :
       (ends e : ℕ → ℕ) → ((i : ℕ) → ends i ≤ e i) → (t : ℕ) (next : Option ℕ) →
       CoversAll P need margin e (Some t) → CoversAll P need margin (bound es ends (Some t)) next →
-      (i : ℕ) → P i → is_wanted es margin s e t next i ≡ false → Covers margin next (need i) (e i)
-  unfolding is_wanted
+      (i : ℕ) → P i → is_to_be_asked es margin s e t next i ≡ false → Covers margin next (need i) (e i)
+  unfolding is_to_be_asked
   still_covered ends e grown t next safe bounds i here unwanted =
-      fails_at (entry_at es i).renewable (all_last es e (t + 1) i) (nat_lt (e i) (carried es s i)) (nat_lt (e i) (renewed es margin e t i)) (is_due margin next (e i))
+      fails_at (entry_at es i).renewable (all_last es e (t + 1) i) (nat_lt (e i) (carried es s i)) (nat_lt (e i) (renewed es margin e t i)) (is_end_due margin next (e i))
       (Covers margin next (need i) (e i)) unwanted
       (λ fixed.
       let is = bound_fixed es ends t i fixed in
@@ -123,9 +123,9 @@ module _ (es : List Entry) (margin s : ℕ) (above : 0 < margin) (P : ℕ → Ty
   pub round_covers :
       (ends e : ℕ → ℕ) → ((i : ℕ) → ends i ≤ e i) → (t : ℕ) (next : Option ℕ) →
       CoversAll P need margin e (Some t) → CoversAll P need margin (bound es ends (Some t)) next →
-      CoversAll P need margin (after es margin e (asking es margin s e t next)) next
+      CoversAll P need margin (ends_after_wake_up es margin e (asking es margin s e t next)) next
   round_covers ends e grown t next safe bounds i here =
-      elim (cases_Bool (is_wanted es margin s e t next i)) [
+      elim (cases_Bool (is_to_be_asked es margin s e t next i)) [
         | inl wanted ↦
             let is = after_wanted es margin s e t next i wanted in
             let later = (asked_end es margin s e t next i wanted).1 in

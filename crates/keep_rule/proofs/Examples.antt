@@ -8,8 +8,8 @@ use Rattle.keep_tree.specs.Forest.{end_of, entry_at}
 use Rattle.keep_tree.specs.Over.{chain, chain_of, is_over}
 use Rattle.keep_tree.specs.Renewal.{all_last, capped, is_granted, renewal, renewed}
 use Rattle.keep_rule.specs.declared.wake.Wake.{Wake}
-use Rattle.keep_rule.specs.Asks.{asks, is_wanted, with_asks}
-use Rattle.keep_rule.specs.Ends.{after, ends_after, is_asked, listed}
+use Rattle.keep_rule.specs.Asks.{asks, is_to_be_asked, with_asks}
+use Rattle.keep_rule.specs.Ends.{ends_after, ends_after_wake_up, ends_listed, is_asked}
 use Rattle.keep_rule.specs.Forced.{bound, latest_end}
 use Rattle.keep_rule.specs.Reach.{reach, reach_of}
 
@@ -47,32 +47,32 @@ three = 1059 ∷ 1118 ∷ 1177 ∷ []
 
 -- the Asks: a lease is asked with its token where both are due, the token alone or not at all where it can wait
 web_asks : with_asks web 1 1000 (end_of web) three ≡ asked 1059 (0 ∷ []) ∷ asked 1118 (0 ∷ []) ∷ asked 1177 (0 ∷ []) ∷ []
-unfolding three web token asked with_asks asks is_wanted carried carried_of chain chain_of is_over all_last capped is_granted renewal renewed after is_asked end_of entry_at
+unfolding three web token asked with_asks asks is_to_be_asked carried carried_of chain chain_of is_over all_last capped is_granted renewal renewed ends_after_wake_up is_asked end_of entry_at
 web_asks = refl
 
 both_asks : with_asks token_and_lease 1 1000 (end_of token_and_lease) three ≡ asked 1059 (0 ∷ 1 ∷ []) ∷ asked 1118 (0 ∷ 1 ∷ []) ∷ asked 1177 (1 ∷ []) ∷ []
-unfolding three token_and_lease token lease asked with_asks asks is_wanted carried carried_of chain chain_of is_over all_last capped is_granted renewal renewed after is_asked end_of entry_at
+unfolding three token_and_lease token lease asked with_asks asks is_to_be_asked carried carried_of chain chain_of is_over all_last capped is_granted renewal renewed ends_after_wake_up is_asked end_of entry_at
 both_asks = refl
 
 later_asks : with_asks token_later 1 1000 (end_of token_later) three ≡ asked 1059 (1 ∷ []) ∷ asked 1118 (0 ∷ 1 ∷ []) ∷ asked 1177 (1 ∷ []) ∷ []
-unfolding three token_later token lease asked with_asks asks is_wanted carried carried_of chain chain_of is_over all_last capped is_granted renewal renewed after is_asked end_of entry_at
+unfolding three token_later token lease asked with_asks asks is_to_be_asked carried carried_of chain chain_of is_over all_last capped is_granted renewal renewed ends_after_wake_up is_asked end_of entry_at
 later_asks = refl
 
 long_lease_is_left : with_asks web_base_big 1 1000 (end_of web_base_big) three ≡ asked 1059 (0 ∷ []) ∷ asked 1118 (0 ∷ []) ∷ asked 1177 (0 ∷ []) ∷ []
-unfolding three web_base_big token lease asked with_asks asks is_wanted carried carried_of chain chain_of is_over all_last capped is_granted renewal renewed after is_asked end_of entry_at
+unfolding three web_base_big token lease asked with_asks asks is_to_be_asked carried carried_of chain chain_of is_over all_last capped is_granted renewal renewed ends_after_wake_up is_asked end_of entry_at
 long_lease_is_left = refl
 
 -- the ends that they leave, and those that asking every entry at each moment leaves
-web_ends : listed web (ends_after web 1 (end_of web) (with_asks web 1 1000 (end_of web) three)) ≡ 1237 ∷ []
-unfolding three web token asked with_asks asks is_wanted carried carried_of chain chain_of is_over all_last capped is_granted renewal renewed after is_asked end_of entry_at listed ends_after
+web_ends : ends_listed web (ends_after web 1 (end_of web) (with_asks web 1 1000 (end_of web) three)) ≡ 1237 ∷ []
+unfolding three web token asked with_asks asks is_to_be_asked carried carried_of chain chain_of is_over all_last capped is_granted renewal renewed ends_after_wake_up is_asked end_of entry_at ends_listed ends_after
 web_ends = refl
 
-both_ends : listed token_and_lease (ends_after token_and_lease 1 (end_of token_and_lease) (asked 1059 (0 ∷ 1 ∷ []) ∷ asked 1118 (0 ∷ 1 ∷ []) ∷ asked 1177 (0 ∷ 1 ∷ []) ∷ [])) ≡ 1277 ∷ 1237 ∷ []
-unfolding token_and_lease token lease asked chain chain_of all_last capped is_granted renewal renewed after is_asked end_of entry_at listed ends_after
+both_ends : ends_listed token_and_lease (ends_after token_and_lease 1 (end_of token_and_lease) (asked 1059 (0 ∷ 1 ∷ []) ∷ asked 1118 (0 ∷ 1 ∷ []) ∷ asked 1177 (0 ∷ 1 ∷ []) ∷ [])) ≡ 1277 ∷ 1237 ∷ []
+unfolding token_and_lease token lease asked chain chain_of all_last capped is_granted renewal renewed ends_after_wake_up is_asked end_of entry_at ends_listed ends_after
 both_ends = refl
 
-too_late : listed web (ends_after web 1 (end_of web) (asked 1060 (0 ∷ []) ∷ [])) ≡ 1060 ∷ []
-unfolding web token asked chain chain_of all_last capped is_granted renewal renewed after is_asked end_of entry_at listed ends_after
+too_late : ends_listed web (ends_after web 1 (end_of web) (asked 1060 (0 ∷ []) ∷ [])) ≡ 1060 ∷ []
+unfolding web token asked chain chain_of all_last capped is_granted renewal renewed ends_after_wake_up is_asked end_of entry_at ends_listed ends_after
 too_late = refl
 
 -- carried needs

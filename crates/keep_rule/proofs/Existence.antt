@@ -8,7 +8,7 @@ use Rattle.keep_tree.specs.Push.{IsForest}
 use Rattle.keep_rule.specs.Forced.{bound}
 use Rattle.keep_rule.specs.Laws.{ExistenceLaw}
 use Rattle.keep_rule.specs.Unkeepable.{AllKeepable}
-use Rattle.keep_rule.specs.Schedule.{IsNext, IsSchedule}
+use Rattle.keep_rule.specs.Schedule.{IsNextMoment, IsSchedule}
 use Rattle.keep_rule.proofs.Keeping.{end_below_bound}
 use Rattle.keep_rule.proofs.Next.{Comes, can_be_led, next_comes, renewable_within}
 
@@ -46,7 +46,7 @@ find_earliest need end (suc n) =
 -- after a wake-up there is a next moment, or no bound falls short
 next_or_done :
     (g : Forest) (s : ℕ) (ends : ℕ → ℕ) → AllKeepable g s ends → (prev : Option ℕ) →
-    IsSchedule g.entries g.margin s ends prev [] ⊎ ((t : ℕ) × IsNext g.entries g.margin s ends prev t)
+    IsSchedule g.entries g.margin s ends prev [] ⊎ ((t : ℕ) × IsNextMoment g.entries g.margin s ends prev t)
 next_or_done g s ends keepable prev =
     let es = g.entries in
     let within : (i : ℕ) → bound es ends prev i < carried es s i → i < length es =

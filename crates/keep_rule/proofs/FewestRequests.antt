@@ -6,8 +6,8 @@ use Rattle.std.proofs.lemmas.List.Sums.{length-filter, sum_by-cons}
 use Rattle.std.specs.List.{list_any, range_with_len, sum_by}
 use Rattle.keep_tree.specs.declared.entry.Entry.{Entry}
 use Rattle.keep_rule.specs.declared.wake.Wake.{Wake}
-use Rattle.keep_rule.specs.Asks.{asking, asks, first_of, is_wanted, with_asks}
-use Rattle.keep_rule.specs.Ends.{after, is_asked}
+use Rattle.keep_rule.specs.Asks.{asking, asks, first_of, is_to_be_asked, with_asks}
+use Rattle.keep_rule.specs.Ends.{ends_after_wake_up, is_asked}
 use Rattle.keep_rule.specs.LawsOfRounds.{FewestRequestsLaw}
 use Rattle.keep_rule.specs.Plans.{moments}
 use Rattle.keep_rule.specs.Requests.{requests, times_asked}
@@ -98,7 +98,7 @@ plan_asks n (w ∷ ws) =
 asks_length : (es : List Entry) (margin s : ℕ) (ends : ℕ → ℕ) (t : ℕ) (next : Option ℕ) → length (asks es margin s ends t next) ≤ sum_by (λ i. cond (is_asked (asking es margin s ends t next) i) 1 0) (range_with_len 0 (length es))
 unfolding asks
 asks_length es margin s ends t next =
-    let wanted = is_wanted es margin s ends t next in
+    let wanted = is_to_be_asked es margin s ends t next in
     let range = range_with_len 0 (length es) in
     subst (λ k. k ≤ sum_by (λ i. cond (is_asked (asking es margin s ends t next) i) 1 0) range) (sym (length-filter wanted range))
     (sum_less (λ i. cond (wanted i) 1 0) (λ i. cond (is_asked (asking es margin s ends t next) i) 1 0)
@@ -109,10 +109,10 @@ unfolding with_asks
 asks_ask es margin s ends [] = omega arith
 asks_ask es margin s ends (t ∷ ts) =
     let round = asking es margin s ends t (first_of ts) in
-    let rest = with_asks es margin s (after es margin ends round) ts in
+    let rest = with_asks es margin s (ends_after_wake_up es margin ends round) ts in
     let range = range_with_len 0 (length es) in
     added (sum_by (times_asked (round ∷ rest)) range) (sum_by (λ i. cond (is_asked round i) 1 0) range) (sum_by (times_asked rest) range)
-    (length round.asked) (requests rest) (requests (round ∷ rest)) (times_split round rest range) (asks_length es margin s ends t (first_of ts)) (asks_ask es margin s (after es margin ends round) ts)
+    (length round.asked) (requests rest) (requests (round ∷ rest)) (times_split round rest range) (asks_length es margin s ends t (first_of ts)) (asks_ask es margin s (ends_after_wake_up es margin ends round) ts)
     (sum_by-cons (λ v. length v.asked) round rest) where
       added : (a p q m n b : ℕ) → a ≡ p + q → m ≤ p → n ≤ q → b ≡ m + n → b ≤ a
       added a p q m n b e h k d = omega arith

@@ -10,8 +10,8 @@ use Rattle.keep_tree.specs.Renewal.{all_last, is_granted, renewal, renewed}
 use Rattle.keep_tree.proofs.Carrying.{and_left, and_right, carried_is_of}
 use Rattle.keep_tree.proofs.Chains.{over_self}
 use Rattle.keep_rule.specs.declared.wake.Wake.{Wake}
-use Rattle.keep_rule.specs.Asks.{asking, first_of, is_due, is_wanted, with_asks}
-use Rattle.keep_rule.specs.Ends.{after, is_asked}
+use Rattle.keep_rule.specs.Asks.{asking, first_of, is_end_due, is_to_be_asked, with_asks}
+use Rattle.keep_rule.specs.Ends.{ends_after_wake_up, is_asked}
 use Rattle.keep_rule.specs.Keeps.{Keeps}
 use Rattle.keep_rule.specs.LawsOfRounds.{FewestTimesLaw}
 use Rattle.keep_rule.specs.Plans.{IsPlan, moments}
@@ -62,12 +62,12 @@ compared false false x y x' y' new m n m' n' more more' wanted unwanted left eit
     let same = left refl in
     (λ h. let below : y' ≤ x' = omega arith in omega (arith, rest.0 below), omega (arith, rest.1))
 
-after_unasked : (es : List Entry) (margin : ℕ) (ends : ℕ → ℕ) (w : Wake) (i : ℕ) → is_asked w i ≡ false → after es margin ends w i ≡ ends i
-unfolding after
+after_unasked : (es : List Entry) (margin : ℕ) (ends : ℕ → ℕ) (w : Wake) (i : ℕ) → is_asked w i ≡ false → ends_after_wake_up es margin ends w i ≡ ends i
+unfolding ends_after_wake_up
 after_unasked es margin ends w i e = cond-false (is_asked w i) (renewed es margin ends w.at i) (ends i) e
 
-after_either : (es : List Entry) (margin : ℕ) (ends : ℕ → ℕ) (w : Wake) (i : ℕ) → (after es margin ends w i ≡ renewal (entry_at es i) w.at) ⊎ (after es margin ends w i ≡ ends i)
-unfolding after renewed
+after_either : (es : List Entry) (margin : ℕ) (ends : ℕ → ℕ) (w : Wake) (i : ℕ) → (ends_after_wake_up es margin ends w i ≡ renewal (entry_at es i) w.at) ⊎ (ends_after_wake_up es margin ends w i ≡ ends i)
+unfolding ends_after_wake_up renewed
 after_either es margin ends w i = by_tests (is_asked w i) (is_granted es margin ends w.at i) (renewal (entry_at es i) w.at) (ends i) where
   by_tests : (asked granted : Bool) (new old : ℕ) → (cond asked (cond granted new old) old ≡ new) ⊎ (cond asked (cond granted new old) old ≡ old)
   by_tests true true new old = inl refl
@@ -75,8 +75,8 @@ after_either es margin ends w i = by_tests (is_asked w i) (is_granted es margin 
   by_tests false granted new old = inr refl
 
 -- what the Asks ask is alive, falls short of what it carries, and cannot wait
-wanted_parts : (es : List Entry) (margin s : ℕ) (ends : ℕ → ℕ) (t : ℕ) (next : Option ℕ) (i : ℕ) → is_wanted es margin s ends t next i ≡ true → (t < ends i) × (ends i < carried es s i) × (is_due margin next (ends i) ≡ true)
-unfolding is_wanted
+wanted_parts : (es : List Entry) (margin s : ℕ) (ends : ℕ → ℕ) (t : ℕ) (next : Option ℕ) (i : ℕ) → is_to_be_asked es margin s ends t next i ≡ true → (t < ends i) × (ends i < carried es s i) × (is_end_due margin next (ends i) ≡ true)
+unfolding is_to_be_asked
 wanted_parts es margin s ends t next i wanted =
     let lives = and_right (entry_at es i).renewable _ wanted in
     let short = and_right (all_last es ends (t + 1) i) _ lives in
@@ -88,7 +88,7 @@ wanted_parts es margin s ends t next i wanted =
     )
 
 -- for an end that cannot wait for the next wake-up, all that come are too late
-too_late : (es : List Entry) (margin i end t : ℕ) (ws : List Wake) → IsPlan t ws → is_due margin (first_of (moments ws)) end ≡ true → AllStuck es margin i end ws
+too_late : (es : List Entry) (margin i end t : ℕ) (ws : List Wake) → IsPlan t ws → is_end_due margin (first_of (moments ws)) end ≡ true → AllStuck es margin i end ws
 too_late es margin i end t [] plan due = tt
 too_late es margin i end t (w ∷ ws) plan due =
     let near : end < w.at + margin = (let test : nat_lt end (w.at + margin) ≡ true = due in grind (arith, nat_tests)) in
@@ -96,12 +96,12 @@ too_late es margin i end t (w ∷ ws) plan due =
 
 -- so a plan asks it as well, where it ends no later under the plan
 asked_too :
-    (es : List Entry) (margin s i : ℕ) (w : Wake) (ws : List Wake) (ends present : ℕ → ℕ) → IsPlan w.at ws → Keeps es margin w.at (after es margin present w) ws →
-    is_wanted es margin s ends w.at (first_of (moments ws)) i ≡ true → is_asked w i ≡ false → present i ≤ ends i → ⊥
+    (es : List Entry) (margin s i : ℕ) (w : Wake) (ws : List Wake) (ends present : ℕ → ℕ) → IsPlan w.at ws → Keeps es margin w.at (ends_after_wake_up es margin present w) ws →
+    is_to_be_asked es margin s ends w.at (first_of (moments ws)) i ≡ true → is_asked w i ≡ false → present i ≤ ends i → ⊥
 asked_too es margin s i w ws ends present plan keeps wanted unasked below =
     let parts = wanted_parts es margin s ends w.at (first_of (moments ws)) i wanted in
     let needed = carried_is_of es s i (ends i) parts.1 in
-    gone es margin w.at (after es margin present w) ws i needed.0 (ends i) needed.1 (omega (arith, parts.0, needed.3)) needed.3
+    gone es margin w.at (ends_after_wake_up es margin present w) ws i needed.0 (ends i) needed.1 (omega (arith, parts.0, needed.3)) needed.3
     (omega (arith, after_unasked es margin present w i unasked)) (too_late es margin i (ends i) w.at ws plan parts.2) keeps
 
 fewer :
@@ -115,8 +115,8 @@ fewer es margin s i [] now ends present plan keeps low = none (ends i) (present 
 fewer es margin s i (w ∷ ws) now ends present plan keeps low =
     let next = first_of (moments ws) in
     let round = asking es margin s ends w.at next in
-    let ends' = after es margin ends round in
-    let present' = after es margin present w in
+    let ends' = ends_after_wake_up es margin ends round in
+    let present' = ends_after_wake_up es margin present w in
     let rest = with_asks es margin s ends' (moments ws) in
     let start : now ≤ w.at = plan.0 in
     let grown = asks_grow es margin s ends w.at next i in
@@ -127,7 +127,7 @@ fewer es margin s i (w ∷ ws) now ends present plan keeps low =
       | inl new ↦ let l = renewal_later (entry_at es i) w.at u h in omega (arith, new)
       | inr same ↦ let l = low u (omega arith) in omega (arith, same, grown)
     ] in
-    compared (is_wanted es margin s ends w.at next i) (is_asked w i) (ends i) (present i) (ends' i) (present' i) (renewal (entry_at es i) w.at)
+    compared (is_to_be_asked es margin s ends w.at next i) (is_asked w i) (ends i) (present i) (ends' i) (present' i) (renewal (entry_at es i) w.at)
     (times_asked (round ∷ rest) i) (times_asked (w ∷ ws) i) (times_asked rest i) (times_asked ws i)
     (times_cons round rest i ∙ ap (λ b. cond b 1 0 + times_asked rest i) (asks_wanted es margin s ends w.at next i)) (times_cons w ws i)
     (λ wanted. (after_wanted es margin s ends w.at next i wanted, (asked_end es margin s ends w.at next i wanted).1)) (after_unwanted es margin s ends w.at next i)

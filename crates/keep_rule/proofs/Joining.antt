@@ -7,7 +7,7 @@ use Rattle.std.specs.List.{All}
 use Rattle.keep_moment.specs.declared.moment.TheConstants.{LAST}
 use Rattle.keep_tree.specs.declared.entry.Entry.{Entry}
 use Rattle.keep_rule.specs.declared.wake.Wake.{Wake}
-use Rattle.keep_rule.specs.Ends.{after, ends_after}
+use Rattle.keep_rule.specs.Ends.{ends_after, ends_after_wake_up}
 use Rattle.keep_rule.specs.Keeps.{Keeps, ends_at}
 use Rattle.keep_rule.specs.Plans.{IsPlan, moments}
 use Rattle.keep_rule.specs.code.Replay.{KeptBetween}
@@ -62,7 +62,7 @@ keeps_sooner es margin s t ends ws plan kept keeps i m from need a over =
 -- a plan keeps where its entries live until its first wake-up, and the rest of it keeps from there
 pub keeps_joined :
     (es : List Entry) (margin s : ℕ) (ends : ℕ → ℕ) (w : Wake) (ws : List Wake) → IsPlan s (w ∷ ws) →
-    (KeptBetween es ends s w.at × Keeps es margin w.at (after es margin ends w) ws) ↔ Keeps es margin s ends (w ∷ ws)
+    (KeptBetween es ends s w.at × Keeps es margin w.at (ends_after_wake_up es margin ends w) ws) ↔ Keeps es margin s ends (w ∷ ws)
 keeps_joined es margin s ends w ws plan =
     let whole : IsPlan w.at (w ∷ ws) = (omega arith, plan.1) in
     let l : s ≤ w.at = plan.0 in (

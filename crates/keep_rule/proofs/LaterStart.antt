@@ -10,8 +10,8 @@ use Rattle.keep_tree.specs.Forest.{entry_at}
 use Rattle.keep_tree.specs.Renewal.{all_last, renewed}
 use Rattle.keep_tree.proofs.Carrying.{carried_at_least, carried_is_of}
 use Rattle.keep_tree.proofs.Chains.{over_self}
-use Rattle.keep_rule.specs.Asks.{asking, asks, first_of, is_due, is_wanted, with_asks}
-use Rattle.keep_rule.specs.Ends.{after}
+use Rattle.keep_rule.specs.Asks.{asking, asks, first_of, is_end_due, is_to_be_asked, with_asks}
+use Rattle.keep_rule.specs.Ends.{ends_after_wake_up}
 use Rattle.keep_rule.specs.LawsOfRounds.{LaterStartLaw, SameAsksLaw, SameRequestsLaw}
 use Rattle.keep_rule.proofs.Alive.{alive_from_last}
 use Rattle.keep_rule.proofs.Joining.{keeps_sooner, kept_before, plan_later, plan_sooner}
@@ -46,11 +46,11 @@ same_test es s t i end h k =
       ]
     ]
 
-same_wanted : (es : List Entry) (margin s t u : ℕ) (ends : ℕ → ℕ) (next : Option ℕ) → s ≤ u → t ≤ u → (i : ℕ) → is_wanted es margin s ends u next i ≡ is_wanted es margin t ends u next i
-unfolding is_wanted
+same_wanted : (es : List Entry) (margin s t u : ℕ) (ends : ℕ → ℕ) (next : Option ℕ) → s ≤ u → t ≤ u → (i : ℕ) → is_to_be_asked es margin s ends u next i ≡ is_to_be_asked es margin t ends u next i
+unfolding is_to_be_asked
 same_wanted es margin s t u ends next h k i =
     let ready = (entry_at es i).renewable in
-    let rest = nat_lt (ends i) (renewed es margin ends u i) && is_due margin next (ends i) in
+    let rest = nat_lt (ends i) (renewed es margin ends u i) && is_end_due margin next (ends i) in
     elim (cases_Bool (all_last es ends (u + 1) i)) [
       | inl lasts ↦
           let end : u < ends i = alive_from_last es ends u i lasts i (over_self es i) in
@@ -72,6 +72,6 @@ same_requests es margin s t ends [] from_s from_t = refl
 same_requests es margin s t ends (u ∷ us) from_s from_t =
     let same : asking es margin s ends u (first_of us) ≡ asking es margin t ends u (first_of us) =
     ap (λ is. record { at = u; asked = is }) (same_asks es margin s t u ends (first_of us) (from_s 0 0 (omega arith)) (from_t 0 0 (omega arith))) in
-    ap (λ w. w ∷ with_asks es margin s (after es margin ends w) us) same
+    ap (λ w. w ∷ with_asks es margin s (ends_after_wake_up es margin ends w) us) same
     ∙ ap (λ ws. asking es margin t ends u (first_of us) ∷ ws)
-    (same_requests es margin s t (after es margin ends (asking es margin t ends u (first_of us))) us (all_rest s u us from_s) (all_rest t u us from_t))
+    (same_requests es margin s t (ends_after_wake_up es margin ends (asking es margin t ends u (first_of us))) us (all_rest s u us from_s) (all_rest t u us from_t))

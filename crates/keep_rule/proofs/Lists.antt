@@ -12,17 +12,17 @@ use Rattle.keep_tree.specs.Forest.{Forest, end_of, entry_at}
 use Rattle.keep_tree.specs.Push.{IsForest}
 use Rattle.keep_tree.proofs.Entries.{entry_at_past}
 use Rattle.keep_tree.proofs.Placed.{range_parts}
-use Rattle.keep_rule.specs.Ends.{listed}
+use Rattle.keep_rule.specs.Ends.{ends_listed}
 use Rattle.keep_rule.specs.Plans.{asks_past}
-use Rattle.keep_rule.specs.code.Replay.{shown}
+use Rattle.keep_rule.specs.code.Replay.{shown_ends}
 
 -- a list from an index on begins with what is read there
 pub unrolled : {X : Type 0} (xs : List X) (i : ℕ) (x : X) → i < length xs → x ≡ get_or xs i x → drop i xs ≡ x ∷ drop (i + 1) xs
 unrolled xs i x h e = drop_more xs i x h ∙ ap (λ y. y ∷ drop (i + 1) xs) (sym e)
 
 -- the list of all present ends is the function of the present ends
-pub shown_present : (es : List Entry) (ends : List ℕ) → length ends ≡ length es → ((k : ℕ) → k < length es → get_or ends k 0 ≡ end_of es k) → shown ends ≡ end_of es
-unfolding shown end_of
+pub shown_present : (es : List Entry) (ends : List ℕ) → length ends ≡ length es → ((k : ℕ) → k < length es → get_or ends k 0 ≡ end_of es k) → shown_ends ends ≡ end_of es
+unfolding shown_ends end_of
 shown_present es ends count each = fun_ext λ k.
     elim (cases_lt k (length es)) [
       | inl within ↦ each k within
@@ -44,8 +44,8 @@ read_within n asked items i same none h =
     subst Bound (sym same) (λ within. asked_within n asked none i within) h
 
 -- the list of a function's ends is the list that the function was read from
-pub listed_shown : (es : List Entry) (ends : List ℕ) → length ends ≡ length es → ends ≡ listed es (shown ends)
-unfolding listed shown
+pub listed_shown : (es : List Entry) (ends : List ℕ) → length ends ≡ length es → ends ≡ ends_listed es (shown_ends ends)
+unfolding ends_listed shown_ends
 listed_shown es ends count =
     ext_get_or 0 ends (map (λ i. get_or ends i 0) (range_with_len 0 (length es))) (count ∙ sym (length-map-range_with_len (λ i. get_or ends i 0) 0 (length es)))
     (λ i h. sym (get_or-map-range_with_len (λ k. get_or ends k 0) 0 (length es) i i 0 (omega arith) (omega arith)))

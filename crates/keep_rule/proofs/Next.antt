@@ -14,7 +14,7 @@ use Rattle.keep_tree.proofs.Entries.{entry_at_past}
 use Rattle.keep_rule.specs.Forced.{Forced, bound, latest_end}
 use Rattle.keep_rule.specs.Unkeepable.{AllKeepable}
 use Rattle.keep_rule.specs.Reach.{reach, reach_of}
-use Rattle.keep_rule.specs.Schedule.{IsNext}
+use Rattle.keep_rule.specs.Schedule.{IsNextMoment}
 use Rattle.keep_rule.proofs.Keeping.{end_below_bound}
 use Rattle.keep_rule.proofs.Lists.{need_within}
 
@@ -92,7 +92,7 @@ pub record Comes (g : Forest) (s : ℕ) (ends : ℕ → ℕ) (prev : Option ℕ)
   pub covers : (i : ℕ) → (carried g.entries s i ≤ bound g.entries ends prev i) ⊎ (t + g.margin ≤ bound g.entries ends prev i)
   pub forced : (entry : ℕ) × (needed : ℕ) × Forced g.entries g.margin s ends prev t entry needed
 
-pub next_comes : (g : Forest) → IsForest g → (s : ℕ) (ends : ℕ → ℕ) → AllKeepable g s ends → (prev : Option ℕ) (t : ℕ) → IsNext g.entries g.margin s ends prev t → Comes g s ends prev t
+pub next_comes : (g : Forest) → IsForest g → (s : ℕ) (ends : ℕ → ℕ) → AllKeepable g s ends → (prev : Option ℕ) (t : ℕ) → IsNextMoment g.entries g.margin s ends prev t → Comes g s ends prev t
 next_comes g forest s ends keepable prev t next =
     let es = g.entries in
     let entry = next.entry in

@@ -6,7 +6,7 @@ use Rattle.keep_tree.specs.declared.entry.Entry.{Entry}
 use Rattle.keep_tree.specs.Forest.{Forest}
 use Rattle.keep_tree.specs.Push.{IsForest}
 use Rattle.keep_rule.specs.Asks.{asking, first_of, with_asks}
-use Rattle.keep_rule.specs.Ends.{after}
+use Rattle.keep_rule.specs.Ends.{ends_after_wake_up}
 use Rattle.keep_rule.specs.Forced.{AllForced}
 use Rattle.keep_rule.specs.Laws.{ScheduleLaw}
 use Rattle.keep_rule.specs.Unkeepable.{AllKeepable}
@@ -50,14 +50,14 @@ schedule_in_order g forest s ends keepable (t ∷ ts) prev from low e le rises s
     let start : low ≤ t = rises.0 in
     let end : t < LAST = (next_comes g forest s ends keepable prev t schedule.0).within in (
       omega arith,
-      (omega arith, schedule_in_order g forest s ends keepable ts (Some t) t (t + 1) (after g.entries g.margin e (asking g.entries g.margin s e t (first_of ts))) (omega arith) rises.1 schedule.1),
+      (omega arith, schedule_in_order g forest s ends keepable ts (Some t) t (t + 1) (ends_after_wake_up g.entries g.margin e (asking g.entries g.margin s e t (first_of ts))) (omega arith) rises.1 schedule.1),
     )
 
 -- the Asks are asked at the moments that are given
 pub moments_with_asks : (es : List Entry) (margin s : ℕ) (ts : List ℕ) (e : ℕ → ℕ) → moments (with_asks es margin s e ts) ≡ ts
 unfolding with_asks
 moments_with_asks es margin s [] e = refl
-moments_with_asks es margin s (t ∷ ts) e = ap (λ us. t ∷ us) (moments_with_asks es margin s ts (after es margin e (asking es margin s e t (first_of ts))))
+moments_with_asks es margin s (t ∷ ts) e = ap (λ us. t ∷ us) (moments_with_asks es margin s ts (ends_after_wake_up es margin e (asking es margin s e t (first_of ts))))
 
 pub rising_strictly : (s : ℕ) (ts : List ℕ) → RisesStrictly s ts → IsRising s ts
 rising_strictly s [] rises = tt

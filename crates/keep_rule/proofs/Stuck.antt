@@ -8,7 +8,7 @@ use Rattle.keep_tree.specs.Over.{Over}
 use Rattle.keep_tree.specs.Renewal.{all_last, is_granted, renewal, renewed}
 use Rattle.keep_tree.proofs.Chains.{all_last_head}
 use Rattle.keep_rule.specs.declared.wake.Wake.{Wake}
-use Rattle.keep_rule.specs.Ends.{after, ends_after, is_asked}
+use Rattle.keep_rule.specs.Ends.{ends_after, ends_after_wake_up, is_asked}
 use Rattle.keep_rule.specs.Keeps.{Keeps, ends_at}
 
 -- a wake-up at t leads no end of i that is at most b past b
@@ -48,8 +48,8 @@ renewed_below es margin ends t i b below stuck =
       | inr refused ↦ subst (λ n. n ≤ b) (sym (cond-false (is_granted es margin ends t i) (renewal (entry_at es i) t) (ends i) refused)) below
     ]
 
-after_below : (es : List Entry) (margin : ℕ) (ends : ℕ → ℕ) (w : Wake) (i b : ℕ) → ends i ≤ b → IsStuck es margin i b w.at → after es margin ends w i ≤ b
-unfolding after
+after_below : (es : List Entry) (margin : ℕ) (ends : ℕ → ℕ) (w : Wake) (i b : ℕ) → ends i ≤ b → IsStuck es margin i b w.at → ends_after_wake_up es margin ends w i ≤ b
+unfolding ends_after_wake_up
 after_below es margin ends w i b below stuck =
     elim (cases_Bool (is_asked w i)) [
       | inl asked ↦ subst (λ n. n ≤ b) (sym (cond-true (is_asked w i) (renewed es margin ends w.at i) (ends i) asked)) (renewed_below es margin ends w.at i b below stuck)
@@ -59,7 +59,7 @@ after_below es margin ends w i b below stuck =
 stays_below : (es : List Entry) (margin : ℕ) (ends : ℕ → ℕ) (ws : List Wake) (i b : ℕ) → ends i ≤ b → AllStuck es margin i b ws → ends_after es margin ends ws i ≤ b
 unfolding ends_after
 stays_below es margin ends [] i b below stuck = below
-stays_below es margin ends (w ∷ ws) i b below stuck = stays_below es margin (after es margin ends w) ws i b (after_below es margin ends w i b below stuck.0) stuck.1
+stays_below es margin ends (w ∷ ws) i b below stuck = stays_below es margin (ends_after_wake_up es margin ends w) ws i b (after_below es margin ends w i b below stuck.0) stuck.1
 
 either_stuck : (es : List Entry) (margin i b : ℕ) (w : Wake) (ws : List Wake) (due : Bool) → IsStuck es margin i b w.at → AllStuck es margin i b ws → AllStuck es margin i b (cond due (w ∷ ws) ws)
 either_stuck es margin i b w ws true here rest = (here, rest)

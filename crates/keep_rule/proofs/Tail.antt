@@ -2,7 +2,7 @@
 use Rattle.std.proofs.Common.{◌≡◌, ℕ, suc, List, [], ◌∷◌, refl, sym, ap, subst, arith}
 use Rattle.keep_tree.specs.declared.entry.Entry.{Entry}
 use Rattle.keep_rule.specs.Asks.{asking, first_of, with_asks}
-use Rattle.keep_rule.specs.Ends.{after}
+use Rattle.keep_rule.specs.Ends.{ends_after_wake_up}
 use Rattle.keep_rule.specs.Keeps.{Keeps}
 use Rattle.keep_rule.specs.Laws.{EnoughLaw}
 use Rattle.keep_rule.specs.LawsOfRounds.{TailLaw}
@@ -13,7 +13,7 @@ use Rattle.keep_rule.proofs.Joining.{InOrder, keeps_joined, order_plan, plan_ord
 pub moments_with_asks : (es : List Entry) (margin s : ℕ) (ends : ℕ → ℕ) (ts : List ℕ) → moments (with_asks es margin s ends ts) ≡ ts
 unfolding with_asks
 moments_with_asks es margin s ends [] = refl
-moments_with_asks es margin s ends (t ∷ ts) = ap (λ us. t ∷ us) (moments_with_asks es margin s (after es margin ends (asking es margin s ends t (first_of ts))) ts)
+moments_with_asks es margin s ends (t ∷ ts) = ap (λ us. t ∷ us) (moments_with_asks es margin s (ends_after_wake_up es margin ends (asking es margin s ends t (first_of ts))) ts)
 
 -- so it is a plan where they are those of one
 pub with_asks_plan : (es : List Entry) (margin s : ℕ) (ends : ℕ → ℕ) (ts : List ℕ) → InOrder s ts → IsPlan s (with_asks es margin s ends ts)
@@ -25,14 +25,14 @@ tail enough g s t ends ts forest best =
     let es = g.entries in
     let margin = g.margin in
     let round = asking es margin s ends t (first_of ts) in
-    let rest = with_asks es margin s (after es margin ends round) ts in
+    let rest = with_asks es margin s (ends_after_wake_up es margin ends round) ts in
     let order : IsPlan s (round ∷ rest) = with_asks_plan es margin s ends (t ∷ ts) (subst (InOrder s) best.at_these (plan_order s best.plan best.in_order)) in
     let keeps : Keeps es margin s ends (round ∷ rest) = subst (λ us. Keeps es margin s ends (with_asks es margin s ends us)) best.at_these (enough g s ends best.plan forest best.in_order best.kept) in
     let halves = (keeps_joined es margin s ends round rest order).1 keeps in
     record {
       plan = rest;
       in_order = order.1.1;
-      at_these = moments_with_asks es margin s (after es margin ends round) ts;
+      at_these = moments_with_asks es margin s (ends_after_wake_up es margin ends round) ts;
       kept = halves.1;
       least = λ other o k.
           let behind : IsPlan s (round ∷ other) = (order.0, (order.1.0, o)) in

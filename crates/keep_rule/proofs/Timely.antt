@@ -9,7 +9,7 @@ use Rattle.keep_tree.proofs.Carrying.{carried_at_least, carried_up}
 use Rattle.keep_tree.proofs.Chains.{ParentsFirst}
 use Rattle.keep_tree.proofs.Placed.{parents_first}
 use Rattle.keep_rule.specs.Asks.{asking, first_of, with_asks}
-use Rattle.keep_rule.specs.Ends.{after, ends_after}
+use Rattle.keep_rule.specs.Ends.{ends_after, ends_after_wake_up}
 use Rattle.keep_rule.specs.Forced.{bound, latest_end}
 use Rattle.keep_rule.specs.Keeps.{Keeps, ends_at}
 use Rattle.keep_rule.specs.Plans.{moments}
@@ -22,9 +22,9 @@ use Rattle.keep_rule.proofs.Walk.{ends_from, ends_unchanged}
 -- a list of moments with its Asks rises as the moments do
 pub asks_rise :
     (es : List Entry) (margin s : ℕ) (e : ℕ → ℕ) (t : ℕ) (ts : List ℕ) → IsRising t ts →
-    IsRising t (moments (asking es margin s e t (first_of ts) ∷ with_asks es margin s (after es margin e (asking es margin s e t (first_of ts))) ts))
+    IsRising t (moments (asking es margin s e t (first_of ts) ∷ with_asks es margin s (ends_after_wake_up es margin e (asking es margin s e t (first_of ts))) ts))
 asks_rise es margin s e t ts rising =
-    subst (λ us. IsRising t (t ∷ us)) (sym (moments_with_asks es margin s (after es margin e (asking es margin s e t (first_of ts))) ts)) (omega arith, rising)
+    subst (λ us. IsRising t (t ∷ us)) (sym (moments_with_asks es margin s (ends_after_wake_up es margin e (asking es margin s e t (first_of ts))) ts)) (omega arith, rising)
 
 -- for one entry: at each of these moments, and after the last, the bound that the moment before it leaves covers it until n
 abbrev pub IsTimely : Entry → ℕ → ℕ → ℕ → Option ℕ → List ℕ → Type 0
@@ -49,17 +49,17 @@ module _ (es : List Entry) (margin s : ℕ) (above : 0 < margin) (P : ℕ → Ty
       let lasts : need i ≤ e i = covers i here in omega arith
   lasts_from ends (t ∷ ts) prev from e grown rising covers timely i m here start before =
       let w = asking es margin s e t (first_of ts) in
-      let rest = with_asks es margin s (after es margin e w) ts in
+      let rest = with_asks es margin s (ends_after_wake_up es margin e w) ts in
       elim (cases_lt m t) [
         | inl early ↦
             subst (λ (f : ℕ → ℕ). m < f i) (sym (ends_unchanged es margin t m e (w ∷ rest) (asks_rise es margin s e t ts rising.1) early))
             (covered_at margin t (need i) m (e i) before early (covers i here))
         | inr due ↦
-            let grows : (k : ℕ) → ends k ≤ after es margin e w k = λ k. let l : ends k ≤ e k = grown k in let up = asks_grow es margin s e t (first_of ts) k in omega arith in
+            let grows : (k : ℕ) → ends k ≤ ends_after_wake_up es margin e w k = λ k. let l : ends k ≤ e k = grown k in let up = asks_grow es margin s e t (first_of ts) k in omega arith in
             let round = round_covers es margin s above P need set ends e grown t (first_of ts) covers
             (λ k there. timely_first (entry_at es k) margin (ends k) (need k) (Some t) ts (timely k there).1) in
             subst (λ (f : ℕ → ℕ). m < f i) (sym (ends_from es margin e m w rest due))
-            (lasts_from ends ts (Some t) t (after es margin e w) grows rising.1 round (λ k there. (timely k there).1) i m here due before)
+            (lasts_from ends ts (Some t) t (ends_after_wake_up es margin e w) grows rising.1 round (λ k there. (timely k there).1) i m here due before)
       ]
 
   pub timely_lasts :

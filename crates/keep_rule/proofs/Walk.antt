@@ -8,9 +8,9 @@ use Rattle.keep_tree.specs.Forest.{entry_at}
 use Rattle.keep_rule.specs.declared.wake.Wake.{Wake}
 use Rattle.keep_rule.specs.declared.wake.WakeFault.{WakeFault}
 use Rattle.keep_rule.specs.declared.wake.WakeFault.TheVariants.{BeforeStart, Unordered, BadIndex}
-use Rattle.keep_rule.specs.Ends.{after, ends_after}
+use Rattle.keep_rule.specs.Ends.{ends_after, ends_after_wake_up}
 use Rattle.keep_rule.specs.Keeps.{Keeps, ends_at}
-use Rattle.keep_rule.specs.Plans.{asks_past, fault_at, fault_from, first_some, moments, wake_fault}
+use Rattle.keep_rule.specs.Plans.{asks_past, fault_from, first_some, moments, wake_fault, wake_fault_at}
 use Rattle.keep_rule.specs.code.Replay.{KeptBetween}
 use Rattle.keep_rule.proofs.Keeping.{IsRising}
 
@@ -31,8 +31,8 @@ pub first_some_some : (a b : Option WakeFault) → is_some a ≡ true → first_
 first_some_some None b e = absurd cc
 first_some_some (Some x) b e = refl
 
-no_fault_at : (n s prev k : ℕ) (w : Wake) → fault_at n s prev k w ≡ None → (prev ≤ w.at) × (asks_past n w.asked ≡ false)
-unfolding fault_at
+no_fault_at : (n s prev k : ℕ) (w : Wake) → wake_fault_at n s prev k w ≡ None → (prev ≤ w.at) × (asks_past n w.asked ≡ false)
+unfolding wake_fault_at
 no_fault_at n s prev k w e = tests (nat_lt w.at s) (nat_lt w.at prev) (asks_past n w.asked) refl e where
   tests : (a b c : Bool) → nat_lt w.at prev ≡ b → cond a (Some (BeforeStart k)) (cond b (Some (Unordered k)) (cond c (Some (BadIndex k)) None)) ≡ None → (prev ≤ w.at) × (c ≡ false)
   tests true b c same none = absurd cc
@@ -44,7 +44,7 @@ rises_from : (n s prev k : ℕ) (ws : List Wake) → fault_from n s prev k ws �
 unfolding fault_from
 rises_from n s prev k [] e = tt
 rises_from n s prev k (w ∷ ws) e =
-    let parts = none_first (fault_at n s prev k w) (fault_from n s w.at (k + 1) ws) e in
+    let parts = none_first (wake_fault_at n s prev k w) (fault_from n s w.at (k + 1) ws) e in
     let here = no_fault_at n s prev k w parts.0 in
     (here.0, (here.1, rises_from n s w.at (k + 1) ws parts.1))
 
@@ -56,7 +56,7 @@ pub fault_from_nil : (n s prev k : ℕ) → fault_from n s prev k [] ≡ None
 unfolding fault_from
 fault_from_nil n s prev k = refl
 
-pub fault_from_cons : (n s prev k : ℕ) (w : Wake) (ws : List Wake) → fault_from n s prev k (w ∷ ws) ≡ first_some (fault_at n s prev k w) (fault_from n s w.at (k + 1) ws)
+pub fault_from_cons : (n s prev k : ℕ) (w : Wake) (ws : List Wake) → fault_from n s prev k (w ∷ ws) ≡ first_some (wake_fault_at n s prev k w) (fault_from n s w.at (k + 1) ws)
 unfolding fault_from
 fault_from_cons n s prev k w ws = refl
 
@@ -64,7 +64,7 @@ pub ends_after_nil : (es : List Entry) (margin : ℕ) (ends : ℕ → ℕ) → e
 unfolding ends_after
 ends_after_nil es margin ends = refl
 
-pub ends_after_cons : (es : List Entry) (margin : ℕ) (ends : ℕ → ℕ) (w : Wake) (ws : List Wake) → ends_after es margin ends (w ∷ ws) ≡ ends_after es margin (after es margin ends w) ws
+pub ends_after_cons : (es : List Entry) (margin : ℕ) (ends : ℕ → ℕ) (w : Wake) (ws : List Wake) → ends_after es margin ends (w ∷ ws) ≡ ends_after es margin (ends_after_wake_up es margin ends w) ws
 unfolding ends_after
 ends_after_cons es margin ends w ws = refl
 
@@ -87,7 +87,7 @@ ends_unchanged es margin from m e ws rising h = ap (ends_after es margin e) (non
 ends_before : (es : List Entry) (margin : ℕ) (ends : ℕ → ℕ) (n m : ℕ) (w : Wake) (ws : List Wake) → Rises n w.at ws → m < w.at → ends_at es margin ends (w ∷ ws) m ≡ ends
 ends_before es margin ends n m w ws r h = ends_unchanged es margin w.at m ends (w ∷ ws) (omega arith, rises_rising n w.at ws r) h
 
-pub ends_from : (es : List Entry) (margin : ℕ) (ends : ℕ → ℕ) (m : ℕ) (w : Wake) (ws : List Wake) → w.at ≤ m → ends_at es margin ends (w ∷ ws) m ≡ ends_at es margin (after es margin ends w) ws m
+pub ends_from : (es : List Entry) (margin : ℕ) (ends : ℕ → ℕ) (m : ℕ) (w : Wake) (ws : List Wake) → w.at ≤ m → ends_at es margin ends (w ∷ ws) m ≡ ends_at es margin (ends_after_wake_up es margin ends w) ws m
 unfolding ends_at ends_after
 ends_from es margin ends m w ws h =
     let due : nat_le w.at m ≡ true = grind (arith, nat_tests) in
@@ -100,7 +100,7 @@ ends_at_nil es margin ends m = refl
 -- a plan keeps where its entries live until its first wake-up, and the rest of it keeps from there
 pub keeps_cons :
     (es : List Entry) (margin s n : ℕ) (ends : ℕ → ℕ) (w : Wake) (ws : List Wake) → Rises n s (w ∷ ws) →
-    (KeptBetween es ends s w.at × Keeps es margin w.at (after es margin ends w) ws) ↔ Keeps es margin s ends (w ∷ ws)
+    (KeptBetween es ends s w.at × Keeps es margin w.at (ends_after_wake_up es margin ends w) ws) ↔ Keeps es margin s ends (w ∷ ws)
 keeps_cons es margin s n ends w ws r = (
   λ parts i m from need a over.
       elim (cases_lt m w.at) [
@@ -132,7 +132,7 @@ kept_first es margin s from ends present ws start same = (
 
 pub kept_more :
     (es : List Entry) (margin n from : ℕ) (ends : ℕ → ℕ) (w : Wake) (ws : List Wake) (kept here : Bool) (P : Type 0) → Rises n from (w ∷ ws) → IsTrue here ↔ KeptBetween es ends from w.at →
-    (IsTrue kept × Keeps es margin from ends (w ∷ ws)) ↔ P → (IsTrue (kept && here) × Keeps es margin w.at (after es margin ends w) ws) ↔ P
+    (IsTrue kept × Keeps es margin from ends (w ∷ ws)) ↔ P → (IsTrue (kept && here) × Keeps es margin w.at (ends_after_wake_up es margin ends w) ws) ↔ P
 kept_more es margin n from ends w ws kept here P r between whole =
     let walk = keeps_cons es margin from n ends w ws r in (
       λ h. let k = and_parts kept here h.0 in whole.0 (k.0, walk.0 (between.0 k.1, h.1)),

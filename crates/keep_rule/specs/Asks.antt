@@ -7,22 +7,22 @@ use Rattle.keep_tree.specs.Forest.{entry_at}
 use Rattle.keep_tree.specs.Renewal.{all_last, renewed}
 use Rattle.keep_rule.specs.declared.wake.Wake.{Wake}
 use Rattle.keep_tree.specs.Carried.{carried}
-use Rattle.keep_rule.specs.Ends.{after}
+use Rattle.keep_rule.specs.Ends.{ends_after_wake_up}
 
 -- an end that cannot wait for the next moment, or the wake-up is the last
-abbrev pub is_due : ℕ → Option ℕ → ℕ → Bool
-is_due margin None end = true
-is_due margin (Some next) end = nat_lt end (next + margin)
+abbrev pub is_end_due : ℕ → Option ℕ → ℕ → Bool
+is_end_due margin None end = true
+is_end_due margin (Some next) end = nat_lt end (next + margin)
 
 -- whether to ask i at t, where the next moment is `next`: it is renewable and alive at t; its end is less than its carried
 -- need; its end by the renewal rule would be later; and it is due
-unfoldable pub is_wanted : List Entry → ℕ → ℕ → (ℕ → ℕ) → ℕ → Option ℕ → ℕ → Bool
-is_wanted es margin s ends t next i =
-    (entry_at es i).renewable && (all_last es ends (t + 1) i && (nat_lt (ends i) (carried es s i) && (nat_lt (ends i) (renewed es margin ends t i) && is_due margin next (ends i))))
+unfoldable pub is_to_be_asked : List Entry → ℕ → ℕ → (ℕ → ℕ) → ℕ → Option ℕ → ℕ → Bool
+is_to_be_asked es margin s ends t next i =
+    (entry_at es i).renewable && (all_last es ends (t + 1) i && (nat_lt (ends i) (carried es s i) && (nat_lt (ends i) (renewed es margin ends t i) && is_end_due margin next (ends i))))
 
 -- the Asks at t, by rising index
 unfoldable pub asks : List Entry → ℕ → ℕ → (ℕ → ℕ) → ℕ → Option ℕ → List ℕ
-asks es margin s ends t next = filter (is_wanted es margin s ends t next) (range_with_len 0 (length es))
+asks es margin s ends t next = filter (is_to_be_asked es margin s ends t next) (range_with_len 0 (length es))
 
 abbrev pub asking : List Entry → ℕ → ℕ → (ℕ → ℕ) → ℕ → Option ℕ → Wake
 asking es margin s ends t next = record { at = t; asked = asks es margin s ends t next }
@@ -35,4 +35,4 @@ first_of (t ∷ ts) = Some t
 unfoldable pub with_asks : List Entry → ℕ → ℕ → (ℕ → ℕ) → List ℕ → List Wake
 with_asks es margin s ends [] = []
 with_asks es margin s ends (t ∷ ts) =
-    asking es margin s ends t (first_of ts) ∷ with_asks es margin s (after es margin ends (asking es margin s ends t (first_of ts))) ts
+    asking es margin s ends t (first_of ts) ∷ with_asks es margin s (ends_after_wake_up es margin ends (asking es margin s ends t (first_of ts))) ts

@@ -10,14 +10,14 @@ unfoldable pub is_asked : Wake → ℕ → Bool
 is_asked w i = list_any (λ j. j == i) w.asked
 
 -- the ends after one wake-up, whose requests are all judged by the ends before it
-unfoldable pub after : List Entry → ℕ → (ℕ → ℕ) → Wake → ℕ → ℕ
-after es margin ends w i = if is_asked w i then renewed es margin ends w.at i else ends i
+unfoldable pub ends_after_wake_up : List Entry → ℕ → (ℕ → ℕ) → Wake → ℕ → ℕ
+ends_after_wake_up es margin ends w i = if is_asked w i then renewed es margin ends w.at i else ends i
 
 -- the ends after a list of wake-ups
 unfoldable pub ends_after : List Entry → ℕ → (ℕ → ℕ) → List Wake → ℕ → ℕ
 ends_after es margin ends [] = ends
-ends_after es margin ends (w ∷ ws) = ends_after es margin (after es margin ends w) ws
+ends_after es margin ends (w ∷ ws) = ends_after es margin (ends_after_wake_up es margin ends w) ws
 
 -- the ends of the entries, in the order of their indices
-unfoldable pub listed : List Entry → (ℕ → ℕ) → List ℕ
-listed es ends = map ends (range_with_len 0 (length es))
+unfoldable pub ends_listed : List Entry → (ℕ → ℕ) → List ℕ
+ends_listed es ends = map ends (range_with_len 0 (length es))

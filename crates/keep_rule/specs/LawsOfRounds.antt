@@ -7,7 +7,7 @@ use Rattle.keep_tree.specs.Forest.{Forest}
 use Rattle.keep_tree.specs.Push.{IsForest}
 use Rattle.keep_rule.specs.declared.wake.Wake.{Wake}
 use Rattle.keep_rule.specs.Asks.{asking, asks, first_of, with_asks}
-use Rattle.keep_rule.specs.Ends.{after}
+use Rattle.keep_rule.specs.Ends.{ends_after_wake_up}
 use Rattle.keep_rule.specs.Keeps.{Keeps}
 use Rattle.keep_rule.specs.Least.{IsLeastAndLatest}
 use Rattle.keep_rule.specs.Plans.{IsPlan, moments}
@@ -35,7 +35,7 @@ SameRequestsLaw =
 abbrev pub TailLaw : Type 0
 TailLaw =
     (g : Forest) (s t : ℕ) (ends : ℕ → ℕ) (ts : List ℕ) → IsForest g → IsLeastAndLatest g.entries g.margin s ends (t ∷ ts) →
-    IsLeastAndLatest g.entries g.margin t (after g.entries g.margin ends (asking g.entries g.margin s ends t (first_of ts))) ts
+    IsLeastAndLatest g.entries g.margin t (ends_after_wake_up g.entries g.margin ends (asking g.entries g.margin s ends t (first_of ts))) ts
 
 -- no plan that keeps asks an entry at fewer of its wake-ups than the Asks at the same moments do
 abbrev pub FewestTimesLaw : Type 0

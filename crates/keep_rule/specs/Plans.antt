@@ -21,8 +21,8 @@ unfoldable pub asks_past : ℕ → List ℕ → Bool
 asks_past n asked = list_any (λ i. nat_le n i) asked
 
 -- what is wrong with the k-th wake-up, after one at prev, in a plan from s over n entries
-unfoldable pub fault_at : ℕ → ℕ → ℕ → ℕ → Wake → Option WakeFault
-fault_at n s prev k w =
+unfoldable pub wake_fault_at : ℕ → ℕ → ℕ → ℕ → Wake → Option WakeFault
+wake_fault_at n s prev k w =
     if nat_lt w.at s then Some (BeforeStart k) else (if nat_lt w.at prev then Some (Unordered k) else (if asks_past n w.asked then Some (BadIndex k) else None))
 
 -- the first of two answers that is one
@@ -33,7 +33,7 @@ first_some None later = later
 -- the fault of the first wake-up at fault, of which the first is the k-th and after one at prev
 unfoldable pub fault_from : ℕ → ℕ → ℕ → ℕ → List Wake → Option WakeFault
 fault_from n s prev k [] = None
-fault_from n s prev k (w ∷ ws) = first_some (fault_at n s prev k w) (fault_from n s w.at (k + 1) ws)
+fault_from n s prev k (w ∷ ws) = first_some (wake_fault_at n s prev k w) (fault_from n s w.at (k + 1) ws)
 
 -- the fault of the first wake-up that breaks Plan or asks past the entries; wake-ups count from 1
 unfoldable pub wake_fault : List Entry → ℕ → List Wake → Option WakeFault

@@ -26,9 +26,9 @@ moments_of [] = []
 moments_of (x ∷ xs) = x.at ∷ moments_of xs
 
 -- how many wake-ups the runs have
-abbrev pub counted : List Run → ℕ
-counted [] = 0
-counted (r ∷ rs) = r.count + counted rs
+abbrev pub wake_count : List Run → ℕ
+wake_count [] = 0
+wake_count (r ∷ rs) = r.count + wake_count rs
 
 -- one wake-up or more, the last of them at a moment
 pub record HasMoments (r : Run) : Type 0 where

@@ -1,10 +1,10 @@
 ghost use Rattle.std.specs.Prelude.{◌≡◌, ℕ, ◌+◌, ◌<◌, ◌↔◌, None, false, length, IfOk, IfSome, IsOkUnless, IsTrue, vec_len};
 ghost use Rattle.keep_tree.specs.Forest.{end_of, entry_at};
 ghost use Rattle.keep_tree.specs.Push.{IsForest};
-ghost use Rattle.keep_rule.specs.Ends.{after, ends_after, listed};
+ghost use Rattle.keep_rule.specs.Ends.{ends_after, ends_after_wake_up, ends_listed};
 ghost use Rattle.keep_rule.specs.Keeps.{Keeps};
 ghost use Rattle.keep_rule.specs.Plans.{asks_past, wake_fault};
-ghost use Rattle.keep_rule.specs.code.Replay.{KeptBetween, Lasts, renewed_by, shown};
+ghost use Rattle.keep_rule.specs.code.Replay.{KeptBetween, Lasts, end_renewed_by, shown_ends};
 
 use crate::wake::{Wake, WakeFault, wake_fault};
 use keep_moment::{LAST, Moment};
@@ -25,7 +25,7 @@ pub fn ends_after(
     wakes: &[Wake],
 ) -> Result<Ends, WakeFault>
     ensures ends { IfOk result (λ ends. (wake_fault forest.now.entries start wakes.now ≡ None)
-        × (ends ≡ listed forest.now.entries (ends_after forest.now.entries forest.now.margin (end_of forest.now.entries) wakes.now))) }
+        × (ends ≡ ends_listed forest.now.entries (ends_after forest.now.entries forest.now.margin (end_of forest.now.entries) wakes.now))) }
     ensures refused { IfSome (wake_fault forest.now.entries start wakes.now) (λ fault. result ≡ Err fault) }
     ensures memory { wake_fault forest.now.entries start wakes.now ≡ None → IsOkUnless result WakeFault.OutOfMemory }
 {
@@ -78,7 +78,7 @@ pub fn keeps(
 
 /// The present ends, in the order of the indices.
 fn present_ends(alloc: Global, forest: &Forest) -> Result<Vec<u64>, AllocError>
-    ensures { IfOk result (λ ends. (vec_len ends ≡ length forest.now.entries) × (shown ends.items ≡ end_of forest.now.entries)) }
+    ensures { IfOk result (λ ends. (vec_len ends ≡ length forest.now.entries) × (shown_ends ends.items ≡ end_of forest.now.entries)) }
 {
     let mut ends = Vec::new(alloc);
     for index in 0..forest.len() {
@@ -91,7 +91,7 @@ fn present_ends(alloc: Global, forest: &Forest) -> Result<Vec<u64>, AllocError>
 fn carry_lasts(forest: &Forest, ends: &[u64], lasts: &mut [u64])
     requires ends { length ends.now ≡ length forest.now.entries }
     requires lasts { length lasts.old ≡ length forest.now.entries }
-    ensures { Lasts forest.now.entries (shown ends.now) lasts.new }
+    ensures { Lasts forest.now.entries (shown_ends ends.now) lasts.new }
 {
     for index in 0..forest.len() {
         let end = ends[index as usize];
@@ -106,8 +106,8 @@ fn carry_lasts(forest: &Forest, ends: &[u64], lasts: &mut [u64])
 fn renew(forest: &Forest, wake: &Wake, lasts: &[u64], ends: &mut [u64])
     requires asked { asks_past (length forest.now.entries) wake.now.asked ≡ false }
     requires ends { length ends.old ≡ length forest.now.entries }
-    requires lasts { Lasts forest.now.entries (shown ends.old) lasts.now }
-    ensures { shown ends.new ≡ after forest.now.entries forest.now.margin (shown ends.old) wake.now }
+    requires lasts { Lasts forest.now.entries (shown_ends ends.old) lasts.now }
+    ensures { shown_ends ends.new ≡ ends_after_wake_up forest.now.entries forest.now.margin (shown_ends ends.old) wake.now }
 {
     for index in wake.asked.list() {
         let i = *index as usize;
@@ -118,7 +118,7 @@ fn renew(forest: &Forest, wake: &Wake, lasts: &[u64], ends: &mut [u64])
 /// The end after a request at `at`, of an entry with the end `end` over which every end is `last` or later.
 fn renewed_end(forest: &Forest, index: u32, at: Moment, last: u64, end: u64) -> u64
     requires { index < length forest.now.entries }
-    ensures { result ≡ renewed_by (entry_at forest.now.entries index) forest.now.margin at last end }
+    ensures { result ≡ end_renewed_by (entry_at forest.now.entries index) forest.now.margin at last end }
 {
     let entry = forest.get(index);
     if entry.renewable && at.plus(forest.margin()) <= last {

@@ -1,6 +1,6 @@
 ghost use Rattle.std.specs.Prelude.{◌≡◌, ◌+◌};
 ghost use Rattle.keep_rule.specs.declared.wake.WakeFault.TheVariants.{OutOfMemory};
-ghost use Rattle.keep_rule.specs.Plans.{asks_past, fault_at, wake_fault};
+ghost use Rattle.keep_rule.specs.Plans.{asks_past, wake_fault, wake_fault_at};
 
 use keep_moment::Moment;
 use keep_tree::{Forest, Indices};
@@ -65,7 +65,7 @@ pub(crate) fn wake_fault(forest: &Forest, start: Moment, wakes: &[Wake]) -> Opti
 }
 
 /// What is wrong with the wake-up number `count`, after one at `before`, where there are so many entries.
-#[tactic(auto, unfolding(crate::specs::Plans::fault_at))]
+#[tactic(auto, unfolding(crate::specs::Plans::wake_fault_at))]
 fn fault_at(
     entries: u32,
     start: Moment,
@@ -73,7 +73,7 @@ fn fault_at(
     count: u64,
     wake: &Wake,
 ) -> Option<WakeFault>
-    ensures { result ≡ fault_at entries start before count wake.now }
+    ensures { result ≡ wake_fault_at entries start before count wake.now }
 {
     if wake.at < start {
         return Some(WakeFault::BeforeStart(count));

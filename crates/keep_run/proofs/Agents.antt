@@ -3,12 +3,12 @@ use Rattle.std.proofs.Common.{◌≡◌, ℕ, List, Result, ◌∙◌, subst, sy
 use Rattle.keep_core.specs.declared.event.Event.{Event}
 use Rattle.keep_core.specs.declared.event.Output.{Output}
 use Rattle.keep_core.specs.declared.fault.StepFault.{StepFault}
-use Rattle.keep_core.specs.History.{Turn}
-use Rattle.keep_core.specs.State.{State}
+use Rattle.keep_core.specs.History.{CoreTurn}
+use Rattle.keep_core.specs.State.{CoreState}
 use Rattle.keep_core.proofs.Shaped.{shape}
-use Rattle.keep_run.specs.Agent.{Agent, IsFit}
+use Rattle.keep_run.specs.Agent.{AgentIsFit, RunAgent}
 
-pub fit_turned : (a : Agent) (event : Event) (result : Result Output StepFault) (new : State) → IsFit a → Turn a.keeper event result new → IsFit (record a { keeper = new })
+pub fit_turned : (a : RunAgent) (event : Event) (result : Result Output StepFault) (new : CoreState) → AgentIsFit a → CoreTurn a.keeper event result new → AgentIsFit (record a { keeper = new })
 fit_turned a event result new fit turn = fit ∙ sym (shape a.keeper new event result turn).count
 
 -- what is so of the port and the credentials after some requests is so of those in front of them

@@ -8,10 +8,10 @@ use Rattle.keep_inventory.specs.Inventories.{IsInventory, Inventory}
 use Rattle.keep_inventory.specs.declared.terms.Terms.{Terms}
 use Rattle.broker_table.specs.declared.fault.NumberedFault.{NumberedFault}
 use Rattle.keep_core.specs.declared.shortened.ShortNeed.{ShortNeed}
-use Rattle.keep_run.specs.Closed.{Beat, Course, IsClosedRun, Played, World, requests_of, rounds}
+use Rattle.keep_run.specs.Closed.{Beat, IsClosedRun, Played, RunCourse, World, request_count, rounds}
 use Rattle.keep_run.specs.Rehearse.{IsRunText}
-use Rattle.keep_run.specs.Stops.{IsStopped}
-use Rattle.keep_run.specs.Text.{beat_text, course_text, done_text, short_lines}
+use Rattle.keep_run.specs.Stops.{RunIsStopped}
+use Rattle.keep_run.specs.Text.{beat_text, course_text, done_text, short_need_lines}
 use Rattle.keep_run.proofs.AlikeCourses.{compare_from, ended, openings_both, whole}
 
 -- the one is a front of the other
@@ -29,12 +29,12 @@ equal x y same = inl ([], same ∙ sym (append-nil x))
 
 -- ---- whole runs, and runs that stop, are such texts
 
-pub run_of_course : (s : Inventory) (faults : List NumberedFault) (start : ℕ) (course : Course) (final : World) → IsClosedRun s faults start course final → IsRunText s faults start (course_text s course)
+pub run_of_course : (s : Inventory) (faults : List NumberedFault) (start : ℕ) (course : RunCourse) (final : World) → IsClosedRun s faults start course final → IsRunText s faults start (course_text s course)
 unfolding course_text
 run_of_course s faults start course final run =
-    let lines = short_lines s.forest course.short ++ flat_map (beat_text s) course.beats in
+    let lines = short_need_lines s.forest course.short ++ flat_map (beat_text s) course.beats in
     let wakes = length (rounds course.beats) in
-    let asked = requests_of course.beats in
+    let asked = request_count course.beats in
     record {
       final = final;
       next = None;
@@ -42,10 +42,10 @@ run_of_course s faults start course final run =
       asked = asked;
       lines = lines;
       so_far = record { short = course.short; opening = run.opening; opened = run.opened; beats = course.beats; played = run.played; wakes_are = refl; asked_are = refl; text_is = refl };
-      text_is = inr (refl, sym (append_assoc (short_lines s.forest course.short) (flat_map (beat_text s) course.beats) (done_text wakes asked)));
+      text_is = inr (refl, sym (append_assoc (short_need_lines s.forest course.short) (flat_map (beat_text s) course.beats) (done_text wakes asked)));
     }
 
-pub run_of_stopped : (s : Inventory) (faults : List NumberedFault) (start : ℕ) (final : World) (text : List ℕ) → IsStopped s faults start final text → IsRunText s faults start text
+pub run_of_stopped : (s : Inventory) (faults : List NumberedFault) (start : ℕ) (final : World) (text : List ℕ) → RunIsStopped s faults start final text → IsRunText s faults start text
 run_of_stopped s faults start final text stopped = record { final = final; next = Some stopped.due; wakes = 100000; asked = stopped.asked; lines = text; so_far = stopped.so_far; text_is = inl refl }
 
 module _ (g : Forest) (cs ds : List (List ℕ)) (ts : List Terms) (one : IsInventory (record { forest = g; credentials = cs; terms = ts })) (two : IsInventory (record { forest = g; credentials = ds; terms = ts })) where
@@ -58,13 +58,13 @@ module _ (g : Forest) (cs ds : List (List ℕ)) (ts : List Terms) (one : IsInven
   module _ (faults : List NumberedFault) (start : ℕ) where
     -- the lines of a run that goes further go on
     lines_on : (v : Inventory) (l : List ℕ) (short shorter : List ShortNeed) (beats front rest : List Beat) → shorter ≡ short → beats ≡ front ++ rest → flat_map (beat_text v) front ≡ l →
-        short_lines g shorter ++ flat_map (beat_text v) beats ≡ (short_lines g short ++ l) ++ flat_map (beat_text v) rest
+        short_need_lines g shorter ++ flat_map (beat_text v) beats ≡ (short_need_lines g short ++ l) ++ flat_map (beat_text v) rest
     lines_on v l short shorter beats front rest same parts text =
-        ap (λ ps. short_lines g ps ++ flat_map (beat_text v) beats) same
-        ∙ ap (λ bs. short_lines g short ++ flat_map (beat_text v) bs) parts
-        ∙ ap (λ k. short_lines g short ++ k) (flat_map-append (beat_text v) front rest)
-        ∙ ap (λ k. short_lines g short ++ (k ++ flat_map (beat_text v) rest)) text
-        ∙ sym (append_assoc (short_lines g short) l (flat_map (beat_text v) rest))
+        ap (λ ps. short_need_lines g ps ++ flat_map (beat_text v) beats) same
+        ∙ ap (λ bs. short_need_lines g short ++ flat_map (beat_text v) bs) parts
+        ∙ ap (λ k. short_need_lines g short ++ k) (flat_map-append (beat_text v) front rest)
+        ∙ ap (λ k. short_need_lines g short ++ (k ++ flat_map (beat_text v) rest)) text
+        ∙ sym (append_assoc (short_need_lines g short) l (flat_map (beat_text v) rest))
 
     none_left : (v : Inventory) (x : List ℕ) (rest : List Beat) → rest ≡ [] → x ++ flat_map (beat_text v) rest ≡ x
     none_left v x rest none = ap (λ bs. x ++ flat_map (beat_text v) bs) none ∙ append-nil x
@@ -91,7 +91,7 @@ module _ (g : Forest) (cs ds : List (List ℕ)) (ts : List Terms) (one : IsInven
                     let same : b.lines ≡ a.lines = on ∙ none_left u a.lines z.more none in
                     let beats : second.beats ≡ z.front = whole second.beats z.front z.more z.parts none in
                     let wakes : b.wakes ≡ a.wakes = second.wakes_are ∙ ap (λ bs. length (rounds bs)) beats ∙ z.alike.wakes ∙ sym first.wakes_are in
-                    let asked : b.asked ≡ a.asked = second.asked_are ∙ ap requests_of beats ∙ z.alike.asked ∙ sym first.asked_are in
+                    let asked : b.asked ≡ a.asked = second.asked_are ∙ ap request_count beats ∙ z.alike.asked ∙ sym first.asked_are in
                     elim b.text_is [
                       | inl part' ↦ more x y (done_text a.wakes a.asked) (all.1 ∙ ap (λ k. k ++ done_text a.wakes a.asked) (sym same ∙ sym part'))
                       | inr all' ↦
@@ -114,7 +114,7 @@ module _ (g : Forest) (cs ds : List (List ℕ)) (ts : List Terms) (one : IsInven
                     let same : a.lines ≡ b.lines = on ∙ none_left s b.lines z.more none in
                     let beats : first.beats ≡ z.front = whole first.beats z.front z.more z.parts none in
                     let wakes : b.wakes ≡ a.wakes = second.wakes_are ∙ z.alike.wakes ∙ ap (λ bs. length (rounds bs)) (sym beats) ∙ sym first.wakes_are in
-                    let asked : b.asked ≡ a.asked = second.asked_are ∙ z.alike.asked ∙ ap requests_of (sym beats) ∙ sym first.asked_are in
+                    let asked : b.asked ≡ a.asked = second.asked_are ∙ z.alike.asked ∙ ap request_count (sym beats) ∙ sym first.asked_are in
                     elim a.text_is [
                       | inl part ↦ less x y (done_text b.wakes b.asked) (all'.1 ∙ ap (λ k. k ++ done_text b.wakes b.asked) (sym same ∙ sym part))
                       | inr all ↦

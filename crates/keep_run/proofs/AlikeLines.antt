@@ -10,27 +10,27 @@ use Rattle.keep_core.specs.declared.event.Event.TheVariants as events
 use Rattle.keep_core.specs.declared.event.Output.{Output}
 use Rattle.keep_core.specs.declared.event.Output.TheVariants as out
 use Rattle.keep_core.specs.declared.fault.StepFault.TheVariants.{ClockBack, OutOfRange}
-use Rattle.keep_core.specs.History.{Turn}
-use Rattle.keep_core.specs.Refusal.{refusal, unless_closed}
-use Rattle.keep_core.specs.State.{State}
+use Rattle.keep_core.specs.History.{CoreTurn}
+use Rattle.keep_core.specs.Refusal.{step_refusal, unless_closed}
+use Rattle.keep_core.specs.State.{CoreState}
 use Rattle.keep_core.proofs.Once.{once}
 use Rattle.keep_core.proofs.Shaped.{shape}
 use Rattle.keep_exchange.specs.Exchanges.{Behind}
-use Rattle.keep_alike.specs.Alike.{AreBrokersAlike, IsKept}
-use Rattle.keep_run.specs.Secrecy.{AlikeAnswersLaw, AreSidesAlike}
-use Rattle.keep_run.specs.Closed.{Exchanged, World, next_by, taken}
+use Rattle.keep_alike.specs.Alike.{AreBrokersAlike, KeepsSupplied}
+use Rattle.keep_run.specs.Secrecy.{AlikeAnswersLaw, AreWorldsAlike}
+use Rattle.keep_run.specs.Closed.{Exchanged, World, next_by, shorts_taken}
 use Rattle.keep_lines.specs.declared.event_line.Heard.{Heard}
 use Rattle.keep_lines.specs.declared.event_line.Heard.TheVariants.{Tick, Need, Unknown}
-use Rattle.keep_run.specs.Listening.{AreHeard, IsLineHeard}
-use Rattle.keep_run.specs.Hearing.{IsHeard, IsNeeded, TicksLive, last_line, next_line}
+use Rattle.keep_run.specs.Listening.{EventLineIsHeard, EventLinesAreHeard}
+use Rattle.keep_run.specs.Hearing.{EventIsHeard, NeedIsInForce, TicksLive, last_tick_line, next_tick_line}
 use Rattle.keep_run.specs.Stops.{both}
-use Rattle.keep_run.specs.Text.{beat_text, inventory_with, short_lines}
+use Rattle.keep_run.specs.Text.{beat_text, inventory_with, short_need_lines}
 use Rattle.keep_run.proofs.Shaped.{kept_shaped}
 use Rattle.keep_run.proofs.AlikeRuns.{beats_both}
 
 -- a tick before the last moment is no step
-late_refused : (s k : State) (t : ℕ) (output : Output) → t < s.last → Turn s (events.Tick t) (Ok output) k → ⊥
-unfolding refusal
+late_refused : (s k : CoreState) (t : ℕ) (output : Output) → t < s.last → CoreTurn s (events.Tick t) (Ok output) k → ⊥
+unfolding step_refusal
 late_refused s k t output late turn =
     let back : nat_lt t s.last ≡ true = grind (arith, nat_tests) in
     let rest = cond-true (nat_lt t s.last) (Some ClockBack) (unless_closed s) back in
@@ -39,16 +39,16 @@ late_refused s k t output late turn =
       | inr near ↦ (let bad : None ≡ Some ClockBack = sym turn.0 ∙ cond-false (nat_lt LAST t) (Some OutOfRange) _ near ∙ rest in cc)
     ]
 
-last_of : (o : Output) (xs ys : List Exchanged) → next_by o ys ≡ next_by o xs → last_line o ys ≡ last_line o xs
-last_of (out.Ask asked) xs ys same = ap next_line same
+last_of : (o : Output) (xs ys : List Exchanged) → next_by o ys ≡ next_by o xs → last_tick_line o ys ≡ last_tick_line o xs
+last_of (out.Ask asked) xs ys same = ap next_tick_line same
 last_of (out.Sleep w) xs ys same = refl
 last_of out.Idle xs ys same = refl
 last_of out.Waiting xs ys same = refl
 last_of (out.Round next) xs ys same = refl
 last_of out.Planned xs ys same = refl
 
-last_same : (o p : Output) (xs ys : List Exchanged) → p ≡ o → next_by p ys ≡ next_by o xs → last_line p ys ≡ last_line o xs
-last_same o p xs ys same next = ap (λ (q : Output). last_line q ys) same ∙ last_of o xs ys (ap (λ (q : Output). next_by q ys) (sym same) ∙ next)
+last_same : (o p : Output) (xs ys : List Exchanged) → p ≡ o → next_by p ys ≡ next_by o xs → last_tick_line p ys ≡ last_tick_line o xs
+last_same o p xs ys same next = ap (λ (q : Output). last_tick_line q ys) same ∙ last_of o xs ys (ap (λ (q : Output). next_by q ys) (sym same) ∙ next)
 
 module _ (g : Forest) (cs ds : List (List ℕ)) (ts : List Terms) (one : IsInventory (record { forest = g; credentials = cs; terms = ts })) (two : IsInventory (record { forest = g; credentials = ds; terms = ts })) where
   -- what one line leaves
@@ -56,17 +56,17 @@ module _ (g : Forest) (cs ds : List (List ℕ)) (ts : List Terms) (one : IsInven
     text_is : more ≡ text
     keeper : last.keeper ≡ new.keeper
     brokers : AreBrokersAlike g cs ds new.behind last.behind
-    kept : IsKept g new.keeper.forest
+    kept : KeepsSupplied g new.keeper.forest
 
-  nothing_done : (k : State) (b c : Option Behind) (new last : World) (text more said : List ℕ) → IsKept g k.forest → AreBrokersAlike g cs ds b c → new ≡ both k b → last ≡ both k c → text ≡ said → more ≡ said → AreHeardAlike new last text more
+  nothing_done : (k : CoreState) (b c : Option Behind) (new last : World) (text more said : List ℕ) → KeepsSupplied g k.forest → AreBrokersAlike g cs ds b c → new ≡ both k b → last ≡ both k c → text ≡ said → more ≡ said → AreHeardAlike new last text more
   nothing_done k b c new last text more said like alike stays stays' is is' = record {
     text_is = is' ∙ sym is;
     keeper = ap (λ (w : World). w.keeper) stays' ∙ ap (λ (w : World). w.keeper) (sym stays);
     brokers = subst (λ (w : World). AreBrokersAlike g cs ds w.behind last.behind) (sym stays) (subst (λ (w : World). AreBrokersAlike g cs ds b w.behind) (sym stays') alike);
-    kept = subst (λ (w : World). IsKept g w.keeper.forest) (sym stays) like;
+    kept = subst (λ (w : World). KeepsSupplied g w.keeper.forest) (sym stays) like;
   }
 
-  ticks_alike : (port other t : ℕ) (k : State) (b c : Option Behind) (new last : World) (text more : List ℕ) → IsKept g k.forest → AreBrokersAlike g cs ds b c → TicksLive port cs t (both k b) new text → TicksLive other ds t (both k c) last more →
+  ticks_alike : (port other t : ℕ) (k : CoreState) (b c : Option Behind) (new last : World) (text more : List ℕ) → KeepsSupplied g k.forest → AreBrokersAlike g cs ds b c → TicksLive port cs t (both k b) new text → TicksLive other ds t (both k c) last more →
       AreHeardAlike new last text more
   ticks_alike port other t k b c new last text more like alike a d =
       let x = a.0 in
@@ -74,7 +74,7 @@ module _ (g : Forest) (cs ds : List (List ℕ)) (ts : List Terms) (one : IsInven
       let beats = beats_both g cs ds ts one two k.forest [] like port other k b c x y new last like (d.1.0 ∙ sym a.1.0) alike a.1.1.0 d.1.1.0 in
       record {
         text_is = d.1.1.1
-            ∙ ap (λ l. l ++ last_line y.output y.answers) beats.text
+            ∙ ap (λ l. l ++ last_tick_line y.output y.answers) beats.text
             ∙ ap (λ l. beat_text (inventory_with cs k.forest) x ++ l) (last_same x.output y.output x.answers y.answers beats.output beats.next)
             ∙ sym a.1.1.1;
         keeper = beats.keeper;
@@ -82,45 +82,45 @@ module _ (g : Forest) (cs ds : List (List ℕ)) (ts : List Terms) (one : IsInven
         kept = beats.kept;
       }
 
-  needs_alike : (i until : ℕ) (k : State) (b c : Option Behind) (new last : World) (text more : List ℕ) → IsKept g k.forest → AreBrokersAlike g cs ds b c → IsNeeded i until (both k b) new text → IsNeeded i until (both k c) last more → AreHeardAlike new last text more
+  needs_alike : (i until : ℕ) (k : CoreState) (b c : Option Behind) (new last : World) (text more : List ℕ) → KeepsSupplied g k.forest → AreBrokersAlike g cs ds b c → NeedIsInForce i until (both k b) new text → NeedIsInForce i until (both k c) last more → AreHeardAlike new last text more
   needs_alike i until k b c new last text more like alike a d =
       let event = events.Need i until in
       let turns = once k a.keeper d.keeper event (Ok out.Planned) (Ok out.Planned) (λ bad. cc) (λ bad. cc) a.turn d.turn in
-      let first : new.keeper ≡ taken a.keeper = ap (λ (w : World). w.keeper) a.is in
+      let first : new.keeper ≡ shorts_taken a.keeper = ap (λ (w : World). w.keeper) a.is in
       record {
-        text_is = d.text_is ∙ ap (λ (z : State). short_lines z.forest z.shortened ++ codes "planned\n") (sym turns.1) ∙ sym a.text_is;
-        keeper = ap (λ (w : World). w.keeper) d.is ∙ ap taken (sym turns.1) ∙ sym first;
+        text_is = d.text_is ∙ ap (λ (z : CoreState). short_need_lines z.forest z.shortened ++ codes "planned\n") (sym turns.1) ∙ sym a.text_is;
+        keeper = ap (λ (w : World). w.keeper) d.is ∙ ap shorts_taken (sym turns.1) ∙ sym first;
         brokers = subst (λ (w : World). AreBrokersAlike g cs ds w.behind last.behind) (sym a.is) (subst (λ (w : World). AreBrokersAlike g cs ds b w.behind) (sym d.is) alike);
-        kept = subst (λ (z : State). IsKept g z.forest) (sym first) (kept_shaped g k.forest a.keeper.forest like (shape k a.keeper event (Ok out.Planned) a.turn));
+        kept = subst (λ (z : CoreState). KeepsSupplied g z.forest) (sym first) (kept_shaped g k.forest a.keeper.forest like (shape k a.keeper event (Ok out.Planned) a.turn));
       }
 
-  heard_alike : (port other : ℕ) (says : Heard) (k : State) (b c : Option Behind) (new last : World) (text more : List ℕ) → IsKept g k.forest → AreBrokersAlike g cs ds b c → IsHeard port cs (both k b) says new text → IsHeard other ds (both k c) says last more →
+  heard_alike : (port other : ℕ) (says : Heard) (k : CoreState) (b c : Option Behind) (new last : World) (text more : List ℕ) → KeepsSupplied g k.forest → AreBrokersAlike g cs ds b c → EventIsHeard port cs (both k b) says new text → EventIsHeard other ds (both k c) says last more →
       AreHeardAlike new last text more
   heard_alike port other (Tick t) k b c new last text more like alike (inl a) (inl d) = nothing_done k b c new last text more (codes "fault clock-back\n") like alike a.1.0 d.1.0 a.1.1 d.1.1
   heard_alike port other (Tick t) k b c new last text more like alike (inl a) (inr d) =
-      absurd (late_refused k d.1.1.0.keeper t d.0.output a.0 (subst (λ n. Turn k (events.Tick n) (Ok d.0.output) d.1.1.0.keeper) d.1.0 d.1.1.0.turn))
+      absurd (late_refused k d.1.1.0.keeper t d.0.output a.0 (subst (λ n. CoreTurn k (events.Tick n) (Ok d.0.output) d.1.1.0.keeper) d.1.0 d.1.1.0.turn))
   heard_alike port other (Tick t) k b c new last text more like alike (inr a) (inl d) =
-      absurd (late_refused k a.1.1.0.keeper t a.0.output d.0 (subst (λ n. Turn k (events.Tick n) (Ok a.0.output) a.1.1.0.keeper) a.1.0 a.1.1.0.turn))
+      absurd (late_refused k a.1.1.0.keeper t a.0.output d.0 (subst (λ n. CoreTurn k (events.Tick n) (Ok a.0.output) a.1.1.0.keeper) a.1.0 a.1.1.0.turn))
   heard_alike port other (Tick t) k b c new last text more like alike (inr a) (inr d) = ticks_alike port other t k b c new last text more like alike a d
   heard_alike port other (Need i until) k b c new last text more like alike a d = needs_alike i until k b c new last text more like alike a d
   heard_alike port other Unknown k b c new last text more like alike a d = nothing_done k b c new last text more (codes "fault unknown-name\n") like alike a.0 d.0 a.1 d.1
 
-  line_alike : (port other : ℕ) (k : State) (b c : Option Behind) (line : List ℕ) (new last : World) (text more : List ℕ) → IsKept g k.forest → AreBrokersAlike g cs ds b c → IsLineHeard port cs (both k b) line new text →
-      IsLineHeard other ds (both k c) line last more → (more ≡ text) × (AreSidesAlike g cs ds new last × IsKept g new.keeper.forest)
+  line_alike : (port other : ℕ) (k : CoreState) (b c : Option Behind) (line : List ℕ) (new last : World) (text more : List ℕ) → KeepsSupplied g k.forest → AreBrokersAlike g cs ds b c → EventLineIsHeard port cs (both k b) line new text →
+      EventLineIsHeard other ds (both k c) line last more → (more ≡ text) × (AreWorldsAlike g cs ds new last × KeepsSupplied g new.keeper.forest)
   line_alike port other k b c line new last text more like alike a d =
       let says : d.says ≡ a.says = (let e = sym d.is ∙ a.is in cc) in
-      let heard = heard_alike port other a.says k b c new last text more like alike a.heard (subst (λ (h : Heard). IsHeard other ds (both k c) h last more) says d.heard) in
+      let heard = heard_alike port other a.says k b c new last text more like alike a.heard (subst (λ (h : Heard). EventIsHeard other ds (both k c) h last more) says d.heard) in
       (heard.text_is, (record { keeper = heard.keeper; brokers = heard.brokers }, heard.kept))
 
-  lines_alike : (port other : ℕ) (old begun new last : World) (lines : List (List ℕ)) (text more : List ℕ) → IsKept g old.keeper.forest → AreSidesAlike g cs ds old begun → AreHeard port cs old lines new text → AreHeard other ds begun lines last more →
-      (more ≡ text) × AreSidesAlike g cs ds new last
+  lines_alike : (port other : ℕ) (old begun new last : World) (lines : List (List ℕ)) (text more : List ℕ) → KeepsSupplied g old.keeper.forest → AreWorldsAlike g cs ds old begun → EventLinesAreHeard port cs old lines new text → EventLinesAreHeard other ds begun lines last more →
+      (more ≡ text) × AreWorldsAlike g cs ds new last
   lines_alike port other old begun new last [] text more like alike a d = (
     d.1 ∙ sym a.1,
-    subst (λ (x : World). AreSidesAlike g cs ds x last) (sym a.0) (subst (AreSidesAlike g cs ds old) (sym d.0) alike),
+    subst (λ (x : World). AreWorldsAlike g cs ds x last) (sym a.0) (subst (AreWorldsAlike g cs ds old) (sym d.0) alike),
   )
   lines_alike port other old begun new last (line ∷ lines) text more like alike a d =
       let k = old.keeper in
-      let second = subst (λ (z : State). IsLineHeard other ds (both z begun.behind) line d.0 d.1.0) alike.keeper d.1.1.1.0 in
+      let second = subst (λ (z : CoreState). EventLineIsHeard other ds (both z begun.behind) line d.0 d.1.0) alike.keeper d.1.1.1.0 in
       let here = line_alike port other k old.behind begun.behind line a.0 d.0 a.1.0 d.1.0 like alike.brokers a.1.1.1.0 second in
       let rest = lines_alike port other a.0 d.0 new last lines a.1.1.0 d.1.1.0 here.1.1 here.1.0 a.1.1.1.1.0 d.1.1.1.1.0 in
       (d.1.1.1.1.1 ∙ ap (λ l. l ++ d.1.1.0) here.0 ∙ ap (λ l. a.1.0 ++ l) rest.0 ∙ sym a.1.1.1.1.1, rest.1)

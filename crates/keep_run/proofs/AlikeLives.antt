@@ -2,16 +2,16 @@
 -- lookups on, and after them line by line, as far as both go.
 use Rattle.std.proofs.Common.{◌≡◌, ◌∙◌, ℕ, Bool, List, [], ◌∷◌, ◌++◌, refl, sym, ap, ap₂, subst}
 use Rattle.std.proofs.lemmas.List.{append_assoc}
-use Rattle.keep_core.specs.State.{State, unplanned}
+use Rattle.keep_core.specs.State.{CoreState, unplanned}
 use Rattle.keep_core.proofs.Shaped.{replanned}
 use Rattle.keep_start.specs.Start.{from_start}
 use Rattle.keep_start.proofs.Started.{shaped_start}
-use Rattle.keep_alike.specs.Alike.{IsKept}
-use Rattle.keep_run.specs.Closed.{World, taken}
-use Rattle.keep_run.specs.Listening.{AreHeard}
+use Rattle.keep_alike.specs.Alike.{KeepsSupplied}
+use Rattle.keep_run.specs.Closed.{World, shorts_taken}
+use Rattle.keep_run.specs.Listening.{EventLinesAreHeard}
 use Rattle.keep_run.specs.LiveRun.{IsLiveRun}
 use Rattle.keep_run.specs.Looking.{Looked}
-use Rattle.keep_run.specs.Secrecy.{AlikeRunsLaw, AlikeSoFarLaw, AlikeWholeLaw, Begins}
+use Rattle.keep_run.specs.Secrecy.{AlikeRunsLaw, AlikeSoFarLaw, AlikeWholeLaw, IsBeginningOf}
 use Rattle.keep_run.proofs.Shaped.{kept_shaped}
 use Rattle.keep_run.proofs.AlikeLines.{alike_answers}
 use Rattle.keep_run.proofs.AlikeLookups.{opened_both, opened_looked}
@@ -25,9 +25,9 @@ alike_whole read g cs ds ts one two port other start always b c lines final last
     let opened = opened_both g cs ds ts one two read port other start always b c run.opening again.opening run.before again.before tables dated a d in
     let looked_forest = a.looked.inventory.forest in
     let h = (from_start a.looked.inventory always start).forest in
-    let keeper : run.opening.keeper ≡ taken a.keeper = ap (λ (w : World). w.keeper) a.is in
-    let kept : IsKept g run.opening.keeper.forest =
-    subst (λ (k : State). IsKept g k.forest) (sym keeper) (kept_shaped g looked_forest a.keeper.forest looked.kept (replanned looked_forest (unplanned h) start a.keeper (shaped_start a.looked.inventory always start) a.planned)) in
+    let keeper : run.opening.keeper ≡ shorts_taken a.keeper = ap (λ (w : World). w.keeper) a.is in
+    let kept : KeepsSupplied g run.opening.keeper.forest =
+    subst (λ (k : CoreState). KeepsSupplied g k.forest) (sym keeper) (kept_shaped g looked_forest a.keeper.forest looked.kept (replanned looked_forest (unplanned h) start a.keeper (shaped_start a.looked.inventory always start) a.planned)) in
     let heard = alike_answers g cs ds ts one two port other run.opening again.opening final last lines run.spoken again.spoken kept opened.1 run.heard again.heard in
     (again.text_is ∙ ap₂ (λ x y. x ++ y) opened.0 heard.0 ∙ sym run.text_is, heard.1)
 
@@ -35,9 +35,9 @@ alike_whole read g cs ds ts one two port other start always b c lines final last
 
 -- these lines were heard, with this text, which is how that one begins
 abbrev HeardFirst : ℕ → List (List ℕ) → World → List (List ℕ) → List ℕ → Type 0
-HeardFirst port cs old lines text = (mid : World) × ((front : List ℕ) × (AreHeard port cs old lines mid front × Begins front text))
+HeardFirst port cs old lines text = (mid : World) × ((front : List ℕ) × (EventLinesAreHeard port cs old lines mid front × IsBeginningOf front text))
 
-heard_first : (port : ℕ) (cs : List (List ℕ)) (old new : World) (lines later : List (List ℕ)) (text : List ℕ) → AreHeard port cs old (lines ++ later) new text → HeardFirst port cs old lines text
+heard_first : (port : ℕ) (cs : List (List ℕ)) (old new : World) (lines later : List (List ℕ)) (text : List ℕ) → EventLinesAreHeard port cs old (lines ++ later) new text → HeardFirst port cs old lines text
 heard_first port cs old new [] later text a = (old, ([], ((refl, refl), (text, refl))))
 heard_first port cs old new (line ∷ lines) later text a =
     let own = a.1.0 in
@@ -52,7 +52,7 @@ heard_first port cs old new (line ∷ lines) later text a =
     )
 
 abbrev RunFirst : ℕ → ℕ → List Bool → Looked → List (List ℕ) → List ℕ → Type 0
-RunFirst port start always old lines text = (mid : World) × ((front : List ℕ) × (IsLiveRun port start always old lines mid front × Begins front text))
+RunFirst port start always old lines text = (mid : World) × ((front : List ℕ) × (IsLiveRun port start always old lines mid front × IsBeginningOf front text))
 
 run_first : (port start : ℕ) (always : List Bool) (old : Looked) (lines later : List (List ℕ)) (final : World) (text : List ℕ) → IsLiveRun port start always old (lines ++ later) final text → RunFirst port start always old lines text
 run_first port start always old lines later final text run =

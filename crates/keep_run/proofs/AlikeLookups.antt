@@ -5,12 +5,12 @@ use Rattle.std.proofs.lemmas.Bool.{cond-true}
 use Rattle.std.proofs.lemmas.List.Elements.{All-head, All-nil, All-cons, All-tail}
 use Rattle.std.specs.List.{All, range_with_len}
 use Rattle.keep_core.specs.Replan.{Replan}
-use Rattle.keep_core.specs.State.{State, unplanned}
+use Rattle.keep_core.specs.State.{CoreState, unplanned}
 use Rattle.keep_core.proofs.Orders.{replan_once}
 use Rattle.keep_exchange.specs.declared.fault.ExchangeFault.{ExchangeFault}
 use Rattle.keep_exchange.specs.declared.fault.ExchangeFault.TheVariants.{Http}
-use Rattle.keep_exchange.specs.Exchanges.{Behind, IsExchanged, received, reply_of, wire_of}
-use Rattle.keep_exchange.specs.Lookups.{IsLookedUp, applied, behind_if, looked, lookup_in}
+use Rattle.keep_exchange.specs.Exchanges.{Behind, IsExchanged, received, reply_that_came, wire_of}
+use Rattle.keep_exchange.specs.Lookups.{EntryIsLookedUp, applied, behind_if, inventory_after_lookup, lookup_in}
 use Rattle.keep_exchange.specs.Requests.{lookup_of, looked_as}
 use Rattle.keep_inventory.specs.Inventories.{IsInventory, Inventory, credential_at, terms_at}
 use Rattle.keep_inventory.specs.Lookup.{lookup_fault, told, told_entry, told_terms}
@@ -30,9 +30,9 @@ use Rattle.broker_table.specs.declared.refusal.Refusal.TheVariants.{UnsupportedP
 use Rattle.broker_table.specs.declared.row.Row.{Row}
 use Rattle.broker_table.specs.declared.served.Served.{Served}
 use Rattle.broker_table.specs.declared.served.Served.TheVariants as served
-use Rattle.broker_table.specs.Request.{status_of}
-use Rattle.broker_table.specs.Table.{Table}
-use Rattle.broker_table.specs.Step.{Answer, IsBody, Says, Tells, drops, refuses, seconds_to, step, tells}
+use Rattle.broker_table.specs.Request.{status_of_refusal}
+use Rattle.broker_table.specs.Table.{BrokerTable}
+use Rattle.broker_table.specs.Step.{BrokerAnswer, IsReplyBody, SaysAnswer, TellsRow, broker_step, drops, refuses, seconds_to, tells}
 use Rattle.vault_http.specs.declared.http_fault.HttpFault.TheVariants as https
 use Rattle.vault_http.specs.declared.known.TheConstants.{MOST_MESSAGE}
 use Rattle.vault_http.specs.declared.reply.Reply.{Reply}
@@ -45,12 +45,12 @@ use Rattle.vault_json.specs.Laws.{LookedLeaseIsRead}
 use Rattle.vault_json.specs.Lookup.{lookup_lease_answer}
 use Rattle.vault_json.specs.Written.{looked_self_text}
 use Rattle.keep_start.specs.Start.{from_start}
-use Rattle.keep_alike.specs.Alike.{AreBrokersAlike, AreDated, AreTablesAlike, IsKept}
-use Rattle.keep_run.specs.Closed.{World, taken}
+use Rattle.keep_alike.specs.Alike.{AreBrokersAlike, AreDated, AreTablesAlike, KeepsSupplied}
+use Rattle.keep_run.specs.Closed.{World, shorts_taken}
 use Rattle.keep_run.specs.LiveRun.{IsLiveOpening}
-use Rattle.keep_run.specs.Looking.{AreLookedUp, Looked, first, looked_text}
-use Rattle.keep_run.specs.Secrecy.{AlikeLookupsLaw, AlikeOpeningsLaw, AreLookedAlike, AreSidesAlike}
-use Rattle.keep_run.specs.Text.{short_lines}
+use Rattle.keep_run.specs.Looking.{AreLookedUp, Looked, first_indices, looked_text}
+use Rattle.keep_run.specs.Secrecy.{AlikeLookupsLaw, AlikeOpeningsLaw, AreLookedAlike, AreWorldsAlike}
+use Rattle.keep_run.specs.Text.{short_need_lines}
 use Rattle.keep_alike.proofs.Kept.{kept_itself, kept_with}
 use Rattle.keep_alike.specs.Answers.{AnswersOf, Speaks, look_for}
 use Rattle.keep_alike.proofs.Dated.{if_both, step_dated}
@@ -79,9 +79,9 @@ module _ (g : Forest) where
 
   -- what it leaves of an inventory
   abbrev Leaves : Inventory → Inventory → Type 0
-  Leaves v new = IsKept g new.forest × (new.credentials ≡ v.credentials)
+  Leaves v new = KeepsSupplied g new.forest × (new.credentials ≡ v.credentials)
 
-  told_leaves : (v : Inventory) (i t : ℕ) → i < length v.forest.entries → IsKept g v.forest → (lookup : Lookup) → lookup_fault v i lookup ≡ None → Leaves v (told v i lookup t)
+  told_leaves : (v : Inventory) (i t : ℕ) → i < length v.forest.entries → KeepsSupplied g v.forest → (lookup : Lookup) → lookup_fault v i lookup ≡ None → Leaves v (told v i lookup t)
   unfolding told
   told_leaves v i t within like lookup free =
       let e = entry_at v.forest.entries i in
@@ -91,7 +91,7 @@ module _ (g : Forest) where
         refl,
       )
 
-  module _ (v new : Inventory) (i t : ℕ) (within : i < length v.forest.entries) (like : IsKept g v.forest) where
+  module _ (v new : Inventory) (i t : ℕ) (within : i < length v.forest.entries) (like : KeepsSupplied g v.forest) where
     abbrev LeavesIf : Option Inventory → Type 0
     LeavesIf o = o ≡ Some new → Leaves v new
 
@@ -104,7 +104,7 @@ module _ (g : Forest) where
           subst (Leaves v) taken' (told_leaves v i t within like lookup free)
       by_fault (Some fault) other is' = absurd (let bad : None ≡ Some new = is' in cc)
 
-    reply_leaves : (came : Result Reply ExchangeFault) → LeavesIf (looked v i t came)
+    reply_leaves : (came : Result Reply ExchangeFault) → LeavesIf (inventory_after_lookup v i t came)
     reply_leaves (Err fault) is = absurd (let bad : None ≡ Some new = is in cc)
     reply_leaves (Ok r) is =
         let answer = lookup_in (entry_at v.forest.entries i).kind r.body in
@@ -115,7 +115,7 @@ module _ (g : Forest) where
   looked_lease Token port xs i e f same = refl
   looked_lease Lease port xs i e f same = ap (λ p. looked_as Lease port xs i (record e { parent = p })) (same refl)
 
-  lookup_same : (port : ℕ) (xs : List (List ℕ)) (h : Forest) (i : ℕ) → IsKept g h → lookup_of port xs h i ≡ lookup_of port xs g i
+  lookup_same : (port : ℕ) (xs : List (List ℕ)) (h : Forest) (i : ℕ) → KeepsSupplied g h → lookup_of port xs h i ≡ lookup_of port xs g i
   unfolding lookup_of
   lookup_same port xs h i like =
       looked_lease (entry_at h.entries i).kind port xs i (entry_at g.entries i) (entry_at h.entries i) (λ lease. like.owners i (sym (like.kinds i) ∙ lease))
@@ -127,7 +127,7 @@ mapped_if : {X Y : Type 0} (f : X → Y) (b : Bool) (x : Option X) (y : Option Y
 mapped_if f true x y same = same
 mapped_if f false x y same = refl
 
-by_refusal : {X : Type 0} (v : Refusal) (x : Option X) → cond (status_of v == 200) x None ≡ None
+by_refusal : {X : Type 0} (v : Refusal) (x : Option X) → cond (status_of_refusal v == 200) x None ≡ None
 by_refusal UnsupportedPath x = refl
 by_refusal UnsupportedMethod x = refl
 by_refusal PermissionDenied x = refl
@@ -135,9 +135,9 @@ by_refusal BadRequest x = refl
 by_refusal UnknownLease x = refl
 by_refusal NotRenewable x = refl
 
-none_of_refusal : (v : Inventory) (i t : ℕ) (refusal : Refusal) (reply : Reply) → reply.status ≡ status_of refusal → looked v i t (received (served.Reply reply)) ≡ None
+none_of_refusal : (v : Inventory) (i t : ℕ) (refusal : Refusal) (reply : Reply) → reply.status ≡ status_of_refusal refusal → inventory_after_lookup v i t (received (served.Reply reply)) ≡ None
 none_of_refusal v i t refusal reply is =
-    if_both (λ r. looked v i t r ≡ None) (nat_le (length (reply_text reply)) MOST_MESSAGE) (Ok reply) (Err (Http https.TooLong))
+    if_both (λ r. inventory_after_lookup v i t r ≡ None) (nat_le (length (reply_text reply)) MOST_MESSAGE) (Ok reply) (Err (Http https.TooLong))
     (ap (λ n. cond (n == 200) (applied v i t (lookup_in (entry_at v.forest.entries i).kind reply.body)) None) is ∙ by_refusal refusal (applied v i t (lookup_in (entry_at v.forest.entries i).kind reply.body)))
     refl
 
@@ -152,7 +152,7 @@ module _ (g : Forest) (cs ds : List (List ℕ)) (ts : List Terms) (one : IsInven
   other_of v = record v { credentials = ds }
 
   abbrev Alike : Inventory → ℕ → ℕ → Served → Served → Type 0
-  Alike v i t a b = looked (other_of v) i t (received b) ≡ option_map other_of (looked v i t (received a))
+  Alike v i t a b = inventory_after_lookup (other_of v) i t (received b) ≡ option_map other_of (inventory_after_lookup v i t (received a))
 
   -- of a token, one lookup is applied alike
   applied_alike : (v : Inventory) (i t : ℕ) → (entry_at v.forest.entries i).kind ≡ Token → (answer : Result Lookup ReplyFault) → applied (other_of v) i t answer ≡ option_map other_of (applied v i t answer)
@@ -166,44 +166,44 @@ module _ (g : Forest) (cs ds : List (List ℕ)) (ts : List Terms) (one : IsInven
       ap (λ k. cond (is_none (cond (is_lease k) (cond (bytes_eq (credential_at ds i) id) None (Some OtherEntry)) (Some OtherKind))) (Some (told (other_of v) i lookup t)) None) token
       ∙ sym (ap (λ k. option_map other_of (cond (is_none (cond (is_lease k) (cond (bytes_eq (credential_at v.credentials i) id) None (Some OtherEntry)) (Some OtherKind))) (Some (told v i lookup t)) None)) token)
 
-  reply_alike : (v : Inventory) (i t : ℕ) → (entry_at v.forest.entries i).kind ≡ Token → (r : Result Reply ExchangeFault) → looked (other_of v) i t r ≡ option_map other_of (looked v i t r)
+  reply_alike : (v : Inventory) (i t : ℕ) → (entry_at v.forest.entries i).kind ≡ Token → (r : Result Reply ExchangeFault) → inventory_after_lookup (other_of v) i t r ≡ option_map other_of (inventory_after_lookup v i t r)
   reply_alike v i t token (Err fault) = refl
   reply_alike v i t token (Ok r) =
       let answer = lookup_in (entry_at v.forest.entries i).kind r.body in
       mapped_if other_of (r.status == 200) (applied v i t answer) (applied (other_of v) i t answer) (applied_alike v i t token answer)
 
-  refused_alike : (v : Inventory) (i t : ℕ) (x y : Refusal) (a b : Served) → Says t (refuses x) a → Says t (refuses y) b → Alike v i t a b
+  refused_alike : (v : Inventory) (i t : ℕ) (x y : Refusal) (a b : Served) → SaysAnswer t (refuses x) a → SaysAnswer t (refuses y) b → Alike v i t a b
   refused_alike v i t x y served.Dropped b p q = absurd p
   refused_alike v i t x y (served.Reply reply) served.Dropped p q = absurd q
   refused_alike v i t x y (served.Reply reply) (served.Reply other) p q = none_of_refusal (other_of v) i t y other q.0 ∙ sym (ap (option_map other_of) (none_of_refusal v i t x reply p.0))
 
-  dropped_alike : (v : Inventory) (i t : ℕ) (a b : Served) → Says t drops a → Says t drops b → Alike v i t a b
+  dropped_alike : (v : Inventory) (i t : ℕ) (a b : Served) → SaysAnswer t drops a → SaysAnswer t drops b → Alike v i t a b
   dropped_alike v i t served.Dropped served.Dropped p q = refl
   dropped_alike v i t (served.Reply reply) b p q = absurd p
   dropped_alike v i t served.Dropped (served.Reply other) p q = absurd q
 
-  token_alike : (v : Inventory) (i t : ℕ) (r q : Row) → (entry_at v.forest.entries i).kind ≡ Token → q ≡ record r { credential = q.credential } → (a b : Served) → Tells t LookupSelf r a → Tells t LookupSelf q b → Alike v i t a b
-  unfolding IsBody
+  token_alike : (v : Inventory) (i t : ℕ) (r q : Row) → (entry_at v.forest.entries i).kind ≡ Token → q ≡ record r { credential = q.credential } → (a b : Served) → TellsRow t LookupSelf r a → TellsRow t LookupSelf q b → Alike v i t a b
+  unfolding IsReplyBody
   token_alike v i t r q token same served.Dropped b x y = absurd x
   token_alike v i t r q token same (served.Reply reply) served.Dropped x y = absurd y
   token_alike v i t r q token same (served.Reply reply) (served.Reply other) x y =
       let text : Row → List ℕ = λ row. looked_self_text (seconds_to row.end t) row.issued row.explicit_max (is_none row.parent) row.renewable row.period in
       let replied : other ≡ reply = reply_of_parts reply other (y.0 ∙ sym x.0) (y.1 ∙ ap text same ∙ sym x.1) in
-      ap (λ z. looked (other_of v) i t (received (served.Reply z))) replied ∙ reply_alike v i t token (received (served.Reply reply))
+      ap (λ z. inventory_after_lookup (other_of v) i t (received (served.Reply z))) replied ∙ reply_alike v i t token (received (served.Reply reply))
 
   -- a lease that is told by its own id
   taken_lease : (v : Inventory) (i t : ℕ) (id : List ℕ) (row : Row) (reply : Reply) → credential_at v.credentials i ≡ id → (entry_at v.forest.entries i).kind ≡ Lease → reply.status ≡ 200 → received (served.Reply reply) ≡ Ok reply → lookup_lease_answer reply.body ≡ Ok (lease_told id row t) →
-      looked v i t (received (served.Reply reply)) ≡ Some (told v i (lease_told id row t) t)
+      inventory_after_lookup v i t (received (served.Reply reply)) ≡ Some (told v i (lease_told id row t) t)
   taken_lease v i t id row reply own lease ok here said =
       let answer = lookup_in (entry_at v.forest.entries i).kind reply.body in
-      ap (looked v i t) here
+      ap (inventory_after_lookup v i t) here
       ∙ cond-true (reply.status == 200) (applied v i t answer) None (ap (λ n. n == 200) ok)
       ∙ ap (λ k. applied v i t (lookup_in k reply.body)) lease
       ∙ ap (applied v i t) said
       ∙ ap (λ fault. cond (is_none fault) (Some (told v i (lease_told id row t) t)) None) (own_lease v i id row.issued (seconds_to row.end t) row.renewable own lease)
 
   lease_alike : (v : Inventory) (i t : ℕ) (r q : Row) → i < length g.entries → v.credentials ≡ cs → (entry_at v.forest.entries i).kind ≡ Lease → q ≡ record r { credential = q.credential } → r.credential ≡ credential_at cs i → q.credential ≡ credential_at ds i →
-      r.issued ≤ LAST → (a b : Served) → Tells t LookupLease r a → Tells t LookupLease q b → Alike v i t a b
+      r.issued ≤ LAST → (a b : Served) → TellsRow t LookupLease r a → TellsRow t LookupLease q b → Alike v i t a b
   unfolding told
   lease_alike v i t r q within credentials lease same c d early served.Dropped b x y = absurd x
   lease_alike v i t r q within credentials lease same c d early (served.Reply reply) served.Dropped x y = absurd y
@@ -215,7 +215,7 @@ module _ (g : Forest) (cs ds : List (List ℕ)) (ts : List Terms) (one : IsInven
       taken_lease (other_of v) i t (credential_at ds i) r other refl lease y.0 second.0 said
       ∙ sym (ap (option_map other_of) (taken_lease v i t (credential_at cs i) r reply (ap (λ xs. credential_at xs i) credentials) lease x.0 first.0 first.1))
 
-  looked_alike : (v : Inventory) (i t : ℕ) → i < length g.entries → v.credentials ≡ cs → IsKept g v.forest → (x y : Answer) → AnswersOf g cs ds (look_for (entry_at g.entries i).kind) i x y → Speaks x → (a b : Served) → Says t x a → Says t y b → Alike v i t a b
+  looked_alike : (v : Inventory) (i t : ℕ) → i < length g.entries → v.credentials ≡ cs → KeepsSupplied g v.forest → (x y : BrokerAnswer) → AnswersOf g cs ds (look_for (entry_at g.entries i).kind) i x y → Speaks x → (a b : Served) → SaysAnswer t x a → SaysAnswer t y b → Alike v i t a b
   looked_alike v i t within own like (refuses x) (refuses y) same speaks a b p q = refused_alike v i t x y a b p q
   looked_alike v i t within own like (refuses x) (tells d q) same speaks a b p o = absurd same
   looked_alike v i t within own like (refuses x) drops same speaks a b p o = absurd same
@@ -226,12 +226,12 @@ module _ (g : Forest) (cs ds : List (List ℕ)) (ts : List Terms) (one : IsInven
   looked_alike v i t within own like drops drops same speaks a b p o = dropped_alike v i t a b p o
   looked_alike v i t within own like (tells c r) (tells d q) same speaks a b p o =
       let kind = (entry_at g.entries i).kind in
-      let first = subst (λ call. Tells t call r a) same.0 p in
-      let second = subst (λ call. Tells t call q b) same.1.0 o in
+      let first = subst (λ call. TellsRow t call r a) same.0 p in
+      let second = subst (λ call. TellsRow t call q b) same.1.0 o in
       let rows = same.1.1 in
       by_kind kind (Alike v i t a b)
-      (λ token. token_alike v i t r q (like.kinds i ∙ token) rows.0.same a b (subst (λ k. Tells t (look_for k) r a) token first) (subst (λ k. Tells t (look_for k) q b) token second))
-      (λ lease. lease_alike v i t r q within own (like.kinds i ∙ lease) rows.0.same rows.1.0 rows.1.1 speaks a b (subst (λ k. Tells t (look_for k) r a) lease first) (subst (λ k. Tells t (look_for k) q b) lease second))
+      (λ token. token_alike v i t r q (like.kinds i ∙ token) rows.0.same a b (subst (λ k. TellsRow t (look_for k) r a) token first) (subst (λ k. TellsRow t (look_for k) q b) token second))
+      (λ lease. lease_alike v i t r q within own (like.kinds i ∙ lease) rows.0.same rows.1.0 rows.1.1 speaks a b (subst (λ k. TellsRow t (look_for k) r a) lease first) (subst (λ k. TellsRow t (look_for k) q b) lease second))
 
   -- ---- one lookup
 
@@ -248,14 +248,14 @@ module _ (g : Forest) (cs ds : List (List ℕ)) (ts : List Terms) (one : IsInven
   exchanged_known o b t r came new known is = subst (λ (a : Option Behind). IfSome a (λ z. IsExchanged z.table t r came new)) known is
 
   -- where the table is known, so it is after a lookup
-  table_behind : (old : Table) (t : ℕ) (r : Request) (came : Result Reply ExchangeFault) (new : Option Behind) → IsExchanged old t r came new → (b : Behind) × ((new ≡ Some b) × (b.table ≡ (step old t r).table))
-  table_behind old t r came new is = (record { table = (step old t r).table; wire = wire_of r (reply_of came) }, (is.is, refl))
+  table_behind : (old : BrokerTable) (t : ℕ) (r : Request) (came : Result Reply ExchangeFault) (new : Option Behind) → IsExchanged old t r came new → (b : Behind) × ((new ≡ Some b) × (b.table ≡ (broker_step old t r).table))
+  table_behind old t r came new is = (record { table = (broker_step old t r).table; wire = wire_of r (reply_that_came came) }, (is.is, refl))
 
   module _ (port other t i : ℕ) (old begun : Looked) (within : i < length g.entries) (alike : AreLookedAlike g cs ds old begun) where
-    abbrev l : Table
+    abbrev l : BrokerTable
     l = alike.brokers.behind.table
 
-    abbrev m : Table
+    abbrev m : BrokerTable
     m = alike.brokers.other_behind.table
 
     r : Request
@@ -272,7 +272,7 @@ module _ (g : Forest) (cs ds : List (List ℕ)) (ts : List Terms) (one : IsInven
     unfolding q
     asked_too = ap (λ (v : Inventory). lookup_of other v.credentials v.forest i) alike.inventory ∙ lookup_same g other ds old.inventory.forest i alike.kept
 
-    results : (x y : Bool) (after behind : Inventory) (new last : Option Behind) → IsLookedUp port old.behind t old.inventory i x after new → IsLookedUp other begun.behind t begun.inventory i y behind last →
+    results : (x y : Bool) (after behind : Inventory) (new last : Option Behind) → EntryIsLookedUp port old.behind t old.inventory i x after new → EntryIsLookedUp other begun.behind t begun.inventory i y behind last →
         behind_if y behind ≡ option_map other_of (behind_if x after)
     unfolding r q
     results x y after behind new last a b =
@@ -280,20 +280,20 @@ module _ (g : Forest) (cs ds : List (List ℕ)) (ts : List Terms) (one : IsInven
         let speaks = (step_dated l alike.dated t r).0 in
         let first = exchanged_known old.behind alike.brokers.behind t (lookup_of port old.inventory.credentials old.inventory.forest i) a.came new alike.brokers.known a.exchanged in
         let second = exchanged_known begun.behind alike.brokers.other_behind t (lookup_of other begun.inventory.credentials begun.inventory.forest i) b.came last alike.brokers.other_known b.exchanged in
-        let says = subst (λ z. Says t (step l t z).answer first.sent) asked first.says in
-        let says_too = subst (λ z. Says t (step m t z).answer second.sent) asked_too second.says in
-        let same = looked_alike old.inventory i t within alike.credentials alike.kept (step l t r).answer (step m t q).answer outcome.0 speaks first.sent second.sent says says_too in
+        let says = subst (λ z. SaysAnswer t (broker_step l t z).answer first.sent) asked first.says in
+        let says_too = subst (λ z. SaysAnswer t (broker_step m t z).answer second.sent) asked_too second.says in
+        let same = looked_alike old.inventory i t within alike.credentials alike.kept (broker_step l t r).answer (broker_step m t q).answer outcome.0 speaks first.sent second.sent says says_too in
         sym b.applied_is
-        ∙ ap (λ (v : Inventory). looked v i t b.came) alike.inventory
-        ∙ ap (looked (other_of old.inventory) i t) second.received_as
+        ∙ ap (λ (v : Inventory). inventory_after_lookup v i t b.came) alike.inventory
+        ∙ ap (inventory_after_lookup (other_of old.inventory) i t) second.received_as
         ∙ same
-        ∙ ap (λ z. option_map other_of (looked old.inventory i t z)) (sym first.received_as)
+        ∙ ap (λ z. option_map other_of (inventory_after_lookup old.inventory i t z)) (sym first.received_as)
         ∙ ap (option_map other_of) a.applied_is
 
-    pub flags : (x y : Bool) (after behind : Inventory) (new last : Option Behind) → IsLookedUp port old.behind t old.inventory i x after new → IsLookedUp other begun.behind t begun.inventory i y behind last → y ≡ x
+    pub flags : (x y : Bool) (after behind : Inventory) (new last : Option Behind) → EntryIsLookedUp port old.behind t old.inventory i x after new → EntryIsLookedUp other begun.behind t begun.inventory i y behind last → y ≡ x
     flags x y after behind new last a b = flag_same x y after behind (results x y after behind new last a b)
 
-    pub one_both : (mid after : Looked) → IsLookedUp port old.behind t old.inventory i true mid.inventory mid.behind → IsLookedUp other begun.behind t begun.inventory i true after.inventory after.behind → AreLookedAlike g cs ds mid after
+    pub one_both : (mid after : Looked) → EntryIsLookedUp port old.behind t old.inventory i true mid.inventory mid.behind → EntryIsLookedUp other begun.behind t begun.inventory i true after.inventory after.behind → AreLookedAlike g cs ds mid after
     unfolding r q
     one_both mid after a b =
         let outcome = looks_both g cs ds ts ts one two port other t i l m within alike.brokers.tables in
@@ -304,8 +304,8 @@ module _ (g : Forest) (cs ds : List (List ℕ)) (ts : List Terms) (one : IsInven
         (exchanged_known old.behind alike.brokers.behind t (lookup_of port old.inventory.credentials old.inventory.forest i) a.came mid.behind alike.brokers.known a.exchanged) in
         let gone_too = table_behind m t (lookup_of other begun.inventory.credentials begun.inventory.forest i) b.came after.behind
         (exchanged_known begun.behind alike.brokers.other_behind t (lookup_of other begun.inventory.credentials begun.inventory.forest i) b.came after.behind alike.brokers.other_known b.exchanged) in
-        let first : gone.0.table ≡ (step l t r).table = gone.1.1 ∙ ap (λ z. (step l t z).table) asked in
-        let second : gone_too.0.table ≡ (step m t q).table = gone_too.1.1 ∙ ap (λ z. (step m t z).table) asked_too in
+        let first : gone.0.table ≡ (broker_step l t r).table = gone.1.1 ∙ ap (λ z. (broker_step l t z).table) asked in
+        let second : gone_too.0.table ≡ (broker_step m t q).table = gone_too.1.1 ∙ ap (λ z. (broker_step m t z).table) asked_too in
         record {
           credentials = leaves.1 ∙ alike.credentials;
           inventory = value_same mid.inventory after.inventory (results true true mid.inventory after.inventory mid.behind after.behind a b);
@@ -315,7 +315,7 @@ module _ (g : Forest) (cs ds : List (List ℕ)) (ts : List Terms) (one : IsInven
             known = gone.1.0;
             other_behind = gone_too.0;
             other_known = gone_too.1.0;
-            tables = subst (λ z. AreTablesAlike g cs ds z gone_too.0.table) (sym first) (subst (AreTablesAlike g cs ds (step l t r).table) (sym second) outcome.1);
+            tables = subst (λ z. AreTablesAlike g cs ds z gone_too.0.table) (sym first) (subst (AreTablesAlike g cs ds (broker_step l t r).table) (sym second) outcome.1);
           };
           dated = subst AreDated (sym first) left.1;
         }
@@ -344,7 +344,7 @@ module _ (g : Forest) (cs ds : List (List ℕ)) (ts : List Terms) (one : IsInven
       (a : IsLiveOpening port start always (started s b) opening text) (d : IsLiveOpening other start always (started u c) last more) → AreLookedAlike g cs ds a.looked d.looked
   opened_looked port other start always b c opening last text more tables dated a d =
       let n = length g.entries in
-      all_both port other start (first n) (started s b) (started u c) a.looked d.looked (all_first n n 0 (omega arith)) (fresh_both b c tables dated) a.all d.all
+      all_both port other start (first_indices n) (started s b) (started u c) a.looked d.looked (all_first n n 0 (omega arith)) (fresh_both b c tables dated) a.all d.all
 
   -- other credentials leave the forest from a start on as it is
   start_same : (v : Inventory) (always : List Bool) (start : ℕ) → (from_start (record v { credentials = ds }) always start).forest ≡ (from_start v always start).forest
@@ -352,7 +352,7 @@ module _ (g : Forest) (cs ds : List (List ℕ)) (ts : List Terms) (one : IsInven
   start_same v always start = refl
 
   pub opened_both : (port other start : ℕ) (always : List Bool) (b c : Behind) (opening last : World) (text more : List ℕ) → AreTablesAlike g cs ds b.table c.table → AreDated b.table →
-      IsLiveOpening port start always (started s b) opening text → IsLiveOpening other start always (started u c) last more → (more ≡ text) × AreSidesAlike g cs ds opening last
+      IsLiveOpening port start always (started s b) opening text → IsLiveOpening other start always (started u c) last more → (more ≡ text) × AreWorldsAlike g cs ds opening last
   unfolding looked_text
   opened_both port other start always b c opening last text more tables dated a d =
       let n = length g.entries in
@@ -362,11 +362,11 @@ module _ (g : Forest) (cs ds : List (List ℕ)) (ts : List Terms) (one : IsInven
       let keeper : d.keeper ≡ a.keeper = sym (replan_once (unplanned (from a.looked.inventory)) start a.keeper d.keeper a.planned (subst (λ h. Replan (unplanned h) start d.keeper) second d.planned)) in
       let opened = ap (λ (w : World). w.keeper) a.is in (
         d.text_is
-            ∙ ap (λ (v : Inventory). looked_text v (first n) ++ short_lines v.forest d.keeper.shortened) alike.inventory
-            ∙ ap (λ (k : State). looked_text a.looked.inventory (first n) ++ short_lines a.looked.inventory.forest k.shortened) keeper
+            ∙ ap (λ (v : Inventory). looked_text v (first_indices n) ++ short_need_lines v.forest d.keeper.shortened) alike.inventory
+            ∙ ap (λ (k : CoreState). looked_text a.looked.inventory (first_indices n) ++ short_need_lines a.looked.inventory.forest k.shortened) keeper
             ∙ sym a.text_is,
         record {
-          keeper = ap (λ (w : World). w.keeper) d.is ∙ ap taken keeper ∙ sym opened;
+          keeper = ap (λ (w : World). w.keeper) d.is ∙ ap shorts_taken keeper ∙ sym opened;
           brokers = subst (λ (w : World). AreBrokersAlike g cs ds w.behind last.behind) (sym a.is) (subst (λ (w : World). AreBrokersAlike g cs ds a.looked.behind w.behind) (sym d.is) alike.brokers);
         },
       )

@@ -10,21 +10,21 @@ use Rattle.keep_core.specs.declared.event.Event.TheVariants.{Tick}
 use Rattle.keep_core.specs.declared.event.Output.{Output}
 use Rattle.keep_core.specs.declared.event.Output.TheVariants as out
 use Rattle.keep_core.specs.declared.fault.StepFault.{StepFault}
-use Rattle.keep_core.specs.History.{Turn}
-use Rattle.keep_core.specs.State.{State}
+use Rattle.keep_core.specs.History.{CoreTurn}
+use Rattle.keep_core.specs.State.{CoreState}
 use Rattle.keep_core.proofs.Once.{once}
 use Rattle.keep_core.proofs.Shaped.{shape}
 use Rattle.keep_exchange.specs.Exchanges.{Behind}
-use Rattle.keep_alike.specs.Alike.{AreBrokersAlike, IsKept}
-use Rattle.keep_run.specs.Closed.{AreAnswered, Beat, Exchanged, IsBeat, Played, World, asked_in, asks_some, closing, next_by, next_tick, requests_of, rounds, taken}
+use Rattle.keep_alike.specs.Alike.{AreBrokersAlike, KeepsSupplied}
+use Rattle.keep_run.specs.Closed.{AreAnswered, Beat, Exchanged, IsBeat, Played, World, asked_by_output, asks_some, closing, next_by, next_tick, request_count, rounds, shorts_taken}
 use Rattle.keep_run.specs.Stops.{both}
-use Rattle.keep_run.specs.Text.{answer_text, beat_text, short_lines, wake_line}
+use Rattle.keep_run.specs.Text.{answer_text, beat_text, short_need_lines, wake_line_of_output}
 use Rattle.keep_run.proofs.AlikeAnswers.{answers_both}
 use Rattle.keep_run.proofs.Shaped.{kept_shaped}
 use Rattle.keep_run.proofs.Within.{asked_within}
 
 -- told by the names of a forest that has kept what this one had
-module _ (g : Forest) (cs ds : List (List ℕ)) (ts : List Terms) (one : IsInventory (record { forest = g; credentials = cs; terms = ts })) (two : IsInventory (record { forest = g; credentials = ds; terms = ts })) (names : Forest) (us : List Terms) (told : IsKept g names) where
+module _ (g : Forest) (cs ds : List (List ℕ)) (ts : List Terms) (one : IsInventory (record { forest = g; credentials = cs; terms = ts })) (two : IsInventory (record { forest = g; credentials = ds; terms = ts })) (names : Forest) (us : List Terms) (told : KeepsSupplied g names) where
   abbrev v : Inventory
   v = record { forest = names; credentials = cs; terms = us }
 
@@ -39,7 +39,7 @@ module _ (g : Forest) (cs ds : List (List ℕ)) (ts : List Terms) (one : IsInven
     pub keeper : last.keeper ≡ new.keeper
     pub brokers : AreBrokersAlike g cs ds new.behind last.behind
     pub text : beat_text w y ≡ beat_text v x
-    pub kept : IsKept g new.keeper.forest
+    pub kept : KeepsSupplied g new.keeper.forest
 
   next_same : (o : Output) (xs ys : List Exchanged) → closing None ys ≡ closing None xs → next_by o ys ≡ next_by o xs
   next_same (out.Ask asked) xs ys same = same
@@ -49,29 +49,29 @@ module _ (g : Forest) (cs ds : List (List ℕ)) (ts : List Terms) (one : IsInven
   next_same (out.Round next) xs ys same = refl
   next_same out.Planned xs ys same = refl
 
-  pub beats_both : (port other : ℕ) (k : State) (b c : Option Behind) (x y : Beat) (new last : World) → IsKept g k.forest → y.at ≡ x.at → AreBrokersAlike g cs ds b c → IsBeat port cs (both k b) x new → IsBeat other ds (both k c) y last →
+  pub beats_both : (port other : ℕ) (k : CoreState) (b c : Option Behind) (x y : Beat) (new last : World) → KeepsSupplied g k.forest → y.at ≡ x.at → AreBrokersAlike g cs ds b c → IsBeat port cs (both k b) x new → IsBeat other ds (both k c) y last →
       AreBeatsAlike x y new last
   unfolding beat_text
   beats_both port other k b c x y new last like at alike a d =
-      let turns = once k a.keeper d.keeper (Tick x.at) (Ok x.output) (Ok y.output) (λ bad. cc) (λ bad. cc) a.turn (subst (λ t. Turn k (Tick t) (Ok y.output) d.keeper) at d.turn) in
+      let turns = once k a.keeper d.keeper (Tick x.at) (Ok x.output) (Ok y.output) (λ bad. cc) (λ bad. cc) a.turn (subst (λ t. CoreTurn k (Tick t) (Ok y.output) d.keeper) at d.turn) in
       let output : y.output ≡ x.output = (let same : ◌≡◌ {A = Result Output StepFault} (Ok x.output) (Ok y.output) = turns.0 in cc) in
-      let short : y.short ≡ x.short = d.short ∙ ap (λ (z : State). z.shortened) (sym turns.1) ∙ sym a.short in
-      let kept : IsKept g a.keeper.forest = kept_shaped g k.forest a.keeper.forest like (shape k a.keeper (Tick x.at) (Ok x.output) a.turn) in
+      let short : y.short ≡ x.short = d.short ∙ ap (λ (z : CoreState). z.shortened) (sym turns.1) ∙ sym a.short in
+      let kept : KeepsSupplied g a.keeper.forest = kept_shaped g k.forest a.keeper.forest like (shape k a.keeper (Tick x.at) (Ok x.output) a.turn) in
       let within : All (λ i. i < length g.entries) (map (λ (z : Exchanged). z.entry) x.answers) =
-      subst (All (λ i. i < length g.entries)) (sym a.asked) (subst (λ n. All (λ i. i < n) (asked_in x.output)) kept.count (asked_within k a.keeper x.at x.output a.turn)) in
-      let who : map (λ (z : Exchanged). z.entry) y.answers ≡ map (λ (z : Exchanged). z.entry) x.answers = d.asked ∙ ap asked_in output ∙ sym a.asked in
-      let answered = subst (λ t. AreAnswered other ds t (both (taken a.keeper) c) y.answers last) at (subst (λ (z : State). AreAnswered other ds y.at (both (taken z) c) y.answers last) (sym turns.1) d.answered) in
-      let rest = answers_both g cs ds ts one two names us told port other x.at (taken a.keeper) b c x.answers y.answers new last kept within who alike a.answered answered in
+      subst (All (λ i. i < length g.entries)) (sym a.asked) (subst (λ n. All (λ i. i < n) (asked_by_output x.output)) kept.count (asked_within k a.keeper x.at x.output a.turn)) in
+      let who : map (λ (z : Exchanged). z.entry) y.answers ≡ map (λ (z : Exchanged). z.entry) x.answers = d.asked ∙ ap asked_by_output output ∙ sym a.asked in
+      let answered = subst (λ t. AreAnswered other ds t (both (shorts_taken a.keeper) c) y.answers last) at (subst (λ (z : CoreState). AreAnswered other ds y.at (both (shorts_taken z) c) y.answers last) (sym turns.1) d.answered) in
+      let rest = answers_both g cs ds ts one two names us told port other x.at (shorts_taken a.keeper) b c x.answers y.answers new last kept within who alike a.answered answered in
       record {
         output = output;
         count = rest.count;
         next = ap (λ (o : Output). next_by o y.answers) output ∙ next_same x.output x.answers y.answers (rest.closes None);
         keeper = rest.keeper;
         brokers = rest.brokers;
-        text = ap (λ ps. short_lines names ps ++ (wake_line names y.at y.output ++ flat_map (answer_text w) y.answers)) short
-            ∙ ap (λ t. short_lines names x.short ++ (wake_line names t y.output ++ flat_map (answer_text w) y.answers)) at
-            ∙ ap (λ (o : Output). short_lines names x.short ++ (wake_line names x.at o ++ flat_map (answer_text w) y.answers)) output
-            ∙ ap (λ l. short_lines names x.short ++ (wake_line names x.at x.output ++ l)) rest.text;
+        text = ap (λ ps. short_need_lines names ps ++ (wake_line_of_output names y.at y.output ++ flat_map (answer_text w) y.answers)) short
+            ∙ ap (λ t. short_need_lines names x.short ++ (wake_line_of_output names t y.output ++ flat_map (answer_text w) y.answers)) at
+            ∙ ap (λ (o : Output). short_need_lines names x.short ++ (wake_line_of_output names x.at o ++ flat_map (answer_text w) y.answers)) output
+            ∙ ap (λ l. short_need_lines names x.short ++ (wake_line_of_output names x.at x.output ++ l)) rest.text;
         kept = rest.kept;
       }
 
@@ -80,12 +80,12 @@ module _ (g : Forest) (cs ds : List (List ℕ)) (ts : List Terms) (one : IsInven
   -- ticks that are alike, and what they leave
   pub record AreRunsAlike (xs ys : List Beat) (new last : World) (next then' : Option ℕ) : Type 0 where
     pub wakes : length (rounds ys) ≡ length (rounds xs)
-    pub asked : requests_of ys ≡ requests_of xs
+    pub asked : request_count ys ≡ request_count xs
     pub text : flat_map (beat_text w) ys ≡ flat_map (beat_text v) xs
     pub next_is : then' ≡ next
     pub keeper : last.keeper ≡ new.keeper
     pub brokers : AreBrokersAlike g cs ds new.behind last.behind
-    pub kept : IsKept g new.keeper.forest
+    pub kept : KeepsSupplied g new.keeper.forest
 
   -- the run by ys goes as that by xs, and on
   pub record GoesFurther (other : ℕ) (old : World) (due : Option ℕ) (xs ys : List Beat) (new last : World) (next then' : Option ℕ) : Type 0 where
@@ -109,8 +109,8 @@ module _ (g : Forest) (cs ds : List (List ℕ)) (ts : List Terms) (one : IsInven
     pub goes_on : Played port cs mid at more new next
     pub alike : AreRunsAlike front ys mid last at then'
 
-  none_yet : (k : State) (b c : Option Behind) (due : Option ℕ) → IsKept g k.forest → AreBrokersAlike g cs ds b c → AreRunsAlike [] [] (both k b) (both k c) due due
-  unfolding rounds requests_of
+  none_yet : (k : CoreState) (b c : Option Behind) (due : Option ℕ) → KeepsSupplied g k.forest → AreBrokersAlike g cs ds b c → AreRunsAlike [] [] (both k b) (both k c) due due
+  unfolding rounds request_count
   none_yet k b c due like alike = record { wakes = refl; asked = refl; text = refl; next_is = refl; keeper = refl; brokers = alike; kept = like }
 
   count_more : (o p : Output) (x y : Beat) (xs ys : List Beat) → p ≡ o → length ys ≡ length xs → length (cond (asks_some p) (y ∷ ys) ys) ≡ length (cond (asks_some o) (x ∷ xs) xs)
@@ -121,10 +121,10 @@ module _ (g : Forest) (cs ds : List (List ℕ)) (ts : List Terms) (one : IsInven
   count_more (out.Round next) p x y xs ys same rest = ap (λ (q : Output). length (cond (asks_some q) (y ∷ ys) ys)) same ∙ rest
   count_more out.Planned p x y xs ys same rest = ap (λ (q : Output). length (cond (asks_some q) (y ∷ ys) ys)) same ∙ rest
 
-  requests_first : (x : Beat) (xs : List Beat) → requests_of (x ∷ xs) ≡ length x.answers + requests_of xs
-  unfolding requests_of
+  requests_first : (x : Beat) (xs : List Beat) → request_count (x ∷ xs) ≡ length x.answers + request_count xs
+  unfolding request_count
   requests_first x xs =
-      let join : requests_of (x ∷ xs) ≡ (0 + length x.answers) + requests_of xs = sum_by-append (λ (b : Beat). length b.answers) (x ∷ []) xs in
+      let join : request_count (x ∷ xs) ≡ (0 + length x.answers) + request_count xs = sum_by-append (λ (b : Beat). length b.answers) (x ∷ []) xs in
       omega arith
 
   one_more : (x y : Beat) (xs ys : List Beat) (mid mid' new last : World) (next then' : Option ℕ) → AreBeatsAlike x y mid mid' → AreRunsAlike xs ys new last next then' → AreRunsAlike (x ∷ xs) (y ∷ ys) new last next then'
@@ -132,7 +132,7 @@ module _ (g : Forest) (cs ds : List (List ℕ)) (ts : List Terms) (one : IsInven
   one_more x y xs ys mid mid' new last next then' first rest =
       record {
         wakes = count_more x.output y.output x y (rounds xs) (rounds ys) first.output rest.wakes;
-        asked = requests_first y ys ∙ ap (λ n. n + requests_of ys) first.count ∙ ap (λ n. length x.answers + n) rest.asked ∙ sym (requests_first x xs);
+        asked = requests_first y ys ∙ ap (λ n. n + request_count ys) first.count ∙ ap (λ n. length x.answers + n) rest.asked ∙ sym (requests_first x xs);
         text = ap (λ l. l ++ flat_map (beat_text w) ys) first.text ∙ ap (λ l. beat_text v x ++ l) rest.text;
         next_is = rest.next_is;
         keeper = rest.keeper;
@@ -144,7 +144,7 @@ module _ (g : Forest) (cs ds : List (List ℕ)) (ts : List Terms) (one : IsInven
   Compared port other old begun due xs ys new last next then' = GoesFurther other begun due xs ys new last next then' ⊎ GoneFurther port old due xs ys new last next then'
 
   -- one of two such runs goes as the other, and on
-  pub compare : (port other : ℕ) (k : State) (b c : Option Behind) (due : Option ℕ) (xs ys : List Beat) (new last : World) (next then' : Option ℕ) → IsKept g k.forest → AreBrokersAlike g cs ds b c →
+  pub compare : (port other : ℕ) (k : CoreState) (b c : Option Behind) (due : Option ℕ) (xs ys : List Beat) (new last : World) (next then' : Option ℕ) → KeepsSupplied g k.forest → AreBrokersAlike g cs ds b c →
       Played port cs (both k b) due xs new next → Played other ds (both k c) due ys last then' → Compared port other (both k b) (both k c) due xs ys new last next then'
   compare port other k b c due [] ys new last next then' like alike a d =
       inl (record {
@@ -173,7 +173,7 @@ module _ (g : Forest) (cs ds : List (List ℕ)) (ts : List Terms) (one : IsInven
       let mid = a.1.0 in
       let mid' = d.1.0 in
       let first = beats_both port other k b c x y mid mid' like (d.0 ∙ sym a.0) alike a.1.1.0 d.1.1.0 in
-      let rest = subst (λ (z : State). Played other ds (both z mid'.behind) (next_tick x) ys last then') first.keeper (subst (λ o. Played other ds mid' o ys last then') first.next d.1.1.1) in
+      let rest = subst (λ (z : CoreState). Played other ds (both z mid'.behind) (next_tick x) ys last then') first.keeper (subst (λ o. Played other ds mid' o ys last then') first.next d.1.1.1) in
       elim (compare port other mid.keeper mid.behind mid'.behind (next_tick x) xs ys new last next then' first.kept first.brokers a.1.1.1 rest) [
         | inl g' ↦ inl (record {
           front = y ∷ g'.front;
@@ -181,7 +181,7 @@ module _ (g : Forest) (cs ds : List (List ℕ)) (ts : List Terms) (one : IsInven
           mid = g'.mid;
           at = g'.at;
           parts = ap (λ zs. y ∷ zs) g'.parts;
-          played = (d.0, (mid', (d.1.1.0, subst (λ o. Played other ds mid' o g'.front g'.mid g'.at) (sym first.next) (subst (λ (z : State). Played other ds (both z mid'.behind) (next_tick x) g'.front g'.mid g'.at) (sym first.keeper) g'.played))));
+          played = (d.0, (mid', (d.1.1.0, subst (λ o. Played other ds mid' o g'.front g'.mid g'.at) (sym first.next) (subst (λ (z : CoreState). Played other ds (both z mid'.behind) (next_tick x) g'.front g'.mid g'.at) (sym first.keeper) g'.played))));
           goes_on = g'.goes_on;
           alike = one_more x y xs g'.front mid mid' new g'.mid next g'.at first g'.alike;
         })

@@ -9,8 +9,8 @@ use Rattle.keep_tree.specs.Over.{is_over}
 use Rattle.keep_tree.specs.Push.{IsForest}
 use Rattle.keep_tree.specs.Renewal.{all_last, renewed}
 use Rattle.keep_rule.specs.declared.wake.Wake.{Wake}
-use Rattle.keep_rule.specs.Asks.{asking, asks, first_of, is_due, is_wanted, with_asks}
-use Rattle.keep_rule.specs.Ends.{after}
+use Rattle.keep_rule.specs.Asks.{asking, asks, first_of, is_end_due, is_to_be_asked, with_asks}
+use Rattle.keep_rule.specs.Ends.{ends_after_wake_up}
 use Rattle.keep_core.specs.LawsOfPlans.{IsAnsweredByRule}
 use Rattle.keep_core.proofs.Alike.{Alike, after_alike, all_last_alike, over_alike, renewed_alike}
 use Rattle.keep_core.proofs.Standing.{after_answers, answered_alike}
@@ -33,10 +33,10 @@ carried_twins : (es fs : List Entry) → Twins es fs → (s i : ℕ) → carried
 unfolding carried
 carried_twins es fs t s i = ap (carried_of fs s i) t.count ∙ carried_of_twins es fs t s i (length es)
 
-wanted_twins : (es fs : List Entry) → Twins es fs → (margin s : ℕ) (ends : ℕ → ℕ) (u : ℕ) (next : Option ℕ) (i : ℕ) → is_wanted fs margin s ends u next i ≡ is_wanted es margin s ends u next i
-unfolding is_wanted
+wanted_twins : (es fs : List Entry) → Twins es fs → (margin s : ℕ) (ends : ℕ → ℕ) (u : ℕ) (next : Option ℕ) (i : ℕ) → is_to_be_asked fs margin s ends u next i ≡ is_to_be_asked es margin s ends u next i
+unfolding is_to_be_asked
 wanted_twins es fs t margin s ends u next i =
-    let due = is_due margin next (ends i) in
+    let due = is_end_due margin next (ends i) in
     ap (λ b. b && (all_last fs ends (u + 1) i && (nat_lt (ends i) (carried fs s i) && (nat_lt (ends i) (renewed fs margin ends u i) && due)))) (t.alike.renewable i)
     ∙ ap (λ b. (entry_at es i).renewable && (b && (nat_lt (ends i) (carried fs s i) && (nat_lt (ends i) (renewed fs margin ends u i) && due)))) (all_last_alike es fs t.alike ends (u + 1) i)
     ∙ ap (λ n. (entry_at es i).renewable && (all_last es ends (u + 1) i && (nat_lt (ends i) n && (nat_lt (ends i) (renewed fs margin ends u i) && due)))) (carried_twins es fs t s i)
@@ -46,7 +46,7 @@ asks_twins : (es fs : List Entry) → Twins es fs → (margin s : ℕ) (ends : �
 unfolding asks
 asks_twins es fs t margin s ends u next =
     ap (λ (p : ℕ → Bool). filter p (range_with_len 0 (length fs))) (fun_ext λ i. wanted_twins es fs t margin s ends u next i)
-    ∙ ap (λ n. filter (is_wanted es margin s ends u next) (range_with_len 0 n)) t.count
+    ∙ ap (λ n. filter (is_to_be_asked es margin s ends u next) (range_with_len 0 n)) t.count
 
 with_asks_twins : (es fs : List Entry) → Twins es fs → (margin s : ℕ) (ends : ℕ → ℕ) (ts : List ℕ) → with_asks fs margin s ends ts ≡ with_asks es margin s ends ts
 unfolding with_asks
@@ -55,9 +55,9 @@ with_asks_twins es fs t margin s ends (u ∷ ts) =
     let next = first_of ts in
     let wake : List ℕ → Wake = λ xs. record { at = u; asked = xs } in
     let go : List ℕ → (ℕ → ℕ) → List Wake = λ xs e. wake xs ∷ with_asks fs margin s e ts in
-    ap (λ xs. go xs (after fs margin ends (wake xs))) (asks_twins es fs t margin s ends u next)
+    ap (λ xs. go xs (ends_after_wake_up fs margin ends (wake xs))) (asks_twins es fs t margin s ends u next)
     ∙ ap (go (asks es margin s ends u next)) (after_alike es fs t.alike margin ends (asking es margin s ends u next))
-    ∙ ap (λ ws. asking es margin s ends u next ∷ ws) (with_asks_twins es fs t margin s (after es margin ends (asking es margin s ends u next)) ts)
+    ∙ ap (λ ws. asking es margin s ends u next ∷ ws) (with_asks_twins es fs t margin s (ends_after_wake_up es margin ends (asking es margin s ends u next)) ts)
 
 -- after a round that was answered by the rule, the plan asks what it asked
 pub asks_on :

@@ -8,11 +8,11 @@ use Rattle.keep_inventory.specs.Inventories.{Inventory}
 use Rattle.keep_exchange.specs.Exchanges.{Behind}
 use Rattle.keep_core.specs.LawsOfSteps.{IsShaped}
 use Rattle.keep_core.specs.declared.event.Output.TheVariants as out
-use Rattle.keep_core.specs.State.{State}
-use Rattle.keep_run.specs.Closed.{AreAnswered, Beat, Exchanged, IsBeat, Played, World, asks_some, next_tick, requests_of, rounds}
-use Rattle.keep_run.specs.code.Playing.{AnswersAll, Ends, Goes, Opens}
-use Rattle.keep_run.specs.Stops.{IsDue, both}
-use Rattle.keep_run.specs.Text.{answer_text, beat_text, inventory_with, short_lines, wake_line}
+use Rattle.keep_core.specs.State.{CoreState}
+use Rattle.keep_run.specs.Closed.{AreAnswered, Beat, Exchanged, IsBeat, Played, World, asks_some, next_tick, request_count, rounds}
+use Rattle.keep_run.specs.code.Playing.{AnswersAll, OpensAfterTicks, RunEnds, RunGoes}
+use Rattle.keep_run.specs.Stops.{WakeUpIsDue, both}
+use Rattle.keep_run.specs.Text.{answer_text, beat_text, inventory_with, short_need_lines, wake_line_of_output}
 use Rattle.keep_run.proofs.Texts.{same_answer_texts, same_beat_texts, same_shorts, same_wake}
 
 -- ---- one run after another
@@ -30,12 +30,12 @@ pub wakes_join : (bs more : List Beat) → length (rounds (bs ++ more)) ≡ leng
 unfolding rounds
 wakes_join bs more = ap length (filter-append (λ (b : Beat). asks_some b.output) bs more) ∙ length-append (rounds bs) (rounds more)
 
-requests_join : (bs more : List Beat) → requests_of (bs ++ more) ≡ requests_of bs + requests_of more
-unfolding requests_of
+requests_join : (bs more : List Beat) → request_count (bs ++ more) ≡ request_count bs + request_count more
+unfolding request_count
 requests_join bs more = sum_by-append (λ (b : Beat). length b.answers) bs more
 
 pub goes_on :
-    (s : Inventory) (old mid new : World) (due then' next : Option ℕ) (w v a c : ℕ) (x y : List ℕ) → Goes s old due mid then' w a x → Goes s mid then' new next v c y → Goes s old due new next (w + v) (a + c) (x ++ y)
+    (s : Inventory) (old mid new : World) (due then' next : Option ℕ) (w v a c : ℕ) (x y : List ℕ) → RunGoes s old due mid then' w a x → RunGoes s mid then' new next v c y → RunGoes s old due new next (w + v) (a + c) (x ++ y)
 goes_on s old mid new due then' next w v a c x y g h = record {
   beats = g.beats ++ h.beats;
   played = joins 8200 s.credentials old mid new due then' next g.beats h.beats g.played h.played;
@@ -45,13 +45,13 @@ goes_on s old mid new due then' next w v a c x y g h = record {
 }
 
 -- nothing yet
-pub goes_nowhere : (s : Inventory) (old : World) (due : Option ℕ) → Goes s old due old due 0 0 []
-unfolding rounds requests_of
+pub goes_nowhere : (s : Inventory) (old : World) (due : Option ℕ) → RunGoes s old due old due 0 0 []
+unfolding rounds request_count
 goes_nowhere s old due = record { beats = []; played = (refl, refl); wakes_are = refl; asked_are = refl; text_is = refl }
 
 -- of another forest of that shape
 pub goes_as :
-    (s u : Inventory) (old new : World) (due next : Option ℕ) (w a : ℕ) (x : List ℕ) → IsShaped s.forest u.forest → u.credentials ≡ s.credentials → Goes u old due new next w a x → Goes s old due new next w a x
+    (s u : Inventory) (old new : World) (due next : Option ℕ) (w a : ℕ) (x : List ℕ) → IsShaped s.forest u.forest → u.credentials ≡ s.credentials → RunGoes u old due new next w a x → RunGoes s old due new next w a x
 goes_as s u old new due next w a x like credentials g = record {
   beats = g.beats;
   played = subst (λ cs. Played 8200 cs old due g.beats new next) credentials g.played;
@@ -62,8 +62,8 @@ goes_as s u old new due next w a x like credentials g = record {
 
 -- ---- to the end without a round
 
-pub ends_go : (cs : List (List ℕ)) (behind : Option Behind) (old new : State) (due : ℕ) (before after : List ℕ) → Ends cs behind old due new before after →
-    (text : List ℕ) × (Goes (inventory_with cs old.forest) (both old behind) (Some due) (both new behind) None 0 0 text × (after ≡ before ++ text))
+pub ends_go : (cs : List (List ℕ)) (behind : Option Behind) (old new : CoreState) (due : ℕ) (before after : List ℕ) → RunEnds cs behind old due new before after →
+    (text : List ℕ) × (RunGoes (inventory_with cs old.forest) (both old behind) (Some due) (both new behind) None 0 0 text × (after ≡ before ++ text))
 ends_go cs behind old new due before after e = (
   flat_map (beat_text (inventory_with cs old.forest)) e.beats,
   (
@@ -74,8 +74,8 @@ ends_go cs behind old new due before after e = (
 
 -- ---- to the end of the first round
 
-module _ (cs : List (List ℕ)) (behind : Option Behind) (old k : State) (new : World) (due t : ℕ) (asked before mid after : List ℕ) (next : Option ℕ) (like : IsShaped old.forest k.forest)
-    (o : Opens cs behind old due t asked k before mid) (a : AnswersAll 8200 cs t (both k behind) asked next new mid after) where
+module _ (cs : List (List ℕ)) (behind : Option Behind) (old k : CoreState) (new : World) (due t : ℕ) (asked before mid after : List ℕ) (next : Option ℕ) (like : IsShaped old.forest k.forest)
+    (o : OpensAfterTicks cs behind old due t asked k before mid) (a : AnswersAll 8200 cs t (both k behind) asked next new mid after) where
   s : Inventory
   s = inventory_with cs old.forest
 
@@ -106,28 +106,28 @@ module _ (cs : List (List ℕ)) (behind : Option Behind) (old k : State) (new : 
   unfolding all_beats rounds round_of
   one_wake = sym (wakes_join o.beats (round_of ∷ []) ∙ ap (λ bs. length bs + 1) o.quiet.none_asked)
 
-  all_requests : length asked ≡ requests_of all_beats
-  unfolding all_beats requests_of round_of
+  all_requests : length asked ≡ request_count all_beats
+  unfolding all_beats request_count round_of
   all_requests =
       let count : length (map (λ (x : Exchanged). x.entry) a.xs) ≡ length a.xs = length-map a.xs (λ (x : Exchanged). x.entry) in
-      let join : requests_of all_beats ≡ requests_of o.beats + (0 + length a.xs) = requests_join o.beats (round_of ∷ []) in
+      let join : request_count all_beats ≡ request_count o.beats + (0 + length a.xs) = requests_join o.beats (round_of ∷ []) in
       let none = o.quiet.none_sent in
       let who = ap length a.who in
       omega arith
 
-  round_text : beat_text s round_of ≡ (short_lines k.forest o.ticks.keeper.shortened ++ wake_line k.forest t (out.Ask asked)) ++ flat_map (answer_text u) a.xs
+  round_text : beat_text s round_of ≡ (short_need_lines k.forest o.ticks.keeper.shortened ++ wake_line_of_output k.forest t (out.Ask asked)) ++ flat_map (answer_text u) a.xs
   unfolding beat_text round_of s u
   round_text = sym (
-      ap (λ l. (l ++ wake_line k.forest t (out.Ask asked)) ++ flat_map (answer_text u) a.xs) (same_shorts old.forest k.forest like o.ticks.keeper.shortened)
-      ∙ ap (λ l. (short_lines old.forest o.ticks.keeper.shortened ++ l) ++ flat_map (answer_text u) a.xs) (same_wake old.forest k.forest like t (out.Ask asked))
-      ∙ ap (λ l. (short_lines old.forest o.ticks.keeper.shortened ++ wake_line old.forest t (out.Ask asked)) ++ l) (same_answer_texts s u like refl a.xs)
-      ∙ append_assoc (short_lines old.forest o.ticks.keeper.shortened) (wake_line old.forest t (out.Ask asked)) (flat_map (answer_text s) a.xs))
+      ap (λ l. (l ++ wake_line_of_output k.forest t (out.Ask asked)) ++ flat_map (answer_text u) a.xs) (same_shorts old.forest k.forest like o.ticks.keeper.shortened)
+      ∙ ap (λ l. (short_need_lines old.forest o.ticks.keeper.shortened ++ l) ++ flat_map (answer_text u) a.xs) (same_wake old.forest k.forest like t (out.Ask asked))
+      ∙ ap (λ l. (short_need_lines old.forest o.ticks.keeper.shortened ++ wake_line_of_output old.forest t (out.Ask asked)) ++ l) (same_answer_texts s u like refl a.xs)
+      ∙ append_assoc (short_need_lines old.forest o.ticks.keeper.shortened) (wake_line_of_output old.forest t (out.Ask asked)) (flat_map (answer_text s) a.xs))
 
   texts : after ≡ before ++ flat_map (beat_text s) all_beats
   unfolding all_beats s u
   texts =
       let quiet = flat_map (beat_text s) o.beats in
-      let lines = short_lines k.forest o.ticks.keeper.shortened ++ wake_line k.forest t (out.Ask asked) in
+      let lines = short_need_lines k.forest o.ticks.keeper.shortened ++ wake_line_of_output k.forest t (out.Ask asked) in
       let answers = flat_map (answer_text u) a.xs in
       a.text_is
       ∙ ap (λ l. l ++ answers) (o.ticks.text_is ∙ ap (λ l. l ++ lines) o.quiet_text ∙ append_assoc before quiet lines)
@@ -136,14 +136,14 @@ module _ (cs : List (List ℕ)) (behind : Option Behind) (old k : State) (new : 
       ∙ ap (λ l. quiet ++ l) (sym round_text ∙ sym (append-nil (beat_text s round_of)))
       ∙ sym (flat_map-append (beat_text s) o.beats (round_of ∷ [])))
 
-  pub round_goes_on : (text : List ℕ) × (Goes (inventory_with cs old.forest) (both old behind) (Some due) new next 1 (length asked) text × (after ≡ before ++ text))
+  pub round_goes_on : (text : List ℕ) × (RunGoes (inventory_with cs old.forest) (both old behind) (Some due) new next 1 (length asked) text × (after ≡ before ++ text))
   unfolding s u
   round_goes_on = (
     flat_map (beat_text s) all_beats,
     (record { beats = all_beats; played = played; wakes_are = one_wake; asked_are = all_requests; text_is = refl }, texts),
   )
 
-pub due_of : (cs : List (List ℕ)) (behind : Option Behind) (old k : State) (due t : ℕ) (asked before after : List ℕ) → Opens cs behind old due t asked k before after → IsDue cs (both old behind) due
+pub due_of : (cs : List (List ℕ)) (behind : Option Behind) (old k : CoreState) (due t : ℕ) (asked before after : List ℕ) → OpensAfterTicks cs behind old due t asked k before after → WakeUpIsDue cs (both old behind) due
 due_of cs behind old k due t asked before after o = record {
   beats = o.beats;
   mid = both o.mid behind;

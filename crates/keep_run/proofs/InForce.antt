@@ -10,15 +10,15 @@ use Rattle.keep_tree.proofs.Entries.{entry_at_past}
 use Rattle.keep_inventory.specs.Inventories.{IsInventory, Inventory, credential_at, terms_at}
 use Rattle.keep_inventory.specs.declared.limits.TheConstants.{SPAN_MAX}
 use Rattle.broker_table.specs.declared.row.Row.{Row}
-use Rattle.broker_table.specs.Rows.{row_of, rows_of}
+use Rattle.broker_table.specs.Rows.{broker_row, broker_rows}
 use Rattle.keep_core.specs.Replan.{IsPlanOf, Replan}
 use Rattle.keep_core.specs.Shorten.{need_left, pairs, shorten}
-use Rattle.keep_core.specs.State.{State, unplanned}
+use Rattle.keep_core.specs.State.{CoreState, unplanned}
 use Rattle.keep_core.specs.declared.shortened.ShortNeed.{ShortNeed}
 use Rattle.keep_core.proofs.Kept.{keepable}
 use Rattle.keep_core.proofs.Shortening.{shorten_at, shorten_count, shorten_forest}
 use Rattle.keep_core.proofs.Standing.{best_keepable}
-use Rattle.keep_run.specs.Closed.{Beat, IsOpening, World, rounds, taken}
+use Rattle.keep_run.specs.Closed.{Beat, IsRunOpening, World, rounds, shorts_taken}
 use Rattle.keep_run.specs.Laws.{LeastLaw}
 use Rattle.keep_run.specs.Mirrors.{with_forest}
 use Rattle.keep_run.proofs.Mirroring.{row_by, row_is}
@@ -40,7 +40,7 @@ by_need : (names : ℕ → List ℕ) (s : Inventory) (i : ℕ) (e : Entry) (n : 
 unfolding row_by
 by_need names s i e n = refl
 
-row_same : (s : Inventory) (t i : ℕ) → row_of (in_force s t) i ≡ row_of s i
+row_same : (s : Inventory) (t i : ℕ) → broker_row (in_force s t) i ≡ broker_row s i
 row_same s t i =
     let g = s.forest in
     let names : ◌≡◌ {A = ℕ → List ℕ} (λ p. (entry_at (shorten g t).entries p).name) (λ p. (entry_at g.entries p).name) = fun_ext λ p. field_same (λ (e : Entry). e.name) g t (λ e n. refl) p in
@@ -49,11 +49,11 @@ row_same s t i =
     ∙ field_same (λ (e : Entry). row_by (λ p. (entry_at g.entries p).name) e (terms_at s.terms i) (credential_at s.credentials i)) g t (by_need (λ p. (entry_at g.entries p).name) s i) i
     ∙ sym (row_is s i)
 
-rows_same : (s : Inventory) (t : ℕ) → rows_of (in_force s t) ≡ rows_of s
-unfolding rows_of
+rows_same : (s : Inventory) (t : ℕ) → broker_rows (in_force s t) ≡ broker_rows s
+unfolding broker_rows
 rows_same s t =
-    let rows : ◌≡◌ {A = ℕ → Row} (row_of (in_force s t)) (row_of s) = fun_ext λ i. row_same s t i in
-    ap (λ (f : ℕ → Row). map f (range_with_len 0 (length (shorten s.forest t).entries))) rows ∙ ap (λ n. map (row_of s) (range_with_len 0 n)) (shorten_count s.forest t)
+    let rows : ◌≡◌ {A = ℕ → Row} (broker_row (in_force s t)) (broker_row s) = fun_ext λ i. row_same s t i in
+    ap (λ (f : ℕ → Row). map f (range_with_len 0 (length (shorten s.forest t).entries))) rows ∙ ap (λ n. map (broker_row s) (range_with_len 0 n)) (shorten_count s.forest t)
 
 in_force_is : (s : Inventory) (t : ℕ) → IsInventory s → IsInventory (in_force s t)
 in_force_is s t sound =
@@ -74,27 +74,27 @@ in_force_is s t sound =
 
 -- ---- the opening, and the run
 
-module _ (s : Inventory) (start : ℕ) (short : List ShortNeed) (w : World) (o : IsOpening s [] start short w) where
+module _ (s : Inventory) (start : ℕ) (short : List ShortNeed) (w : World) (o : IsRunOpening s [] start short w) where
   same : (shorten (shorten s.forest start) start ≡ shorten s.forest start) × (pairs (shorten s.forest start) start ≡ [])
   same = keepable (shorten s.forest start) start (best_keepable (shorten s.forest start) start o.planned.moments o.planned.best)
 
-  keeper : State
+  keeper : CoreState
   keeper = record { forest = shorten (shorten s.forest start) start; last = start; to_come = o.planned.moments; round = None; shortened = pairs (shorten s.forest start) start }
 
   planned : Replan (unplanned (shorten s.forest start)) start keeper
   unfolding keeper
   planned = record { moments = o.planned.moments; best = subst (λ g. IsPlanOf g start o.planned.moments) (sym same.0) o.planned.best; few = o.planned.few; is = refl }
 
-  opens_in_force : IsOpening (in_force s start) [] start [] w
+  opens_in_force : IsRunOpening (in_force s start) [] start [] w
   unfolding keeper
   opens_in_force = record {
     keeper = keeper;
     planned = planned;
     short_is = sym same.1;
     is = o.is
-        ∙ ap (λ (k : State). record { keeper = taken k; behind = Some (record { table = record { rows = rows_of s; faults = []; count = 0 }; wire = [] }) }) o.planned.is
-        ∙ ap (λ (g : Forest). record { keeper = record { forest = g; last = start; to_come = o.planned.moments; round = None; shortened = [] }; behind = Some (record { table = record { rows = rows_of s; faults = []; count = 0 }; wire = [] }) }) (sym same.0)
-        ∙ ap (λ (rows : List Row). record { keeper = taken keeper; behind = Some (record { table = record { rows = rows; faults = []; count = 0 }; wire = [] }) }) (sym (rows_same s start));
+        ∙ ap (λ (k : CoreState). record { keeper = shorts_taken k; behind = Some (record { table = record { rows = broker_rows s; faults = []; count = 0 }; wire = [] }) }) o.planned.is
+        ∙ ap (λ (g : Forest). record { keeper = record { forest = g; last = start; to_come = o.planned.moments; round = None; shortened = [] }; behind = Some (record { table = record { rows = broker_rows s; faults = []; count = 0 }; wire = [] }) }) (sym same.0)
+        ∙ ap (λ (rows : List Row). record { keeper = shorts_taken keeper; behind = Some (record { table = record { rows = rows; faults = []; count = 0 }; wire = [] }) }) (sym (rows_same s start));
   }
 
 pub least : LeastLaw
@@ -107,6 +107,6 @@ least s start supplied late course final run =
     sym (goes.moments ∙ ap (λ xs. map (λ (b : Beat). b.at) (rounds course.beats) ++ xs) (goes.ended refl) ∙ append-nil (map (λ (b : Beat). b.at) (rounds course.beats))) in
     let count = length-map (rounds course.beats) (λ (b : Beat). b.at) in
     let best = subst (IsPlanOf g start) (sym moments) o.planned.best in (
-      o.short_is ∙ ap (λ (k : State). k.shortened) o.planned.is,
+      o.short_is ∙ ap (λ (k : CoreState). k.shortened) o.planned.is,
       (best, λ plan in_order keeps. let fewest = best.least plan in_order keeps in omega arith),
     )

@@ -6,7 +6,7 @@ use Rattle.std.proofs.lemmas.List.Splits.{length-slice_split}
 use Rattle.std.proofs.lemmas.List.Sums.{count_by-le-length}
 use Rattle.std.specs.List.{count_by}
 use Rattle.keep_device.specs.Seen.{Change, Seen, change}
-use Rattle.keep_core.specs.State.{State}
+use Rattle.keep_core.specs.State.{CoreState}
 use Rattle.keep_exchange.specs.Exchanges.{Behind}
 use Rattle.keep_inventory.specs.Answers.{Fails}
 use Rattle.keep_inventory.specs.declared.fault.InvFault.{InvFault}
@@ -21,13 +21,13 @@ use Rattle.keep_report.specs.declared.stop.Stop.TheVariants as stops
 use Rattle.keep_report.specs.Exits.{exit_of, stop_of_inventory}
 use Rattle.keep_report.specs.FaultLine.{fault_line}
 use Rattle.keep_report.specs.Told.{Reports}
-use Rattle.keep_lines.specs.Hearing.{IsBetween, counted}
+use Rattle.keep_lines.specs.Hearing.{EndsBetweenLines, counted_line}
 use Rattle.keep_lines.proofs.LineByLine.{listens_then}
 use Rattle.keep_words.specs.Pieces.{pieces}
 use Rattle.keep_run.specs.declared.live.listening.TheConstants.{MOST_EVENTS}
-use Rattle.keep_run.specs.Listening.{Listens, ListensTo, hearing, limits}
-use Rattle.keep_run.specs.StopsAfter.{stops_after}
-use Rattle.keep_run.specs.LiveRun.{EndsEarly, HasListened, IsOpened, LiveRun, LivesTo}
+use Rattle.keep_run.specs.Listening.{EventListeningEnds, ListensToEvents, event_limits, hearing_of_events}
+use Rattle.keep_run.specs.StopsAfter.{events_stop_after}
+use Rattle.keep_run.specs.LiveRun.{EndsEarly, LiveRun, LivesTo, RunHasListened, RunIsOpened}
 use Rattle.keep_run.specs.Stops.{both}
 use Rattle.keep_run.specs.Closed.{World}
 use Rattle.keep_run.proofs.Agents.{as_begun}
@@ -38,7 +38,7 @@ most_taken : (n : ℕ) (read : List ℕ) → length (take n read) ≤ n
 most_taken n read = let l : length (take n read) ≡ min n (length read) = length-take n read in omega (arith, l)
 
 -- there are no more lines than bytes
-few_lines : (read : List ℕ) (lines behind : List (List ℕ)) → pieces 10 (take MOST_EVENTS read) ≡ lines ++ behind → counted (length lines + 1) ≡ length lines + 1
+few_lines : (read : List ℕ) (lines behind : List (List ℕ)) → pieces 10 (take MOST_EVENTS read) ≡ lines ++ behind → counted_line (length lines + 1) ≡ length lines + 1
 unfolding pieces
 few_lines read lines behind parts =
     let p : ℕ → Bool = λ c. c == 10 in
@@ -91,13 +91,13 @@ module _ (port : ℕ) (bytes : List ℕ) (start : ℕ) (before : Option Behind) 
 
   -- it listened
   pub listened_lives :
-      (now : ℕ) (v : Served) (cs : List (List ℕ)) (keeper : State) (middle : Option Behind) (a b c : Seen) (k : Bool) (result : Result (Unit {0}) Stop) (final : World) (fed : Change) → read_served bytes ≡ Ok v → now ≡ port →
-      IsOpened port start (marks v.notes) (record { inventory = v.inventory; behind = before }) cs keeper middle (change k a b) → Listens now cs (both keeper middle) result final fed (change k b c) → (IsBetween result → IsTrue c.output.is_flushed) →
+      (now : ℕ) (v : Served) (cs : List (List ℕ)) (keeper : CoreState) (middle : Option Behind) (a b c : Seen) (k : Bool) (result : Result (Unit {0}) Stop) (final : World) (fed : Change) → read_served bytes ≡ Ok v → now ≡ port →
+      RunIsOpened port start (marks v.notes) (record { inventory = v.inventory; behind = before }) cs keeper middle (change k a b) → ListensToEvents now cs (both keeper middle) result final fed (change k b c) → (EndsBetweenLines result → IsTrue c.output.is_flushed) →
       LivesTo port bytes start before result fed (change k a c) final.behind
   listened_lives now v cs keeper middle a b c k result final fed read same o listens flushed = by_result result has where
-    has : HasListened port start (marks v.notes) (record { inventory = v.inventory; behind = before }) result final fed (change k a c)
+    has : RunHasListened port start (marks v.notes) (record { inventory = v.inventory; behind = before }) result final fed (change k a c)
     has =
-        let h : Listens port v.inventory.credentials (both keeper middle) result final fed (change k b c) = as_begun same o.same (λ x ds. Listens x ds (both keeper middle) result final fed (change k b c)) listens in
+        let h : ListensToEvents port v.inventory.credentials (both keeper middle) result final fed (change k b c) = as_begun same o.same (λ x ds. ListensToEvents x ds (both keeper middle) result final fed (change k b c)) listens in
         record {
           read = h.read;
           consumed = h.consumed;
@@ -110,15 +110,15 @@ module _ (port : ℕ) (bytes : List ℕ) (start : ℕ) (before : Option Behind) 
           text = o.text ++ h.text;
           run = record { opening = both keeper middle; before = o.text; opened = o.opened; spoken = h.text; heard = h.heard.heard; text_is = refl };
           ends =
-              subst (λ n. ListensTo port v.inventory.credentials h.read n h.mid h.behind (o.text ++ h.text) result final fed (change k a c)) (few_lines h.read h.lines h.behind h.heard.parts)
+              subst (λ n. EventListeningEnds port v.inventory.credentials h.read n h.mid h.behind (o.text ++ h.text) result final fed (change k a c)) (few_lines h.read h.lines h.behind h.heard.parts)
               (
-              listens_then World (hearing port v.inventory.credentials) (stops_after port v.inventory.credentials) (change k a b) (change k b c) refl limits h.read (counted (length h.lines + 1)) h.mid h.behind o.text h.text result final fed
+              listens_then World (hearing_of_events port v.inventory.credentials) (events_stop_after port v.inventory.credentials) (change k a b) (change k b c) refl event_limits h.read (counted_line (length h.lines + 1)) h.mid h.behind o.text h.text result final fed
               (inl o.sent, o.kept) h.ends
               );
           flushed = flushed;
         }
 
-    by_result : (u : Result (Unit {0}) Stop) → HasListened port start (marks v.notes) (record { inventory = v.inventory; behind = before }) u final fed (change k a c) → LivesTo port bytes start before u fed (change k a c) final.behind
+    by_result : (u : Result (Unit {0}) Stop) → RunHasListened port start (marks v.notes) (record { inventory = v.inventory; behind = before }) u final fed (change k a c) → LivesTo port bytes start before u fed (change k a c) final.behind
     by_result (Ok u) h = (v, read, (final, h, refl))
     by_result (Err stops.Memory) h = inr (v, read, inr (final, h, refl))
     by_result (Err stops.Write) h = (v, read, inr (final, h, refl))

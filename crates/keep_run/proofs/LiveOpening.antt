@@ -8,19 +8,19 @@ use Rattle.keep_core.proofs.Shaped.{replanned}
 use Rattle.keep_start.specs.Start.{from_start}
 use Rattle.keep_start.proofs.Started.{shaped_start}
 use Rattle.keep_core.specs.Replan.{Replan, ReplanTooLong}
-use Rattle.keep_core.specs.State.{State, unplanned}
+use Rattle.keep_core.specs.State.{CoreState, unplanned}
 use Rattle.keep_device.specs.Failures.{HasFailed}
 use Rattle.keep_device.specs.Front.{AppendsFront}
 use Rattle.keep_exchange.specs.Exchanges.{Behind}
 use Rattle.keep_inventory.specs.Inventories.{Inventory}
 use Rattle.keep_report.specs.declared.stop.Stop.{Stop}
 use Rattle.keep_report.specs.declared.stop.Stop.TheVariants as stops
-use Rattle.keep_report.specs.Sent.{IsAll, Sends}
-use Rattle.keep_run.specs.Closed.{taken}
-use Rattle.keep_run.specs.LiveRun.{EndsEarly, IsLiveOpening, IsOpened}
-use Rattle.keep_run.specs.Looking.{Looked, LooksAll, LooksAllUp, first, looked_text}
+use Rattle.keep_report.specs.Sent.{IsAll, SendsText}
+use Rattle.keep_run.specs.Closed.{shorts_taken}
+use Rattle.keep_run.specs.LiveRun.{EndsEarly, IsLiveOpening, RunIsOpened}
+use Rattle.keep_run.specs.Looking.{Looked, LooksAll, LooksAllUp, first_indices, looked_text}
 use Rattle.keep_run.specs.Stops.{both}
-use Rattle.keep_run.specs.Text.{short_lines}
+use Rattle.keep_run.specs.Text.{short_need_lines}
 use Rattle.keep_run.proofs.LookedUp.{left_alone, said_appends, same_credentials}
 use Rattle.keep_run.proofs.Texts.{same_shorts}
 use Rattle.keep_run.proofs.Written.{appends_then, front_then, whole_front}
@@ -43,10 +43,10 @@ looking_early port t always old (stops.Line n) out inventory new h = absurd h
 
 module _ (port t : ℕ) (always : List Bool) (old : Looked) (inventory : Inventory) (middle : Option Behind) (a b c : Seen) (k : Bool) (all : LooksAll port t old (change k a b) inventory middle) where
   abbrev lines : List ℕ
-  lines = looked_text inventory (first (length old.inventory.forest.entries))
+  lines = looked_text inventory (first_indices (length old.inventory.forest.entries))
 
   written : Appends a.output.written b.output.written lines
-  written = said_appends (looked_text inventory (first (length old.inventory.forest.entries))) (change k a b) all.said
+  written = said_appends (looked_text inventory (first_indices (length old.inventory.forest.entries))) (change k a b) all.said
 
   -- memory was wanting before the lines of the opening were sent
   pub memory_early : EndsEarly port t always old stops.Memory (change k a b) middle
@@ -60,7 +60,7 @@ module _ (port t : ℕ) (always : List Bool) (old : Looked) (inventory : Invento
   pub long_early : ReplanTooLong (from_start inventory always t).forest t → EndsEarly port t always old stops.TooLong (change k a b) middle
   long_early long = record { looked = record { inventory = inventory; behind = middle }; all = all.looked; long = long; said = all.said; left = refl }
 
-  opening : (keeper : State) (shorts : List ℕ) → Replan (unplanned (from_start inventory always t).forest) t keeper → shorts ≡ short_lines keeper.forest keeper.shortened → IsLiveOpening port t always old (both (taken keeper) middle) (lines ++ shorts)
+  opening : (keeper : CoreState) (shorts : List ℕ) → Replan (unplanned (from_start inventory always t).forest) t keeper → shorts ≡ short_need_lines keeper.forest keeper.shortened → IsLiveOpening port t always old (both (shorts_taken keeper) middle) (lines ++ shorts)
   opening keeper shorts planned is = record {
     looked = record { inventory = inventory; behind = middle };
     all = all.looked;
@@ -71,12 +71,12 @@ module _ (port t : ℕ) (always : List Bool) (old : Looked) (inventory : Invento
   }
 
   pub unsent_early :
-      (keeper : State) (shorts : List ℕ) (stop : Stop) → Replan (unplanned (from_start inventory always t).forest) t keeper → shorts ≡ short_lines keeper.forest keeper.shortened → Sends (Err stop) shorts (change k b c) →
+      (keeper : CoreState) (shorts : List ℕ) (stop : Stop) → Replan (unplanned (from_start inventory always t).forest) t keeper → shorts ≡ short_need_lines keeper.forest keeper.shortened → SendsText (Err stop) shorts (change k b c) →
       EndsEarly port t always old stop (change k a c) middle
   unsent_early keeper shorts stops.Write planned is sends =
-      (subst (λ x. HasFailed x c.failed_calls) all.kept sends.0, inr (both (taken keeper) middle, lines ++ shorts, opening keeper shorts planned is, front_then _ _ _ lines shorts written sends.1, refl))
+      (subst (λ x. HasFailed x c.failed_calls) all.kept sends.0, inr (both (shorts_taken keeper) middle, lines ++ shorts, opening keeper shorts planned is, front_then _ _ _ lines shorts written sends.1, refl))
   unsent_early keeper shorts stops.Memory planned is sends =
-      inr (both (taken keeper) middle, lines ++ shorts, opening keeper shorts planned is, front_then _ _ _ lines shorts written sends.1, refl)
+      inr (both (shorts_taken keeper) middle, lines ++ shorts, opening keeper shorts planned is, front_then _ _ _ lines shorts written sends.1, refl)
   unsent_early keeper shorts stops.TooLong planned is sends = absurd sends
   unsent_early keeper shorts stops.Read planned is sends = absurd sends
   unsent_early keeper shorts (stops.Inventory fault) planned is sends = absurd sends
@@ -86,10 +86,10 @@ module _ (port t : ℕ) (always : List Bool) (old : Looked) (inventory : Invento
   unsent_early keeper shorts (stops.Line x) planned is sends = absurd sends
 
   pub opened :
-      (keeper : State) (shorts : List ℕ) → Replan (unplanned (from_start inventory always t).forest) t keeper → shorts ≡ short_lines keeper.forest keeper.shortened → IsAll shorts (change k b c) → c.failed_calls ≡ b.failed_calls →
-      IsOpened port t always old inventory.credentials (taken keeper) middle (change k a c)
+      (keeper : CoreState) (shorts : List ℕ) → Replan (unplanned (from_start inventory always t).forest) t keeper → shorts ≡ short_need_lines keeper.forest keeper.shortened → IsAll shorts (change k b c) → c.failed_calls ≡ b.failed_calls →
+      RunIsOpened port t always old inventory.credentials (shorts_taken keeper) middle (change k a c)
   opened keeper shorts planned is sends more = record {
-    same = same_credentials port t old (first (length old.inventory.forest.entries)) (record { inventory = inventory; behind = middle }) all.looked;
+    same = same_credentials port t old (first_indices (length old.inventory.forest.entries)) (record { inventory = inventory; behind = middle }) all.looked;
     text = lines ++ shorts;
     opened = opening keeper shorts planned is;
     sent = (appends_then _ _ _ lines shorts written sends.0, sends.1);
@@ -108,16 +108,16 @@ module _ (port t : ℕ) (always : List Bool) (old : Looked) (inventory : Invento
       subst (λ (u : Stop). EndsEarly port t always old u (change k a b) middle) (sym long.0) (long_early port t always old inventory middle a b b k all (subst (λ h. ReplanTooLong h t) is long.1))
 
   pub sending_ends :
-      (g : Forest) (keeper : State) (shorts : List ℕ) (stop : Stop) → g ≡ (from_start inventory always t).forest → Replan (unplanned g) t keeper → shorts ≡ short_lines keeper.forest keeper.shortened → Sends (Err stop) shorts (change k b c) →
+      (g : Forest) (keeper : CoreState) (shorts : List ℕ) (stop : Stop) → g ≡ (from_start inventory always t).forest → Replan (unplanned g) t keeper → shorts ≡ short_need_lines keeper.forest keeper.shortened → SendsText (Err stop) shorts (change k b c) →
       EndsEarly port t always old stop (change k a c) middle
   sending_ends g keeper shorts stop is planned are sends = unsent_early port t always old inventory middle a b c k all keeper shorts stop (subst (λ h. Replan (unplanned h) t keeper) is planned) are sends
 
   pub opens :
-      (g : Forest) (cs : List (List ℕ)) (keeper now : State) (shorts : List ℕ) → g ≡ (from_start inventory always t).forest → cs ≡ inventory.credentials → Replan (unplanned g) t keeper → now ≡ taken keeper → shorts ≡ short_lines keeper.forest keeper.shortened →
-      IsAll shorts (change k b c) → c.failed_calls ≡ b.failed_calls → IsOpened port t always old cs now middle (change k a c)
+      (g : Forest) (cs : List (List ℕ)) (keeper now : CoreState) (shorts : List ℕ) → g ≡ (from_start inventory always t).forest → cs ≡ inventory.credentials → Replan (unplanned g) t keeper → now ≡ shorts_taken keeper → shorts ≡ short_need_lines keeper.forest keeper.shortened →
+      IsAll shorts (change k b c) → c.failed_calls ≡ b.failed_calls → RunIsOpened port t always old cs now middle (change k a c)
   opens g cs keeper now shorts is_g is_cs planned is_now are sends more =
-      subst (λ u. IsOpened port t always old u now middle (change k a c)) (sym is_cs)
-      (subst (λ (v : State). IsOpened port t always old inventory.credentials v middle (change k a c)) (sym is_now)
+      subst (λ u. RunIsOpened port t always old u now middle (change k a c)) (sym is_cs)
+      (subst (λ (v : CoreState). RunIsOpened port t always old inventory.credentials v middle (change k a c)) (sym is_now)
       (opened port t always old inventory middle a b c k all keeper shorts (subst (λ h. Replan (unplanned h) t keeper) is_g planned) are sends more))
 
 -- ---- what a call gives that stops it

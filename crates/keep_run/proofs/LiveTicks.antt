@@ -8,32 +8,32 @@ use Rattle.keep_core.specs.declared.event.Output.{Output}
 use Rattle.keep_core.specs.declared.event.Output.TheVariants as out
 use Rattle.keep_core.specs.declared.fault.StepFault.{StepFault}
 use Rattle.keep_core.specs.declared.fault.StepFault.TheVariants as steps
-use Rattle.keep_core.specs.History.{Turn}
+use Rattle.keep_core.specs.History.{CoreTurn}
 use Rattle.keep_core.specs.LawsOfSteps.{IsShaped}
-use Rattle.keep_core.specs.State.{State}
+use Rattle.keep_core.specs.State.{CoreState}
 use Rattle.keep_exchange.specs.Exchanges.{Behind}
 use Rattle.keep_inventory.specs.Inventories.{Inventory}
 use Rattle.keep_report.specs.declared.stop.Stop.{Stop}
-use Rattle.keep_run.specs.Closed.{AreAnswered, Beat, Exchanged, IsBeat, World, asked_in, asks_some, closing, taken}
-use Rattle.keep_run.specs.Hearing.{IsReady, IsUnderWay, TicksLive, TicksSoFar, TicksUpTo, last_line, next_line, tick_text}
+use Rattle.keep_run.specs.Closed.{AreAnswered, Beat, Exchanged, IsBeat, World, asked_by_output, asks_some, closing, shorts_taken}
+use Rattle.keep_run.specs.Hearing.{IsBetweenEvents, TickIsUnderWay, TicksLive, TicksSoFar, TicksUpTo, last_tick_line, next_tick_line, tick_text}
 use Rattle.keep_lines.specs.declared.event_line.Heard.TheVariants.{Need}
 use Rattle.keep_run.specs.code.Telling.{IsRoundSoFar, IsRoundUpTo, StopsNeed, TellsRound}
 use Rattle.keep_run.specs.code.Playing.{AnswersAll, IsPlanFault, Ticks, stop_of}
 use Rattle.keep_run.specs.Stops.{both}
-use Rattle.keep_run.specs.Text.{answer_text, beat_text, inventory_with, short_lines, wake_line}
+use Rattle.keep_run.specs.Text.{answer_text, beat_text, inventory_with, short_need_lines, wake_line_of_output}
 use Rattle.keep_run.proofs.Opens.{ticks_shaped}
 use Rattle.keep_run.proofs.Texts.{same_answer_text, same_answer_texts, same_shorts, same_wake}
 
 -- ---- what a keeper stays
 
-pub ready_on : (k new : State) → new ≡ taken k → new.round ≡ None → IsReady new
-ready_on k new is closed = record { quiet = ap (λ (s : State). s.shortened) is; closed = closed }
+pub ready_on : (k new : CoreState) → new ≡ shorts_taken k → new.round ≡ None → IsBetweenEvents new
+ready_on k new is closed = record { quiet = ap (λ (s : CoreState). s.shortened) is; closed = closed }
 
-pub ticks_ready : (t : ℕ) (old new : State) (output : Output) (before after : List ℕ) → Ticks t old output new before after → new.round ≡ None → IsReady new
+pub ticks_ready : (t : ℕ) (old new : CoreState) (output : Output) (before after : List ℕ) → Ticks t old output new before after → new.round ≡ None → IsBetweenEvents new
 ticks_ready t old new output before after ticks closed = ready_on ticks.keeper new ticks.is closed
 
 -- a tick that neither asks nor sleeps has nothing to do
-pub only_idle : (t : ℕ) (old new : State) (output : Output) → Turn old (Tick t) (Ok output) new → ((asked : List ℕ) → output ≡ out.Ask asked → ⊥) → ((w : ℕ) → output ≡ out.Sleep w → ⊥) → output ≡ out.Idle
+pub only_idle : (t : ℕ) (old new : CoreState) (output : Output) → CoreTurn old (Tick t) (Ok output) new → ((asked : List ℕ) → output ≡ out.Ask asked → ⊥) → ((w : ℕ) → output ≡ out.Sleep w → ⊥) → output ≡ out.Idle
 only_idle t old new (out.Ask asked) turn no_ask no_sleep = absurd (no_ask asked refl)
 only_idle t old new (out.Sleep w) turn no_ask no_sleep = absurd (no_sleep w refl)
 only_idle t old new out.Idle turn no_ask no_sleep = refl
@@ -43,34 +43,34 @@ only_idle t old new out.Planned turn no_ask no_sleep = absurd turn.1
 
 -- ---- a tick
 
-module _ (port : ℕ) (cs : List (List ℕ)) (t : ℕ) (old : State) where
+module _ (port : ℕ) (cs : List (List ℕ)) (t : ℕ) (old : CoreState) where
   s : Inventory
   s = inventory_with cs old.forest
 
   -- that asks nobody
   pub quiet_heard :
-      (b : Option Behind) (new : State) (output : Output) (mid after : List ℕ) → Ticks t old output new [] mid → asked_in output ≡ [] → asks_some output ≡ false → after ≡ mid ++ last_line output [] →
+      (b : Option Behind) (new : CoreState) (output : Output) (mid after : List ℕ) → Ticks t old output new [] mid → asked_by_output output ≡ [] → asks_some output ≡ false → after ≡ mid ++ last_tick_line output [] →
       TicksLive port cs t (both old b) (both new b) after × TicksUpTo port cs t (both old b) (both new b) [] after
   unfolding s beat_text
   quiet_heard b new output mid after ticks none nobody last =
       let beat : Beat = record { at = t; output = output; short = ticks.keeper.shortened; answers = [] } in
       let like = ticks_shaped t old new output [] mid ticks in
-      let shorts = short_lines old.forest ticks.keeper.shortened in
-      let wake = wake_line old.forest t output in
+      let shorts = short_need_lines old.forest ticks.keeper.shortened in
+      let wake = wake_line_of_output old.forest t output in
       let text : after ≡ tick_text s beat =
       last
-      ∙ ap (λ l. l ++ last_line output []) (ticks.text_is
-      ∙ ap (λ l. l ++ wake_line new.forest t output) (same_shorts old.forest new.forest like ticks.keeper.shortened)
+      ∙ ap (λ l. l ++ last_tick_line output []) (ticks.text_is
+      ∙ ap (λ l. l ++ wake_line_of_output new.forest t output) (same_shorts old.forest new.forest like ticks.keeper.shortened)
       ∙ ap (λ l. shorts ++ l) (same_wake old.forest new.forest like t output ∙ sym (append-nil wake))) in
       let answered = ap (λ k. both k b) ticks.is in
       let is : IsBeat port cs (both old b) beat (both new b) = record { keeper = ticks.keeper; turn = ticks.turn; short = refl; asked = sym none; answered = answered } in
-      let under : IsUnderWay port cs (both old b) beat [] (both new b) = record { keeper = ticks.keeper; turn = ticks.turn; short = refl; asked = sym none; answered = answered } in (
+      let under : TickIsUnderWay port cs (both old b) beat [] (both new b) = record { keeper = ticks.keeper; turn = ticks.turn; short = refl; asked = sym none; answered = answered } in (
         (beat, (refl, (is, text))),
         (beat, ([], (refl, (under, inl (refl, (refl, text ∙ sym (ap (λ q. cond q (beat_text s beat) (tick_text s beat)) nobody))))))),
       )
 
   -- that asks these, after its lines before the first request
-  module _ (k : State) (asked mid : List ℕ) (ticks : Ticks t old (out.Ask asked) k [] mid) where
+  module _ (k : CoreState) (asked mid : List ℕ) (ticks : Ticks t old (out.Ask asked) k [] mid) where
     abbrev u : Inventory
     u = inventory_with cs k.forest
 
@@ -83,16 +83,16 @@ module _ (port : ℕ) (cs : List (List ℕ)) (t : ℕ) (old : State) where
     told_text : (xs : List Exchanged) → mid ++ flat_map (answer_text u) xs ≡ beat_text s (beat xs)
     unfolding s beat_text
     told_text xs =
-        let shorts = short_lines old.forest ticks.keeper.shortened in
-        let wake = wake_line old.forest t (out.Ask asked) in
+        let shorts = short_need_lines old.forest ticks.keeper.shortened in
+        let wake = wake_line_of_output old.forest t (out.Ask asked) in
         let answers = flat_map (answer_text s) xs in
         ap (λ l. mid ++ l) (same_answer_texts s u like refl xs)
         ∙ ap (λ l. l ++ answers) (ticks.text_is
-        ∙ ap (λ l. l ++ wake_line k.forest t (out.Ask asked)) (same_shorts old.forest k.forest like ticks.keeper.shortened)
+        ∙ ap (λ l. l ++ wake_line_of_output k.forest t (out.Ask asked)) (same_shorts old.forest k.forest like ticks.keeper.shortened)
         ∙ ap (λ l. shorts ++ l) (same_wake old.forest k.forest like t (out.Ask asked)))
         ∙ append_assoc shorts wake answers
 
-    under_way : (b : Option Behind) (xs : List Exchanged) (others : List ℕ) (new : World) → map (λ (x : Exchanged). x.entry) xs ++ others ≡ asked → AreAnswered port cs t (both k b) xs new → IsUnderWay port cs (both old b) (beat xs) others new
+    under_way : (b : Option Behind) (xs : List Exchanged) (others : List ℕ) (new : World) → map (λ (x : Exchanged). x.entry) xs ++ others ≡ asked → AreAnswered port cs t (both k b) xs new → TickIsUnderWay port cs (both old b) (beat xs) others new
     under_way b xs others new who answered = record {
       keeper = ticks.keeper;
       turn = ticks.turn;
@@ -130,7 +130,7 @@ module _ (port : ℕ) (cs : List (List ℕ)) (t : ℕ) (old : State) where
 
     module _ (b : Option Behind) (new : World) (next : Option ℕ) (told : List ℕ) (a : AnswersAll port cs t (both k b) asked next new [] told) where
       -- all are answered, and the last line is under way
-      pub last_under_way : TicksUpTo port cs t (both old b) new (mid ++ told) (next_line next)
+      pub last_under_way : TicksUpTo port cs t (both old b) new (mid ++ told) (next_tick_line next)
       unfolding s
       last_under_way = (
         beat a.xs,
@@ -140,14 +140,14 @@ module _ (port : ℕ) (cs : List (List ℕ)) (t : ℕ) (old : State) where
             refl,
             (
               under_way b a.xs [] new (append-nil (map (λ (x : Exchanged). x.entry) a.xs) ∙ a.who) a.answered,
-              inr (inr (refl, (refl, (ap (λ l. mid ++ l) a.text_is ∙ told_text a.xs, ap next_line a.next_is)))),
+              inr (inr (refl, (refl, (ap (λ l. mid ++ l) a.text_is ∙ told_text a.xs, ap next_tick_line a.next_is)))),
             ),
           ),
         ),
       )
 
       -- the whole tick
-      pub round_heard : TicksLive port cs t (both old b) new ((mid ++ told) ++ next_line next)
+      pub round_heard : TicksLive port cs t (both old b) new ((mid ++ told) ++ next_tick_line next)
       unfolding s
       round_heard =
           let is : IsBeat port cs (both old b) (beat a.xs) new = record {
@@ -157,13 +157,13 @@ module _ (port : ℕ) (cs : List (List ℕ)) (t : ℕ) (old : State) where
             asked = a.who;
             answered = subst (λ q. AreAnswered port cs t (both q b) a.xs new) ticks.is a.answered;
           } in
-          (beat a.xs, (refl, (is, ap (λ n. (mid ++ told) ++ next_line n) a.next_is ∙ ap (λ l. l ++ next_line (closing None a.xs)) (ap (λ l. mid ++ l) a.text_is ∙ told_text a.xs))))
+          (beat a.xs, (refl, (is, ap (λ n. (mid ++ told) ++ next_tick_line n) a.next_is ∙ ap (λ l. l ++ next_tick_line (closing None a.xs)) (ap (λ l. mid ++ l) a.text_is ∙ told_text a.xs))))
 
 -- ---- by the names that the code has
 
 -- a tick, with another name for the moment and the output
 pub ticks_as :
-    (at t : ℕ) (old new : State) (output is : Output) (before after : List ℕ) → at ≡ t → output ≡ is → before ≡ [] → Ticks at old output new before after → Ticks t old is new [] after
+    (at t : ℕ) (old new : CoreState) (output is : Output) (before after : List ℕ) → at ≡ t → output ≡ is → before ≡ [] → Ticks at old output new before after → Ticks t old is new [] after
 ticks_as at t old new output is before after same says empty ticks =
     subst (λ n. Ticks n old is new [] after) same (subst (λ (o : Output). Ticks at old o new [] after) says (subst (λ l. Ticks at old output new l after) empty ticks))
 
@@ -177,7 +177,7 @@ round_as port cs t old new lent asked result out same h = subst (λ (is : List �
 
 -- why the keeper refuses a need, as the stop of a run
 pub need_stops :
-    (old new : State) (i at until : ℕ) (fault : StepFault) (stop : Stop) (behind : Option Behind) → at ≡ until → IsPlanFault fault → Turn old (events.Need i at) (Err fault) new → stop ≡ stop_of fault →
+    (old new : CoreState) (i at until : ℕ) (fault : StepFault) (stop : Stop) (behind : Option Behind) → at ≡ until → IsPlanFault fault → CoreTurn old (events.Need i at) (Err fault) new → stop ≡ stop_of fault →
     StopsNeed (both old behind) (Need i until) stop (both new behind)
 need_stops old new i at until steps.ClockBack stop behind same is turn e = absurd is
 need_stops old new i at until steps.RoundOpen stop behind same is turn e = absurd is
@@ -185,5 +185,5 @@ need_stops old new i at until steps.NotAsked stop behind same is turn e = absurd
 need_stops old new i at until steps.BadIndex stop behind same is turn e = absurd is
 need_stops old new i at until steps.OutOfRange stop behind same is turn e = absurd is
 need_stops old new i at until steps.TooLong stop behind same is turn e =
-    subst (λ (q : Stop). StopsNeed (both old behind) (Need i until) q (both new behind)) (sym e) (subst (λ n. Turn old (events.Need i n) (Err steps.TooLong) new) same turn, refl)
+    subst (λ (q : Stop). StopsNeed (both old behind) (Need i until) q (both new behind)) (sym e) (subst (λ n. CoreTurn old (events.Need i n) (Err steps.TooLong) new) same turn, refl)
 need_stops old new i at until steps.OutOfMemory stop behind same is turn e = subst (λ (q : Stop). StopsNeed (both old behind) (Need i until) q (both new behind)) (sym e) tt

@@ -10,14 +10,13 @@ use Rattle.keep_device.specs.Seen.{Change, Seen, change}
 use Rattle.keep_device.specs.Failures.{HasFailed}
 use Rattle.keep_device.specs.Front.{AppendsFront}
 use Rattle.keep_exchange.specs.Exchanges.{Behind}
-use Rattle.keep_exchange.specs.Lookups.{IsLookedUp, IsLookupLeft, applied, looked, lookup_in}
+use Rattle.keep_exchange.specs.Lookups.{EntryIsLookedUp, IsLookupLeft, applied, inventory_after_lookup, lookup_in}
 use Rattle.keep_inventory.specs.Lookup.{lookup_fault, told}
 use Rattle.keep_inventory.specs.Inventories.{Inventory}
 use Rattle.keep_report.specs.declared.stop.Stop.{Stop}
 use Rattle.keep_report.specs.declared.stop.Stop.TheVariants as stops
 use Rattle.keep_report.specs.Sent.{IsUntouched}
-use Rattle.keep_run.specs.Hearing.{entry_line}
-use Rattle.keep_run.specs.Looking.{Applies, AreLookedUp, IsCut, IsSaid, Looked, LooksAllUp, LooksOneUp, first, looked_line, looked_text}
+use Rattle.keep_run.specs.Looking.{Applies, AreLookedUp, Looked, LookingIsCut, LooksAllUp, LooksOneUp, first_indices, looked_line, looked_text}
 use Rattle.keep_run.proofs.Written.{appends_then, front_then, untouched_appends, whole_front}
 use Rattle.keep_tree.specs.declared.entry.Entry.{Entry}
 use Rattle.keep_tree.specs.Forest.{entry_at}
@@ -27,15 +26,17 @@ use Rattle.vault_http.specs.declared.reply.Reply.{Reply}
 use Rattle.vault_json.specs.declared.fault.ReplyFault.{ReplyFault}
 use Rattle.vault_json.specs.declared.lookup.Lookup.{Lookup}
 use Rattle.keep_exchange.specs.declared.fault.ExchangeFault.{ExchangeFault}
+use Rattle.keep_lines.specs.Hearing.{TextIsSaid}
+use Rattle.keep_lines.specs.Text.{entry_line}
 
 -- ---- one lookup more
 
 looked_more :
-    (port t : ℕ) (old mid new : Looked) (is : List ℕ) (i : ℕ) → AreLookedUp port t old is mid → IsLookedUp port mid.behind t mid.inventory i true new.inventory new.behind → AreLookedUp port t old (is ++ i ∷ []) new
-looked_more port t old mid new [] i all one = (new, (subst (λ (m : Looked). IsLookedUp port m.behind t m.inventory i true new.inventory new.behind) all one, refl))
+    (port t : ℕ) (old mid new : Looked) (is : List ℕ) (i : ℕ) → AreLookedUp port t old is mid → EntryIsLookedUp port mid.behind t mid.inventory i true new.inventory new.behind → AreLookedUp port t old (is ++ i ∷ []) new
+looked_more port t old mid new [] i all one = (new, (subst (λ (m : Looked). EntryIsLookedUp port m.behind t m.inventory i true new.inventory new.behind) all one, refl))
 looked_more port t old mid new (j ∷ is) i all one = (all.0, (all.1.0, looked_more port t all.0 mid new is i all.1.1 one))
 
-first_more : (n : ℕ) → first (n + 1) ≡ first n ++ n ∷ []
+first_more : (n : ℕ) → first_indices (n + 1) ≡ first_indices n ++ n ∷ []
 first_more n = range_more 0 n n (omega arith)
 
 -- ---- what a lookup leaves of the other entries
@@ -61,7 +62,7 @@ of_told s i t P holds (Ok lookup) new e = by_flag (is_none (lookup_fault s i loo
   by_flag true h = let is : told s i lookup t ≡ new = (let g : Some (told s i lookup t) ≡ Some new = h in cc) in subst P is (holds lookup)
   by_flag false h = absurd (let bad : None ≡ Some new = h in cc)
 
-pub of_reply : (s : Inventory) (i t : ℕ) (P : Inventory → Type 0) → ((lookup : Lookup) → P (told s i lookup t)) → (answer : Result Reply ExchangeFault) (new : Inventory) → looked s i t answer ≡ Some new → P new
+pub of_reply : (s : Inventory) (i t : ℕ) (P : Inventory → Type 0) → ((lookup : Lookup) → P (told s i lookup t)) → (answer : Result Reply ExchangeFault) (new : Inventory) → inventory_after_lookup s i t answer ≡ Some new → P new
 of_reply s i t P holds (Err fault) new e = absurd (let bad : None ≡ Some new = e in cc)
 of_reply s i t P holds (Ok r) new e = by_flag (r.status == 200) e where
   by_flag : (b : Bool) → cond b (applied s i t (lookup_in (entry_at s.forest.entries i).kind r.body)) None ≡ Some new → P new
@@ -88,28 +89,28 @@ same_lines one two (suc n) a same =
     ap (λ l. l ++ flat_map two (range_with_len (a + 1) n)) (same a (omega arith))
     ∙ ap (λ l. one a ++ l) (same_lines one two n (a + 1) (λ j h. same j (omega arith)))
 
-stays_text : (s : Inventory) (n : ℕ) (new : Inventory) → IsToldOne s n new → looked_text new (first n) ≡ looked_text s (first n)
+stays_text : (s : Inventory) (n : ℕ) (new : Inventory) → IsToldOne s n new → looked_text new (first_indices n) ≡ looked_text s (first_indices n)
 unfolding looked_text
 stays_text s n new told = same_lines (looked_line s) (looked_line new) n 0 (λ j h.
     let apart : j ≢ n = λ e. omega arith in
     ap (λ (e : Entry). entry_line e.name e.end) (told.others j apart))
 
-text_more : (s : Inventory) (n : ℕ) → looked_text s (first (n + 1)) ≡ looked_text s (first n) ++ looked_line s n
+text_more : (s : Inventory) (n : ℕ) → looked_text s (first_indices (n + 1)) ≡ looked_text s (first_indices n) ++ looked_line s n
 unfolding looked_text
-text_more s n = ap (flat_map (looked_line s)) (first_more n) ∙ flat_map-append (looked_line s) (first n) (n ∷ []) ∙ ap (λ l. flat_map (looked_line s) (first n) ++ l) (append-nil (looked_line s n))
+text_more s n = ap (flat_map (looked_line s)) (first_more n) ∙ flat_map-append (looked_line s) (first_indices n) (n ∷ []) ∙ ap (λ l. flat_map (looked_line s) (first_indices n) ++ l) (append-nil (looked_line s n))
 
-no_text : (s : Inventory) → looked_text s (first 0) ≡ []
+no_text : (s : Inventory) → looked_text s (first_indices 0) ≡ []
 unfolding looked_text
 no_text s = refl
 
 -- ---- what a device was sent
 
-pub said_appends : (x : List ℕ) (out : Change) → IsSaid x out → Appends out.old.output.written out.new.output.written x
+pub said_appends : (x : List ℕ) (out : Change) → TextIsSaid x out → Appends out.old.output.written out.new.output.written x
 said_appends x out (inl all) = all.0
 said_appends x out (inr none) = subst (Appends out.old.output.written out.new.output.written) (sym none.0) (untouched_appends out none.1)
 
-said_still : (a b c : Seen) (k : Bool) (x : List ℕ) → IsSaid x (change k a b) → IsUntouched (change k b c) → IsSaid x (change k a c)
-said_still a b c k x said none = subst (λ (s : Seen). IsSaid x (change k a s)) (sym none) said
+said_still : (a b c : Seen) (k : Bool) (x : List ℕ) → TextIsSaid x (change k a b) → IsUntouched (change k b c) → TextIsSaid x (change k a c)
+said_still a b c k x said none = subst (λ (s : Seen). TextIsSaid x (change k a s)) (sym none) said
 
 -- ---- one entry
 
@@ -123,8 +124,8 @@ left_alone port (Some b) t s i new same = inl same
 pub record Looking (port t : ℕ) (old : Looked) (n : ℕ) (now : Inventory) (behind : Option Behind) (out : Change) : Type 0 where
   pub within : n ≤ length old.inventory.forest.entries
   pub count : length now.forest.entries ≡ length old.inventory.forest.entries
-  pub looked : AreLookedUp port t old (first n) (record { inventory = now; behind = behind })
-  pub said : IsSaid (looked_text now (first n)) out
+  pub looked : AreLookedUp port t old (first_indices n) (record { inventory = now; behind = behind })
+  pub said : TextIsSaid (looked_text now (first_indices n)) out
   pub kept : out.new.failed_calls ≡ out.old.failed_calls
 
 pub looking_first : (port t : ℕ) (old : Looked) (a : Seen) (k : Bool) → Looking port t old 0 old.inventory old.behind (change k a a)
@@ -135,12 +136,12 @@ module _ (port t : ℕ) (old : Looked) (i : ℕ) (mid : Inventory) (middle : Opt
   abbrev now : Looked
   now = record { inventory = mid; behind = middle }
 
-  looked_on : (new : Inventory) (after : Option Behind) → Applies port t now i new after → AreLookedUp port t old (first (i + 1)) (record { inventory = new; behind = after })
+  looked_on : (new : Inventory) (after : Option Behind) → Applies port t now i new after → AreLookedUp port t old (first_indices (i + 1)) (record { inventory = new; behind = after })
   looked_on new after one =
       let all : Looked = record { inventory = new; behind = after } in
-      subst (λ is. AreLookedUp port t old is all) (sym (first_more i)) (looked_more port t old now all (first i) i g.looked one)
+      subst (λ is. AreLookedUp port t old is all) (sym (first_more i)) (looked_more port t old now all (first_indices i) i g.looked one)
 
-  text_on : (new : Inventory) (after : Option Behind) → Applies port t now i new after → looked_text new (first (i + 1)) ≡ looked_text mid (first i) ++ looked_line new i
+  text_on : (new : Inventory) (after : Option Behind) → Applies port t now i new after → looked_text new (first_indices (i + 1)) ≡ looked_text mid (first_indices i) ++ looked_line new i
   text_on new after one = text_more new i ∙ ap (λ x. x ++ looked_line new i) (stays_text mid i new (told_by port t now i new after one))
 
   pub more :
@@ -150,27 +151,27 @@ module _ (port t : ℕ) (old : Looked) (i : ℕ) (mid : Inventory) (middle : Opt
     count = (told_by port t now i new after one.0).count ∙ g.count;
     looked = looked_on new after one.0;
     said = inl (
-      subst (Appends a.output.written c.output.written) (sym (text_on new after one.0)) (appends_then _ _ _ (looked_text mid (first i)) (looked_line new i) (said_appends (looked_text mid (first i)) (change k a b) g.said) one.1.0),
+      subst (Appends a.output.written c.output.written) (sym (text_on new after one.0)) (appends_then _ _ _ (looked_text mid (first_indices i)) (looked_line new i) (said_appends (looked_text mid (first_indices i)) (change k a b) g.said) one.1.0),
       one.1.1,
     );
     kept = one.2 ∙ g.kept;
   }
 
-  all_said : Appends a.output.written b.output.written (looked_text mid (first i))
-  all_said = said_appends (looked_text mid (first i)) (change k a b) g.said
+  all_said : Appends a.output.written b.output.written (looked_text mid (first_indices i))
+  all_said = said_appends (looked_text mid (first_indices i)) (change k a b) g.said
 
-  cut_here : Appends b.output.written c.output.written [] → IsCut port t old now i (change k a c)
+  cut_here : Appends b.output.written c.output.written [] → LookingIsCut port t old now i (change k a c)
   cut_here none = record {
     within = g.within;
     looked = g.looked;
-    front = subst (AppendsFront a.output.written c.output.written) (append-nil (looked_text mid (first i))) (whole_front a.output.written c.output.written (looked_text mid (first i)) [] (subst (Appends a.output.written c.output.written) (append-nil (looked_text mid (first i))) (appends_then _ _ _ (looked_text mid (first i)) [] all_said none)));
+    front = subst (AppendsFront a.output.written c.output.written) (append-nil (looked_text mid (first_indices i))) (whole_front a.output.written c.output.written (looked_text mid (first_indices i)) [] (subst (Appends a.output.written c.output.written) (append-nil (looked_text mid (first_indices i))) (appends_then _ _ _ (looked_text mid (first_indices i)) [] all_said none)));
   }
 
-  cut_next : (new : Inventory) (after : Option Behind) → Applies port t now i new after → AppendsFront b.output.written c.output.written (looked_line new i) → IsCut port t old (record { inventory = new; behind = after }) (i + 1) (change k a c)
+  cut_next : (new : Inventory) (after : Option Behind) → Applies port t now i new after → AppendsFront b.output.written c.output.written (looked_line new i) → LookingIsCut port t old (record { inventory = new; behind = after }) (i + 1) (change k a c)
   cut_next new after one front = record {
     within = (let e = g.count in omega arith);
     looked = looked_on new after one;
-    front = subst (AppendsFront a.output.written c.output.written) (sym (text_on new after one)) (front_then _ _ _ (looked_text mid (first i)) (looked_line new i) all_said front);
+    front = subst (AppendsFront a.output.written c.output.written) (sym (text_on new after one)) (front_then _ _ _ (looked_text mid (first_indices i)) (looked_line new i) all_said front);
   }
 
   pub ends :
@@ -180,7 +181,7 @@ module _ (port t : ℕ) (old : Looked) (i : ℕ) (mid : Inventory) (middle : Opt
     within = (let e = g.count in omega arith);
     now = now;
     looked = g.looked;
-    said = said_still a b c k (looked_text mid (first i)) g.said one.2;
+    said = said_still a b c k (looked_text mid (first_indices i)) g.said one.2;
     name_is = one.0;
     unapplied = one.1;
   }

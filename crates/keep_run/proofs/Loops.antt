@@ -2,9 +2,9 @@
 use Rattle.std.proofs.Common.{◌≡◌, ◌≤◌, [], ◌∷◌, ◌++◌, Some, None, length, refl, ap, ◌∙◌, subst}
 use Rattle.std.proofs.lemmas.List.{append_assoc}
 use Rattle.std.specs.List.{flat_map}
-use Rattle.keep_run.specs.Closed.{IsAnswered, IsBeat, next_tick, requests_of, rounds, told_next}
+use Rattle.keep_run.specs.Closed.{IsBeat, RequestIsAnswered, next_tick, request_count, rounds, told_next}
 use Rattle.keep_run.specs.Stops.{AnswerMoreLaw, EndLaw, SplitLaw, TickMoreLaw}
-use Rattle.keep_run.specs.Text.{beat_text, course_text, done_text, short_lines}
+use Rattle.keep_run.specs.Text.{beat_text, course_text, done_text, short_need_lines}
 
 pub tick_more : TickMoreLaw
 tick_more port cs old mid new None [] b played beat = absurd (let bad = played.1 in cc)
@@ -16,7 +16,7 @@ tick_more port cs old mid new (Some t) (c ∷ bs) b played beat =
     (played.0, (played.1.0, (played.1.1.0, tick_more port cs played.1.0 mid new (next_tick c) bs b played.1.1.1 beat)))
 
 pub answer_more : AnswerMoreLaw
-answer_more port cs t old mid new [] x answers one = ((new, (subst (λ w. IsAnswered port cs t w x new) answers one, refl)), λ next. refl)
+answer_more port cs t old mid new [] x answers one = ((new, (subst (λ w. RequestIsAnswered port cs t w x new) answers one, refl)), λ next. refl)
 answer_more port cs t old mid new (y ∷ xs) x answers one =
     let more = answer_more port cs t answers.0 mid new xs x answers.1.1 one in
     ((answers.0, (answers.1.0, more.0)), λ next. more.1 (told_next next y.output))
@@ -28,9 +28,9 @@ at_end inventory faults start final wakes asked text s few = (
   (
     record { opening = s.opening; opened = s.opened; played = s.played; few = subst (λ n. n ≤ 100000) s.wakes_are few },
     ap (λ xs. xs ++ done_text wakes asked) s.text_is
-        ∙ ap (λ n. (short_lines inventory.forest s.short ++ flat_map (beat_text inventory) s.beats) ++ done_text n asked) s.wakes_are
-        ∙ ap (λ n. (short_lines inventory.forest s.short ++ flat_map (beat_text inventory) s.beats) ++ done_text (length (rounds s.beats)) n) s.asked_are
-        ∙ append_assoc (short_lines inventory.forest s.short) (flat_map (beat_text inventory) s.beats) (done_text (length (rounds s.beats)) (requests_of s.beats)),
+        ∙ ap (λ n. (short_need_lines inventory.forest s.short ++ flat_map (beat_text inventory) s.beats) ++ done_text n asked) s.wakes_are
+        ∙ ap (λ n. (short_need_lines inventory.forest s.short ++ flat_map (beat_text inventory) s.beats) ++ done_text (length (rounds s.beats)) n) s.asked_are
+        ∙ append_assoc (short_need_lines inventory.forest s.short) (flat_map (beat_text inventory) s.beats) (done_text (length (rounds s.beats)) (request_count s.beats)),
   ),
 )
 

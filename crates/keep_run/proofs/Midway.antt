@@ -14,7 +14,7 @@ use Rattle.keep_tree.proofs.Chains.{chain_same, over_self}
 use Rattle.keep_tree.proofs.Entries.{entry_at_past}
 use Rattle.keep_tree.proofs.Placed.{parents_first}
 use Rattle.keep_rule.specs.declared.wake.Wake.{Wake}
-use Rattle.keep_rule.specs.Asks.{asking, asks, first_of, is_wanted}
+use Rattle.keep_rule.specs.Asks.{asking, asks, first_of, is_to_be_asked}
 use Rattle.keep_rule.specs.Ends.{is_asked}
 use Rattle.keep_rule.specs.Schedule.{RisesStrictly}
 use Rattle.keep_rule.proofs.Alive.{alive_from_last, last_from_alive}
@@ -24,15 +24,15 @@ use Rattle.keep_core.specs.declared.event.Event.TheVariants.{Told}
 use Rattle.keep_core.specs.declared.event.Output.{Output}
 use Rattle.keep_core.specs.declared.event.Output.TheVariants as out
 use Rattle.keep_core.specs.LawsOfPlans.{IsAnsweredByRule}
-use Rattle.keep_core.specs.Refusal.{refusal, unless_asked}
+use Rattle.keep_core.specs.Refusal.{step_refusal, unless_waited_for}
 use Rattle.keep_core.specs.Replan.{IsPlanOf, Replan}
-use Rattle.keep_core.specs.History.{Turn}
+use Rattle.keep_core.specs.History.{CoreTurn}
 use Rattle.keep_core.specs.Shorten.{shorten}
-use Rattle.keep_core.specs.State.{State}
-use Rattle.keep_core.specs.Step.{answered, change, without}
+use Rattle.keep_core.specs.State.{CoreState}
+use Rattle.keep_core.specs.Step.{entry_after_answer, with_entry_changed, without_index}
 use Rattle.keep_core.proofs.Standing.{tail_kept}
-use Rattle.broker_table.specs.Listed.{is_alive}
-use Rattle.keep_run.specs.Mirrors.{ended}
+use Rattle.broker_table.specs.Listed.{is_entry_alive}
+use Rattle.keep_run.specs.Mirrors.{with_entry_end}
 use Rattle.keep_run.proofs.Mirroring.{ended_count, ended_other, ended_same}
 
 -- ---- lists of indices that rise
@@ -58,8 +58,8 @@ not_below i a (x ∷ xs) h r =
     let miss : (x == i) ≡ false = grind (arith, nat_tests) in
     ap (λ b. b || list_any (λ j. j == i) xs) miss ∙ not_below i (x + 1) xs (omega arith) r.1
 
-stays_without : (i a : ℕ) (xs : List ℕ) → i < a → RisesStrictly a xs → without i xs ≡ xs
-unfolding without
+stays_without : (i a : ℕ) (xs : List ℕ) → i < a → RisesStrictly a xs → without_index i xs ≡ xs
+unfolding without_index
 stays_without i a [] h r = refl
 stays_without i a (x ∷ xs) h r =
     let l : a ≤ x = r.0 in
@@ -67,8 +67,8 @@ stays_without i a (x ∷ xs) h r =
     ap (λ b. cond (not b) (x ∷ filter (λ j. not (j == i)) xs) (filter (λ j. not (j == i)) xs)) miss
     ∙ ap (λ ys. x ∷ ys) (stays_without i (x + 1) xs (omega arith) r.1)
 
-pub without_first : (i : ℕ) (xs : List ℕ) → RisesStrictly (i + 1) xs → without i (i ∷ xs) ≡ xs
-unfolding without
+pub without_first : (i : ℕ) (xs : List ℕ) → RisesStrictly (i + 1) xs → without_index i (i ∷ xs) ≡ xs
+unfolding without_index
 without_first i xs r =
     let hit : (i == i) ≡ true = grind (arith, nat_tests) in
     ap (λ b. cond (not b) (i ∷ filter (λ j. not (j == i)) xs) (filter (λ j. not (j == i)) xs)) hit ∙ stays_without i (i + 1) xs (omega arith) r
@@ -104,7 +104,7 @@ midway_first g t rest = record {
       (and_not (is_among (asks g.entries g.margin t (end_of g.entries) t (first_of rest)) i)));
   asked = λ i there. there;
   low = 0;
-  rises = filter_rises (is_wanted g.entries g.margin t (end_of g.entries) t (first_of rest)) (length g.entries) 0;
+  rises = filter_rises (is_to_be_asked g.entries g.margin t (end_of g.entries) t (first_of rest)) (length g.entries) 0;
 }
 
 pub midway_last : (g : Forest) (t : ℕ) (rest : List ℕ) (h : Forest) → Midway g t rest [] h → IsAnsweredByRule g h t (first_of rest)
@@ -124,16 +124,16 @@ as_it_was g t rest todo h m i there =
     ∙ ap (λ b. record (entry_at g.entries i) { end = cond (is_asked (wake_of g t rest) i && not b) (renewal (entry_at g.entries i) t) (entry_at g.entries i).end }) there
     ∙ ap (λ b. record (entry_at g.entries i) { end = cond b (renewal (entry_at g.entries i) t) (entry_at g.entries i).end }) (and-false (is_asked (wake_of g t rest) i))
 
-pub margin_of : (h : Forest) (i end : ℕ) → (ended h i end).margin ≡ h.margin
-unfolding ended
+pub margin_of : (h : Forest) (i end : ℕ) → (with_entry_end h i end).margin ≡ h.margin
+unfolding with_entry_end
 margin_of h i end = refl
 
 pub midway_more :
     (g : Forest) (t : ℕ) (rest : List ℕ) (i : ℕ) (todo : List ℕ) (h : Forest) → Midway g t rest (i ∷ todo) h → i < length h.entries →
-    Midway g t rest todo (ended h i (renewal (entry_at h.entries i) t))
+    Midway g t rest todo (with_entry_end h i (renewal (entry_at h.entries i) t))
 midway_more g t rest i todo h m within =
     let end = renewal (entry_at h.entries i) t in
-    let k = ended h i end in
+    let k = with_entry_end h i end in
     let asked : ℕ → Bool = is_asked (wake_of g t rest) in
     let was = as_it_was g t rest (i ∷ todo) h m i (here_first i todo) in
     let gone : is_among todo i ≡ false = not_below i (i + 1) todo (omega arith) m.rises.1 in
@@ -184,17 +184,17 @@ pub record IsDue (g h : Forest) (t i : ℕ) : Type 0 where
   pub was : entry_at h.entries i ≡ entry_at g.entries i
   pub able : (entry_at h.entries i).renewable ≡ true
   pub within : i < length h.entries
-  pub alive : is_alive h t i ≡ true
+  pub alive : is_entry_alive h t i ≡ true
   pub later : t < (entry_at h.entries i).end
   pub grows : (entry_at h.entries i).end < renewal (entry_at h.entries i) t
 
 pub is_due : (g : Forest) → IsForest g → (t : ℕ) (rest todo : List ℕ) (h : Forest) → Midway g t rest todo h → (i : ℕ) → is_among todo i ≡ true → IsDue g h t i
-unfolding is_wanted is_alive end_of is_over
+unfolding is_to_be_asked is_entry_alive end_of is_over
 is_due g forest t rest todo h m i there =
     let es = g.entries in
     let ends : ℕ → ℕ = λ k. (entry_at es k).end in
     let was = as_it_was g t rest todo h m i there in
-    let wanted : is_wanted es g.margin t ends t (first_of rest) i ≡ true = sym (asks_wanted es g.margin t ends t (first_of rest) i) ∙ m.asked i there in
+    let wanted : is_to_be_asked es g.margin t ends t (first_of rest) i ≡ true = sym (asks_wanted es g.margin t ends t (first_of rest) i) ∙ m.asked i there in
     let able : (entry_at es i).renewable ≡ true = and_left (entry_at es i).renewable _ wanted in
     let alive : all_last es ends (t + 1) i ≡ true = and_left (all_last es ends (t + 1) i) _ (and_right (entry_at es i).renewable _ wanted) in
     let all = alive_from_last es ends t i alive in
@@ -219,34 +219,34 @@ is_due g forest t rest todo h m i there =
 
 -- ---- the keeper's turn
 
-abbrev pub waiting : Forest → ℕ → List ℕ → List ℕ → State
+abbrev pub waiting : Forest → ℕ → List ℕ → List ℕ → CoreState
 waiting h t rest todo = record { forest = h; last = t; to_come = rest; round = Some (record { at = t; unanswered = todo }); shortened = [] }
 
-abbrev pub settled : Forest → ℕ → List ℕ → State
+abbrev pub settled : Forest → ℕ → List ℕ → CoreState
 settled h t rest = record { forest = h; last = t; to_come = rest; round = None; shortened = [] }
 
 abbrev pub heard_as : List ℕ → List ℕ → Output
 heard_as rest [] = out.Round (first_of rest)
 heard_as rest (j ∷ more) = out.Waiting
 
-abbrev pub heard_state : Forest → ℕ → List ℕ → List ℕ → State
+abbrev pub heard_state : Forest → ℕ → List ℕ → List ℕ → CoreState
 heard_state h t rest [] = settled h t rest
 heard_state h t rest (j ∷ more) = waiting h t rest (j ∷ more)
 
-takes_told : (h : Forest) (t : ℕ) (rest : List ℕ) (i : ℕ) (todo : List ℕ) (n : ℕ) → i < length h.entries → n ≤ 4294967295 → refusal (waiting h t rest (i ∷ todo)) (Told i n true) ≡ None
-unfolding refusal
+takes_told : (h : Forest) (t : ℕ) (rest : List ℕ) (i : ℕ) (todo : List ℕ) (n : ℕ) → i < length h.entries → n ≤ 4294967295 → step_refusal (waiting h t rest (i ∷ todo)) (Told i n true) ≡ None
+unfolding step_refusal
 takes_told h t rest i todo n within small =
     let s = waiting h t rest (i ∷ todo) in
     let a : nat_lt 4294967295 n ≡ false = grind (arith, nat_tests) in
     let b : nat_le (length h.entries) i ≡ false = grind (arith, nat_tests) in
-    cond-false (nat_lt 4294967295 n) _ (unless_asked s i) a
+    cond-false (nat_lt 4294967295 n) _ (unless_waited_for s i) a
     ∙ cond-false (nat_le (length h.entries) i) _ _ b
     ∙ cond-true (is_among (i ∷ todo) i) None _ (here_first i todo)
 
 told_change :
     (h : Forest) (t i n : ℕ) → (entry_at h.entries i).renewable ≡ true → t + n ≡ renewal (entry_at h.entries i) t →
-    change h i (answered t (Told i n true)) ≡ ended h i (renewal (entry_at h.entries i) t)
-unfolding answered ended
+    with_entry_changed h i (entry_after_answer t (Told i n true)) ≡ with_entry_end h i (renewal (entry_at h.entries i) t)
+unfolding entry_after_answer with_entry_end
 told_change h t i n able sums =
     let e = entry_at h.entries i in
     let put : Entry → Forest = λ x. record { entries = set h.entries i x; margin = h.margin } in
@@ -257,10 +257,10 @@ told_change h t i n able sums =
 pub told_turn :
     (g : Forest) → IsForest g → (t : ℕ) (rest : List ℕ) (i : ℕ) (todo : List ℕ) (h : Forest) → IsPlanOf g t (t ∷ rest) → length rest ≤ LIMIT → Midway g t rest (i ∷ todo) h → IsDue g h t i →
     (n : ℕ) → n ≤ 4294967295 → t + n ≡ renewal (entry_at h.entries i) t →
-    Turn (waiting h t rest (i ∷ todo)) (Told i n true) (Ok (heard_as rest todo)) (heard_state (ended h i (renewal (entry_at h.entries i) t)) t rest todo)
+    CoreTurn (waiting h t rest (i ∷ todo)) (Told i n true) (Ok (heard_as rest todo)) (heard_state (with_entry_end h i (renewal (entry_at h.entries i) t)) t rest todo)
 told_turn g forest t rest i [] h plan few m due n small sums =
     let end = renewal (entry_at h.entries i) t in
-    let k = ended h i end in
+    let k = with_entry_end h i end in
     let changed = told_change h t i n due.able sums in
     let after = midway_last g t rest k (midway_more g t rest i [] h m due.within) in
     let stays = tail_kept g k t rest forest plan after in
@@ -287,7 +287,7 @@ told_turn g forest t rest i (j ∷ more) h plan few m due n small sums =
           (
             (λ none. let bad : j ∷ more ≡ [] = sym gone ∙ none in absurd cc),
             ap (λ x. waiting x t rest (j ∷ more)) (sym (told_change h t i n due.able sums))
-                ∙ ap (λ xs. waiting (change h i (answered t (Told i n true))) t rest xs) (sym gone),
+                ∙ ap (λ xs. waiting (with_entry_changed h i (entry_after_answer t (Told i n true))) t rest xs) (sym gone),
           ),
         ),
       ),

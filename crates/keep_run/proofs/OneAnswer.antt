@@ -5,23 +5,23 @@ use Rattle.keep_tree.specs.declared.entry.Kind.{Kind}
 use Rattle.vault_json.specs.declared.renewed.Renewed.{Renewed}
 use Rattle.vault_http.specs.declared.reply.Reply.{Reply}
 use Rattle.vault_http.specs.declared.request.Request.{Request}
-use Rattle.broker_table.specs.Step.{step}
-use Rattle.broker_table.specs.Table.{Table}
+use Rattle.broker_table.specs.Step.{broker_step}
+use Rattle.broker_table.specs.Table.{BrokerTable}
 use Rattle.keep_exchange.specs.Exchanges.{Behind, wire_of}
 use Rattle.keep_exchange.specs.Heard.{renewed_in}
-use Rattle.keep_exchange.specs.Requests.{IsAsked, request_of}
+use Rattle.keep_exchange.specs.Requests.{RequestIsAsked, renewal_request}
 use Rattle.keep_core.specs.LawsOfSteps.{IsShaped}
 use Rattle.keep_core.specs.declared.event.Event.{Event}
 use Rattle.keep_core.specs.declared.event.Event.TheVariants.{Told, Refused, Lost}
 use Rattle.keep_core.specs.declared.event.Output.{Output}
-use Rattle.keep_core.specs.History.{Turn}
-use Rattle.keep_core.specs.State.{State}
+use Rattle.keep_core.specs.History.{CoreTurn}
+use Rattle.keep_core.specs.State.{CoreState}
 use Rattle.keep_core.proofs.Shaped.{shape}
-use Rattle.keep_run.specs.Closed.{event_in, taken}
+use Rattle.keep_run.specs.Closed.{event_in, shorts_taken}
 use Rattle.keep_run.specs.code.Playing.{Answers}
-use Rattle.keep_run.specs.Replies.{IsAnswerOf, event_for, event_of, told_of}
+use Rattle.keep_run.specs.Replies.{IsAnswerOf, event_for, event_of, told_of_body}
 use Rattle.keep_run.specs.Stops.{both}
-use Rattle.keep_run.specs.Text.{answer_line, answer_text, short_lines}
+use Rattle.keep_run.specs.Text.{answer_line, answer_text, short_need_lines}
 use Rattle.keep_run.proofs.Texts.{same_shorts}
 
 -- ---- what a reply means is an answer of its entry
@@ -30,7 +30,7 @@ either : (i : ℕ) (b : Bool) (x y : Event) → IsAnswerOf i x → IsAnswerOf i 
 either i true x y a c = a
 either i false x y a c = c
 
-told_for : (i : ℕ) (x : Option Renewed) → IsAnswerOf i (told_of i x)
+told_for : (i : ℕ) (x : Option Renewed) → IsAnswerOf i (told_of_body i x)
 told_for i (Some r) = (tt, refl)
 told_for i None = (tt, refl)
 
@@ -43,31 +43,31 @@ answers_for kind id i (Some r) = either i (r.status == 200) _ _ (told_for i (ren
 
 -- what came of a request, where the broker's table is known
 pub asked_known :
-    (o : Option Behind) (b : Behind) (t : ℕ) (request : Request) (reply : Option Reply) (new : Option Behind) → o ≡ Some b → IfSome o (λ c. IsAsked c.table t request reply new) → IsAsked b.table t request reply new
-asked_known o b t request reply new known asked = subst (λ (q : Option Behind). IfSome q (λ c. IsAsked c.table t request reply new)) known asked
+    (o : Option Behind) (b : Behind) (t : ℕ) (request : Request) (reply : Option Reply) (new : Option Behind) → o ≡ Some b → IfSome o (λ c. RequestIsAsked c.table t request reply new) → RequestIsAsked b.table t request reply new
+asked_known o b t request reply new known asked = subst (λ (q : Option Behind). IfSome q (λ c. RequestIsAsked c.table t request reply new)) known asked
 
 -- and then it is known again
-pub table_after : (old : Table) (t : ℕ) (request : Request) (reply : Option Reply) (new : Option Behind) → IsAsked old t request reply new → (b : Behind) × ((new ≡ Some b) × (b.table ≡ (step old t request).table))
-table_after old t request reply new asked = (record { table = (step old t request).table; wire = wire_of request reply }, (asked.is, refl))
+pub table_after : (old : BrokerTable) (t : ℕ) (request : Request) (reply : Option Reply) (new : Option Behind) → RequestIsAsked old t request reply new → (b : Behind) × ((new ≡ Some b) × (b.table ≡ (broker_step old t request).table))
+table_after old t request reply new asked = (record { table = (broker_step old t request).table; wire = wire_of request reply }, (asked.is, refl))
 
 -- ---- the answer
 
 pub one_answer :
-    (o new : Option Behind) (port : ℕ) (cs : List (List ℕ)) (t i : ℕ) (old : State) (reply : Option Reply) (event : Event) (output : Output) (k after' : State) (before mid after : List ℕ) →
-    IfSome o (λ b. IsAsked b.table t (request_of port cs old.forest i) reply new) → event ≡ event_for cs old.forest i reply → Turn old event (Ok output) k → after' ≡ taken k →
-    mid ≡ before ++ answer_line old.forest event reply → after ≡ mid ++ short_lines after'.forest k.shortened → Answers port cs t (both old o) i output (both after' new) before after
+    (o new : Option Behind) (port : ℕ) (cs : List (List ℕ)) (t i : ℕ) (old : CoreState) (reply : Option Reply) (event : Event) (output : Output) (k after' : CoreState) (before mid after : List ℕ) →
+    IfSome o (λ b. RequestIsAsked b.table t (renewal_request port cs old.forest i) reply new) → event ≡ event_for cs old.forest i reply → CoreTurn old event (Ok output) k → after' ≡ shorts_taken k →
+    mid ≡ before ++ answer_line old.forest event reply → after ≡ mid ++ short_need_lines after'.forest k.shortened → Answers port cs t (both old o) i output (both after' new) before after
 unfolding event_in answer_text
 one_answer o new port cs t i old reply event output k after' before mid after asked means turn quiet told short =
-    let like : IsShaped old.forest after'.forest = subst (λ (s : State). IsShaped old.forest s.forest) (sym quiet) (shape old k event (Ok output) turn) in
+    let like : IsShaped old.forest after'.forest = subst (λ (s : CoreState). IsShaped old.forest s.forest) (sym quiet) (shape old k event (Ok output) turn) in
     let line = answer_line old.forest event reply in
     record {
       x = record { entry = i; reply = reply; output = output; short = k.shortened };
       entry = refl;
       output_is = refl;
-      answered = record { asked = asked; keeper = k; turn = subst (λ e. Turn old e (Ok output) k) means turn; short = refl; taken_is = quiet };
+      answered = record { asked = asked; keeper = k; turn = subst (λ e. CoreTurn old e (Ok output) k) means turn; short = refl; taken_is = quiet };
       text_is = short
           ∙ ap (λ xs. mid ++ xs) (same_shorts old.forest after'.forest like k.shortened)
-          ∙ ap (λ xs. xs ++ short_lines old.forest k.shortened) told
-          ∙ append_assoc before line (short_lines old.forest k.shortened)
-          ∙ ap (λ e. before ++ (answer_line old.forest e reply ++ short_lines old.forest k.shortened)) means;
+          ∙ ap (λ xs. xs ++ short_need_lines old.forest k.shortened) told
+          ∙ append_assoc before line (short_need_lines old.forest k.shortened)
+          ∙ ap (λ e. before ++ (answer_line old.forest e reply ++ short_need_lines old.forest k.shortened)) means;
     }

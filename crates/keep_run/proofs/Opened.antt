@@ -2,7 +2,7 @@
 use Rattle.std.proofs.Common.{◌≡◌, ℕ, Result, Ok, Err, IfOk, IfErr, ◌⊎◌, inl, inr, subst, sym}
 use Rattle.keep_tree.specs.Forest.{Forest}
 use Rattle.keep_core.specs.Replan.{PlanFails, Replan, ReplanTooLong}
-use Rattle.keep_core.specs.State.{State, unplanned}
+use Rattle.keep_core.specs.State.{CoreState, unplanned}
 use Rattle.keep_core.specs.declared.fault.StepFault.{StepFault}
 use Rattle.keep_core.specs.declared.fault.StepFault.TheVariants.{ClockBack, RoundOpen, NotAsked, BadIndex, OutOfRange, TooLong, OutOfMemory}
 use Rattle.keep_report.specs.declared.stop.Stop.{Stop}
@@ -27,30 +27,30 @@ stops_long g t NotAsked stop fails is = absurd fails
 stops_long g t BadIndex stop fails is = absurd fails
 stops_long g t OutOfRange stop fails is = absurd fails
 
-same_keeper : (a b : State) → ◌≡◌ {A = Result State Stop} (Ok a) (Ok b) → a ≡ b
+same_keeper : (a b : CoreState) → ◌≡◌ {A = Result CoreState Stop} (Ok a) (Ok b) → a ≡ b
 same_keeper a b is = cc
 
-same_stop : (a b : Stop) → ◌≡◌ {A = Result State Stop} (Err a) (Err b) → a ≡ b
+same_stop : (a b : Stop) → ◌≡◌ {A = Result CoreState Stop} (Err a) (Err b) → a ≡ b
 same_stop a b is = cc
 
-no_keeper : (k : State) (stop : Stop) → ◌≡◌ {A = Result State Stop} (Ok k) (Err stop) → ⊥
+no_keeper : (k : CoreState) (stop : Stop) → ◌≡◌ {A = Result CoreState Stop} (Ok k) (Err stop) → ⊥
 no_keeper k stop is = cc
 
 -- what may keep a keeper from being made
-pub refused_as : (g : Forest) (t : ℕ) (made : Result State (StepFault × Forest)) → IfErr made (λ refused. PlanFails g t refused.0 × (refused.1 ≡ g)) → IfErr made (λ refused. IsPlanFault refused.0)
+pub refused_as : (g : Forest) (t : ℕ) (made : Result CoreState (StepFault × Forest)) → IfErr made (λ refused. PlanFails g t refused.0 × (refused.1 ≡ g)) → IfErr made (λ refused. IsPlanFault refused.0)
 refused_as g t (Ok k) fails = tt
 refused_as g t (Err refused) fails = plan_fault g t refused.0 fails.0
 
 -- the keeper that goes on is planned from the start
 pub planned_as :
-    (g : Forest) (t : ℕ) (made : Result State (StepFault × Forest)) (k : State) → IfOk made (λ keeper. Replan (unplanned g) t keeper) → IfOk made (λ keeper. ◌≡◌ {A = Result State Stop} (Ok k) (Ok keeper)) →
-    IfErr made (λ refused. ◌≡◌ {A = Result State Stop} (Ok k) (Err (stop_of refused.0))) → Replan (unplanned g) t k
+    (g : Forest) (t : ℕ) (made : Result CoreState (StepFault × Forest)) (k : CoreState) → IfOk made (λ keeper. Replan (unplanned g) t keeper) → IfOk made (λ keeper. ◌≡◌ {A = Result CoreState Stop} (Ok k) (Ok keeper)) →
+    IfErr made (λ refused. ◌≡◌ {A = Result CoreState Stop} (Ok k) (Err (stop_of refused.0))) → Replan (unplanned g) t k
 planned_as g t (Ok made) k planned keeper stop = subst (Replan (unplanned g) t) (sym (same_keeper k made keeper)) planned
 planned_as g t (Err refused) k planned keeper stop = absurd (no_keeper k (stop_of refused.0) stop)
 
 -- what stops the run is what kept it from being made
 pub stopped_as :
-    (g : Forest) (t : ℕ) (made : Result State (StepFault × Forest)) (stop : Stop) → IfErr made (λ refused. PlanFails g t refused.0 × (refused.1 ≡ g)) → IfOk made (λ keeper. ◌≡◌ {A = Result State Stop} (Err stop) (Ok keeper)) →
-    IfErr made (λ refused. ◌≡◌ {A = Result State Stop} (Err stop) (Err (stop_of refused.0))) → (stop ≡ stops.Memory) ⊎ ((stop ≡ stops.TooLong) × ReplanTooLong g t)
+    (g : Forest) (t : ℕ) (made : Result CoreState (StepFault × Forest)) (stop : Stop) → IfErr made (λ refused. PlanFails g t refused.0 × (refused.1 ≡ g)) → IfOk made (λ keeper. ◌≡◌ {A = Result CoreState Stop} (Err stop) (Ok keeper)) →
+    IfErr made (λ refused. ◌≡◌ {A = Result CoreState Stop} (Err stop) (Err (stop_of refused.0))) → (stop ≡ stops.Memory) ⊎ ((stop ≡ stops.TooLong) × ReplanTooLong g t)
 stopped_as g t (Ok made) stop fails keeper is_stop = absurd (no_keeper made stop (sym keeper))
 stopped_as g t (Err refused) stop fails keeper is_stop = stops_long g t refused.0 stop fails.0 (same_stop stop (stop_of refused.0) is_stop)

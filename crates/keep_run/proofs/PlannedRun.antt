@@ -17,7 +17,7 @@ use Rattle.broker_table.specs.declared.fault.NumberedFault.{NumberedFault}
 use Rattle.keep_exchange.specs.Exchanges.{Behind}
 use Rattle.keep_report.specs.declared.exit.Exit.TheVariants as exits
 use Rattle.keep_report.specs.Sent.{IsAll}
-use Rattle.keep_run.specs.Closed.{Course, IsClosedRun, World, rounds}
+use Rattle.keep_run.specs.Closed.{IsClosedRun, RunCourse, World, rounds}
 use Rattle.keep_run.specs.FaultWords.{faults_from, faults_of}
 use Rattle.keep_run.specs.PlannedRehearsal.{IsPlannedRun, PlannedRehearsalLaw}
 use Rattle.keep_run.specs.Rehearse.{RunsLong}
@@ -41,7 +41,7 @@ no_round n m less most is = omega (arith, less, most, is)
 
 -- the run as it is done
 done_as_planned :
-    (bytes : List ℕ) (inventory : Inventory) (start : ℕ) (p : Planned) (course : Course) (final : World) (out : Change) (new : Behind) → inventory_at start bytes ≡ Ok inventory → start ≤ LAST → Decides inventory.forest start (Keep p) → length (to_come p) ≤ 100000 →
+    (bytes : List ℕ) (inventory : Inventory) (start : ℕ) (p : Planned) (course : RunCourse) (final : World) (out : Change) (new : Behind) → inventory_at start bytes ≡ Ok inventory → start ≤ LAST → Decides inventory.forest start (Keep p) → length (to_come p) ≤ 100000 →
     IsClosedRun inventory [] start course final → IsAll (course_text inventory course) out → final.behind ≡ Some new → IsPlannedRun inventory start p out new
 done_as_planned bytes inventory start p course final out new read late decides few run sent left =
     let ts = moments_of (to_come p) in

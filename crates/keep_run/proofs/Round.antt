@@ -11,27 +11,27 @@ use Rattle.keep_tree.specs.Renewal.{renewal}
 use Rattle.keep_rule.specs.Asks.{first_of}
 use Rattle.keep_rule.specs.declared.limit.TheConstants.{LIMIT}
 use Rattle.keep_inventory.specs.Inventories.{IsInventory, Inventory, credential_at}
-use Rattle.broker_table.specs.Table.{Table}
+use Rattle.broker_table.specs.Table.{BrokerTable}
 use Rattle.broker_table.specs.Faults.{next_number}
 use Rattle.broker_table.specs.Renewing.{with_row}
-use Rattle.broker_table.specs.Step.{Outcome, Says, step, tells}
+use Rattle.broker_table.specs.Step.{BrokerOutcome, SaysAnswer, broker_step, tells}
 use Rattle.vault_http.specs.declared.reply.Reply.{Reply}
 use Rattle.keep_core.specs.declared.event.Event.TheVariants.{Told}
 use Rattle.keep_core.specs.declared.event.Output.{Output}
 use Rattle.keep_core.specs.declared.fault.StepFault.{StepFault}
 use Rattle.keep_core.specs.LawsOfPlans.{IsAnsweredByRule}
 use Rattle.keep_core.specs.Replan.{IsPlanOf}
-use Rattle.keep_core.specs.History.{Turn}
-use Rattle.keep_core.specs.State.{State}
+use Rattle.keep_core.specs.History.{CoreTurn}
+use Rattle.keep_core.specs.State.{CoreState}
 use Rattle.keep_core.proofs.Once.{once}
 use Rattle.keep_core.proofs.Standing.{tail_kept}
-use Rattle.keep_run.specs.Closed.{AreAnswered, Exchanged, IsAnswered, World, closing, event_in, taken, told_next}
+use Rattle.keep_run.specs.Closed.{AreAnswered, Exchanged, RequestIsAnswered, World, closing, event_in, shorts_taken, told_next}
 use Rattle.keep_run.specs.Laws.{IsToldByRule}
-use Rattle.broker_table.specs.Listed.{listed}
-use Rattle.keep_run.specs.Mirrors.{Mirrors, ended, with_forest}
+use Rattle.broker_table.specs.Listed.{rows_listed}
+use Rattle.keep_run.specs.Mirrors.{Mirrors, with_entry_end, with_forest}
 use Rattle.keep_run.specs.Replies.{event_for, event_of}
 use Rattle.keep_exchange.specs.Exchanges.{Behind}
-use Rattle.keep_exchange.specs.Requests.{IsAsked, request_of}
+use Rattle.keep_exchange.specs.Requests.{RequestIsAsked, renewal_request}
 use Rattle.keep_run.proofs.Mirroring.{ended_other, ended_same, ended_supplied, mirrors_listed, renewal_within, with_row_listed}
 use Rattle.keep_run.proofs.Midway.{Midway, heard_as, heard_state, here_first, is_due, midway_last, midway_more, settled, told_turn, waiting}
 use Rattle.keep_run.proofs.OneAnswer.{asked_known, table_after}
@@ -43,10 +43,10 @@ use Rattle.keep_run.proofs.Serving.{renewed_row, serves}
 abbrev pub SameBut : Forest → Forest → Type 0
 SameBut g h = (i : ℕ) → entry_at h.entries i ≡ record (entry_at g.entries i) { end = (entry_at h.entries i).end }
 
-same_after : (g h : Forest) (i end : ℕ) → i < length h.entries → SameBut g h → SameBut g (ended h i end)
+same_after : (g h : Forest) (i end : ℕ) → i < length h.entries → SameBut g h → SameBut g (with_entry_end h i end)
 same_after g h i end within same j = elim (cases_eq j i) [
   | inl here ↦
-      let k = ended h i end in
+      let k = with_entry_end h i end in
       let is : entry_at k.entries j ≡ record (entry_at h.entries j) { end = end } = ap (entry_at k.entries) here ∙ ended_same h i end within ∙ ap (λ n. record (entry_at h.entries n) { end = end }) (sym here) in
       is ∙ ap (λ (e : Entry). record e { end = end }) (same j) ∙ ap (λ n. record (entry_at g.entries j) { end = n }) (sym (ap (λ (e : Entry). e.end) is))
   | inr apart ↦
@@ -91,18 +91,18 @@ pub record InRound (inventory : Inventory) (w : World) (g h : Forest) (t : ℕ) 
 pub record IsGranted (inventory : Inventory) (h : Forest) (t : ℕ) (rest : List ℕ) (i : ℕ) (todo : List ℕ) (x : Exchanged) (new : World) : Type 0 where
   pub output : x.output ≡ heard_as rest todo
   pub told : IsToldByRule inventory t x
-  pub keeper : new.keeper ≡ heard_state (ended h i (renewal (entry_at h.entries i) t)) t rest todo
-  pub supplied : IsInventory (with_forest inventory (ended h i (renewal (entry_at h.entries i) t)))
+  pub keeper : new.keeper ≡ heard_state (with_entry_end h i (renewal (entry_at h.entries i) t)) t rest todo
+  pub supplied : IsInventory (with_forest inventory (with_entry_end h i (renewal (entry_at h.entries i) t)))
   pub behind : Behind
   pub known : new.behind ≡ Some behind
-  pub mirrors : Mirrors (with_forest inventory (ended h i (renewal (entry_at h.entries i) t))) t behind.table.rows
+  pub mirrors : Mirrors (with_forest inventory (with_entry_end h i (renewal (entry_at h.entries i) t))) t behind.table.rows
   pub none : behind.table.faults ≡ []
 
 heard_short : (h : Forest) (t : ℕ) (rest todo : List ℕ) → (heard_state h t rest todo).shortened ≡ []
 heard_short h t rest [] = refl
 heard_short h t rest (j ∷ more) = refl
 
-heard_taken : (h : Forest) (t : ℕ) (rest todo : List ℕ) → taken (heard_state h t rest todo) ≡ heard_state h t rest todo
+heard_taken : (h : Forest) (t : ℕ) (rest todo : List ℕ) → shorts_taken (heard_state h t rest todo) ≡ heard_state h t rest todo
 heard_taken h t rest [] = refl
 heard_taken h t rest (j ∷ more) = refl
 
@@ -112,14 +112,14 @@ event_is port cs g x = refl
 
 pub grants :
     (inventory : Inventory) (port : ℕ) (w new : World) (g h : Forest) (t : ℕ) (rest : List ℕ) (i : ℕ) (todo : List ℕ) (x : Exchanged) → InRound inventory w g h t rest (i ∷ todo) →
-    IsAnswered port inventory.credentials t w x new → x.entry ≡ i → IsGranted inventory h t rest i todo x new
+    RequestIsAnswered port inventory.credentials t w x new → x.entry ≡ i → IsGranted inventory h t rest i todo x new
 grants inventory port w new g h t rest i todo x r a here =
     let s = with_forest inventory h in
     let cs = inventory.credentials in
     let e = entry_at h.entries i in
     let end = renewal e t in
     let n = end - t in
-    let k = ended h i end in
+    let k = with_entry_end h i end in
     let due = is_due g r.forest t rest (i ∷ todo) h r.mid i (here_first i todo) in
     let late = r.late in
     let within = due.within in
@@ -127,21 +127,21 @@ grants inventory port w new g h t rest i todo x r a here =
     let grows : e.end < end = due.grows in
     let later : t < e.end = due.later in
     let sums : t + n ≡ end = omega arith in
-    let forest_is : w.keeper.forest ≡ h = ap (λ (q : State). q.forest) r.keeper in
-    let request : request_of port cs w.keeper.forest x.entry ≡ request_of port cs h i = ap (λ f. request_of port cs f x.entry) forest_is ∙ ap (request_of port cs h) here in
-    let served = asked_known w.behind r.behind t (request_of port cs w.keeper.forest x.entry) x.reply new.behind r.known a.asked in
-    let left = table_after r.behind.table t (request_of port cs w.keeper.forest x.entry) x.reply new.behind served in
-    let outcome = ap (step r.behind.table t) request ∙ serves s r.supplied port t i r.behind.table within due.able due.alive r.none (r.mirrors t (omega arith)) in
-    let says : Says t (tells (call_for e.kind) (renewed_row s t i)) served.sent = subst (λ (o : Outcome). Says t o.answer served.sent) outcome served.says in
+    let forest_is : w.keeper.forest ≡ h = ap (λ (q : CoreState). q.forest) r.keeper in
+    let request : renewal_request port cs w.keeper.forest x.entry ≡ renewal_request port cs h i = ap (λ f. renewal_request port cs f x.entry) forest_is ∙ ap (renewal_request port cs h) here in
+    let served = asked_known w.behind r.behind t (renewal_request port cs w.keeper.forest x.entry) x.reply new.behind r.known a.asked in
+    let left = table_after r.behind.table t (renewal_request port cs w.keeper.forest x.entry) x.reply new.behind served in
+    let outcome = ap (broker_step r.behind.table t) request ∙ serves s r.supplied port t i r.behind.table within due.able due.alive r.none (r.mirrors t (omega arith)) in
+    let says : SaysAnswer t (tells (call_for e.kind) (renewed_row s t i)) served.sent = subst (λ (o : BrokerOutcome). SaysAnswer t o.answer served.sent) outcome served.says in
     let told : event_for cs h i x.reply ≡ Told i n true = ap (event_for cs h i) served.reply_is ∙ tells_rule s r.supplied t i late within due.able served.sent says in
     let event : event_in cs w.keeper.forest x ≡ Told i n true = event_is port cs w.keeper.forest x ∙ ap (λ f. event_for cs f x.entry x.reply) forest_is ∙ ap (λ j. event_for cs h j x.reply) here ∙ told in
-    let turn : Turn (waiting h t rest (i ∷ todo)) (Told i n true) (Ok x.output) a.keeper = subst (λ (q : State). Turn q (Told i n true) (Ok x.output) a.keeper) r.keeper
-    (subst (λ v. Turn w.keeper v (Ok x.output) a.keeper) event a.turn) in
+    let turn : CoreTurn (waiting h t rest (i ∷ todo)) (Told i n true) (Ok x.output) a.keeper = subst (λ (q : CoreState). CoreTurn q (Told i n true) (Ok x.output) a.keeper) r.keeper
+    (subst (λ v. CoreTurn w.keeper v (Ok x.output) a.keeper) event a.turn) in
     let known = told_turn g r.forest t rest i todo h r.plan r.few r.mid due n (omega arith) sums in
     let one = once (waiting h t rest (i ∷ todo)) a.keeper (heard_state k t rest todo) (Told i n true) (Ok x.output) (Ok (heard_as rest todo)) (λ bad. cc) (λ bad. cc) turn known in
-    let table : left.0.table ≡ record { rows = with_row (listed s t) (renewed_row s t i); faults = []; count = next_number r.behind.table.count } = left.1.1 ∙ ap (λ (o : Outcome). o.table) outcome in
+    let table : left.0.table ≡ record { rows = with_row (rows_listed s t) (renewed_row s t i); faults = []; count = next_number r.behind.table.count } = left.1.1 ∙ ap (λ (o : BrokerOutcome). o.table) outcome in
     let supplied = ended_supplied s r.supplied i end within (omega arith) in
-    let rows = ap (λ (l : Table). l.rows) table ∙ with_row_listed s r.supplied.forest t i end within later (omega arith) in
+    let rows = ap (λ (l : BrokerTable). l.rows) table ∙ with_row_listed s r.supplied.forest t i end within later (omega arith) in
     let kind : e.kind ≡ (entry_at inventory.forest.entries i).kind = ap (λ (y : Entry). y.kind) (r.same i) in
     record {
       output = ok_same x.output (heard_as rest todo) one.0;
@@ -150,14 +150,14 @@ grants inventory port w new g h t rest i todo x r a here =
         told = event_is port cs inventory.forest x ∙ ap (λ j. event_for cs inventory.forest j x.reply) here
             ∙ ap (λ q. event_of q (credential_at cs i) i x.reply) (sym kind) ∙ told ∙ ap (λ j. Told j n true) (sym here);
         by_rule = sums ∙ same_renewal inventory.forest h r.same i t ∙ ap (λ j. renewal (entry_at inventory.forest.entries j) t) (sym here);
-        short = a.short ∙ ap (λ (q : State). q.shortened) one.1 ∙ heard_short k t rest todo;
+        short = a.short ∙ ap (λ (q : CoreState). q.shortened) one.1 ∙ heard_short k t rest todo;
       };
-      keeper = a.taken_is ∙ ap taken one.1 ∙ heard_taken k t rest todo;
+      keeper = a.taken_is ∙ ap shorts_taken one.1 ∙ heard_taken k t rest todo;
       supplied = supplied;
       behind = left.0;
       known = left.1.0;
       mirrors = subst (Mirrors (with_forest inventory k) t) (sym rows) (mirrors_listed (with_forest inventory k) supplied.forest t);
-      none = ap (λ (l : Table). l.faults) table;
+      none = ap (λ (l : BrokerTable). l.faults) table;
     } where
       ok_same : (a b : Output) → ◌≡◌ {A = Result Output StepFault} (Ok a) (Ok b) → a ≡ b
       ok_same a b e = cc
@@ -178,7 +178,7 @@ round_goes inventory port g t rest i [] (x ∷ []) w new h before r asked answer
     let mid = answers.0 in
     let e = grants inventory port w mid g h t rest i [] x r answers.1.0 here in
     let last : new ≡ mid = answers.1.1 in
-    let k = ended h i (renewal (entry_at h.entries i) t) in
+    let k = with_entry_end h i (renewal (entry_at h.entries i) t) in
     let due = is_due g r.forest t rest (i ∷ []) h r.mid i (here_first i []) in
     let after = midway_last g t rest k (midway_more g t rest i [] h r.mid due.within) in
     let stays = tail_kept g k t rest r.forest r.plan after in
@@ -206,7 +206,7 @@ round_goes inventory port g t rest i (j ∷ more) (x ∷ xs) w new h before r as
     let others : map (λ (y : Exchanged). y.entry) xs ≡ j ∷ more = cc in
     let mid = answers.0 in
     let e = grants inventory port w mid g h t rest i (j ∷ more) x r answers.1.0 here in
-    let k = ended h i (renewal (entry_at h.entries i) t) in
+    let k = with_entry_end h i (renewal (entry_at h.entries i) t) in
     let due = is_due g r.forest t rest (i ∷ j ∷ more) h r.mid i (here_first i (j ∷ more)) in
     let next : InRound inventory mid g k t rest (j ∷ more) = record {
       keeper = e.keeper;
@@ -234,7 +234,7 @@ round_goes inventory port g t rest i (j ∷ more) (x ∷ xs) w new h before r as
 
 goes_on :
     (inventory : Inventory) (port : ℕ) (g : Forest) (t : ℕ) (rest : List ℕ) (i j : ℕ) (more : List ℕ) (x : Exchanged) (w mid : World) (h : Forest) → InRound inventory w g h t rest (i ∷ j ∷ more) →
-    IsAnswered port inventory.credentials t w x mid → x.entry ≡ i → InRound inventory mid g (ended h i (renewal (entry_at h.entries i) t)) t rest (j ∷ more)
+    RequestIsAnswered port inventory.credentials t w x mid → x.entry ≡ i → InRound inventory mid g (with_entry_end h i (renewal (entry_at h.entries i) t)) t rest (j ∷ more)
 goes_on inventory port g t rest i j more x w mid h r a here =
     let e = grants inventory port w mid g h t rest i (j ∷ more) x r a here in
     let due = is_due g r.forest t rest (i ∷ j ∷ more) h r.mid i (here_first i (j ∷ more)) in
@@ -265,8 +265,8 @@ part_goes inventory port g t rest (x ∷ y ∷ xs) i others w now h r answers =
 
 -- what the reply to the next of them tells, and the turn that the keeper makes of it
 pub next_turn :
-    (inventory : Inventory) (port : ℕ) (g : Forest) (t : ℕ) (rest : List ℕ) (i : ℕ) (todo : List ℕ) (w : World) (h : Forest) (r : InRound inventory w g h t rest (i ∷ todo)) → (reply : Option Reply) (left : Option Behind) → IsAsked r.behind.table t (request_of port inventory.credentials w.keeper.forest i) reply left →
-    (output : Output) × ((new : State) × Turn w.keeper (event_for inventory.credentials w.keeper.forest i reply) (Ok output) new)
+    (inventory : Inventory) (port : ℕ) (g : Forest) (t : ℕ) (rest : List ℕ) (i : ℕ) (todo : List ℕ) (w : World) (h : Forest) (r : InRound inventory w g h t rest (i ∷ todo)) → (reply : Option Reply) (left : Option Behind) → RequestIsAsked r.behind.table t (renewal_request port inventory.credentials w.keeper.forest i) reply left →
+    (output : Output) × ((new : CoreState) × CoreTurn w.keeper (event_for inventory.credentials w.keeper.forest i reply) (Ok output) new)
 next_turn inventory port g t rest i todo w h r reply left served =
     let s = with_forest inventory h in
     let cs = inventory.credentials in
@@ -279,15 +279,15 @@ next_turn inventory port g t rest i todo w h r reply left served =
     let far : end ≤ t + 4294967295 = renewal_within e t late (r.supplied.steps i within) in
     let grows : e.end < end = due.grows in
     let later : t < e.end = due.later in
-    let forest_is : w.keeper.forest ≡ h = ap (λ (q : State). q.forest) r.keeper in
-    let outcome = ap (step r.behind.table t) (ap (λ f. request_of port cs f i) forest_is) ∙ serves s r.supplied port t i r.behind.table within due.able due.alive r.none (r.mirrors t (omega arith)) in
-    let says : Says t (tells (call_for e.kind) (renewed_row s t i)) served.sent = subst (λ (o : Outcome). Says t o.answer served.sent) outcome served.says in
+    let forest_is : w.keeper.forest ≡ h = ap (λ (q : CoreState). q.forest) r.keeper in
+    let outcome = ap (broker_step r.behind.table t) (ap (λ f. renewal_request port cs f i) forest_is) ∙ serves s r.supplied port t i r.behind.table within due.able due.alive r.none (r.mirrors t (omega arith)) in
+    let says : SaysAnswer t (tells (call_for e.kind) (renewed_row s t i)) served.sent = subst (λ (o : BrokerOutcome). SaysAnswer t o.answer served.sent) outcome served.says in
     let event : event_for cs w.keeper.forest i reply ≡ Told i n true = ap (λ f. event_for cs f i reply) forest_is ∙ ap (event_for cs h i) served.reply_is ∙ tells_rule s r.supplied t i late within due.able served.sent says in
     let known = told_turn g r.forest t rest i todo h r.plan r.few r.mid due n (omega arith) (let sums : t + n ≡ end = omega arith in sums) in (
       heard_as rest todo,
       (
-        heard_state (ended h i end) t rest todo,
-        subst (λ v. Turn w.keeper v (Ok (heard_as rest todo)) (heard_state (ended h i end) t rest todo)) (sym event)
-            (subst (λ (q : State). Turn q (Told i n true) (Ok (heard_as rest todo)) (heard_state (ended h i end) t rest todo)) (sym r.keeper) known),
+        heard_state (with_entry_end h i end) t rest todo,
+        subst (λ v. CoreTurn w.keeper v (Ok (heard_as rest todo)) (heard_state (with_entry_end h i end) t rest todo)) (sym event)
+            (subst (λ (q : CoreState). CoreTurn q (Told i n true) (Ok (heard_as rest todo)) (heard_state (with_entry_end h i end) t rest todo)) (sym r.keeper) known),
       ),
     )

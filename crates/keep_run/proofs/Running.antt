@@ -19,14 +19,14 @@ use Rattle.keep_core.specs.declared.event.Event.TheVariants.{Tick}
 use Rattle.keep_core.specs.declared.event.Output.{Output}
 use Rattle.keep_core.specs.declared.event.Output.TheVariants as out
 use Rattle.keep_core.specs.declared.fault.StepFault.{StepFault}
-use Rattle.keep_core.specs.Refusal.{refusal}
+use Rattle.keep_core.specs.Refusal.{step_refusal}
 use Rattle.keep_core.specs.Replan.{IsPlanOf, Replan}
-use Rattle.keep_core.specs.History.{Turn}
-use Rattle.keep_core.specs.State.{State}
+use Rattle.keep_core.specs.History.{CoreTurn}
+use Rattle.keep_core.specs.State.{CoreState}
 use Rattle.keep_core.specs.Step.{StepTick}
 use Rattle.keep_core.proofs.Once.{once}
 use Rattle.keep_core.proofs.Standing.{best_first, best_from, kept_plan, someone, tick}
-use Rattle.keep_run.specs.Closed.{AreAnswered, Beat, Exchanged, IsBeat, Played, World, asked_in, asks_some, next_by, next_tick, requests_of, rounds, taken}
+use Rattle.keep_run.specs.Closed.{AreAnswered, Beat, Exchanged, IsBeat, Played, World, asked_by_output, asks_some, next_by, next_tick, request_count, rounds, shorts_taken}
 use Rattle.keep_run.specs.Laws.{IsQuiet, IsToldByRule}
 use Rattle.keep_run.proofs.Asking.{asks_on}
 use Rattle.keep_run.proofs.Midway.{midway_first, settled, waiting}
@@ -43,12 +43,12 @@ pub tick_says : Forest → ℕ → List ℕ → Output
 tick_says g u [] = out.Idle
 tick_says g u (v ∷ rest) = cond (nat_lt u v) (out.Sleep v) (out.Ask (asks g.entries g.margin u (end_of g.entries) u (first_of rest)))
 
-pub tick_leaves : Forest → ℕ → List ℕ → State
+pub tick_leaves : Forest → ℕ → List ℕ → CoreState
 tick_leaves g u [] = settled g u []
 tick_leaves g u (v ∷ rest) = cond (nat_lt u v) (settled g u (v ∷ rest)) (waiting g u rest (asks g.entries g.margin u (end_of g.entries) u (first_of rest)))
 
-takes_tick : (g : Forest) (t u : ℕ) (ts : List ℕ) → t ≤ u → u ≤ LAST → refusal (settled g t ts) (Tick u) ≡ None
-unfolding refusal
+takes_tick : (g : Forest) (t u : ℕ) (ts : List ℕ) → t ≤ u → u ≤ LAST → step_refusal (settled g t ts) (Tick u) ≡ None
+unfolding step_refusal
 takes_tick g t u ts le late =
     let a : nat_lt LAST u ≡ false = grind (arith, nat_tests) in
     let b : nat_lt u t ≡ false = grind (arith, nat_tests) in
@@ -56,7 +56,7 @@ takes_tick g t u ts le late =
 
 pub tick_turn :
     (g : Forest) (t u : ℕ) (ts : List ℕ) → IsPlanOf g t ts → length ts ≤ LIMIT → t ≤ u → u ≤ LAST → All (λ v. u ≤ v) ts →
-    Turn (settled g t ts) (Tick u) (Ok (tick_says g u ts)) (tick_leaves g u ts)
+    CoreTurn (settled g t ts) (Tick u) (Ok (tick_says g u ts)) (tick_leaves g u ts)
 unfolding tick_says tick_leaves
 tick_turn g t u [] plan few le late all =
     let replan : Replan (settled g t []) u (settled g u []) = kept_plan (settled g t []) u (plan, few) le all in
@@ -127,17 +127,17 @@ awaits_first g t (v ∷ rest) plan = let first = best_first g t v rest plan in (
 -- a tick at which nobody is asked
 still :
     (inventory : Inventory) (port : ℕ) (w new : World) (t : ℕ) (ts : List ℕ) (b : Beat) (r : AtRest inventory w t ts) → t ≤ b.at → b.at ≤ LAST → All (λ v. b.at ≤ v) ts → (beat : IsBeat port inventory.credentials w b new) →
-    asked_in b.output ≡ [] → asks_some b.output ≡ false → beat.keeper ≡ settled r.g b.at ts → Awaits b.at ts (next_tick b) → BeatDone inventory r.g ts b new
+    asked_by_output b.output ≡ [] → asks_some b.output ≡ false → beat.keeper ≡ settled r.g b.at ts → Awaits b.at ts (next_tick b) → BeatDone inventory r.g ts b new
 unfolding rounds
 still inventory port w new t ts b r le late all beat nobody quiet is awaits =
     let none = nobody_answers b.answers (beat.asked ∙ nobody) in
-    let stays : new ≡ record { keeper = taken beat.keeper; behind = w.behind } =
-    subst (λ xs. AreAnswered port inventory.credentials b.at (record { keeper = taken beat.keeper; behind = w.behind }) xs new) none beat.answered in
+    let stays : new ≡ record { keeper = shorts_taken beat.keeper; behind = w.behind } =
+    subst (λ xs. AreAnswered port inventory.credentials b.at (record { keeper = shorts_taken beat.keeper; behind = w.behind }) xs new) none beat.answered in
     record {
       rest = ts;
       rests = record {
         g = r.g;
-        keeper = ap (λ (x : World). x.keeper) stays ∙ ap taken is;
+        keeper = ap (λ (x : World). x.keeper) stays ∙ ap shorts_taken is;
         plan = (tick r.g t b.at ts le all r.plan).1.1;
         few = r.few;
         late = late;
@@ -151,7 +151,7 @@ still inventory port w new t ts b r le late all beat nobody quiet is awaits =
       awaits = awaits;
       moments = sym (ap (λ c. map (λ (d : Beat). d.at) (cond c (b ∷ []) []) ++ ts) quiet);
       requests = (let zero' : length b.answers ≡ 0 = ap length none in omega arith);
-      quiet = record { short = beat.short ∙ ap (λ (q : State). q.shortened) is; told = subst (All (IsToldByRule inventory b.at)) (sym none) (All-nil (IsToldByRule inventory b.at)) };
+      quiet = record { short = beat.short ∙ ap (λ (q : CoreState). q.shortened) is; told = subst (All (IsToldByRule inventory b.at)) (sym none) (All-nil (IsToldByRule inventory b.at)) };
     }
 
 some_of : (xs : List ℕ) → 0 < length xs → (i : ℕ) × ((todo : List ℕ) × (xs ≡ i ∷ todo))
@@ -173,9 +173,9 @@ opens inventory port w new t rest b r le late all beat asks_is is =
     let i = some.0 in
     let todo = some.1.0 in
     let first : asked ≡ i ∷ todo = some.1.1 in
-    let start : World = record { keeper = taken beat.keeper; behind = w.behind } in
+    let start : World = record { keeper = shorts_taken beat.keeper; behind = w.behind } in
     let open' : InRound inventory start g g u rest asked = record {
-      keeper = ap taken is;
+      keeper = ap shorts_taken is;
       forest = r.supplied.forest;
       plan = plan;
       mid = midway_first g u rest;
@@ -188,7 +188,7 @@ opens inventory port w new t rest b r le late all beat asks_is is =
       mirrors = λ m from. r.mirrors m (omega arith);
       none = r.none;
     } in
-    let who : map (λ (x : Exchanged). x.entry) b.answers ≡ asked = beat.asked ∙ ap asked_in asks_is in
+    let who : map (λ (x : Exchanged). x.entry) b.answers ≡ asked = beat.asked ∙ ap asked_by_output asks_is in
     let done = round_goes inventory port g u rest i todo b.answers start new g None (subst (InRound inventory start g g u rest) first open') (who ∙ first) beat.answered in
     let next : next_tick b ≡ first_of rest = ap (λ o. next_by o b.answers) asks_is ∙ done.closes in
     let count : length b.answers ≡ length asked = sym (length-map b.answers (λ (x : Exchanged). x.entry)) ∙ ap length who in
@@ -201,7 +201,7 @@ opens inventory port w new t rest b r le late all beat asks_is is =
           ap requests (asks_on g done.rests.g r.supplied.forest u rest done.answered)
           ∙ sum_by-cons (λ (v : Wake). length v.asked) (asking g.entries g.margin u (end_of g.entries) u (first_of rest)) (with_asks done.rests.g.entries done.rests.g.margin u (end_of done.rests.g.entries) rest)
           ∙ ap (λ n. n + requests_from done.rests.g u rest) (sym count);
-      quiet = record { short = beat.short ∙ ap (λ (q : State). q.shortened) is; told = done.told };
+      quiet = record { short = beat.short ∙ ap (λ (q : CoreState). q.shortened) is; told = done.told };
     }
 
 ok_same : (a b : Output) → ◌≡◌ {A = Result Output StepFault} (Ok a) (Ok b) → a ≡ b
@@ -227,14 +227,14 @@ pub beat_goes :
 unfolding tick_says tick_leaves at_moment
 beat_goes inventory port w new t [] b r awaits beat =
     let u = b.at in
-    let turn : Turn (settled r.g t []) (Tick u) (Ok b.output) beat.keeper = subst (λ (q : State). Turn q (Tick u) (Ok b.output) beat.keeper) r.keeper beat.turn in
+    let turn : CoreTurn (settled r.g t []) (Tick u) (Ok b.output) beat.keeper = subst (λ (q : CoreState). CoreTurn q (Tick u) (Ok b.output) beat.keeper) r.keeper beat.turn in
     let one = once (settled r.g t []) beat.keeper (settled r.g u []) (Tick u) (Ok b.output) (Ok out.Idle) (λ bad. cc) (λ bad. cc) turn (tick_turn r.g t u [] r.plan r.few awaits.0 awaits.1.0 awaits.1.1) in
     let output = ok_same b.output out.Idle one.0 in
-    still inventory port w new t [] b r awaits.0 awaits.1.0 awaits.1.1 beat (ap asked_in output) (ap asks_some output) one.1 (subst (Awaits u []) (sym (ap (λ o. next_by o b.answers) output)) refl)
+    still inventory port w new t [] b r awaits.0 awaits.1.0 awaits.1.1 beat (ap asked_by_output output) (ap asks_some output) one.1 (subst (Awaits u []) (sym (ap (λ o. next_by o b.answers) output)) refl)
 beat_goes inventory port w new t (v ∷ rest) b r awaits beat =
     let u = b.at in
     let ts = v ∷ rest in
-    let turn : Turn (settled r.g t ts) (Tick u) (Ok b.output) beat.keeper = subst (λ (q : State). Turn q (Tick u) (Ok b.output) beat.keeper) r.keeper beat.turn in
+    let turn : CoreTurn (settled r.g t ts) (Tick u) (Ok b.output) beat.keeper = subst (λ (q : CoreState). CoreTurn q (Tick u) (Ok b.output) beat.keeper) r.keeper beat.turn in
     let one = once (settled r.g t ts) beat.keeper (tick_leaves r.g u ts) (Tick u) (Ok b.output) (Ok (tick_says r.g u ts)) (λ bad. cc) (λ bad. cc) turn (tick_turn r.g t u ts r.plan r.few awaits.0 awaits.1.0 awaits.1.1) in
     let asked = asks r.g.entries r.g.margin u (end_of r.g.entries) u (first_of rest) in
     let says = ok_same b.output (tick_says r.g u ts) one.0 in
@@ -245,7 +245,7 @@ beat_goes inventory port w new t (v ∷ rest) b r awaits beat =
           let output = says ∙ cond-true (nat_lt u v) (out.Sleep v) (out.Ask asked) yes' in
           let keeper = one.1 ∙ cond-true (nat_lt u v) (settled r.g u ts) (waiting r.g u rest asked) yes' in
           let first = best_first r.g t v rest r.plan in
-          still inventory port w new t ts b r awaits.0 awaits.1.0 awaits.1.1 beat (ap asked_in output) (ap asks_some output) keeper
+          still inventory port w new t ts b r awaits.0 awaits.1.0 awaits.1.1 beat (ap asked_by_output output) (ap asks_some output) keeper
           (subst (Awaits u ts) (sym (ap (λ o. next_by o b.answers) output)) (low, (within_last r.g t v rest r.plan, first.1)))
       | inr not_before ↦
           let no' : nat_lt u v ≡ false = grind (arith, nat_tests) in
@@ -261,27 +261,27 @@ same_asked a b e = cc
 
 -- a tick that asks has a moment to come
 pub asks_left :
-    (inventory : Inventory) (w : World) (t : ℕ) (ts : List ℕ) (u : ℕ) (r : AtRest inventory w t ts) → Awaits t ts (Some u) → (asked : List ℕ) (keeper : State) → Turn w.keeper (Tick u) (Ok (out.Ask asked)) keeper → 0 < length ts
+    (inventory : Inventory) (w : World) (t : ℕ) (ts : List ℕ) (u : ℕ) (r : AtRest inventory w t ts) → Awaits t ts (Some u) → (asked : List ℕ) (keeper : CoreState) → CoreTurn w.keeper (Tick u) (Ok (out.Ask asked)) keeper → 0 < length ts
 unfolding tick_says tick_leaves
 asks_left inventory w t [] u r awaits asked keeper turn =
-    let now : Turn (settled r.g t []) (Tick u) (Ok (out.Ask asked)) keeper = subst (λ (q : State). Turn q (Tick u) (Ok (out.Ask asked)) keeper) r.keeper turn in
+    let now : CoreTurn (settled r.g t []) (Tick u) (Ok (out.Ask asked)) keeper = subst (λ (q : CoreState). CoreTurn q (Tick u) (Ok (out.Ask asked)) keeper) r.keeper turn in
     let one = once (settled r.g t []) keeper (settled r.g u []) (Tick u) (Ok (out.Ask asked)) (Ok out.Idle) (λ bad. cc) (λ bad. cc) now (tick_turn r.g t u [] r.plan r.few awaits.0 awaits.1.0 awaits.1.1) in
     absurd (let bad = one.0 in cc)
 asks_left inventory w t (v ∷ rest) u r awaits asked keeper turn = omega arith
 
 -- a tick that asks opens a round
 pub asks_open :
-    (inventory : Inventory) (w : World) (t : ℕ) (ts : List ℕ) (u : ℕ) (r : AtRest inventory w t ts) → Awaits t ts (Some u) → (asked : List ℕ) (keeper : State) → Turn w.keeper (Tick u) (Ok (out.Ask asked)) keeper →
-    (rest : List ℕ) × InRound inventory (record { keeper = taken keeper; behind = w.behind }) r.g r.g u rest asked
+    (inventory : Inventory) (w : World) (t : ℕ) (ts : List ℕ) (u : ℕ) (r : AtRest inventory w t ts) → Awaits t ts (Some u) → (asked : List ℕ) (keeper : CoreState) → CoreTurn w.keeper (Tick u) (Ok (out.Ask asked)) keeper →
+    (rest : List ℕ) × InRound inventory (record { keeper = shorts_taken keeper; behind = w.behind }) r.g r.g u rest asked
 unfolding tick_says tick_leaves
 asks_open inventory w t [] u r awaits asked keeper turn =
-    let now : Turn (settled r.g t []) (Tick u) (Ok (out.Ask asked)) keeper = subst (λ (q : State). Turn q (Tick u) (Ok (out.Ask asked)) keeper) r.keeper turn in
+    let now : CoreTurn (settled r.g t []) (Tick u) (Ok (out.Ask asked)) keeper = subst (λ (q : CoreState). CoreTurn q (Tick u) (Ok (out.Ask asked)) keeper) r.keeper turn in
     let one = once (settled r.g t []) keeper (settled r.g u []) (Tick u) (Ok (out.Ask asked)) (Ok out.Idle) (λ bad. cc) (λ bad. cc) now (tick_turn r.g t u [] r.plan r.few awaits.0 awaits.1.0 awaits.1.1) in
     absurd (let bad = one.0 in cc)
 asks_open inventory w t (v ∷ rest) u r awaits asked keeper turn =
     let g = r.g in
     let ts = v ∷ rest in
-    let now : Turn (settled g t ts) (Tick u) (Ok (out.Ask asked)) keeper = subst (λ (q : State). Turn q (Tick u) (Ok (out.Ask asked)) keeper) r.keeper turn in
+    let now : CoreTurn (settled g t ts) (Tick u) (Ok (out.Ask asked)) keeper = subst (λ (q : CoreState). CoreTurn q (Tick u) (Ok (out.Ask asked)) keeper) r.keeper turn in
     let one = once (settled g t ts) keeper (tick_leaves g u ts) (Tick u) (Ok (out.Ask asked)) (Ok (tick_says g u ts)) (λ bad. cc) (λ bad. cc) now (tick_turn g t u ts r.plan r.few awaits.0 awaits.1.0 awaits.1.1) in
     let want = asks g.entries g.margin u (end_of g.entries) u (first_of rest) in
     let low : u ≤ v = All-head (λ n. u ≤ n) v rest awaits.1.1 in
@@ -297,8 +297,8 @@ asks_open inventory w t (v ∷ rest) u r awaits asked keeper turn =
           let who : asked ≡ want = same_asked asked want says in
           let leaves = one.1 ∙ cond-false (nat_lt u v) (settled g u ts) (waiting g u rest want) no' in (
             rest,
-            subst (InRound inventory (record { keeper = taken keeper; behind = w.behind }) g g u rest) (sym who) (record {
-              keeper = ap taken leaves;
+            subst (InRound inventory (record { keeper = shorts_taken keeper; behind = w.behind }) g g u rest) (sym who) (record {
+              keeper = ap shorts_taken leaves;
               forest = r.supplied.forest;
               plan = subst (λ n. IsPlanOf g u (n ∷ rest)) same (tick g t u ts awaits.0 awaits.1.1 r.plan).1.1;
               mid = midway_first g u rest;
@@ -322,7 +322,7 @@ pub record RunDone (inventory : Inventory) (g : Forest) (t : ℕ) (ts : List ℕ
   pub rests : AtRest inventory final last rest
   pub awaits : Awaits last rest next
   pub moments : ts ≡ map (λ (c : Beat). c.at) (rounds beats) ++ rest
-  pub requests : requests_from g t ts ≡ requests_of beats + requests_from rests.g last rest
+  pub requests : requests_from g t ts ≡ request_count beats + requests_from rests.g last rest
   pub quiet : All (IsQuiet inventory) beats
   pub bound : (m : ℕ) → t ≤ m → All (λ (c : Beat). c.at ≤ m) beats → last ≤ m
 
@@ -333,19 +333,19 @@ more_moments b bs rest = elim (asks_some b.output) as (λ c. map (λ (d : Beat).
   | false ↦ refl
 ]
 
-more_requests : (b : Beat) (bs : List Beat) → requests_of (b ∷ bs) ≡ length b.answers + requests_of bs
-unfolding requests_of
+more_requests : (b : Beat) (bs : List Beat) → request_count (b ∷ bs) ≡ length b.answers + request_count bs
+unfolding request_count
 more_requests b bs = sum_by-cons (λ (c : Beat). length c.answers) b bs
 
 no_moments : (ts : List ℕ) → ts ≡ map (λ (c : Beat). c.at) (rounds []) ++ ts
 unfolding rounds
 no_moments ts = refl
 
-no_beats : requests_of [] ≡ 0
-unfolding requests_of
+no_beats : request_count [] ≡ 0
+unfolding request_count
 no_beats = refl
 
-no_requests : (n : ℕ) → n ≡ requests_of [] + n
+no_requests : (n : ℕ) → n ≡ request_count [] + n
 no_requests n = let none = no_beats in omega arith
 
 pub run_goes :

@@ -6,15 +6,15 @@ use Rattle.std.specs.Io.KnownBytes.{Appends}
 use Rattle.keep_device.specs.Seen.{Change, Seen}
 use Rattle.keep_core.specs.declared.event.Output.{Output}
 use Rattle.keep_core.specs.declared.event.Output.TheVariants as out
-use Rattle.keep_core.specs.State.{State}
+use Rattle.keep_core.specs.State.{CoreState}
 use Rattle.keep_exchange.specs.Exchanges.{Behind}
 use Rattle.keep_device.specs.Failures.{HasFailed}
 use Rattle.keep_report.specs.declared.stop.Stop.{Stop}
 use Rattle.keep_report.specs.declared.stop.Stop.TheVariants as stops
-use Rattle.keep_report.specs.Sent.{Sends}
-use Rattle.keep_run.specs.Closed.{World, asked_in, asks_some}
-use Rattle.keep_run.specs.code.Telling.{IsSent}
-use Rattle.keep_run.specs.Hearing.{HearsTo, IsBrokenOff, IsCutOff, IsHeard, IsHeardUpTo, IsNeeded, IsOverlong, MayWant, last_line, next_line}
+use Rattle.keep_report.specs.Sent.{SendsText}
+use Rattle.keep_run.specs.Closed.{World, asked_by_output, asks_some}
+use Rattle.keep_run.specs.code.Telling.{IsSentWhole}
+use Rattle.keep_run.specs.Hearing.{EventIsCutOff, EventIsHeard, HearingMayWantMemory, HearsTo, IsBrokenOff, IsHeardUpTo, NeedIsInForce, NeedIsOverlong, last_tick_line, next_tick_line}
 use Rattle.keep_lines.specs.declared.event_line.Heard.{Heard}
 use Rattle.keep_lines.specs.declared.event_line.Heard.TheVariants as heards
 use Rattle.keep_lines.specs.declared.event_line.Heard.TheVariants.{Need}
@@ -22,7 +22,7 @@ use Rattle.keep_run.specs.code.Telling.{IsRoundBroken, IsRoundCut, StopsNeed, Te
 use Rattle.keep_run.specs.code.Playing.{Ticks}
 use Rattle.keep_run.specs.Stops.{both}
 use Rattle.keep_run.proofs.Written.{untouched_appends}
-use Rattle.keep_lines.specs.Hearing.{joined}
+use Rattle.keep_lines.specs.Hearing.{joined_changes}
 use Rattle.keep_run.proofs.LineByLine.{all_then, appends, sent_then}
 use Rattle.keep_run.proofs.ToldRounds.{so_far}
 use Rattle.keep_run.proofs.LiveTicks.{last_under_way, none_asked, one_more, quiet_heard, round_heard, some_answered}
@@ -32,8 +32,8 @@ use Rattle.keep_run.proofs.LiveTicks.{last_under_way, none_asked, one_more, quie
 module _ (port : ℕ) (cs : List (List ℕ)) where
   -- a write that is cut short, after what was told
   pub stops_short :
-      (old new : World) (heard : Heard) (told own : List ℕ) (stop : Stop) (a b : Change) → a.new ≡ b.old → IsSent told a →
-      IsHeardUpTo port cs old heard new told own → Sends (Err stop) own b → HearsTo port cs old heard (Err stop) new (joined a b)
+      (old new : World) (heard : Heard) (told own : List ℕ) (stop : Stop) (a b : Change) → a.new ≡ b.old → IsSentWhole told a →
+      IsHeardUpTo port cs old heard new told own → SendsText (Err stop) own b → HearsTo port cs old heard (Err stop) new (joined_changes a b)
   stops_short old new heard told own (stops.Inventory fault) a b same before up_to sent = absurd sent
   stops_short old new heard told own (stops.Moments fault) a b same before up_to sent = absurd sent
   stops_short old new heard told own (stops.FaultWord n) a b same before up_to sent = absurd sent
@@ -51,15 +51,15 @@ module _ (port : ℕ) (cs : List (List ℕ)) where
   -- the write of its first lines is
   pub stops_at_once :
       (old new : World) (heard : Heard) (own : List ℕ) (stop : Stop) (a : Change) → IsTrue a.old.output.is_flushed →
-      IsHeardUpTo port cs old heard new [] own → Sends (Err stop) own a → HearsTo port cs old heard (Err stop) new a
+      IsHeardUpTo port cs old heard new [] own → SendsText (Err stop) own a → HearsTo port cs old heard (Err stop) new a
   stops_at_once old new heard own stop a flushed up_to sent =
       let none : Change = record a { new = a.old } in
       stops_short old new heard [] own stop none a refl ((Appends-nil a.old.output.written, flushed), refl) up_to sent
 
   -- the write of all of its lines
   pub sent_at_once :
-      (o : Option Behind) (old new : State) (heard : Heard) (text : List ℕ) (result : Result (Unit {0}) Stop) (a : Change) →
-      IsHeard port cs (both old o) heard (both new o) text × IsHeardUpTo port cs (both old o) heard (both new o) [] text → Sends result text a → IsTrue a.old.output.is_flushed →
+      (o : Option Behind) (old new : CoreState) (heard : Heard) (text : List ℕ) (result : Result (Unit {0}) Stop) (a : Change) →
+      EventIsHeard port cs (both old o) heard (both new o) text × IsHeardUpTo port cs (both old o) heard (both new o) [] text → SendsText result text a → IsTrue a.old.output.is_flushed →
       HearsTo port cs (both old o) heard result (both new o) a
   sent_at_once o old new heard text (Ok u) a is sent flushed = (text, (is.0, sent))
   sent_at_once o old new heard text (Err stop) a is sent flushed =
@@ -67,23 +67,23 @@ module _ (port : ℕ) (cs : List (List ℕ)) where
 
   -- the last line of a tick, after those before
   pub sent_last :
-      (old new : World) (heard : Heard) (told own : List ℕ) (result : Result (Unit {0}) Stop) (a b : Change) → a.new ≡ b.old → IsSent told a →
-      IsHeard port cs old heard new (told ++ own) → IsHeardUpTo port cs old heard new told own →
-      Sends result own b → HearsTo port cs old heard result new (joined a b)
+      (old new : World) (heard : Heard) (told own : List ℕ) (result : Result (Unit {0}) Stop) (a b : Change) → a.new ≡ b.old → IsSentWhole told a →
+      EventIsHeard port cs old heard new (told ++ own) → IsHeardUpTo port cs old heard new told own →
+      SendsText result own b → HearsTo port cs old heard result new (joined_changes a b)
   sent_last old new heard told own (Ok u) a b same before is up_to sent = (told ++ own, (is, all_then a b same told own before sent))
   sent_last old new heard told own (Err stop) a b same before is up_to sent = stops_short old new heard told own stop a b same before up_to sent
 
   -- the lines before the first request are cut short
   pub stops_at_first :
-      (t : ℕ) (o : Option Behind) (old k : State) (asked mid : List ℕ) → Ticks t old (out.Ask asked) k [] mid → (stop : Stop) (a : Change) → IsTrue a.old.output.is_flushed → Sends (Err stop) mid a →
+      (t : ℕ) (o : Option Behind) (old k : CoreState) (asked mid : List ℕ) → Ticks t old (out.Ask asked) k [] mid → (stop : Stop) (a : Change) → IsTrue a.old.output.is_flushed → SendsText (Err stop) mid a →
       HearsTo port cs (both old o) (heards.Tick t) (Err stop) (both k o) a
   stops_at_first t o old k asked mid ticks stop a flushed sent =
       stops_at_once (both old o) (both k o) (heards.Tick t) mid stop a flushed
       (inr (none_asked port cs t old k asked mid ticks o)) sent
 
   -- a round after the lines before its first request
-  module _ (t : ℕ) (o new : Option Behind) (old k final : State) (asked mid : List ℕ) (ticks : Ticks t old (out.Ask asked) k [] mid) (a b : Change) (same : a.new ≡ b.old) (before : IsSent mid a) where
-    round_cut : IsRoundCut port cs t (both k o) asked (both final new) b → IsCutOff port cs (both old o) (heards.Tick t) (both final new) [] (joined a b)
+  module _ (t : ℕ) (o new : Option Behind) (old k final : CoreState) (asked mid : List ℕ) (ticks : Ticks t old (out.Ask asked) k [] mid) (a b : Change) (same : a.new ≡ b.old) (before : IsSentWhole mid a) where
+    round_cut : IsRoundCut port cs t (both k o) asked (both final new) b → EventIsCutOff port cs (both old o) (heards.Tick t) (both final new) [] (joined_changes a b)
     round_cut cut =
         let rest = take cut.n cut.own in
         record {
@@ -94,7 +94,7 @@ module _ (port : ℕ) (cs : List (List ℕ)) where
           front = subst (Appends a.old.output.written b.new.output.written) (sym (append_assoc mid cut.told rest)) (appends a b same mid (cut.told ++ rest) before.0.0 cut.front);
         }
 
-    round_broken : IsRoundBroken port cs t (both k o) asked (both final new) b → IsBrokenOff port cs (both old o) (heards.Tick t) (both final new) [] (joined a b)
+    round_broken : IsRoundBroken port cs t (both k o) asked (both final new) b → IsBrokenOff port cs (both old o) (heards.Tick t) (both final new) [] (joined_changes a b)
     round_broken broken = record {
       t = t;
       is = refl;
@@ -106,7 +106,7 @@ module _ (port : ℕ) (cs : List (List ℕ)) where
       left = broken.left;
     }
 
-    pub round_stops : (stop : Stop) → TellsRound port cs t (both k o) asked (Err stop) (both final new) b → HearsTo port cs (both old o) (heards.Tick t) (Err stop) (both final new) (joined a b)
+    pub round_stops : (stop : Stop) → TellsRound port cs t (both k o) asked (Err stop) (both final new) b → HearsTo port cs (both old o) (heards.Tick t) (Err stop) (both final new) (joined_changes a b)
     round_stops (stops.Inventory fault) h = absurd h
     round_stops (stops.Moments fault) h = absurd h
     round_stops (stops.FaultWord n) h = absurd h
@@ -119,7 +119,7 @@ module _ (port : ℕ) (cs : List (List ℕ)) where
     round_stops stops.Memory (inr h) = inr (inr (h.0, round_cut h.1))
 
     -- memory was wanting after the round
-    pub round_memory : (next : Option ℕ) → TellsRound port cs t (both k o) asked (Ok next) (both final new) b → HearsTo port cs (both old o) (heards.Tick t) (Err stops.Memory) (both final new) (joined a b)
+    pub round_memory : (next : Option ℕ) → TellsRound port cs t (both k o) asked (Ok next) (both final new) b → HearsTo port cs (both old o) (heards.Tick t) (Err stops.Memory) (both final new) (joined_changes a b)
     round_memory next h = inr (inl (round_broken (record {
       told = h.0;
       mid = both final new;
@@ -130,16 +130,16 @@ module _ (port : ℕ) (cs : List (List ℕ)) where
 
     -- the last line is sent
     pub round_sent :
-        (next : Option ℕ) (own : List ℕ) (result : Result (Unit {0}) Stop) (d : Change) → b.new ≡ d.old → own ≡ next_line next → TellsRound port cs t (both k o) asked (Ok next) (both final new) b → Sends result own d →
-        HearsTo port cs (both old o) (heards.Tick t) result (both final new) (joined (joined a b) d)
+        (next : Option ℕ) (own : List ℕ) (result : Result (Unit {0}) Stop) (d : Change) → b.new ≡ d.old → own ≡ next_tick_line next → TellsRound port cs t (both k o) asked (Ok next) (both final new) b → SendsText result own d →
+        HearsTo port cs (both old o) (heards.Tick t) result (both final new) (joined_changes (joined_changes a b) d)
     round_sent next own result d then' is h sent =
-        let line = subst (λ l. Sends result l d) is sent in
-        sent_last (both old o) (both final new) (heards.Tick t) (mid ++ h.0) (next_line next) result (joined a b) d then' (sent_then a b same mid h.0 before h.1.1)
+        let line = subst (λ l. SendsText result l d) is sent in
+        sent_last (both old o) (both final new) (heards.Tick t) (mid ++ h.0) (next_tick_line next) result (joined_changes a b) d then' (sent_then a b same mid h.0 before h.1.1)
         (inr (round_heard port cs t old k asked mid ticks o (both final new) next h.0 h.1.0)) (inr (last_under_way port cs t old k asked mid ticks o (both final new) next h.0 h.1.0)) line
 
 -- ---- a line that asks nobody
 
-module _ (port : ℕ) (cs : List (List ℕ)) (o : Option Behind) (old new : State) where
+module _ (port : ℕ) (cs : List (List ℕ)) (o : Option Behind) (old new : CoreState) where
   -- why a need stops, and nothing is sent
   pub need_halts :
       (i until : ℕ) (heard : Heard) (stop : Stop) (out : Change) → heard ≡ Need i until → out.new ≡ out.old →
@@ -148,45 +148,45 @@ module _ (port : ℕ) (cs : List (List ℕ)) (o : Option Behind) (old new : Stat
   need_halts i until heard (stops.Moments fault) out is same h = absurd h
   need_halts i until heard (stops.FaultWord n) out is same h = absurd h
   need_halts i until heard stops.TooLong out is same h = (
-    subst (λ (q : Heard). IsOverlong (both old o) q (both new o)) (sym is) h,
+    subst (λ (q : Heard). NeedIsOverlong (both old o) q (both new o)) (sym is) h,
     same,
   )
   need_halts i until heard stops.Read out is same h = absurd h
   need_halts i until heard stops.Write out is same h = absurd h
   need_halts i until heard (stops.Broker name) out is same h = absurd h
   need_halts i until heard (stops.Line n) out is same h = absurd h
-  need_halts i until heard stops.Memory out is same h = inl (subst (λ (q : Heard). MayWant old q) (sym is) tt, (refl, untouched_appends out same))
+  need_halts i until heard stops.Memory out is same h = inl (subst (λ (q : Heard). HearingMayWantMemory old q) (sym is) tt, (refl, untouched_appends out same))
 
   -- the lines of a need are sent
   pub need_sent :
       (i until : ℕ) (heard : Heard) (before after : List ℕ) (result : Result (Unit {0}) Stop) (out : Change) → heard ≡ Need i until → before ≡ [] →
-      (lines : List ℕ) × (IsNeeded i until (both old o) (both new o) lines × (after ≡ before ++ lines)) → Sends result after out → IsTrue out.old.output.is_flushed → HearsTo port cs (both old o) heard result (both new o) out
+      (lines : List ℕ) × (NeedIsInForce i until (both old o) (both new o) lines × (after ≡ before ++ lines)) → SendsText result after out → IsTrue out.old.output.is_flushed → HearsTo port cs (both old o) heard result (both new o) out
   need_sent i until heard before after result out is empty needed sent flushed =
       let text : after ≡ needed.0 = needed.1.1 ∙ ap (λ l. l ++ needed.0) empty in
-      let one = subst (IsNeeded i until (both old o) (both new o)) (sym text) needed.1.0 in
+      let one = subst (NeedIsInForce i until (both old o) (both new o)) (sym text) needed.1.0 in
       sent_at_once port cs o old new heard after result out
-      (subst (λ (q : Heard). IsHeard port cs (both old o) q (both new o) after × IsHeardUpTo port cs (both old o) q (both new o) [] after) (sym is) (one, (refl, one))) sent flushed
+      (subst (λ (q : Heard). EventIsHeard port cs (both old o) q (both new o) after × IsHeardUpTo port cs (both old o) q (both new o) [] after) (sym is) (one, (refl, one))) sent flushed
 
 -- the line of an unknown name is sent
 pub unknown_sent :
-    (port : ℕ) (cs : List (List ℕ)) (o : Option Behind) (old : State) (heard : Heard) (result : Result (Unit {0}) Stop) (out : Change) → heard ≡ heards.Unknown → Sends result (codes "fault unknown-name\n") out → IsTrue out.old.output.is_flushed →
+    (port : ℕ) (cs : List (List ℕ)) (o : Option Behind) (old : CoreState) (heard : Heard) (result : Result (Unit {0}) Stop) (out : Change) → heard ≡ heards.Unknown → SendsText result (codes "fault unknown-name\n") out → IsTrue out.old.output.is_flushed →
     HearsTo port cs (both old o) heard result (both old o) out
 unknown_sent port cs o old heard result out is sent flushed =
     sent_at_once port cs o old old heard (codes "fault unknown-name\n") result out
-    (subst (λ (q : Heard). IsHeard port cs (both old o) q (both old o) (codes "fault unknown-name\n") × IsHeardUpTo port cs (both old o) q (both old o) [] (codes "fault unknown-name\n")) (sym is)
+    (subst (λ (q : Heard). EventIsHeard port cs (both old o) q (both old o) (codes "fault unknown-name\n") × IsHeardUpTo port cs (both old o) q (both old o) [] (codes "fault unknown-name\n")) (sym is)
     ((refl, refl), (refl, (refl, refl))))
     sent flushed
 
 -- the line of a tick before the last moment is sent
 pub late_sent :
-    (port : ℕ) (cs : List (List ℕ)) (o : Option Behind) (t : ℕ) (old : State) (result : Result (Unit {0}) Stop) (out : Change) → t < old.last → Sends result (codes "fault clock-back\n") out → IsTrue out.old.output.is_flushed →
+    (port : ℕ) (cs : List (List ℕ)) (o : Option Behind) (t : ℕ) (old : CoreState) (result : Result (Unit {0}) Stop) (out : Change) → t < old.last → SendsText result (codes "fault clock-back\n") out → IsTrue out.old.output.is_flushed →
     HearsTo port cs (both old o) (heards.Tick t) result (both old o) out
 late_sent port cs o t old result out late sent flushed =
     sent_at_once port cs o old old (heards.Tick t) (codes "fault clock-back\n") result out (inl (late, (refl, refl)), inl (refl, (late, (refl, refl)))) sent flushed
 
 -- the lines of a tick that asks nobody are sent
 pub quiet_sent :
-    (port : ℕ) (cs : List (List ℕ)) (o : Option Behind) (t : ℕ) (old new : State) (output : Output) (mid after : List ℕ) (result : Result (Unit {0}) Stop) (out : Change) → Ticks t old output new [] mid → asked_in output ≡ [] →
-    asks_some output ≡ false → after ≡ mid ++ last_line output [] → Sends result after out → IsTrue out.old.output.is_flushed → HearsTo port cs (both old o) (heards.Tick t) result (both new o) out
+    (port : ℕ) (cs : List (List ℕ)) (o : Option Behind) (t : ℕ) (old new : CoreState) (output : Output) (mid after : List ℕ) (result : Result (Unit {0}) Stop) (out : Change) → Ticks t old output new [] mid → asked_by_output output ≡ [] →
+    asks_some output ≡ false → after ≡ mid ++ last_tick_line output [] → SendsText result after out → IsTrue out.old.output.is_flushed → HearsTo port cs (both old o) (heards.Tick t) result (both new o) out
 quiet_sent port cs o t old new output mid after result out ticks none nobody last sent flushed =
     sent_at_once port cs o old new (heards.Tick t) after result out (let h = quiet_heard port cs t old o new output mid after ticks none nobody last in (inr h.0, inr h.1)) sent flushed

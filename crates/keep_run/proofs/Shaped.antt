@@ -1,11 +1,11 @@
 -- Shaped: no step of a keeper changes more of its forest than lookups and renewals may. For the laws that secrets change no answer.
 use Rattle.std.proofs.Common.{◌∙◌, ap}
-use Rattle.keep_alike.specs.Alike.{IsKept}
+use Rattle.keep_alike.specs.Alike.{KeepsSupplied}
 use Rattle.keep_core.specs.LawsOfSteps.{IsShaped}
 use Rattle.keep_tree.specs.declared.entry.Entry.{Entry}
 use Rattle.keep_tree.specs.Forest.{Forest}
 
-pub kept_shaped : (g h k : Forest) → IsKept g h → IsShaped h k → IsKept g k
+pub kept_shaped : (g h k : Forest) → KeepsSupplied g h → IsShaped h k → KeepsSupplied g k
 kept_shaped g h k kept like = record {
   count = like.count ∙ kept.count;
   kinds = λ i. ap (λ (e : Entry). e.kind) (like.each i) ∙ kept.kinds i;

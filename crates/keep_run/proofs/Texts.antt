@@ -13,7 +13,7 @@ use Rattle.keep_core.specs.declared.shortened.ShortNeed.{ShortNeed}
 use Rattle.keep_run.specs.Closed.{Beat, Exchanged, event_in}
 use Rattle.keep_run.specs.Replies.{event_of}
 use Rattle.keep_lines.specs.Text.{line, name_of, names_of}
-use Rattle.keep_run.specs.Text.{answer_line, answer_text, beat_text, short_line, short_lines, status_in, wake_line}
+use Rattle.keep_run.specs.Text.{answer_line, answer_text, beat_text, short_need_line, short_need_lines, status_in, wake_line_of_output}
 
 module _ (g h : Forest) (like : IsShaped g h) where
   same_name : (i : ℕ) → name_of h i ≡ name_of g i
@@ -23,12 +23,12 @@ module _ (g h : Forest) (like : IsShaped g h) where
   same_names [] = refl
   same_names (i ∷ is) = ap (λ n. n ∷ names_of h is) (same_name i) ∙ ap (λ ns. name_of g i ∷ ns) (same_names is)
 
-  pub same_shorts : (ps : List ShortNeed) → short_lines h ps ≡ short_lines g ps
-  unfolding short_lines
+  pub same_shorts : (ps : List ShortNeed) → short_need_lines h ps ≡ short_need_lines g ps
+  unfolding short_need_lines
   same_shorts [] = refl
-  same_shorts (p ∷ ps) = ap (λ n. line (codes "short" ∷ n ∷ decimal p.need ∷ []) ++ flat_map (short_line h) ps) (same_name p.entry) ∙ ap (λ xs. short_line g p ++ xs) (same_shorts ps)
+  same_shorts (p ∷ ps) = ap (λ n. line (codes "short" ∷ n ∷ decimal p.need ∷ []) ++ flat_map (short_need_line h) ps) (same_name p.entry) ∙ ap (λ xs. short_need_line g p ++ xs) (same_shorts ps)
 
-  pub same_wake : (t : ℕ) (output : Output) → wake_line h t output ≡ wake_line g t output
+  pub same_wake : (t : ℕ) (output : Output) → wake_line_of_output h t output ≡ wake_line_of_output g t output
   same_wake t (out.Ask asked) = ap (λ ns. line (codes "wake" ∷ decimal t ∷ ns)) (same_names asked)
   same_wake t out.Idle = refl
   same_wake t (out.Sleep w) = refl
@@ -54,8 +54,8 @@ module _ (s u : Inventory) (like : IsShaped s.forest u.forest) (credentials : u.
   same_answer_text x =
       let event : event_in u.credentials u.forest x ≡ event_in s.credentials s.forest x = ap (λ cs. event_in cs u.forest x) credentials ∙ same_event s.forest u.forest like s.credentials x in
       let reply = x.reply in
-      ap (λ e. answer_line u.forest e reply ++ short_lines u.forest x.short) event
-      ∙ ap (λ xs. xs ++ short_lines u.forest x.short) (same_answer s.forest u.forest like (event_in s.credentials s.forest x) reply)
+      ap (λ e. answer_line u.forest e reply ++ short_need_lines u.forest x.short) event
+      ∙ ap (λ xs. xs ++ short_need_lines u.forest x.short) (same_answer s.forest u.forest like (event_in s.credentials s.forest x) reply)
       ∙ ap (λ xs. answer_line s.forest (event_in s.credentials s.forest x) reply ++ xs) (same_shorts s.forest u.forest like x.short)
 
   pub same_answer_texts : (xs : List Exchanged) → flat_map (answer_text u) xs ≡ flat_map (answer_text s) xs
@@ -65,9 +65,9 @@ module _ (s u : Inventory) (like : IsShaped s.forest u.forest) (credentials : u.
   pub same_beat_text : (b : Beat) → beat_text u b ≡ beat_text s b
   unfolding beat_text
   same_beat_text b =
-      ap (λ l. l ++ (wake_line u.forest b.at b.output ++ flat_map (answer_text u) b.answers)) (same_shorts s.forest u.forest like b.short)
-      ∙ ap (λ l. short_lines s.forest b.short ++ (l ++ flat_map (answer_text u) b.answers)) (same_wake s.forest u.forest like b.at b.output)
-      ∙ ap (λ l. short_lines s.forest b.short ++ (wake_line s.forest b.at b.output ++ l)) (same_answer_texts b.answers)
+      ap (λ l. l ++ (wake_line_of_output u.forest b.at b.output ++ flat_map (answer_text u) b.answers)) (same_shorts s.forest u.forest like b.short)
+      ∙ ap (λ l. short_need_lines s.forest b.short ++ (l ++ flat_map (answer_text u) b.answers)) (same_wake s.forest u.forest like b.at b.output)
+      ∙ ap (λ l. short_need_lines s.forest b.short ++ (wake_line_of_output s.forest b.at b.output ++ l)) (same_answer_texts b.answers)
 
   pub same_beat_texts : (bs : List Beat) → flat_map (beat_text u) bs ≡ flat_map (beat_text s) bs
   same_beat_texts [] = refl

@@ -5,20 +5,20 @@ use Rattle.std.proofs.lemmas.List.{append_assoc, map-append, take_more}
 use Rattle.std.specs.Io.KnownBytes.{Appends, Keeps}
 use Rattle.keep_device.specs.Seen.{Change, Seen}
 use Rattle.keep_core.specs.LawsOfSteps.{IsShaped}
-use Rattle.keep_core.specs.State.{State}
+use Rattle.keep_core.specs.State.{CoreState}
 use Rattle.keep_core.specs.declared.event.Output.{Output}
 use Rattle.keep_device.specs.Failures.{HasFailed}
 use Rattle.keep_exchange.specs.Exchanges.{Behind}
 use Rattle.keep_report.specs.declared.stop.Stop.{Stop}
 use Rattle.keep_report.specs.declared.stop.Stop.TheVariants as stops
 use Rattle.keep_run.specs.Closed.{Exchanged, World, told_next}
-use Rattle.keep_run.specs.code.Telling.{IsSent}
+use Rattle.keep_run.specs.code.Telling.{IsSentWhole}
 use Rattle.keep_run.specs.code.Playing.{Answers, AnswersAll}
 use Rattle.keep_run.specs.Hearing.{IsAskLeft}
 use Rattle.keep_run.specs.Stops.{both}
 use Rattle.keep_run.specs.code.Telling.{IsOneCut, IsRoundBroken, IsRoundCut, IsRoundSoFar, IsRoundUpTo, TellsOne, TellsRound}
 use Rattle.keep_run.specs.Text.{inventory_with}
-use Rattle.keep_lines.specs.Hearing.{joined}
+use Rattle.keep_lines.specs.Hearing.{joined_changes}
 use Rattle.keep_run.proofs.LineByLine.{sent_then}
 use Rattle.keep_run.proofs.Loops.{answer_more}
 use Rattle.keep_run.proofs.Rounds.{answers_more}
@@ -72,7 +72,7 @@ answers_told port cs t old i output new before text a = record {
 -- ---- over an exchange
 
 -- by the names that the loop over the asked has
-module _ (port : ℕ) (cs : List (List ℕ)) (t : ℕ) (o mid : Option Behind) (start now : State) (asked : List ℕ) (k : ℕ) (next : Option ℕ) (a b : Change) (same : a.new ≡ b.old)
+module _ (port : ℕ) (cs : List (List ℕ)) (t : ℕ) (o mid : Option Behind) (start now : CoreState) (asked : List ℕ) (k : ℕ) (next : Option ℕ) (a b : Change) (same : a.new ≡ b.old)
     (more : k < length asked) (like : IsShaped start.forest now.forest) where
   abbrev pub i : ℕ
   i = get_or asked k 0
@@ -81,12 +81,12 @@ module _ (port : ℕ) (cs : List (List ℕ)) (t : ℕ) (o mid : Option Behind) (
   parts = sym (append_assoc (take k asked) (i ∷ []) (drop (k + 1) asked)) ∙ ap (λ l. l ++ drop (k + 1) asked) (sym (take_more asked k 0 more)) ∙ take-append-drop (k + 1) asked
 
   abbrev pub Before : Type 0
-  Before = (text : List ℕ) × (AnswersAll port cs t (both start o) (take k asked) next (both now mid) [] text × IsSent text a)
+  Before = (text : List ℕ) × (AnswersAll port cs t (both start o) (take k asked) next (both now mid) [] text × IsSentWhole text a)
 
   -- the next answer is told
   pub told_more :
-      (new : Option Behind) (after : State) (output : Output) (then' : Option ℕ) → then' ≡ told_next next output → Before → TellsOne port cs t (both now mid) i (Ok output) (both after new) b →
-      (text : List ℕ) × (AnswersAll port cs t (both start o) (take (k + 1) asked) then' (both after new) [] text × IsSent text (joined a b))
+      (new : Option Behind) (after : CoreState) (output : Output) (then' : Option ℕ) → then' ≡ told_next next output → Before → TellsOne port cs t (both now mid) i (Ok output) (both after new) b →
+      (text : List ℕ) × (AnswersAll port cs t (both start o) (take (k + 1) asked) then' (both after new) [] text × IsSentWhole text (joined_changes a b))
   told_more new after output then' closes h one = (
     h.0 ++ one.0,
     (
@@ -99,7 +99,7 @@ module _ (port : ℕ) (cs : List (List ℕ)) (t : ℕ) (o mid : Option Behind) (
   )
 
   -- only a front of its lines is
-  cut_on : (new : Option Behind) (after : State) → Before → IsOneCut port cs t (both now mid) i (both after new) b → IsRoundCut port cs t (both start o) asked (both after new) (joined a b)
+  cut_on : (new : Option Behind) (after : CoreState) → Before → IsOneCut port cs t (both now mid) i (both after new) b → IsRoundCut port cs t (both start o) asked (both after new) (joined_changes a b)
   cut_on new after h one = record {
     told = h.0;
     own = one.1.0;
@@ -108,7 +108,7 @@ module _ (port : ℕ) (cs : List (List ℕ)) (t : ℕ) (o mid : Option Behind) (
     front = Appends-trans a.old.output.written a.new.output.written b.new.output.written h.0 (take one.1.1.1.0 one.1.0) h.1.1.0.0 (subst (λ (w : Seen). Appends w.output.written b.new.output.written (take one.1.1.1.0 one.1.0)) (sym same) one.1.1.1.1);
   }
 
-  broken_on : (new : World) → Before → Keeps b.old.output.written b.new.output.written → IsAskLeft port cs t (both now mid) (i ∷ []) new.behind → IsRoundBroken port cs t (both start o) asked new (joined a b)
+  broken_on : (new : World) → Before → Keeps b.old.output.written b.new.output.written → IsAskLeft port cs t (both now mid) (i ∷ []) new.behind → IsRoundBroken port cs t (both start o) asked new (joined_changes a b)
   broken_on new h none left = record {
     told = h.0;
     mid = both now mid;
@@ -119,7 +119,7 @@ module _ (port : ℕ) (cs : List (List ℕ)) (t : ℕ) (o mid : Option Behind) (
 
   -- why the round stops
   pub stopped_on :
-      (stop : Stop) (new : Option Behind) (after : State) → Before → TellsOne port cs t (both now mid) i (Err stop) (both after new) b → TellsRound port cs t (both start o) asked (Err stop) (both after new) (joined a b)
+      (stop : Stop) (new : Option Behind) (after : CoreState) → Before → TellsOne port cs t (both now mid) i (Err stop) (both after new) b → TellsRound port cs t (both start o) asked (Err stop) (both after new) (joined_changes a b)
   stopped_on (stops.Inventory fault) new after h one = absurd one
   stopped_on (stops.Moments fault) new after h one = absurd one
   stopped_on (stops.FaultWord n) new after h one = absurd one

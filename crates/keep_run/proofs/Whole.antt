@@ -17,7 +17,7 @@ use Rattle.keep_rule.proofs.Alive.{last_from_alive}
 use Rattle.keep_rule.proofs.Keeping.{one_least}
 use Rattle.keep_rule.specs.declared.limit.TheConstants.{LIMIT}
 use Rattle.keep_inventory.specs.Inventories.{IsInventory, Inventory}
-use Rattle.broker_table.specs.Rows.{row_named, rows_of}
+use Rattle.broker_table.specs.Rows.{broker_rows, row_named}
 use Rattle.broker_table.specs.Sweep.{swept}
 use Rattle.keep_core.specs.declared.event.Event.{Event}
 use Rattle.keep_core.specs.declared.event.Event.TheVariants.{Tick}
@@ -30,19 +30,19 @@ use Rattle.keep_core.specs.declared.fault.StepFault.{StepFault}
 use Rattle.keep_core.specs.declared.fault.StepFault.TheVariants.{ClockBack, RoundOpen, NotAsked, BadIndex, OutOfRange, TooLong, OutOfMemory}
 use Rattle.keep_core.specs.declared.shortened.ShortNeed.{ShortNeed}
 use Rattle.keep_core.specs.Replan.{IsPlanOf, ReplanTooLong}
-use Rattle.keep_core.specs.History.{Turn}
+use Rattle.keep_core.specs.History.{CoreTurn}
 use Rattle.keep_core.specs.Shorten.{pairs}
-use Rattle.keep_core.specs.State.{State}
+use Rattle.keep_core.specs.State.{CoreState}
 use Rattle.keep_core.proofs.Kept.{keepable}
 use Rattle.keep_core.proofs.Once.{once}
 use Rattle.keep_core.proofs.Shortening.{needed_within}
 use Rattle.keep_core.proofs.Standing.{best_from, best_keepable}
-use Rattle.keep_run.specs.Closed.{Beat, IsOpening, World, requests_of, rounds, taken, Played}
+use Rattle.keep_run.specs.Closed.{Beat, IsRunOpening, World, request_count, rounds, shorts_taken, Played}
 use Rattle.keep_run.specs.Replies.{event_for}
-use Rattle.keep_run.specs.Text.{beat_text, course_text, done_text, short_lines}
-use Rattle.keep_run.specs.Stops.{IsTaken}
+use Rattle.keep_run.specs.Text.{beat_text, course_text, done_text, short_need_lines}
+use Rattle.keep_run.specs.Stops.{StepIsTaken}
 use Rattle.keep_run.specs.Laws.{AnswersTakenLaw, PlannedRunLaw, RehearsalLaw, SoFarLaw, StandsLaw}
-use Rattle.broker_table.specs.Listed.{is_alive, listed}
+use Rattle.broker_table.specs.Listed.{is_entry_alive, rows_listed}
 use Rattle.keep_run.specs.Mirrors.{with_forest}
 use Rattle.keep_run.proofs.Midway.{settled}
 use Rattle.keep_run.proofs.Mirroring.{mirrors_first}
@@ -53,7 +53,7 @@ use Rattle.broker_table.proofs.Sweeping.{named_among}
 
 -- ---- the opening
 
-opened_as : (inventory : Inventory) (start : ℕ) (ts : List ℕ) (short : List ShortNeed) (w : World) → IsPlanOf inventory.forest start ts → (o : IsOpening inventory [] start short w) → o.keeper ≡ settled inventory.forest start ts
+opened_as : (inventory : Inventory) (start : ℕ) (ts : List ℕ) (short : List ShortNeed) (w : World) → IsPlanOf inventory.forest start ts → (o : IsRunOpening inventory [] start short w) → o.keeper ≡ settled inventory.forest start ts
 opened_as inventory start ts short w plan o =
     let g = inventory.forest in
     let same = keepable g start (best_keepable g start ts plan) in
@@ -64,16 +64,16 @@ opened_as inventory start ts short w plan o =
     ∙ ap (λ ps. record (settled g start o.planned.moments) { shortened = ps }) same.1
     ∙ ap (λ us. settled g start us) moments_are
 
-opening_rests : (inventory : Inventory) (start : ℕ) (ts : List ℕ) (short : List ShortNeed) (w : World) → IsInventory inventory → start ≤ LAST → IsPlanOf inventory.forest start ts → length ts ≤ LIMIT → IsOpening inventory [] start short w → AtRest inventory w start ts
+opening_rests : (inventory : Inventory) (start : ℕ) (ts : List ℕ) (short : List ShortNeed) (w : World) → IsInventory inventory → start ≤ LAST → IsPlanOf inventory.forest start ts → length ts ≤ LIMIT → IsRunOpening inventory [] start short w → AtRest inventory w start ts
 opening_rests inventory start ts short w supplied late plan few o = record {
   g = inventory.forest;
-  keeper = ap (λ (x : World). x.keeper) o.is ∙ ap taken (opened_as inventory start ts short w plan o);
+  keeper = ap (λ (x : World). x.keeper) o.is ∙ ap shorts_taken (opened_as inventory start ts short w plan o);
   plan = plan;
   few = few;
   late = late;
   same = λ i. refl;
   supplied = supplied;
-  behind = record { table = record { rows = rows_of inventory; faults = []; count = 0 }; wire = [] };
+  behind = record { table = record { rows = broker_rows inventory; faults = []; count = 0 }; wire = [] };
   known = ap (λ (x : World). x.behind) o.is;
   mirrors = λ m from. mirrors_first inventory supplied.forest start m from;
   none = refl;
@@ -89,8 +89,8 @@ none_yet m (w ∷ ws) later =
     cond-false (nat_le w.at m) (w ∷ filter (λ (v : Wake). nat_le v.at m) ws) (filter (λ (v : Wake). nat_le v.at m) ws) miss ∙ none_yet m ws (All-tail (λ u. m < u) w.at (moments ws) later)
 
 -- before the first moment that is left, what is needed is alive by the ends as told
-alive_now : (g : Forest) (t : ℕ) (ts : List ℕ) → IsPlanOf g t ts → (m i : ℕ) → t ≤ m → All (λ u. m < u) ts → m < (entry_at g.entries i).need → is_alive g m i ≡ true
-unfolding is_alive ends_at ends_after
+alive_now : (g : Forest) (t : ℕ) (ts : List ℕ) → IsPlanOf g t ts → (m i : ℕ) → t ≤ m → All (λ u. m < u) ts → m < (entry_at g.entries i).need → is_entry_alive g m i ≡ true
+unfolding is_entry_alive ends_at ends_after
 alive_now g t ts plan m i from later needed =
     let none = none_yet m plan.plan (subst (λ us. All (λ u. m < u) us) (sym plan.at_these) later) in
     last_from_alive g.entries (end_of g.entries) m i (λ a over.
@@ -109,7 +109,7 @@ left_later t m rest (Some u) awaits later = all_later m u rest later awaits.1.1
 stands :
     (inventory : Inventory) (w : World) (t : ℕ) (rest : List ℕ) (next : Option ℕ) → (r : AtRest inventory w t rest) → Awaits t rest next → (m i : ℕ) → t ≤ m → IfSome next (λ u. m < u) →
     m < (entry_at inventory.forest.entries i).need → is_some (row_named (swept m r.behind.table.rows) (entry_at inventory.forest.entries i).name) ≡ true
-unfolding listed
+unfolding rows_listed
 stands inventory w t rest next r awaits m i from later needed =
     let g = r.g in
     let s = with_forest inventory g in
@@ -118,13 +118,13 @@ stands inventory w t rest next r awaits m i from later needed =
     let alive = alive_now g t rest r.plan m i from (left_later t m rest next awaits later) now in
     let within = needed_within g.entries m i now in
     ap (λ rows. is_some (row_named rows (entry_at inventory.forest.entries i).name)) (r.mirrors m from)
-    ∙ ap (λ n. is_some (row_named (listed s m) n)) (sym (ap (λ (e : Entry). e.name) (r.same i)))
-    ∙ ap is_some (named_among s r.supplied.forest (is_alive g m) i within alive)
+    ∙ ap (λ n. is_some (row_named (rows_listed s m) n)) (sym (ap (λ (e : Entry). e.name) (r.same i)))
+    ∙ ap is_some (named_among s r.supplied.forest (is_entry_alive g m) i within alive)
 
 -- ---- the next tick
 
 -- an event that may give a step is refused for lack of memory alone
-taken_turn : (old new other : State) (event : Event) (output : Output) → Turn old event (Ok output) other → (result : Result Output StepFault) → Turn old event result new → IsTaken result
+taken_turn : (old new other : CoreState) (event : Event) (output : Output) → CoreTurn old event (Ok output) other → (result : Result Output StepFault) → CoreTurn old event result new → StepIsTaken result
 taken_turn old new other event output known (Ok x) turn = tt
 taken_turn old new other event output known (Err OutOfMemory) turn = tt
 taken_turn old new other event output known (Err ClockBack) turn = let one = once old new other event (Err ClockBack) (Ok output) (λ bad. cc) (λ bad. cc) turn known in absurd (let bad = one.0 in cc)
@@ -134,12 +134,12 @@ taken_turn old new other event output known (Err BadIndex) turn = let one = once
 taken_turn old new other event output known (Err OutOfRange) turn = let one = once old new other event (Err OutOfRange) (Ok output) (λ bad. cc) (λ bad. cc) turn known in absurd (let bad = one.0 in cc)
 taken_turn old new other event output known (Err TooLong) turn = let one = once old new other event (Err TooLong) (Ok output) (λ bad. cc) (λ bad. cc) turn known in absurd (let bad = one.0 in cc)
 
-not_refused : (g : Forest) (t u : ℕ) (ts : List ℕ) → IsPlanOf g t ts → length ts ≤ LIMIT → Awaits t ts (Some u) → (result : Result Output StepFault) (new : State) → Turn (settled g t ts) (Tick u) result new → IsTaken result
+not_refused : (g : Forest) (t u : ℕ) (ts : List ℕ) → IsPlanOf g t ts → length ts ≤ LIMIT → Awaits t ts (Some u) → (result : Result Output StepFault) (new : CoreState) → CoreTurn (settled g t ts) (Tick u) result new → StepIsTaken result
 not_refused g t u ts plan few awaits result new turn =
     taken_turn (settled g t ts) new (tick_leaves g u ts) (Tick u) (tick_says g u ts) (tick_turn g t u ts plan few awaits.0 awaits.1.0 awaits.1.1) result turn
 
-no_shorts : (g : Forest) (text : List ℕ) → short_lines g [] ++ text ≡ text
-unfolding short_lines
+no_shorts : (g : Forest) (text : List ℕ) → short_need_lines g [] ++ text ≡ text
+unfolding short_need_lines
 no_shorts g text = refl
 
 -- ---- the laws
@@ -159,21 +159,21 @@ so_far inventory start ts supplied late plan few short opening final beats next 
     let first : Awaits start ts (Some start) = (omega arith, (late, best_from inventory.forest start ts plan)) in
     let done = run_goes inventory 8200 beats opening final start ts begins (Some start) next first played in
     let r = done.rests in (
-      o.short_is ∙ ap (λ (q : State). q.shortened) (opened_as inventory start ts short opening plan o),
+      o.short_is ∙ ap (λ (q : CoreState). q.shortened) (opened_as inventory start ts short opening plan o),
       record {
         rest = done.rest;
         moments = done.moments;
         ended = λ none. ended_rest done.last done.rest next done.awaits none;
         asked = λ none.
             let over = ended_rest done.last done.rest next done.awaits none in
-            let all : requests_from inventory.forest start ts ≡ requests_of beats + requests_from r.g done.last done.rest = done.requests in
+            let all : requests_from inventory.forest start ts ≡ request_count beats + requests_from r.g done.last done.rest = done.requests in
             let left = ap (requests_from r.g done.last) over in
             let zero' = nothing_left r.g done.last in
             omega arith;
         quiet = done.quiet;
         taken = λ t result new is turn.
             not_refused r.g done.last t done.rest r.plan r.few (subst (Awaits done.last done.rest) is done.awaits) result new
-            (subst (λ (q : State). Turn q (Tick t) result new) r.keeper turn);
+            (subst (λ (q : CoreState). CoreTurn q (Tick t) result new) r.keeper turn);
         behind = r.behind;
         known = r.known;
         stands = λ m i from all later needed. stands inventory final done.last done.rest next r done.awaits m i (done.bound m from all) later needed;
@@ -195,7 +195,7 @@ answers_taken inventory start ts supplied late plan few short opening final beat
     let first : Awaits start ts (Some start) = (omega arith, (late, best_from inventory.forest start ts plan)) in
     let done = run_goes inventory 8200 beats opening final start ts begins (Some start) (Some t) first played in
     let r = done.rests in
-    let start' : World = record { keeper = taken keeper; behind = final.behind } in
+    let start' : World = record { keeper = shorts_taken keeper; behind = final.behind } in
     let open' = asks_open inventory final done.last done.rest t r done.awaits asked keeper ticked in
     let part = part_goes inventory 8200 r.g t open'.0 xs i others start' now r.g (subst (InRound inventory start' r.g r.g t open'.0) (sym who) open'.1) answers in
     let round = part.1 in (
@@ -218,9 +218,9 @@ planned_run bytes inventory start p read late decides few course final run =
     let rounds_are : length (rounds course.beats) ≡ length (to_come p) = sym (length-map (rounds course.beats) (λ (b : Beat). b.at)) ∙ ap length is.0 ∙ count in
     let text = flat_map (beat_text inventory) course.beats in (
       is.0,
-      ap (λ ps. short_lines inventory.forest ps ++ (text ++ done_text (length (rounds course.beats)) (requests_of course.beats))) is.1.1.0
-          ∙ no_shorts inventory.forest (text ++ done_text (length (rounds course.beats)) (requests_of course.beats))
-          ∙ ap (λ n. text ++ done_text n (requests_of course.beats)) rounds_are
+      ap (λ ps. short_need_lines inventory.forest ps ++ (text ++ done_text (length (rounds course.beats)) (request_count course.beats))) is.1.1.0
+          ∙ no_shorts inventory.forest (text ++ done_text (length (rounds course.beats)) (request_count course.beats))
+          ∙ ap (λ n. text ++ done_text n (request_count course.beats)) rounds_are
           ∙ ap (λ n. text ++ done_text (length (to_come p)) n) is.1.0,
     )
 
@@ -241,7 +241,7 @@ all_stand inventory start ts supplied late plan few short opening mid final befo
 
 pub more_to_come :
     (inventory : Inventory) (start : ℕ) (ts : List ℕ) → IsInventory inventory → start ≤ LAST → IsPlanOf inventory.forest start ts → length ts ≤ LIMIT → (short : List ShortNeed) (opening final : World) (beats : List Beat) (t : ℕ) →
-    IsOpening inventory [] start short opening → Played 8200 inventory.credentials opening (Some start) beats final (Some t) → (asked : List ℕ) (keeper : State) → Turn final.keeper (Tick t) (Ok (out.Ask asked)) keeper →
+    IsRunOpening inventory [] start short opening → Played 8200 inventory.credentials opening (Some start) beats final (Some t) → (asked : List ℕ) (keeper : CoreState) → CoreTurn final.keeper (Tick t) (Ok (out.Ask asked)) keeper →
     length (rounds beats) < length ts
 unfolding opening_rests
 more_to_come inventory start ts supplied late plan few short opening final beats t o played asked keeper turn =

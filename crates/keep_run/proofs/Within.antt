@@ -7,21 +7,21 @@ use Rattle.std.proofs.lemmas.List.FromFn.{length-range_with_len}
 use Rattle.std.specs.List.{All, range_with_len}
 use Rattle.keep_moment.specs.declared.moment.TheConstants.{LAST}
 use Rattle.keep_core.specs.declared.fault.StepFault.TheVariants.{OutOfRange}
-use Rattle.keep_core.specs.Refusal.{refusal}
+use Rattle.keep_core.specs.Refusal.{step_refusal}
 use Rattle.keep_tree.specs.Forest.{Forest, end_of}
-use Rattle.keep_rule.specs.Asks.{asks, first_of, is_wanted}
+use Rattle.keep_rule.specs.Asks.{asks, first_of, is_to_be_asked}
 use Rattle.keep_core.specs.declared.event.Event.{Event}
 use Rattle.keep_core.specs.declared.event.Event.TheVariants.{Tick, Told, Refused, Lost, Need}
 use Rattle.keep_core.specs.declared.event.Output.{Output}
 use Rattle.keep_core.specs.declared.event.Output.TheVariants as out
 use Rattle.keep_core.specs.declared.shortened.ShortNeed.{ShortNeed}
 use Rattle.keep_core.specs.Replan.{Replan}
-use Rattle.keep_core.specs.History.{Turn}
+use Rattle.keep_core.specs.History.{CoreTurn}
 use Rattle.keep_core.specs.Shorten.{is_short, pair_of, pairs}
-use Rattle.keep_core.specs.State.{State}
-use Rattle.keep_core.specs.Step.{StepAnswer, StepNeed, StepTick, heard, needed}
+use Rattle.keep_core.specs.State.{CoreState}
+use Rattle.keep_core.specs.Step.{StepAnswer, StepNeed, StepTick, state_after_answer, with_new_need}
 use Rattle.keep_core.proofs.Shortening.{shorten_count}
-use Rattle.keep_run.specs.Closed.{asked_in}
+use Rattle.keep_run.specs.Closed.{asked_by_output}
 
 all_to : (n k a : ℕ) → a + k ≤ n → All (λ i. i < n) (range_with_len a k)
 all_to n zero a h = All-nil (λ i. i < n)
@@ -37,34 +37,34 @@ pairs_within g t =
     let is : List ℕ = range_with_len 0 (length g.entries) in
     All-map (λ (p : ShortNeed). p.entry < length g.entries) (pair_of g t) _ (All-filter (is_short g t) (λ i. i < length g.entries) is (all_to (length g.entries) (length g.entries) 0 (omega arith)))
 
-pub replan_within : (old : State) (t : ℕ) (new : State) → old.shortened ≡ [] → Replan old t new → AreOf (length new.forest.entries) new.shortened
+pub replan_within : (old : CoreState) (t : ℕ) (new : CoreState) → old.shortened ≡ [] → Replan old t new → AreOf (length new.forest.entries) new.shortened
 replan_within old t new quiet r =
-    let count : length new.forest.entries ≡ length old.forest.entries = ap (λ (s : State). length s.forest.entries) r.is ∙ shorten_count old.forest t in
-    let is : new.shortened ≡ pairs old.forest t = ap (λ (s : State). s.shortened) r.is ∙ ap (λ ps. ps ++ pairs old.forest t) quiet in
+    let count : length new.forest.entries ≡ length old.forest.entries = ap (λ (s : CoreState). length s.forest.entries) r.is ∙ shorten_count old.forest t in
+    let is : new.shortened ≡ pairs old.forest t = ap (λ (s : CoreState). s.shortened) r.is ∙ ap (λ ps. ps ++ pairs old.forest t) quiet in
     subst (λ n. AreOf n new.shortened) (sym count) (subst (AreOf (length old.forest.entries)) (sym is) (pairs_within old.forest t))
 
-none_within : (new : State) → new.shortened ≡ [] → AreOf (length new.forest.entries) new.shortened
+none_within : (new : CoreState) → new.shortened ≡ [] → AreOf (length new.forest.entries) new.shortened
 none_within new quiet = subst (AreOf (length new.forest.entries)) (sym quiet) (All-nil (λ (p : ShortNeed). p.entry < length new.forest.entries))
 
-tick_within : (old : State) (t : ℕ) (output : Output) (new : State) → old.shortened ≡ [] → StepTick old t output new → AreOf (length new.forest.entries) new.shortened
+tick_within : (old : CoreState) (t : ℕ) (output : Output) (new : CoreState) → old.shortened ≡ [] → StepTick old t output new → AreOf (length new.forest.entries) new.shortened
 tick_within old t out.Idle new quiet step = replan_within old t new quiet step.0
 tick_within old t (out.Sleep w) new quiet step = replan_within old t new quiet step.0
 tick_within old t (out.Ask asked) new quiet step =
-    subst (λ (s : State). AreOf (length s.forest.entries) s.shortened) (sym step.1.1.1.1.1) (replan_within old t step.0 quiet step.1.0)
+    subst (λ (s : CoreState). AreOf (length s.forest.entries) s.shortened) (sym step.1.1.1.1.1) (replan_within old t step.0 quiet step.1.0)
 tick_within old t out.Waiting new quiet step = absurd step
 tick_within old t (out.Round next) new quiet step = absurd step
 tick_within old t out.Planned new quiet step = absurd step
 
-answer_within : (old : State) (event : Event) (output : Output) (new : State) → old.shortened ≡ [] → StepAnswer old event output new → AreOf (length new.forest.entries) new.shortened
-answer_within old event out.Waiting new quiet step = none_within new (ap (λ (s : State). s.shortened) step.1.1.1 ∙ quiet)
-answer_within old event (out.Round next) new quiet step = replan_within (heard old event step.0.at None) step.0.at new quiet step.1.1.1.0
+answer_within : (old : CoreState) (event : Event) (output : Output) (new : CoreState) → old.shortened ≡ [] → StepAnswer old event output new → AreOf (length new.forest.entries) new.shortened
+answer_within old event out.Waiting new quiet step = none_within new (ap (λ (s : CoreState). s.shortened) step.1.1.1 ∙ quiet)
+answer_within old event (out.Round next) new quiet step = replan_within (state_after_answer old event step.0.at None) step.0.at new quiet step.1.1.1.0
 answer_within old event out.Idle new quiet step = absurd step
 answer_within old event (out.Sleep w) new quiet step = absurd step
 answer_within old event (out.Ask asked) new quiet step = absurd step
 answer_within old event out.Planned new quiet step = absurd step
 
-need_within : (old : State) (i until : ℕ) (output : Output) (new : State) → old.shortened ≡ [] → StepNeed old i until output new → AreOf (length new.forest.entries) new.shortened
-need_within old i until out.Planned new quiet step = replan_within (needed old i until) old.last new quiet step
+need_within : (old : CoreState) (i until : ℕ) (output : Output) (new : CoreState) → old.shortened ≡ [] → StepNeed old i until output new → AreOf (length new.forest.entries) new.shortened
+need_within old i until out.Planned new quiet step = replan_within (with_new_need old i until) old.last new quiet step
 need_within old i until out.Idle new quiet step = absurd step
 need_within old i until (out.Sleep w) new quiet step = absurd step
 need_within old i until (out.Ask asked) new quiet step = absurd step
@@ -72,7 +72,7 @@ need_within old i until out.Waiting new quiet step = absurd step
 need_within old i until (out.Round next) new quiet step = absurd step
 
 -- what an event shortens is of entries
-pub short_within : (old new : State) (event : Event) (output : Output) → old.shortened ≡ [] → Turn old event (Ok output) new → AreOf (length new.forest.entries) new.shortened
+pub short_within : (old new : CoreState) (event : Event) (output : Output) → old.shortened ≡ [] → CoreTurn old event (Ok output) new → AreOf (length new.forest.entries) new.shortened
 short_within old new (Tick t) output quiet turn = tick_within old t output new quiet turn.1
 short_within old new (Told i seconds renewable) output quiet turn = answer_within old (Told i seconds renewable) output new quiet turn.1
 short_within old new (Refused i) output quiet turn = answer_within old (Refused i) output new quiet turn.1
@@ -83,14 +83,14 @@ asks_are_within : (g : Forest) (t : ℕ) (next : Option ℕ) → All (λ i. i < 
 unfolding asks
 asks_are_within g t next =
     let is : List ℕ = range_with_len 0 (length g.entries) in
-    All-filter (is_wanted g.entries g.margin t (end_of g.entries) t next) (λ i. i < length g.entries) is (all_to (length g.entries) (length g.entries) 0 (omega arith))
+    All-filter (is_to_be_asked g.entries g.margin t (end_of g.entries) t next) (λ i. i < length g.entries) is (all_to (length g.entries) (length g.entries) 0 (omega arith))
 
 -- who is asked is an entry
-pub asked_within : (old new : State) (t : ℕ) (output : Output) → Turn old (Tick t) (Ok output) new → All (λ i. i < length new.forest.entries) (asked_in output)
+pub asked_within : (old new : CoreState) (t : ℕ) (output : Output) → CoreTurn old (Tick t) (Ok output) new → All (λ i. i < length new.forest.entries) (asked_by_output output)
 asked_within old new t (out.Ask asked) turn =
     let step = turn.1 in
     let mid = step.0 in
-    let count : length new.forest.entries ≡ length mid.forest.entries = ap (λ (s : State). length s.forest.entries) step.1.1.1.1.1 in
+    let count : length new.forest.entries ≡ length mid.forest.entries = ap (λ (s : CoreState). length s.forest.entries) step.1.1.1.1.1 in
     subst (λ n. All (λ i. i < n) asked) (sym count) (subst (All (λ i. i < length mid.forest.entries)) (sym step.1.1.1.1.0) (asks_are_within mid.forest t (first_of step.1.1.0)))
 asked_within old new t out.Idle turn = All-nil (λ i. i < length new.forest.entries)
 asked_within old new t (out.Sleep w) turn = All-nil (λ i. i < length new.forest.entries)
@@ -110,16 +110,16 @@ filter_few p (i ∷ is) =
 asks_few : (g : Forest) (t : ℕ) (next : Option ℕ) → length (asks g.entries g.margin t (end_of g.entries) t next) ≤ length g.entries
 unfolding asks
 asks_few g t next =
-    let few = filter_few (is_wanted g.entries g.margin t (end_of g.entries) t next) (range_with_len 0 (length g.entries)) in
+    let few = filter_few (is_to_be_asked g.entries g.margin t (end_of g.entries) t next) (range_with_len 0 (length g.entries)) in
     let count = length-range_with_len 0 (length g.entries) in
     omega arith
 
 -- no more are asked than there are entries
-pub asked_few : (old new : State) (t : ℕ) (output : Output) → Turn old (Tick t) (Ok output) new → length (asked_in output) ≤ length new.forest.entries
+pub asked_few : (old new : CoreState) (t : ℕ) (output : Output) → CoreTurn old (Tick t) (Ok output) new → length (asked_by_output output) ≤ length new.forest.entries
 asked_few old new t (out.Ask asked) turn =
     let step = turn.1 in
     let mid = step.0 in
-    let count : length new.forest.entries ≡ length mid.forest.entries = ap (λ (s : State). length s.forest.entries) step.1.1.1.1.1 in
+    let count : length new.forest.entries ≡ length mid.forest.entries = ap (λ (s : CoreState). length s.forest.entries) step.1.1.1.1.1 in
     let who = ap length step.1.1.1.1.0 in
     let few = asks_few mid.forest t (first_of step.1.1.0) in
     omega arith
@@ -130,8 +130,8 @@ asked_few old new t (out.Round next) turn = omega arith
 asked_few old new t out.Planned turn = omega arith
 
 -- a moment that is told is in range
-pub told_in_range : (old new : State) (t : ℕ) (output : Output) → Turn old (Tick t) (Ok output) new → t ≤ LAST
-unfolding refusal
+pub told_in_range : (old new : CoreState) (t : ℕ) (output : Output) → CoreTurn old (Tick t) (Ok output) new → t ≤ LAST
+unfolding step_refusal
 told_in_range old new t output turn = elim (cases_Bool (nat_lt LAST t)) [
   | inl late ↦ absurd (let bad : None ≡ Some OutOfRange = sym turn.0 ∙ cond-true (nat_lt LAST t) (Some OutOfRange) _ late in cc)
   | inr not_late ↦ grind (arith, nat_tests, not_late)

@@ -1,13 +1,13 @@
 -- Agent: who asks: the keeper of a run, and what its requests are made of.
 -- Source: this project's own.
 use Rattle.std.specs.Prelude.{◌≡◌, ℕ, List, length}
-use Rattle.keep_core.specs.State.{State}
+use Rattle.keep_core.specs.State.{CoreState}
 
 -- the keeper, and for each of its entries the credential
-pub record Agent : Type 0 where
-  pub keeper : State
+pub record RunAgent : Type 0 where
+  pub keeper : CoreState
   pub credentials : List (List ℕ)
 
 -- there is a credential for each entry
-abbrev pub IsFit : Agent → Type 0
-IsFit agent = length agent.credentials ≡ length agent.keeper.forest.entries
+abbrev pub AgentIsFit : RunAgent → Type 0
+AgentIsFit agent = length agent.credentials ≡ length agent.keeper.forest.entries

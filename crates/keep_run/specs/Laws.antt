@@ -25,15 +25,15 @@ use Rattle.keep_core.specs.declared.fault.StepFault.{StepFault}
 use Rattle.keep_core.specs.declared.shortened.ShortNeed.{ShortNeed}
 use Rattle.keep_core.specs.Replan.{IsPlanOf}
 use Rattle.keep_core.specs.Shorten.{pairs, shorten}
-use Rattle.keep_core.specs.History.{Turn}
-use Rattle.keep_core.specs.State.{State}
+use Rattle.keep_core.specs.History.{CoreTurn}
+use Rattle.keep_core.specs.State.{CoreState}
 use Rattle.keep_run.specs.declared.rehearse.playing.TheConstants.{MOST_WAKES}
-use Rattle.keep_run.specs.Closed.{AreAnswered, Beat, Course, Exchanged, IsClosedRun, IsOpening, Played, World, event_in, requests_of, rounds, taken}
+use Rattle.keep_run.specs.Closed.{AreAnswered, Beat, Exchanged, IsClosedRun, IsRunOpening, Played, RunCourse, World, event_in, request_count, rounds, shorts_taken}
 use Rattle.keep_run.specs.Replies.{event_for}
 use Rattle.keep_exchange.specs.Exchanges.{Behind}
-use Rattle.keep_exchange.specs.Requests.{IsAsked, request_of}
+use Rattle.keep_exchange.specs.Requests.{RequestIsAsked, renewal_request}
 use Rattle.vault_http.specs.declared.reply.Reply.{Reply}
-use Rattle.keep_run.specs.Stops.{IsTaken}
+use Rattle.keep_run.specs.Stops.{StepIsTaken}
 use Rattle.keep_run.specs.Text.{beat_text, course_text, done_text}
 
 -- the entry was told the end that the renewal rule gives at t, and nothing was shortened
@@ -55,9 +55,9 @@ pub record GoesAsPlanned (inventory : Inventory) (start : ℕ) (ts : List ℕ) (
   pub rest : List ℕ
   pub moments : ts ≡ map (λ b. b.at) (rounds beats) ++ rest
   pub ended : next ≡ None → rest ≡ []
-  pub asked : next ≡ None → requests_of beats ≡ requests (with_asks inventory.forest.entries inventory.forest.margin start (end_of inventory.forest.entries) ts)
+  pub asked : next ≡ None → request_count beats ≡ requests (with_asks inventory.forest.entries inventory.forest.margin start (end_of inventory.forest.entries) ts)
   pub quiet : All (IsQuiet inventory) beats
-  pub taken : (t : ℕ) (result : Result Output StepFault) (new : State) → next ≡ Some t → Turn final.keeper (Tick t) result new → IsTaken result
+  pub taken : (t : ℕ) (result : Result Output StepFault) (new : CoreState) → next ≡ Some t → CoreTurn final.keeper (Tick t) result new → StepIsTaken result
   pub behind : Behind
   pub known : final.behind ≡ Some behind
   pub stands : (m i : ℕ) → start ≤ m → All (λ b. b.at ≤ m) beats → IfSome next (λ t. m < t) → m < (entry_at inventory.forest.entries i).need
@@ -67,7 +67,7 @@ pub record GoesAsPlanned (inventory : Inventory) (start : ℕ) (ts : List ℕ) (
 abbrev pub SoFarLaw : Type 0
 SoFarLaw =
     (inventory : Inventory) (start : ℕ) (ts : List ℕ) → IsInventory inventory → start ≤ LAST → IsPlanOf inventory.forest start ts → length ts ≤ LIMIT →
-    (short : List ShortNeed) (opening final : World) (beats : List Beat) (next : Option ℕ) → IsOpening inventory [] start short opening →
+    (short : List ShortNeed) (opening final : World) (beats : List Beat) (next : Option ℕ) → IsRunOpening inventory [] start short opening →
     Played 8200 inventory.credentials opening (Some start) beats final next →
     (short ≡ []) × GoesAsPlanned inventory start ts beats final next
 
@@ -75,16 +75,16 @@ SoFarLaw =
 abbrev pub RehearsalLaw : Type 0
 RehearsalLaw =
     (inventory : Inventory) (start : ℕ) (ts : List ℕ) → IsInventory inventory → start ≤ LAST → IsPlanOf inventory.forest start ts → length ts ≤ MOST_WAKES →
-    (course : Course) (final : World) → IsClosedRun inventory [] start course final →
+    (course : RunCourse) (final : World) → IsClosedRun inventory [] start course final →
     (map (λ b. b.at) (rounds course.beats) ≡ ts)
-    × ((requests_of course.beats ≡ requests (with_asks inventory.forest.entries inventory.forest.margin start (end_of inventory.forest.entries) ts))
+    × ((request_count course.beats ≡ requests (with_asks inventory.forest.entries inventory.forest.margin start (end_of inventory.forest.entries) ts))
     × ((course.short ≡ []) × All (IsQuiet inventory) course.beats))
 
 -- of any inventory: the opening shortens the needs that no plan keeps; the rounds are at the moments of the least and latest
 -- plan for the forest that has the needs then in force, and no plan that keeps it has fewer wake-ups than the rehearsal made
 abbrev pub LeastLaw : Type 0
 LeastLaw =
-    (inventory : Inventory) (start : ℕ) → IsInventory inventory → start ≤ LAST → (course : Course) (final : World) → IsClosedRun inventory [] start course final →
+    (inventory : Inventory) (start : ℕ) → IsInventory inventory → start ≤ LAST → (course : RunCourse) (final : World) → IsClosedRun inventory [] start course final →
     (course.short ≡ pairs inventory.forest start)
     × (IsPlanOf (shorten inventory.forest start) start (map (λ b. b.at) (rounds course.beats))
     × ((plan : List Wake) → IsPlan start plan → Keeps (shorten inventory.forest start).entries (shorten inventory.forest start).margin start (end_of (shorten inventory.forest start).entries) plan →
@@ -94,21 +94,21 @@ LeastLaw =
 abbrev pub AnswersTakenLaw : Type 0
 AnswersTakenLaw =
     (inventory : Inventory) (start : ℕ) (ts : List ℕ) → IsInventory inventory → start ≤ LAST → IsPlanOf inventory.forest start ts → length ts ≤ LIMIT →
-    (short : List ShortNeed) (opening final : World) (beats : List Beat) (t : ℕ) → IsOpening inventory [] start short opening →
+    (short : List ShortNeed) (opening final : World) (beats : List Beat) (t : ℕ) → IsRunOpening inventory [] start short opening →
     Played 8200 inventory.credentials opening (Some start) beats final (Some t) →
-    (asked : List ℕ) (keeper : State) → Turn final.keeper (Tick t) (Ok (out.Ask asked)) keeper →
+    (asked : List ℕ) (keeper : CoreState) → CoreTurn final.keeper (Tick t) (Ok (out.Ask asked)) keeper →
     (xs : List Exchanged) (now : World) (i : ℕ) (others : List ℕ) → map (λ x. x.entry) xs ++ (i ∷ others) ≡ asked →
-    AreAnswered 8200 inventory.credentials t (record { keeper = taken keeper; behind = final.behind }) xs now →
+    AreAnswered 8200 inventory.credentials t (record { keeper = shorts_taken keeper; behind = final.behind }) xs now →
     (behind : Behind) × ((now.behind ≡ Some behind)
-    × ((reply : Option Reply) (left : Option Behind) (result : Result Output StepFault) (new : State) → IsAsked behind.table t (request_of 8200 inventory.credentials now.keeper.forest i) reply left →
-    Turn now.keeper (event_for inventory.credentials now.keeper.forest i reply) result new → IsTaken result))
+    × ((reply : Option Reply) (left : Option Behind) (result : Result Output StepFault) (new : CoreState) → RequestIsAsked behind.table t (renewal_request 8200 inventory.credentials now.keeper.forest i) reply left →
+    CoreTurn now.keeper (event_for inventory.credentials now.keeper.forest i reply) result new → StepIsTaken result))
 
 -- over the bytes of an inventory, and for the plan that `plan` gives: the run's text ends in its number of wake-ups and the
 -- sum of the lengths of its Asks
 abbrev pub PlannedRunLaw : Type 0
 PlannedRunLaw =
     (bytes : List ℕ) (inventory : Inventory) (start : ℕ) (p : Planned) → inventory_at start bytes ≡ Ok inventory → start ≤ LAST → Decides inventory.forest start (Keep p) → length (to_come p) ≤ MOST_WAKES →
-    (course : Course) (final : World) → IsClosedRun inventory [] start course final →
+    (course : RunCourse) (final : World) → IsClosedRun inventory [] start course final →
     (map (λ b. b.at) (rounds course.beats) ≡ moments_of (to_come p))
     × (course_text inventory course ≡ flat_map (beat_text inventory) course.beats
     ++ done_text (length (to_come p)) (requests (with_asks inventory.forest.entries inventory.forest.margin start (end_of inventory.forest.entries) (moments_of (to_come p)))))
@@ -118,7 +118,7 @@ PlannedRunLaw =
 abbrev pub StandsLaw : Type 0
 StandsLaw =
     (inventory : Inventory) (start : ℕ) (ts : List ℕ) → IsInventory inventory → start ≤ LAST → IsPlanOf inventory.forest start ts → length ts ≤ LIMIT →
-    (short : List ShortNeed) (opening mid final : World) (before after : List Beat) (due : Option ℕ) → IsOpening inventory [] start short opening →
+    (short : List ShortNeed) (opening mid final : World) (before after : List Beat) (due : Option ℕ) → IsRunOpening inventory [] start short opening →
     Played 8200 inventory.credentials opening (Some start) before mid due → Played 8200 inventory.credentials mid due after final None →
     (m i : ℕ) → start ≤ m → All (λ b. b.at ≤ m) before → All (λ b. m < b.at) after → m < (entry_at inventory.forest.entries i).need →
     (behind : Behind) × ((mid.behind ≡ Some behind) × (is_some (row_named (swept m behind.table.rows) (entry_at inventory.forest.entries i).name) ≡ true))

@@ -13,25 +13,25 @@ use Rattle.keep_lines.specs.declared.event_line.Heard.{Heard}
 use Rattle.keep_run.specs.declared.live.listening.TheConstants.{MOST_EVENTS, MOST_EVENT_READS}
 use Rattle.keep_run.specs.Closed.{World}
 use Rattle.keep_lines.specs.EventLines.{heard_in}
-use Rattle.keep_run.specs.Hearing.{IsBrokenOff, IsCutOff, IsHeard, IsOverlong}
+use Rattle.keep_run.specs.Hearing.{EventIsCutOff, EventIsHeard, IsBrokenOff, NeedIsOverlong}
 
 -- ---- lines
 
 -- a line says an event in the forest of its moment; the event is heard, by requests that name this port, and has this text
-pub record IsLineHeard (port : ℕ) (cs : List (List ℕ)) (old : World) (line : List ℕ) (new : World) (text : List ℕ) : Type 0 where
+pub record EventLineIsHeard (port : ℕ) (cs : List (List ℕ)) (old : World) (line : List ℕ) (new : World) (text : List ℕ) : Type 0 where
   pub says : Heard
   pub is : heard_in old.keeper.forest line ≡ Some says
-  pub heard : IsHeard port cs old says new text
+  pub heard : EventIsHeard port cs old says new text
 
 -- ---- where a line stops a run
 
 -- the line says a new need, with which the plan would be too long; nothing is changed
-abbrev pub IsTooLong : World → List ℕ → World → Type 0
-IsTooLong old line new = (says : Heard) × ((heard_in old.keeper.forest line ≡ Some says) × IsOverlong old says new)
+abbrev pub PlanBecomesTooLong : World → List ℕ → World → Type 0
+PlanBecomesTooLong old line new = (says : Heard) × ((heard_in old.keeper.forest line ≡ Some says) × NeedIsOverlong old says new)
 
 -- the line is heard up to a write that was cut short
 abbrev pub IsCutShort : ℕ → List (List ℕ) → World → List ℕ → World → List ℕ → Change → Type 0
-IsCutShort port cs old line new text out = (says : Heard) × ((heard_in old.keeper.forest line ≡ Some says) × IsCutOff port cs old says new text out)
+IsCutShort port cs old line new text out = (says : Heard) × ((heard_in old.keeper.forest line ≡ Some says) × EventIsCutOff port cs old says new text out)
 
 -- the line is a tick that is heard up to some answer
 abbrev pub IsBrokenShort : ℕ → List (List ℕ) → World → List ℕ → World → List ℕ → Change → Type 0
@@ -42,18 +42,18 @@ abbrev pub IsWantingAt : World → List ℕ → List ℕ → World → Change �
 IsWantingAt old line text new out = (says : Heard) × ((heard_in old.keeper.forest line ≡ Some says) × ((new.behind ≡ old.behind) × Receives text out))
 
 -- how hearing a line ends short, after this text: the plan would be too long; a write failed; or memory was wanting
-abbrev pub EndsShort : ℕ → List (List ℕ) → World → List ℕ → List ℕ → Stop → World → Change → Type 0
-EndsShort port cs old line text stops.TooLong new out = IsTooLong old line new × IsAll text out
-EndsShort port cs old line text stops.Write new out = HasFailed out.old.failed_calls out.new.failed_calls × IsCutShort port cs old line new text out
-EndsShort port cs old line text stops.Memory new out =
+abbrev pub EventEndsShort : ℕ → List (List ℕ) → World → List ℕ → List ℕ → Stop → World → Change → Type 0
+EventEndsShort port cs old line text stops.TooLong new out = PlanBecomesTooLong old line new × IsAll text out
+EventEndsShort port cs old line text stops.Write new out = HasFailed out.old.failed_calls out.new.failed_calls × IsCutShort port cs old line new text out
+EventEndsShort port cs old line text stops.Memory new out =
     IsWantingAt old line text new out ⊎ (IsBrokenShort port cs old line new text out ⊎ (IsTrue out.is_in_memory × IsCutShort port cs old line new text out))
-EndsShort port cs old line text stop new out = ⊥
+EventEndsShort port cs old line text stop new out = ⊥
 
 -- ---- the events
 
 -- what event lines mean, to requests that name this port
-abbrev pub hearing : ℕ → List (List ℕ) → Hearing World
-hearing port cs = record { is_none = λ old line. heard_in old.keeper.forest line ≡ None; is_heard = IsLineHeard port cs; stops = EndsShort port cs }
+abbrev pub hearing_of_events : ℕ → List (List ℕ) → Hearing World
+hearing_of_events port cs = record { is_none = λ old line. heard_in old.keeper.forest line ≡ None; is_heard = EventLineIsHeard port cs; stops = EventEndsShort port cs }
 
 -- the port that requests name, and the credentials that they are made with
 pub record Asked : Type 0 where
@@ -61,18 +61,18 @@ pub record Asked : Type 0 where
   pub credentials : List (List ℕ)
 
 -- how much of the events is heard
-abbrev pub limits : Limits
-limits = record { bytes = Some MOST_EVENTS; reads = MOST_EVENT_READS }
+abbrev pub event_limits : Limits
+event_limits = record { bytes = Some MOST_EVENTS; reads = MOST_EVENT_READS }
 
 -- lines are heard, one after another, and their texts stand one after another
-abbrev pub AreHeard : ℕ → List (List ℕ) → World → List (List ℕ) → World → List ℕ → Type 0
-AreHeard port cs old heard new text = lines.AreHeard World (hearing port cs) old heard new text
+abbrev pub EventLinesAreHeard : ℕ → List (List ℕ) → World → List (List ℕ) → World → List ℕ → Type 0
+EventLinesAreHeard port cs old heard new text = lines.AreHeard World (hearing_of_events port cs) old heard new text
 
 -- how listening ends after the lines of this text, before these pieces
-abbrev pub ListensTo : ℕ → List (List ℕ) → List ℕ → ℕ → World → List (List ℕ) → List ℕ → Result (Unit {0}) Stop → World → Change → Change → Type 0
-ListensTo port cs read number old behind text result new fed out = lines.ListensTo World (hearing port cs) limits read number old behind text result new fed out
+abbrev pub EventListeningEnds : ℕ → List (List ℕ) → List ℕ → ℕ → World → List (List ℕ) → List ℕ → Result (Unit {0}) Stop → World → Change → Change → Type 0
+EventListeningEnds port cs read number old behind text result new fed out = lines.ListensTo World (hearing_of_events port cs) event_limits read number old behind text result new fed out
 
 -- listening to the events: what was read of them, by at most 65,536 reads; the lines of its first 1 MiB that were heard, and
 -- what that came to; and how it ended after them
-abbrev pub Listens : ℕ → List (List ℕ) → World → Result (Unit {0}) Stop → World → Change → Change → Type 0
-Listens port cs old result new fed out = lines.Listens World (hearing port cs) limits old result new fed out
+abbrev pub ListensToEvents : ℕ → List (List ℕ) → World → Result (Unit {0}) Stop → World → Change → Change → Type 0
+ListensToEvents port cs old result new fed out = lines.Listens World (hearing_of_events port cs) event_limits old result new fed out

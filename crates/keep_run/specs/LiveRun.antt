@@ -5,7 +5,7 @@ use Rattle.std.specs.Prelude.{◌≡◌, ℕ, ◌+◌, ◌⊎◌, Bool, List, �
 use Rattle.std.specs.Io.KnownBytes.{Consumes}
 use Rattle.keep_device.specs.Seen.{Change, ReceivesFront}
 use Rattle.keep_core.specs.Replan.{Replan, ReplanTooLong}
-use Rattle.keep_core.specs.State.{State, unplanned}
+use Rattle.keep_core.specs.State.{CoreState, unplanned}
 use Rattle.keep_device.specs.Failures.{HasFailed}
 use Rattle.keep_device.specs.Whole.{MakesAtMost}
 use Rattle.keep_exchange.specs.Exchanges.{Behind}
@@ -13,7 +13,7 @@ use Rattle.keep_inventory.specs.Inventory.{read_served}
 use Rattle.keep_inventory.specs.Served.{Served}
 use Rattle.keep_served.specs.ForGood.{marks}
 use Rattle.keep_start.specs.Start.{from_start}
-use Rattle.keep_lines.specs.Hearing.{IsBetween}
+use Rattle.keep_lines.specs.Hearing.{EndsBetweenLines, TextIsSaid}
 use Rattle.keep_lines.specs.Listening.{IsPrompt}
 use Rattle.keep_report.specs.declared.exit.Exit.{Exit}
 use Rattle.keep_report.specs.declared.exit.Exit.TheVariants as exits
@@ -23,12 +23,12 @@ use Rattle.keep_report.specs.Exits.{exit_of}
 use Rattle.keep_report.specs.FaultLine.{fault_line}
 use Rattle.keep_report.specs.Sent.{IsAll, IsUntouched}
 use Rattle.keep_report.specs.Told.{Reports}
-use Rattle.keep_run.specs.Closed.{World, taken}
+use Rattle.keep_run.specs.Closed.{World, shorts_taken}
 use Rattle.keep_run.specs.declared.live.listening.TheConstants.{MOST_EVENTS, MOST_EVENT_READS}
-use Rattle.keep_run.specs.Listening.{AreHeard, ListensTo}
-use Rattle.keep_run.specs.Looking.{AreLookedUp, IsCut, IsLeft, IsSaid, IsUnlooked, Looked, first, looked_text}
+use Rattle.keep_run.specs.Listening.{EventLinesAreHeard, EventListeningEnds}
+use Rattle.keep_run.specs.Looking.{AreLookedUp, IsUnlooked, Looked, LookingIsCut, LookupsLeave, first_indices, looked_text}
 use Rattle.keep_run.specs.Stops.{both}
-use Rattle.keep_run.specs.Text.{short_lines}
+use Rattle.keep_run.specs.Text.{short_need_lines}
 use Rattle.keep_words.specs.Pieces.{pieces}
 
 -- ---- the opening
@@ -37,14 +37,14 @@ use Rattle.keep_words.specs.Pieces.{pieces}
 -- it can then be kept: the lines of all entries, and of the needs that were shortened
 pub record IsLiveOpening (port start : ℕ) (always : List Bool) (old : Looked) (opening : World) (text : List ℕ) : Type 0 where
   pub looked : Looked
-  pub all : AreLookedUp port start old (first (length old.inventory.forest.entries)) looked
-  pub keeper : State
+  pub all : AreLookedUp port start old (first_indices (length old.inventory.forest.entries)) looked
+  pub keeper : CoreState
   pub planned : Replan (unplanned (from_start looked.inventory always start).forest) start keeper
-  pub is : opening ≡ both (taken keeper) looked.behind
-  pub text_is : text ≡ looked_text looked.inventory (first (length old.inventory.forest.entries)) ++ short_lines looked.inventory.forest keeper.shortened
+  pub is : opening ≡ both (shorts_taken keeper) looked.behind
+  pub text_is : text ≡ looked_text looked.inventory (first_indices (length old.inventory.forest.entries)) ++ short_need_lines looked.inventory.forest keeper.shortened
 
 -- a run that was opened, with these credentials: its lines were written and flushed, and no write failed
-pub record IsOpened (port start : ℕ) (always : List Bool) (old : Looked) (credentials : List (List ℕ)) (keeper : State) (new : Option Behind) (out : Change) : Type 0 where
+pub record RunIsOpened (port start : ℕ) (always : List Bool) (old : Looked) (credentials : List (List ℕ)) (keeper : CoreState) (new : Option Behind) (out : Change) : Type 0 where
   pub same : credentials ≡ old.inventory.credentials
   pub text : List ℕ
   pub opened : IsLiveOpening port start always old (both keeper new) text
@@ -54,9 +54,9 @@ pub record IsOpened (port start : ℕ) (always : List Bool) (old : Looked) (cred
 -- all entries were looked up, and their lines written and flushed; the plan from the start is too long
 pub record IsUnplanned (port start : ℕ) (always : List Bool) (old : Looked) (out : Change) (new : Option Behind) : Type 0 where
   pub looked : Looked
-  pub all : AreLookedUp port start old (first (length old.inventory.forest.entries)) looked
+  pub all : AreLookedUp port start old (first_indices (length old.inventory.forest.entries)) looked
   pub long : ReplanTooLong (from_start looked.inventory always start).forest start
-  pub said : IsSaid (looked_text looked.inventory (first (length old.inventory.forest.entries))) out
+  pub said : TextIsSaid (looked_text looked.inventory (first_indices (length old.inventory.forest.entries))) out
   pub left : new ≡ looked.behind
 
 -- no more than a front of the lines of the opening was written
@@ -70,9 +70,9 @@ EndsEarly port start always old (stops.Broker name) out new = IsUnlooked port st
 EndsEarly port start always old stops.TooLong out new = IsUnplanned port start always old out new
 EndsEarly port start always old stops.Write out new =
     HasFailed out.old.failed_calls out.new.failed_calls
-    × (((n : ℕ) × (now : Looked) × IsCut port start old now n out × (new ≡ now.behind)) ⊎ WritesOpening port start always old out new)
+    × (((n : ℕ) × (now : Looked) × LookingIsCut port start old now n out × (new ≡ now.behind)) ⊎ WritesOpening port start always old out new)
 EndsEarly port start always old stops.Memory out new =
-    ((n : ℕ) × (now : Looked) × IsCut port start old now n out × IsLeft port start now n new) ⊎ WritesOpening port start always old out new
+    ((n : ℕ) × (now : Looked) × LookingIsCut port start old now n out × LookupsLeave port start now n new) ⊎ WritesOpening port start always old out new
 EndsEarly port start always old stop out new = ⊥
 
 -- ---- the run
@@ -83,12 +83,12 @@ pub record IsLiveRun (port start : ℕ) (always : List Bool) (old : Looked) (lin
   pub before : List ℕ
   pub opened : IsLiveOpening port start always old opening before
   pub spoken : List ℕ
-  pub heard : AreHeard port old.inventory.credentials opening lines final spoken
+  pub heard : EventLinesAreHeard port old.inventory.credentials opening lines final spoken
   pub text_is : text ≡ before ++ spoken
 
 -- a run that listened: what was read of the events, by at most 65,536 reads; the lines of its first 1 MiB that were heard, with the
 -- text of the run so far; and how it ended after them
-pub record HasListened (port start : ℕ) (always : List Bool) (old : Looked) (result : Result (Unit {0}) Stop) (new : World) (fed : Change) (out : Change) : Type 0 where
+pub record RunHasListened (port start : ℕ) (always : List Bool) (old : Looked) (result : Result (Unit {0}) Stop) (new : World) (fed : Change) (out : Change) : Type 0 where
   pub read : List ℕ
   pub consumed : Consumes fed.old.input.remaining fed.new.input.remaining read
   pub reads : MakesAtMost MOST_EVENT_READS fed.old.input fed.new.input
@@ -99,16 +99,16 @@ pub record HasListened (port start : ℕ) (always : List Bool) (old : Looked) (r
   pub mid : World
   pub text : List ℕ
   pub run : IsLiveRun port start always old lines mid text
-  pub ends : ListensTo port old.inventory.credentials read (length lines + 1) mid behind text result new fed out
-  pub flushed : IsBetween result → IsTrue out.new.output.is_flushed
+  pub ends : EventListeningEnds port old.inventory.credentials read (length lines + 1) mid behind text result new fed out
+  pub flushed : EndsBetweenLines result → IsTrue out.new.output.is_flushed
 
 -- ---- how it ends
 
 -- how the run of an inventory ends: before it listens, or after some lines
 abbrev pub RunsTo : ℕ → ℕ → List Bool → Looked → Result (Unit {0}) Stop → Change → Change → Option Behind → Type 0
-RunsTo port start always old (Ok u) fed out new = (final : World) × HasListened port start always old (Ok u) final fed out × (new ≡ final.behind)
+RunsTo port start always old (Ok u) fed out new = (final : World) × RunHasListened port start always old (Ok u) final fed out × (new ≡ final.behind)
 RunsTo port start always old (Err stop) fed out new =
-    (EndsEarly port start always old stop out new × IsUntouched fed) ⊎ ((final : World) × HasListened port start always old (Err stop) final fed out × (new ≡ final.behind))
+    (EndsEarly port start always old stop out new × IsUntouched fed) ⊎ ((final : World) × RunHasListened port start always old (Err stop) final fed out × (new ≡ final.behind))
 
 -- how the run over the bytes of an inventory ends
 abbrev pub LivesTo : ℕ → List ℕ → ℕ → Option Behind → Result (Unit {0}) Stop → Change → Change → Option Behind → Type 0

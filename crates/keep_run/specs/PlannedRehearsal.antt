@@ -17,7 +17,7 @@ use Rattle.keep_report.specs.declared.exit.Exit.{Exit}
 use Rattle.keep_report.specs.declared.exit.Exit.TheVariants as exits
 use Rattle.keep_report.specs.Sent.{IsAll}
 use Rattle.keep_run.specs.declared.rehearse.playing.TheConstants.{MOST_WAKES}
-use Rattle.keep_run.specs.Closed.{Course, IsClosedRun, World, rounds}
+use Rattle.keep_run.specs.Closed.{IsClosedRun, RunCourse, World, rounds}
 use Rattle.keep_run.specs.Laws.{IsQuiet}
 use Rattle.keep_run.specs.Rehearse.{RehearseRun}
 use Rattle.keep_run.specs.Text.{beat_text, done_text}
@@ -25,7 +25,7 @@ use Rattle.keep_run.specs.Text.{beat_text, done_text}
 -- the closed run has its rounds at the plan's moments, all who are asked are told the renewal rule's ends, and its lines end in
 -- the plan's number of wake-ups and the sum of the lengths of its Asks
 pub record IsPlannedRun (inventory : Inventory) (start : ℕ) (p : Planned) (out : Change) (new : Behind) : Type 0 where
-  pub course : Course
+  pub course : RunCourse
   pub final : World
   pub run : IsClosedRun inventory [] start course final
   pub moments : map (λ b. b.at) (rounds course.beats) ≡ moments_of (to_come p)

@@ -7,7 +7,7 @@ use Rattle.keep_inventory.specs.declared.fault.InvFault.{InvFault}
 use Rattle.keep_inventory.specs.Inventories.{Inventory}
 use Rattle.broker_table.specs.declared.fault.NumberedFault.{NumberedFault}
 use Rattle.keep_exchange.specs.Exchanges.{Behind}
-use Rattle.broker_table.specs.Rows.{rows_of}
+use Rattle.broker_table.specs.Rows.{broker_rows}
 use Rattle.keep_core.specs.Replan.{ReplanTooLong}
 use Rattle.keep_report.specs.declared.exit.Exit.{Exit}
 use Rattle.keep_report.specs.declared.exit.Exit.TheVariants as exits
@@ -16,9 +16,9 @@ use Rattle.keep_report.specs.declared.stop.Stop.TheVariants as stops
 use Rattle.keep_report.specs.FaultLine.{fault_line}
 use Rattle.keep_report.specs.Sent.{IsAll, IsUntouched}
 use Rattle.keep_report.specs.Told.{Reports, Told}
-use Rattle.keep_run.specs.Closed.{Course, IsClosedRun, World}
+use Rattle.keep_run.specs.Closed.{IsClosedRun, RunCourse, World}
 use Rattle.keep_run.specs.FaultWords.{faults_of}
-use Rattle.keep_run.specs.Stops.{IsStopped, SoFar}
+use Rattle.keep_run.specs.Stops.{RunIsStopped, SoFar}
 use Rattle.keep_run.specs.Text.{course_text, done_text}
 
 -- the inventory and the FAULT words are read
@@ -42,20 +42,20 @@ WritesFront answer start words out =
     (inventory : Inventory) × (faults : List NumberedFault) × IsCalled answer words inventory faults × (text : List ℕ) × IsRunText inventory faults start text × ReceivesFront text out
 
 -- the inventory's table with these faults, and nothing carried yet
-abbrev pub fresh : Inventory → List NumberedFault → Behind
-fresh inventory faults = record { table = record { rows = rows_of inventory; faults = faults; count = 0 }; wire = [] }
+abbrev pub fresh_broker : Inventory → List NumberedFault → Behind
+fresh_broker inventory faults = record { table = record { rows = broker_rows inventory; faults = faults; count = 0 }; wire = [] }
 
 -- the plan of the opening is too long, and nothing was written; or the lines of 100,000 wake-ups were, and another is due
 abbrev pub RunsLong : Inventory → List NumberedFault → ℕ → Change → Behind → Type 0
 RunsLong inventory faults start out behind =
-    (ReplanTooLong inventory.forest start × IsUntouched out × (behind ≡ fresh inventory faults))
-    ⊎ ((final : World) × (text : List ℕ) × IsStopped inventory faults start final text × IsAll text out × (final.behind ≡ Some behind))
+    (ReplanTooLong inventory.forest start × IsUntouched out × (behind ≡ fresh_broker inventory faults))
+    ⊎ ((final : World) × (text : List ℕ) × RunIsStopped inventory faults start final text × IsAll text out × (final.behind ≡ Some behind))
 
 -- `rehearse` by what is read of the bytes of an inventory, a start and FAULT words, by exit
 abbrev pub RehearseRun : Result Inventory InvFault → ℕ → List (List ℕ) → Exit → Change → Behind → Behind → Type 0
 RehearseRun answer start words exits.Done out old new =
     (inventory : Inventory) × (faults : List NumberedFault) × IsCalled answer words inventory faults
-    × (course : Course) × (final : World) × IsClosedRun inventory faults start course final × IsAll (course_text inventory course) out × (final.behind ≡ Some new)
+    × (course : RunCourse) × (final : World) × IsClosedRun inventory faults start course final × IsAll (course_text inventory course) out × (final.behind ≡ Some new)
 RehearseRun answer start words exits.Inventory out old new = (fault : InvFault) × (answer ≡ Err fault) × IsUntouched out × (new ≡ old)
 RehearseRun answer start words exits.CommandLine out old new =
     (inventory : Inventory) × (answer ≡ Ok inventory) × (position : ℕ) × (faults_of words ≡ Err position) × IsUntouched out × (new ≡ old)
@@ -70,11 +70,11 @@ RehearseTold answer words exits.CommandLine errors = (position : ℕ) × (faults
 RehearseTold answer words exit errors = Told (codes "leasekeep") answer exit errors
 
 -- the same without its fault line, by what stops it
-abbrev pub Rehearses : Result Inventory InvFault → ℕ → List (List ℕ) → Result (Unit {0}) Stop → Change → Behind → Behind → Type 0
-Rehearses answer start words (Ok u) out old new = RehearseRun answer start words exits.Done out old new
-Rehearses answer start words (Err (stops.Inventory fault)) out old new = (answer ≡ Err fault) × IsUntouched out × (new ≡ old)
-Rehearses answer start words (Err (stops.FaultWord position)) out old new = (inventory : Inventory) × (answer ≡ Ok inventory) × (faults_of words ≡ Err position) × IsUntouched out × (new ≡ old)
-Rehearses answer start words (Err stops.TooLong) out old new = RehearseRun answer start words exits.TooLong out old new
-Rehearses answer start words (Err stops.Write) out old new = RehearseRun answer start words exits.Device out old new
-Rehearses answer start words (Err stops.Memory) out old new = RehearseRun answer start words exits.Memory out old new
-Rehearses answer start words (Err stop) out old new = ⊥
+abbrev pub RehearsesTo : Result Inventory InvFault → ℕ → List (List ℕ) → Result (Unit {0}) Stop → Change → Behind → Behind → Type 0
+RehearsesTo answer start words (Ok u) out old new = RehearseRun answer start words exits.Done out old new
+RehearsesTo answer start words (Err (stops.Inventory fault)) out old new = (answer ≡ Err fault) × IsUntouched out × (new ≡ old)
+RehearsesTo answer start words (Err (stops.FaultWord position)) out old new = (inventory : Inventory) × (answer ≡ Ok inventory) × (faults_of words ≡ Err position) × IsUntouched out × (new ≡ old)
+RehearsesTo answer start words (Err stops.TooLong) out old new = RehearseRun answer start words exits.TooLong out old new
+RehearsesTo answer start words (Err stops.Write) out old new = RehearseRun answer start words exits.Device out old new
+RehearsesTo answer start words (Err stops.Memory) out old new = RehearseRun answer start words exits.Memory out old new
+RehearsesTo answer start words (Err stop) out old new = ⊥

@@ -5,15 +5,15 @@ use Rattle.keep_tree.specs.Forest.{Forest}
 use Rattle.keep_inventory.specs.Inventories.{Inventory, IsInventory}
 use Rattle.keep_inventory.specs.declared.terms.Terms.{Terms}
 use Rattle.keep_exchange.specs.Exchanges.{Behind}
-use Rattle.keep_exchange.specs.Lookups.{IsLookedUp}
-use Rattle.keep_alike.specs.Alike.{AreBrokersAlike, AreDated, AreTablesAlike, IsKept}
+use Rattle.keep_exchange.specs.Lookups.{EntryIsLookedUp}
+use Rattle.keep_alike.specs.Alike.{AreBrokersAlike, AreDated, AreTablesAlike, KeepsSupplied}
 use Rattle.keep_run.specs.Closed.{World}
-use Rattle.keep_run.specs.Listening.{AreHeard}
+use Rattle.keep_run.specs.Listening.{EventLinesAreHeard}
 use Rattle.keep_run.specs.LiveRun.{IsLiveOpening, IsLiveRun}
 use Rattle.keep_run.specs.Looking.{AreLookedUp, Looked}
 
 -- two sides with one keeper, over brokers that differ in credentials alone
-pub record AreSidesAlike (g : Forest) (cs ds : List (List ℕ)) (old other : World) : Type 0 where
+pub record AreWorldsAlike (g : Forest) (cs ds : List (List ℕ)) (old other : World) : Type 0 where
   pub keeper : other.keeper ≡ old.keeper
   pub brokers : AreBrokersAlike g cs ds old.behind other.behind
 
@@ -23,8 +23,8 @@ pub record AreSidesAlike (g : Forest) (cs ds : List (List ℕ)) (old other : Wor
 abbrev pub AlikeAnswersLaw : Type 0
 AlikeAnswersLaw =
     (g : Forest) (cs ds : List (List ℕ)) (ts : List Terms) → IsInventory (record { forest = g; credentials = cs; terms = ts }) → IsInventory (record { forest = g; credentials = ds; terms = ts }) →
-    (port other_port : ℕ) (old other new last : World) (lines : List (List ℕ)) (text more : List ℕ) → IsKept g old.keeper.forest → AreSidesAlike g cs ds old other →
-    AreHeard port cs old lines new text → AreHeard other_port ds other lines last more → (more ≡ text) × AreSidesAlike g cs ds new last
+    (port other_port : ℕ) (old other new last : World) (lines : List (List ℕ)) (text more : List ℕ) → KeepsSupplied g old.keeper.forest → AreWorldsAlike g cs ds old other →
+    EventLinesAreHeard port cs old lines new text → EventLinesAreHeard other_port ds other lines last more → (more ≡ text) × AreWorldsAlike g cs ds new last
 
 -- ---- the lookups before
 
@@ -32,7 +32,7 @@ AlikeAnswersLaw =
 pub record AreLookedAlike (g : Forest) (cs ds : List (List ℕ)) (old other : Looked) : Type 0 where
   pub credentials : old.inventory.credentials ≡ cs
   pub inventory : other.inventory ≡ record old.inventory { credentials = ds }
-  pub kept : IsKept g old.inventory.forest
+  pub kept : KeepsSupplied g old.inventory.forest
   pub brokers : AreBrokersAlike g cs ds old.behind other.behind
   pub dated : AreDated brokers.behind.table
 
@@ -43,7 +43,7 @@ AlikeLookupsLaw =
     (port other_port t : ℕ) (old other new last : Looked) (is : List ℕ) → All (λ i. i < length g.entries) is → AreLookedAlike g cs ds old other → AreLookedUp port t old is new → AreLookedUp other_port t other is last →
     AreLookedAlike g cs ds new last
     × ((i : ℕ) (x y : Bool) (after behind : Inventory) (left gone : Option Behind) → i < length g.entries →
-    IsLookedUp port new.behind t new.inventory i x after left → IsLookedUp other_port last.behind t last.inventory i y behind gone → y ≡ x)
+    EntryIsLookedUp port new.behind t new.inventory i x after left → EntryIsLookedUp other_port last.behind t last.inventory i y behind gone → y ≡ x)
 
 -- so two runs of such inventories, over such brokers, that are opened are opened by one text, with one keeper, and leave brokers that
 -- differ in credentials alone
@@ -53,7 +53,7 @@ AlikeOpeningsLaw =
     (port other_port start : ℕ) (always : List Bool) (b c : Behind) (opening last : World) (text more : List ℕ) → AreTablesAlike g cs ds b.table c.table → AreDated b.table →
     IsLiveOpening port start always (record { inventory = record { forest = g; credentials = cs; terms = ts }; behind = Some b }) opening text →
     IsLiveOpening other_port start always (record { inventory = record { forest = g; credentials = ds; terms = ts }; behind = Some c }) last more →
-    (more ≡ text) × AreSidesAlike g cs ds opening last
+    (more ≡ text) × AreWorldsAlike g cs ds opening last
 
 -- and the same event lines are answered by the same lines: one text for the whole run
 abbrev pub AlikeWholeLaw : Type 0
@@ -62,11 +62,11 @@ AlikeWholeLaw =
     (port other_port start : ℕ) (always : List Bool) (b c : Behind) (lines : List (List ℕ)) (final last : World) (text more : List ℕ) → AreTablesAlike g cs ds b.table c.table → AreDated b.table →
     IsLiveRun port start always (record { inventory = record { forest = g; credentials = cs; terms = ts }; behind = Some b }) lines final text →
     IsLiveRun other_port start always (record { inventory = record { forest = g; credentials = ds; terms = ts }; behind = Some c }) lines last more →
-    (more ≡ text) × AreSidesAlike g cs ds final last
+    (more ≡ text) × AreWorldsAlike g cs ds final last
 
 -- this text is how that one begins
-abbrev pub Begins : List ℕ → List ℕ → Type 0
-Begins text longer = (rest : List ℕ) × (longer ≡ text ++ rest)
+abbrev pub IsBeginningOf : List ℕ → List ℕ → Type 0
+IsBeginningOf text longer = (rest : List ℕ) × (longer ≡ text ++ rest)
 
 -- where one of them has heard the lines of the other and later ones, as where the other was cut short, its text begins with the
 -- other's
@@ -75,9 +75,9 @@ AlikeSoFarLaw =
     (g : Forest) (cs ds : List (List ℕ)) (ts : List Terms) → IsInventory (record { forest = g; credentials = cs; terms = ts }) → IsInventory (record { forest = g; credentials = ds; terms = ts }) →
     (port other_port start : ℕ) (always : List Bool) (b c : Behind) (lines later : List (List ℕ)) (final last : World) (text more : List ℕ) → AreTablesAlike g cs ds b.table c.table → AreDated b.table →
     (IsLiveRun port start always (record { inventory = record { forest = g; credentials = cs; terms = ts }; behind = Some b }) lines final text →
-    IsLiveRun other_port start always (record { inventory = record { forest = g; credentials = ds; terms = ts }; behind = Some c }) (lines ++ later) last more → Begins text more)
+    IsLiveRun other_port start always (record { inventory = record { forest = g; credentials = ds; terms = ts }; behind = Some c }) (lines ++ later) last more → IsBeginningOf text more)
     × (IsLiveRun port start always (record { inventory = record { forest = g; credentials = cs; terms = ts }; behind = Some b }) (lines ++ later) final text →
-    IsLiveRun other_port start always (record { inventory = record { forest = g; credentials = ds; terms = ts }; behind = Some c }) lines last more → Begins more text)
+    IsLiveRun other_port start always (record { inventory = record { forest = g; credentials = ds; terms = ts }; behind = Some c }) lines last more → IsBeginningOf more text)
 
 -- so two runs are told alike, as far as both go
 abbrev pub AlikeRunsLaw : Type 0

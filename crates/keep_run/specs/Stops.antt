@@ -13,13 +13,13 @@ use Rattle.keep_core.specs.declared.fault.StepFault.{StepFault}
 use Rattle.keep_core.specs.declared.event.Output.TheVariants as out
 use Rattle.keep_core.specs.declared.fault.StepFault.TheVariants.{OutOfMemory}
 use Rattle.keep_core.specs.declared.shortened.ShortNeed.{ShortNeed}
-use Rattle.keep_core.specs.History.{Turn}
+use Rattle.keep_core.specs.History.{CoreTurn}
 use Rattle.keep_core.specs.Refusal.{TellsSpan}
-use Rattle.keep_core.specs.State.{State}
+use Rattle.keep_core.specs.State.{CoreState}
 use Rattle.keep_run.specs.declared.rehearse.playing.TheConstants.{MOST_WAKES}
 use Rattle.keep_run.specs.Replies.{IsAnswerOf}
-use Rattle.keep_run.specs.Closed.{AreAnswered, Beat, Course, Exchanged, IsAnswered, IsBeat, IsClosedRun, IsOpening, Played, World, closing, next_tick, requests_of, rounds, taken, told_next}
-use Rattle.keep_run.specs.Text.{beat_text, course_text, done_text, short_lines}
+use Rattle.keep_run.specs.Closed.{AreAnswered, Beat, Exchanged, IsBeat, IsClosedRun, IsRunOpening, Played, RequestIsAnswered, RunCourse, World, closing, next_tick, request_count, rounds, shorts_taken, told_next}
+use Rattle.keep_run.specs.Text.{beat_text, course_text, done_text, short_need_lines}
 
 -- ---- what the loops keep
 
@@ -27,32 +27,32 @@ use Rattle.keep_run.specs.Text.{beat_text, course_text, done_text, short_lines}
 pub record SoFar (inventory : Inventory) (faults : List NumberedFault) (start : ℕ) (final : World) (next : Option ℕ) (wakes asked : ℕ) (text : List ℕ) : Type 0 where
   pub short : List ShortNeed
   pub opening : World
-  pub opened : IsOpening inventory faults start short opening
+  pub opened : IsRunOpening inventory faults start short opening
   pub beats : List Beat
   pub played : Played 8200 inventory.credentials opening (Some start) beats final next
   pub wakes_are : wakes ≡ length (rounds beats)
-  pub asked_are : asked ≡ requests_of beats
-  pub text_is : text ≡ short_lines inventory.forest short ++ flat_map (beat_text inventory) beats
+  pub asked_are : asked ≡ request_count beats
+  pub text_is : text ≡ short_need_lines inventory.forest short ++ flat_map (beat_text inventory) beats
 
 -- ---- runs without an end: exit 5
 
 -- a wake-up is due: after ticks that ask nobody, the first of them, if any, at t, there is one that asks
-pub record IsDue (cs : List (List ℕ)) (old : World) (t : ℕ) : Type 0 where
+pub record WakeUpIsDue (cs : List (List ℕ)) (old : World) (t : ℕ) : Type 0 where
   pub beats : List Beat
   pub mid : World
   pub at : ℕ
   pub played : Played 8200 cs old (Some t) beats mid (Some at)
   pub none_asked : rounds beats ≡ []
   pub asked : List ℕ
-  pub keeper : State
-  pub turn : Turn mid.keeper (Tick at) (Ok (out.Ask asked)) keeper
+  pub keeper : CoreState
+  pub turn : CoreTurn mid.keeper (Tick at) (Ok (out.Ask asked)) keeper
 
 -- a run that has made 100,000 wake-ups, of which another is due, and its text
-pub record IsStopped (inventory : Inventory) (faults : List NumberedFault) (start : ℕ) (final : World) (text : List ℕ) : Type 0 where
+pub record RunIsStopped (inventory : Inventory) (faults : List NumberedFault) (start : ℕ) (final : World) (text : List ℕ) : Type 0 where
   pub due : ℕ
   pub asked : ℕ
   pub so_far : SoFar inventory faults start final (Some due) MOST_WAKES asked text
-  pub more : IsDue inventory.credentials final due
+  pub more : WakeUpIsDue inventory.credentials final due
 
 -- ---- laws of the loops
 
@@ -65,38 +65,38 @@ TickMoreLaw =
 -- an answer more
 abbrev pub AnswerMoreLaw : Type 0
 AnswerMoreLaw =
-    (port : ℕ) (cs : List (List ℕ)) (t : ℕ) (old mid new : World) (xs : List Exchanged) (x : Exchanged) → AreAnswered port cs t old xs mid → IsAnswered port cs t mid x new →
+    (port : ℕ) (cs : List (List ℕ)) (t : ℕ) (old mid new : World) (xs : List Exchanged) (x : Exchanged) → AreAnswered port cs t old xs mid → RequestIsAnswered port cs t mid x new →
     AreAnswered port cs t old (xs ++ x ∷ []) new × ((next : Option ℕ) → closing next (xs ++ x ∷ []) ≡ told_next (closing next xs) x.output)
 
 -- the outer loop at its end: the closed run, and its whole text
 abbrev pub EndLaw : Type 0
 EndLaw =
     (inventory : Inventory) (faults : List NumberedFault) (start : ℕ) (final : World) (wakes asked : ℕ) (text : List ℕ) → SoFar inventory faults start final None wakes asked text → wakes ≤ MOST_WAKES →
-    (course : Course) × (IsClosedRun inventory faults start course final × (text ++ done_text wakes asked ≡ course_text inventory course))
+    (course : RunCourse) × (IsClosedRun inventory faults start course final × (text ++ done_text wakes asked ≡ course_text inventory course))
 
 -- ---- no refusals
 
 -- a step that is refused at most for lack of memory
-abbrev pub IsTaken : Result Output StepFault → Type 0
-IsTaken (Ok output) = Unit {0}
-IsTaken (Err OutOfMemory) = Unit {0}
-IsTaken (Err fault) = ⊥
+abbrev pub StepIsTaken : Result Output StepFault → Type 0
+StepIsTaken (Ok output) = Unit {0}
+StepIsTaken (Err OutOfMemory) = Unit {0}
+StepIsTaken (Err fault) = ⊥
 
 -- whatever the broker does, the keeper refuses neither the next tick nor the next answer of a round, but for lack of memory
 abbrev pub NeverRefusedLaw : Type 0
 NeverRefusedLaw =
-    (inventory : Inventory) (faults : List NumberedFault) (start port : ℕ) (short : List ShortNeed) (opening final : World) (beats : List Beat) (t : ℕ) → start ≤ LAST → IsOpening inventory faults start short opening →
+    (inventory : Inventory) (faults : List NumberedFault) (start port : ℕ) (short : List ShortNeed) (opening final : World) (beats : List Beat) (t : ℕ) → start ≤ LAST → IsRunOpening inventory faults start short opening →
     Played port inventory.credentials opening (Some start) beats final (Some t) →
-    ((result : Result Output StepFault) (new : State) → Turn final.keeper (Tick t) result new → IsTaken result)
-    × ((asked : List ℕ) (keeper : State) → Turn final.keeper (Tick t) (Ok (out.Ask asked)) keeper →
+    ((result : Result Output StepFault) (new : CoreState) → CoreTurn final.keeper (Tick t) result new → StepIsTaken result)
+    × ((asked : List ℕ) (keeper : CoreState) → CoreTurn final.keeper (Tick t) (Ok (out.Ask asked)) keeper →
     (xs : List Exchanged) (now : World) (i : ℕ) (others : List ℕ) → map (λ (x : Exchanged). x.entry) xs ++ (i ∷ others) ≡ asked →
-    AreAnswered port inventory.credentials t (record { keeper = taken keeper; behind = final.behind }) xs now →
-    (event : Event) (result : Result Output StepFault) (new : State) → IsAnswerOf i event → TellsSpan event → Turn now.keeper event result new → IsTaken result)
+    AreAnswered port inventory.credentials t (record { keeper = shorts_taken keeper; behind = final.behind }) xs now →
+    (event : Event) (result : Result Output StepFault) (new : CoreState) → IsAnswerOf i event → TellsSpan event → CoreTurn now.keeper event result new → StepIsTaken result)
 
 -- ---- the code of one answer
 
 -- a keeper, and what stands after the exchange that it asks over, where that is known
-abbrev pub both : State → Option Behind → World
+abbrev pub both : CoreState → Option Behind → World
 both keeper behind = record { keeper = keeper; behind = behind }
 
 -- a run is cut anywhere

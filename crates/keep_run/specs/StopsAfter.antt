@@ -5,17 +5,17 @@ use Rattle.std.proofs.lemmas.List.{append_assoc}
 use Rattle.std.specs.Io.KnownBytes.{Appends}
 use Rattle.keep_device.specs.Seen.{Change, Seen}
 use Rattle.keep_device.specs.Failures.{HasFailed}
-use Rattle.keep_lines.specs.Hearing.{StopsAfter, joined}
+use Rattle.keep_lines.specs.Hearing.{StopsAfter, joined_changes}
 use Rattle.keep_lines.proofs.LineByLine.{appends_then, said_appends}
 use Rattle.keep_report.specs.declared.stop.Stop.TheVariants as stops
-use Rattle.keep_run.specs.Listening.{IsCutShort, hearing}
-use Rattle.keep_run.specs.Hearing.{IsBrokenOff, IsCutOff}
+use Rattle.keep_run.specs.Listening.{IsCutShort, hearing_of_events}
+use Rattle.keep_run.specs.Hearing.{EventIsCutOff, IsBrokenOff}
 use Rattle.keep_lines.specs.declared.event_line.Heard.{Heard}
 use Rattle.keep_run.specs.Closed.{World}
 
 module _ (a b : Change) (same : a.new ≡ b.old) where
   module _ (port : ℕ) (cs : List (List ℕ)) (old new : World) (t u : List ℕ) (first : Appends a.old.output.written a.new.output.written t) where
-    cut_then : (heard : Heard) → IsCutOff port cs old heard new u b → IsCutOff port cs old heard new (t ++ u) (joined a b)
+    cut_then : (heard : Heard) → EventIsCutOff port cs old heard new u b → EventIsCutOff port cs old heard new (t ++ u) (joined_changes a b)
     cut_then heard second =
         let rest = second.told ++ take second.n second.own in
         record {
@@ -26,7 +26,7 @@ module _ (a b : Change) (same : a.new ≡ b.old) where
           front = subst (Appends a.old.output.written b.new.output.written) (sym (append_assoc t u rest)) (appends_then a b same t (u ++ rest) first second.front);
         }
 
-    broken_then : (heard : Heard) → IsBrokenOff port cs old heard new u b → IsBrokenOff port cs old heard new (t ++ u) (joined a b)
+    broken_then : (heard : Heard) → IsBrokenOff port cs old heard new u b → IsBrokenOff port cs old heard new (t ++ u) (joined_changes a b)
     broken_then heard second = record {
       t = second.t;
       is = second.is;
@@ -38,16 +38,16 @@ module _ (a b : Change) (same : a.new ≡ b.old) where
       left = second.left;
     }
 
-    short_then : (line : List ℕ) → IsCutShort port cs old line new u b → IsCutShort port cs old line new (t ++ u) (joined a b)
+    short_then : (line : List ℕ) → IsCutShort port cs old line new u b → IsCutShort port cs old line new (t ++ u) (joined_changes a b)
     short_then line second = (second.0, (second.1.0, cut_then second.0 second.1.1))
 
-pub stops_after : (port : ℕ) (cs : List (List ℕ)) → StopsAfter World (hearing port cs)
-stops_after port cs a b old line t u stops.TooLong new same first h = (h.0, (appends_then a b same t u (said_appends t a first.0) h.1.0, h.1.1))
-stops_after port cs a b old line t u stops.Write new same first h = (
+pub events_stop_after : (port : ℕ) (cs : List (List ℕ)) → StopsAfter World (hearing_of_events port cs)
+events_stop_after port cs a b old line t u stops.TooLong new same first h = (h.0, (appends_then a b same t u (said_appends t a first.0) h.1.0, h.1.1))
+events_stop_after port cs a b old line t u stops.Write new same first h = (
   subst (λ n. HasFailed n b.new.failed_calls) (sym (ap (λ (s : Seen). s.failed_calls) same) ∙ first.1) h.0,
   short_then a b same port cs old new t u (said_appends t a first.0) line h.1,
 )
-stops_after port cs a b old line t u stops.Memory new same first h =
+events_stop_after port cs a b old line t u stops.Memory new same first h =
     let before = said_appends t a first.0 in
     elim h [
       | inl none ↦ inl (none.0, (none.1.0, (none.1.1.0, appends_then a b same t u before none.1.1.1)))
@@ -59,9 +59,9 @@ stops_after port cs a b old line t u stops.Memory new same first h =
           ]
           )
     ]
-stops_after port cs a b old line t u (stops.Inventory fault) new same first h = absurd h
-stops_after port cs a b old line t u (stops.Moments fault) new same first h = absurd h
-stops_after port cs a b old line t u (stops.FaultWord n) new same first h = absurd h
-stops_after port cs a b old line t u stops.Read new same first h = absurd h
-stops_after port cs a b old line t u (stops.Broker name) new same first h = absurd h
-stops_after port cs a b old line t u (stops.Line n) new same first h = absurd h
+events_stop_after port cs a b old line t u (stops.Inventory fault) new same first h = absurd h
+events_stop_after port cs a b old line t u (stops.Moments fault) new same first h = absurd h
+events_stop_after port cs a b old line t u (stops.FaultWord n) new same first h = absurd h
+events_stop_after port cs a b old line t u stops.Read new same first h = absurd h
+events_stop_after port cs a b old line t u (stops.Broker name) new same first h = absurd h
+events_stop_after port cs a b old line t u (stops.Line n) new same first h = absurd h

@@ -11,18 +11,18 @@ use Rattle.keep_core.specs.declared.event.Event.TheVariants.{Tick, Told, Refused
 use Rattle.keep_core.specs.declared.event.Output.{Output}
 use Rattle.keep_core.specs.declared.event.Output.TheVariants as out
 use Rattle.keep_core.specs.declared.shortened.ShortNeed.{ShortNeed}
-use Rattle.keep_run.specs.Closed.{Beat, Course, Exchanged, event_in, requests_of, rounds}
+use Rattle.keep_run.specs.Closed.{Beat, Exchanged, RunCourse, event_in, request_count, rounds}
 
 -- an inventory of these credentials and this forest
 abbrev pub inventory_with : List (List ℕ) → Forest → Inventory
 inventory_with cs g = record { forest = g; credentials = cs; terms = [] }
 
 -- each need that was shortened
-abbrev pub short_line : Forest → ShortNeed → List ℕ
-short_line g p = line (codes "short" ∷ name_of g p.entry ∷ decimal p.need ∷ [])
+abbrev pub short_need_line : Forest → ShortNeed → List ℕ
+short_need_line g p = line (codes "short" ∷ name_of g p.entry ∷ decimal p.need ∷ [])
 
-unfoldable pub short_lines : Forest → List ShortNeed → List ℕ
-short_lines g ps = flat_map (short_line g) ps
+unfoldable pub short_need_lines : Forest → List ShortNeed → List ℕ
+short_need_lines g ps = flat_map (short_need_line g) ps
 
 abbrev pub status_in : Option Reply → ℕ
 status_in None = 0
@@ -37,20 +37,20 @@ answer_line g (Tick t) reply = []
 answer_line g (Need i until) reply = []
 
 unfoldable pub answer_text : Inventory → Exchanged → List ℕ
-answer_text s x = answer_line s.forest (event_in s.credentials s.forest x) x.reply ++ short_lines s.forest x.short
+answer_text s x = answer_line s.forest (event_in s.credentials s.forest x) x.reply ++ short_need_lines s.forest x.short
 
 -- a round opens
-abbrev pub wake_line : Forest → ℕ → Output → List ℕ
-wake_line g at (out.Ask asked) = line (codes "wake" ∷ decimal at ∷ names_of g asked)
-wake_line g at output = []
+abbrev pub wake_line_of_output : Forest → ℕ → Output → List ℕ
+wake_line_of_output g at (out.Ask asked) = line (codes "wake" ∷ decimal at ∷ names_of g asked)
+wake_line_of_output g at output = []
 
 unfoldable pub beat_text : Inventory → Beat → List ℕ
-beat_text s b = short_lines s.forest b.short ++ (wake_line s.forest b.at b.output ++ flat_map (answer_text s) b.answers)
+beat_text s b = short_need_lines s.forest b.short ++ (wake_line_of_output s.forest b.at b.output ++ flat_map (answer_text s) b.answers)
 
 -- how many wake-ups and how many requests
 unfoldable pub done_text : ℕ → ℕ → List ℕ
 done_text wakes asked = line (codes "done" ∷ decimal wakes ∷ decimal asked ∷ [])
 
 -- the text of a run that has come to its end
-unfoldable pub course_text : Inventory → Course → List ℕ
-course_text s c = short_lines s.forest c.short ++ (flat_map (beat_text s) c.beats ++ done_text (length (rounds c.beats)) (requests_of c.beats))
+unfoldable pub course_text : Inventory → RunCourse → List ℕ
+course_text s c = short_need_lines s.forest c.short ++ (flat_map (beat_text s) c.beats ++ done_text (length (rounds c.beats)) (request_count c.beats))

@@ -1,10 +1,10 @@
 //! The keeper of a run, and what its requests are made of.
 ghost use Rattle.std.specs.Prelude.{◌≡◌, ◌<◌, IfSome, length};
-ghost use Rattle.keep_core.specs.History.{Turn};
-ghost use Rattle.keep_exchange.specs.Requests.{Asks, request_of};
+ghost use Rattle.keep_core.specs.History.{CoreTurn};
+ghost use Rattle.keep_exchange.specs.Requests.{ExchangeAsks, renewal_request};
 ghost use Rattle.keep_inventory.specs.Inventories.{credential_at};
-ghost use Rattle.keep_run.specs.Agent.{IsFit};
-ghost use Rattle.keep_run.specs.Closed.{taken};
+ghost use Rattle.keep_run.specs.Agent.{AgentIsFit};
+ghost use Rattle.keep_run.specs.Closed.{shorts_taken};
 
 pub(crate) mod answering;
 pub(crate) mod lines;
@@ -29,13 +29,13 @@ pub struct Agent {
 }
 
 impl Model for Agent {
-    ghost use Rattle.keep_run.specs.Agent.{Agent, IsFit};
+    ghost use Rattle.keep_run.specs.Agent.{AgentIsFit, RunAgent};
 
-    ghost Value = { Agent };
+    ghost Value = { RunAgent };
 
     ghost view = { λ a. record { keeper = a.keeper; credentials = a.credentials } };
 
-    ghost invariant = { λ a. IsFit (record { keeper = a.keeper; credentials = a.credentials }) };
+    ghost invariant = { λ a. AgentIsFit (record { keeper = a.keeper; credentials = a.credentials }) };
 }
 
 impl Agent {
@@ -53,7 +53,7 @@ impl Agent {
     /// The keeper, with the entries, their ends as told, and the plan in force.
     pub fn keeper(&self) -> &Keeper
         ensures value { result.now ≡ self.now.keeper }
-        ensures fit { IsFit self.now }
+        ensures fit { AgentIsFit self.now }
     {
         &self.keeper
     }
@@ -75,7 +75,7 @@ impl Agent {
 
     /// Hands the keeper an event.
     pub(crate) fn step(&mut self, event: Event) -> Result<Output, StepFault>
-        ensures turn { Turn self.old.keeper event result self.new.keeper }
+        ensures turn { CoreTurn self.old.keeper event result self.new.keeper }
         ensures credentials { self.new.credentials ≡ self.old.credentials }
     {
         self.keeper.step(event)
@@ -84,7 +84,7 @@ impl Agent {
     /// Takes the needs that the keeper shortened since this was last called.
     pub(crate) fn take_shortened(&mut self) -> Shortened
         ensures value { result ≡ self.old.keeper.shortened }
-        ensures after { self.new.keeper ≡ taken self.old.keeper }
+        ensures after { self.new.keeper ≡ shorts_taken self.old.keeper }
         ensures credentials { self.new.credentials ≡ self.old.credentials }
     {
         self.keeper.take_shortened()
@@ -100,7 +100,7 @@ impl Agent {
         i: u32,
     ) -> Result<Option<Reply>, AllocError>
         requires { i < length self.now.keeper.forest.entries }
-        ensures asked { IfSome (E.behind exchange.old) (λ old. Asks old t (request_of (E.host_port exchange.old) self.now.credentials self.now.keeper.forest i) result (E.behind exchange.new)) }
+        ensures asked { IfSome (E.behind exchange.old) (λ old. ExchangeAsks old t (renewal_request (E.host_port exchange.old) self.now.credentials self.now.keeper.forest i) result (E.behind exchange.new)) }
         ensures port { E.host_port exchange.new ≡ E.host_port exchange.old }
     {
         let forest = self.keeper.forest();

@@ -1,8 +1,8 @@
 //! The live run: lookups, and then event lines as they come.
 ghost use Rattle.std.specs.Prelude.{◌≡◌, IfOk, IsTrue, OnOk, length};
 ghost use Rattle.std.specs.Result.{IfErr};
-ghost use Rattle.keep_run.specs.Hearing.{IsReady};
-ghost use Rattle.keep_run.specs.LiveRun.{EndsEarly, IsOpened, LiveRun, LivesTo};
+ghost use Rattle.keep_run.specs.Hearing.{IsBetweenEvents};
+ghost use Rattle.keep_run.specs.LiveRun.{EndsEarly, LiveRun, LivesTo, RunIsOpened};
 
 pub(crate) mod hearing;
 pub(crate) mod listening;
@@ -86,8 +86,8 @@ fn begin<E: Exchange, W: Sink>(
 ) -> Result<Agent, Stop>
     requires { length always.now ≡ length inventory.forest.entries }
     ensures early { IfErr result (λ stop. EndsEarly (E.host_port exchange.old) start always.now (record { inventory = inventory; behind = E.behind exchange.old }) stop (⟦<W as Watched>⟧.change out.old out.new) (E.behind exchange.new)) }
-    ensures opened { IfOk result (λ agent. IsOpened (E.host_port exchange.old) start always.now (record { inventory = inventory; behind = E.behind exchange.old }) agent.credentials agent.keeper (E.behind exchange.new) (⟦<W as Watched>⟧.change out.old out.new)) }
-    ensures ready { IfOk result (λ agent. IsReady agent.keeper) }
+    ensures opened { IfOk result (λ agent. RunIsOpened (E.host_port exchange.old) start always.now (record { inventory = inventory; behind = E.behind exchange.old }) agent.credentials agent.keeper (E.behind exchange.new) (⟦<W as Watched>⟧.change out.old out.new)) }
+    ensures ready { IfOk result (λ agent. IsBetweenEvents agent.keeper) }
     ensures port { E.host_port exchange.new ≡ E.host_port exchange.old }
     ensures flushed { OnOk result (IsTrue (W.seen out.new).output.is_flushed) }
 {

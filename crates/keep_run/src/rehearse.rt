@@ -1,5 +1,5 @@
 //! The command `rehearse`.
-ghost use Rattle.keep_run.specs.Rehearse.{RehearseRun, RehearseTold, Rehearses};
+ghost use Rattle.keep_run.specs.Rehearse.{RehearseRun, RehearseTold, RehearsesTo};
 ghost use Rattle.keep_start.specs.Start.{inventory_at};
 
 pub(crate) mod fault_words;
@@ -70,7 +70,7 @@ fn rehearse<W: Sink>(
     out: &mut W,
     exchange: &mut MemoryExchange,
 ) -> Result<(), Stop>
-    ensures { Rehearses (inventory_at script.now.start inventory.now) script.now.start script.now.faults.now result (⟦<W as Watched>⟧.change out.old out.new) exchange.old exchange.new }
+    ensures { RehearsesTo (inventory_at script.now.start inventory.now) script.now.start script.now.faults.now result (⟦<W as Watched>⟧.change out.old out.new) exchange.old exchange.new }
 {
     let inventory = read_at(alloc, inventory, script.start)?;
     let mut table = Table::load(alloc, &inventory)?;

@@ -24,9 +24,9 @@ use Rattle.keep_needs.specs.Carried.{CarriedNeed, IsCarried, NamesFrom, load_at}
 use Rattle.keep_rule.specs.declared.force.Force.{Force}
 use Rattle.keep_rule.specs.Runs.{moments_of}
 use Rattle.keep_schedule.specs.Forces.{AreForces}
-use Rattle.keep_schedule.specs.code.Sound.{IsInSight, IsSound}
+use Rattle.keep_schedule.specs.code.Sound.{IsInSight, TermsAreSound}
 use Rattle.keep_schedule.specs.Prospect.{Prospect, terms_of}
-use Rattle.keep_schedule.specs.Terms.{AreLed, Terms, deadline}
+use Rattle.keep_schedule.specs.Terms.{AreLed, Terms, lasts_until}
 use Rattle.keep_schedule.proofs.Leading.{ahead}
 
 -- the entry whose need is carried
@@ -61,8 +61,8 @@ bound_before es i = refl
 -- where the bound falls short, or the deadline, they are the same
 pub same_bound :
     (g : Forest) (s : ℕ) (t : Terms) → Shows g s t → AllKeepable g s (end_of g.entries) → (prev : Option ℕ) (i : ℕ) →
-    (bound g.entries (end_of g.entries) prev i < carried g.entries s i → bound g.entries (end_of g.entries) prev i ≡ deadline t prev i)
-    × (deadline t prev i < t.need i → bound g.entries (end_of g.entries) prev i ≡ deadline t prev i)
+    (bound g.entries (end_of g.entries) prev i < carried g.entries s i → bound g.entries (end_of g.entries) prev i ≡ lasts_until t prev i)
+    × (lasts_until t prev i < t.need i → bound g.entries (end_of g.entries) prev i ≡ lasts_until t prev i)
 same_bound g s t shows keepable None i =
     let b = bound_before g.entries i in let e = shows.end i in
     (λ h. b ∙ sym e, λ h. b ∙ sym e)
@@ -112,12 +112,12 @@ led_forces g s t shows keepable prev (x ∷ xs) led =
         least = λ i h.
             let other = (same_bound g s t shows keepable prev i).0 h in
             let n = shows.need i in
-            let a = led.0.first i (let l : deadline t prev i < t.need i = omega arith in l) in
+            let a = led.0.first i (let l : lasts_until t prev i < t.need i = omega arith in l) in
             (let l : bound g.entries (end_of g.entries) prev f ≤ bound g.entries (end_of g.entries) prev i = omega arith in l);
         lowest = λ i h e.
             let other = (same_bound g s t shows keepable prev i).0 h in
             let n = shows.need i in
-            let a = led.0.first i (let l : deadline t prev i < t.need i = omega arith in l) in
+            let a = led.0.first i (let l : lasts_until t prev i < t.need i = omega arith in l) in
             (let l : f ≤ i = omega arith in l);
         from = subst (IsFrom g.entries s f) (sym led.1.1.0) (shows.from f (omega arith));
       },
@@ -134,7 +134,7 @@ forces_led g s t shows keepable prev [] forces = λ i.
     let same = same_bound g s t shows keepable prev i in
     let lasts = forces i in
     let need = shows.need i in
-    elim (cases_lt (deadline t prev i) (t.need i)) [
+    elim (cases_lt (lasts_until t prev i) (t.need i)) [
       | inl short ↦ absurd (let e = same.1 short in omega arith)
       | inr lasts' ↦ lasts'
     ]
@@ -147,17 +147,17 @@ forces_led g s t shows keepable prev (x ∷ xs) forces =
     let moment = force.moment in
     let margin = shows.margin in (
       record {
-        short = (let l : deadline t prev f < t.need f = omega arith in l);
+        short = (let l : lasts_until t prev f < t.need f = omega arith in l);
         first = λ i h.
             let other = (same_bound g s t shows keepable prev i).1 h in
             let n = shows.need i in
             let falls : bound g.entries (end_of g.entries) prev i < carried g.entries s i = omega arith in
             let l = force.least i falls in
-            ahead _ _ _ _ (let k : deadline t prev f ≤ deadline t prev i = omega arith in k)
+            ahead _ _ _ _ (let k : lasts_until t prev f ≤ lasts_until t prev i = omega arith in k)
             (λ e. force.lowest i falls (let k : bound g.entries (end_of g.entries) prev i ≡ bound g.entries (end_of g.entries) prev f = omega arith in k));
       },
       (
-        let e : x.at ≡ deadline t prev f - t.margin = omega arith in e,
+        let e : x.at ≡ lasts_until t prev f - t.margin = omega arith in e,
         (
           one_from g.entries s f x.needed (t.from f) force.from (shows.from f (omega arith)),
           forces_led g s t shows keepable (Some x.at) xs forces.1,
@@ -221,7 +221,7 @@ shows_of o s forest is = record {
   margin = refl;
 }
 
-pub sound_of : (g : Forest) (s : ℕ) (t : Terms) → Shows g s t → IsForest g → AllKeepable g s (end_of g.entries) → IsSound t
+pub sound_of : (g : Forest) (s : ℕ) (t : Terms) → Shows g s t → IsForest g → AllKeepable g s (end_of g.entries) → TermsAreSound t
 sound_of g s t shows forest keepable = record {
   step = λ i h.
       let end = shows.end i in

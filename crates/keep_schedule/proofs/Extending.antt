@@ -5,12 +5,12 @@ use Rattle.std.proofs.lemmas.Bool.{cases_lt}
 use Rattle.keep_moment.specs.declared.moment.TheConstants.{LAST}
 use Rattle.keep_schedule.specs.declared.groups.Groups.{Groups}
 use Rattle.keep_schedule.specs.declared.groups.Next.{Next}
-use Rattle.keep_schedule.specs.code.Groups.{IsGrouped, IsHead, Joins, Settles, Waits}
+use Rattle.keep_schedule.specs.code.Groups.{IsGrouped, IsHeadOfJoined, Joins, SettlesGroups, StandsWaiting}
 use Rattle.keep_schedule.specs.code.Line.{FirstOf}
 use Rattle.keep_schedule.specs.code.Stretches.{Stretches}
 use Rattle.keep_schedule.specs.Prospect.{Prospect, terms_of}
 use Rattle.keep_schedule.specs.Terms.{Ahead, Leads, Terms}
-use Rattle.keep_schedule.specs.code.Sound.{IsSound}
+use Rattle.keep_schedule.specs.code.Sound.{TermsAreSound}
 use Rattle.keep_schedule.proofs.Grouping.{join_leads, later}
 use Rattle.keep_schedule.proofs.Leading.{ahead}
 use Rattle.keep_schedule.proofs.Moves.{first_key, none_ahead}
@@ -30,16 +30,16 @@ in_room n u last d later gains within =
 
 -- one that has joined and leads now goes on to lead before its need, as long as the first that waits does not come before it
 pub until_front :
-    (o : Prospect) (last f h v : ℕ) (g : Groups) → IsGrouped o (Some last) g → IsHead (terms_of o) last (Waits (terms_of o) g) (Joins (terms_of o) g) f → FirstOf g.waits.spots (Some h) → last ≤ v → v + (terms_of o).step f < (terms_of o).need f →
+    (o : Prospect) (last f h v : ℕ) (g : Groups) → IsGrouped o (Some last) g → IsHeadOfJoined (terms_of o) last (StandsWaiting (terms_of o) g) (Joins (terms_of o) g) f → FirstOf g.waits.spots (Some h) → last ≤ v → v + (terms_of o).step f < (terms_of o).need f →
     Ahead (v + (terms_of o).step f) f ((terms_of o).end h) h → Leads (terms_of o) (Some v) f
 until_front o last f h v g grouped head front le short before =
     let first = first_key (terms_of o).end (length o.loads) h g.waits.spots grouped.filed.waits front in
-    join_leads (terms_of o) v f (Waits (terms_of o) g) (Joins (terms_of o) g) (later (terms_of o) last v (Waits (terms_of o) g) (Joins (terms_of o) g) le grouped.grouped) head.joined short head.joins
+    join_leads (terms_of o) v f (StandsWaiting (terms_of o) g) (Joins (terms_of o) g) (later (terms_of o) last v (StandsWaiting (terms_of o) g) (Joins (terms_of o) g) le grouped.grouped) head.joined short head.joins
     (λ i w. let a = none_ahead (terms_of o).end h g.waits.spots first i w in ahead _ _ _ _ (omega arith) (λ e. omega arith))
 
 -- the last of so many is a moment
 pub reach_moment :
-    (t : Terms) (f last u c d : ℕ) → IsSound t → t.end f < t.need f → d ≡ t.step f - t.margin → last < u → ((w : ℕ) → last ≤ w → w < u → Leads t (Some w) f) →
+    (t : Terms) (f last u c d : ℕ) → TermsAreSound t → t.end f < t.need f → d ≡ t.step f - t.margin → last < u → ((w : ℕ) → last ≤ w → w < u → Leads t (Some w) f) →
     0 < c → c ≤ (u - last - 1) / d + 1 → last + c * d ≤ LAST
 reach_moment t f last u c d sound short is later leads some fits =
     let gains = sound.step f short in
@@ -53,13 +53,13 @@ reach_moment t f last u c d sound short is later leads some fits =
       product (suc c) d some = let e : suc c - 1 ≡ c = omega arith in (let s : suc c * d ≡ c * d + d = omega arith in s ∙ ap (λ k. k * d + d) (sym e))
 
 pub grouped_later : (o : Prospect) (v w : ℕ) (g : Groups) → v ≤ w → IsGrouped o (Some v) g → IsGrouped o (Some w) g
-grouped_later o v w g le grouped = record { filed = grouped.filed; grouped = later (terms_of o) v w (Waits (terms_of o) g) (Joins (terms_of o) g) le grouped.grouped }
+grouped_later o v w g le grouped = record { filed = grouped.filed; grouped = later (terms_of o) v w (StandsWaiting (terms_of o) g) (Joins (terms_of o) g) le grouped.grouped }
 
 -- a stretch of more wake-ups
 pub stretched :
-    (o : Prospect) (f first most more last u c d v : ℕ) (old mid new : Groups) (next next' : Next) → IsSound (terms_of o) → (terms_of o).end f < (terms_of o).need f → d ≡ (terms_of o).step f - (terms_of o).margin →
+    (o : Prospect) (f first most more last u c d v : ℕ) (old mid new : Groups) (next next' : Next) → TermsAreSound (terms_of o) → (terms_of o).end f < (terms_of o).need f → d ≡ (terms_of o).step f - (terms_of o).margin →
     Stretches o f first most old mid more last next → last < u → ((w : ℕ) → last ≤ w → w < u → Leads (terms_of o) (Some w) f) →
-    0 < c → c ≤ (u - last - 1) / d + 1 → more + c < most → v ≡ last + c * d → Settles o v mid new next' →
+    0 < c → c ≤ (u - last - 1) / d + 1 → more + c < most → v ≡ last + c * d → SettlesGroups o v mid new next' →
     Stretches o f first most old new (more + c) v next'
 stretched o f first most more last u c d v old mid new next next' sound short step so_far later leads some fits within is settles =
     let gains = sound.step f short in

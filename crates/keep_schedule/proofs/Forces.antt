@@ -8,7 +8,7 @@ use Rattle.keep_tree.specs.Forest.{Forest, end_of, entry_at}
 use Rattle.keep_tree.specs.Over.{is_over}
 use Rattle.keep_tree.proofs.Carrying.{and_left, and_right, carried_at_least}
 use Rattle.keep_rule.specs.Forced.{bound}
-use Rattle.keep_rule.specs.Schedule.{IsNext, IsSchedule}
+use Rattle.keep_rule.specs.Schedule.{IsNextMoment, IsSchedule}
 use Rattle.keep_rule.specs.Unkeepable.{AllKeepable}
 use Rattle.keep_rule.proofs.Existence.{there_is_one}
 use Rattle.keep_rule.proofs.Keeping.{end_below_bound}
@@ -69,7 +69,7 @@ from_exists es s i some =
       },
     )
 
-force_exists : (es : List Entry) (margin s : ℕ) (ends : ℕ → ℕ) (prev : Option ℕ) (w : ℕ) → IsNext es margin s ends prev w → (x : Force) × (IsForce es margin s ends prev x × (x.at ≡ w))
+force_exists : (es : List Entry) (margin s : ℕ) (ends : ℕ → ℕ) (prev : Option ℕ) (w : ℕ) → IsNextMoment es margin s ends prev w → (x : Force) × (IsForce es margin s ends prev x × (x.at ≡ w))
 force_exists es margin s ends prev w next =
     let b : ℕ → ℕ = bound es ends prev in
     let p : ℕ → Bool = λ i. nat_lt (b i) (carried es s i) && (b i == b next.entry) in

@@ -1,7 +1,7 @@
 -- The groups of a queue: those bound by their present end wait, those bound by their step have joined.
 use Rattle.std.proofs.Common.{ℕ, ◌+◌, ◌<◌, ◌≤◌, Option, Some, None, arith, inl, inr}
 use Rattle.std.proofs.lemmas.Bool.{cases_lt}
-use Rattle.keep_schedule.specs.Terms.{Ahead, Leads, Terms, deadline}
+use Rattle.keep_schedule.specs.Terms.{Ahead, Leads, Terms, lasts_until}
 use Rattle.keep_schedule.specs.code.Groups.{Grouped}
 use Rattle.keep_schedule.proofs.Leading.{ahead}
 
@@ -51,9 +51,9 @@ first_leads t f wait join g waits before =
     }
 
 -- where no group has anything, nothing falls short
-pub none_lacks : (t : Terms) (prev : Option ℕ) (wait join : ℕ → Type 0) → Grouped t prev wait join → ((i : ℕ) → wait i → ⊥) → ((i : ℕ) → join i → ⊥) → (i : ℕ) → t.need i ≤ deadline t prev i
+pub none_lacks : (t : Terms) (prev : Option ℕ) (wait join : ℕ → Type 0) → Grouped t prev wait join → ((i : ℕ) → wait i → ⊥) → ((i : ℕ) → join i → ⊥) → (i : ℕ) → t.need i ≤ lasts_until t prev i
 none_lacks t prev wait join g no_wait no_join i =
-    elim (cases_lt (deadline t prev i) (t.need i)) [
+    elim (cases_lt (lasts_until t prev i) (t.need i)) [
       | inl short ↦ elim (g.all i short) [ inl waits ↦ absurd (no_wait i waits) | inr joined ↦ absurd (no_join i joined) ]
       | inr lasts ↦ lasts
     ]

@@ -7,8 +7,8 @@ use Rattle.std.specs.List.{Contains}
 use Rattle.std.specs.List.Sorted.{IsPermutation}
 use Rattle.keep_schedule.specs.declared.groups.Groups.{Groups}
 use Rattle.keep_schedule.specs.declared.groups.Turn.TheVariants.{Comes, Leaves}
-use Rattle.keep_schedule.specs.code.Groups.{IsGrouped, IsKeyed, IsTurn, Shrinks, size}
-use Rattle.keep_schedule.specs.code.Line.{FirstOf, IsFirst, Lined, Spot, spot}
+use Rattle.keep_schedule.specs.code.Groups.{IsGrouped, IsKeyed, IsTurnOfGroups, Shrinks, size_of_groups}
+use Rattle.keep_schedule.specs.code.Line.{FirstOf, IsFirstInLine, Lined, Spot, spot}
 use Rattle.keep_schedule.specs.Prospect.{Prospect, terms_of}
 use Rattle.keep_schedule.specs.Terms.{Ahead, Terms}
 use Rattle.keep_schedule.proofs.Lines.{contains_cons, contains_head, contains_more}
@@ -41,7 +41,7 @@ first_within key n f spots keyed among = (All-contains (λ (x : Spot). (x.0.0 �
 pub left :
     (o : Prospect) (v f : ℕ) (old new : Groups) → IsGrouped o (Some v) old → (terms_of o).need f ≤ v + (terms_of o).step f →
     IsPermutation old.joined.spots (spot ((terms_of o).step f) f ∷ new.joined.spots) → new.joined.room ≡ old.joined.room → new.waits ≡ old.waits →
-    IsGrouped o (Some v) new × (size new < size old)
+    IsGrouped o (Some v) new × (size_of_groups new < size_of_groups old)
 left o v f old new grouped done moved room waits =
     let g = grouped.grouped in
     let filed = grouped.filed in
@@ -81,7 +81,7 @@ joins_was t f i old new added j =
 pub joined :
     (o : Prospect) (v f : ℕ) (old new : Groups) → IsGrouped o (Some v) old → f < length o.loads → (terms_of o).end f ≤ v + (terms_of o).step f →
     IsPermutation old.waits.spots (spot ((terms_of o).end f) f ∷ new.waits.spots) → IsPermutation (spot ((terms_of o).step f) f ∷ old.joined.spots) new.joined.spots → old.joined.room ≤ new.joined.room →
-    IsGrouped o (Some v) new × (size new + 1 ≡ size old)
+    IsGrouped o (Some v) new × (size_of_groups new + 1 ≡ size_of_groups old)
 joined o v f old new grouped within reached moved added room =
     let g = grouped.grouped in
     let filed = grouped.filed in
@@ -112,35 +112,35 @@ joined o v f old new grouped within reached moved added room =
       omega arith,
     )
 
-pub shrinks_more : (o : Prospect) (v : ℕ) (first old new : Groups) → Shrinks o v first old → IsGrouped o (Some v) new → size new < size old → Shrinks o v first new
+pub shrinks_more : (o : Prospect) (v : ℕ) (first old new : Groups) → Shrinks o v first old → IsGrouped o (Some v) new → size_of_groups new < size_of_groups old → Shrinks o v first new
 shrinks_more o v first old new shrinks grouped less =
     let f = shrinks.fewer in
     record { grouped = grouped; fewer = omega arith; same = λ e. absurd (omega arith) }
 
 -- none stands ahead of the first
-pub none_ahead : (key : ℕ → ℕ) (f : ℕ) (spots : List Spot) → IsFirst spots (spot (key f) f) → (i : ℕ) → Contains spots (spot (key i) i) → Ahead (key f) f (key i) i
+pub none_ahead : (key : ℕ → ℕ) (f : ℕ) (spots : List Spot) → IsFirstInLine spots (spot (key f) f) → (i : ℕ) → Contains spots (spot (key i) i) → Ahead (key f) f (key i) i
 none_ahead key f spots first i among = All-contains (λ (y : Spot). Ahead (key f) f y.0.0 y.0.1) spots (spot (key i) i) first.ahead among
 
 pub turn_left :
-    (o : Prospect) (v f : ℕ) (first old new : Groups) → Shrinks o v first old → IsTurn o v old (Leaves f) →
-    ((x : Spot) → IsFirst old.joined.spots x → IsPermutation old.joined.spots (x ∷ new.joined.spots)) → new.joined.room ≡ old.joined.room → new.waits ≡ old.waits →
-    Shrinks o v first new × (size new < size old)
+    (o : Prospect) (v f : ℕ) (first old new : Groups) → Shrinks o v first old → IsTurnOfGroups o v old (Leaves f) →
+    ((x : Spot) → IsFirstInLine old.joined.spots x → IsPermutation old.joined.spots (x ∷ new.joined.spots)) → new.joined.room ≡ old.joined.room → new.waits ≡ old.waits →
+    Shrinks o v first new × (size_of_groups new < size_of_groups old)
 turn_left o v f first old new shrinks turn moved room waits =
     let done = left o v f old new shrinks.grouped turn.1.1 (moved (spot ((terms_of o).step f) f) turn.0) room waits in
     (shrinks_more o v first old new shrinks done.0 done.1, done.1)
 
 pub turn_joined :
-    (o : Prospect) (v f : ℕ) (first old new : Groups) → Shrinks o v first old → IsTurn o v old (Comes f) → (terms_of o).end f ≤ v + (terms_of o).step f →
+    (o : Prospect) (v f : ℕ) (first old new : Groups) → Shrinks o v first old → IsTurnOfGroups o v old (Comes f) → (terms_of o).end f ≤ v + (terms_of o).step f →
     IsPermutation old.waits.spots (spot ((terms_of o).end f) f ∷ new.waits.spots) → IsPermutation (spot ((terms_of o).step f) f ∷ old.joined.spots) new.joined.spots → old.joined.room ≤ new.joined.room →
-    Shrinks o v first new × (size new < size old)
+    Shrinks o v first new × (size_of_groups new < size_of_groups old)
 turn_joined o v f first old new shrinks turn reached moved added room =
     let done = joined o v f old new shrinks.grouped turn.1.0 reached moved added room in
     let e = done.1 in
-    let less : size new < size old = omega arith in
+    let less : size_of_groups new < size_of_groups old = omega arith in
     (shrinks_more o v first old new shrinks done.0 less, less)
 
 -- the key of the first of a line
-pub first_key : (key : ℕ → ℕ) (n h : ℕ) (spots : List Spot) → IsKeyed key n spots → FirstOf spots (Some h) → IsFirst spots (spot (key h) h)
+pub first_key : (key : ℕ → ℕ) (n h : ℕ) (spots : List Spot) → IsKeyed key n spots → FirstOf spots (Some h) → IsFirstInLine spots (spot (key h) h)
 first_key key n h spots keyed (k, first) =
     let is : k ≡ key h = (All-contains (λ (y : Spot). (y.0.0 ≡ key y.0.1) × (y.0.1 < n)) spots (spot k h) keyed first.among).0 in
-    subst (λ l. IsFirst spots (spot l h)) is first
+    subst (λ l. IsFirstInLine spots (spot l h)) is first

@@ -12,15 +12,15 @@ use Rattle.keep_schedule.specs.declared.groups.Next.{Next}
 use Rattle.keep_schedule.specs.declared.groups.Next.TheVariants.{Done, Joined, Waiting}
 use Rattle.keep_rule.specs.declared.run.Run.{Run}
 use Rattle.keep_schedule.specs.Courses.{IsToCome}
-use Rattle.keep_schedule.specs.code.Groups.{IsGrouped, IsKeyed, Joins, Settles, Waits}
+use Rattle.keep_schedule.specs.code.Groups.{IsGrouped, IsKeyed, Joins, SettlesGroups, StandsWaiting}
 use Rattle.keep_schedule.specs.code.Line.{FirstOf, Lined, Spot, spot}
 use Rattle.keep_schedule.specs.Prospect.{Prospect, terms_of}
-use Rattle.keep_schedule.specs.code.Queueing.{Fills, IsBegun, IsDue, IsReady}
+use Rattle.keep_schedule.specs.code.Queueing.{FillsLine, GroupsAreReady, RunIsBegun, WaiterIsDue}
 use Rattle.keep_rule.specs.Runs.{wakes, wakes_of}
 use Rattle.keep_schedule.specs.Given.{GivesHead, GivesRun, IsFirstRun}
-use Rattle.keep_schedule.specs.code.Stretches.{IsOther, Stretches}
-use Rattle.keep_schedule.specs.Terms.{Ahead, AreLed, Leads, Terms, deadline}
-use Rattle.keep_schedule.specs.code.Sound.{IsSound}
+use Rattle.keep_schedule.specs.code.Stretches.{IsOtherEntry, Stretches}
+use Rattle.keep_schedule.specs.Terms.{Ahead, AreLed, Leads, Terms, lasts_until}
+use Rattle.keep_schedule.specs.code.Sound.{TermsAreSound}
 use Rattle.keep_schedule.proofs.Bridge.{need_past}
 use Rattle.keep_schedule.proofs.Grouping.{first_leads, join_leads, later, none_lacks, wait_leads}
 use Rattle.keep_schedule.proofs.Leading.{end_below_deadline, one_leads, one_led, same_force, short_before}
@@ -29,7 +29,7 @@ use Rattle.keep_schedule.proofs.Lists.{IsEnded, no_longer}
 use Rattle.keep_schedule.proofs.Moves.{first_key, first_within, joined, joins_was, none_ahead}
 use Rattle.keep_schedule.proofs.Stretches.{led_run, run_led}
 
-pub fills_added : (o : Prospect) (k : ℕ) (old new : Lined) → Fills o k old → k < length o.loads → (terms_of o).end k < (terms_of o).need k → IsPermutation (spot ((terms_of o).end k) k ∷ old.spots) new.spots → old.room ≤ new.room → length new.spots ≡ length old.spots + 1 → Fills o (k + 1) new
+pub fills_added : (o : Prospect) (k : ℕ) (old new : Lined) → FillsLine o k old → k < length o.loads → (terms_of o).end k < (terms_of o).need k → IsPermutation (spot ((terms_of o).end k) k ∷ old.spots) new.spots → old.room ≤ new.room → length new.spots ≡ length old.spots + 1 → FillsLine o (k + 1) new
 fills_added o k old new fills within short added room longer =
     let count = fills.count in
     let roomy = fills.room in
@@ -50,7 +50,7 @@ fills_added o k old new fills within short added room longer =
       room = omega arith;
     }
 
-pub fills_kept : (o : Prospect) (k : ℕ) (l : Lined) → Fills o k l → (terms_of o).need k ≤ (terms_of o).end k → Fills o (k + 1) l
+pub fills_kept : (o : Prospect) (k : ℕ) (l : Lined) → FillsLine o k l → (terms_of o).need k ≤ (terms_of o).end k → FillsLine o (k + 1) l
 fills_kept o k l fills lasts =
     let count = fills.count in
     record {
@@ -67,7 +67,7 @@ fills_kept o k l fills lasts =
 none_in : (k i : ℕ) (spots : List Spot) → spots ≡ [] → Contains spots (spot k i) → ⊥
 none_in k i spots e among = let l = (subst (λ s. Contains s (spot k i)) e among).1 in omega arith
 
-new_grouped : (o : Prospect) (g : Groups) → Fills o (length o.loads) g.waits → g.joined ≡ record { spots = []; room = length o.loads } → IsGrouped o None g
+new_grouped : (o : Prospect) (g : Groups) → FillsLine o (length o.loads) g.waits → g.joined ≡ record { spots = []; room = length o.loads } → IsGrouped o None g
 new_grouped o g fills empty =
     let t = terms_of o in
     let n = length o.loads in
@@ -88,13 +88,13 @@ new_grouped o g fills empty =
       };
     }
 
-pub new_done : (o : Prospect) (g : Groups) → Fills o (length o.loads) g.waits → g.joined ≡ record { spots = []; room = length o.loads } → FirstOf g.waits.spots None → IsReady o None g Done
+pub new_done : (o : Prospect) (g : Groups) → FillsLine o (length o.loads) g.waits → g.joined ≡ record { spots = []; room = length o.loads } → FirstOf g.waits.spots None → GroupsAreReady o None g Done
 new_done o g fills empty first =
     let t = terms_of o in
     let none : g.joined.spots ≡ [] = ap (λ (l : Lined). l.spots) empty in
-    none_lacks t None (Waits t g) (Joins t g) (new_grouped o g fills empty).grouped (λ i w. none_in (t.end i) i g.waits.spots first w) (λ i j. none_in (t.step i) i g.joined.spots none j)
+    none_lacks t None (StandsWaiting t g) (Joins t g) (new_grouped o g fills empty).grouped (λ i w. none_in (t.end i) i g.waits.spots first w) (λ i j. none_in (t.step i) i g.joined.spots none j)
 
-pub new_due : (o : Prospect) (g : Groups) (h : ℕ) → Fills o (length o.loads) g.waits → g.joined ≡ record { spots = []; room = length o.loads } → FirstOf g.waits.spots (Some h) → IsReady o None g (Waiting h)
+pub new_due : (o : Prospect) (g : Groups) (h : ℕ) → FillsLine o (length o.loads) g.waits → g.joined ≡ record { spots = []; room = length o.loads } → FirstOf g.waits.spots (Some h) → GroupsAreReady o None g (Waiting h)
 new_due o g h fills empty first =
     let t = terms_of o in
     let n = length o.loads in
@@ -103,7 +103,7 @@ new_due o g h fills empty first =
     let front = first_key t.end n h g.waits.spots fills.keyed first in
     record {
       grouped = grouped;
-      leads = first_leads t h (Waits t g) (Joins t g) grouped.grouped front.among (none_ahead t.end h g.waits.spots front);
+      leads = first_leads t h (StandsWaiting t g) (Joins t g) grouped.grouped front.among (none_ahead t.end h g.waits.spots front);
       within = within t n h g.waits.spots fills.keyed front.among;
       front = front;
       least = λ i j. absurd (none_in (t.step i) i g.joined.spots none j);
@@ -119,13 +119,13 @@ grouped_at o None w g grouped le =
       filed = grouped.filed;
       grouped = record { all = λ i short. old.all i (omega arith); short = old.short; joined = λ i j. absurd (old.joined i j) };
     }
-grouped_at o (Some v) w g grouped le = record { filed = grouped.filed; grouped = later (terms_of o) v w (Waits (terms_of o) g) (Joins (terms_of o) g) (le v refl) grouped.grouped }
+grouped_at o (Some v) w g grouped le = record { filed = grouped.filed; grouped = later (terms_of o) v w (StandsWaiting (terms_of o) g) (Joins (terms_of o) g) (le v refl) grouped.grouped }
 
 -- an entry that waits and forces the next wake-up joins with it
 pub begun_waiting :
-    (o : Prospect) (prev : Option ℕ) (h first : ℕ) (old new : Groups) → IsSound (terms_of o) → IsDue o prev old h → first ≡ deadline (terms_of o) prev h - (terms_of o).margin →
+    (o : Prospect) (prev : Option ℕ) (h first : ℕ) (old new : Groups) → TermsAreSound (terms_of o) → WaiterIsDue o prev old h → first ≡ lasts_until (terms_of o) prev h - (terms_of o).margin →
     IsPermutation old.waits.spots (spot ((terms_of o).end h) h ∷ new.waits.spots) → IsPermutation (spot ((terms_of o).step h) h ∷ old.joined.spots) new.joined.spots → old.joined.room ≤ new.joined.room →
-    IsBegun o prev old new (Waiting h) h first
+    RunIsBegun o prev old new (Waiting h) h first
 begun_waiting o prev h first old new sound due at moved added room =
     let short = short_before (terms_of o) prev h due.leads.short in
     let gains = sound.step h short in
@@ -148,16 +148,16 @@ begun_waiting o prev h first old new sound due at moved added room =
     }
 
 -- the settled groups are ready
-pub ready_settled : (o : Prospect) (v : ℕ) (old new : Groups) (next : Next) → Settles o v old new next → IsReady o (Some v) new next
+pub ready_settled : (o : Prospect) (v : ℕ) (old new : Groups) (next : Next) → SettlesGroups o v old new next → GroupsAreReady o (Some v) new next
 ready_settled o v old new Done settles =
-    none_lacks (terms_of o) (Some v) (Waits (terms_of o) new) (Joins (terms_of o) new) settles.shrinks.grouped.grouped
+    none_lacks (terms_of o) (Some v) (StandsWaiting (terms_of o) new) (Joins (terms_of o) new) settles.shrinks.grouped.grouped
     (λ i w. none_in ((terms_of o).end i) i new.waits.spots settles.settled.0 w) (λ i j. none_in ((terms_of o).step i) i new.joined.spots settles.settled.1 j)
 ready_settled o v old new (Waiting h) settles =
     let front = settles.settled.1.1 in
     let unjoined = front.unjoined in
     record {
       grouped = settles.shrinks.grouped;
-      leads = wait_leads (terms_of o) v h (Waits (terms_of o) new) (Joins (terms_of o) new) settles.shrinks.grouped.grouped front.waiting front.unjoined front.joins front.waits;
+      leads = wait_leads (terms_of o) v h (StandsWaiting (terms_of o) new) (Joins (terms_of o) new) settles.shrinks.grouped.grouped front.waiting front.unjoined front.joins front.waits;
       within = settles.settled.0;
       front = settles.settled.1.0;
       least = λ i j. let a = front.joins i j in omega arith;
@@ -166,7 +166,7 @@ ready_settled o v old new (Waiting h) settles =
 ready_settled o v old new (Joined f) settles = record { at = v; is = refl; grouped = settles.shrinks.grouped; within = settles.settled.0; head = settles.settled.1 }
 
 -- where another forces the next wake-up, f does not
-not_led : (o : Prospect) (v f : ℕ) (g : Groups) (next : Next) → IsReady o (Some v) g next → IsOther f next → (terms_of o).end f ≤ v + (terms_of o).step f → Leads (terms_of o) (Some v) f → ⊥
+not_led : (o : Prospect) (v f : ℕ) (g : Groups) (next : Next) → GroupsAreReady o (Some v) g next → IsOtherEntry f next → (terms_of o).end f ≤ v + (terms_of o).step f → Leads (terms_of o) (Some v) f → ⊥
 not_led o v f g Done ready other reached leads = let l = ready f in let s = leads.short in omega arith
 not_led o v f g (Waiting h) ready other reached leads =
     let same : h ≡ f = one_leads (terms_of o) (Some v) h f ready.leads leads in
@@ -176,10 +176,10 @@ not_led o v f g (Waiting h) ready other reached leads =
     omega arith
 not_led o v f g (Joined k) ready other reached leads =
     let at : v ≡ ready.at = let s : Some v ≡ Some ready.at = ready.is in cc in
-    let lasts = join_leads (terms_of o) ready.at k (Waits (terms_of o) g) (Joins (terms_of o) g) ready.grouped.grouped ready.head.joined ready.head.short ready.head.joins ready.head.waits in
+    let lasts = join_leads (terms_of o) ready.at k (StandsWaiting (terms_of o) g) (Joins (terms_of o) g) ready.grouped.grouped ready.head.joined ready.head.short ready.head.joins ready.head.waits in
     other (one_leads (terms_of o) (Some v) k f (subst (λ (w : ℕ). Leads (terms_of o) (Some w) k) (sym at) lasts) leads)
 
-ended : (o : Prospect) (v f : ℕ) (g : Groups) (next : Next) → IsReady o (Some v) g next → IsOther f next → (terms_of o).end f ≤ v + (terms_of o).step f → (rest : List Force) → AreLed (terms_of o) (Some v) rest → IsEnded f rest
+ended : (o : Prospect) (v f : ℕ) (g : Groups) (next : Next) → GroupsAreReady o (Some v) g next → IsOtherEntry f next → (terms_of o).end f ≤ v + (terms_of o).step f → (rest : List Force) → AreLed (terms_of o) (Some v) rest → IsEnded f rest
 ended o v f g next ready other reached [] led = tt
 ended o v f g next ready other reached (x ∷ xs) led = λ same. not_led o v f g next ready other reached (subst (λ i. Leads (terms_of o) (Some v) i) same led.0)
 
@@ -196,8 +196,8 @@ wakes_are first s d more f needed m is step =
 
 -- what a run that was begun and stretched takes from the list to come
 pub taken :
-    (o : Prospect) (prev : Option ℕ) (f first most more last s needed : ℕ) (old mid new : Groups) (now next : Next) → IsSound (terms_of o) →
-    IsBegun o prev old mid now f first → Stretches o f first most mid new more last next → (more + 1 ≡ most) ⊎ IsOther f next →
+    (o : Prospect) (prev : Option ℕ) (f first most more last s needed : ℕ) (old mid new : Groups) (now next : Next) → TermsAreSound (terms_of o) →
+    RunIsBegun o prev old mid now f first → Stretches o f first most mid new more last next → (more + 1 ≡ most) ⊎ IsOtherEntry f next →
     needed ≡ (terms_of o).from f → ((more ≡ 0) × (s ≡ 0)) ⊎ ((0 < more) × (s ≡ (terms_of o).step f - (terms_of o).margin)) →
     IsFirstRun (IsToCome (record { prospect = o; last = prev })) (IsToCome (record { prospect = o; last = Some last })) most
     (record { first = first; step = s; count = more + 1; entry = f; needed = needed })
@@ -241,7 +241,7 @@ taken o prev f first most more last s needed old mid new now next sound begun st
           let e : (more + 1 - 1) * s ≡ more * d = ap (λ k. k * s) (let m : more + 1 - 1 ≡ more = omega arith in m) ∙ ap (λ k. more * k) several.1 in omega arith
 
       split_run :
-          (t : Terms) (prev : Option ℕ) (f first d more last : ℕ) (w : List Force) → Leads t prev f → first ≡ deadline t prev f - t.margin → d ≡ t.step f - t.margin → t.margin < t.step f →
+          (t : Terms) (prev : Option ℕ) (f first d more last : ℕ) (w : List Force) → Leads t prev f → first ≡ lasts_until t prev f - t.margin → d ≡ t.step f - t.margin → t.margin < t.step f →
           t.end f ≤ first + t.step f → ((k : ℕ) → k < more → Leads t (Some (first + k * d)) f) → last ≡ first + more * d →
           w ≡ record { at = first; entry = f; needed = t.from f } ∷ wakes_of (first + d) d more f (t.from f) →
           (xs : List Force) → AreLed t prev xs → (rest : List Force) × ((xs ≡ w ++ rest) × AreLed t (Some last) rest)
@@ -249,7 +249,7 @@ taken o prev f first most more last s needed old mid new now next sound begun st
       split_run t prev f first d more last w leads at is gains reached all ends are (y ∷ ys) led =
           let x : Force = record { at = first; entry = f; needed = t.from f } in
           let entry : y.entry ≡ f = one_leads t prev y.entry f led.0 leads in
-          let moment : y.at ≡ first = led.1.0 ∙ (ap (λ i. deadline t prev i - t.margin) entry ∙ sym at) in
+          let moment : y.at ≡ first = led.1.0 ∙ (ap (λ i. lasts_until t prev i - t.margin) entry ∙ sym at) in
           let for' : y.needed ≡ t.from f = led.1.1.0 ∙ ap t.from entry in
           let head : y ≡ x = same_force y x moment entry for' in
           let more' = led_run t f d more first is gains reached all ys (subst (λ (v : ℕ). AreLed t (Some v) ys) moment led.1.1.1) in (
@@ -260,7 +260,7 @@ taken o prev f first most more last s needed old mid new now next sound begun st
             ),
           )
 
-pub gives_no_run : (o : Prospect) (prev : Option ℕ) (most : ℕ) → ((i : ℕ) → (terms_of o).need i ≤ deadline (terms_of o) prev i) → GivesRun (IsToCome (record { prospect = o; last = prev })) (IsToCome (record { prospect = o; last = prev })) most None
+pub gives_no_run : (o : Prospect) (prev : Option ℕ) (most : ℕ) → ((i : ℕ) → (terms_of o).need i ≤ lasts_until (terms_of o) prev i) → GivesRun (IsToCome (record { prospect = o; last = prev })) (IsToCome (record { prospect = o; last = prev })) most None
 unfolding IsToCome
 gives_no_run o prev most none = (none, (none, λ xs led. one_led (terms_of o) prev xs [] led none))
 

@@ -6,7 +6,7 @@ use Rattle.keep_schedule.specs.code.Scanning.{IsLeader, LeadsBelow}
 use Rattle.keep_schedule.specs.Courses.{IsToCome}
 use Rattle.keep_schedule.specs.Prospect.{Prospect, terms_of}
 use Rattle.keep_schedule.specs.Given.{GivesHead}
-use Rattle.keep_schedule.specs.Terms.{AreLed, Leads, deadline}
+use Rattle.keep_schedule.specs.Terms.{AreLed, Leads, lasts_until}
 use Rattle.keep_tree.specs.Forest.{Forest, end_of}
 use Rattle.keep_tree.specs.Push.{IsForest}
 use Rattle.keep_rule.specs.Unkeepable.{AllKeepable}
@@ -27,7 +27,7 @@ unfolding IsToCome
 gives_none o prev none = (none, (none, λ xs led. one_led (terms_of o) prev xs [] led none))
 
 pub gives_head :
-    (o : Prospect) (prev : Option ℕ) (v : ℕ) (x : Force) → Leads (terms_of o) prev x.entry → v ≡ deadline (terms_of o) prev x.entry - (terms_of o).margin → x.at ≡ v → x.needed ≡ (terms_of o).from x.entry →
+    (o : Prospect) (prev : Option ℕ) (v : ℕ) (x : Force) → Leads (terms_of o) prev x.entry → v ≡ lasts_until (terms_of o) prev x.entry - (terms_of o).margin → x.at ≡ v → x.needed ≡ (terms_of o).from x.entry →
     GivesHead (IsToCome (record { prospect = o; last = prev })) (IsToCome (record { prospect = o; last = Some v })) (Some x)
 unfolding IsToCome
 gives_head o prev v x leads at is needed =
@@ -36,7 +36,7 @@ gives_head o prev v x leads at is needed =
       split [] led = absurd (let s = leads.short in let l = led x.entry in omega arith)
       split (y ∷ ys) led =
           let entry : y.entry ≡ x.entry = one_leads (terms_of o) prev y.entry x.entry led.0 leads in
-          let moment : y.at ≡ v = led.1.0 ∙ (ap (λ f. deadline (terms_of o) prev f - (terms_of o).margin) entry ∙ sym at) in
+          let moment : y.at ≡ v = led.1.0 ∙ (ap (λ f. lasts_until (terms_of o) prev f - (terms_of o).margin) entry ∙ sym at) in
           let for' : y.needed ≡ x.needed = led.1.1.0 ∙ (ap (terms_of o).from entry ∙ sym needed) in
           (ys, (ap (λ z. z ∷ ys) (same_force y x (moment ∙ sym is) entry for'), subst (λ w. AreLed (terms_of o) (Some w) ys) moment led.1.1.1))
 

@@ -16,6 +16,6 @@ unfoldable pub IsToCome : Course → List Force → Type 0
 IsToCome c xs = AreLed (terms_of c.prospect) c.last xs
 
 -- a moment
-abbrev pub IsWithin : Option ℕ → Type 0
-IsWithin None = Unit {0}
-IsWithin (Some v) = v ≤ LAST
+abbrev pub IsMomentWithin : Option ℕ → Type 0
+IsMomentWithin None = Unit {0}
+IsMomentWithin (Some v) = v ≤ LAST

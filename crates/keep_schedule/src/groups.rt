@@ -1,8 +1,8 @@
 ghost use Rattle.std.specs.Prelude.{◌≡◌, ◌+◌, ◌<◌, ◌≤◌, ◌∷◌, ◌↔◌, length, Some, IsTrue};
 ghost use Rattle.std.specs.List.Sorted.{IsPermutation};
 ghost use Rattle.keep_moment.specs.declared.moment.TheConstants.{LAST};
-ghost use Rattle.keep_schedule.specs.code.Groups.{IsFiled, IsGrouped, IsTurn, Settles};
-ghost use Rattle.keep_schedule.specs.code.Line.{IsFirst, Spot, spot};
+ghost use Rattle.keep_schedule.specs.code.Groups.{IsFiled, IsGrouped, IsTurnOfGroups, SettlesGroups};
+ghost use Rattle.keep_schedule.specs.code.Line.{IsFirstInLine, Spot, spot};
 ghost use Rattle.keep_schedule.specs.Prospect.{terms_of};
 ghost use Rattle.keep_schedule.specs.Terms.{Ahead};
 
@@ -38,7 +38,7 @@ enum Turn {
 impl Groups {
     /// Takes out the first that has joined.
     fn leave(&mut self)
-        ensures joined { (x : Spot) → IsFirst self.old.joined.spots x → IsPermutation self.old.joined.spots (x ∷ self.new.joined.spots) }
+        ensures joined { (x : Spot) → IsFirstInLine self.old.joined.spots x → IsPermutation self.old.joined.spots (x ∷ self.new.joined.spots) }
         ensures room { self.new.joined.room ≡ self.old.joined.room }
         ensures waits { self.new.waits ≡ self.old.waits }
     {
@@ -47,7 +47,7 @@ impl Groups {
 
     /// Moves the first that waits to those that have joined.
     pub(crate) fn join(&mut self, outlook: &Outlook, index: u32)
-        requires first { IsFirst self.old.waits.spots (spot ((terms_of outlook.now).end index) index) }
+        requires first { IsFirstInLine self.old.waits.spots (spot ((terms_of outlook.now).end index) index) }
         requires filed { IsFiled outlook.now self.old }
         ensures waits { IsPermutation self.old.waits.spots (spot ((terms_of outlook.now).end index) index ∷ self.new.waits.spots) }
         ensures joined { IsPermutation (spot ((terms_of outlook.now).step index) index ∷ self.old.joined.spots) self.new.joined.spots }
@@ -62,7 +62,7 @@ impl Groups {
 fn turn_at(outlook: &Outlook, groups: &Groups, at: u64) -> Turn
     requires filed { IsFiled outlook.now groups.now }
     requires within { at ≤ LAST }
-    ensures { IsTurn outlook.now at groups.now result }
+    ensures { IsTurnOfGroups outlook.now at groups.now result }
 {
     let Some(head) = groups.joined.first() else {
         return match groups.waits.first() {
@@ -97,7 +97,7 @@ fn is_ahead(end: u64, index: u32, other_end: u64, other: u32) -> bool
 pub(crate) fn settle(outlook: &Outlook, groups: &mut Groups, at: u64) -> Next
     requires grouped { IsGrouped outlook.now (Some at) groups.old }
     requires within { at ≤ LAST }
-    ensures { Settles outlook.now at groups.old groups.new result }
+    ensures { SettlesGroups outlook.now at groups.old groups.new result }
 {
     loop {
         match turn_at(outlook, groups, at) {

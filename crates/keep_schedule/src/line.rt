@@ -1,6 +1,6 @@
 ghost use Rattle.std.specs.Prelude.{◌≡◌, ◌<◌, ◌≤◌, [], ◌∷◌, length, IfOk};
 ghost use Rattle.std.specs.List.Sorted.{IsPermutation};
-ghost use Rattle.keep_schedule.specs.code.Line.{FirstOf, IsFirst, Spot, spot};
+ghost use Rattle.keep_schedule.specs.code.Line.{FirstOf, IsFirstInLine, Spot, spot};
 
 use std::alloc::{AllocError, Global};
 use std::cmp::Reverse;
@@ -46,7 +46,7 @@ impl Line {
 
     /// Takes the first out of the line.
     pub(crate) fn drop_first(&mut self)
-        ensures spots { (x : Spot) → IsFirst self.old.spots x → IsPermutation self.old.spots (x ∷ self.new.spots) }
+        ensures spots { (x : Spot) → IsFirstInLine self.old.spots x → IsPermutation self.old.spots (x ∷ self.new.spots) }
         ensures room { self.new.room ≡ self.old.room }
     {
         self.heap.pop();

@@ -4,10 +4,10 @@ ghost use Rattle.keep_tree.specs.Forest.{end_of};
 ghost use Rattle.keep_tree.specs.Push.{IsForest};
 ghost use Rattle.keep_rule.specs.Unkeepable.{AllKeepable};
 ghost use Rattle.keep_needs.specs.Carried.{IsCarried};
-ghost use Rattle.keep_schedule.specs.Courses.{IsWithin};
-ghost use Rattle.keep_schedule.specs.code.Sound.{IsInSight, IsSound};
+ghost use Rattle.keep_schedule.specs.Courses.{IsMomentWithin};
+ghost use Rattle.keep_schedule.specs.code.Sound.{IsInSight, TermsAreSound};
 ghost use Rattle.keep_schedule.specs.Prospect.{terms_of};
-ghost use Rattle.keep_schedule.specs.Terms.{deadline};
+ghost use Rattle.keep_schedule.specs.Terms.{lasts_until};
 
 use keep_moment::Moment;
 use keep_needs::Carried;
@@ -57,7 +57,7 @@ impl<'a> Outlook<'a> {
     #[tactic(auto, unfolding(crate::specs::Prospect::terms_of, keep_tree::specs::Forest::end_of))]
     pub(crate) fn margin(&self) -> u64
         ensures value { result ≡ (terms_of self.now).margin }
-        ensures sound { IsSound (terms_of self.now) }
+        ensures sound { TermsAreSound (terms_of self.now) }
     {
         self.forest.margin() as u64
     }
@@ -66,7 +66,7 @@ impl<'a> Outlook<'a> {
     pub(crate) fn end(&self, index: u32) -> u64
         requires { index < length self.now.loads }
         ensures value { result ≡ (terms_of self.now).end index }
-        ensures sound { IsSound (terms_of self.now) }
+        ensures sound { TermsAreSound (terms_of self.now) }
     {
         self.forest.get(index).end
     }
@@ -102,8 +102,8 @@ impl<'a> Outlook<'a> {
     /// Until when the entry lasts after a wake-up at `last`.
     pub(crate) fn deadline(&self, last: Option<u64>, index: u32) -> u64
         requires index { index < length self.now.loads }
-        requires last { IsWithin last }
-        ensures { result ≡ deadline (terms_of self.now) last index }
+        requires last { IsMomentWithin last }
+        ensures { result ≡ lasts_until (terms_of self.now) last index }
     {
         match last {
             None => self.end(index),

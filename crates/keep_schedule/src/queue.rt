@@ -4,10 +4,10 @@ ghost use Rattle.keep_tree.specs.Forest.{end_of};
 ghost use Rattle.keep_rule.specs.Unkeepable.{AllKeepable};
 ghost use Rattle.keep_needs.specs.Carried.{IsCarried};
 ghost use Rattle.keep_rule.specs.declared.force.Force.{Force};
-ghost use Rattle.keep_schedule.specs.Courses.{IsToCome, IsWithin};
+ghost use Rattle.keep_schedule.specs.Courses.{IsMomentWithin, IsToCome};
 ghost use Rattle.keep_schedule.specs.Forces.{AreForces};
 ghost use Rattle.keep_schedule.specs.Prospect.{terms_of};
-ghost use Rattle.keep_schedule.specs.code.Queueing.{Fills, IsBegun, IsReady, runs_left};
+ghost use Rattle.keep_schedule.specs.code.Queueing.{FillsLine, GroupsAreReady, RunIsBegun, runs_left};
 ghost use Rattle.keep_schedule.specs.Given.{GivesRun, LeavesFewer};
 
 use crate::fault::ScheduleFault;
@@ -36,16 +36,16 @@ pub struct QueueSchedule<'a> {
 
 impl<'a> Model for QueueSchedule<'a> {
     ghost use Rattle.std.specs.Prelude.{length};
-    ghost use Rattle.keep_schedule.specs.Courses.{IsWithin};
+    ghost use Rattle.keep_schedule.specs.Courses.{IsMomentWithin};
     ghost use Rattle.keep_schedule.specs.Prospect.{terms_of};
-    ghost use Rattle.keep_schedule.specs.code.Queueing.{IsReady, runs_left};
+    ghost use Rattle.keep_schedule.specs.code.Queueing.{GroupsAreReady, runs_left};
     ghost use Rattle.keep_schedule.specs.Queues.{Queue};
 
     ghost Value = { Queue };
 
     ghost view = { λ q. record { course = record { prospect = q.outlook; last = q.last }; runs = runs_left q.groups q.next } };
 
-    ghost invariant = { λ q. IsWithin q.last × IsReady q.outlook q.last q.groups q.next };
+    ghost invariant = { λ q. IsMomentWithin q.last × GroupsAreReady q.outlook q.last q.groups q.next };
 }
 
 impl<'a> QueueSchedule<'a> {
@@ -134,9 +134,9 @@ struct Begun {
 
 /// Takes the next wake-up, after the one at `last`. Where an entry that waits forces it, that has now joined.
 fn begin(outlook: &Outlook, groups: &mut Groups, last: Option<u64>, next: Next) -> Option<Begun>
-    requires ready { IsReady outlook.now last groups.old next }
-    requires last { IsWithin last }
-    ensures begun { IfSome result (λ b. IsBegun outlook.now last groups.old groups.new next b.entry b.first) }
+    requires ready { GroupsAreReady outlook.now last groups.old next }
+    requires last { IsMomentWithin last }
+    ensures begun { IfSome result (λ b. RunIsBegun outlook.now last groups.old groups.new next b.entry b.first) }
     ensures moment { IfSome result (λ b. b.first ≤ LAST) }
     ensures none { result ≡ None → (next ≡ Next.Done) × (groups.new ≡ groups.old) }
 {
@@ -156,7 +156,7 @@ fn begin(outlook: &Outlook, groups: &mut Groups, last: Option<u64>, next: Next) 
 
 /// The line of those that fall short before any wake-up.
 fn waiting(alloc: Global, outlook: &Outlook) -> Result<Line, AllocError>
-    ensures { IfOk result (λ line. Fills outlook.now (length outlook.now.loads) line) }
+    ensures { IfOk result (λ line. FillsLine outlook.now (length outlook.now.loads) line) }
 {
     let mut line = Line::with_room(alloc, outlook.len() as usize)?;
     for index in 0..outlook.len() {

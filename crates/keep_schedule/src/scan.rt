@@ -4,7 +4,7 @@ ghost use Rattle.keep_rule.specs.Unkeepable.{AllKeepable};
 ghost use Rattle.keep_needs.specs.Carried.{IsCarried};
 ghost use Rattle.keep_rule.specs.declared.force.Force.{Force};
 ghost use Rattle.keep_schedule.specs.code.Scanning.{IsLeader, TakesLead};
-ghost use Rattle.keep_schedule.specs.Courses.{IsToCome, IsWithin};
+ghost use Rattle.keep_schedule.specs.Courses.{IsMomentWithin, IsToCome};
 ghost use Rattle.keep_schedule.specs.Forces.{AreForces};
 ghost use Rattle.keep_schedule.specs.code.Sound.{IsInSight};
 ghost use Rattle.keep_schedule.specs.Prospect.{terms_of};
@@ -25,13 +25,13 @@ pub struct ScanSchedule<'a> {
 }
 
 impl<'a> Model for ScanSchedule<'a> {
-    ghost use Rattle.keep_schedule.specs.Courses.{Course, IsWithin};
+    ghost use Rattle.keep_schedule.specs.Courses.{Course, IsMomentWithin};
 
     ghost Value = { Course };
 
     ghost view = { λ q. record { prospect = q.outlook; last = q.last } };
 
-    ghost invariant = { λ q. IsWithin q.last };
+    ghost invariant = { λ q. IsMomentWithin q.last };
 }
 
 impl<'a> ScanSchedule<'a> {
@@ -73,7 +73,7 @@ impl<'a> Schedule for ScanSchedule<'a> {
 /// The entry that forces the next wake-up after the one at `last`: of those that end before the need that they carry, the
 /// first to end, of several the lowest index.
 fn leader(outlook: &Outlook, last: Option<u64>) -> Option<u32>
-    requires { IsWithin last }
+    requires { IsMomentWithin last }
     ensures leader { IsLeader (terms_of outlook.now) last result }
     ensures within { IfSome result (λ f. f < length outlook.now.loads) }
     ensures sound { IsInSight outlook.now }
@@ -89,7 +89,7 @@ fn leader(outlook: &Outlook, last: Option<u64>) -> Option<u32>
 
 /// Whether the entry ends before the need that it carries, and before `best`, if there is one.
 fn takes_lead(outlook: &Outlook, last: Option<u64>, index: u32, best: Option<u32>) -> bool
-    requires last { IsWithin last }
+    requires last { IsMomentWithin last }
     requires index { index < length outlook.now.loads }
     requires best { IfSome best (λ f. f < length outlook.now.loads) }
     ensures { IsTrue result ↔ TakesLead (terms_of outlook.now) last index best }

@@ -1,9 +1,9 @@
 ghost use Rattle.std.specs.Prelude.{◌≡◌, ℕ, ◌+◌, ◌<◌, ◌≤◌, ◌⊎◌, ◌↔◌, length, Some, IsTrue};
 ghost use Rattle.keep_moment.specs.declared.moment.TheConstants.{LAST};
-ghost use Rattle.keep_schedule.specs.code.Groups.{IsGrouped, IsHead, Joins, Waits};
+ghost use Rattle.keep_schedule.specs.code.Groups.{IsGrouped, IsHeadOfJoined, Joins, StandsWaiting};
 ghost use Rattle.keep_schedule.specs.Prospect.{terms_of};
-ghost use Rattle.keep_schedule.specs.code.Stretches.{IsOther, Stretches};
-ghost use Rattle.keep_schedule.specs.code.Sound.{IsSound};
+ghost use Rattle.keep_schedule.specs.code.Stretches.{IsOtherEntry, Stretches};
+ghost use Rattle.keep_schedule.specs.code.Sound.{TermsAreSound};
 ghost use Rattle.keep_schedule.specs.Terms.{Leads};
 
 use crate::groups::{Groups, Next, settle};
@@ -31,8 +31,8 @@ pub(crate) fn extend(
     requires moment { first ≤ LAST }
     requires most { 1 ≤ most }
     ensures taken { Stretches outlook.now entry first most groups.old groups.new result.more result.last result.next }
-    ensures sound { IsSound (terms_of outlook.now) }
-    ensures ended { (result.more + 1 ≡ most) ⊎ IsOther entry result.next }
+    ensures sound { TermsAreSound (terms_of outlook.now) }
+    ensures ended { (result.more + 1 ≡ most) ⊎ IsOtherEntry entry result.next }
 {
     let apart = outlook.step(entry) - outlook.margin();
     let mut more = 0;
@@ -62,7 +62,7 @@ fn is_head(next: Next, entry: u32) -> bool
 /// Before when `entry`, which forces the wake-up after the one at `last`, goes on to do so, as far as the groups tell.
 fn until(outlook: &Outlook, groups: &Groups, entry: u32, last: u64) -> u64
     requires grouped { IsGrouped outlook.now (Some last) groups.now }
-    requires head { IsHead (terms_of outlook.now) last (Waits (terms_of outlook.now) groups.now) (Joins (terms_of outlook.now) groups.now) entry }
+    requires head { IsHeadOfJoined (terms_of outlook.now) last (StandsWaiting (terms_of outlook.now) groups.now) (Joins (terms_of outlook.now) groups.now) entry }
     requires entry { entry < length outlook.now.loads }
     ensures later { last < result }
     ensures leads { (v : ℕ) → last ≤ v → v < result → Leads (terms_of outlook.now) (Some v) entry }

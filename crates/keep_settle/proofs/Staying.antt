@@ -5,13 +5,13 @@ use Rattle.keep_change.specs.declared.change.Record.{Record}
 use Rattle.keep_change.specs.declared.change.Record.TheVariants.{Settling}
 use Rattle.keep_change.specs.declared.replaying.File.{File}
 use Rattle.keep_change.specs.declared.row.Row.{Row}
-use Rattle.keep_change.specs.Replay.{State, replayed}
+use Rattle.keep_change.specs.Replay.{ReplayState, replayed}
 use Rattle.keep_change.proofs.Settling.{settled}
 use Rattle.keep_settle.specs.Order.{in_order}
-use Rattle.keep_settle.specs.Settled.{IsSettled}
+use Rattle.keep_settle.specs.Settled.{TextIsSettled}
 use Rattle.keep_settle.specs.Laws.{SettledRowsLaw}
 
-begins : List Row → State
+begins : List Row → ReplayState
 begins rows = record { rows = rows; notes = [] }
 
 pub stays : SettledRowsLaw

@@ -5,11 +5,11 @@ use Rattle.keep_change.specs.declared.change.Record.{Record}
 use Rattle.keep_change.specs.declared.change.Record.TheVariants.{Settling}
 use Rattle.keep_change.specs.declared.replaying.File.{File}
 use Rattle.keep_change.specs.declared.row.Row.{Row}
-use Rattle.keep_change.specs.Listed.{rows_of}
+use Rattle.keep_change.specs.Listed.{rows_of_served}
 use Rattle.keep_change.specs.Replay.{replayed}
 use Rattle.keep_change.specs.Words.{fingerprint}
 use Rattle.keep_settle.specs.Order.{in_order}
-use Rattle.keep_settle.specs.Settled.{IsSettled}
+use Rattle.keep_settle.specs.Settled.{TextIsSettled}
 
 -- a file with a settled text, and what the records of a journal make of it: these rows in order, and no note
 abbrev pub GivesRows : File → List Row → List Record → Type 0
@@ -18,6 +18,6 @@ GivesRows f rows rs = replayed f rs ≡ record { rows = in_order rows; notes = [
 -- once a settled text is the file, a journal that ends with the mark of it gives the rows that were settled, and so does one that
 -- has been emptied
 abbrev pub SettledRowsLaw : Type 0
-SettledRowsLaw = (margin most : Option ℕ) (rows : List Row) (text : List ℕ) (v : Served) → IsSettled margin most rows text v
-    → (f : File) → f.rows ≡ rows_of v → f.mark ≡ fingerprint text
+SettledRowsLaw = (margin most : Option ℕ) (rows : List Row) (text : List ℕ) (v : Served) → TextIsSettled margin most rows text v
+    → (f : File) → f.rows ≡ rows_of_served v → f.mark ≡ fingerprint text
     → (rs : List Record) → GivesRows f rows (rs ++ Settling (fingerprint text) ∷ []) × GivesRows f rows []

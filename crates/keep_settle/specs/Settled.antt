@@ -9,7 +9,7 @@ use Rattle.keep_inventory.specs.Inventory.{read_served}
 use Rattle.keep_inventory.specs.Keys.{key_text}
 use Rattle.keep_inventory.specs.Served.{Served}
 use Rattle.keep_change.specs.declared.row.Row.{Row}
-use Rattle.keep_change.specs.Listed.{rows_of}
+use Rattle.keep_change.specs.Listed.{rows_of_served}
 use Rattle.keep_settle.specs.Order.{in_order}
 
 -- seconds as a document writes them
@@ -21,15 +21,15 @@ abbrev pub HasMost : Option ℕ → Members → Type 0
 HasMost most ms = get_member (key_text SystemMax) ms ≡ option_map in_seconds most
 
 -- and so does a text
-abbrev pub WritesMost : Option ℕ → List ℕ → Type 0
-WritesMost most text = (ms : Members) × (parse_document text ≡ Some ms) × HasMost most ms
+abbrev pub TextWritesMost : Option ℕ → List ℕ → Type 0
+TextWritesMost most text = (ms : Members) × (parse_document text ≡ Some ms) × HasMost most ms
 
 -- the text is read as that inventory, whose rows are these in order, with the margin that is written; and it writes that maximum
 -- TTL of the system, where one is given
-pub record IsSettled (margin most : Option ℕ) (rows : List Row) (text : List ℕ) (v : Served) : Type 0 where
+pub record TextIsSettled (margin most : Option ℕ) (rows : List Row) (text : List ℕ) (v : Served) : Type 0 where
   pub read : read_served text ≡ Ok v
-  pub listed : rows_of v ≡ in_order rows
+  pub listed : rows_of_served v ≡ in_order rows
   pub margin_is : v.inventory.forest.margin ≡ unwrap_or margin 1
   pub has_margin : v.has_margin ≡ is_some margin
-  pub most_is : WritesMost most text
+  pub most_is : TextWritesMost most text
   pub short : length text ≤ MOST_INVENTORY

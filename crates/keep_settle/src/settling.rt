@@ -4,8 +4,8 @@ ghost use Rattle.toml.specs.View.{table_view, view};
 ghost use Rattle.keep_inventory.specs.Keys.{key_text};
 ghost use Rattle.keep_inventory.specs.declared.limits.TheConstants.{MOST_INVENTORY};
 ghost use Rattle.keep_inventory.specs.Inventory.{read_served};
-ghost use Rattle.keep_change.specs.Listed.{rows_of};
-ghost use Rattle.keep_settle.specs.Settled.{HasMost, IsSettled, WritesMost, in_seconds};
+ghost use Rattle.keep_change.specs.Listed.{rows_of_served};
+ghost use Rattle.keep_settle.specs.Settled.{HasMost, TextIsSettled, TextWritesMost, in_seconds};
 
 use crate::fault::SettleFault;
 use crate::order::in_order;
@@ -37,7 +37,7 @@ pub fn settle(
     system_max: Option<Span>,
     rows: &Rows,
 ) -> Result<Settled, SettleFault>
-    ensures { IfOk result (λ s. IsSettled margin system_max rows.now (string_bytes s.text) s.served) }
+    ensures { IfOk result (λ s. TextIsSettled margin system_max rows.now (string_bytes s.text) s.served) }
 {
     let ordered = in_order(alloc, rows)?;
     let table = document(alloc, margin, system_max, ordered.list())?;
@@ -81,7 +81,7 @@ fn read(alloc: Global, text: &[u8]) -> Result<Served, SettleFault>
 
 // Whether a text writes that maximum TTL of the system, or none.
 fn writes_most(alloc: Global, text: &str, most: Option<Span>) -> Result<bool, SettleFault>
-    ensures { IfOk result (λ same. same ≡ true → WritesMost most text.now) }
+    ensures { IfOk result (λ same. same ≡ true → TextWritesMost most text.now) }
 {
     match toml::table_from_str(alloc, text) {
         Ok(table) => Ok(has_most(&table, most)),

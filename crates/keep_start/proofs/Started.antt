@@ -5,7 +5,7 @@ use Rattle.keep_tree.specs.declared.entry.Entry.{Entry}
 use Rattle.keep_tree.specs.Forest.{Forest, end_of}
 use Rattle.keep_tree.specs.Push.{IsForest}
 use Rattle.keep_rule.specs.Unkeepable.{AllKeepable}
-use Rattle.keep_core.specs.Always.{forest_from, is_always, need_from, needs_from}
+use Rattle.keep_core.specs.Always.{forest_from, is_always_needed, need_from, needs_from}
 use Rattle.keep_core.specs.code.Passes.{needing}
 use Rattle.keep_core.specs.LawsOfSteps.{IsShaped}
 use Rattle.keep_core.specs.Shorten.{is_short}
@@ -18,18 +18,18 @@ use Rattle.keep_inventory.specs.declared.limits.TheConstants.{SPAN_MAX}
 use Rattle.keep_inventory.specs.declared.note.Note.{Note}
 use Rattle.keep_inventory.specs.Inventories.{IsInventory, Inventory}
 use Rattle.keep_inventory.specs.Inventory.{read_inventory, read_known, read_served}
-use Rattle.keep_inventory.specs.Served.{Served, first_open, first_untold, known_of, told_unless, unless, whole_of}
+use Rattle.keep_inventory.specs.Served.{Served, first_open, first_untold, inventory_if_whole, served_if_told, told_unless, unless}
 use Rattle.keep_inventory.proofs.Barely.{served_secrecy_law}
 use Rattle.keep_inventory.proofs.Chains.{bind_ok, follow}
 use Rattle.keep_inventory.proofs.Inventoried.{served_law}
-use Rattle.keep_start.specs.Laws.{KeptLaw, SecrecyLaw, StartLaw, WholeLaw}
-use Rattle.keep_served.specs.ForGood.{marks, with_needs}
+use Rattle.keep_start.specs.Laws.{AlwaysKeptLaw, StartInventoryLaw, StartSecrecyLaw, WholeLaw}
+use Rattle.keep_served.specs.ForGood.{inventory_with_needs, marks}
 use Rattle.keep_start.specs.Start.{from_start, inventory_at}
 
 -- ---- what was read before
 
 known_is : (bytes : List ℕ) (v : Served) → read_known bytes ≡ Ok v → read_served bytes ≡ Ok v
-unfolding read_known known_of
+unfolding read_known served_if_told
 known_is bytes v e = bind_ok (read_served bytes) _ v e (λ u read e1. by_first u (first_untold 0 u.notes) read e1)
   where
     by_first : (u : Served) (o : Option ℕ) → read_served bytes ≡ Ok u → told_unless u o ≡ Ok v → read_served bytes ≡ Ok v
@@ -46,8 +46,8 @@ known_at s bytes v read = follow _ v _ _ read refl
 
 -- ---- needs that are set
 
-pub needs_set : (v : Inventory) (always : List Bool) (s : ℕ) (needs : List ℕ) → needs ≡ needs_from v.forest always s → with_needs v needs ≡ from_start v always s
-unfolding with_needs from_start needing
+pub needs_set : (v : Inventory) (always : List Bool) (s : ℕ) (needs : List ℕ) → needs ≡ needs_from v.forest always s → inventory_with_needs v needs ≡ from_start v always s
+unfolding inventory_with_needs from_start needing
 needs_set v always s needs are = ap (λ (g : Forest). record v { forest = g }) (all_from v.forest always s needs are)
 
 pub needs_for_each : (g : Forest) (always : List Bool) (s : ℕ) (needs : List ℕ) → needs ≡ needs_from g always s → length needs ≡ length g.entries
@@ -93,12 +93,12 @@ pub kept_credentials : (v : Inventory) (always : List Bool) (s : ℕ) → (from_
 unfolding from_start
 kept_credentials v always s = refl
 
-pub start_law : StartLaw
+pub start_law : StartInventoryLaw
 start_law s bytes inventory e =
     let at = at_is s bytes inventory e in
     subst IsInventory at.2 (start_is_inventory at.0.inventory (served_law bytes at.0 (known_is bytes at.0 at.1)).inventory (marks at.0.notes) s)
 
-pub secrecy_law : SecrecyLaw
+pub secrecy_law : StartSecrecyLaw
 unfolding from_start
 secrecy_law s bytes other v w alike e d =
     let at = at_is s bytes v e in
@@ -122,7 +122,7 @@ open_parts index true true later e = absurd cc
 open_parts index true false later e = (refl, refl, e)
 open_parts index false always later e = absurd cc
 
-closed : (index : ℕ) (notes : List Note) → first_open index notes ≡ None → (first_untold index notes ≡ None) × ((j : ℕ) → is_always (marks notes) j ≡ false)
+closed : (index : ℕ) (notes : List Note) → first_open index notes ≡ None → (first_untold index notes ≡ None) × ((j : ℕ) → is_always_needed (marks notes) j ≡ false)
 unfolding marks
 closed index [] e = (refl, λ j. refl)
 closed index (note ∷ notes) e =
@@ -130,7 +130,7 @@ closed index (note ∷ notes) e =
     let more = closed (index + 1) notes parts.2 in
     (cond-true note.is_told (first_untold (index + 1) notes) (Some index) parts.0 ∙ more.0, by_place parts.1 more.1)
   where
-    by_place : note.is_always ≡ false → ((j : ℕ) → is_always (marks notes) j ≡ false) → (j : ℕ) → is_always (marks (note ∷ notes)) j ≡ false
+    by_place : note.is_always ≡ false → ((j : ℕ) → is_always_needed (marks notes) j ≡ false) → (j : ℕ) → is_always_needed (marks (note ∷ notes)) j ≡ false
     by_place here later zero = here
     by_place here later (suc j) = later j
 
@@ -139,7 +139,7 @@ whole_parts inventory v None e = (refl, cc)
 whole_parts inventory v (Some fault) e = absurd cc
 
 pub whole_law : WholeLaw
-unfolding read_inventory whole_of inventory_at read_known known_of from_start
+unfolding read_inventory inventory_if_whole inventory_at read_known served_if_told from_start
 whole_law s bytes inventory e =
     bind_ok (read_served bytes) _ inventory e (λ v read e1.
     let whole = whole_parts inventory v.inventory (first_open 0 v.notes) e1 in
@@ -150,7 +150,7 @@ whole_law s bytes inventory e =
 
 -- ---- always
 
-pub kept_law : KeptLaw
+pub kept_law : AlwaysKeptLaw
 unfolding from_start
 kept_law s bytes v inventory read e =
     let at = at_is s bytes inventory e in

@@ -12,7 +12,7 @@ use Rattle.std.specs.Map.{KeepsOthers, IsKeyTest, AreApart, lookup}
 use Rattle.std.specs.Ordering.{nat_cmp, is_eq}
 use Rattle.keep_tree.specs.declared.entry.Entry.{Entry}
 use Rattle.keep_tree.specs.Forest.{Forest, index_named}
-use Rattle.keep_tree.specs.Push.{refusal}
+use Rattle.keep_tree.specs.Push.{entry_refusal}
 use Rattle.keep_tree.proofs.Entries.{index_named_push, later_index}
 use Rattle.keep_tree.proofs.Placed.{none_from_is_some, taken_from_refusal}
 
@@ -61,7 +61,7 @@ later_index_is (Some i) true n new = absurd (let e : Some i ≡ None = new refl 
 later_index_is (Some i) false n new = refl
 
 pub named_push :
-    (g : Forest) (e : Entry) (m n : BTreeMap (Vec ℕ Global) ℕ) (key : Vec ℕ Global) → key.items ≡ e.name → refusal g e ≡ None →
+    (g : Forest) (e : Entry) (m n : BTreeMap (Vec ℕ Global) ℕ) (key : Vec ℕ Global) → key.items ≡ e.name → entry_refusal g e ≡ None →
     ((q : List ℕ) → at_bytes m q ≡ index_named g.entries q) →
     Updates (λ x y. slice_cmp nat_cmp x.items y.items) m n key (Some (length g.entries)) →
     (q : List ℕ) → at_bytes n q ≡ index_named (g.entries ++ e ∷ []) q

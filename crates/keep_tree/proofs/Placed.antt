@@ -12,7 +12,7 @@ use Rattle.keep_tree.specs.declared.fault.TreeFault.{TreeFault}
 use Rattle.keep_tree.specs.declared.forest.TheConstants.{END_MAX, MARGIN_MAX, MAX_DEPTH, MAX_ENTRIES}
 use Rattle.keep_tree.specs.Forest.{Forest, entry_at, index_named}
 use Rattle.keep_tree.specs.Over.{chain}
-use Rattle.keep_tree.specs.Push.{IsForest, IsPlaced, depth_under, is_lease, is_name, is_out_of_range, is_too_high, is_under_lease, lacks_parent, refusal}
+use Rattle.keep_tree.specs.Push.{IsForest, IsPlaced, depth_under, entry_refusal, is_lease, is_name, is_out_of_range, is_too_high, is_under_lease, lacks_parent}
 use Rattle.keep_tree.proofs.Entries.{entry_at_past, entry_at_push_new, entry_at_push_old, entry_at_set_other, entry_at_set_same, index_named_push, index_named_set, later_index, later_index_found, later_index_new}
 use Rattle.keep_tree.proofs.Chains.{FewerParents, ParentsFirst, SameParents, cases_Option, chain_child, chain_fewer, chain_root, chain_same}
 
@@ -163,7 +163,7 @@ passed : (met : Bool) (fault : TreeFault) (others : Option TreeFault) → cond m
 passed true fault others e = absurd cc
 passed false fault others e = (refl, e)
 
-pub taken_from_refusal : (g : Forest) (e : Entry) → refusal g e ≡ None → IsTaken g e
+pub taken_from_refusal : (g : Forest) (e : Entry) → entry_refusal g e ≡ None → IsTaken g e
 taken_from_refusal g e none =
     let a = passed _ _ _ none in
     let b = passed _ _ _ a.1 in
@@ -252,7 +252,7 @@ new_is_placed g forest e taken =
       depth = chain_of_new g forest e first taken;
     }
 
-pub pushed_is_forest : (g : Forest) → IsForest g → (e : Entry) → refusal g e ≡ None → IsForest (record { entries = g.entries ++ e ∷ []; margin = g.margin })
+pub pushed_is_forest : (g : Forest) → IsForest g → (e : Entry) → entry_refusal g e ≡ None → IsForest (record { entries = g.entries ++ e ∷ []; margin = g.margin })
 pushed_is_forest g forest e none =
     let taken = taken_from_refusal g e none in
     let es = g.entries ++ e ∷ [] in

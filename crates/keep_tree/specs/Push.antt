@@ -54,8 +54,8 @@ first_met [] = None
 first_met (t ∷ tests) = if t.0 then Some t.1 else first_met tests
 
 -- why a forest does not take an entry, None where it does
-abbrev pub refusal : Forest → Entry → Option TreeFault
-refusal g e =
+abbrev pub entry_refusal : Forest → Entry → Option TreeFault
+entry_refusal g e =
     first_met ((not (is_name e.name), BadName)
     ∷ (is_some (index_named g.entries e.name), NameTwice)
     ∷ (lacks_parent g.entries e.parent, NoParent)

@@ -3,7 +3,7 @@ ghost use Rattle.std.specs.List.{list_all};
 ghost use Rattle.keep_tree.specs.Forest.{entry_at, index_named};
 ghost use Rattle.keep_tree.specs.Margins.{IsMargin, IsMostMargin};
 ghost use Rattle.keep_tree.specs.Over.{chain, is_over};
-ghost use Rattle.keep_tree.specs.Push.{IsForest, depth_under, is_lease, is_name, is_name_byte, is_out_of_range, is_too_high, is_under_lease, lacks_parent, refusal};
+ghost use Rattle.keep_tree.specs.Push.{IsForest, depth_under, entry_refusal, is_lease, is_name, is_name_byte, is_out_of_range, is_too_high, is_under_lease, lacks_parent};
 
 use crate::entry::{Entry, Kind};
 use crate::fault::TreeFault;
@@ -185,10 +185,10 @@ impl Forest {
     /// Appends the entry and gives its index. A refused entry is dropped and the forest stays as it was; the answer is
     /// the first refusal in the order of [`TreeFault`], and lack of memory only where none of them applies.
     pub fn push(&mut self, entry: Entry) -> Result<u32, TreeFault>
-        ensures taken { IfOk result (λ i. (refusal self.old entry ≡ None) × (i ≡ length self.old.entries)
+        ensures taken { IfOk result (λ i. (entry_refusal self.old entry ≡ None) × (i ≡ length self.old.entries)
             × (self.new ≡ record self.old { entries = self.old.entries ++ entry ∷ [] })) }
-        ensures refused { IfSome (refusal self.old entry) (λ fault. result ≡ Err fault) }
-        ensures memory { refusal self.old entry ≡ None → IsOkUnless result TreeFault.OutOfMemory }
+        ensures refused { IfSome (entry_refusal self.old entry) (λ fault. result ≡ Err fault) }
+        ensures memory { entry_refusal self.old entry ≡ None → IsOkUnless result TreeFault.OutOfMemory }
         ensures unchanged { OnErr result (self.new ≡ self.old) }
     {
         if let Some(fault) = self.refusal(&entry) {
@@ -250,7 +250,7 @@ impl Forest {
 
     /// Why the entry would be refused: the first of the nine that applies, `None` where none does.
     fn refusal(&self, entry: &Entry) -> Option<TreeFault>
-        ensures { result ≡ refusal self.now entry.now }
+        ensures { result ≡ entry_refusal self.now entry.now }
     {
         if !is_name(entry.name.list()) {
             return Some(TreeFault::BadName);

@@ -1,7 +1,7 @@
 -- Keepers: a store, and the changes of it that wait for a rebuilding.
 -- Source: this project's own.
 use Rattle.std.specs.Prelude.{◌≡◌, ℕ, true, false, List, Option, Some, None, Ok}
-use Rattle.keep_agent.specs.Waiting.{is_due}
+use Rattle.keep_agent.specs.Waiting.{is_rebuilding_due}
 use Rattle.keep_inventory.specs.Inventories.{Inventory}
 use Rattle.keep_served.specs.ForGood.{inventory_for_good}
 use Rattle.keep_store.specs.declared.store.Store.{Store}
@@ -15,6 +15,6 @@ abbrev pub waiting_in : Keeper → Option ℕ
 waiting_in keeper = keeper.waiting
 
 -- an inventory is given exactly where a rebuilding is due: the one that is read of this text
-abbrev pub IsGiven : Option ℕ → ℕ → List ℕ → Option Inventory → Type 0
-IsGiven waiting now text None = is_due waiting now ≡ false
-IsGiven waiting now text (Some inventory) = (is_due waiting now ≡ true) × (inventory_for_good text ≡ Ok inventory)
+abbrev pub InventoryIsGiven : Option ℕ → ℕ → List ℕ → Option Inventory → Type 0
+InventoryIsGiven waiting now text None = is_rebuilding_due waiting now ≡ false
+InventoryIsGiven waiting now text (Some inventory) = (is_rebuilding_due waiting now ≡ true) × (inventory_for_good text ≡ Ok inventory)

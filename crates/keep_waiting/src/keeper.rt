@@ -19,17 +19,17 @@ pub struct Keeper<'a> {
 impl<'a> Keeper<'a> {
     ghost use Rattle.std.specs.Prelude.{◌≡◌, IfErr, IfOk, IsTrue, None, Ok, OnErr, OnOk, false, if◌then◌else◌, option_copied, option_map, string_bytes};
     ghost use Rattle.std.specs.Str.{bytes_eq};
-    ghost use Rattle.keep_agent.specs.Waiting.{changed, is_due};
+    ghost use Rattle.keep_agent.specs.Waiting.{changed, is_rebuilding_due};
     ghost use Rattle.keep_disk.specs.State.{LeavesOnly};
-    ghost use Rattle.keep_journal.specs.Journals.{Holds, IsWhole, KeepsOthers, Leaves};
+    ghost use Rattle.keep_journal.specs.Journals.{CrashLeaves, JournalHolds, JournalIsWhole, KeepsOthers};
     ghost use Rattle.keep_journal.specs.Records.{IsBeforeOrAfter, StandsFor};
-    ghost use Rattle.keep_store.specs.Books.{HasSecrets, IsBookIf, IsFaultOf};
+    ghost use Rattle.keep_store.specs.Books.{HasSecrets, IsBookIf, IsFileFaultOf};
     ghost use Rattle.keep_store.specs.Compacted.{compacted_lines, is_worth};
-    ghost use Rattle.keep_store.specs.Entering.{IsWhyNot, line_for};
+    ghost use Rattle.keep_store.specs.Entering.{IsWhyNot, line_for_change};
     ghost use Rattle.keep_store.specs.Moved.{HasMarkAtMost, IsMovedIf, IsWhyUnsettled, LeftByMove};
-    ghost use Rattle.keep_waiting.specs.Keepers.{IsGiven, store_of, waiting_in};
+    ghost use Rattle.keep_waiting.specs.Keepers.{InventoryIsGiven, store_of, waiting_in};
     ghost use Rattle.keep_store.specs.Records.{records_in};
-    ghost use Rattle.keep_store.specs.Stores.{IsReplayed, IsTaken, book_of, journal_of, lines_in, path_in};
+    ghost use Rattle.keep_store.specs.Stores.{ChangeIsTaken, IsReplayed, book_of, journal_of, lines_in, path_of_store};
 
     /// A store of which no change waits.
     pub fn new(store: Store<'a>) -> Keeper<'a>
@@ -58,21 +58,21 @@ impl<'a> Keeper<'a> {
         name: Name,
         what: What,
     ) -> Result<bool, TakeFault>
-        requires held { Holds D.is_known (journal_of (store_of self.old)) (D.state disk.old) }
+        requires held { JournalHolds D.is_known (journal_of (store_of self.old)) (D.state disk.old) }
         requires replayed { IsReplayed (store_of self.old) }
-        ensures taken { IfOk result (λ need. IsTaken (store_of self.old) name what need (store_of self.new)) }
+        ensures taken { IfOk result (λ need. ChangeIsTaken (store_of self.old) name what need (store_of self.new)) }
         ensures waiting { IfOk result (λ need. waiting_in self.new ≡ (if need then waiting_in self.old else changed (waiting_in self.old) now)) }
-        ensures acknowledged { OnOk result (IsTrue D.is_known → IsWhole (journal_of (store_of self.new)) (D.state disk.new)) }
+        ensures acknowledged { OnOk result (IsTrue D.is_known → JournalIsWhole (journal_of (store_of self.new)) (D.state disk.new)) }
         ensures refused { IfErr result (IsWhyNot (book_of (store_of self.old)) name what) }
         ensures book { OnErr result (book_of (store_of self.new) ≡ book_of (store_of self.old)) }
         ensures lines { OnErr result (lines_in (store_of self.new) ≡ lines_in (store_of self.old)) }
-        ensures path { OnErr result (path_in (store_of self.new) ≡ path_in (store_of self.old)) }
+        ensures path { OnErr result (path_of_store (store_of self.new) ≡ path_of_store (store_of self.old)) }
         ensures unchanged { OnErr result (waiting_in self.new ≡ waiting_in self.old) }
-        ensures held { Holds D.is_known (journal_of (store_of self.new)) (D.state disk.new) }
+        ensures held { JournalHolds D.is_known (journal_of (store_of self.new)) (D.state disk.new) }
         ensures replayed { IsReplayed (store_of self.new) }
         ensures any_moment { IsTrue D.is_known → LeavesOnly (D.state disk.old) (D.state disk.new)
-            (Leaves (path_in (store_of self.old)) (IsBeforeOrAfter (lines_in (store_of self.old)) (line_for (book_of (store_of self.old)).file name what)) (D.state disk.old)) }
-        ensures others { IsTrue D.is_known → KeepsOthers (path_in (store_of self.old)) (D.state disk.old) (D.state disk.new) }
+            (CrashLeaves (path_of_store (store_of self.old)) (IsBeforeOrAfter (lines_in (store_of self.old)) (line_for_change (book_of (store_of self.old)).file name what)) (D.state disk.old)) }
+        ensures others { IsTrue D.is_known → KeepsOthers (path_of_store (store_of self.old)) (D.state disk.old) (D.state disk.new) }
     {
         let is_need = self.store.take(disk, name, what)?;
         if !is_need {
@@ -86,7 +86,7 @@ impl<'a> Keeper<'a> {
         requires { IsReplayed (store_of self.old) }
         ensures reloaded { IfOk result (λ notes. IsBookIf (option_copied bytes.entry) (records_in (lines_in (store_of self.old))) (book_of (store_of self.old)).secrets (book_of (store_of self.new)) notes.items) }
         ensures waiting { OnOk result (waiting_in self.new ≡ changed (waiting_in self.old) now) }
-        ensures refused { IfErr result (IsFaultOf (option_copied bytes.entry)) }
+        ensures refused { IfErr result (IsFileFaultOf (option_copied bytes.entry)) }
         ensures book { OnErr result (book_of (store_of self.new) ≡ book_of (store_of self.old)) }
         ensures unchanged { OnErr result (waiting_in self.new ≡ waiting_in self.old) }
         ensures journal { journal_of (store_of self.new) ≡ journal_of (store_of self.old) }
@@ -120,16 +120,16 @@ impl<'a> Keeper<'a> {
         mode: u32,
         present: &[u8],
     ) -> Result<Option<String>, Unsettled>
-        requires apart { bytes_eq (path_in (store_of self.old)) target.now ≡ false }
-        requires held { Holds D.is_known (journal_of (store_of self.old)) (D.state disk.old) }
+        requires apart { bytes_eq (path_of_store (store_of self.old)) target.now ≡ false }
+        requires held { JournalHolds D.is_known (journal_of (store_of self.old)) (D.state disk.old) }
         requires replayed { IsReplayed (store_of self.old) }
         ensures settled { IfOk result (λ text. IsMovedIf D.is_known (store_of self.old) target.now mode (option_map string_bytes text) (store_of self.new) (D.state disk.new)) }
         ensures waiting { waiting_in self.new ≡ waiting_in self.old }
         ensures refused { IfErr result (IsWhyUnsettled (book_of (store_of self.old)) present.now) }
         ensures book { OnErr result (book_of (store_of self.new) ≡ book_of (store_of self.old)) }
         ensures lines { OnErr result (HasMarkAtMost (store_of self.old) (store_of self.new)) }
-        ensures path { path_in (store_of self.new) ≡ path_in (store_of self.old) }
-        ensures held { Holds D.is_known (journal_of (store_of self.new)) (D.state disk.new) }
+        ensures path { path_of_store (store_of self.new) ≡ path_of_store (store_of self.old) }
+        ensures held { JournalHolds D.is_known (journal_of (store_of self.new)) (D.state disk.new) }
         ensures replayed { IsReplayed (store_of self.new) }
         ensures any_moment { IsTrue D.is_known → LeavesOnly (D.state disk.old) (D.state disk.new) (LeftByMove (store_of self.old) target.now mode (D.state disk.old)) }
     {
@@ -138,19 +138,19 @@ impl<'a> Keeper<'a> {
 
     /// Takes void records out of the journal, as [`Store::compact`] does. What waits goes on waiting.
     pub fn compact<D: Disk>(&mut self, disk: &mut D) -> Result<bool, DiskFault>
-        requires held { Holds D.is_known (journal_of (store_of self.old)) (D.state disk.old) }
+        requires held { JournalHolds D.is_known (journal_of (store_of self.old)) (D.state disk.old) }
         requires replayed { IsReplayed (store_of self.old) }
         ensures worth { IfOk result (λ done. done ≡ is_worth (lines_in (store_of self.old))) }
         ensures lines { IfOk result (λ done. lines_in (store_of self.new) ≡ (if done then compacted_lines (lines_in (store_of self.old)) else lines_in (store_of self.old))) }
         ensures waiting { waiting_in self.new ≡ waiting_in self.old }
         ensures refused { OnErr result (lines_in (store_of self.new) ≡ lines_in (store_of self.old)) }
         ensures book { book_of (store_of self.new) ≡ book_of (store_of self.old) }
-        ensures path { path_in (store_of self.new) ≡ path_in (store_of self.old) }
-        ensures held { Holds D.is_known (journal_of (store_of self.new)) (D.state disk.new) }
+        ensures path { path_of_store (store_of self.new) ≡ path_of_store (store_of self.old) }
+        ensures held { JournalHolds D.is_known (journal_of (store_of self.new)) (D.state disk.new) }
         ensures replayed { IsReplayed (store_of self.new) }
         ensures any_moment { IsTrue D.is_known → LeavesOnly (D.state disk.old) (D.state disk.new)
-            (Leaves (path_in (store_of self.old)) (λ file. StandsFor file (compacted_lines (lines_in (store_of self.old)))) (D.state disk.old)) }
-        ensures others { IsTrue D.is_known → KeepsOthers (path_in (store_of self.old)) (D.state disk.old) (D.state disk.new) }
+            (CrashLeaves (path_of_store (store_of self.old)) (λ file. StandsFor file (compacted_lines (lines_in (store_of self.old)))) (D.state disk.old)) }
+        ensures others { IsTrue D.is_known → KeepsOthers (path_of_store (store_of self.old)) (D.state disk.old) (D.state disk.new) }
     {
         self.store.compact(disk)
     }
@@ -158,8 +158,8 @@ impl<'a> Keeper<'a> {
     /// The inventory that is to be served from now on, where a rebuilding is due: the first of the changes that wait for it came five
     /// seconds ago. The only error is lack of memory, and only there.
     pub fn due(&self, now: Millis) -> Result<Option<Inventory>, AllocError>
-        ensures given { IfOk result (IsGiven (waiting_in self.now) now (book_of (store_of self.now)).text) }
-        ensures early { is_due (waiting_in self.now) now ≡ false → result ≡ Ok None }
+        ensures given { IfOk result (InventoryIsGiven (waiting_in self.now) now (book_of (store_of self.now)).text) }
+        ensures early { is_rebuilding_due (waiting_in self.now) now ≡ false → result ≡ Ok None }
     {
         if !self.waiting.is_due(now) {
             return Ok(None);

@@ -4,22 +4,22 @@ use Rattle.std.specs.Prelude.{◌≡◌, ℕ, ◌<◌, ◌⊎◌, Bool, true, fa
 use Rattle.keep_device.specs.Seen.{Change, Seen}
 use Rattle.keep_report.specs.declared.stop.Stop.{Stop}
 use Rattle.keep_report.specs.declared.stop.Stop.TheVariants as stops
-use Rattle.keep_report.specs.Sent.{IsUntouched, Sends}
+use Rattle.keep_report.specs.Sent.{IsUntouched, SendsText}
 use Rattle.broker_table.specs.declared.moment_line.LineFault.{LineFault}
 use Rattle.broker_table.specs.declared.moment_line.LineFault.TheVariants as line_faults
 use Rattle.broker_table.specs.declared.moment_line.Moments.{Moments}
 use Rattle.broker_table.specs.declared.stream.StreamFault.TheVariants as stream_faults
-use Rattle.broker_table.specs.MomentLine.{Tells}
-use Rattle.broker_table.specs.Stream.{IsStreamed, Leaves}
-use Rattle.broker_table.specs.Table.{Table}
+use Rattle.broker_table.specs.MomentLine.{TellsMoment}
+use Rattle.broker_table.specs.Stream.{FaultLeaves, IsStreamed}
+use Rattle.broker_table.specs.Table.{BrokerTable}
 
 -- nothing was read of the connection or written to it, and the table is as it was
-abbrev pub Stays : Change → Table → Table → Type 0
+abbrev pub Stays : Change → BrokerTable → BrokerTable → Type 0
 Stays stream old new = (new ≡ old) × IsUntouched stream
 
 -- a connection that has its time-outs is served at m, or a read or a write of it fails; one that has none is not served
-abbrev pub IsServedAt : ℕ → Bool → Change → Table → Table → Type 0
-IsServedAt m true stream old new = IsStreamed stream old m new ⊎ (Leaves stream old m stream_faults.ReadFailed new ⊎ Leaves stream old m stream_faults.WriteFailed new)
+abbrev pub IsServedAt : ℕ → Bool → Change → BrokerTable → BrokerTable → Type 0
+IsServedAt m true stream old new = IsStreamed stream old m new ⊎ (FaultLeaves stream old m stream_faults.ReadFailed new ⊎ FaultLeaves stream old m stream_faults.WriteFailed new)
 IsServedAt m false stream old new = Stays stream old new
 
 -- what stops a broker that has no moment for a connection
@@ -29,14 +29,14 @@ stop_of_line line_faults.NoMoment = stops.Read
 stop_of_line line_faults.OutOfMemory = stops.Memory
 
 -- no moment is told, and nothing is done
-abbrev pub HasNone : Moments → Seen → Seen → Change → Table → Stop → Table → Type 0
-HasNone moments before now stream old stop new = (fault : LineFault) × ((stop ≡ stop_of_line fault) × (Tells moments (Err fault) before now × Stays stream old new))
+abbrev pub HasNone : Moments → Seen → Seen → Change → BrokerTable → Stop → BrokerTable → Type 0
+HasNone moments before now stream old stop new = (fault : LineFault) × ((stop ≡ stop_of_line fault) × (TellsMoment moments (Err fault) before now × Stays stream old new))
 
 -- one connection at its moment. It stops the broker where there is no moment, or memory is wanting; not where it fails
-abbrev pub ServesOne : Moments → Seen → Seen → Bool → Change → Table → Result (Unit {0}) Stop → Table → Type 0
-ServesOne moments before now has_time stream old (Ok u) new = (m : ℕ) × (Tells moments (Ok m) before now × IsServedAt m has_time stream old new)
+abbrev pub ServesOne : Moments → Seen → Seen → Bool → Change → BrokerTable → Result (Unit {0}) Stop → BrokerTable → Type 0
+ServesOne moments before now has_time stream old (Ok u) new = (m : ℕ) × (TellsMoment moments (Ok m) before now × IsServedAt m has_time stream old new)
 ServesOne moments before now has_time stream old (Err stop) new =
-    HasNone moments before now stream old stop new ⊎ ((stop ≡ stops.Memory) × ((m : ℕ) × (Tells moments (Ok m) before now × Leaves stream old m stream_faults.OutOfMemory new)))
+    HasNone moments before now stream old stop new ⊎ ((stop ≡ stops.Memory) × ((m : ℕ) × (TellsMoment moments (Ok m) before now × FaultLeaves stream old m stream_faults.OutOfMemory new)))
 
 -- ---- connections, one after another
 
@@ -64,7 +64,7 @@ visited v = record { bytes = v.stream.old.input.remaining; has_time = v.has_time
 -- a broker between two connections: what its lines are read from, and the table
 pub record Broker : Type 0 where
   pub lines : Seen
-  pub table : Table
+  pub table : BrokerTable
 
 -- one connection takes a broker from the one state to the other, or stops it
 abbrev pub Visits : Moments → Broker → Visit → Result (Unit {0}) Stop → Broker → Type 0
@@ -95,4 +95,4 @@ served_line count = codes "served " ++ (decimal count ++ codes "\n")
 
 -- it is told; or why no more than a front of it is, and nothing of it where memory for its text was wanting
 abbrev pub TellsServed : ℕ → Result (Unit {0}) Stop → Change → Type 0
-TellsServed count result out = Sends result (served_line count) out ⊎ ((result ≡ Err stops.Memory) × IsUntouched out)
+TellsServed count result out = SendsText result (served_line count) out ⊎ ((result ≡ Err stops.Memory) × IsUntouched out)

@@ -1,8 +1,8 @@
 ghost use Rattle.std.specs.Prelude.{◌≤◌, IfSome, IsTrue};
 ghost use Rattle.keep_rule.specs.declared.limit.TheConstants.{LIMIT};
-ghost use Rattle.keep_rule.specs.Runs.{counted};
+ghost use Rattle.keep_rule.specs.Runs.{wake_count};
 ghost use Rattle.keep_check.specs.code.Steps.{AllFit};
-ghost use Rattle.keep_check.specs.Fit.{IsFit};
+ghost use Rattle.keep_check.specs.Fit.{RunIsFit};
 
 use crate::rows::{LEASE, Row, WEB, forest_of, moment};
 use keep_cert::{Body, Cert, Runs, Version};
@@ -24,7 +24,7 @@ fn orphan(end: u64, step: u32, need: u64) -> Row {
 }
 
 fn is_fit(entries: u32, run: &Run) -> bool
-    ensures { IsTrue result → IsFit entries run.now }
+    ensures { IsTrue result → RunIsFit entries run.now }
 {
     if run.entry >= entries || run.needed >= entries || run.count == 0 {
         return false;
@@ -37,7 +37,7 @@ fn is_fit(entries: u32, run: &Run) -> bool
 
 // How many wake-ups the runs have, where they can be judged among so many entries.
 fn fit_count(entries: u32, runs: &[Run]) -> Option<u64>
-    ensures { IfSome result (λ n. AllFit entries runs.now × (counted runs.now ≤ LIMIT)) }
+    ensures { IfSome result (λ n. AllFit entries runs.now × (wake_count runs.now ≤ LIMIT)) }
 {
     let mut count = 0;
     for run in runs {

@@ -4,7 +4,7 @@ use Rattle.httparse.specs.Grammar.{HasNoResponse}
 use Rattle.vault_http.specs.Arriving.{IsDatedFront, IsDatedSoFar}
 use Rattle.vault_http.specs.Dates.{IsDatedReply, dated_with}
 use Rattle.vault_http.specs.Holding.{IsWaitedFor}
-use Rattle.vault_http.specs.Known.{IsCurrent, IsKnown}
+use Rattle.vault_http.specs.Known.{IsCurrent, StaysKnown}
 use Rattle.vault_http.specs.declared.dated_reply.DatedReply.{DatedReply}
 use Rattle.vault_http.specs.declared.known.Known.{Known}
 use Rattle.vault_http.specs.declared.known.TheConstants.{MOST_MESSAGE}

@@ -7,7 +7,7 @@ use Rattle.vault_http.specs.declared.body.BodyFault.{BodyFault}
 use Rattle.vault_http.specs.declared.body.BodyFault.TheVariants.{TooLong, Truncated, BadChunk, OutOfMemory}
 use Rattle.vault_http.specs.Messages.{UnlessBodyMemory}
 use Rattle.vault_http.specs.declared.chunk.Step.TheVariants as step
-use Rattle.vault_http.specs.Chunks.{line_end, Chunk, IsChunk, print_chunk, print_chunks, content, joined, StopsAt, IsChunked, HasChunks}
+use Rattle.vault_http.specs.Chunks.{line_end, Chunk, IsChunk, print_chunk, print_chunks, content, joined_bytes, StopsAt, IsChunked, HasChunks}
 use Rattle.vault_http.specs.Steps.{IsStep}
 
 pub at_first : (text body : List ℕ) → body ≡ [] → HasChunks text 0 body
@@ -59,7 +59,7 @@ one_chunk text at body room start n s within fits h =
     )
 
 pub chunks_end : (text : List ℕ) (at : ℕ) (body : List ℕ) (room : ℕ) (stop answer : Result (List ℕ) BodyFault) (more : List ℕ) → HasChunks text at body → at ≤ length text → at ≤ room
-    → StopsAt (room - at) (drop at text ++ more) stop → answer ≡ joined body stop → IsChunked room (text ++ more) answer
+    → StopsAt (room - at) (drop at text ++ more) stop → answer ≡ joined_bytes body stop → IsChunked room (text ++ more) answer
 chunks_end text at body room stop answer more s within fits stops is =
     let long = so_long text at body s within in
     record {
@@ -70,7 +70,7 @@ chunks_end text at body room stop answer more s within fits stops is =
       text_is = ap (λ t. t ++ more) (sym (take-append-drop at text) ∙ ap (λ t. t ++ drop at text) s.text_is) ∙ append_assoc (print_chunks s.chunks) (drop at text) more;
       fits = omega (arith, long, fits);
       stops = subst (λ k. StopsAt (room - k) (drop at text ++ more) stop) (sym long) stops;
-      body_is = is ∙ ap (λ b. joined b stop) s.body_is;
+      body_is = is ∙ ap (λ b. joined_bytes b stop) s.body_is;
     }
 
 pub unless_fault : (fault : BodyFault) (P : Type 0) → P → UnlessBodyMemory {A = List ℕ} (Err fault) P

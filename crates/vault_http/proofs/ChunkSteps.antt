@@ -7,8 +7,8 @@ use Rattle.vault_http.specs.declared.body.BodyFault.TheVariants.{TooLong, BadChu
 use Rattle.vault_http.specs.declared.chunk.Ending.TheVariants as ending
 use Rattle.vault_http.specs.declared.chunk.Line.TheVariants as line
 use Rattle.vault_http.specs.declared.chunk.Step.TheVariants as step
-use Rattle.vault_http.specs.Chunks.{line_end, IsSize, IsData, size, MayHave, NeverHas, Chunk, print_chunk, Fits, StopsAt}
-use Rattle.vault_http.specs.Steps.{IsEnding, IsLine, IsStep}
+use Rattle.vault_http.specs.Chunks.{line_end, IsSize, IsData, size_of_digits, MayHave, NeverHas, Chunk, print_chunk, ChunkFits, StopsAt}
+use Rattle.vault_http.specs.Steps.{IsEnding, IsSizeLine, IsStep}
 
 -- a text begins with the line of a size
 pub record HasSize (text : List ℕ) (d v : ℕ) : Type 0 where
@@ -16,7 +16,7 @@ pub record HasSize (text : List ℕ) (d v : ℕ) : Type 0 where
   pub rest : List ℕ
   pub is_size : IsSize part
   pub many : length part ≡ d
-  pub value : v ≡ size part
+  pub value : v ≡ size_of_digits part
   pub text_is : text ≡ part ++ (line_end ++ rest)
   pub rest_is : rest ≡ drop (d + 2) text
 
@@ -24,7 +24,7 @@ behind : (part rest : List ℕ) (d : ℕ) → length part ≡ d → drop (d + 2)
 behind part rest d many =
     sym (drop-drop 2 d (part ++ (line_end ++ rest))) ∙ ap (drop 2) (drop_at part (line_end ++ rest) d many)
 
-pub size_of : (text : List ℕ) (room d v : ℕ) → IsLine (take room text) (line.Size d v) → HasSize text d v
+pub size_of : (text : List ℕ) (room d v : ℕ) → IsSizeLine (take room text) (line.Size d v) → HasSize text d v
 size_of text room d v is =
     let front = take room text in
     let many : length (take d front) ≡ d = length-take-le d front (omega (arith, is.2)) in
@@ -63,7 +63,7 @@ too_long text room d v h fits over more =
       omega (arith, over, h.many, h.value),
     )
 
-fits_room : (text : List ℕ) (room d v : ℕ) (h : HasSize text d v) → d + 2 + v + 2 ≤ room → Fits room h.part
+fits_room : (text : List ℕ) (room d v : ℕ) (h : HasSize text d v) → d + 2 + v + 2 ≤ room → ChunkFits room h.part
 fits_room text room d v h fits = omega (arith, fits, h.many, h.value)
 
 -- the bytes of the chunk are not all there

@@ -7,8 +7,8 @@ use Rattle.vault_http.specs.declared.framing.LengthFault.{LengthFault}
 use Rattle.vault_http.specs.declared.reply.Reply.{Reply}
 use Rattle.vault_http.specs.Dates.{HasDate, IsDateOfHead, IsDatedReply, dated_with}
 use Rattle.vault_http.specs.Heads.{FoundReply}
-use Rattle.vault_http.specs.Known.{IsHeaded, whole_of}
-use Rattle.vault_http.specs.Messages.{IsReply, reply_with}
+use Rattle.vault_http.specs.Known.{IsHeaded, message_with_body}
+use Rattle.vault_http.specs.Messages.{IsHttpReply, reply_with}
 use Rattle.vault_http.proofs.MessageLemmas.{head_on}
 
 dated_on : (max : ℕ) (bytes more : List ℕ) (len status : ℕ) (framed : Result Framing LengthFault) (date : Option ℕ) → FoundReply (take max bytes) len status framed
@@ -17,13 +17,13 @@ dated_on max bytes more len status framed date f told =
     let on = head_on max bytes more (print_response f.head) f.rest len f.reads.1 f.len_is in
     record { head = f.head; rest = drop len bytes ++ more; reads = (f.reads.0, on.0); few = f.few; is = told f.head f.rest f.reads f.few }
 
-dated_whole : (max : ℕ) (bytes : List ℕ) (m : Reply) (date : Option ℕ) (body : Result (List ℕ) BodyFault) → HasDate bytes date → IsReply max bytes (whole_of reply_with m body)
-    → IsDatedReply max bytes (whole_of dated_with (record { reply = m; date = date }) body)
+dated_whole : (max : ℕ) (bytes : List ℕ) (m : Reply) (date : Option ℕ) (body : Result (List ℕ) BodyFault) → HasDate bytes date → IsHttpReply max bytes (message_with_body reply_with m body)
+    → IsDatedReply max bytes (message_with_body dated_with (record { reply = m; date = date }) body)
 dated_whole max bytes m date (Ok b) has is = (is, has)
 dated_whole max bytes m date (Err fault) has is = is
 
 pub dated_headed : (max : ℕ) (bytes : List ℕ) (len status : ℕ) (framed : Result Framing LengthFault) (date : Option ℕ) → FoundReply (take max bytes) len status framed
-    → IsDateOfHead (take max bytes) date → (size : ℕ) (m : Reply) (framing : Framing) → IsHeaded (IsReply max) reply_with max bytes size m framing
+    → IsDateOfHead (take max bytes) date → (size : ℕ) (m : Reply) (framing : Framing) → IsHeaded (IsHttpReply max) reply_with max bytes size m framing
     → IsHeaded (IsDatedReply max) dated_with max bytes size (record { reply = m; date = date }) framing
 dated_headed max bytes len status framed date f told size m framing h = record {
   within = h.within;

@@ -7,7 +7,7 @@ use Rattle.httparse.specs.Grammar.{LineEnd, crlf, lf, print_end, Field, print_fi
 use Rattle.httparse.proofs.GrammarLemmas.{print_response-append, print_request-append}
 use Rattle.httparse.proofs.PieceLemmas.{print_field-append}
 use Rattle.vault_http.proofs.Runs.{front, run_of, take_while-front}
-use Rattle.vault_http.specs.EmptyLine.{HasLineBehind, is_blank}
+use Rattle.vault_http.specs.EmptyLine.{HasLineBehind, is_line_end_byte}
 use Rattle.std.specs.List.{flat_map, list_all}
 
 -- ---- the front of a text
@@ -133,23 +133,23 @@ and_right true c e = e
 and_right false c e = absurd (cc e)
 
 -- a space is none
-pub not_blank : (a b t : List ℕ) → list_all is_blank (a ++ (b ++ (32 ∷ t))) ≡ true → ⊥
+pub not_blank : (a b t : List ℕ) → list_all is_line_end_byte (a ++ (b ++ (32 ∷ t))) ≡ true → ⊥
 not_blank [] [] t e = cc
-not_blank [] (x ∷ b) t e = not_blank [] b t (and_right (is_blank x) (list_all is_blank (b ++ (32 ∷ t))) e)
-not_blank (x ∷ a) b t e = not_blank a b t (and_right (is_blank x) (list_all is_blank (a ++ (b ++ (32 ∷ t)))) e)
+not_blank [] (x ∷ b) t e = not_blank [] b t (and_right (is_line_end_byte x) (list_all is_line_end_byte (b ++ (32 ∷ t))) e)
+not_blank (x ∷ a) b t e = not_blank a b t (and_right (is_line_end_byte x) (list_all is_line_end_byte (a ++ (b ++ (32 ∷ t)))) e)
 
 -- more of them after others
-pub blank_more : (bytes : List ℕ) (blank more : ℕ) → blank ≤ length bytes → IsTrue (list_all is_blank (take blank bytes)) → more ≡ length (take_while is_blank (drop blank bytes))
-    → (blank + more ≤ length bytes) × IsTrue (list_all is_blank (take (blank + more) bytes))
+pub blank_more : (bytes : List ℕ) (blank more : ℕ) → blank ≤ length bytes → IsTrue (list_all is_line_end_byte (take blank bytes)) → more ≡ length (take_while is_line_end_byte (drop blank bytes))
+    → (blank + more ≤ length bytes) × IsTrue (list_all is_line_end_byte (take (blank + more) bytes))
 blank_more bytes blank more within e m =
     let here = take blank bytes in
-    let run = front is_blank (drop blank bytes) in
-    let r = run_of is_blank (drop blank bytes) in
-    let many : more ≡ length run = m ∙ ap length (take_while-front is_blank (drop blank bytes)) in
+    let run = front is_line_end_byte (drop blank bytes) in
+    let r = run_of is_line_end_byte (drop blank bytes) in
+    let many : more ≡ length run = m ∙ ap length (take_while-front is_line_end_byte (drop blank bytes)) in
     let whole : bytes ≡ here ++ (run ++ r.0) = sym (take-append-drop blank bytes) ∙ ap (λ t. here ++ t) r.1.split in
     let long : length here ≡ blank = length-take-le blank bytes within in
     let first : take (blank + more) bytes ≡ here ++ run =
     ap (take (blank + more)) (whole ∙ sym (append_assoc here run r.0)) ∙ take_at (here ++ run) r.0 (blank + more) (omega (arith, length-append here run, long, many)) in (
       omega (arith, ap length whole, length-append here (run ++ r.0), length-append run r.0, long, many),
-      ap (list_all is_blank) first ∙ list_all-append is_blank here run ∙ and_from (list_all is_blank here) (list_all is_blank run) e r.1.all,
+      ap (list_all is_line_end_byte) first ∙ list_all-append is_line_end_byte here run ∙ and_from (list_all is_line_end_byte here) (list_all is_line_end_byte run) e r.1.all,
     )

@@ -6,7 +6,7 @@ use Rattle.httparse.specs.declared.spans.Span.{Span}
 use Rattle.httparse.specs.Spans.{span_bytes, IsWithin}
 use Rattle.vault_http.specs.declared.named_field.Lone.{Lone}
 use Rattle.vault_http.specs.declared.named_field.Lone.TheVariants.{Absent, One, Several}
-use Rattle.vault_http.specs.Fields.{is_named, values_of}
+use Rattle.vault_http.specs.Fields.{is_field_named, values_of}
 use Rattle.vault_http.specs.NamedField.{IsLone, and_lone}
 
 -- the values with one field more
@@ -25,14 +25,14 @@ last_value true values f = refl
 last_value false values f = append-nil values
 
 pub values_of-push : (name : List ℕ) (fields : List (List ℕ × List ℕ)) (f : List ℕ × List ℕ)
-    → values_of name (fields ++ f ∷ []) ≡ and_value (is_named name f.0) (values_of name fields) f.1
+    → values_of name (fields ++ f ∷ []) ≡ and_value (is_field_named name f.0) (values_of name fields) f.1
 values_of-push name fields f =
-    ap (map (λ g. g.1)) (filter-append (λ g. is_named name g.0) fields (f ∷ []))
-    ∙ map-append (λ g. g.1) (filter (λ g. is_named name g.0) fields) (filter (λ g. is_named name g.0) (f ∷ []))
-    ∙ last_value (is_named name f.0) (values_of name fields) f
+    ap (map (λ g. g.1)) (filter-append (λ g. is_field_named name g.0) fields (f ∷ []))
+    ∙ map-append (λ g. g.1) (filter (λ g. is_field_named name g.0) fields) (filter (λ g. is_field_named name g.0) (f ∷ []))
+    ∙ last_value (is_field_named name f.0) (values_of name fields) f
 
 pub values_of_more : {X : Type 0} (name : List ℕ) (read : X → List ℕ × List ℕ) (xs : List X) (i : ℕ) (d : X) → i < length xs
-    → values_of name (map read (take (i + 1) xs)) ≡ and_value (is_named name (read (get_or xs i d)).0) (values_of name (map read (take i xs))) (read (get_or xs i d)).1
+    → values_of name (map read (take (i + 1) xs)) ≡ and_value (is_field_named name (read (get_or xs i d)).0) (values_of name (map read (take i xs))) (read (get_or xs i d)).1
 values_of_more name read xs i d h =
     ap (λ ys. values_of name (map read ys)) (take_more xs i d h) ∙ ap (values_of name) (map-append read (take i xs) (get_or xs i d ∷ []))
     ∙ values_of-push name (map read (take i xs)) (read (get_or xs i d))

@@ -14,8 +14,8 @@ use Rattle.vault_http.specs.declared.http_fault.HttpFault.TheVariants.{ReadFaile
 use Rattle.vault_http.specs.declared.reply.Reply.{Reply}
 use Rattle.vault_http.specs.Body.{HasBody}
 use Rattle.vault_http.specs.Heads.{FoundReply, framing_of_response}
-use Rattle.vault_http.specs.Messages.{IsHeadless, IsOpenReply, IsBehind, is_informational, reply_of, IsReply, UnlessMemory, body_fault, length_fault}
-use Rattle.vault_http.specs.Reading.{Settles, CountsMessage}
+use Rattle.vault_http.specs.Messages.{IsHeadless, IsOpenReply, IsBehind, is_informational, reply_from_parts, IsHttpReply, UnlessMemory, body_fault, length_fault}
+use Rattle.vault_http.specs.Reading.{SettlesMessage, CountsMessage}
 use Rattle.vault_http.proofs.Fronts.{take-grows}
 use Rattle.vault_http.specs.declared.found_head.TheConstants.{MOST_FIELDS}
 
@@ -29,7 +29,7 @@ unless (Err fault) P p = p
 overflows_on : (front more : List ℕ) → ResponseOverflows MOST_FIELDS front → ResponseOverflows MOST_FIELDS (front ++ more)
 overflows_on front more over after h rest reads = over (more ++ after) h rest (subst (λ b. ReadsResponse b h rest) (append_assoc front more after) reads)
 
-pub refused_reply : (max : ℕ) (bytes more : List ℕ) → ResponseOverflows MOST_FIELDS (take max bytes) → IsReply max (bytes ++ more) (Err BadHead)
+pub refused_reply : (max : ℕ) (bytes more : List ℕ) → ResponseOverflows MOST_FIELDS (take max bytes) → IsHttpReply max (bytes ++ more) (Err BadHead)
 refused_reply max bytes more over =
     inl (BadHead, subst (ResponseOverflows MOST_FIELDS) (sym (take-grows max bytes more)) (overflows_on (take max bytes) (take (max - length bytes) more) over), refl)
 
@@ -48,7 +48,7 @@ head_on max bytes more printed rest len e count =
     )
 
 pub headed_reply : (max : ℕ) (bytes more : List ℕ) (len status : ℕ) (framed : Result Framing LengthFault) (a : Result Reply HttpFault) → FoundReply (take max bytes) len status framed
-    → IsBehind (is_informational status) status framed (max - len) (drop len bytes ++ more) a → IsReply max (bytes ++ more) a
+    → IsBehind (is_informational status) status framed (max - len) (drop len bytes ++ more) a → IsHttpReply max (bytes ++ more) a
 headed_reply max bytes more len status framed a f behind =
     let on = head_on max bytes more (print_response f.head) f.rest len f.reads.1 f.len_is in
     let rest = drop len bytes ++ more in
@@ -84,7 +84,7 @@ not_headless IsOpen Overflows max bytes TooLong h e = cc
 not_headless IsOpen Overflows max bytes TwoLengths h e = cc
 not_headless IsOpen Overflows max bytes OutOfMemory h e = cc
 
-not_reply_of : (status : ℕ) (body : Result (List ℕ) BodyFault) → reply_of status body ≡ Err ReadFailed → ⊥
+not_reply_of : (status : ℕ) (body : Result (List ℕ) BodyFault) → reply_from_parts status body ≡ Err ReadFailed → ⊥
 not_reply_of status (Ok b) e = cc
 not_reply_of status (Err f) e = not_body f (cc)
 
@@ -93,14 +93,14 @@ not_behind true status framed room rest e = cc
 not_behind false status (Err f) room rest e = not_length f (cc)
 not_behind false status (Ok f) room rest h = not_reply_of status h.0 (sym h.2)
 
-pub not_read_failed : (max : ℕ) (bytes : List ℕ) → IsReply max bytes (Err ReadFailed) → ⊥
+pub not_read_failed : (max : ℕ) (bytes : List ℕ) → IsHttpReply max bytes (Err ReadFailed) → ⊥
 not_read_failed max bytes (inl h) = not_headless IsOpenReply (ResponseOverflows MOST_FIELDS) max bytes h.0 h.1 (cc (h.2))
 not_read_failed max bytes (inr h) = not_behind (is_informational (status_code h.head)) (status_code h.head) (framing_of_response h.head) (max - length (print_response h.head)) h.rest h.behind
 
 -- ---- reading
 
 module _ {A : Type 0} (HasNoHead : List ℕ → Type 0) (IsAnswer : List ℕ → Result A HttpFault → Type 0) where
-  settle : (whole : List ℕ) (left : Option (List ℕ)) (a : Result A HttpFault) (before now : ℕ) → UnlessMemory a (IsAnswer whole a) → Settles HasNoHead IsAnswer whole left before now a
+  settle : (whole : List ℕ) (left : Option (List ℕ)) (a : Result A HttpFault) (before now : ℕ) → UnlessMemory a (IsAnswer whole a) → SettlesMessage HasNoHead IsAnswer whole left before now a
   settle whole left (Ok x) before now h = h
   settle whole left (Err OutOfMemory) before now h = tt
   settle whole left (Err ReadFailed) before now h = tt
@@ -115,7 +115,7 @@ module _ {A : Type 0} (HasNoHead : List ℕ → Type 0) (IsAnswer : List ℕ →
   pub settled : (whole left : Option (List ℕ)) (bytes : List ℕ) (ended : Bool) (a : Result A HttpFault) (before now : ℕ)
       → Consumes whole left bytes → (ended ≡ true → IsAtEnd left)
       → ((more : List ℕ) → (IsTrue ended → more ≡ []) → UnlessMemory a (IsAnswer (bytes ++ more) a))
-      → IfSome whole (λ w. Settles HasNoHead IsAnswer w left before now a)
+      → IfSome whole (λ w. SettlesMessage HasNoHead IsAnswer w left before now a)
   settled None left bytes ended a before now given end judged = tt
   settled (Some w) None bytes ended a before now given end judged = absurd given
   settled (Some w) (Some l) bytes ended a before now given end judged =

@@ -10,26 +10,26 @@ use Rattle.vault_http.specs.declared.framing.Framing.{Framing}
 use Rattle.vault_http.specs.declared.framing.LengthFault.{LengthFault}
 use Rattle.vault_http.specs.declared.http_fault.HttpFault.TheVariants.{ReadFailed, BadHead}
 use Rattle.vault_http.specs.declared.reply.Reply.{Reply}
-use Rattle.vault_http.specs.EmptyLine.{HasLineBehind, is_blank}
+use Rattle.vault_http.specs.EmptyLine.{HasLineBehind, is_line_end_byte}
 use Rattle.vault_http.specs.Heads.{FoundReply, framing_of_response}
-use Rattle.vault_http.specs.Known.{IsHeaded, whole_of}
-use Rattle.vault_http.specs.Messages.{IsBehind, IsReply, is_informational, length_fault, reply_of, reply_with}
+use Rattle.vault_http.specs.Known.{IsHeaded, message_with_body}
+use Rattle.vault_http.specs.Messages.{IsBehind, IsHttpReply, is_informational, length_fault, reply_from_parts, reply_with}
 use Rattle.vault_http.proofs.EmptyLines.{front_split, line_behind, response_ends, not_blank}
 use Rattle.vault_http.proofs.MessageLemmas.{HasBodyOf, head_on, headed_reply, not_read_failed}
 
-pub never_read_failed : (max : ℕ) (bytes : List ℕ) → IsReply max bytes (Err ReadFailed) → ⊥
+pub never_read_failed : (max : ℕ) (bytes : List ℕ) → IsHttpReply max bytes (Err ReadFailed) → ⊥
 never_read_failed max bytes h = not_read_failed max bytes h
 
-pub message_has_head : (max : ℕ) (bytes : List ℕ) (message : Reply) → IsReply max bytes (Ok message) → HasNoResponse bytes → ⊥
+pub message_has_head : (max : ℕ) (bytes : List ℕ) (message : Reply) → IsHttpReply max bytes (Ok message) → HasNoResponse bytes → ⊥
 message_has_head max bytes message (inl h) none = absurd (cc (h.2))
 message_has_head max bytes message (inr h) none = none h.head h.rest h.reads
 
-pub blank_has_no_head : (bytes : List ℕ) → IsTrue (list_all is_blank bytes) → HasNoResponse bytes
+pub blank_has_no_head : (bytes : List ℕ) → IsTrue (list_all is_line_end_byte bytes) → HasNoResponse bytes
 blank_has_no_head bytes all h rest reads =
     let e : bytes ≡ print_blank h.blank ++ (print_version h.minor ++ (32 ∷ (h.digits ++ (print_reason h.reason ++ (print_end h.line_end ++ (print_section h.fields h.last ++ rest)))))) =
     reads.1 ∙ print_response-append h rest in
     not_blank (print_blank h.blank) (print_version h.minor) (h.digits ++ (print_reason h.reason ++ (print_end h.line_end ++ (print_section h.fields h.last ++ rest))))
-    (sym (ap (list_all is_blank) e) ∙ all)
+    (sym (ap (list_all is_line_end_byte) e) ∙ all)
 
 pub line_ends_head : (bytes more : List ℕ) → HasNoResponse bytes → (HasLineBehind (length bytes) (bytes ++ more) → ⊥) → HasNoResponse (bytes ++ more)
 line_ends_head bytes more none quiet h rest reads = elim (cases_lt (length bytes) (length (print_response h))) [
@@ -53,12 +53,12 @@ final status (inl h) = and_false (nat_le 100 status) (nat_lt status 200) (le-ltb
 final status (inr h) = ap (λ b. b && nat_lt status 200) (lt-leb 100 status h)
 
 pub informational_reply : (max : ℕ) (bytes more : List ℕ) (len status : ℕ) (framed : Result Framing LengthFault) → FoundReply (take max bytes) len status framed → 100 ≤ status → status < 200
-    → IsReply max (bytes ++ more) (Err BadHead)
+    → IsHttpReply max (bytes ++ more) (Err BadHead)
 informational_reply max bytes more len status framed f least most =
     headed_reply max bytes more len status framed (Err BadHead) f (informational status framed (max - len) (drop len bytes ++ more) least most)
 
 pub lengthless_reply : (max : ℕ) (bytes more : List ℕ) (len status : ℕ) (fault : LengthFault) → FoundReply (take max bytes) len status (Err fault) → is_informational status ≡ false
-    → IsReply max (bytes ++ more) (Err (length_fault fault))
+    → IsHttpReply max (bytes ++ more) (Err (length_fault fault))
 lengthless_reply max bytes more len status fault f e =
     headed_reply max bytes more len status (Err fault) (Err (length_fault fault)) f
     (subst (λ b. IsBehind b status (Err fault) (max - len) (drop len bytes ++ more) (Err (length_fault fault))) (sym e) refl)
@@ -70,7 +70,7 @@ reply_body false status (Ok framed) room rest message (Ok body, is, e) = (body, 
 reply_body false status (Ok framed) room rest message (Err fault, is, e) = absurd (cc (e))
 
 found_body : (max : ℕ) (bytes : List ℕ) (len status : ℕ) (framed : Result Framing LengthFault) → FoundReply (take max bytes) len status framed
-    → (more : List ℕ) (message : Reply) → IsReply max (bytes ++ more) (Ok message) → HasBodyOf framed (max - len) (drop len bytes ++ more)
+    → (more : List ℕ) (message : Reply) → IsHttpReply max (bytes ++ more) (Ok message) → HasBodyOf framed (max - len) (drop len bytes ++ more)
 found_body max bytes len status framed f more message (inl h) = absurd (cc (h.2))
 found_body max bytes len status framed f more message (inr h) =
     let on = head_on max bytes more (print_response f.head) f.rest len f.reads.1 f.len_is in
@@ -82,18 +82,18 @@ found_body max bytes len status framed f more message (inr h) =
     let by_len = subst (λ k. HasBodyOf (framing_of_response f.head) (max - k) rest) (sym f.len_is) by_head in
     subst (λ g. HasBodyOf g (max - len) rest) (sym f.framing_is) by_len
 
-same_reply : (status : ℕ) (none : List ℕ) (body : Result (List ℕ) BodyFault) → whole_of reply_with (record { status = status; body = none }) body ≡ reply_of status body
+same_reply : (status : ℕ) (none : List ℕ) (body : Result (List ℕ) BodyFault) → message_with_body reply_with (record { status = status; body = none }) body ≡ reply_from_parts status body
 same_reply status none (Ok body) = refl
 same_reply status none (Err fault) = refl
 
 pub headed : (max : ℕ) (bytes : List ℕ) (len status : ℕ) (framed : Framing) (none : List ℕ) → FoundReply (take max bytes) len status (Ok framed) → is_informational status ≡ false
-    → IsHeaded (IsReply max) reply_with max bytes len (record { status = status; body = none }) framed
+    → IsHeaded (IsHttpReply max) reply_with max bytes len (record { status = status; body = none }) framed
 headed max bytes len status framed none f e =
     let on = head_on max bytes [] (print_response f.head) f.rest len f.reads.1 f.len_is in record {
       within = omega (arith, on.1, f.len_is);
       there = omega (arith, on.2, f.len_is);
       answers = λ more body is.
-          let answer = whole_of reply_with (record { status = status; body = none }) body in
+          let answer = message_with_body reply_with (record { status = status; body = none }) body in
           headed_reply max bytes more len status (Ok framed) answer f
           (subst (λ b. IsBehind b status (Ok framed) (max - len) (drop len bytes ++ more) answer) (sym e) (body, is, same_reply status none body));
       has_body = λ more message is. found_body max bytes len status (Ok framed) f more message is;

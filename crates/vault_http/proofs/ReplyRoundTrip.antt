@@ -19,9 +19,9 @@ use Rattle.vault_http.specs.declared.http_fault.HttpFault.{HttpFault}
 use Rattle.vault_http.specs.declared.http_fault.HttpFault.TheVariants.{ReadFailed, BadHead, BadLength, BadChunk, Truncated, TooLong, TwoLengths, OutOfMemory}
 use Rattle.vault_http.specs.declared.reply.Reply.{Reply}
 use Rattle.vault_http.specs.Body.{counted_body}
-use Rattle.vault_http.specs.Framing.{framing, framing_by, counted, transfer_encoding, content_length, reply_framing}
+use Rattle.vault_http.specs.Framing.{framing, framing_by, counted_framing, transfer_encoding, content_length, reply_framing}
 use Rattle.vault_http.specs.Heads.{framing_of_response}
-use Rattle.vault_http.specs.Messages.{IsHeadless, IsOpenReply, IsFramed, IsBehind, is_informational, reply_of, IsReply}
+use Rattle.vault_http.specs.Messages.{IsHeadless, IsOpenReply, IsFramed, IsBehind, is_informational, reply_from_parts, IsHttpReply}
 use Rattle.vault_http.specs.RoundTrip.{is_sent, ReadsBackReply}
 use Rattle.vault_http.specs.Written.{reply_text, status_line, length_lines, last_lines, phrase}
 use Rattle.vault_http.proofs.DecimalLemmas.{decimal_digits, digits_pass, digits_trimmed, length_known}
@@ -105,7 +105,7 @@ written_framing status n w few =
     let small : n < 2 ^ 64 = omega arith in
     let value : trim_ows (32 ∷ decimal n) ≡ decimal n = digits_trimmed (decimal n) (decimal_digits n small) in
     let said : framing ToEnd (map name_and_value (written_fields n)) ≡ Ok (Counted n) =
-    ap (λ v. framing_by ToEnd [] (v ∷ [])) value ∙ ap counted (length_known n few) in
+    ap (λ v. framing_by ToEnd [] (v ∷ [])) value ∙ ap counted_framing (length_known n few) in
     ap (reply_framing (status_code (written status n))) said
     ∙ ap (λ s. reply_framing s (Ok (Counted n))) w.value
     ∙ ap (λ f. Ok f) (cond-false _ _ _ w.bodied)
@@ -139,12 +139,12 @@ behind_is : (r : Reply) (more : List ℕ) (room : ℕ) (answer : Result Reply Ht
     → IsBehind informational status framed room (r.body ++ more) answer → answer ≡ Ok r
 behind_is r more room answer informational status framed final same said fits behind =
     let b1 = subst (λ b. IsBehind b status framed room (r.body ++ more) answer) final behind in
-    let b2 = subst (λ s. IsFramed (reply_of s) framed room (r.body ++ more) answer) same b1 in
-    let b3 = subst (λ f. IsFramed (reply_of r.status) f room (r.body ++ more) answer) said b2 in
-    b3.2 ∙ ap (reply_of r.status) (b3.1 ∙ counted_whole r.body more room fits)
+    let b2 = subst (λ s. IsFramed (reply_from_parts s) framed room (r.body ++ more) answer) same b1 in
+    let b3 = subst (λ f. IsFramed (reply_from_parts r.status) f room (r.body ++ more) answer) said b2 in
+    b3.2 ∙ ap (reply_from_parts r.status) (b3.1 ∙ counted_whole r.body more room fits)
 
 one_answer : (r : Reply) (more : List ℕ) (max : ℕ) (answer : Result Reply HttpFault) → IsWritable r.status → length r.body < 10 ^ 15 → length (reply_text r) ≤ max
-    → IsReply max (reply_text r ++ more) answer → answer ≡ Ok r
+    → IsHttpReply max (reply_text r ++ more) answer → answer ≡ Ok r
 one_answer r more max answer w few fits is =
     let n = length r.body in
     let head = written r.status n in

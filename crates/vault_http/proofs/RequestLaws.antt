@@ -12,27 +12,27 @@ use Rattle.vault_http.specs.declared.framing.LengthFault.{LengthFault}
 use Rattle.vault_http.specs.declared.found_head.Start.{Start}
 use Rattle.vault_http.specs.declared.http_fault.HttpFault.TheVariants.{ReadFailed, TooLong, Truncated}
 use Rattle.vault_http.specs.declared.request.Request.{Request}
-use Rattle.vault_http.specs.EmptyLine.{HasLineBehind, is_blank}
+use Rattle.vault_http.specs.EmptyLine.{HasLineBehind, is_line_end_byte}
 use Rattle.vault_http.specs.Heads.{FoundRequest, framing_of_request, token_of}
-use Rattle.vault_http.specs.Known.{IsHeaded, whole_of}
-use Rattle.vault_http.specs.Messages.{IsFramed, IsOpenRequest, IsRequest, request_of, request_with}
+use Rattle.vault_http.specs.Known.{IsHeaded, message_with_body}
+use Rattle.vault_http.specs.Messages.{IsFramed, IsHttpRequest, IsOpenRequest, request_from_parts, request_with}
 use Rattle.vault_http.specs.Starts.{request_at}
 use Rattle.vault_http.proofs.EmptyLines.{front_split, line_behind, request_ends, not_blank}
 use Rattle.vault_http.proofs.MessageLemmas.{HasBodyOf, head_on}
 use Rattle.vault_http.proofs.RequestLemmas.{headed_request, not_read_failed}
 
-pub never_read_failed : (max : ℕ) (bytes : List ℕ) → IsRequest max bytes (Err ReadFailed) → ⊥
+pub never_read_failed : (max : ℕ) (bytes : List ℕ) → IsHttpRequest max bytes (Err ReadFailed) → ⊥
 never_read_failed max bytes h = not_read_failed max bytes h
 
-pub message_has_head : (max : ℕ) (bytes : List ℕ) (message : Request) → IsRequest max bytes (Ok message) → HasNoRequest bytes → ⊥
+pub message_has_head : (max : ℕ) (bytes : List ℕ) (message : Request) → IsHttpRequest max bytes (Ok message) → HasNoRequest bytes → ⊥
 message_has_head max bytes message (inl h) none = absurd (cc (h.2))
 message_has_head max bytes message (inr h) none = none h.head h.rest h.reads
 
-pub blank_has_no_head : (bytes : List ℕ) → IsTrue (list_all is_blank bytes) → HasNoRequest bytes
+pub blank_has_no_head : (bytes : List ℕ) → IsTrue (list_all is_line_end_byte bytes) → HasNoRequest bytes
 blank_has_no_head bytes all h rest reads =
     let t = h.target ++ (32 ∷ (print_version h.minor ++ (print_end h.line_end ++ (print_section h.fields h.last ++ rest)))) in
     let e : bytes ≡ print_blank h.blank ++ (h.method ++ (32 ∷ t)) = reads.1 ∙ print_request-append h rest in
-    not_blank (print_blank h.blank) h.method t (sym (ap (list_all is_blank) e) ∙ all)
+    not_blank (print_blank h.blank) h.method t (sym (ap (list_all is_line_end_byte) e) ∙ all)
 
 pub line_ends_head : (bytes more : List ℕ) → HasNoRequest bytes → (HasLineBehind (length bytes) (bytes ++ more) → ⊥) → HasNoRequest (bytes ++ more)
 line_ends_head bytes more none quiet h rest reads = elim (cases_lt (length bytes) (length (print_request h))) [
@@ -42,10 +42,10 @@ line_ends_head bytes more none quiet h rest reads = elim (cases_lt (length bytes
 
 -- ---- no head
 
-pub long_request : (max : ℕ) (bytes more : List ℕ) → max ≤ length bytes → IsOpenRequest (take max bytes) → IsRequest max (bytes ++ more) (Err TooLong)
+pub long_request : (max : ℕ) (bytes more : List ℕ) → max ≤ length bytes → IsOpenRequest (take max bytes) → IsHttpRequest max (bytes ++ more) (Err TooLong)
 long_request max bytes more long o = inl (TooLong, (omega (arith, long, length-append bytes more), subst IsOpenRequest (sym (take-append-le max bytes more long)) o), refl)
 
-pub open_request : (max : ℕ) (bytes : List ℕ) → length bytes < max → IsOpenRequest (take max bytes) → IsRequest max bytes (Err Truncated) × HasNoRequest bytes
+pub open_request : (max : ℕ) (bytes : List ℕ) → length bytes < max → IsOpenRequest (take max bytes) → IsHttpRequest max bytes (Err Truncated) × HasNoRequest bytes
 open_request max bytes short o =
     let all : IsOpenRequest bytes = subst IsOpenRequest (take_all max bytes (omega (arith, short))) o in
     (inl (Truncated, (short, all), refl), all.0)
@@ -53,13 +53,13 @@ open_request max bytes short o =
 -- ---- after a head
 
 request_body : (method path : List ℕ) (token : Option (List ℕ)) (framed : Result Framing LengthFault) (room : ℕ) (rest : List ℕ) (message : Request)
-    → IsFramed (request_of method path token) framed room rest (Ok message) → HasBodyOf framed room rest
+    → IsFramed (request_from_parts method path token) framed room rest (Ok message) → HasBodyOf framed room rest
 request_body method path token (Err fault) room rest message e = absurd (cc (e))
 request_body method path token (Ok framed) room rest message (Ok body, is, e) = (body, is)
 request_body method path token (Ok framed) room rest message (Err fault, is, e) = absurd (cc (e))
 
 found_request_body : (max : ℕ) (bytes : List ℕ) (len : ℕ) (start : Start) (framed : Result Framing LengthFault) → FoundRequest (take max bytes) len start framed
-    → (more : List ℕ) (message : Request) → IsRequest max (bytes ++ more) (Ok message) → HasBodyOf framed (max - len) (drop len bytes ++ more)
+    → (more : List ℕ) (message : Request) → IsHttpRequest max (bytes ++ more) (Ok message) → HasBodyOf framed (max - len) (drop len bytes ++ more)
 found_request_body max bytes len start framed f more message (inl h) = absurd (cc (h.2))
 found_request_body max bytes len start framed f more message (inr h) =
     let on = head_on max bytes more (print_request f.head) f.rest len f.reads.1 f.len_is in
@@ -75,16 +75,16 @@ found_request_body max bytes len start framed f more message (inr h) =
 abbrev pub bodiless : List ℕ → Start → Request
 bodiless front start = record { method = span_bytes front start.method; path = span_bytes front start.path; token = option_map (span_bytes front) start.token; body = []; port = 0 }
 
-same_request : (front : List ℕ) (start : Start) (body : Result (List ℕ) BodyFault) → whole_of request_with (bodiless front start) body ≡ request_at front start body
+same_request : (front : List ℕ) (start : Start) (body : Result (List ℕ) BodyFault) → message_with_body request_with (bodiless front start) body ≡ request_at front start body
 same_request front start (Ok body) = refl
 same_request front start (Err fault) = refl
 
 pub headed : (max : ℕ) (bytes : List ℕ) (len : ℕ) (start : Start) (framed : Framing) → FoundRequest (take max bytes) len start (Ok framed)
-    → IsHeaded (IsRequest max) request_with max bytes len (bodiless (take max bytes) start) framed
+    → IsHeaded (IsHttpRequest max) request_with max bytes len (bodiless (take max bytes) start) framed
 headed max bytes len start framed f =
     let on = head_on max bytes [] (print_request f.head) f.rest len f.reads.1 f.len_is in record {
       within = omega (arith, on.1, f.len_is);
       there = omega (arith, on.2, f.len_is);
-      answers = λ more body is. headed_request max bytes more len start (Ok framed) (whole_of request_with (bodiless (take max bytes) start) body) f (body, is, same_request (take max bytes) start body);
+      answers = λ more body is. headed_request max bytes more len start (Ok framed) (message_with_body request_with (bodiless (take max bytes) start) body) f (body, is, same_request (take max bytes) start body);
       has_body = λ more message is. found_request_body max bytes len start (Ok framed) f more message is;
     }

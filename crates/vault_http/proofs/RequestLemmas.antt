@@ -13,7 +13,7 @@ use Rattle.vault_http.specs.declared.http_fault.HttpFault.{HttpFault}
 use Rattle.vault_http.specs.declared.http_fault.HttpFault.TheVariants.{ReadFailed, BadHead}
 use Rattle.vault_http.specs.declared.request.Request.{Request}
 use Rattle.vault_http.specs.Heads.{FoundRequest, framing_of_request, token_of, IsAt}
-use Rattle.vault_http.specs.Messages.{IsOpenRequest, IsFramed, request_of, IsRequest}
+use Rattle.vault_http.specs.Messages.{IsOpenRequest, IsFramed, request_from_parts, IsHttpRequest}
 use Rattle.vault_http.specs.Starts.{IsStart, IsTokenWithin, request_at}
 use Rattle.vault_http.proofs.Fronts.{take-grows}
 use Rattle.vault_http.proofs.MessageLemmas.{head_on, not_headless, not_length, not_body}
@@ -22,7 +22,7 @@ use Rattle.vault_http.specs.declared.found_head.TheConstants.{MOST_FIELDS}
 overflows_on : (front more : List ℕ) → RequestOverflows MOST_FIELDS front → RequestOverflows MOST_FIELDS (front ++ more)
 overflows_on front more over after h rest reads = over (more ++ after) h rest (subst (λ b. ReadsRequest b h rest) (append_assoc front more after) reads)
 
-pub refused_request : (max : ℕ) (bytes more : List ℕ) → RequestOverflows MOST_FIELDS (take max bytes) → IsRequest max (bytes ++ more) (Err BadHead)
+pub refused_request : (max : ℕ) (bytes more : List ℕ) → RequestOverflows MOST_FIELDS (take max bytes) → IsHttpRequest max (bytes ++ more) (Err BadHead)
 refused_request max bytes more over =
     inl (BadHead, subst (RequestOverflows MOST_FIELDS) (sym (take-grows max bytes more)) (overflows_on (take max bytes) (take (max - length bytes) more) over), refl)
 
@@ -49,28 +49,28 @@ start_of front len start framed f = record {
 }
 
 pub headed_request : (max : ℕ) (bytes more : List ℕ) (len : ℕ) (start : Start) (framed : Result Framing LengthFault) (a : Result Request HttpFault) → FoundRequest (take max bytes) len start framed
-    → IsFramed (request_at (take max bytes) start) framed (max - len) (drop len bytes ++ more) a → IsRequest max (bytes ++ more) a
+    → IsFramed (request_at (take max bytes) start) framed (max - len) (drop len bytes ++ more) a → IsHttpRequest max (bytes ++ more) a
 headed_request max bytes more len start framed a f behind =
     let on = head_on max bytes more (print_request f.head) f.rest len f.reads.1 f.len_is in
     let rest = drop len bytes ++ more in
     let front = take max bytes in
     let token = option_map (span_bytes front) start.token in
-    let by_method = subst (λ m. IsFramed (request_of m (span_bytes front start.path) token) framed (max - len) rest a) f.method_is.1 behind in
-    let by_path = subst (λ p. IsFramed (request_of f.head.method p token) framed (max - len) rest a) f.path_is.1 by_method in
+    let by_method = subst (λ m. IsFramed (request_from_parts m (span_bytes front start.path) token) framed (max - len) rest a) f.method_is.1 behind in
+    let by_path = subst (λ p. IsFramed (request_from_parts f.head.method p token) framed (max - len) rest a) f.path_is.1 by_method in
     let carried = token_of (map name_and_value f.head.fields) in
-    let by_token = subst (λ t. IsFramed (request_of f.head.method f.head.target t) framed (max - len) rest a) (token_at front start.token carried f.token_is) by_path in
-    let by_framing = subst (λ g. IsFramed (request_of f.head.method f.head.target carried) g (max - len) rest a) f.framing_is by_token in
-    let by_len = subst (λ k. IsFramed (request_of f.head.method f.head.target carried) (framing_of_request f.head) (max - k) rest a) f.len_is by_framing in
+    let by_token = subst (λ t. IsFramed (request_from_parts f.head.method f.head.target t) framed (max - len) rest a) (token_at front start.token carried f.token_is) by_path in
+    let by_framing = subst (λ g. IsFramed (request_from_parts f.head.method f.head.target carried) g (max - len) rest a) f.framing_is by_token in
+    let by_len = subst (λ k. IsFramed (request_from_parts f.head.method f.head.target carried) (framing_of_request f.head) (max - k) rest a) f.len_is by_framing in
     inr (record { head = f.head; rest = rest; reads = (f.reads.0, on.0); few = f.few; within = on.1; behind = by_len })
 
-not_request_of : (method path : List ℕ) (token : Option (List ℕ)) (body : Result (List ℕ) BodyFault) → request_of method path token body ≡ Err ReadFailed → ⊥
+not_request_of : (method path : List ℕ) (token : Option (List ℕ)) (body : Result (List ℕ) BodyFault) → request_from_parts method path token body ≡ Err ReadFailed → ⊥
 not_request_of method path token (Ok b) e = cc
 not_request_of method path token (Err f) e = not_body f (cc)
 
-not_framed : (method path : List ℕ) (token : Option (List ℕ)) (framed : Result Framing LengthFault) (room : ℕ) (rest : List ℕ) → IsFramed (request_of method path token) framed room rest (Err ReadFailed) → ⊥
+not_framed : (method path : List ℕ) (token : Option (List ℕ)) (framed : Result Framing LengthFault) (room : ℕ) (rest : List ℕ) → IsFramed (request_from_parts method path token) framed room rest (Err ReadFailed) → ⊥
 not_framed method path token (Err f) room rest e = not_length f (cc)
 not_framed method path token (Ok f) room rest h = not_request_of method path token h.0 (sym h.2)
 
-pub not_read_failed : (max : ℕ) (bytes : List ℕ) → IsRequest max bytes (Err ReadFailed) → ⊥
+pub not_read_failed : (max : ℕ) (bytes : List ℕ) → IsHttpRequest max bytes (Err ReadFailed) → ⊥
 not_read_failed max bytes (inl h) = not_headless IsOpenRequest (RequestOverflows MOST_FIELDS) max bytes h.0 h.1 (cc (h.2))
 not_read_failed max bytes (inr h) = not_framed h.head.method h.head.target (token_of (map name_and_value h.head.fields)) (framing_of_request h.head) (max - length (print_request h.head)) h.rest h.behind

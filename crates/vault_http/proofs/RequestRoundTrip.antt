@@ -16,10 +16,10 @@ use Rattle.vault_http.specs.declared.framing.Framing.TheVariants.{Empty, Counted
 use Rattle.vault_http.specs.declared.http_fault.HttpFault.{HttpFault}
 use Rattle.vault_http.specs.declared.http_fault.HttpFault.TheVariants.{ReadFailed, BadHead, BadLength, BadChunk, Truncated, TooLong, TwoLengths, OutOfMemory}
 use Rattle.vault_http.specs.declared.request.Request.{Request}
-use Rattle.vault_http.specs.Framing.{framing, framing_by, counted, transfer_encoding, content_length}
+use Rattle.vault_http.specs.Framing.{framing, framing_by, counted_framing, transfer_encoding, content_length}
 use Rattle.vault_http.specs.Heads.{framing_of_request, token_of, token_name}
-use Rattle.vault_http.specs.Messages.{IsHeadless, IsOpenRequest, IsFramed, request_of, IsRequest}
-use Rattle.vault_http.specs.RoundTripRequest.{is_sent_method, is_path_byte, is_token_value_byte, IsSentToken, IsSendable, without_port, ReadsBackRequest}
+use Rattle.vault_http.specs.Messages.{IsHeadless, IsOpenRequest, IsFramed, request_from_parts, IsHttpRequest}
+use Rattle.vault_http.specs.RoundTripRequest.{is_sent_method, is_path_byte, is_token_value_byte, IsSentToken, IsSendableRequest, without_port, ReadsBackRequest}
 use Rattle.vault_http.specs.Written.{request_text, host_lines, token_line, body_lines, length_lines, last_lines, is_get}
 use Rattle.vault_http.proofs.DecimalLemmas.{IsDigitByte, decimal_digits, digits_trimmed, length_known, value_byte}
 use Rattle.vault_http.proofs.Fronts.{take-grows}
@@ -191,7 +191,7 @@ body_fields_are : (get : Bool) (n : ℕ) → n < 2 ^ 64 → All IsField (body_fi
 body_fields_are true n few = All-nil IsField
 body_fields_are false n few = All-cons IsField type_field (length_field n ∷ []) type_is (All-cons IsField (length_field n) [] (length_is n few) (All-nil IsField))
 
-head_is : (get : Bool) (r : Request) → IsSendable r → IsRequestHead (head_of get r)
+head_is : (get : Bool) (r : Request) → IsSendableRequest r → IsRequestHead (head_of get r)
 head_is get r s =
     let n = length r.body in
     let visible = All-weaker (λ b. IsTrue (is_path_byte b)) IsVisible path_range r.path s.writable.path.2 in
@@ -212,7 +212,7 @@ head_is get r s =
 said_length : (n : ℕ) → n < 10 ^ 15 → framing_by Empty [] (trim_ows (32 ∷ decimal n) ∷ []) ≡ Ok (Counted n)
 said_length n few =
     let small : n < 2 ^ 64 = omega arith in
-    ap (λ v. framing_by Empty [] (v ∷ [])) (digits_trimmed (decimal n) (decimal_digits n small)) ∙ ap counted (length_known n few)
+    ap (λ v. framing_by Empty [] (v ∷ [])) (digits_trimmed (decimal n) (decimal_digits n small)) ∙ ap counted_framing (length_known n few)
 
 framing_is : (get : Bool) (port : ℕ) (token : Option (List ℕ)) (n : ℕ) → n < 10 ^ 15 → framing Empty (map name_and_value (fields_of get port token n)) ≡ cond get (Ok Empty) (Ok (Counted n))
 unfolding framing transfer_encoding content_length
@@ -254,12 +254,12 @@ headless max bytes rest head TwoLengths reads few within h = h
 headless max bytes rest head OutOfMemory reads few within h = h
 
 behind_is : (get : Bool) (r : Request) (more : List ℕ) (room : ℕ) (answer : Result Request HttpFault) → (get ≡ true → r.body ≡ []) → length r.body ≤ room
-    → IsFramed (request_of r.method r.path r.token) (cond get (Ok Empty) (Ok (Counted (length r.body)))) room (r.body ++ more) answer → answer ≡ Ok (without_port r)
-behind_is true r more room answer none fits h = h.2 ∙ ap (request_of r.method r.path r.token) (h.1 ∙ ap (λ b. Ok b) (sym (none refl)))
-behind_is false r more room answer none fits h = h.2 ∙ ap (request_of r.method r.path r.token) (h.1 ∙ counted_whole r.body more room fits)
+    → IsFramed (request_from_parts r.method r.path r.token) (cond get (Ok Empty) (Ok (Counted (length r.body)))) room (r.body ++ more) answer → answer ≡ Ok (without_port r)
+behind_is true r more room answer none fits h = h.2 ∙ ap (request_from_parts r.method r.path r.token) (h.1 ∙ ap (λ b. Ok b) (sym (none refl)))
+behind_is false r more room answer none fits h = h.2 ∙ ap (request_from_parts r.method r.path r.token) (h.1 ∙ counted_whole r.body more room fits)
 
-one_answer : (get : Bool) (r : Request) (more : List ℕ) (max : ℕ) (answer : Result Request HttpFault) → is_get r.method ≡ get → IsSendable r → length (request_text r) ≤ max
-    → IsRequest max (request_text r ++ more) answer → answer ≡ Ok (without_port r)
+one_answer : (get : Bool) (r : Request) (more : List ℕ) (max : ℕ) (answer : Result Request HttpFault) → is_get r.method ≡ get → IsSendableRequest r → length (request_text r) ≤ max
+    → IsHttpRequest max (request_text r ++ more) answer → answer ≡ Ok (without_port r)
 one_answer get r more max answer e s fits is =
     let n = length r.body in
     let head = head_of get r in
@@ -273,10 +273,10 @@ one_answer get r more max answer e s fits is =
       | inl h ↦ absurd (headless max (request_text r ++ more) (r.body ++ more) head h.0 reads (few_fields get r.port r.token n) within h.1)
       | inr h ↦
           let same = request_unique (request_text r ++ more) h.head head h.rest (r.body ++ more) h.reads reads in
-          let by_head = subst (λ k. IsFramed (request_of k.method k.target (token_of (map name_and_value k.fields))) (framing_of_request k) (max - length (print_request k)) h.rest answer) same.0 h.behind in
-          let by_rest = subst (λ t. IsFramed (request_of r.method r.path (token_of (map name_and_value head.fields))) (framing_of_request head) (max - length (print_request head)) t answer) same.1 by_head in
-          let by_token = subst (λ t. IsFramed (request_of r.method r.path t) (framing_of_request head) (max - length (print_request head)) (r.body ++ more) answer) (token_is get r.port r.token n s.writable.token) by_rest in
-          let by_framing = subst (λ f. IsFramed (request_of r.method r.path r.token) f (max - length (print_request head)) (r.body ++ more) answer) (framing_is get r.port r.token n s.short) by_token in
+          let by_head = subst (λ k. IsFramed (request_from_parts k.method k.target (token_of (map name_and_value k.fields))) (framing_of_request k) (max - length (print_request k)) h.rest answer) same.0 h.behind in
+          let by_rest = subst (λ t. IsFramed (request_from_parts r.method r.path (token_of (map name_and_value head.fields))) (framing_of_request head) (max - length (print_request head)) t answer) same.1 by_head in
+          let by_token = subst (λ t. IsFramed (request_from_parts r.method r.path t) (framing_of_request head) (max - length (print_request head)) (r.body ++ more) answer) (token_is get r.port r.token n s.writable.token) by_rest in
+          let by_framing = subst (λ f. IsFramed (request_from_parts r.method r.path r.token) f (max - length (print_request head)) (r.body ++ more) answer) (framing_is get r.port r.token n s.short) by_token in
           behind_is get r more (max - length (print_request head)) answer (λ g. s.writable.body (e ∙ g)) room by_framing
     ]
 

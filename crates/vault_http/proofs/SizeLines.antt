@@ -6,9 +6,9 @@ use Rattle.std.proofs.lemmas.Bool.{both_ways}
 use Rattle.std.proofs.lemmas.List.{take_at, drop_at, drop-drop, nil_from_length}
 use Rattle.vault_http.specs.declared.chunk.Ending.TheVariants as ending
 use Rattle.vault_http.specs.declared.chunk.Line.TheVariants as line
-use Rattle.vault_http.specs.Chunks.{line_end, IsSize, size, MayHave, NeverHas}
-use Rattle.vault_http.specs.Framing.{is_digit, number_in}
-use Rattle.vault_http.specs.Steps.{IsEnding, IsLine}
+use Rattle.vault_http.specs.Chunks.{line_end, IsSize, size_of_digits, MayHave, NeverHas}
+use Rattle.vault_http.specs.Framing.{is_digit, number_in_digits}
+use Rattle.vault_http.specs.Steps.{IsEnding, IsSizeLine}
 use Rattle.vault_http.proofs.Runs.{front, take_while-front, Halts, IsRun, run_of, run_within, same_run}
 
 abbrev hex : ℕ → Bool
@@ -103,7 +103,7 @@ pub bad_line : (text : List ℕ) (n : ℕ) → n ≡ length (take_while hex text
 bad_line text n e bad = let c = cut text n e in line_bad text n c (subst (λ t. IsEnding t ending.Bad) c.rest_is bad) (empty_or c.rest)
 
 -- the number of the digits is theirs
-number_found : (digits : List ℕ) (value : ℕ) → list_all hex digits ≡ true → Some value ≡ number_in 16 digits → value ≡ size digits
+number_found : (digits : List ℕ) (value : ℕ) → list_all hex digits ≡ true → Some value ≡ number_in_digits 16 digits → value ≡ size_of_digits digits
 number_found digits value all e = given (list_all hex digits) all e
   where
     given : (b : Bool) → b ≡ true → Some value ≡ cond b (Some (digits_value 16 digits)) None → value ≡ digits_value 16 digits
@@ -111,20 +111,20 @@ number_found digits value all e = given (list_all hex digits) all e
     given false t e = absurd (both_ways false refl t)
 
 pub whole_line : (text : List ℕ) (n value : ℕ) → n ≡ length (take_while hex text) → 0 < n → n ≤ 8 → IsEnding (drop n text) ending.Whole
-    → Some value ≡ number_in 16 (take n text) → IsLine text (line.Size n value)
+    → Some value ≡ number_in_digits 16 (take n text) → IsSizeLine text (line.Size n value)
 whole_line text n value e some few here number =
     let c = cut text n e in
     let at : c.rest ≡ line_end ++ drop 2 (drop n text) = sym c.rest_is ∙ here in
     let split : text ≡ take n text ++ (line_end ++ drop (n + 2) text) =
     c.run.split ∙ ap (λ d. d ++ c.rest) (sym c.digits_are) ∙ ap (λ r. take n text ++ r) (at ∙ ap (λ r. line_end ++ r) (drop-drop 2 n text)) in
     let is_size : IsSize (take n text) = subst IsSize (sym c.digits_are) (sized text n c some few) in
-    let known : value ≡ size c.digits = number_found c.digits value c.run.all (number ∙ ap (number_in 16) c.digits_are) in
+    let known : value ≡ size_of_digits c.digits = number_found c.digits value c.run.all (number ∙ ap (number_in_digits 16) c.digits_are) in
     let long : length text ≡ length (take n text) + length (line_end ++ drop (n + 2) text) = ap length split ∙ length-append (take n text) (line_end ++ drop (n + 2) text) in
     let count : length (take n text) ≡ n = ap length c.digits_are ∙ c.many in
-    ((is_size, split), known ∙ ap size (sym c.digits_are), omega (arith, long, count))
+    ((is_size, split), known ∙ ap size_of_digits (sym c.digits_are), omega (arith, long, count))
 
-pub no_number : (text : List ℕ) (n : ℕ) → n ≡ length (take_while hex text) → None ≡ number_in 16 (take n text) → ⊥
-no_number text n e none = let c = cut text n e in given (size c.digits) (list_all hex c.digits) c.run.all (none ∙ ap (number_in 16) c.digits_are)
+pub no_number : (text : List ℕ) (n : ℕ) → n ≡ length (take_while hex text) → None ≡ number_in_digits 16 (take n text) → ⊥
+no_number text n e none = let c = cut text n e in given (size_of_digits c.digits) (list_all hex c.digits) c.run.all (none ∙ ap (number_in_digits 16) c.digits_are)
   where
     given : (v : ℕ) (b : Bool) → b ≡ true → None ≡ cond b (Some v) None → ⊥
     given v true t e = cc

@@ -16,12 +16,12 @@ use Rattle.vault_http.specs.declared.http_fault.HttpFault.{HttpFault}
 use Rattle.vault_http.specs.declared.http_fault.HttpFault.TheVariants as faults
 use Rattle.vault_http.specs.declared.known.Known.{Known}
 use Rattle.vault_http.specs.declared.known.Known.TheVariants as known
-use Rattle.vault_http.specs.Body.{IsBody, HasBody, IsCutOff, IsPartOf, counted_body, framing_of, open_body}
+use Rattle.vault_http.specs.Body.{IsMessageBody, HasBody, BodyIsCutOff, IsPartOf, counted_body, framing_of, open_body}
 use Rattle.vault_http.specs.Chunks.{HasChunks}
-use Rattle.vault_http.specs.EmptyLine.{HasLineBehind, is_blank}
-use Rattle.vault_http.specs.Holding.{Holds, HandedNone, IsPending, IsWaitedFor}
-use Rattle.vault_http.specs.Known.{IsCurrent, IsHeaded, IsKnown, whole_of}
-use Rattle.vault_http.specs.Reading.{HeldIsRead, IsLate, Settles}
+use Rattle.vault_http.specs.EmptyLine.{HasLineBehind, is_line_end_byte}
+use Rattle.vault_http.specs.Holding.{HoldsMessage, HandedNone, IsPending, IsWaitedFor}
+use Rattle.vault_http.specs.Known.{IsCurrent, IsHeaded, StaysKnown, message_with_body}
+use Rattle.vault_http.specs.Reading.{HeldIsRead, IsLate, SettlesMessage}
 use Rattle.vault_http.proofs.WholeChunks.{never_both}
 
 -- ---- a body
@@ -38,12 +38,12 @@ open_never room rest body long e = given (nat_lt room (length rest)) (lt-ltb roo
     given false t f = cc
 
 -- a body that is waited for is not whole
-waits_none : (framed : Framing) (room : ℕ) (rest : List ℕ) → IsCutOff framed room rest → ((after : List ℕ) → HasBody framed room (rest ++ after)) → ⊥
+waits_none : (framed : Framing) (room : ℕ) (rest : List ℕ) → BodyIsCutOff framed room rest → ((after : List ℕ) → HasBody framed room (rest ++ after)) → ⊥
 waits_none Empty room rest w h = w
 waits_none (Counted n) room rest w h =
     let b = h [] in
     counted_cut (nat_lt room n) (nat_lt (length rest) n) (take n rest) b.0 w (subst (λ t. Ok b.0 ≡ counted_body n room t) (append-nil rest) b.1)
-waits_none Chunked room rest w h = let b = h [] in never_both room rest b.0 w (subst (λ t. IsBody Chunked room t (Ok b.0)) (append-nil rest) b.1)
+waits_none Chunked room rest w h = let b = h [] in never_both room rest b.0 w (subst (λ t. IsMessageBody Chunked room t (Ok b.0)) (append-nil rest) b.1)
 waits_none ToEnd room rest w h =
     let pad = replicate (room + 1) 0 in
     let b = h pad in
@@ -82,13 +82,13 @@ module _ {A : Type 0} (HasNoHead : List ℕ → Type 0) (IsAnswer : List ℕ →
       λ after. ap (λ t. t ++ after) (drop-append-le len bytes more h.there) ∙ append_assoc (drop len bytes) more after in record {
         within = h.within;
         there = omega (arith, h.there, length-append bytes more);
-        answers = λ after body is. subst (λ t. IsAnswer t (whole_of with_body message body)) (sym (append_assoc bytes more after))
-            (h.answers (more ++ after) body (subst (λ t. IsBody framed (max - len) t body) (behind after) is));
+        answers = λ after body is. subst (λ t. IsAnswer t (message_with_body with_body message body)) (sym (append_assoc bytes more after))
+            (h.answers (more ++ after) body (subst (λ t. IsMessageBody framed (max - len) t body) (behind after) is));
         has_body = λ after m is. subst (λ t. HasBody framed (max - len) t) (sym (behind after))
             (h.has_body (more ++ after) m (subst (λ t. IsAnswer t (Ok m)) (append_assoc bytes more after) is));
       }
 
-  pub known_on : (max : ℕ) (bytes more : List ℕ) (k : Known A) → IsKnown HasNoHead IsAnswer with_body max bytes k → IsKnown HasNoHead IsAnswer with_body max (bytes ++ more) k
+  pub known_on : (max : ℕ) (bytes more : List ℕ) (k : Known A) → StaysKnown HasNoHead IsAnswer with_body max bytes k → StaysKnown HasNoHead IsAnswer with_body max (bytes ++ more) k
   known_on max bytes more (known.Head looked seen blank) (less, there, within, cut, none, all) =
       let long = length-append bytes more in (
         less,
@@ -96,7 +96,7 @@ module _ {A : Type 0} (HasNoHead : List ℕ → Type 0) (IsAnswer : List ℕ →
         omega (arith, within, long),
         subst (λ t. IsAnswer t (Err faults.Truncated)) (sym (take-append-le looked bytes more (omega (arith, less, there)))) cut,
         subst HasNoHead (sym (take-append-le seen bytes more there)) none,
-        ap (list_all is_blank) (take-append-le blank bytes more within) ∙ all,
+        ap (list_all is_line_end_byte) (take-append-le blank bytes more within) ∙ all,
       )
   known_on max bytes more (known.Body k) (headed, part) = (
     headed_on max bytes more k.len k.message (framing_of k.partial) headed,
@@ -104,12 +104,12 @@ module _ {A : Type 0} (HasNoHead : List ℕ → Type 0) (IsAnswer : List ℕ →
   )
 
   -- no head is whole in more bytes that are all of line ends, or bring no empty line
-  pub unlooked : (max : ℕ) (bytes : List ℕ) (looked seen old blank : ℕ) → ((t : List ℕ) → IsTrue (list_all is_blank t) → HasNoHead t)
+  pub unlooked : (max : ℕ) (bytes : List ℕ) (looked seen old blank : ℕ) → ((t : List ℕ) → IsTrue (list_all is_line_end_byte t) → HasNoHead t)
       → ((t more : List ℕ) → HasNoHead t → (HasLineBehind (length t) (t ++ more) → ⊥) → HasNoHead (t ++ more))
-      → IsKnown HasNoHead IsAnswer with_body max bytes (known.Head looked seen old) → blank ≤ length bytes → IsTrue (list_all is_blank (take blank bytes))
-      → (blank ≡ length bytes) ⊎ (HasLineBehind seen bytes → ⊥) → IsKnown HasNoHead IsAnswer with_body max bytes (known.Head looked (length bytes) blank)
+      → StaysKnown HasNoHead IsAnswer with_body max bytes (known.Head looked seen old) → blank ≤ length bytes → IsTrue (list_all is_line_end_byte (take blank bytes))
+      → (blank ≡ length bytes) ⊎ (HasLineBehind seen bytes → ⊥) → StaysKnown HasNoHead IsAnswer with_body max bytes (known.Head looked (length bytes) blank)
   unlooked max bytes looked seen old blank by_blank by_line (less, there, within, cut, none, all) here blanks (inl same) =
-      (omega (arith, less, there), omega arith, here, cut, by_blank (take (length bytes) bytes) (subst (λ n. IsTrue (list_all is_blank (take n bytes))) same blanks), blanks)
+      (omega (arith, less, there), omega arith, here, cut, by_blank (take (length bytes) bytes) (subst (λ n. IsTrue (list_all is_line_end_byte (take n bytes))) same blanks), blanks)
   unlooked max bytes looked seen old blank by_blank by_line (less, there, within, cut, none, all) here blanks (inr quiet) =
       let front = take seen bytes in
       let whole : front ++ drop seen bytes ≡ bytes = take-append-drop seen bytes in
@@ -118,21 +118,21 @@ module _ {A : Type 0} (HasNoHead : List ℕ → Type 0) (IsAnswer : List ℕ →
       (omega (arith, less, there), omega arith, here, cut, subst HasNoHead (whole ∙ sym (take_all (length bytes) bytes (omega arith))) gone, blanks)
 
   -- after a head
-  body_none : (max : ℕ) (bytes : List ℕ) (len : ℕ) (message : A) (framed : Framing) → IsHeaded IsAnswer with_body max bytes len message framed → IsCutOff framed (max - len) (drop len bytes)
-      → (m : A) → Holds IsAnswer bytes m → ⊥
+  body_none : (max : ℕ) (bytes : List ℕ) (len : ℕ) (message : A) (framed : Framing) → IsHeaded IsAnswer with_body max bytes len message framed → BodyIsCutOff framed (max - len) (drop len bytes)
+      → (m : A) → HoldsMessage IsAnswer bytes m → ⊥
   body_none max bytes len message framed h cut m holds = waits_none framed (max - len) (drop len bytes) cut (λ after. h.has_body after m (holds after))
 
   at_end : (max : ℕ) (bytes : List ℕ) (len : ℕ) (message : A) (framed : Framing) (body : Result (List ℕ) BodyFault) → IsHeaded IsAnswer with_body max bytes len message framed
-      → IsBody framed (max - len) (drop len bytes) body → IsAnswer bytes (whole_of with_body message body)
+      → IsMessageBody framed (max - len) (drop len bytes) body → IsAnswer bytes (message_with_body with_body message body)
   at_end max bytes len message framed body h is =
-      subst (λ t. IsAnswer t (whole_of with_body message body)) (append-nil bytes)
-      (h.answers [] body (subst (λ t. IsBody framed (max - len) t body) (sym (append-nil (drop len bytes))) is))
+      subst (λ t. IsAnswer t (message_with_body with_body message body)) (append-nil bytes)
+      (h.answers [] body (subst (λ t. IsMessageBody framed (max - len) t body) (sym (append-nil (drop len bytes))) is))
 
-  cut_answer : (max : ℕ) (bytes : List ℕ) (len : ℕ) (message : A) (framed : Framing) → IsHeaded IsAnswer with_body max bytes len message framed → IsBody framed (max - len) (drop len bytes) (Err Truncated)
+  cut_answer : (max : ℕ) (bytes : List ℕ) (len : ℕ) (message : A) (framed : Framing) → IsHeaded IsAnswer with_body max bytes len message framed → IsMessageBody framed (max - len) (drop len bytes) (Err Truncated)
       → IsAnswer bytes (Err faults.Truncated)
   cut_answer max bytes len message framed h is = at_end max bytes len message framed (Err Truncated) h is
 
-  body_pending : (max : ℕ) (bytes : List ℕ) (len : ℕ) (message : A) (framed : Framing) → IsHeaded IsAnswer with_body max bytes len message framed → IsCutOff framed (max - len) (drop len bytes)
+  body_pending : (max : ℕ) (bytes : List ℕ) (len : ℕ) (message : A) (framed : Framing) → IsHeaded IsAnswer with_body max bytes len message framed → BodyIsCutOff framed (max - len) (drop len bytes)
       → IsPending IsAnswer bytes
   body_pending max bytes len message Empty h cut = absurd cut
   body_pending max bytes len message (Counted n) h cut = inl (cut_answer max bytes len message (Counted n) h (sym cut))
@@ -141,7 +141,7 @@ module _ {A : Type 0} (HasNoHead : List ℕ → Type 0) (IsAnswer : List ℕ →
       let rest = drop len bytes in
       inr (with_body message rest, at_end max bytes len message ToEnd (Ok rest) h (open_whole (max - len) rest cut), body_none max bytes len message ToEnd h cut (with_body message rest))
 
-  pub waited : (max : ℕ) (bytes : List ℕ) (k : Known A) → ((m : A) → IsAnswer bytes (Ok m) → HasNoHead bytes → ⊥) → IsKnown HasNoHead IsAnswer with_body max bytes k → IsCurrent max bytes k
+  pub waited : (max : ℕ) (bytes : List ℕ) (k : Known A) → ((m : A) → IsAnswer bytes (Ok m) → HasNoHead bytes → ⊥) → StaysKnown HasNoHead IsAnswer with_body max bytes k → IsCurrent max bytes k
       → IsWaitedFor HasNoHead IsAnswer bytes
   waited max bytes (known.Head looked seen blank) heads (less, there, within, cut, none, all) (now, soon) =
       let gone : HasNoHead bytes = subst HasNoHead (take_all seen bytes (omega (arith, now))) none in record {
@@ -160,7 +160,7 @@ module _ {A : Type 0} (HasNoHead : List ℕ → Type 0) (IsAnswer : List ℕ →
   -- as many reads as are allowed did not do
   pub late : (before now : Option (List ℕ)) (bytes : List ℕ) (counter first left : ℕ) → MOST_READS ≤ counter → Consumes before now bytes → IsWaitedFor HasNoHead IsAnswer bytes
       → IfSome before (λ _. (counter + left ≤ first) × ((counter ≡ 0) ⊎ (0 < left))) → (counter ≡ 0) ⊎ (left ≤ 1 → IsAtEnd now)
-      → IfSome before (λ w. Settles HasNoHead IsAnswer w now first left (Err faults.TooLong))
+      → IfSome before (λ w. SettlesMessage HasNoHead IsAnswer w now first left (Err faults.TooLong))
   late None now bytes counter first left many given l pace last = tt
   late (Some w) now bytes counter first left many given l pace last = inr (record {
     passes = (omega (arith, pace.0, many), elim pace.1 [ inl none ↦ omega (arith, none, many) | inr some ↦ some ]);
@@ -168,12 +168,12 @@ module _ {A : Type 0} (HasNoHead : List ℕ → Type 0) (IsAnswer : List ℕ →
     last = elim last [ inl none ↦ absurd (omega (arith, none, many)) | inr end ↦ end ];
   })
 
-  never_late : (bytes : List ℕ) (left : Option (List ℕ)) (before now : ℕ) (message : A) → Holds IsAnswer bytes message → before ≤ MOST_READS + 1 → IsLate HasNoHead IsAnswer bytes left before now → ⊥
+  never_late : (bytes : List ℕ) (left : Option (List ℕ)) (before now : ℕ) (message : A) → HoldsMessage IsAnswer bytes message → before ≤ MOST_READS + 1 → IsLate HasNoHead IsAnswer bytes left before now → ⊥
   never_late bytes None before now message holds few l = l.none.1
   never_late bytes (Some rest) before now message holds few l =
       let end : rest ≡ [] = l.last (omega (arith, few, l.passes.0)) in
       let all : bytes ≡ l.none.0 = l.none.1 ∙ ap (λ t. l.none.0 ++ t) end ∙ append-nil l.none.0 in
-      l.none.2.none message (subst (λ t. Holds IsAnswer t message) all holds)
+      l.none.2.none message (subst (λ t. HoldsMessage IsAnswer t message) all holds)
 
   -- a message that was handed out is not passed over
   pub held_is_read : HeldIsRead HasNoHead IsAnswer

@@ -4,7 +4,7 @@ use Rattle.std.proofs.lemmas.List.{drop_at}
 use Rattle.std.specs.List.{AllByRecursion}
 use Rattle.vault_http.specs.declared.body.BodyFault.{BodyFault}
 use Rattle.vault_http.specs.declared.body.BodyFault.TheVariants.{TooLong, Truncated, BadChunk, OutOfMemory}
-use Rattle.vault_http.specs.Chunks.{line_end, IsSize, IsData, size, HasPart, MayHave, Chunk, IsChunk, print_chunk, print_chunks, content, joined, StopsAt, IsChunked}
+use Rattle.vault_http.specs.Chunks.{line_end, IsSize, IsData, size_of_digits, HasPart, MayHave, Chunk, IsChunk, print_chunk, print_chunks, content, joined_bytes, StopsAt, IsChunked}
 use Rattle.vault_http.specs.Framing.{is_digit}
 use Rattle.vault_http.proofs.Runs.{same_run}
 
@@ -18,15 +18,15 @@ size_once p q r s is_p is_q e =
 
 -- a chunk stops within the text
 abbrev IsOpen : List ℕ → Type 0
-IsOpen text = MayHave IsSize text ⊎ ((digits : List ℕ) × (rest : List ℕ) × (HasPart IsSize text digits rest) × MayHave (IsData (size digits)) rest)
+IsOpen text = MayHave IsSize text ⊎ ((digits : List ℕ) × (rest : List ℕ) × (HasPart IsSize text digits rest) × MayHave (IsData (size_of_digits digits)) rest)
 
 -- a chunk is all there, whatever its bytes are
 abbrev IsFull : List ℕ → Type 0
-IsFull text = (digits : List ℕ) × (rest : List ℕ) × (HasPart IsSize text digits rest) × (size digits + 2 ≤ length rest)
+IsFull text = (digits : List ℕ) × (rest : List ℕ) × (HasPart IsSize text digits rest) × (size_of_digits digits + 2 ≤ length rest)
 
 -- the last chunk stands there
 abbrev IsLast : List ℕ → Type 0
-IsLast text = (digits : List ℕ) × (rest : List ℕ) × (after : List ℕ) × (HasPart IsSize text digits rest) × (size digits ≡ 0) × HasPart (IsData 0) rest [] after
+IsLast text = (digits : List ℕ) × (rest : List ℕ) × (after : List ℕ) × (HasPart IsSize text digits rest) × (size_of_digits digits ≡ 0) × HasPart (IsData 0) rest [] after
 
 not_both : (text : List ℕ) → IsOpen text → IsFull text → ⊥
 not_both text (inl may) (digits, rest, has, long) =
@@ -35,7 +35,7 @@ not_both text (inl may) (digits, rest, has, long) =
     omega (arith, may.1, ap length same.1, length-append rest may.0)
 not_both text (inr (first, behind, here, may)) (digits, rest, has, long) =
     let same = size_once first digits behind rest here.0 has.0 (sym here.1 ∙ has.1) in
-    omega (arith, may.1, ap length may.2.1.1, length-append behind may.0, length-append may.2.0 (line_end ++ []), may.2.1.0, ap size same.0, ap length same.1, long)
+    omega (arith, may.1, ap length may.2.1.1, length-append behind may.0, length-append may.2.0 (line_end ++ []), may.2.1.0, ap size_of_digits same.0, ap length same.1, long)
 
 -- a chunk and what follows it, as its size and what follows that
 chunk_text : (c : Chunk) (rest : List ℕ) → print_chunk c ++ rest ≡ c.digits ++ (line_end ++ (c.payload ++ (line_end ++ rest)))
@@ -57,13 +57,13 @@ last_full text (digits, rest, after, has, zero, data_part) = (digits, rest, has,
 last_once : (text : List ℕ) → IsLast text → (c : Chunk) (rest : List ℕ) → IsChunk c → text ≡ print_chunk c ++ rest → ⊥
 last_once text (digits, rest, after, has, zero, data_part) c left is e =
     let same = size_once digits c.digits rest (c.payload ++ (line_end ++ left)) has.0 is.0 (sym has.1 ∙ e ∙ chunk_text c left) in
-    omega (arith, zero, ap size same.0, is.1, is.2)
+    omega (arith, zero, ap size_of_digits same.0, is.1, is.2)
 
 -- one text has one chunk at its front
 chunk_once : (c d : Chunk) (r q : List ℕ) → IsChunk c → IsChunk d → print_chunk c ++ r ≡ print_chunk d ++ q → r ≡ q
 chunk_once c d r q is_c is_d e =
     let same = size_once c.digits d.digits (c.payload ++ (line_end ++ r)) (d.payload ++ (line_end ++ q)) is_c.0 is_d.0 (sym (chunk_text c r) ∙ e ∙ chunk_text d q) in
-    let long : length c.payload ≡ length d.payload = sym is_c.1 ∙ ap size same.0 ∙ is_d.1 in
+    let long : length c.payload ≡ length d.payload = sym is_c.1 ∙ ap size_of_digits same.0 ∙ is_d.1 in
     let behind : line_end ++ r ≡ line_end ++ q =
     sym (drop_at c.payload (line_end ++ r) (length c.payload) refl) ∙ ap (drop (length c.payload)) same.1 ∙ drop_at d.payload (line_end ++ q) (length c.payload) (sym long) in
     ap (drop 2) behind
@@ -78,7 +78,7 @@ apart (c ∷ cs) (d ∷ ds) r q are_c are_d e open_r last_q =
     (chunk_once c d (print_chunks cs ++ r) (print_chunks ds ++ q) are_c.0 are_d.0
     (sym (append_assoc (print_chunk c) (print_chunks cs) r) ∙ e ∙ append_assoc (print_chunk d) (print_chunks ds) q)) open_r last_q
 
-cut_open : (room : ℕ) (bytes text : List ℕ) (stop : Result (List ℕ) BodyFault) → Err Truncated ≡ joined bytes stop → StopsAt room text stop → IsOpen text
+cut_open : (room : ℕ) (bytes text : List ℕ) (stop : Result (List ℕ) BodyFault) → Err Truncated ≡ joined_bytes bytes stop → StopsAt room text stop → IsOpen text
 cut_open room bytes text (Ok none) e stops = absurd (cc (e))
 cut_open room bytes text (Err TooLong) e stops = absurd (cc (e))
 cut_open room bytes text (Err Truncated) e (inl s) = inl s.1
@@ -86,7 +86,7 @@ cut_open room bytes text (Err Truncated) e (inr (digits, rest, has, fits, may)) 
 cut_open room bytes text (Err BadChunk) e stops = absurd (cc (e))
 cut_open room bytes text (Err OutOfMemory) e stops = absurd (cc (e))
 
-whole_last : (room : ℕ) (bytes body text : List ℕ) (stop : Result (List ℕ) BodyFault) → Ok body ≡ joined bytes stop → StopsAt room text stop
+whole_last : (room : ℕ) (bytes body text : List ℕ) (stop : Result (List ℕ) BodyFault) → Ok body ≡ joined_bytes bytes stop → StopsAt room text stop
     → (none : List ℕ) × (stop ≡ Ok none) × StopsAt room text (Ok none)
 whole_last room bytes body text (Ok none) e stops = (none, refl, stops)
 whole_last room bytes body text (Err fault) e stops = absurd (cc (e))

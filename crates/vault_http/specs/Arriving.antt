@@ -3,7 +3,7 @@
 use Rattle.std.specs.Prelude.{◌≡◌, ℕ, List, [], Option, Some, None}
 use Rattle.httparse.specs.Grammar.{HasNoResponse}
 use Rattle.vault_http.specs.Dates.{IsDatedReply, dated_with}
-use Rattle.vault_http.specs.Known.{IsCurrent, IsKnown}
+use Rattle.vault_http.specs.Known.{IsCurrent, StaysKnown}
 use Rattle.vault_http.specs.declared.dated_reply.DatedReply.{DatedReply}
 use Rattle.vault_http.specs.declared.known.Known.{Known}
 use Rattle.vault_http.specs.declared.known.TheConstants.{MOST_MESSAGE}
@@ -11,9 +11,9 @@ use Rattle.vault_http.specs.declared.known.TheConstants.{MOST_MESSAGE}
 -- of a reply with its date of which these bytes have come, so much is known; at first nothing has come
 abbrev pub IsDatedSoFar : List ℕ → Option (Known DatedReply) → Type 0
 IsDatedSoFar bytes None = bytes ≡ []
-IsDatedSoFar bytes (Some k) = IsKnown HasNoResponse (IsDatedReply MOST_MESSAGE) dated_with MOST_MESSAGE bytes k × IsCurrent MOST_MESSAGE bytes k
+IsDatedSoFar bytes (Some k) = StaysKnown HasNoResponse (IsDatedReply MOST_MESSAGE) dated_with MOST_MESSAGE bytes k × IsCurrent MOST_MESSAGE bytes k
 
 -- the same was known of a front of these bytes
 abbrev pub IsDatedFront : List ℕ → Option (Known DatedReply) → Type 0
 IsDatedFront bytes None = Unit {0}
-IsDatedFront bytes (Some k) = IsKnown HasNoResponse (IsDatedReply MOST_MESSAGE) dated_with MOST_MESSAGE bytes k
+IsDatedFront bytes (Some k) = StaysKnown HasNoResponse (IsDatedReply MOST_MESSAGE) dated_with MOST_MESSAGE bytes k

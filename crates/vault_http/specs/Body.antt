@@ -17,22 +17,22 @@ abbrev pub open_body : ℕ → List ℕ → Result (List ℕ) BodyFault
 open_body room rest = if nat_lt room (length rest) then Err TooLong else Ok rest
 
 -- what the bytes after the head are as a body
-abbrev pub IsBody : Framing → ℕ → List ℕ → Result (List ℕ) BodyFault → Type 0
-IsBody Empty room rest body = body ≡ Ok []
-IsBody (Counted n) room rest body = body ≡ counted_body n room rest
-IsBody Chunked room rest body = IsChunked room rest body
-IsBody ToEnd room rest body = body ≡ open_body room rest
+abbrev pub IsMessageBody : Framing → ℕ → List ℕ → Result (List ℕ) BodyFault → Type 0
+IsMessageBody Empty room rest body = body ≡ Ok []
+IsMessageBody (Counted n) room rest body = body ≡ counted_body n room rest
+IsMessageBody Chunked room rest body = IsChunked room rest body
+IsMessageBody ToEnd room rest body = body ≡ open_body room rest
 
 -- a whole body stands after the head
 abbrev pub HasBody : Framing → ℕ → List ℕ → Type 0
-HasBody framed room rest = (body : List ℕ) × IsBody framed room rest (Ok body)
+HasBody framed room rest = (body : List ℕ) × IsMessageBody framed room rest (Ok body)
 
 -- the body is not all there: it would be cut off, were these bytes the last; one to the end of the input never is before it
-abbrev pub IsCutOff : Framing → ℕ → List ℕ → Type 0
-IsCutOff Empty room rest = ⊥
-IsCutOff (Counted n) room rest = counted_body n room rest ≡ Err Truncated
-IsCutOff Chunked room rest = IsChunked room rest (Err Truncated)
-IsCutOff ToEnd room rest = length rest ≤ room
+abbrev pub BodyIsCutOff : Framing → ℕ → List ℕ → Type 0
+BodyIsCutOff Empty room rest = ⊥
+BodyIsCutOff (Counted n) room rest = counted_body n room rest ≡ Err Truncated
+BodyIsCutOff Chunked room rest = IsChunked room rest (Err Truncated)
+BodyIsCutOff ToEnd room rest = length rest ≤ room
 
 -- how the body is framed that is known in part
 abbrev pub framing_of : Partial → Framing

@@ -17,8 +17,8 @@ abbrev pub IsSize : List ℕ → Type 0
 IsSize digits = (0 < length digits) × (length digits ≤ 8) × IsTrue (list_all (is_digit 16) digits)
 
 -- the size that digits give
-abbrev pub size : List ℕ → ℕ
-size digits = digits_value 16 digits
+abbrev pub size_of_digits : List ℕ → ℕ
+size_of_digits digits = digits_value 16 digits
 
 -- the bytes of a chunk, which are as many as its size says
 abbrev pub IsData : ℕ → List ℕ → Type 0
@@ -43,7 +43,7 @@ pub record Chunk : Type 0 where
 
 -- the size is that of the bytes, and not 0
 abbrev pub IsChunk : Chunk → Type 0
-IsChunk c = IsSize c.digits × (size c.digits ≡ length c.payload) × (0 < length c.payload)
+IsChunk c = IsSize c.digits × (size_of_digits c.digits ≡ length c.payload) × (0 < length c.payload)
 
 -- a chunk as it is written
 abbrev pub print_chunk : Chunk → List ℕ
@@ -58,27 +58,27 @@ abbrev pub content : List Chunk → List ℕ
 content chunks = flat_map (λ c. c.payload) chunks
 
 -- a chunk with these digits fits the room: its line, its bytes and the two line ends
-abbrev pub Fits : ℕ → List ℕ → Type 0
-Fits room digits = length digits + 2 + size digits + 2 ≤ room
+abbrev pub ChunkFits : ℕ → List ℕ → Type 0
+ChunkFits room digits = length digits + 2 + size_of_digits digits + 2 ≤ room
 
 -- where chunks stop: what stands there in the text, of which only so many bytes may be read
 abbrev pub StopsAt : ℕ → List ℕ → Result (List ℕ) BodyFault → Type 0
-StopsAt room text (Ok none) = (digits : List ℕ) × (rest : List ℕ) × (more : List ℕ) × (HasPart IsSize text digits rest) × (size digits ≡ 0) × Fits room digits × HasPart (IsData 0) rest [] more
+StopsAt room text (Ok none) = (digits : List ℕ) × (rest : List ℕ) × (more : List ℕ) × (HasPart IsSize text digits rest) × (size_of_digits digits ≡ 0) × ChunkFits room digits × HasPart (IsData 0) rest [] more
 StopsAt room text (Err TooLong) =
-    ((digits : List ℕ) × (rest : List ℕ) × (HasPart IsSize (take room text) digits rest) × (room < length digits + 2 + size digits + 2))
+    ((digits : List ℕ) × (rest : List ℕ) × (HasPart IsSize (take room text) digits rest) × (room < length digits + 2 + size_of_digits digits + 2))
     ⊎ ((room < length text) × MayHave IsSize (take room text))
 StopsAt room text (Err Truncated) =
     ((length text ≤ room) × MayHave IsSize text)
-    ⊎ ((digits : List ℕ) × (rest : List ℕ) × (HasPart IsSize text digits rest) × Fits room digits × MayHave (IsData (size digits)) rest)
+    ⊎ ((digits : List ℕ) × (rest : List ℕ) × (HasPart IsSize text digits rest) × ChunkFits room digits × MayHave (IsData (size_of_digits digits)) rest)
 StopsAt room text (Err BadChunk) =
     NeverHas IsSize (take room text)
-    ⊎ ((digits : List ℕ) × (rest : List ℕ) × (HasPart IsSize text digits rest) × Fits room digits × NeverHas (IsData (size digits)) rest)
+    ⊎ ((digits : List ℕ) × (rest : List ℕ) × (HasPart IsSize text digits rest) × ChunkFits room digits × NeverHas (IsData (size_of_digits digits)) rest)
 StopsAt room text (Err OutOfMemory) = ⊥
 
 -- the bytes that chunks and what stops them stand for
-abbrev pub joined : List ℕ → Result (List ℕ) BodyFault → Result (List ℕ) BodyFault
-joined bytes (Ok none) = Ok bytes
-joined bytes (Err fault) = Err fault
+abbrev pub joined_bytes : List ℕ → Result (List ℕ) BodyFault → Result (List ℕ) BodyFault
+joined_bytes bytes (Ok none) = Ok bytes
+joined_bytes bytes (Err fault) = Err fault
 
 -- the text is a body in chunks, or fails to be one within the room, in this way
 pub record IsChunked (room : ℕ) (text : List ℕ) (body : Result (List ℕ) BodyFault) : Type 0 where
@@ -89,7 +89,7 @@ pub record IsChunked (room : ℕ) (text : List ℕ) (body : Result (List ℕ) Bo
   pub text_is : text ≡ print_chunks chunks ++ rest
   pub fits : length (print_chunks chunks) ≤ room
   pub stops : StopsAt (room - length (print_chunks chunks)) rest stop
-  pub body_is : body ≡ joined (content chunks) stop
+  pub body_is : body ≡ joined_bytes (content chunks) stop
 
 -- the first bytes of the text are whole chunks, which hold these bytes
 pub record HasChunks (text : List ℕ) (at : ℕ) (body : List ℕ) : Type 0 where

@@ -9,7 +9,7 @@ use Rattle.vault_http.specs.declared.found_head.TheConstants.{MOST_FIELDS}
 use Rattle.vault_http.specs.declared.http_fault.HttpFault.{HttpFault}
 use Rattle.vault_http.specs.Fields.{values_of}
 use Rattle.vault_http.specs.declared.reply.Reply.{Reply}
-use Rattle.vault_http.specs.Messages.{IsReply, reply_with}
+use Rattle.vault_http.specs.Messages.{IsHttpReply, reply_with}
 use Rattle.vault_http.specs.RoundTrip.{is_sent}
 use Rattle.vault_http.specs.Written.{reply_text}
 
@@ -42,8 +42,8 @@ pub record HasDate (bytes : List ℕ) (date : Option ℕ) : Type 0 where
 
 -- what reading a reply with its date answers: what reading the reply does, and the date of its head
 abbrev pub IsDatedReply : ℕ → List ℕ → Result DatedReply HttpFault → Type 0
-IsDatedReply max bytes (Ok dated) = IsReply max bytes (Ok dated.reply) × HasDate bytes dated.date
-IsDatedReply max bytes (Err fault) = IsReply max bytes (Err fault)
+IsDatedReply max bytes (Ok dated) = IsHttpReply max bytes (Ok dated.reply) × HasDate bytes dated.date
+IsDatedReply max bytes (Err fault) = IsHttpReply max bytes (Err fault)
 
 -- the reply with another body
 abbrev pub dated_with : DatedReply → List ℕ → DatedReply

@@ -11,5 +11,5 @@ pub record HasLineBehind (n : ℕ) (bytes : List ℕ) : Type 0 where
   pub behind : n < length front + 1 + length (print_end end)
 
 -- a byte of a line end: a carriage return or a line feed
-abbrev pub is_blank : ℕ → Bool
-is_blank b = b == 13 || b == 10
+abbrev pub is_line_end_byte : ℕ → Bool
+is_line_end_byte b = b == 13 || b == 10

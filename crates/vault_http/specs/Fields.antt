@@ -3,9 +3,9 @@ use Rattle.std.specs.Prelude.{ℕ, List, map, filter, Bool}
 use Rattle.std.specs.Str.{str_eq_ignore_ascii_case}
 
 -- whether that is the name, letters of either case
-abbrev pub is_named : List ℕ → List ℕ → Bool
-is_named name field = str_eq_ignore_ascii_case field name
+abbrev pub is_field_named : List ℕ → List ℕ → Bool
+is_field_named name field = str_eq_ignore_ascii_case field name
 
 -- the values of the fields with that name, in their order
 abbrev pub values_of : List ℕ → List (List ℕ × List ℕ) → List (List ℕ)
-values_of name fields = map (λ f. f.1) (filter (λ f. is_named name f.0) fields)
+values_of name fields = map (λ f. f.1) (filter (λ f. is_field_named name f.0) fields)

@@ -8,7 +8,7 @@ use Rattle.vault_http.specs.declared.framing.Framing.{Framing}
 use Rattle.vault_http.specs.declared.framing.Framing.TheVariants.{Empty, Counted, Chunked}
 use Rattle.vault_http.specs.declared.framing.LengthFault.{LengthFault}
 use Rattle.vault_http.specs.declared.framing.LengthFault.TheVariants.{BadLength, TwoLengths}
-use Rattle.vault_http.specs.Fields.{is_named, values_of}
+use Rattle.vault_http.specs.Fields.{is_field_named, values_of}
 
 -- the names of the two fields, and of the coding
 unfoldable pub transfer_encoding : List ℕ
@@ -25,24 +25,24 @@ abbrev pub is_digit : ℕ → ℕ → Bool
 is_digit radix b = nat_lt (digit_value b) radix
 
 -- the number that digits give, where there are only digits
-abbrev pub number_in : ℕ → List ℕ → Option ℕ
-number_in radix bytes = if list_all (is_digit radix) bytes then Some (digits_value radix bytes) else None
+abbrev pub number_in_digits : ℕ → List ℕ → Option ℕ
+number_in_digits radix bytes = if list_all (is_digit radix) bytes then Some (digits_value radix bytes) else None
 
 -- the length that the value of a field `Content-Length` gives: 1 to 15 decimal digits
 unfoldable pub length_in : List ℕ → Option ℕ
-length_in value = if nat_lt 0 (length value) && nat_le (length value) 15 then number_in 10 value else None
+length_in value = if nat_lt 0 (length value) && nat_le (length value) 15 then number_in_digits 10 value else None
 
 -- a length that was given, or none that can be read
-abbrev pub counted : Option ℕ → Result Framing LengthFault
-counted (Some n) = Ok (Counted n)
-counted None = Err BadLength
+abbrev pub counted_framing : Option ℕ → Result Framing LengthFault
+counted_framing (Some n) = Ok (Counted n)
+counted_framing None = Err BadLength
 
 -- the framing by the values of `Transfer-Encoding`, those of `Content-Length`, and what neither of them means
 abbrev pub framing_by : Framing → List (List ℕ) → List (List ℕ) → Result Framing LengthFault
 framing_by neither [] [] = Ok neither
-framing_by neither [] (value ∷ []) = counted (length_in value)
+framing_by neither [] (value ∷ []) = counted_framing (length_in value)
 framing_by neither [] (value ∷ other ∷ values) = Err BadLength
-framing_by neither (coding ∷ []) [] = if is_named chunked_coding coding then Ok Chunked else Err BadLength
+framing_by neither (coding ∷ []) [] = if is_field_named chunked_coding coding then Ok Chunked else Err BadLength
 framing_by neither (coding ∷ other ∷ codings) [] = Err BadLength
 framing_by neither (coding ∷ codings) (value ∷ values) = Err TwoLengths
 

@@ -20,13 +20,13 @@ unfoldable pub token_name : List ℕ
 token_name = codes "x-vault-token"
 
 -- the first of several, if there is one
-abbrev pub first_of : List (List ℕ) → Option (List ℕ)
-first_of [] = None
-first_of (value ∷ values) = Some value
+abbrev pub first_value : List (List ℕ) → Option (List ℕ)
+first_value [] = None
+first_value (value ∷ values) = Some value
 
 -- the token that the fields of a request carry: the first where there are several
 abbrev pub token_of : List (List ℕ × List ℕ) → Option (List ℕ)
-token_of fields = first_of (values_of token_name fields)
+token_of fields = first_value (values_of token_name fields)
 
 -- the span, if there is one, covers that value
 abbrev pub IsAt : List ℕ → Option Span → Option (List ℕ) → Type 0

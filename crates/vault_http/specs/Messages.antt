@@ -12,7 +12,7 @@ use Rattle.vault_http.specs.declared.http_fault.HttpFault.{HttpFault}
 use Rattle.vault_http.specs.declared.http_fault.HttpFault.TheVariants.{BadHead, BadLength, BadChunk, Truncated, TooLong, TwoLengths, OutOfMemory}
 use Rattle.vault_http.specs.declared.reply.Reply.{Reply}
 use Rattle.vault_http.specs.declared.request.Request.{Request}
-use Rattle.vault_http.specs.Body.{IsBody}
+use Rattle.vault_http.specs.Body.{IsMessageBody}
 use Rattle.vault_http.specs.Heads.{token_of, framing_of_response, framing_of_request}
 use Rattle.vault_http.specs.declared.found_head.TheConstants.{MOST_FIELDS}
 
@@ -43,13 +43,13 @@ abbrev pub IsOpenRequest : List ℕ → Type 0
 IsOpenRequest bytes = HasNoRequest bytes × MayBecomeRequest bytes
 
 -- the reply or the request of its parts
-abbrev pub reply_of : ℕ → Result (List ℕ) BodyFault → Result Reply HttpFault
-reply_of status (Ok body) = Ok (record { status = status; body = body })
-reply_of status (Err fault) = Err (body_fault fault)
+abbrev pub reply_from_parts : ℕ → Result (List ℕ) BodyFault → Result Reply HttpFault
+reply_from_parts status (Ok body) = Ok (record { status = status; body = body })
+reply_from_parts status (Err fault) = Err (body_fault fault)
 
-abbrev pub request_of : List ℕ → List ℕ → Option (List ℕ) → Result (List ℕ) BodyFault → Result Request HttpFault
-request_of method path token (Ok body) = Ok (record { method = method; path = path; token = token; body = body; port = 0 })
-request_of method path token (Err fault) = Err (body_fault fault)
+abbrev pub request_from_parts : List ℕ → List ℕ → Option (List ℕ) → Result (List ℕ) BodyFault → Result Request HttpFault
+request_from_parts method path token (Ok body) = Ok (record { method = method; path = path; token = token; body = body; port = 0 })
+request_from_parts method path token (Err fault) = Err (body_fault fault)
 
 -- the reply or the request with another body
 abbrev pub reply_with : Reply → List ℕ → Reply
@@ -61,7 +61,7 @@ request_with m body = record { method = m.method; path = m.path; token = m.token
 -- what stands after a head with that framing, of which so many bytes may be read
 abbrev pub IsFramed : {A : Type 0} → (Result (List ℕ) BodyFault → Result A HttpFault) → Result Framing LengthFault → ℕ → List ℕ → Result A HttpFault → Type 0
 IsFramed whole (Err fault) room rest answer = answer ≡ Err (length_fault fault)
-IsFramed whole (Ok framed) room rest answer = (body : Result (List ℕ) BodyFault) × IsBody framed room rest body × (answer ≡ whole body)
+IsFramed whole (Ok framed) room rest answer = (body : Result (List ℕ) BodyFault) × IsMessageBody framed room rest body × (answer ≡ whole body)
 
 -- a status from 100 to 199, which is not read
 abbrev pub is_informational : ℕ → Bool
@@ -70,7 +70,7 @@ is_informational status = nat_le 100 status && nat_lt status 200
 -- the answer after the head of a reply
 abbrev pub IsBehind : Bool → ℕ → Result Framing LengthFault → ℕ → List ℕ → Result Reply HttpFault → Type 0
 IsBehind true status framed room rest answer = answer ≡ Err BadHead
-IsBehind false status framed room rest answer = IsFramed (reply_of status) framed room rest answer
+IsBehind false status framed room rest answer = IsFramed (reply_from_parts status) framed room rest answer
 
 -- an input with the head of a reply within its first `max` bytes
 pub record IsHeadedReply (max : ℕ) (bytes : List ℕ) (answer : Result Reply HttpFault) : Type 0 where
@@ -82,8 +82,8 @@ pub record IsHeadedReply (max : ℕ) (bytes : List ℕ) (answer : Result Reply H
   pub behind : IsBehind (is_informational (status_code head)) (status_code head) (framing_of_response head) (max - length (print_response head)) rest answer
 
 -- what reading a reply answers
-abbrev pub IsReply : ℕ → List ℕ → Result Reply HttpFault → Type 0
-IsReply max bytes answer = ((fault : HttpFault) × IsHeadless IsOpenReply (ResponseOverflows MOST_FIELDS) max bytes fault × (answer ≡ Err fault)) ⊎ IsHeadedReply max bytes answer
+abbrev pub IsHttpReply : ℕ → List ℕ → Result Reply HttpFault → Type 0
+IsHttpReply max bytes answer = ((fault : HttpFault) × IsHeadless IsOpenReply (ResponseOverflows MOST_FIELDS) max bytes fault × (answer ≡ Err fault)) ⊎ IsHeadedReply max bytes answer
 
 -- an input with the head of a request within its first `max` bytes
 pub record IsHeadedRequest (max : ℕ) (bytes : List ℕ) (answer : Result Request HttpFault) : Type 0 where
@@ -92,11 +92,11 @@ pub record IsHeadedRequest (max : ℕ) (bytes : List ℕ) (answer : Result Reque
   pub reads : ReadsRequest bytes head rest
   pub few : length head.fields ≤ MOST_FIELDS
   pub within : length (print_request head) ≤ max
-  pub behind : IsFramed (request_of head.method head.target (token_of (map name_and_value head.fields))) (framing_of_request head) (max - length (print_request head)) rest answer
+  pub behind : IsFramed (request_from_parts head.method head.target (token_of (map name_and_value head.fields))) (framing_of_request head) (max - length (print_request head)) rest answer
 
 -- what reading a request answers; the port is no part of the message
-abbrev pub IsRequest : ℕ → List ℕ → Result Request HttpFault → Type 0
-IsRequest max bytes answer = ((fault : HttpFault) × IsHeadless IsOpenRequest (RequestOverflows MOST_FIELDS) max bytes fault × (answer ≡ Err fault)) ⊎ IsHeadedRequest max bytes answer
+abbrev pub IsHttpRequest : ℕ → List ℕ → Result Request HttpFault → Type 0
+IsHttpRequest max bytes answer = ((fault : HttpFault) × IsHeadless IsOpenRequest (RequestOverflows MOST_FIELDS) max bytes fault × (answer ≡ Err fault)) ⊎ IsHeadedRequest max bytes answer
 
 -- said of every answer but lack of memory
 abbrev pub UnlessMemory : {A : Type 0} → Result A HttpFault → Type 0 → Type 0

@@ -11,8 +11,8 @@ use Rattle.vault_http.specs.declared.dated_reply.DatedReply.{DatedReply}
 use Rattle.vault_http.specs.declared.reply.Reply.{Reply}
 use Rattle.vault_http.specs.declared.request.Request.{Request}
 use Rattle.vault_http.specs.Dates.{IsDatedReply}
-use Rattle.vault_http.specs.Holding.{Holds, HandedNone}
-use Rattle.vault_http.specs.Messages.{IsReply, IsRequest}
+use Rattle.vault_http.specs.Holding.{HoldsMessage, HandedNone}
+use Rattle.vault_http.specs.Messages.{IsHttpReply, IsHttpRequest}
 use Rattle.keep_device.specs.declared.limits.TheConstants.{MOST_READS}
 use Rattle.keep_device.specs.Seen.{Input}
 use Rattle.keep_device.specs.Whole.{PassesReads}
@@ -31,42 +31,42 @@ pub record IsLate {A : Type 0} (HasNoHead : List ℕ → Type 0) (IsAnswer : Lis
 
 -- reading an input answers what the message's relation says of its bytes, unless a read failed, memory was wanting, or
 -- more reads were needed than are allowed; `left` is what was not read
-abbrev pub Settles : {A : Type 0} → (List ℕ → Type 0) → (List ℕ → Result A HttpFault → Type 0) → List ℕ → Option (List ℕ) → ℕ → ℕ → Result A HttpFault → Type 0
-Settles HasNoHead IsAnswer bytes left before now (Err OutOfMemory) = Unit {0}
-Settles HasNoHead IsAnswer bytes left before now (Err ReadFailed) = Unit {0}
-Settles HasNoHead IsAnswer bytes left before now (Err TooLong) = IsAnswer bytes (Err TooLong) ⊎ IsLate HasNoHead IsAnswer bytes left before now
-Settles HasNoHead IsAnswer bytes left before now answer = IsAnswer bytes answer
+abbrev pub SettlesMessage : {A : Type 0} → (List ℕ → Type 0) → (List ℕ → Result A HttpFault → Type 0) → List ℕ → Option (List ℕ) → ℕ → ℕ → Result A HttpFault → Type 0
+SettlesMessage HasNoHead IsAnswer bytes left before now (Err OutOfMemory) = Unit {0}
+SettlesMessage HasNoHead IsAnswer bytes left before now (Err ReadFailed) = Unit {0}
+SettlesMessage HasNoHead IsAnswer bytes left before now (Err TooLong) = IsAnswer bytes (Err TooLong) ⊎ IsLate HasNoHead IsAnswer bytes left before now
+SettlesMessage HasNoHead IsAnswer bytes left before now answer = IsAnswer bytes answer
 
 -- the same of an input before and after, where its bytes are known
 abbrev pub SettlesFrom : {A : Type 0} → (List ℕ → Type 0) → (List ℕ → Result A HttpFault → Type 0) → Input → Input → Result A HttpFault → Type 0
 SettlesFrom HasNoHead IsAnswer before now answer =
-    IfSome before.remaining (λ bytes. Settles HasNoHead IsAnswer bytes now.remaining before.reads_left now.reads_left answer)
+    IfSome before.remaining (λ bytes. SettlesMessage HasNoHead IsAnswer bytes now.remaining before.reads_left now.reads_left answer)
 
 -- the same of a reply, of one with its date, and of a request, of at most so many bytes
 abbrev pub SettlesReply : ℕ → Input → Input → Result Reply HttpFault → Type 0
-SettlesReply max before now answer = SettlesFrom HasNoResponse (IsReply max) before now answer
+SettlesReply max before now answer = SettlesFrom HasNoResponse (IsHttpReply max) before now answer
 
 abbrev pub SettlesDated : ℕ → Input → Input → Result DatedReply HttpFault → Type 0
 SettlesDated max before now answer = SettlesFrom HasNoResponse (IsDatedReply max) before now answer
 
 abbrev pub SettlesRequest : ℕ → Input → Input → Result Request HttpFault → Type 0
-SettlesRequest max before now answer = SettlesFrom HasNoRequest (IsRequest max) before now answer
+SettlesRequest max before now answer = SettlesFrom HasNoRequest (IsHttpRequest max) before now answer
 
 abbrev pub HandedNoReply : ℕ → Input → Input → Type 0
-HandedNoReply max before now = HandedNone HasNoResponse (IsReply max) before.remaining now.remaining
+HandedNoReply max before now = HandedNone HasNoResponse (IsHttpReply max) before.remaining now.remaining
 
 abbrev pub HandedNoDated : ℕ → Input → Input → Type 0
 HandedNoDated max before now = HandedNone HasNoResponse (IsDatedReply max) before.remaining now.remaining
 
 abbrev pub HandedNoRequest : ℕ → Input → Input → Type 0
-HandedNoRequest max before now = HandedNone HasNoRequest (IsRequest max) before.remaining now.remaining
+HandedNoRequest max before now = HandedNone HasNoRequest (IsHttpRequest max) before.remaining now.remaining
 
 -- where the input is handed out in as many reads as are allowed, and one more for its end, and holds a message, `TooLong`
 -- is told of its bytes alone
 abbrev pub HeldIsRead : {A : Type 0} → (List ℕ → Type 0) → (List ℕ → Result A HttpFault → Type 0) → Type 0
 HeldIsRead {A} HasNoHead IsAnswer =
-    (bytes : List ℕ) (left : Option (List ℕ)) (before now : ℕ) (message : A) → Holds IsAnswer bytes message → before ≤ MOST_READS + 1
-    → Settles HasNoHead IsAnswer bytes left before now (Err TooLong) → IsAnswer bytes (Err TooLong)
+    (bytes : List ℕ) (left : Option (List ℕ)) (before now : ℕ) (message : A) → HoldsMessage IsAnswer bytes message → before ≤ MOST_READS + 1
+    → SettlesMessage HasNoHead IsAnswer bytes left before now (Err TooLong) → IsAnswer bytes (Err TooLong)
 
 -- one failure more where a read failed, and else none
 abbrev pub CountsMessage : {A : Type 0} → Result A HttpFault → ℕ → ℕ → Type 0

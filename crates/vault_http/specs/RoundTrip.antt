@@ -3,7 +3,7 @@ use Rattle.std.specs.Prelude.{◌≡◌, ℕ, ◌^◌, ◌<◌, ◌≤◌, ◌==
 use Rattle.std.specs.List.{list_any}
 use Rattle.vault_http.specs.declared.http_fault.HttpFault.{HttpFault}
 use Rattle.vault_http.specs.declared.reply.Reply.{Reply}
-use Rattle.vault_http.specs.Messages.{IsReply}
+use Rattle.vault_http.specs.Messages.{IsHttpReply}
 use Rattle.vault_http.specs.Written.{reply_text}
 
 -- the statuses that replies are written with
@@ -13,4 +13,4 @@ is_sent status = list_any (λ s. status == s) (200 ∷ 400 ∷ 403 ∷ 404 ∷ 4
 -- a reply that was written is the only answer to its bytes, whatever follows them
 abbrev pub ReadsBackReply : Reply → Type 0
 ReadsBackReply r = IsTrue (is_sent r.status) → length r.body < 10 ^ 15 → (more : List ℕ) (max : ℕ) → length (reply_text r) ≤ max
-    → (answer : Result Reply HttpFault) → IsReply max (reply_text r ++ more) answer → answer ≡ Ok r
+    → (answer : Result Reply HttpFault) → IsHttpReply max (reply_text r ++ more) answer → answer ≡ Ok r

@@ -4,7 +4,7 @@ use Rattle.std.specs.List.{list_any}
 use Rattle.std.specs.Char.{is_ascii_alphanumeric}
 use Rattle.vault_http.specs.declared.http_fault.HttpFault.{HttpFault}
 use Rattle.vault_http.specs.declared.request.Request.{Request}
-use Rattle.vault_http.specs.Messages.{IsRequest}
+use Rattle.vault_http.specs.Messages.{IsHttpRequest}
 use Rattle.vault_http.specs.Written.{is_get, request_text}
 
 -- the methods that requests are written with
@@ -33,7 +33,7 @@ pub record IsWritable (r : Request) : Type 0 where
   pub body : is_get r.method ≡ true → r.body ≡ []
 
 -- a request that may be written, with a body that may be read
-pub record IsSendable (r : Request) : Type 0 where
+pub record IsSendableRequest (r : Request) : Type 0 where
   pub writable : IsWritable r
   pub short : length r.body < 10 ^ 15
   pub port : r.port < 2 ^ 16
@@ -44,5 +44,5 @@ without_port r = record { method = r.method; path = r.path; token = r.token; bod
 
 -- a request that was written is the only answer to its bytes, whatever follows them
 abbrev pub ReadsBackRequest : Request → Type 0
-ReadsBackRequest r = IsSendable r → (more : List ℕ) (max : ℕ) → length (request_text r) ≤ max
-    → (answer : Result Request HttpFault) → IsRequest max (request_text r ++ more) answer → answer ≡ Ok (without_port r)
+ReadsBackRequest r = IsSendableRequest r → (more : List ℕ) (max : ℕ) → length (request_text r) ≤ max
+    → (answer : Result Request HttpFault) → IsHttpRequest max (request_text r ++ more) answer → answer ≡ Ok (without_port r)

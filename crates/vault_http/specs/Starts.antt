@@ -7,7 +7,7 @@ use Rattle.vault_http.specs.declared.body.BodyFault.{BodyFault}
 use Rattle.vault_http.specs.declared.found_head.Start.{Start}
 use Rattle.vault_http.specs.declared.http_fault.HttpFault.{HttpFault}
 use Rattle.vault_http.specs.declared.request.Request.{Request}
-use Rattle.vault_http.specs.Messages.{request_of}
+use Rattle.vault_http.specs.Messages.{request_from_parts}
 
 -- the span, if there is one, lies in the bytes
 abbrev pub IsTokenWithin : List ℕ → Option Span → Type 0
@@ -23,4 +23,4 @@ pub record IsStart (front : List ℕ) (start : Start) : Type 0 where
 
 -- the request of these parts and a body
 abbrev pub request_at : List ℕ → Start → Result (List ℕ) BodyFault → Result Request HttpFault
-request_at front start body = request_of (span_bytes front start.method) (span_bytes front start.path) (option_map (span_bytes front) start.token) body
+request_at front start body = request_from_parts (span_bytes front start.method) (span_bytes front start.path) (option_map (span_bytes front) start.token) body

@@ -7,7 +7,7 @@ use Rattle.vault_http.specs.declared.chunk.Line.{Line}
 use Rattle.vault_http.specs.declared.chunk.Line.TheVariants as line
 use Rattle.vault_http.specs.declared.chunk.Step.{Step}
 use Rattle.vault_http.specs.declared.chunk.Step.TheVariants as step
-use Rattle.vault_http.specs.Chunks.{line_end, IsSize, size, HasPart, MayHave, NeverHas, Chunk, IsChunk, print_chunk, StopsAt}
+use Rattle.vault_http.specs.Chunks.{line_end, IsSize, size_of_digits, HasPart, MayHave, NeverHas, Chunk, IsChunk, print_chunk, StopsAt}
 
 -- CR LF: a front of it, none whatever follows, or all of it
 abbrev pub IsEnding : List ℕ → Ending → Type 0
@@ -16,10 +16,10 @@ IsEnding text ending.Bad = (more rest : List ℕ) → text ++ more ≡ line_end 
 IsEnding text ending.Whole = text ≡ line_end ++ drop 2 text
 
 -- the line of a size: a front of it, none whatever follows, or all of it
-abbrev pub IsLine : List ℕ → Line → Type 0
-IsLine text line.Open = MayHave IsSize text
-IsLine text line.Bad = NeverHas IsSize text
-IsLine text (line.Size n value) = HasPart IsSize text (take n text) (drop (n + 2) text) × (value ≡ size (take n text)) × (n + 2 ≤ length text)
+abbrev pub IsSizeLine : List ℕ → Line → Type 0
+IsSizeLine text line.Open = MayHave IsSize text
+IsSizeLine text line.Bad = NeverHas IsSize text
+IsSizeLine text (line.Size n value) = HasPart IsSize text (take n text) (drop (n + 2) text) × (value ≡ size_of_digits (take n text)) × (n + 2 ≤ length text)
 
 -- a chunk: a front of it, a whole one, the last one, or none whatever follows
 abbrev pub IsStep : List ℕ → ℕ → Step → Type 0

@@ -3,9 +3,9 @@ use Rattle.vault_http.specs.declared.verdict.Verdict.{Verdict}
 use Rattle.vault_http.specs.declared.verdict.Verdict.TheVariants.{More, Done}
 
 -- it is an answer
-abbrev pub IsDone : {K T : Type 0} → Verdict K T → Type 0
-IsDone (More known) = ⊥
-IsDone (Done answer) = Unit {0}
+abbrev pub VerdictIsDone : {K T : Type 0} → Verdict K T → Type 0
+VerdictIsDone (More known) = ⊥
+VerdictIsDone (Done answer) = Unit {0}
 
 -- P of the answer, if it is one
 abbrev pub IfDone : {K T : Type 0} → Verdict K T → (T → Type 0) → Type 0

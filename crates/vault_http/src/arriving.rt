@@ -5,7 +5,7 @@ ghost use Rattle.vault_http.specs.Arriving.{IsDatedFront, IsDatedSoFar};
 ghost use Rattle.vault_http.specs.Dates.{IsDatedReply};
 ghost use Rattle.vault_http.specs.Holding.{IsWaitedFor};
 ghost use Rattle.vault_http.specs.Messages.{UnlessMemory};
-ghost use Rattle.vault_http.specs.Verdicts.{IfDone, IfMore, IsDone};
+ghost use Rattle.vault_http.specs.Verdicts.{IfDone, IfMore, VerdictIsDone};
 ghost use Rattle.vault_http.specs.declared.known.TheConstants.{MOST_MESSAGE};
 
 use crate::known::{Known, MOST_MESSAGE, go_on, look};
@@ -98,7 +98,7 @@ fn judge(
     requires { IsDatedFront bytes.now known }
     ensures answer { IfDone result (λ a. (more : List ℕ) → (IsTrue ended → more ≡ [])
         → UnlessMemory a (IsDatedReply MOST_MESSAGE (bytes.now ++ more) a)) }
-    ensures decides { IsTrue ended → IsDone result }
+    ensures decides { IsTrue ended → VerdictIsDone result }
     ensures known { IfMore result (λ k. IsDatedSoFar bytes.now (Some k)) }
     ensures waited { IfMore result (λ _. IsWaitedFor HasNoResponse (IsDatedReply MOST_MESSAGE) bytes.now) }
 {

@@ -1,9 +1,9 @@
 ghost use Rattle.std.specs.Prelude.{◌≡◌, ℕ, ◌<◌, ◌≤◌, ◌⊎◌, List, [], ◌++◌, length, IsTrue, Ok, Err};
 ghost use Rattle.vault_http.specs.declared.body.BodyFault.TheVariants.{Truncated, OutOfMemory};
 ghost use Rattle.vault_http.specs.declared.body.Partial.TheVariants as Partial;
-ghost use Rattle.vault_http.specs.Body.{IsBody, IsCutOff, IsPartOf, counted_body, framing_of, open_body};
+ghost use Rattle.vault_http.specs.Body.{BodyIsCutOff, IsMessageBody, IsPartOf, counted_body, framing_of, open_body};
 ghost use Rattle.vault_http.specs.Messages.{UnlessBodyMemory};
-ghost use Rattle.vault_http.specs.Verdicts.{IsDone, IfDone, IfMore};
+ghost use Rattle.vault_http.specs.Verdicts.{VerdictIsDone, IfDone, IfMore};
 
 use crate::chunk::judge_chunks;
 use crate::framing::Framing;
@@ -67,9 +67,9 @@ pub(crate) fn judge_body(
 ) -> Verdict<Partial, Result<Text, BodyFault>>
     requires part { IsPartOf partial room rest.now }
     ensures answer { IfDone result (λ a. (more : List ℕ) → (IsTrue ended → more ≡ [])
-        → UnlessBodyMemory a (IsBody (framing_of partial) room (rest.now ++ more) a)) }
-    ensures decides { (IsTrue ended ⊎ (room < length rest.now)) → IsDone result }
-    ensures waits { IfMore result (λ _. IsCutOff (framing_of partial) room rest.now) }
+        → UnlessBodyMemory a (IsMessageBody (framing_of partial) room (rest.now ++ more) a)) }
+    ensures decides { (IsTrue ended ⊎ (room < length rest.now)) → VerdictIsDone result }
+    ensures waits { IfMore result (λ _. BodyIsCutOff (framing_of partial) room rest.now) }
     ensures framed { IfMore result (λ p. framing_of p ≡ framing_of partial) }
     ensures part { IfMore result (λ p. IsPartOf p room rest.now) }
 {
@@ -91,7 +91,7 @@ fn judge_counted(
 ) -> Verdict<Partial, Result<Text, BodyFault>>
     ensures answer { IfDone result (λ a. (more : List ℕ) → (IsTrue ended → more ≡ [])
         → UnlessBodyMemory a (a ≡ counted_body n room (rest.now ++ more))) }
-    ensures decides { (IsTrue ended ⊎ (room < length rest.now)) → IsDone result }
+    ensures decides { (IsTrue ended ⊎ (room < length rest.now)) → VerdictIsDone result }
     ensures waits { IfMore result (λ p. (p ≡ Partial.Counted n) × (counted_body n room rest.now ≡ Err Truncated)) }
 {
     if n > room as u64 {
@@ -116,7 +116,7 @@ fn judge_open(
 ) -> Verdict<Partial, Result<Text, BodyFault>>
     ensures answer { IfDone result (λ a. (more : List ℕ) → (IsTrue ended → more ≡ [])
         → UnlessBodyMemory a (a ≡ open_body room (rest.now ++ more))) }
-    ensures decides { (IsTrue ended ⊎ (room < length rest.now)) → IsDone result }
+    ensures decides { (IsTrue ended ⊎ (room < length rest.now)) → VerdictIsDone result }
     ensures waits { IfMore result (λ p. (p ≡ Partial.ToEnd) × (length rest.now ≤ room)) }
 {
     if rest.len() > room {

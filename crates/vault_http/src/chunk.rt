@@ -5,8 +5,8 @@ ghost use Rattle.vault_http.specs.Body.{framing_of, IsPartOf};
 ghost use Rattle.vault_http.specs.Chunks.{IsChunked, HasChunks};
 ghost use Rattle.vault_http.specs.Framing.{is_digit};
 ghost use Rattle.vault_http.specs.Messages.{UnlessBodyMemory};
-ghost use Rattle.vault_http.specs.Verdicts.{IsDone, IfDone, IfMore};
-ghost use Rattle.vault_http.specs.Steps.{IsEnding, IsLine, IsStep};
+ghost use Rattle.vault_http.specs.Verdicts.{VerdictIsDone, IfDone, IfMore};
+ghost use Rattle.vault_http.specs.Steps.{IsEnding, IsSizeLine, IsStep};
 
 use crate::body::{BodyFault, Partial};
 use crate::first_bytes::front_of;
@@ -66,7 +66,7 @@ pub(crate) fn judge_chunks(
     requires so_far { HasChunks text.now at body.items }
     ensures answer { IfDone result (λ a. (more : List ℕ) → (IsTrue ended → more ≡ [])
         → UnlessBodyMemory a (IsChunked room (text.now ++ more) a)) }
-    ensures decides { (IsTrue ended ⊎ (room < length text.now)) → IsDone result }
+    ensures decides { (IsTrue ended ⊎ (room < length text.now)) → VerdictIsDone result }
     ensures waits { IfMore result (λ _. IsChunked room text.now (Err Truncated)) }
     ensures framed { IfMore result (λ p. framing_of p ≡ Framing.Chunked) }
     ensures part { IfMore result (λ p. IsPartOf p room text.now) }
@@ -117,7 +117,7 @@ pub(crate) fn next_step(text: &[u8], room: usize) -> Step
 
 /// Reads what stands after the line of a size.
 fn sized_step(text: &[u8], room: usize, digits: usize, size: u64) -> Step
-    requires line { IsLine (take room text.now) (Line.Size digits size) }
+    requires line { IsSizeLine (take room text.now) (Line.Size digits size) }
     requires room { digits + 2 ≤ room }
     requires text { digits + 2 ≤ length text.now }
     ensures { IsStep text.now room result }
@@ -156,7 +156,7 @@ fn digits_at(text: &[u8]) -> usize
 
 /// Reads the line of a size at the front of a text: 1 to 8 hexadecimal digits and CR LF.
 pub(crate) fn size_line(text: &[u8]) -> Line
-    ensures { IsLine text.now result }
+    ensures { IsSizeLine text.now result }
 {
     let n = digits_at(text);
     if n > MOST_DIGITS {

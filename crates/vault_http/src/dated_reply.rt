@@ -2,7 +2,7 @@ ghost use Rattle.std.specs.Prelude.{take};
 ghost use Rattle.httparse.specs.Grammar.{HasNoResponse};
 ghost use Rattle.vault_http.specs.Dates.{IsDatedReply, dated_with};
 ghost use Rattle.vault_http.specs.Heads.{FoundReply};
-ghost use Rattle.vault_http.specs.Known.{IsHead};
+ghost use Rattle.vault_http.specs.Known.{IsMessageHead};
 
 use crate::date::date_of;
 use crate::first_bytes::front_of;
@@ -62,7 +62,7 @@ fn found_dated(
     framing: Result<Framing, LengthFault>,
 ) -> Head<DatedReply>
     requires found { FoundReply (take max bytes.now) len status framing }
-    ensures { IsHead HasNoResponse (IsDatedReply max) dated_with max bytes.now result }
+    ensures { IsMessageHead HasNoResponse (IsDatedReply max) dated_with max bytes.now result }
 {
     let date = date_of(front_of(bytes, max));
     match found_reply(alloc, bytes, max, len, status, framing) {

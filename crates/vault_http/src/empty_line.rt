@@ -1,6 +1,6 @@
 ghost use Rattle.std.specs.Prelude.{◌≡◌, ◌+◌, ◌≤◌, length, take, take_while, IsTrue, false};
 ghost use Rattle.std.specs.List.{list_all};
-ghost use Rattle.vault_http.specs.EmptyLine.{HasLineBehind, is_blank};
+ghost use Rattle.vault_http.specs.EmptyLine.{HasLineBehind, is_line_end_byte};
 
 /// Whether an empty line may end after the first `n` bytes.
 #[tactic(auto, using(crate::proofs::EmptyLines::line_after))]
@@ -30,16 +30,16 @@ fn has_empty_line(bytes: &[u8]) -> bool
 /// How many carriage returns and line feeds stand at the front, of which `blank` are known.
 pub(crate) fn blank_front(bytes: &[u8], blank: usize) -> usize
     requires within { blank ≤ length bytes.now }
-    requires blank { IsTrue (list_all is_blank (take blank bytes.now)) }
+    requires blank { IsTrue (list_all is_line_end_byte (take blank bytes.now)) }
     ensures within { result ≤ length bytes.now }
-    ensures blank { IsTrue (list_all is_blank (take result bytes.now)) }
+    ensures blank { IsTrue (list_all is_line_end_byte (take result bytes.now)) }
 {
     blank + blanks(&bytes[blank..])
 }
 
 /// How many carriage returns and line feeds stand at the front.
 fn blanks(bytes: &[u8]) -> usize
-    ensures { result ≡ length (take_while is_blank bytes.now) }
+    ensures { result ≡ length (take_while is_line_end_byte bytes.now) }
 {
     bytes
         .iter()

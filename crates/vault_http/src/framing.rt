@@ -1,7 +1,7 @@
 ghost use Rattle.std.specs.Prelude.{◌≡◌, ◌+◌, ◌<◌, ◌≤◌, length, map, All, if◌then◌else◌, Ok, Err};
 ghost use Rattle.httparse.specs.Spans.{IsHeaderWithin, header_bytes};
-ghost use Rattle.vault_http.specs.Fields.{is_named};
-ghost use Rattle.vault_http.specs.Framing.{framing, length_in, number_in, transfer_encoding, content_length, chunked_coding, counted, reply_framing};
+ghost use Rattle.vault_http.specs.Fields.{is_field_named};
+ghost use Rattle.vault_http.specs.Framing.{framing, length_in, number_in_digits, transfer_encoding, content_length, chunked_coding, counted_framing, reply_framing};
 
 use crate::named_field::{Lone, has_name, lone_value};
 use httparse::spans::HeaderSpan;
@@ -50,7 +50,7 @@ pub(crate) fn framing_of(
 
 /// The length that is given, as a framing.
 fn count_in(value: &[u8]) -> Result<Framing, LengthFault>
-    ensures { result ≡ counted (length_in value.now) }
+    ensures { result ≡ counted_framing (length_in value.now) }
 {
     match digits_in(value) {
         Some(n) => Ok(Framing::Counted(n)),
@@ -61,7 +61,7 @@ fn count_in(value: &[u8]) -> Result<Framing, LengthFault>
 /// The one coding that is read.
 #[tactic(auto, unfolding(crate::specs::Framing::chunked_coding))]
 fn chunked_in(value: &[u8]) -> Result<Framing, LengthFault>
-    ensures { result ≡ (if is_named chunked_coding value.now then Ok Framing.Chunked else Err LengthFault.BadLength) }
+    ensures { result ≡ (if is_field_named chunked_coding value.now then Ok Framing.Chunked else Err LengthFault.BadLength) }
 {
     if has_name(value, b"chunked") {
         Ok(Framing::Chunked)
@@ -86,7 +86,7 @@ pub(crate) fn number_of(radix: u32, value: &[u8]) -> Option<u64>
     requires least { 2 ≤ radix }
     requires most { radix ≤ 16 }
     requires few { length value.now ≤ 15 }
-    ensures { result ≡ number_in radix value.now }
+    ensures { result ≡ number_in_digits radix value.now }
 {
     let mut n: u64 = 0;
     for byte in value {

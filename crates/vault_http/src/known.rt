@@ -2,10 +2,10 @@ ghost use Rattle.std.specs.Prelude.{◌≡◌, ℕ, ◌+◌, ◌-◌, ◌*◌, �
 ghost use Rattle.std.specs.List.{list_all};
 ghost use Rattle.vault_http.specs.declared.known.TheConstants.{SMALL_HEAD};
 ghost use Rattle.vault_http.specs.Body.{framing_of, IsPartOf};
-ghost use Rattle.vault_http.specs.EmptyLine.{HasLineBehind, is_blank};
-ghost use Rattle.vault_http.specs.Known.{IsCurrent, IsHeaded, IsKnown};
+ghost use Rattle.vault_http.specs.EmptyLine.{HasLineBehind, is_line_end_byte};
+ghost use Rattle.vault_http.specs.Known.{IsCurrent, IsHeaded, StaysKnown};
 ghost use Rattle.vault_http.specs.Messages.{UnlessMemory};
-ghost use Rattle.vault_http.specs.Verdicts.{IsDone, IfDone, IfMore};
+ghost use Rattle.vault_http.specs.Verdicts.{VerdictIsDone, IfDone, IfMore};
 
 use crate::HttpFault;
 use crate::body::{Partial, judge_body};
@@ -51,11 +51,11 @@ pub(crate) fn go_on<M: Message>(
     max: usize,
     ended: bool,
 ) -> Verdict<Known<M>, Result<M, HttpFault>>
-    requires known { IsKnown M.has_no_head (M.is_answer max) M.with_body max bytes.now known }
+    requires known { StaysKnown M.has_no_head (M.is_answer max) M.with_body max bytes.now known }
     ensures answer { IfDone result (λ a. (more : List ℕ) → (IsTrue ended → more ≡ [])
         → UnlessMemory a (M.is_answer max (bytes.now ++ more) a)) }
-    ensures decides { (IsTrue ended ⊎ (max < length bytes.now)) → IsDone result }
-    ensures known { IfMore result (λ k. IsKnown M.has_no_head (M.is_answer max) M.with_body max bytes.now k) }
+    ensures decides { (IsTrue ended ⊎ (max < length bytes.now)) → VerdictIsDone result }
+    ensures known { IfMore result (λ k. StaysKnown M.has_no_head (M.is_answer max) M.with_body max bytes.now k) }
     ensures current { IfMore result (λ k. IsCurrent max bytes.now k) }
 {
     M::laws();
@@ -95,11 +95,11 @@ pub(crate) fn look<M: Message>(
     blank: usize,
 ) -> Verdict<Known<M>, Result<M, HttpFault>>
     requires within { blank ≤ length bytes.now }
-    requires blank { IsTrue (list_all is_blank (take blank bytes.now)) }
+    requires blank { IsTrue (list_all is_line_end_byte (take blank bytes.now)) }
     ensures answer { IfDone result (λ a. (more : List ℕ) → (IsTrue ended → more ≡ [])
         → UnlessMemory a (M.is_answer max (bytes.now ++ more) a)) }
-    ensures decides { (IsTrue ended ⊎ (max < length bytes.now)) → IsDone result }
-    ensures known { IfMore result (λ k. IsKnown M.has_no_head (M.is_answer max) M.with_body max bytes.now k) }
+    ensures decides { (IsTrue ended ⊎ (max < length bytes.now)) → VerdictIsDone result }
+    ensures known { IfMore result (λ k. StaysKnown M.has_no_head (M.is_answer max) M.with_body max bytes.now k) }
     ensures current { IfMore result (λ k. IsCurrent max bytes.now k) }
 {
     match M::head(alloc, bytes, max) {
@@ -129,8 +129,8 @@ fn behind<M: Message>(
     requires part { IsPartOf headed.partial (max - headed.len) (drop headed.len bytes.now) }
     ensures answer { IfDone result (λ a. (more : List ℕ) → (IsTrue ended → more ≡ [])
         → UnlessMemory a (M.is_answer max (bytes.now ++ more) a)) }
-    ensures decides { (IsTrue ended ⊎ (max < length bytes.now)) → IsDone result }
-    ensures known { IfMore result (λ k. IsKnown M.has_no_head (M.is_answer max) M.with_body max bytes.now k) }
+    ensures decides { (IsTrue ended ⊎ (max < length bytes.now)) → VerdictIsDone result }
+    ensures known { IfMore result (λ k. StaysKnown M.has_no_head (M.is_answer max) M.with_body max bytes.now k) }
     ensures current { IfMore result (λ k. IsCurrent max bytes.now k) }
 {
     let Headed {

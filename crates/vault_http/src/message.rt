@@ -2,8 +2,8 @@ ghost use Rattle.std.specs.Prelude.{◌≡◌, ℕ, List, ◌++◌, length, IsTr
 ghost use Rattle.std.specs.List.{list_all};
 ghost use Rattle.vault_http.specs.declared.http_fault.HttpFault.{HttpFault};
 ghost use Rattle.vault_http.specs.declared.http_fault.HttpFault.TheVariants as faults;
-ghost use Rattle.vault_http.specs.EmptyLine.{HasLineBehind, is_blank};
-ghost use Rattle.vault_http.specs.Known.{IsHead};
+ghost use Rattle.vault_http.specs.EmptyLine.{HasLineBehind, is_line_end_byte};
+ghost use Rattle.vault_http.specs.Known.{IsMessageHead};
 
 use crate::HttpFault;
 use crate::framing::Framing;
@@ -34,7 +34,7 @@ pub(crate) trait Message: Drop {
 
     /// Looks for a head at the front of the bytes, of which `max` may be read.
     fn head(alloc: Global, bytes: &[u8], max: usize) -> Head<Self>
-        ensures { IsHead has_no_head (is_answer max) with_body max bytes.now result };
+        ensures { IsMessageHead has_no_head (is_answer max) with_body max bytes.now result };
 
     /// The message with this body.
     fn with_body(self, body: Text) -> Self
@@ -45,6 +45,6 @@ pub(crate) trait Message: Drop {
     fn laws()
         ensures never { (max : ℕ) (bytes : List ℕ) → is_answer max bytes (Err faults.ReadFailed) → ⊥ }
         ensures message { (max : ℕ) (bytes : List ℕ) (message : Self) → is_answer max bytes (Ok message) → has_no_head bytes → ⊥ }
-        ensures blank { (bytes : List ℕ) → IsTrue (list_all is_blank bytes) → has_no_head bytes }
+        ensures blank { (bytes : List ℕ) → IsTrue (list_all is_line_end_byte bytes) → has_no_head bytes }
         ensures line { (bytes more : List ℕ) → has_no_head bytes → (HasLineBehind (length bytes) (bytes ++ more) → ⊥) → has_no_head (bytes ++ more) };
 }

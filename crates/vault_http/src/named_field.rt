@@ -1,6 +1,6 @@
 ghost use Rattle.std.specs.Prelude.{◌≡◌, length, map, All};
 ghost use Rattle.httparse.specs.Spans.{IsHeaderWithin, header_bytes};
-ghost use Rattle.vault_http.specs.Fields.{is_named, values_of};
+ghost use Rattle.vault_http.specs.Fields.{is_field_named, values_of};
 ghost use Rattle.vault_http.specs.NamedField.{IsLone, and_lone};
 
 use httparse::spans::{HeaderSpan, Span};
@@ -31,7 +31,7 @@ impl Lone {
 
 /// Whether a field has the name, letters of either case.
 pub(crate) fn has_name(field: &[u8], name: &[u8]) -> bool
-    ensures { result ≡ is_named name.now field.now }
+    ensures { result ≡ is_field_named name.now field.now }
 {
     field.eq_ignore_ascii_case(name)
 }

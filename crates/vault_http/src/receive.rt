@@ -4,7 +4,7 @@ ghost use Rattle.keep_device.specs.declared.limits.TheConstants.{MOST_READS, MOS
 ghost use Rattle.keep_device.specs.Whole.{MakesAtMost};
 ghost use Rattle.vault_http.specs.declared.http_fault.HttpFault.TheVariants as faults;
 ghost use Rattle.vault_http.specs.Holding.{HandedNone};
-ghost use Rattle.vault_http.specs.Known.{IsCurrent, IsKnown};
+ghost use Rattle.vault_http.specs.Known.{IsCurrent, StaysKnown};
 ghost use Rattle.vault_http.specs.Reading.{SettlesDated, SettlesFrom, SettlesReply, SettlesRequest, HandedNoDated, HandedNoReply, HandedNoRequest, CountsMessage};
 
 use crate::known::{Known, go_on, look};
@@ -158,7 +158,7 @@ fn message_from<M: Message, R: Source>(
 ) -> Result<M, HttpFault>
     requires room { length room.old ≡ MOST_ROOM }
     requires none { bytes.old.items ≡ [] }
-    requires known { IsKnown M.has_no_head (M.is_answer max) M.with_body max bytes.old.items known }
+    requires known { StaysKnown M.has_no_head (M.is_answer max) M.with_body max bytes.old.items known }
     requires current { IsCurrent max bytes.old.items known }
     ensures answer { SettlesFrom M.has_no_head (M.is_answer max) (R.seen reader.old).input (R.seen reader.new).input result }
     ensures reads { MakesAtMost MOST_READS (R.seen reader.old).input (R.seen reader.new).input }

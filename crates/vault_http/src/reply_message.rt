@@ -1,7 +1,7 @@
 ghost use Rattle.std.specs.Prelude.{◌<◌, take};
 ghost use Rattle.vault_http.specs.Heads.{FoundReply};
-ghost use Rattle.vault_http.specs.Known.{IsHead};
-ghost use Rattle.vault_http.specs.Messages.{IsReply, reply_with};
+ghost use Rattle.vault_http.specs.Known.{IsMessageHead};
+ghost use Rattle.vault_http.specs.Messages.{IsHttpReply, reply_with};
 ghost use Rattle.httparse.specs.Grammar.{HasNoResponse};
 
 use crate::first_bytes::front_of;
@@ -13,7 +13,7 @@ use keep_moment::Text;
 use std::alloc::Global;
 
 impl Message for Reply {
-    ghost is_answer = { IsReply };
+    ghost is_answer = { IsHttpReply };
 
     ghost has_no_head = { HasNoResponse };
 
@@ -50,7 +50,7 @@ pub(crate) fn found_reply(
     framing: Result<Framing, LengthFault>,
 ) -> Head<Reply>
     requires found { FoundReply (take max bytes.now) len status framing }
-    ensures { IsHead HasNoResponse (IsReply max) reply_with max bytes.now result }
+    ensures { IsMessageHead HasNoResponse (IsHttpReply max) reply_with max bytes.now result }
 {
     if status >= 100 && status < 200 {
         return Head::Refused(HttpFault::BadHead);

@@ -1,7 +1,7 @@
 ghost use Rattle.std.specs.Prelude.{◌≡◌, [], ◌<◌, take, Ok};
 ghost use Rattle.vault_http.specs.Heads.{FoundRequest};
-ghost use Rattle.vault_http.specs.Known.{IsHead};
-ghost use Rattle.vault_http.specs.Messages.{IsRequest, UnlessMemory, request_with};
+ghost use Rattle.vault_http.specs.Known.{IsMessageHead};
+ghost use Rattle.vault_http.specs.Messages.{IsHttpRequest, UnlessMemory, request_with};
 ghost use Rattle.vault_http.specs.Starts.{IsStart, request_at};
 ghost use Rattle.httparse.specs.Grammar.{HasNoRequest};
 
@@ -16,7 +16,7 @@ use keep_moment::Text;
 use std::alloc::Global;
 
 impl Message for Request {
-    ghost is_answer = { IsRequest };
+    ghost is_answer = { IsHttpRequest };
 
     ghost has_no_head = { HasNoRequest };
 
@@ -63,7 +63,7 @@ fn found_request(
     framing: Result<Framing, LengthFault>,
 ) -> Head<Request>
     requires found { FoundRequest (take max bytes.now) len start framing }
-    ensures { IsHead HasNoRequest (IsRequest max) request_with max bytes.now result }
+    ensures { IsMessageHead HasNoRequest (IsHttpRequest max) request_with max bytes.now result }
 {
     match framing {
         Err(fault) => Head::Refused(fault.into()),

@@ -3,7 +3,7 @@ ghost use Rattle.vault_http.specs.declared.found_head.TheConstants.{MOST_FIELDS}
 ghost use Rattle.vault_http.specs.declared.known.TheConstants.{MOST_MESSAGE, SMALL_HEAD};
 ghost use Rattle.httparse.specs.Grammar.{HasNoRequest, HasNoResponse};
 ghost use Rattle.vault_http.specs.Dates.{ReadsBackUndated};
-ghost use Rattle.vault_http.specs.Messages.{IsReply, IsRequest};
+ghost use Rattle.vault_http.specs.Messages.{IsHttpReply, IsHttpRequest};
 ghost use Rattle.vault_http.specs.Reading.{HeldIsRead};
 ghost use Rattle.vault_http.specs.RoundTrip.{ReadsBackReply};
 ghost use Rattle.vault_http.specs.RoundTripRequest.{ReadsBackRequest};
@@ -41,8 +41,8 @@ pub fn request_reads_back(request: &Request)
 /// in at most 4,096 reads (and answers its end to one more), and they hold a message, `TooLong` is told of the bytes alone.
 /// It does nothing.
 pub fn held_is_read(max: usize)
-    ensures reply { HeldIsRead HasNoResponse (IsReply max) }
-    ensures request { HeldIsRead HasNoRequest (IsRequest max) }
+    ensures reply { HeldIsRead HasNoResponse (IsHttpReply max) }
+    ensures request { HeldIsRead HasNoRequest (IsHttpRequest max) }
 {
     let _ = max;
 }

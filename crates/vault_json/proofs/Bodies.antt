@@ -12,14 +12,14 @@ use Rattle.serde_json.specs.declared.error.Code.TheVariants as codes
 use Rattle.serde_json.specs.declared.error.Error.{Error}
 use Rattle.serde_json.specs.declared.value.Value.{Value}
 use Rattle.vault_json.specs.Answer.{Gives}
-use Rattle.vault_json.specs.Body.{or_not_json, tree_of}
+use Rattle.vault_json.specs.Body.{json_tree, or_not_json}
 use Rattle.vault_json.specs.declared.fault.ReplyFault.{ReplyFault}
 use Rattle.vault_json.specs.declared.fault.ReplyFault.TheVariants as faults
 
-pub tree_of_text : (bytes : List ℕ) → IsUtf8 bytes → tree_of bytes ≡ read bytes
+pub tree_of_text : (bytes : List ℕ) → IsUtf8 bytes → json_tree bytes ≡ read bytes
 tree_of_text bytes text = rw (is_utf8-from_IsUtf8 bytes text) refl
 
-pub tree_of_no_text : (bytes : List ℕ) → ¬ (IsUtf8 bytes) → tree_of bytes ≡ None
+pub tree_of_no_text : (bytes : List ℕ) → ¬ (IsUtf8 bytes) → json_tree bytes ≡ None
 tree_of_no_text bytes no_text =
     elim (cases_Bool (is_utf8 bytes)) [ inl t ↦ absurd (no_text (IsUtf8-from_is_utf8 bytes t)) | inr f ↦ rw f refl ]
 

@@ -4,14 +4,14 @@ use Rattle.std.proofs.lemmas.Int.{ints}
 use Rattle.std.proofs.lemmas.Str.{IsUtf8-append}
 use Rattle.std.proofs.lemmas.Bool.Decides.{nat_tests}
 use Rattle.json.proofs.Printed.Utf8.{IsUtf8-are_ascii}
-use Rattle.keep_moment.specs.Rfc3339.{IsDateText, IsDateTime, two, four, face}
+use Rattle.keep_moment.specs.Rfc3339.{IsDateText, IsDateTime, two_digits_of, four_digits_of, face}
 use Rattle.keep_moment.specs.declared.stamp.Stamp.{Stamp}
 
-two_utf8 : (n : ℕ) → n < 100 → IsUtf8 (two n)
+two_utf8 : (n : ℕ) → n < 100 → IsUtf8 (two_digits_of n)
 two_utf8 n small =
     let tens : 48 + n / 10 < 128 = omega arith in
     let ones : 48 + n % 10 < 128 = omega arith in
-    IsUtf8-are_ascii (two n) (rw (lt-ltb _ _ tens, lt-ltb _ _ ones) refl)
+    IsUtf8-are_ascii (two_digits_of n) (rw (lt-ltb _ _ tens, lt-ltb _ _ ones) refl)
 
 -- a dash, a colon, a `T` or a `Z` before what follows
 mark : (byte : ℕ) (rest : List ℕ) → IsUtf8 (byte ∷ []) → IsUtf8 rest → IsUtf8 (byte ∷ rest)
@@ -27,11 +27,11 @@ face_utf8 s h =
     let hour : s.hour < 100 = omega (arith, h.hour) in
     let minute : s.minute < 100 = omega (arith, h.minute) in
     let second : s.second < 100 = omega (arith, h.second) in
-    IsUtf8-append (four s.year) _ (IsUtf8-append (two (s.year / 100)) _ (two_utf8 _ high) (two_utf8 _ low))
-    (mark 45 _ (IsUtf8-are_ascii _ refl) (IsUtf8-append (two s.month) _ (two_utf8 _ month)
-    (mark 45 _ (IsUtf8-are_ascii _ refl) (IsUtf8-append (two s.day) _ (two_utf8 _ day)
-    (mark 84 _ (IsUtf8-are_ascii _ refl) (IsUtf8-append (two s.hour) _ (two_utf8 _ hour)
-    (mark 58 _ (IsUtf8-are_ascii _ refl) (IsUtf8-append (two s.minute) _ (two_utf8 _ minute)
+    IsUtf8-append (four_digits_of s.year) _ (IsUtf8-append (two_digits_of (s.year / 100)) _ (two_utf8 _ high) (two_utf8 _ low))
+    (mark 45 _ (IsUtf8-are_ascii _ refl) (IsUtf8-append (two_digits_of s.month) _ (two_utf8 _ month)
+    (mark 45 _ (IsUtf8-are_ascii _ refl) (IsUtf8-append (two_digits_of s.day) _ (two_utf8 _ day)
+    (mark 84 _ (IsUtf8-are_ascii _ refl) (IsUtf8-append (two_digits_of s.hour) _ (two_utf8 _ hour)
+    (mark 58 _ (IsUtf8-are_ascii _ refl) (IsUtf8-append (two_digits_of s.minute) _ (two_utf8 _ minute)
     (mark 58 _ (IsUtf8-are_ascii _ refl) (two_utf8 _ second))))))))))
 
 pub date_utf8 : (text : List ℕ) (moment : ℕ) → IsDateText text moment → IsUtf8 text

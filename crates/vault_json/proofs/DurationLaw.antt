@@ -6,7 +6,7 @@ use Rattle.std.specs.Char.{is_ascii_digit}
 use Rattle.std.specs.List.{list_all}
 use Rattle.std.specs.Str.Parse.{digits_value}
 use Rattle.serde_json.specs.Data.{Num, unsigned, negative, float, Data, null, boolean, number, string, array, object}
-use Rattle.vault_json.specs.Duration.{without_unit, seconds_of_digits, seconds_of_text, seconds_of_number, duration_of, AreDigitsOf, WritesDuration}
+use Rattle.vault_json.specs.Duration.{without_unit, seconds_of_digits, seconds_of_text, seconds_of_number, duration_of_value, AreDigitsOf, WritesDuration}
 use Rattle.vault_json.specs.Laws.{DurationsAreRead}
 use Rattle.vault_json.proofs.Durations.{cut_unit, no_unit, unit_or_none}
 
@@ -37,7 +37,7 @@ text_written text n e =
     let d = digits_written (without_unit text) n e in
     (d.1, inr (without_unit text, d.0, elim (unit_or_none text) [ inl same ↦ inl (ap string (sym same)) | inr cut ↦ inr (ap string cut) ]))
 
-written : (d : Data) (n : ℕ) → duration_of d ≡ Some n → WritesDuration d n
+written : (d : Data) (n : ℕ) → duration_of_value d ≡ Some n → WritesDuration d n
 written null n e = cc
 written (boolean b) n e = cc
 written (number x) n e = number_written x n e
@@ -57,11 +57,11 @@ no_unit_after digits front all e =
     let p = and_parts (list_all is_ascii_digit front) (list_all is_ascii_digit (115 ∷ [])) (sym (list_all-append is_ascii_digit front (115 ∷ [])) ∙ ap (list_all is_ascii_digit) (sym e) ∙ all) in
     cc (p.1)
 
-text_read : (digits text : List ℕ) (n : ℕ) → AreDigitsOf digits n → n < 2 ^ 32 → without_unit text ≡ digits → duration_of (string text) ≡ Some n
+text_read : (digits text : List ℕ) (n : ℕ) → AreDigitsOf digits n → n < 2 ^ 32 → without_unit text ≡ digits → duration_of_value (string text) ≡ Some n
 unfolding seconds_of_text
 text_read digits text n h small cut = ap seconds_of_digits cut ∙ digits_read digits n h small
 
-read : (d : Data) (n : ℕ) → WritesDuration d n → duration_of d ≡ Some n
+read : (d : Data) (n : ℕ) → WritesDuration d n → duration_of_value d ≡ Some n
 read d n (small, way) =
     elim way [
       | inl is ↦ rw is (rw (lt-ltb n (2 ^ 32) small) refl)

@@ -10,8 +10,8 @@ use Rattle.vault_json.specs.declared.fault.ReplyFault.{ReplyFault}
 use Rattle.vault_json.specs.declared.fault.ReplyFault.TheVariants.{NotJson, Wrapped}
 
 -- the tree that the bytes are: none where they are not UTF-8 or no JSON
-abbrev pub tree_of : List ℕ → Option Data
-tree_of bytes = if is_utf8 bytes then read bytes else None
+abbrev pub json_tree : List ℕ → Option Data
+json_tree bytes = if is_utf8 bytes then read bytes else None
 
 abbrev pub or_not_json : Option Data → Result Data ReplyFault
 or_not_json None = Err NotJson
@@ -26,8 +26,8 @@ an_object (array ds) = Err NotJson
 an_object (object ms) = Ok (object ms)
 
 -- the object that the bytes are: NotJson where they are no tree, or it is no object
-unfoldable pub body_of : List ℕ → Result Data ReplyFault
-body_of bytes = or_not_json (tree_of bytes) >>= an_object
+unfoldable pub object_of_bytes : List ℕ → Result Data ReplyFault
+object_of_bytes bytes = or_not_json (json_tree bytes) >>= an_object
 
 abbrev pub or_wrapped : Data → Option Data → Result Data ReplyFault
 or_wrapped d None = Ok d
@@ -38,5 +38,5 @@ unfoldable pub unwrapped : Data → Result Data ReplyFault
 unwrapped d = or_wrapped d (present (get (codes "wrap_info") d))
 
 -- the object that a reply's bytes are; it is judged whether it is wrapped before any field is looked at
-unfoldable pub reply_of : List ℕ → Result Data ReplyFault
-reply_of bytes = body_of bytes >>= unwrapped
+unfoldable pub reply_object : List ℕ → Result Data ReplyFault
+reply_object bytes = object_of_bytes bytes >>= unwrapped

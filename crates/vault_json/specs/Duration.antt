@@ -25,13 +25,13 @@ seconds_of_number (unsigned n) = if nat_lt n (2 ^ 32) then Some n else None
 seconds_of_number (negative z) = None
 seconds_of_number (float x) = None
 
-abbrev pub duration_of : Data → Option ℕ
-duration_of null = None
-duration_of (boolean b) = None
-duration_of (number n) = seconds_of_number n
-duration_of (string s) = seconds_of_text s
-duration_of (array ds) = None
-duration_of (object ms) = None
+abbrev pub duration_of_value : Data → Option ℕ
+duration_of_value null = None
+duration_of_value (boolean b) = None
+duration_of_value (number n) = seconds_of_number n
+duration_of_value (string s) = seconds_of_text s
+duration_of_value (array ds) = None
+duration_of_value (object ms) = None
 
 -- ---- the same as a relation
 

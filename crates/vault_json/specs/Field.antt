@@ -86,10 +86,10 @@ timestamp_of (array ds) = None
 timestamp_of (object ms) = None
 
 -- a text by RFC 3339, section 5.6, as keep_moment reads it, of a moment from 1970 to the last
-abbrev pub date_of : Data → Option ℕ
-date_of null = None
-date_of (boolean b) = None
-date_of (number n) = None
-date_of (string s) = result_ok (moment_of s)
-date_of (array ds) = None
-date_of (object ms) = None
+abbrev pub date_in_text : Data → Option ℕ
+date_in_text null = None
+date_in_text (boolean b) = None
+date_in_text (number n) = None
+date_in_text (string s) = result_ok (moment_of s)
+date_in_text (array ds) = None
+date_in_text (object ms) = None

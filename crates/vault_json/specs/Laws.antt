@@ -2,7 +2,7 @@
 use Rattle.std.specs.Prelude.{◌≡◌, ◌↔◌, ℕ, ◌<◌, ◌≤◌, ◌^◌, List, Bool, IsUtf8, Ok, Some}
 use Rattle.keep_moment.specs.declared.moment.TheConstants.{LAST}
 use Rattle.serde_json.specs.Data.{Data}
-use Rattle.vault_json.specs.Duration.{duration_of, WritesDuration}
+use Rattle.vault_json.specs.Duration.{duration_of_value, WritesDuration}
 use Rattle.vault_json.specs.Lookup.{lookup_self_answer, lookup_lease_answer}
 use Rattle.vault_json.specs.Renewed.{renew_self_answer, renew_lease_answer}
 use Rattle.vault_json.specs.Request.{increment_answer, lease_id_answer}
@@ -11,7 +11,7 @@ use Rattle.vault_json.specs.declared.lookup.Lookup.TheVariants.{Token, Lease}
 
 -- a duration is read exactly where it is written
 abbrev pub DurationsAreRead : Type 0
-DurationsAreRead = (d : Data) (seconds : ℕ) → (duration_of d ≡ Some seconds) ↔ WritesDuration d seconds
+DurationsAreRead = (d : Data) (seconds : ℕ) → (duration_of_value d ≡ Some seconds) ↔ WritesDuration d seconds
 
 abbrev pub RenewedSelfIsRead : Type 0
 RenewedSelfIsRead = (seconds : ℕ) (renewable : Bool) → seconds < 2 ^ 32

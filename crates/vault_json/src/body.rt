@@ -3,7 +3,7 @@ ghost use Rattle.serde_json.specs.Errors.{IsMemory};
 ghost use Rattle.serde_json.specs.View.{view};
 ghost use Rattle.vault_json.specs.Answer.{Gives};
 ghost use Rattle.vault_json.specs.declared.fault.ReplyFault.TheVariants as faults;
-ghost use Rattle.vault_json.specs.Body.{body_of, reply_of, tree_of, or_not_json, unwrapped};
+ghost use Rattle.vault_json.specs.Body.{object_of_bytes, reply_object, json_tree, or_not_json, unwrapped};
 
 use crate::fault::ReplyFault;
 use crate::field::present;
@@ -11,9 +11,9 @@ use serde_json::Value;
 use std::alloc::Global;
 
 /// The object that a body's bytes are.
-#[tactic(auto, unfolding(crate::specs::Body::body_of))]
+#[tactic(auto, unfolding(crate::specs::Body::object_of_bytes))]
 pub(crate) fn body(alloc: Global, bytes: &[u8]) -> Result<Value, ReplyFault>
-    ensures { Gives (λ v. view v) result (body_of bytes.now) }
+    ensures { Gives (λ v. view v) result (object_of_bytes bytes.now) }
 {
     let value = tree(alloc, bytes)?;
     if value.is_object() {
@@ -25,7 +25,7 @@ pub(crate) fn body(alloc: Global, bytes: &[u8]) -> Result<Value, ReplyFault>
 
 /// The tree that a body's bytes are, as serde_json reads it.
 fn tree(alloc: Global, bytes: &[u8]) -> Result<Value, ReplyFault>
-    ensures { Gives (λ v. view v) result (or_not_json (tree_of bytes.now)) }
+    ensures { Gives (λ v. view v) result (or_not_json (json_tree bytes.now)) }
 {
     let Ok(text) = std::str::from_utf8(bytes) else {
         return Err(ReplyFault::NotJson);
@@ -47,9 +47,9 @@ fn judged(read: serde_json::Result<Value>) -> Result<Value, ReplyFault>
 }
 
 /// The object that a reply's bytes are, where the reply is not wrapped.
-#[tactic(auto, unfolding(crate::specs::Body::reply_of))]
+#[tactic(auto, unfolding(crate::specs::Body::reply_object))]
 pub(crate) fn reply(alloc: Global, bytes: &[u8]) -> Result<Value, ReplyFault>
-    ensures { Gives (λ v. view v) result (reply_of bytes.now) }
+    ensures { Gives (λ v. view v) result (reply_object bytes.now) }
 {
     let body = body(alloc, bytes)?;
     unwrapped(&body)?;

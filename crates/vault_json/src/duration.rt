@@ -2,7 +2,7 @@ ghost use Rattle.std.specs.Prelude.{◌≡◌};
 ghost use Rattle.std.specs.Char.{is_ascii_digit};
 ghost use Rattle.std.specs.List.{list_all};
 ghost use Rattle.serde_json.specs.View.{view};
-ghost use Rattle.vault_json.specs.Duration.{duration_of, seconds_of_text, without_unit};
+ghost use Rattle.vault_json.specs.Duration.{duration_of_value, seconds_of_text, without_unit};
 
 use keep_moment::Span;
 use serde_json::Value;
@@ -10,7 +10,7 @@ use serde_json::Value;
 /// The duration that a value of a body is, `None` where it is none: a whole number of seconds up to 4294967295, or a
 /// text of such a number's digits with or without a final `s`.
 pub(crate) fn duration(value: &Value) -> Option<Span>
-    ensures { result ≡ duration_of (view value.now) }
+    ensures { result ≡ duration_of_value (view value.now) }
 {
     match value {
         Value::Number(number) => Span::try_from(number.as_u64()?).ok(),

@@ -2,8 +2,8 @@ ghost use Rattle.std.specs.Prelude.{◌≡◌, Some, option_map, false};
 ghost use Rattle.serde_json.specs.Find.{as_bool, as_str};
 ghost use Rattle.serde_json.specs.View.{view};
 ghost use Rattle.vault_json.specs.Answer.{Gives};
-ghost use Rattle.vault_json.specs.Duration.{duration_of};
-ghost use Rattle.vault_json.specs.Field.{key_of, present, member_of, required, optional, object_of, timestamp_of, date_of};
+ghost use Rattle.vault_json.specs.Duration.{duration_of_value};
+ghost use Rattle.vault_json.specs.Field.{key_of, present, member_of, required, optional, object_of, timestamp_of, date_in_text};
 
 use crate::duration::duration;
 use crate::fault::ReplyFault;
@@ -121,7 +121,7 @@ pub(crate) fn object_or_itself(object: &Value, field: Field) -> Result<&Value, R
 /// A duration that must be there.
 #[tactic(auto, unfolding(crate::specs::Field::required))]
 pub(crate) fn span(object: &Value, field: Field) -> Result<Span, ReplyFault>
-    ensures { result ≡ required field duration_of (view object.now) }
+    ensures { result ≡ required field duration_of_value (view object.now) }
 {
     match member(object, field) {
         None => Err(ReplyFault::Missing(field)),
@@ -132,7 +132,7 @@ pub(crate) fn span(object: &Value, field: Field) -> Result<Span, ReplyFault>
 /// A duration that is 0 where it is absent.
 #[tactic(auto, unfolding(crate::specs::Field::optional))]
 pub(crate) fn span_or_zero(object: &Value, field: Field) -> Result<Span, ReplyFault>
-    ensures { result ≡ optional field 0 duration_of (view object.now) }
+    ensures { result ≡ optional field 0 duration_of_value (view object.now) }
 {
     match member(object, field) {
         None => Ok(0),
@@ -168,7 +168,7 @@ pub(crate) fn timestamp(object: &Value, field: Field) -> Result<Moment, ReplyFau
 /// A moment, as a text by RFC 3339, that must be there.
 #[tactic(auto, unfolding(crate::specs::Field::required))]
 pub(crate) fn date(object: &Value, field: Field) -> Result<Moment, ReplyFault>
-    ensures { result ≡ required field date_of (view object.now) }
+    ensures { result ≡ required field date_in_text (view object.now) }
 {
     match member(object, field) {
         None => Err(ReplyFault::Missing(field)),

@@ -1,6 +1,6 @@
 ghost use Rattle.serde_json.specs.View.{view};
 ghost use Rattle.vault_json.specs.Answer.{Gives};
-ghost use Rattle.vault_json.specs.Renewed.{renewed_in, renewed_lease_in, renew_self_answer, renew_lease_answer};
+ghost use Rattle.vault_json.specs.Renewed.{renewed_in_object, renewed_lease_in, renew_self_answer, renew_lease_answer};
 
 use crate::body::reply;
 use crate::fault::ReplyFault;
@@ -62,9 +62,9 @@ pub fn read_renew_lease(alloc: Global, bytes: &[u8]) -> Result<RenewedLease, Rep
     renewed_lease(alloc, &reply(alloc, bytes)?)
 }
 
-#[tactic(auto, unfolding(crate::specs::Renewed::renewed_in))]
+#[tactic(auto, unfolding(crate::specs::Renewed::renewed_in_object))]
 fn renewed_token(body: &Value) -> Result<Renewed, ReplyFault>
-    ensures { Gives (λ x. x) result (renewed_in (view body.now)) }
+    ensures { Gives (λ x. x) result (renewed_in_object (view body.now)) }
 {
     let auth = object(body, Field::Auth)?;
     let seconds = span(auth, Field::LeaseDuration)?;

@@ -1,5 +1,5 @@
 ghost use Rattle.vault_json.specs.Answer.{Gives};
-ghost use Rattle.vault_json.specs.Request.{increment_answer, lease_id_answer, asked_of};
+ghost use Rattle.vault_json.specs.Request.{increment_answer, lease_id_answer, asked_duration};
 ghost use Rattle.vault_json.specs.Field.{optional};
 ghost use Rattle.std.specs.Prelude.{◌≡◌, None};
 ghost use Rattle.serde_json.specs.View.{view};
@@ -39,7 +39,7 @@ pub fn read_lease_id(alloc: Global, bytes: &[u8]) -> Result<Text, ReplyFault>
 
 #[tactic(auto, unfolding(crate::specs::Field::optional))]
 fn increment(body: &Value) -> Result<Option<Span>, ReplyFault>
-    ensures { result ≡ optional Field.Increment None asked_of (view body.now) }
+    ensures { result ≡ optional Field.Increment None asked_duration (view body.now) }
 {
     match member(body, Field::Increment) {
         None => Ok(None),

@@ -4,36 +4,37 @@ use Rattle.std.proofs.Common.{◌≡◌, ◌∙◌, ◌==◌, ℕ, suc, ◌<◌,
 use Rattle.std.proofs.lemmas.Bool.{cases_Bool, cond-false, cond-true}
 use Rattle.std.proofs.lemmas.List.Elements.{All-head, All-tail, filter_passes}
 use Rattle.std.specs.List.{AllZip}
-use Rattle.keep_exchange.specs.Requests.{lookup_of, request_of}
+use Rattle.keep_exchange.specs.Requests.{lookup_of, renewal_request}
 use Rattle.keep_inventory.specs.Inventories.{IsInventory, Inventory}
 use Rattle.keep_inventory.specs.declared.terms.Terms.{Terms}
-use Rattle.keep_lanes.specs.Allowed.{after, first_by}
+use Rattle.keep_lanes.specs.Allowed.{first_by, millis_after}
 use Rattle.keep_lanes.specs.Losses.{Answer}
 use Rattle.keep_lanes.specs.Out as lanes
-use Rattle.keep_lanes.specs.Out.{AreThere, IsBelow, IsOf, IsParted, IsPut, first_at, is_there, is_there_at, earlier, sooner_at, up_to}
-use Rattle.keep_lanes.specs.Serving.{Comes, IsSentBy, IsServed, allowed, fault_at, later, next_number}
+use Rattle.keep_lanes.specs.Out.{AreThere, IsBelow, IsAnswerTo, IsParted, OutIsPut, first_at, is_there, is_there_at, earlier, sooner_at, up_to}
+use Rattle.keep_lanes.specs.Serving.{ComesOfRequest, IsSentBy, RequestIsServed, allowed, lane_fault_at, later, next_lane_number}
 use Rattle.keep_lanes.specs.declared.allowance.Allowance.{Allowance}
 use Rattle.keep_lanes.specs.declared.coming.Coming.{Coming}
 use Rattle.keep_lanes.specs.declared.fault.LaneFault.{LaneFault}
 use Rattle.keep_lanes.specs.declared.fault.LaneFault.TheVariants.{Refuse, Lose, Hang, Late, Garble, Status}
 use Rattle.keep_lanes.specs.declared.lanes.Answered.{Answered}
 use Rattle.keep_lanes.specs.declared.loss.Loss.TheVariants as losses
-use Rattle.keep_alike.specs.Alike.{AreDated, AreTablesAlike, IsKept}
+use Rattle.keep_alike.specs.Alike.{AreDated, AreTablesAlike, KeepsSupplied}
 use Rattle.keep_alike.proofs.Kept.{renewals_both}
 use Rattle.keep_alike.proofs.Looks.{looks_both}
 use Rattle.keep_alike.proofs.Dated.{step_dated}
+use Rattle.keep_alike.specs.Laws.{inventory_of}
 use Rattle.keep_tree.specs.Forest.{Forest}
-use Rattle.broker_table.specs.Step.{step}
-use Rattle.broker_table.specs.Table.{Table}
+use Rattle.broker_table.specs.Step.{broker_step}
+use Rattle.broker_table.specs.Table.{BrokerTable}
 use Rattle.vault_json.specs.Laws.{LookedLeaseIsRead}
 use Rattle.watch_machine.specs.declared.command.Request.{Request}
 use Rattle.watch_machine.specs.declared.event.Operation.{Operation}
 use Rattle.watch_machine.specs.declared.event.Operation.TheVariants.{Look, Renew}
 use Rattle.watch_machine.specs.declared.lanes.Out.{Out}
 use Rattle.watch_machine.specs.Sending.{out_at}
-use Rattle.watch_machine.specs.State.{State}
+use Rattle.watch_machine.specs.State.{WatchState}
 use Rattle.watch_machine.proofs.Cases.{of_value}
-use Rattle.watch_lines.specs.Alike.{AreLanesAlike, AreOutAlike, inventory_of}
+use Rattle.watch_lines.specs.Alike.{AreLanesAlike, AreOutAlike}
 use Rattle.keep_asking.specs.Handing.{out_of}
 use Rattle.keep_asking.specs.Asking.{ask_of, message_as}
 use Rattle.keep_asking.specs.InStep.{times}
@@ -69,7 +70,7 @@ module _ (R : lanes.Out → lanes.Out → Type 0) (same : (o p : lanes.Out) → 
   put_zip o p r (x ∷ xs) ys (z ∷ zs) ws zip low high low' high' =
       (zip.0, put_zip o p r xs ys zs ws zip.1 (All-tail (λ (v : lanes.Out). v.index ≤ o.index) x xs low) high (All-tail (λ (v : lanes.Out). v.index ≤ p.index) z zs low') high')
 
-  sent_zip : (o p : lanes.Out) (old new other last : List lanes.Out) → R o p → IsPut o old new → IsPut p other last → AllZip R old other → AllZip R new last
+  sent_zip : (o p : lanes.Out) (old new other last : List lanes.Out) → R o p → OutIsPut o old new → OutIsPut p other last → AllZip R old other → AllZip R new last
   sent_zip o p old new other last r h k zip =
       let start : AllZip R (h.before ++ h.behind) (k.before ++ k.behind) = subst (λ xs. AllZip R xs (k.before ++ k.behind)) h.old_is (subst (AllZip R old) k.old_is zip) in
       let all = put_zip o p r h.before h.behind k.before k.behind start h.lower h.higher k.lower k.higher in
@@ -120,33 +121,33 @@ module _ (g : Forest) (cs ds : List (List ℕ)) (ts : List Terms) (one : IsInven
   abbrev SaysSame : Operation → ℕ → Answer → Answer → Type 0
   SaysSame operation i a b = said_to u operation i b ≡ said_to s operation i a
 
-  abbrev AreLeft : Table → Table → Type 0
+  abbrev AreLeft : BrokerTable → BrokerTable → Type 0
   AreLeft l m = AreTablesAlike g cs ds l m × AreDated l
 
   served_both :
-      (operation : Operation) (port other t i : ℕ) (mid : State) (l m l' m' : Table) (a b : Answer) → i < length g.entries → IsKept g mid.forest → AreLeft l m → IsServed l t (message_as operation port s mid i) a l' →
-      IsServed m t (message_as operation other u mid i) b m' → SaysSame operation i a b
+      (operation : Operation) (port other t i : ℕ) (mid : WatchState) (l m l' m' : BrokerTable) (a b : Answer) → i < length g.entries → KeepsSupplied g mid.forest → AreLeft l m → RequestIsServed l t (message_as operation port s mid i) a l' →
+      RequestIsServed m t (message_as operation other u mid i) b m' → SaysSame operation i a b
   served_both Look port other t i mid l m l' m' a b within kept alike x y =
       let outcome = looks_both g cs ds ts ts one two port other t i l m within alike.0 in
       let left = step_dated l alike.1 t (lookup_of port cs g i) in
       let same : LooksSame g cs ds ts one two i (answer_of x.sent) (answer_of y.sent) =
-      looks_same g cs ds ts one two read i t within (step l t (lookup_of port cs g i)).answer (step m t (lookup_of other ds g i)).answer outcome.0 left.0 x.sent y.sent x.says y.says in
+      looks_same g cs ds ts one two read i t within (broker_step l t (lookup_of port cs g i)).answer (broker_step m t (lookup_of other ds g i)).answer outcome.0 left.0 x.sent y.sent x.says y.says in
       ap (said_to u Look i) y.answer_is ∙ said_of (said_to s Look i (answer_of x.sent)) (said_to u Look i (answer_of y.sent)) same.0 same.1.0 same.1.1 ∙ sym (ap (said_to s Look i) x.answer_is)
   served_both Renew port other t i mid l m l' m' a b within kept alike x y =
       let outcome = renewals_both g cs ds ts one two port other t i mid.forest l m within kept alike.0 in
       let same : RenewsSame g cs ds ts one two i (answer_of x.sent) (answer_of y.sent) =
-      renews_same g cs ds ts one two i t within (step l t (request_of port cs mid.forest i)).answer (step m t (request_of other ds mid.forest i)).answer outcome.0 x.sent y.sent x.says y.says in
+      renews_same g cs ds ts one two i t within (broker_step l t (renewal_request port cs mid.forest i)).answer (broker_step m t (renewal_request other ds mid.forest i)).answer outcome.0 x.sent y.sent x.says y.says in
       ap (said_to u Renew i) y.answer_is ∙ ap (λ h. record { reply = renewal_reply h; terms = no_terms; loss = loss_in h }) same ∙ sym (ap (said_to s Renew i) x.answer_is)
 
   stepped_both :
-      (operation : Operation) (port other t i : ℕ) (mid : State) (l m : Table) → i < length g.entries → IsKept g mid.forest → AreLeft l m →
-      AreLeft (step l t (message_as operation port s mid i)).table (step m t (message_as operation other u mid i)).table
+      (operation : Operation) (port other t i : ℕ) (mid : WatchState) (l m : BrokerTable) → i < length g.entries → KeepsSupplied g mid.forest → AreLeft l m →
+      AreLeft (broker_step l t (message_as operation port s mid i)).table (broker_step m t (message_as operation other u mid i)).table
   stepped_both Look port other t i mid l m within kept alike =
       ((looks_both g cs ds ts ts one two port other t i l m within alike.0).1, (step_dated l alike.1 t (lookup_of port cs g i)).1)
   stepped_both Renew port other t i mid l m within kept alike =
-      ((renewals_both g cs ds ts one two port other t i mid.forest l m within kept alike.0).1, (step_dated l alike.1 t (request_of port cs mid.forest i)).1)
+      ((renewals_both g cs ds ts one two port other t i mid.forest l m within kept alike.0).1, (step_dated l alike.1 t (renewal_request port cs mid.forest i)).1)
 
-  left_as : (l m l' m' : Table) → l' ≡ l → m' ≡ m → AreLeft l m → AreLeft l' m'
+  left_as : (l m l' m' : BrokerTable) → l' ≡ l → m' ≡ m → AreLeft l m → AreLeft l' m'
   left_as l m l' m' is other_is left = subst (λ z. AreLeft z m') (sym is) (subst (AreLeft l) (sym other_is) left)
 
   -- ---- what comes of one request
@@ -162,14 +163,14 @@ module _ (g : Forest) (cs ds : List (List ℕ)) (ts : List Terms) (one : IsInven
   late c test x y = if test then record { answer = c; at = x } else record { answer = Err losses.Timeout; at = y }
 
   later_both : (operation : Operation) (i : ℕ) (a b : Answer) (al : Allowance) (millis : ℕ) → SaysSame operation i a b → ComesAlike operation i (later a al millis) (later b al millis)
-  later_both operation i a b al millis same = by (nat_lt (after al.asked millis) (first_by al)) (after al.asked millis) (first_by al) where
+  later_both operation i a b al millis same = by (nat_lt (millis_after al.asked millis) (first_by al)) (millis_after al.asked millis) (first_by al) where
     by : (test : Bool) (x y : ℕ) → ComesAlike operation i (late a test x y) (late b test x y)
     by true x y = (refl, same)
     by false x y = (refl, loss_same g cs ds ts one two operation i losses.Timeout)
 
   comes_both :
-      (fault : Option LaneFault) (al : Allowance) (operation : Operation) (port other t i : ℕ) (mid : State) (l m l' m' : Table) (c d : Coming) → i < length g.entries → IsKept g mid.forest → AreLeft l m →
-      Comes fault al l t (message_as operation port s mid i) c l' → Comes fault al m t (message_as operation other u mid i) d m' → ComesAlike operation i c d × AreLeft l' m'
+      (fault : Option LaneFault) (al : Allowance) (operation : Operation) (port other t i : ℕ) (mid : WatchState) (l m l' m' : BrokerTable) (c d : Coming) → i < length g.entries → KeepsSupplied g mid.forest → AreLeft l m →
+      ComesOfRequest fault al l t (message_as operation port s mid i) c l' → ComesOfRequest fault al m t (message_as operation other u mid i) d m' → ComesAlike operation i c d × AreLeft l' m'
   comes_both None al operation port other t i mid l m l' m' c d within kept alike x y = (
     (y.1 ∙ sym x.1, served_both operation port other t i mid l m l' m' c.answer d.answer within kept alike x.0 y.0),
     left_as _ _ l' m' x.0.new_is y.0.new_is (stepped_both operation port other t i mid l m within kept alike),
@@ -196,7 +197,7 @@ module _ (g : Forest) (cs ds : List (List ℕ)) (ts : List Terms) (one : IsInven
   -- ---- requests go out
 
   goes_both :
-      (port other t now : ℕ) (mid : State) (r : Request) (request : Out) (old new begun last : Lanes) → r.entry < length g.entries → IsKept g mid.forest → out_of mid.out r.entry ≡ Some request → request.operation ≡ r.operation →
+      (port other t now : ℕ) (mid : WatchState) (r : Request) (request : Out) (old new begun last : Lanes) → r.entry < length g.entries → KeepsSupplied g mid.forest → out_of mid.out r.entry ≡ Some request → request.operation ≡ r.operation →
       AreLanesAlike g cs ds ts mid old begun → GoesOut port s mid t now r old new → GoesOut other u mid t now r begun last → AreLanesAlike g cs ds ts mid new last
   goes_both port other t now mid r request old new begun last within kept asked operation alike a b =
       let back = alike.behind in
@@ -207,11 +208,11 @@ module _ (g : Forest) (cs ds : List (List ℕ)) (ts : List Terms) (one : IsInven
       subst (λ n. IsSentBy n t now (ask_of other u mid r) (Some second) b.sent.comes last.behind) alike.seconds
       (subst (λ o. IsSentBy begun.seconds t now (ask_of other u mid r) o b.sent.comes last.behind) back.other_known b.sent.by) in
       let al = allowed old.seconds now (ask_of port s mid r) in
-      let fault = fault_at first.faults (next_number first.count) in
-      let same_fault : fault_at second.faults (next_number second.count) ≡ fault = ap₂ (λ fs n. fault_at fs (next_number n)) back.faults back.count in
+      let fault = lane_fault_at first.faults (next_lane_number first.count) in
+      let same_fault : lane_fault_at second.faults (next_lane_number second.count) ≡ fault = ap₂ (λ fs n. lane_fault_at fs (next_lane_number n)) back.faults back.count in
       let comes =
       comes_both fault al r.operation port other t r.entry mid first.table second.table x.1 y.1 x.0 y.0 within kept (back.tables, back.dated) x.2.1.0
-      (subst (λ f. Comes f al second.table t (message_as r.operation other u mid r.entry) y.0 y.1) same_fault y.2.1.0) in
+      (subst (λ f. ComesOfRequest f al second.table t (message_as r.operation other u mid r.entry) y.0 y.1) same_fault y.2.1.0) in
       let out_alike : AreOutAlike s u mid (record { index = r.entry; comes = a.sent.comes }) (record { index = r.entry; comes = b.sent.comes }) = record {
         index = refl;
         coming = x.0;
@@ -224,21 +225,21 @@ module _ (g : Forest) (cs ds : List (List ℕ)) (ts : List Terms) (one : IsInven
       } in
       record {
         behind = record {
-          behind = record { table = x.1; faults = first.faults; count = next_number first.count };
+          behind = record { table = x.1; faults = first.faults; count = next_lane_number first.count };
           known = x.2.1.1;
-          other_behind = record { table = y.1; faults = second.faults; count = next_number second.count };
+          other_behind = record { table = y.1; faults = second.faults; count = next_lane_number second.count };
           other_known = y.2.1.1;
           tables = comes.1.0;
           dated = comes.1.1;
           faults = back.faults;
-          count = ap next_number back.count;
+          count = ap next_lane_number back.count;
         };
         out = sent_zip (AreOutAlike s u mid) (λ o p h. h.index) _ _ old.out new.out begun.out last.out out_alike a.sent.put b.sent.put alike.out;
         seconds = b.seconds ∙ alike.seconds ∙ sym a.seconds;
       }
 
   pub go_both :
-      (port other t now at : ℕ) (mid : State) (front : List Out) (rs : List Request) (old new begun last : Lanes) → All (λ r. r.entry < length g.entries) rs → IsKept g mid.forest → mid.out ≡ front ++ map (out_at at) rs →
+      (port other t now at : ℕ) (mid : WatchState) (front : List Out) (rs : List Request) (old new begun last : Lanes) → All (λ r. r.entry < length g.entries) rs → KeepsSupplied g mid.forest → mid.out ≡ front ++ map (out_at at) rs →
       ((i : ℕ) → times i (map (λ (r : Out). r.entry) mid.out) ≤ 1) → AreLanesAlike g cs ds ts mid old begun → GoOut port s mid t now rs old new → GoOut other u mid t now rs begun last → AreLanesAlike g cs ds ts mid new last
   go_both port other t now at mid front [] old new begun last within kept are once alike a b = subst (λ z. AreLanesAlike g cs ds ts mid z last) (sym a) (subst (AreLanesAlike g cs ds ts mid old) (sym b) alike)
   go_both port other t now at mid front (r ∷ rs) old new begun last within kept are once alike a b =
@@ -277,25 +278,25 @@ not_so false h = refl
 
 -- those that are there come back, and no others, where those that are left are the others
 there_zip :
-    (test : lanes.Out → Bool) (old : List lanes.Out) (answers : List Answered) (left : List lanes.Out) → IsParted old answers left → left ≡ filter (λ o. not (test o)) old → AllZip IsOf (filter test old) answers
-there_zip test [] answers left parted is = subst (AllZip IsOf []) (sym parted.0) tt
+    (test : lanes.Out → Bool) (old : List lanes.Out) (answers : List Answered) (left : List lanes.Out) → IsParted old answers left → left ≡ filter (λ o. not (test o)) old → AllZip IsAnswerTo (filter test old) answers
+there_zip test [] answers left parted is = subst (AllZip IsAnswerTo []) (sym parted.0) tt
 there_zip test (o ∷ os) answers left parted is =
     let others : lanes.Out → Bool = λ x. not (test x) in
     let kept = filter others os in
     let back' = filter test os in
     let none : (xs : List lanes.Out) → left ≡ filter others xs → All (λ x. test x ≡ false) left = λ xs e. subst (All (λ x. test x ≡ false)) (sym e) (λ k d below. not_so _ (filter_passes others xs k d below)) in
-    elim (cases_Bool (test o)) as (λ _. AllZip IsOf (filter test (o ∷ os)) answers) [
+    elim (cases_Bool (test o)) as (λ _. AllZip IsAnswerTo (filter test (o ∷ os)) answers) [
       | inl there ↦
           let less : left ≡ kept = is ∙ cond-false (others o) (o ∷ kept) kept (ap not there) in
           let all : filter test (o ∷ os) ≡ o ∷ back' = cond-true (test o) (o ∷ back') back' there in
-          subst (λ xs. AllZip IsOf xs answers) (sym all) (elim parted as (λ _. AllZip IsOf (o ∷ back') answers) [
-            | inl back ↦ subst (AllZip IsOf (o ∷ back')) (sym back.2.0) (back.2.1.0, there_zip test os back.1 left back.2.1.1 less)
+          subst (λ xs. AllZip IsAnswerTo xs answers) (sym all) (elim parted as (λ _. AllZip IsAnswerTo (o ∷ back') answers) [
+            | inl back ↦ subst (AllZip IsAnswerTo (o ∷ back')) (sym back.2.0) (back.2.1.0, there_zip test os back.1 left back.2.1.1 less)
             | inr stays ↦ absurd (true≢false (sym there ∙ All-head (λ x. test x ≡ false) o stays.0 (subst (All (λ x. test x ≡ false)) stays.1.0 (none os less))))
           ])
       | inr other ↦
           let more : left ≡ o ∷ kept = is ∙ cond-true (others o) (o ∷ kept) kept (ap not other) in
           let all : filter test (o ∷ os) ≡ back' = cond-false (test o) (o ∷ back') back' other in
-          subst (λ xs. AllZip IsOf xs answers) (sym all) (elim parted as (λ _. AllZip IsOf back' answers) [
+          subst (λ xs. AllZip IsAnswerTo xs answers) (sym all) (elim parted as (λ _. AllZip IsAnswerTo back' answers) [
             | inl back ↦
                 let few = left_few test os back.1 left back.2.1.1 (none (o ∷ os) is) in
                 let many = ap length more in
@@ -304,7 +305,7 @@ there_zip test (o ∷ os) answers left parted is =
           ])
     ]
 
-module _ (s u : Inventory) (m : State) where
+module _ (s u : Inventory) (m : WatchState) where
   abbrev R : lanes.Out → lanes.Out → Type 0
   R o p = AreOutAlike s u m o p
 
@@ -331,7 +332,7 @@ module _ (s u : Inventory) (m : State) where
   filter_zip test other same (x ∷ xs) [] zip = absurd zip
   filter_zip test other same (x ∷ xs) (y ∷ ys) zip = kept_zip (test x) (other y) x y (filter test xs) (filter other ys) (same x y zip.0) zip.0 (filter_zip test other same xs ys zip.1)
 
-  told_by : (o p : lanes.Out) (a b : Answered) → R o p → IsOf o a → IsOf p b → AreToldAlike s u m a b
+  told_by : (o p : lanes.Out) (a b : Answered) → R o p → IsAnswerTo o a → IsAnswerTo p b → AreToldAlike s u m a b
   told_by o p a b h x y =
       let a_is = of_value (λ (c : Coming). a.answer ≡ c.answer) o.comes h.coming x.1 h.known in
       let b_is = of_value (λ (c : Coming). b.answer ≡ c.answer) p.comes h.other_coming y.1 h.other_known in
@@ -342,7 +343,7 @@ module _ (s u : Inventory) (m : State) where
             (subst (λ z. IfSome (out_of m.out o.index) (λ r. said_to u r.operation o.index z ≡ said_to s r.operation o.index h.coming.answer)) (sym b_is) h.says));
       }
 
-  told_zip : (xs ys : List lanes.Out) (answers others : List Answered) → AllZip R xs ys → AllZip IsOf xs answers → AllZip IsOf ys others → AllZip (AreToldAlike s u m) answers others
+  told_zip : (xs ys : List lanes.Out) (answers others : List Answered) → AllZip R xs ys → AllZip IsAnswerTo xs answers → AllZip IsAnswerTo ys others → AllZip (AreToldAlike s u m) answers others
   told_zip [] [] [] [] zip x y = tt
   told_zip [] [] [] (b ∷ bs) zip x y = absurd y
   told_zip [] [] (a ∷ answers) others zip x y = absurd x
@@ -367,7 +368,7 @@ module _ (s u : Inventory) (m : State) where
 
 -- after a turn of the machine, of which what held of what is asked holds still
 pub out_to :
-    (s u : Inventory) (m n : State) (W : lanes.Out → Type 0) →
+    (s u : Inventory) (m n : WatchState) (W : lanes.Out → Type 0) →
     ((o : lanes.Out) → W o → (P : Operation → Type 0) → IfSome (out_of m.out o.index) (λ r. P r.operation) → IfSome (out_of n.out o.index) (λ r. P r.operation)) →
     (old other : List lanes.Out) → All W old → AllZip (AreOutAlike s u m) old other → AllZip (AreOutAlike s u n) old other
 out_to s u m n W to [] [] all zip = tt

@@ -6,8 +6,9 @@ use Rattle.keep_inventory.specs.Inventories.{IsInventory, Inventory}
 use Rattle.keep_inventory.specs.declared.terms.Terms.{Terms}
 use Rattle.keep_lanes.specs.Out as lanes
 use Rattle.keep_lanes.specs.Out.{AreThere}
-use Rattle.keep_alike.specs.Alike.{IsKept}
+use Rattle.keep_alike.specs.Alike.{KeepsSupplied}
 use Rattle.keep_alike.proofs.Kept.{kept_itself}
+use Rattle.keep_alike.specs.Laws.{inventory_of}
 use Rattle.keep_tree.specs.Forest.{Forest}
 use Rattle.vault_json.specs.Laws.{LookedLeaseIsRead}
 use Rattle.watch_machine.specs.declared.command.Command.TheVariants.{Go}
@@ -21,20 +22,21 @@ use Rattle.watch_machine.specs.declared.notes.Notes.{Notes}
 use Rattle.watch_machine.specs.declared.outlook.Next.{Next}
 use Rattle.watch_machine.specs.History.{Turn}
 use Rattle.watch_machine.specs.Press.{pressed}
-use Rattle.watch_machine.specs.Round.{asked_by}
+use Rattle.watch_machine.specs.Round.{asked_by_round}
 use Rattle.watch_machine.specs.Sending.{out_at}
-use Rattle.watch_machine.specs.State.{State, track_at}
+use Rattle.watch_machine.specs.State.{WatchState, track_at}
 use Rattle.watch_machine.specs.Step.{readied}
 use Rattle.watch_machine.proofs.Cases.{of_value, value_is}
-use Rattle.watch_lines.specs.Alike.{AlikeWatchesLaw, AreBehindAlike, AreLanesAlike, AreSidesAlike, FreshAlikeLaw, inventory_of}
+use Rattle.watch_machine.specs.Clocks.{second_of_wall}
+use Rattle.watch_lines.specs.Alike.{AlikeWatchesLaw, AreBehindAlike, AreLanesAlike, AreSidesAlike, FreshAlikeLaw}
 use Rattle.keep_asking.specs.Handing.{out_of}
-use Rattle.watch_lines.specs.Clocked.{AreTakenOn, IsClocked, IsDone, IsWaited, Side, changed_line, clock_lines, listens_until, said_after, short_lines, side}
-use Rattle.watch_lines.specs.Hears.{IsHeard, IsKnown, IsLineHeard, IsTurned}
-use Rattle.watch_lines.specs.Listening.{AreHeard}
+use Rattle.watch_lines.specs.Clocked.{AreTakenOn, IsClocked, IsDoneUntil, IsWaited, WatchingSide, changed_line, clock_lines, listens_until, said_after, short_lines, watching_side}
+use Rattle.watch_lines.specs.Hears.{EndIsTakenOver, InputLineIsHeard, LineIsHeard, WatchIsTurned}
+use Rattle.watch_lines.specs.Listening.{WatchLinesAreHeard}
 use Rattle.watch_lines.specs.Lines.{line_in}
-use Rattle.keep_asking.specs.InStep.{IsAbreast, IsSound, entries_on, entries_out, times}
+use Rattle.keep_asking.specs.InStep.{IsAbreast, MachineIsSound, entries_on, entries_out, times}
 use Rattle.keep_asking.specs.Sending.{GoOut, Lanes}
-use Rattle.watch_lines.specs.Sending.{asked_lines, moment_of}
+use Rattle.watch_lines.specs.Sending.{asked_lines}
 use Rattle.watch_lines.specs.Texts.{after_clock_line, clock_line, planned_line, unknown_name_line, wait_line}
 use Rattle.watch_lines.specs.Watching.{Watching}
 use Rattle.watch_lines.specs.declared.line.Line.{Line}
@@ -74,18 +76,18 @@ some_lane (o ∷ os) (suc k) d below =
 
 -- what goes out at a clock is out after what was
 gone_out :
-    (old new : State) (wall elapsed : ℕ) (requests : List Request) (until : ℕ) (notes : Notes) → Turn old (events.Clock wall elapsed) (Ok (record { command = Go requests until; notes = notes })) new →
+    (old new : WatchState) (wall elapsed : ℕ) (requests : List Request) (until : ℕ) (notes : Notes) → Turn old (events.Clock wall elapsed) (Ok (record { command = Go requests until; notes = notes })) new →
     (at : ℕ) × (new.out ≡ old.out ++ map (out_at at) requests)
 gone_out old new wall elapsed requests until notes turn =
-    let mid = pressed (readied old wall elapsed) (asked_by turn.1.round) in
-    (mid.clocks.at, ap (λ (x : State). x.out) turn.1.command.0.1 ∙ ap (λ (out : List Out). out ++ map (out_at mid.clocks.at) requests) (readied_left old wall elapsed).0)
+    let mid = pressed (readied old wall elapsed) (asked_by_round turn.1.round) in
+    (mid.clocks.at, ap (λ (x : WatchState). x.out) turn.1.command.0.1 ∙ ap (λ (out : List Out). out ++ map (out_at mid.clocks.at) requests) (readied_left old wall elapsed).0)
 
 most_one : (b : Bool) → cond b 1 0 ≤ 1
 most_one true = omega arith
 most_one false = omega arith
 
 -- the width of the machine is its own
-own_width : (m : State) (width : ℕ) (out : List lanes.Out) → IsAbreast m width out → IsAbreast m m.width out
+own_width : (m : WatchState) (width : ℕ) (out : List lanes.Out) → IsAbreast m width out → IsAbreast m m.width out
 own_width m width out h = record { width_is = refl; room = subst (λ n. length out ≤ n) (sym h.width_is) h.room; sound = h.sound; in_step = h.in_step }
 
 module _ (g : Forest) (cs ds : List (List ℕ)) (ts : List Terms) (one : IsInventory (record { forest = g; credentials = cs; terms = ts })) (two : IsInventory (record { forest = g; credentials = ds; terms = ts })) (read : LookedLeaseIsRead) where
@@ -95,33 +97,33 @@ module _ (g : Forest) (cs ds : List (List ℕ)) (ts : List Terms) (one : IsInven
   abbrev u : Inventory
   u = inventory_of g ds ts
 
-  abbrev Alike : State → Lanes → Lanes → Type 0
+  abbrev Alike : WatchState → Lanes → Lanes → Type 0
   Alike m a b = AreLanesAlike g cs ds ts m a b
 
   -- ---- sides
 
-  abbrev holds : Inventory → State → List (Option ℕ) → Option (Option Next) → Watching
+  abbrev holds : Inventory → WatchState → List (Option ℕ) → Option (Option Next) → Watching
   holds v k said next = record { machine = k; inventory = v; said = said; next = next }
 
   -- two states and lanes behind a line
-  record AreLeftAlike (new last : State) (after behind : Lanes) : Type 0 where
+  record AreLeftAlike (new last : WatchState) (after behind : Lanes) : Type 0 where
     machine : last ≡ new
-    kept : IsKept g new.forest
+    kept : KeepsSupplied g new.forest
     abreast : IsAbreast new new.width after.out
     lanes : Alike new after behind
 
-  left_alike : (k j : State) (said : List (Option ℕ)) (next : Option (Option Next)) (new last : Side) → new.watching ≡ holds s k said next → last.watching ≡ holds u j said next → AreLeftAlike k j new.lanes last.lanes → AreSidesAlike g cs ds ts new last
+  left_alike : (k j : WatchState) (said : List (Option ℕ)) (next : Option (Option Next)) (new last : WatchingSide) → new.watching ≡ holds s k said next → last.watching ≡ holds u j said next → AreLeftAlike k j new.lanes last.lanes → AreSidesAlike g cs ds ts new last
   left_alike k j said next new last is other_is left = record {
     inventory = ap (λ (w : Watching). w.inventory) is;
     other_is = other_is ∙ ap (λ z. holds u z said next) left.machine ∙ sym (ap (λ (w : Watching). record w { inventory = u }) is);
-    kept = subst (λ (w : Watching). IsKept g w.machine.forest) (sym is) left.kept;
+    kept = subst (λ (w : Watching). KeepsSupplied g w.machine.forest) (sym is) left.kept;
     abreast = subst (λ (w : Watching). IsAbreast w.machine w.machine.width new.lanes.out) (sym is) left.abreast;
     lanes = subst (λ (w : Watching). Alike w.machine new.lanes last.lanes) (sym is) left.lanes;
   }
 
   -- the machine moves, and what is asked stays
   moves :
-      (m n : State) (W : lanes.Out → Type 0) (a b : Lanes) → ((o : lanes.Out) → W o → (P : Operation → Type 0) → IfSome (out_of m.out o.index) (λ r. P r.operation) → IfSome (out_of n.out o.index) (λ r. P r.operation)) →
+      (m n : WatchState) (W : lanes.Out → Type 0) (a b : Lanes) → ((o : lanes.Out) → W o → (P : Operation → Type 0) → IfSome (out_of m.out o.index) (λ r. P r.operation) → IfSome (out_of n.out o.index) (λ r. P r.operation)) →
       All W a.out → Alike m a b → Alike n a b
   moves m n W a b to all h = record { behind = h.behind; out = out_to s u m n W to a.out b.out all h.out; seconds = h.seconds }
 
@@ -129,7 +131,7 @@ module _ (g : Forest) (cs ds : List (List ℕ)) (ts : List Terms) (one : IsInven
 
   module _ (port other : ℕ) where
     waited_both :
-        (k : State) (said : List (Option ℕ)) (next : Option (Option Next)) (a b : Lanes) (until : ℕ) (new last : Side) (text more : List ℕ) → IsKept g k.forest → IsAbreast k k.width a.out → Alike k a b →
+        (k : WatchState) (said : List (Option ℕ)) (next : Option (Option Next)) (a b : Lanes) (until : ℕ) (new last : WatchingSide) (text more : List ℕ) → KeepsSupplied g k.forest → IsAbreast k k.width a.out → Alike k a b →
         IsWaited (holds s k said next) until new.watching text → new.lanes ≡ a → IsWaited (holds u k said next) until last.watching more → last.lanes ≡ b → (more ≡ text) × AreSidesAlike g cs ds ts new last
     waited_both k said next a b until new last text more kept abreast alike x same y other_same =
         let there = there_once k x.next y.next x.is_next y.is_next in (
@@ -144,8 +146,8 @@ module _ (g : Forest) (cs ds : List (List ℕ)) (ts : List Terms) (one : IsInven
         )
 
     taken_both :
-        (k : State) (said : List (Option ℕ)) (next : Option (Option Next)) (a b : Lanes) (now until : ℕ) (new last : Side) (text more : List ℕ) → IsKept g k.forest → IsAbreast k k.width a.out → Alike k a b →
-        AreTakenOn now until (side (holds s k said next) a) new text → AreTakenOn now until (side (holds u k said next) b) last more → (more ≡ text) × AreSidesAlike g cs ds ts new last
+        (k : WatchState) (said : List (Option ℕ)) (next : Option (Option Next)) (a b : Lanes) (now until : ℕ) (new last : WatchingSide) (text more : List ℕ) → KeepsSupplied g k.forest → IsAbreast k k.width a.out → Alike k a b →
+        AreTakenOn now until (watching_side (holds s k said next) a) new text → AreTakenOn now until (watching_side (holds u k said next) b) last more → (more ≡ text) × AreSidesAlike g cs ds ts new last
     taken_both k said next a b now until new last text more kept abreast alike x y =
         let n = new.watching.machine in
         let first = x.handed_back in
@@ -168,15 +170,15 @@ module _ (g : Forest) (cs ds : List (List ℕ)) (ts : List Terms) (one : IsInven
         )
 
     done_both :
-        (out : List Out) (k : State) (said : List (Option ℕ)) (next : Option (Option Next)) (a b : Lanes) (elapsed until : ℕ) (new last : Side) (text more : List ℕ) → IsKept g k.forest → IsAbreast k k.width a.out → Alike k a b →
-        IsDone out elapsed until (side (holds s k said next) a) new text → IsDone out elapsed until (side (holds u k said next) b) last more → (more ≡ text) × AreSidesAlike g cs ds ts new last
+        (out : List Out) (k : WatchState) (said : List (Option ℕ)) (next : Option (Option Next)) (a b : Lanes) (elapsed until : ℕ) (new last : WatchingSide) (text more : List ℕ) → KeepsSupplied g k.forest → IsAbreast k k.width a.out → Alike k a b →
+        IsDoneUntil out elapsed until (watching_side (holds s k said next) a) new text → IsDoneUntil out elapsed until (watching_side (holds u k said next) b) last more → (more ≡ text) × AreSidesAlike g cs ds ts new last
     done_both [] k said next a b elapsed until new last text more kept abreast alike x y = waited_both k said next a b until new last text more kept abreast alike x.0 x.1 y.0 y.1
     done_both (r ∷ rest) k said next a b elapsed until new last text more kept abreast alike x y = taken_both k said next a b elapsed (listens_until k elapsed until) new last text more kept abreast alike x y
 
     -- the requests of a clock go out on lanes that are alike
     gone_both :
-        (k mid : State) (a b after behind : Lanes) (wall elapsed : ℕ) (requests : List Request) (until : ℕ) (notes : Notes) → IsKept g k.forest → IsKept g mid.forest → IsAbreast k k.width a.out → Alike k a b →
-        Turn k (events.Clock wall elapsed) (Ok (record { command = Go requests until; notes = notes })) mid → GoOut port s mid (moment_of wall) elapsed requests a after → GoOut other u mid (moment_of wall) elapsed requests b behind →
+        (k mid : WatchState) (a b after behind : Lanes) (wall elapsed : ℕ) (requests : List Request) (until : ℕ) (notes : Notes) → KeepsSupplied g k.forest → KeepsSupplied g mid.forest → IsAbreast k k.width a.out → Alike k a b →
+        Turn k (events.Clock wall elapsed) (Ok (record { command = Go requests until; notes = notes })) mid → GoOut port s mid (second_of_wall wall) elapsed requests a after → GoOut other u mid (second_of_wall wall) elapsed requests b behind →
         IsAbreast mid mid.width after.out × Alike mid after behind
     gone_both k mid a b after behind wall elapsed requests until notes kept still abreast alike turn x y =
         let output : Output = record { command = Go requests until; notes = notes } in
@@ -189,13 +191,13 @@ module _ (g : Forest) (cs ds : List (List ℕ)) (ts : List Terms) (one : IsInven
         let ready = moves k mid W a b to taken alike in
         let within = subst (λ n. All (λ (r : Request). r.entry < n) requests) still.count gone.within in
         let once : (i : ℕ) → times i (entries_out mid) ≤ 1 = λ i. (let few : times i (entries_out mid) ≤ cond (track_at mid i).out 1 0 = gone.sound.once i in let most = most_one (track_at mid i).out in omega (arith, few, most)) in (
-          own_width mid k.width after.out (abreast_sent k mid requests k.width a.out after.out abreast gone (sent_all port s mid (moment_of wall) elapsed requests a after x)),
-          go_both g cs ds ts one two read port other (moment_of wall) elapsed out.0 mid k.out requests a after b behind within still out.1 once ready x y,
+          own_width mid k.width after.out (abreast_sent k mid requests k.width a.out after.out abreast gone (sent_all port s mid (second_of_wall wall) elapsed requests a after x)),
+          go_both g cs ds ts one two read port other (second_of_wall wall) elapsed out.0 mid k.out requests a after b behind within still out.1 once ready x y,
         )
 
     clocked_both :
-        (k : State) (said : List (Option ℕ)) (next : Option (Option Next)) (a b : Lanes) (wall elapsed : ℕ) (new last : Side) (text more : List ℕ) → IsKept g k.forest → IsAbreast k k.width a.out → Alike k a b →
-        IsClocked port (side (holds s k said next) a) wall elapsed new text → IsClocked other (side (holds u k said next) b) wall elapsed last more → (more ≡ text) × AreSidesAlike g cs ds ts new last
+        (k : WatchState) (said : List (Option ℕ)) (next : Option (Option Next)) (a b : Lanes) (wall elapsed : ℕ) (new last : WatchingSide) (text more : List ℕ) → KeepsSupplied g k.forest → IsAbreast k k.width a.out → Alike k a b →
+        IsClocked port (watching_side (holds s k said next) a) wall elapsed new text → IsClocked other (watching_side (holds u k said next) b) wall elapsed last more → (more ≡ text) × AreSidesAlike g cs ds ts new last
     clocked_both k said next a b wall elapsed new last text more kept abreast alike x y =
         let first : Output = record { command = Go x.requests x.until; notes = x.notes } in
         let second : Output = record { command = Go y.requests y.until; notes = y.notes } in
@@ -203,15 +205,15 @@ module _ (g : Forest) (cs ds : List (List ℕ)) (ts : List Terms) (one : IsInven
         let notes : y.notes ≡ x.notes = ap (λ (o : Output). o.notes) both.0 in
         let requests : y.requests ≡ x.requests = ap (λ (o : Output). requests_in o.command) both.0 in
         let until : y.until ≡ x.until = ap (λ (o : Output). until_in o.command) both.0 in
-        let still : IsKept g x.mid.forest = turn_kept g k x.mid (events.Clock wall elapsed) first x.turn tt kept in
-        let sent : GoOut other u x.mid (moment_of wall) elapsed x.requests b y.lanes =
-        subst (λ m. GoOut other u m (moment_of wall) elapsed x.requests b y.lanes) both.1 (subst (λ rs. GoOut other u y.mid (moment_of wall) elapsed rs b y.lanes) requests y.sent) in
+        let still : KeepsSupplied g x.mid.forest = turn_kept g k x.mid (events.Clock wall elapsed) first x.turn tt kept in
+        let sent : GoOut other u x.mid (second_of_wall wall) elapsed x.requests b y.lanes =
+        subst (λ m. GoOut other u m (second_of_wall wall) elapsed x.requests b y.lanes) both.1 (subst (λ rs. GoOut other u y.mid (second_of_wall wall) elapsed rs b y.lanes) requests y.sent) in
         let gone = gone_both k x.mid a b x.lanes y.lanes wall elapsed x.requests x.until x.notes kept still abreast alike x.turn x.sent sent in
-        let is_done : IsDone x.mid.out elapsed x.until (side (holds u x.mid (said_after x.mid said) next) y.lanes) last y.done =
-        subst (λ n. IsDone x.mid.out elapsed n (side (holds u x.mid (said_after x.mid said) next) y.lanes) last y.done) until
-        (subst (λ (m : State). IsDone m.out elapsed y.until (side (holds u m (said_after m said) next) y.lanes) last y.done) both.1 y.is_done) in
+        let is_done : IsDoneUntil x.mid.out elapsed x.until (watching_side (holds u x.mid (said_after x.mid said) next) y.lanes) last y.done =
+        subst (λ n. IsDoneUntil x.mid.out elapsed n (watching_side (holds u x.mid (said_after x.mid said) next) y.lanes) last y.done) until
+        (subst (λ (m : WatchState). IsDoneUntil m.out elapsed y.until (watching_side (holds u m (said_after m said) next) y.lanes) last y.done) both.1 y.is_done) in
         let done = done_both x.mid.out x.mid (said_after x.mid said) next x.lanes y.lanes elapsed x.until new last x.done y.done still gone.0 gone.1 x.is_done is_done in
-        let lines : State → Notes → List Request → List ℕ → List ℕ = λ m notes requests rest. clock_lines g m notes ++ (short_lines g m said ++ (asked_lines g requests ++ rest)) in (
+        let lines : WatchState → Notes → List Request → List ℕ → List ℕ = λ m notes requests rest. clock_lines g m notes ++ (short_lines g m said ++ (asked_lines g requests ++ rest)) in (
           y.text_is ∙ ap (λ m. lines m y.notes y.requests y.done) both.1 ∙ ap (λ n. lines x.mid n y.requests y.done) notes ∙ ap (λ rs. lines x.mid x.notes rs y.done) requests ∙ ap (lines x.mid x.notes x.requests) done.0 ∙ sym x.text_is,
           done.1,
         )
@@ -219,7 +221,7 @@ module _ (g : Forest) (cs ds : List (List ℕ)) (ts : List Terms) (one : IsInven
     -- ---- any other line
 
     stays_both :
-        (k : State) (said : List (Option ℕ)) (next : Option (Option Next)) (a b : Lanes) (new last : Side) (text more tells : List ℕ) → IsKept g k.forest → IsAbreast k k.width a.out → Alike k a b →
+        (k : WatchState) (said : List (Option ℕ)) (next : Option (Option Next)) (a b : Lanes) (new last : WatchingSide) (text more tells : List ℕ) → KeepsSupplied g k.forest → IsAbreast k k.width a.out → Alike k a b →
         new.watching ≡ holds s k said next → last.watching ≡ holds u k said next → text ≡ tells → more ≡ tells → new.lanes ≡ a → last.lanes ≡ b → (more ≡ text) × AreSidesAlike g cs ds ts new last
     stays_both k said next a b new last text more tells kept abreast alike is other_is text_is more_is same other_same = (
       more_is ∙ sym text_is,
@@ -233,9 +235,9 @@ module _ (g : Forest) (cs ds : List (List ℕ)) (ts : List Terms) (one : IsInven
     )
 
     turned_both :
-        (event : Event) (k : State) (said : List (Option ℕ)) (next : Option (Option Next)) (a b : Lanes) (new last : Side) (text more tells : List ℕ) → TellsNoStep g event →
-        ((output : Output) (n : State) → Turn k event (Ok output) n → IsSound k → IsQuiet k n) → IsKept g k.forest → IsAbreast k k.width a.out → Alike k a b → IsTurned (holds s k said next) event new.watching → text ≡ tells →
-        IsTurned (holds u k said next) event last.watching → more ≡ tells → new.lanes ≡ a → last.lanes ≡ b → (more ≡ text) × AreSidesAlike g cs ds ts new last
+        (event : Event) (k : WatchState) (said : List (Option ℕ)) (next : Option (Option Next)) (a b : Lanes) (new last : WatchingSide) (text more tells : List ℕ) → TellsNoStep g event →
+        ((output : Output) (n : WatchState) → Turn k event (Ok output) n → MachineIsSound k → IsQuiet k n) → KeepsSupplied g k.forest → IsAbreast k k.width a.out → Alike k a b → WatchIsTurned (holds s k said next) event new.watching → text ≡ tells →
+        WatchIsTurned (holds u k said next) event last.watching → more ≡ tells → new.lanes ≡ a → last.lanes ≡ b → (more ≡ text) × AreSidesAlike g cs ds ts new last
     turned_both event k said next a b new last text more tells none quiet kept abreast alike x text_is y more_is same other_same =
         let n = new.watching.machine in
         let turns = turn_once k n last.watching.machine event x.output y.output x.turn y.turn in
@@ -255,16 +257,16 @@ module _ (g : Forest) (cs ds : List (List ℕ)) (ts : List Terms) (one : IsInven
         )
 
     known_both :
-        (begun : Bool) (i end : ℕ) (renewable : Bool) (k : State) (said : List (Option ℕ)) (next : Option (Option Next)) (a b : Lanes) (new last : Side) (text more : List ℕ) → IsKept g k.forest → IsAbreast k k.width a.out → Alike k a b →
-        IsKnown begun (holds s k said next) i end renewable new.watching text → new.lanes ≡ a → IsKnown begun (holds u k said next) i end renewable last.watching more → last.lanes ≡ b → (more ≡ text) × AreSidesAlike g cs ds ts new last
+        (begun : Bool) (i end : ℕ) (renewable : Bool) (k : WatchState) (said : List (Option ℕ)) (next : Option (Option Next)) (a b : Lanes) (new last : WatchingSide) (text more : List ℕ) → KeepsSupplied g k.forest → IsAbreast k k.width a.out → Alike k a b →
+        EndIsTakenOver begun (holds s k said next) i end renewable new.watching text → new.lanes ≡ a → EndIsTakenOver begun (holds u k said next) i end renewable last.watching more → last.lanes ≡ b → (more ≡ text) × AreSidesAlike g cs ds ts new last
     known_both true i end renewable k said next a b new last text more kept abreast alike x same y other_same =
         stays_both k said next a b new last text more (after_clock_line ++ clock_line) kept abreast alike x.0 y.0 x.1 y.1 same other_same
     known_both false i end renewable k said next a b new last text more kept abreast alike x same y other_same =
         turned_both (events.Known i (end / 1000) renewable) k said next a b new last text more clock_line tt (λ output n turn sound. turn_known k n i (end / 1000) renewable output turn sound) kept abreast alike x.0 x.1 y.0 y.1 same other_same
 
     heard_both :
-        (says : Line) (k : State) (said : List (Option ℕ)) (next : Option (Option Next)) (a b : Lanes) (new last : Side) (text more : List ℕ) → IsKept g k.forest → IsAbreast k k.width a.out → Alike k a b →
-        IsHeard port (side (holds s k said next) a) says new text → IsHeard other (side (holds u k said next) b) says last more → (more ≡ text) × AreSidesAlike g cs ds ts new last
+        (says : Line) (k : WatchState) (said : List (Option ℕ)) (next : Option (Option Next)) (a b : Lanes) (new last : WatchingSide) (text more : List ℕ) → KeepsSupplied g k.forest → IsAbreast k k.width a.out → Alike k a b →
+        LineIsHeard port (watching_side (holds s k said next) a) says new text → LineIsHeard other (watching_side (holds u k said next) b) says last more → (more ≡ text) × AreSidesAlike g cs ds ts new last
     heard_both (Clock wall elapsed) k said next a b new last text more kept abreast alike x y = clocked_both k said next a b wall elapsed new last text more kept abreast alike x y
     heard_both (Need i until) k said next a b new last text more kept abreast alike x y =
         turned_both (events.Need i until) k said next a b new last text more (planned_line ++ clock_line) tt (λ output n turn sound. turn_need k n i until output turn sound) kept abreast alike x.0.0 x.0.1 y.0.0 y.0.1 x.1 y.1
@@ -276,19 +278,19 @@ module _ (g : Forest) (cs ds : List (List ℕ)) (ts : List Terms) (one : IsInven
 
     -- ---- lines
 
-    line_both : (old begun new last : Side) (line text more : List ℕ) → AreSidesAlike g cs ds ts old begun → IsLineHeard port old line new text → IsLineHeard other begun line last more → (more ≡ text) × AreSidesAlike g cs ds ts new last
+    line_both : (old begun new last : WatchingSide) (line text more : List ℕ) → AreSidesAlike g cs ds ts old begun → InputLineIsHeard port old line new text → InputLineIsHeard other begun line last more → (more ≡ text) × AreSidesAlike g cs ds ts new last
     line_both old begun new last line text more alike x y =
         let w = old.watching in
         let k = w.machine in
-        let here : old ≡ side (holds s k w.said w.next) old.lanes = ap (λ v. side (holds v k w.said w.next) old.lanes) alike.inventory in
-        let there : begun ≡ side (holds u k w.said w.next) begun.lanes = ap (λ v. side v begun.lanes) alike.other_is in
+        let here : old ≡ watching_side (holds s k w.said w.next) old.lanes = ap (λ v. watching_side (holds v k w.said w.next) old.lanes) alike.inventory in
+        let there : begun ≡ watching_side (holds u k w.said w.next) begun.lanes = ap (λ v. watching_side v begun.lanes) alike.other_is in
         let says : Some y.says ≡ Some x.says =
-        sym y.is ∙ ap (λ (z : Side). line_in z.watching.inventory.forest line) there ∙ sym (ap (λ (z : Side). line_in z.watching.inventory.forest line) here) ∙ x.is in
+        sym y.is ∙ ap (λ (z : WatchingSide). line_in z.watching.inventory.forest line) there ∙ sym (ap (λ (z : WatchingSide). line_in z.watching.inventory.forest line) here) ∙ x.is in
         let same : y.says ≡ x.says = value_is y.says x.says says in
-        heard_both x.says k w.said w.next old.lanes begun.lanes new last text more alike.kept alike.abreast alike.lanes (subst (λ z. IsHeard port z x.says new text) here x.heard)
-        (subst (λ z. IsHeard other (side (holds u k w.said w.next) begun.lanes) z last more) same (subst (λ z. IsHeard other z y.says last more) there y.heard))
+        heard_both x.says k w.said w.next old.lanes begun.lanes new last text more alike.kept alike.abreast alike.lanes (subst (λ z. LineIsHeard port z x.says new text) here x.heard)
+        (subst (λ z. LineIsHeard other (watching_side (holds u k w.said w.next) begun.lanes) z last more) same (subst (λ z. LineIsHeard other z y.says last more) there y.heard))
 
-    lines_both : (lines : List (List ℕ)) (old begun new last : Side) (text more : List ℕ) → AreSidesAlike g cs ds ts old begun → AreHeard port old lines new text → AreHeard other begun lines last more → (more ≡ text) × AreSidesAlike g cs ds ts new last
+    lines_both : (lines : List (List ℕ)) (old begun new last : WatchingSide) (text more : List ℕ) → AreSidesAlike g cs ds ts old begun → WatchLinesAreHeard port old lines new text → WatchLinesAreHeard other begun lines last more → (more ≡ text) × AreSidesAlike g cs ds ts new last
     lines_both [] old begun new last text more alike x y =
         (y.1 ∙ sym x.1, subst (λ z. AreSidesAlike g cs ds ts z last) (sym x.0) (subst (AreSidesAlike g cs ds ts old) (sym y.0) alike))
     lines_both (line ∷ lines) old begun new last text more alike x y =

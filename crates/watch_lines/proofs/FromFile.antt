@@ -2,7 +2,7 @@
 use Rattle.std.proofs.Common.{◌≡◌, ◌∙◌, ℕ, List, Option, Err, ap, codes, inr, refl, subst}
 use Rattle.keep_device.specs.Seen.{Change}
 use Rattle.keep_device.specs.declared.fault.InputFault.{InputFault}
-use Rattle.keep_files.specs.Files.{IsRead}
+use Rattle.keep_files.specs.Files.{FileIsRead}
 use Rattle.keep_inventory.specs.declared.limits.TheConstants.{MOST_INVENTORY}
 use Rattle.keep_report.specs.declared.exit.Exit.{Exit}
 use Rattle.keep_report.specs.declared.stop.Stop.{Stop}
@@ -15,7 +15,7 @@ use Rattle.watch_lines.specs.WatchFrom.{WatchFrom}
 
 pub unread_file :
     (known : Option (List ℕ)) (port width : ℕ) (old : Lanes) (exit : Exit) (fed : Change) (out errors : Change) (fault : InputFault) (stop : Stop) →
-    IsRead known MOST_INVENTORY (Err fault) → stop ≡ stop_of_input fault → exit ≡ exit_of stop → IsUntouched fed → IsUntouched out → Reports (fault_line (codes "leasekeep") stop) errors →
+    FileIsRead known MOST_INVENTORY (Err fault) → stop ≡ stop_of_input fault → exit ≡ exit_of stop → IsUntouched fed → IsUntouched out → Reports (fault_line (codes "leasekeep") stop) errors →
     WatchFrom known port width old exit fed out errors old
 unread_file known port width old exit fed out errors fault stop read is ends unread unwritten told =
     inr (

@@ -6,12 +6,12 @@ use Rattle.keep_inventory.specs.Lookup.{lookup_fault, told_terms}
 use Rattle.keep_inventory.specs.Terms.{step_of}
 use Rattle.keep_inventory.specs.declared.lookup.LookupFault.{LookupFault}
 use Rattle.keep_inventory.specs.declared.lookup.LookupFault.TheVariants.{OtherKind, OtherTree, NoStep}
-use Rattle.keep_lanes.specs.Heard.{looked_up}
+use Rattle.keep_lanes.specs.Heard.{looked_up_by_answer}
 use Rattle.keep_lanes.specs.Losses.{Answer}
 use Rattle.keep_lanes.specs.declared.heard.Heard.{Heard}
 use Rattle.keep_lanes.specs.declared.heard.Heard.TheVariants as heard
 use Rattle.keep_moment.specs.declared.moment.TheConstants.{LAST}
-use Rattle.keep_alike.specs.Alike.{IsKept}
+use Rattle.keep_alike.specs.Alike.{KeepsSupplied}
 use Rattle.keep_alike.proofs.Kept.{kept_with}
 use Rattle.keep_tree.specs.declared.entry.Kind.{Kind}
 use Rattle.keep_tree.specs.declared.entry.Kind.TheVariants.{Lease}
@@ -35,10 +35,10 @@ use Rattle.watch_machine.specs.History.{Turn}
 use Rattle.watch_machine.specs.Looked.{by_terms, looked as looked_at, step_told}
 use Rattle.watch_machine.specs.Press.{pressed}
 use Rattle.watch_machine.specs.Refusal.{refusal, request_out}
-use Rattle.watch_machine.specs.Renewed.{renewed}
-use Rattle.watch_machine.specs.Round.{asked_by}
+use Rattle.watch_machine.specs.Renewed.{state_renewed}
+use Rattle.watch_machine.specs.Round.{asked_by_round}
 use Rattle.watch_machine.specs.Settling.{is_real}
-use Rattle.watch_machine.specs.State.{State, entry_of}
+use Rattle.watch_machine.specs.State.{WatchState, entry_of}
 use Rattle.watch_machine.specs.Step.{Step, StepCommand, StepLooked, StepRenewed, readied}
 use Rattle.watch_machine.proofs.Cases.{if_both}
 use Rattle.watch_machine.proofs.Within.{asked_none, out_entry, within_none}
@@ -48,10 +48,10 @@ use Rattle.keep_asking.proofs.Sound.{readied_left}
 -- ---- an event
 
 -- what an answer says of the broker leaves the forest
-replied_forest : (s : State) (r : Out) (reply : Reply) → (replied s r reply).forest ≡ s.forest
+replied_forest : (s : WatchState) (r : Out) (reply : Reply) → (replied s r reply).forest ≡ s.forest
 replied_forest s r reply =
     let free = lane_freed s r in
-    let P : State → Type 0 = λ t. t.forest ≡ s.forest in
+    let P : WatchState → Type 0 = λ t. t.forest ≡ s.forest in
     if_both P (is_real reply) (answers_all free) (if r.heard then free else silent free) (if_both P s.presence.away _ _ refl refl)
     (if_both P r.heard free (silent free) refl (if_both P s.presence.away _ _ refl refl))
 
@@ -69,7 +69,7 @@ module _ (g : Forest) where
   not_orphaned k true o lease = ap (λ x. cond (not (is_lease x)) None o) lease
   not_orphaned k false o lease = refl
 
-  looked_kept : (s : State) (r : Out) (reply : Reply) (terms : Terms) → r.entry < length s.forest.entries → ((entry_at g.entries r.entry).kind ≡ Lease → terms.step ≡ None) → IsKept g s.forest → IsKept g (looked_at s r reply terms).forest
+  looked_kept : (s : WatchState) (r : Out) (reply : Reply) (terms : Terms) → r.entry < length s.forest.entries → ((entry_at g.entries r.entry).kind ≡ Lease → terms.step ≡ None) → KeepsSupplied g s.forest → KeepsSupplied g (looked_at s r reply terms).forest
   unfolding by_terms
   looked_kept s r (Told seconds renewable date) terms within none kept =
       let old = entry_at s.forest.entries r.entry in
@@ -80,38 +80,38 @@ module _ (g : Forest) where
   looked_kept s r Busy terms within none kept = kept
   looked_kept s r Lost terms within none kept = kept
 
-  answered_kept : (old new : State) (i : ℕ) (found : Option Out) (reply : Reply) (terms : Terms) (output : Output) → request_out old.out i Look ≡ found → StepLooked old found reply terms output new → i < length old.forest.entries →
-      ((entry_at g.entries i).kind ≡ Lease → terms.step ≡ None) → IsKept g old.forest → IsKept g new.forest
+  answered_kept : (old new : WatchState) (i : ℕ) (found : Option Out) (reply : Reply) (terms : Terms) (output : Output) → request_out old.out i Look ≡ found → StepLooked old found reply terms output new → i < length old.forest.entries →
+      ((entry_at g.entries i).kind ≡ Lease → terms.step ≡ None) → KeepsSupplied g old.forest → KeepsSupplied g new.forest
   answered_kept old new i None reply terms output is step within none kept = absurd step
   answered_kept old new i (Some q) reply terms output is step within none kept =
       let s = noted old q reply in
       let own : q.entry ≡ i = out_entry old.out i Look q is in
       let left = looked_kept s q reply terms (subst (λ n. n < length old.forest.entries) (sym own) within) (subst (λ n. (entry_at g.entries n).kind ≡ Lease → terms.step ≡ None) (sym own) none) kept in
-      subst (λ (x : State). IsKept g x.forest) (sym step.1) (subst (IsKept g) (sym (replied_forest (looked_at s q reply terms) q reply)) left)
+      subst (λ (x : WatchState). KeepsSupplied g x.forest) (sym step.1) (subst (KeepsSupplied g) (sym (replied_forest (looked_at s q reply terms) q reply)) left)
 
-  granted_kept : (old new : State) (found : Option Out) (reply : Reply) (output : Output) → StepRenewed old found reply output new → IsKept g old.forest → IsKept g new.forest
+  granted_kept : (old new : WatchState) (found : Option Out) (reply : Reply) (output : Output) → StepRenewed old found reply output new → KeepsSupplied g old.forest → KeepsSupplied g new.forest
   granted_kept old new None reply output step kept = absurd step
   granted_kept old new (Some q) reply output step kept =
-      subst (λ (x : State). IsKept g x.forest) (sym step.1) (subst (IsKept g) (sym (replied_forest (renewed (noted old q reply) q reply) q reply)) kept)
+      subst (λ (x : WatchState). KeepsSupplied g x.forest) (sym step.1) (subst (KeepsSupplied g) (sym (replied_forest (state_renewed (noted old q reply) q reply) q reply)) kept)
 
-  sent_kept : (mid new : State) (command : Command) → StepCommand mid command new → IsKept g mid.forest → IsKept g new.forest
-  sent_kept mid new (Go requests until) h kept = subst (λ (x : State). IsKept g x.forest) (sym h.0.1) kept
+  sent_kept : (mid new : WatchState) (command : Command) → StepCommand mid command new → KeepsSupplied g mid.forest → KeepsSupplied g new.forest
+  sent_kept mid new (Go requests until) h kept = subst (λ (x : WatchState). KeepsSupplied g x.forest) (sym h.0.1) kept
   sent_kept mid new Taken h kept = absurd h
 
-  stepped : (old new : State) (event : Event) (output : Output) → refusal old event ≡ None → Step old event output new → TellsNoStep event → IsKept g old.forest → IsKept g new.forest
+  stepped : (old new : WatchState) (event : Event) (output : Output) → refusal old event ≡ None → Step old event output new → TellsNoStep event → KeepsSupplied g old.forest → KeepsSupplied g new.forest
   unfolding refusal
   stepped old new (Clock wall elapsed) output free step none kept =
-      let mid = pressed (readied old wall elapsed) (asked_by step.round) in
-      sent_kept mid new output.command step.command (subst (IsKept g) (sym (readied_left old wall elapsed).1.1) kept)
+      let mid = pressed (readied old wall elapsed) (asked_by_round step.round) in
+      sent_kept mid new output.command step.command (subst (KeepsSupplied g) (sym (readied_left old wall elapsed).1.1) kept)
   stepped old new (Looked i reply terms) output free step none kept = answered_kept old new i (request_out old.out i Look) reply terms output refl step (asked_none old i Look free) none kept
   stepped old new (Renewed i reply) output free step none kept = granted_kept old new (request_out old.out i Renew) reply output step kept
   stepped old new (Need i until) output free step none kept =
       let within : i < length old.forest.entries = within_none old i None free in
-      subst (λ (x : State). IsKept g x.forest) (sym step.1) (kept_with g old.forest i (record (entry_of old i) { need = min LAST until }) within kept refl (λ lease. refl) (λ lease. refl))
-  stepped old new Begin output free step none kept = subst (λ (x : State). IsKept g x.forest) (sym step.1) kept
-  stepped old new (Known i end renewable) output free step none kept = subst (λ (x : State). IsKept g x.forest) (sym step.1) kept
+      subst (λ (x : WatchState). KeepsSupplied g x.forest) (sym step.1) (kept_with g old.forest i (record (entry_of old i) { need = min LAST until }) within kept refl (λ lease. refl) (λ lease. refl))
+  stepped old new Begin output free step none kept = subst (λ (x : WatchState). KeepsSupplied g x.forest) (sym step.1) kept
+  stepped old new (Known i end renewable) output free step none kept = subst (λ (x : WatchState). KeepsSupplied g x.forest) (sym step.1) kept
 
-  pub turn_kept : (old new : State) (event : Event) (output : Output) → Turn old event (Ok output) new → TellsNoStep event → IsKept g old.forest → IsKept g new.forest
+  pub turn_kept : (old new : WatchState) (event : Event) (output : Output) → Turn old event (Ok output) new → TellsNoStep event → KeepsSupplied g old.forest → KeepsSupplied g new.forest
   turn_kept old new event output turn none kept = stepped old new event output turn.0 turn.1 none kept
 
 -- ---- what is told of an answer
@@ -135,5 +135,5 @@ heard_step s i heard.Busy lease = refl
 heard_step s i (heard.Lost why) lease = refl
 
 pub answer_step : (s : Inventory) (operation : Operation) (i : ℕ) (a : Answer) → TellsNoStep s.forest (event_as operation i (said_to s operation i a).reply (said_to s operation i a).terms)
-answer_step s Look i a = heard_step s i (looked_up (entry_at s.forest.entries i).kind a)
+answer_step s Look i a = heard_step s i (looked_up_by_answer (entry_at s.forest.entries i).kind a)
 answer_step s Renew i a = tt

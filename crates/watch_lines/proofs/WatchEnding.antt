@@ -16,10 +16,10 @@ use Rattle.keep_report.specs.FaultLine.{fault_line}
 use Rattle.keep_report.specs.Sent.{IsUntouched}
 use Rattle.keep_report.specs.Told.{Reports}
 use Rattle.keep_asking.specs.Sending.{Lanes}
-use Rattle.watch_lines.specs.Clocked.{Side, side}
-use Rattle.watch_lines.specs.Listening.{Listens}
-use Rattle.watch_lines.specs.Watching.{Watching, fresh}
-use Rattle.watch_lines.specs.WatchRun.{HasListened, IsUnbegun, IsWatchStop, WatchEnds, WatchRun, WatchesTo}
+use Rattle.watch_lines.specs.Clocked.{WatchingSide, watching_side}
+use Rattle.watch_lines.specs.Listening.{ListensToLines}
+use Rattle.watch_lines.specs.Watching.{Watching, fresh_watching}
+use Rattle.watch_lines.specs.WatchRun.{IsUnbegun, IsWatchStop, WatchEnds, WatchHasListened, WatchRun, WatchesTo}
 
 by_stop : (bytes : List ℕ) (stop : Stop) (errors : Change) → IsWatchStop bytes stop → Reports (fault_line (codes "leasekeep") stop) errors → WatchEnds bytes (exit_of stop) errors
 by_stop bytes (stops.Inventory fault) errors is told = (stops.Inventory fault, refl, is, told)
@@ -52,13 +52,13 @@ module _ (port : ℕ) (bytes : List ℕ) (width : ℕ) (old : Lanes) (fed : Chan
 
   -- it listened
   pub listened_watches :
-      (inventory : Inventory) (watching : Watching) (final : Side) (result : Result (Unit {0}) Stop) → inventory_for_good bytes ≡ Ok inventory → watching ≡ fresh inventory width → Listens port (side watching old) result final fed out →
+      (inventory : Inventory) (watching : Watching) (final : WatchingSide) (result : Result (Unit {0}) Stop) → inventory_for_good bytes ≡ Ok inventory → watching ≡ fresh_watching inventory width → ListensToLines port (watching_side watching old) result final fed out →
       WatchesTo port bytes width old result fed out final.lanes
-  listened_watches inventory watching final result read is listens = by_result result (subst (λ (w : Watching). Listens port (side w old) result final fed out) is listens) where
-    has : (u : Result (Unit {0}) Stop) → Listens port (side (fresh inventory width) old) u final fed out → HasListened port bytes width old u fed out final.lanes
+  listened_watches inventory watching final result read is listens = by_result result (subst (λ (w : Watching). ListensToLines port (watching_side w old) result final fed out) is listens) where
+    has : (u : Result (Unit {0}) Stop) → ListensToLines port (watching_side (fresh_watching inventory width) old) u final fed out → WatchHasListened port bytes width old u fed out final.lanes
     has u h = record { inventory = inventory; is = read; final = final; listened = h; lanes = refl }
 
-    by_result : (u : Result (Unit {0}) Stop) → Listens port (side (fresh inventory width) old) u final fed out → WatchesTo port bytes width old u fed out final.lanes
+    by_result : (u : Result (Unit {0}) Stop) → ListensToLines port (watching_side (fresh_watching inventory width) old) u final fed out → WatchesTo port bytes width old u fed out final.lanes
     by_result (Ok u) h = has (Ok u) h
     by_result (Err stops.Memory) h = inr (has (Err stops.Memory) h)
     by_result (Err stops.Write) h = has (Err stops.Write) h

@@ -4,7 +4,7 @@ use Rattle.std.specs.Prelude.{◌≡◌, ℕ, ◌+◌, ◌-◌, ◌*◌, Bool, i
 use Rattle.keep_lanes.specs.declared.lanes.Answered.{Answered}
 use Rattle.keep_inventory.specs.Inventories.{Inventory}
 use Rattle.keep_lanes.specs.declared.loss.Loss.{Loss}
-use Rattle.keep_lines.specs.Text.{name_of}
+use Rattle.keep_lines.specs.Text.{entry_line, name_of}
 use Rattle.watch_machine.specs.declared.event.Operation.{Operation}
 use Rattle.watch_machine.specs.declared.event.Operation.TheVariants.{Look, Renew}
 use Rattle.watch_machine.specs.declared.event.Reply.{Reply}
@@ -13,8 +13,8 @@ use Rattle.watch_machine.specs.declared.track.End.{End}
 use Rattle.watch_machine.specs.declared.track.End.TheVariants.{Unknown, At, Never}
 use Rattle.watch_machine.specs.declared.notes.Notes.{Notes}
 use Rattle.watch_machine.specs.Outlook.{broker_moment, broker_now}
-use Rattle.watch_machine.specs.State.{State, second, track_at}
-use Rattle.watch_lines.specs.Texts.{end_line, entry_line, gone_line, link_line, lost_line, never_line, orphan_line, refused_line, told_line, top_line}
+use Rattle.watch_machine.specs.State.{WatchState, second, track_at}
+use Rattle.watch_lines.specs.Texts.{end_line, gone_line, link_line, lost_line, never_line, orphan_line, refused_line, told_line, top_line}
 use Rattle.keep_asking.specs.Handing.{IsHandedIn}
 use Rattle.keep_asking.specs.declared.handing.HandedIn.{HandedIn}
 use Rattle.keep_asking.specs.declared.told.Said.{Said}
@@ -22,37 +22,37 @@ use Rattle.keep_asking.specs.declared.told.Said.{Said}
 -- ---- the lines
 
 -- a number as it is written: no greater than 2^64 - 1
-abbrev pub cut : ℕ → ℕ
-cut n = min n 18446744073709551615
+abbrev pub number_to_write : ℕ → ℕ
+number_to_write n = min n 18446744073709551615
 
 -- the moment by the broker's clock at which a reply with that date was told
-abbrev pub told_at : State → Option ℕ → ℕ
+abbrev pub told_at : WatchState → Option ℕ → ℕ
 told_at m date = unwrap_or date (broker_now m)
 
 -- an end in whole seconds of the machine's clock; where it has none, so many seconds from now
-abbrev pub end_or : State → ℕ → End → ℕ
-end_or m seconds Unknown = cut (second m + seconds)
+abbrev pub end_or : WatchState → ℕ → End → ℕ
+end_or m seconds Unknown = number_to_write (second m + seconds)
 end_or m seconds (At end) = end
-end_or m seconds Never = cut (second m + seconds)
+end_or m seconds Never = number_to_write (second m + seconds)
 
 -- the believed end in milliseconds of the clock that is handed in
-abbrev pub end_here : State → ℕ → ℕ → ℕ
-end_here m i seconds = cut (end_or m seconds (track_at m i).end * 1000) - m.clocks.phase
+abbrev pub end_here : WatchState → ℕ → ℕ → ℕ
+end_here m i seconds = number_to_write (end_or m seconds (track_at m i).end * 1000) - m.clocks.phase
 
 -- what was told, in the state after it
-abbrev pub told_as : Operation → List ℕ → State → ℕ → Option ℕ → List ℕ
-told_as Look name m seconds date = entry_line name (cut (told_at m date + seconds))
-told_as Renew name m seconds date = told_line name seconds
+abbrev pub told_lines : Operation → List ℕ → WatchState → ℕ → Option ℕ → List ℕ
+told_lines Look name m seconds date = entry_line name (number_to_write (told_at m date + seconds))
+told_lines Renew name m seconds date = told_line name seconds
 
 -- what came of a request of an entry of that name, in the state after it
-abbrev pub lines_of : List ℕ → State → Operation → ℕ → Loss → Reply → List ℕ
-lines_of name m operation i why (Told seconds renewable date) = told_as operation name m seconds date ++ end_line name (end_here m i seconds) renewable
-lines_of name m operation i why (Refused status date) = refused_line name status
-lines_of name m operation i why Busy = lost_line name why
-lines_of name m operation i why Lost = lost_line name why
+abbrev pub lines_of_reply : List ℕ → WatchState → Operation → ℕ → Loss → Reply → List ℕ
+lines_of_reply name m operation i why (Told seconds renewable date) = told_lines operation name m seconds date ++ end_line name (end_here m i seconds) renewable
+lines_of_reply name m operation i why (Refused status date) = refused_line name status
+lines_of_reply name m operation i why Busy = lost_line name why
+lines_of_reply name m operation i why Lost = lost_line name why
 
-unfoldable pub reply_lines : List ℕ → State → Operation → ℕ → Said → List ℕ
-reply_lines name m operation i said = lines_of name m operation i said.loss said.reply
+unfoldable pub said_lines : List ℕ → WatchState → Operation → ℕ → Said → List ℕ
+said_lines name m operation i said = lines_of_reply name m operation i said.loss said.reply
 
 -- the line of something, where there is something
 abbrev pub if_some : {T : Type 0} → (T → List ℕ) → Option T → List ℕ
@@ -63,7 +63,7 @@ abbrev pub if_so : Bool → List ℕ → List ℕ
 if_so is text = if is then text else []
 
 -- what is to be noted of it, in the state after it
-unfoldable pub noted_lines : List ℕ → State → Notes → List ℕ
+unfoldable pub noted_lines : List ℕ → WatchState → Notes → List ℕ
 noted_lines name m notes =
     if_some (gone_line name) notes.gone ++ (if_some (λ end. top_line name (broker_moment m end)) notes.top
     ++ (if_so notes.orphan (orphan_line name) ++ (if_so notes.endless (never_line name) ++ if_some link_line notes.link)))
@@ -71,17 +71,17 @@ noted_lines name m notes =
 -- ---- the turns
 
 -- the answer is handed in to the machine, and these are its lines
-pub record IsTaken (s : Inventory) (a : Answered) (old new : State) (text : List ℕ) : Type 0 where
+pub record AnswerIsTakenAndTold (s : Inventory) (a : Answered) (old new : WatchState) (text : List ℕ) : Type 0 where
   pub handed : HandedIn
   pub is : IsHandedIn s a old handed new
   pub text_is :
-      text ≡ reply_lines (name_of s.forest a.index) new handed.request.operation a.index handed.said ++ noted_lines (name_of s.forest a.index) new handed.output.notes
+      text ≡ said_lines (name_of s.forest a.index) new handed.request.operation a.index handed.said ++ noted_lines (name_of s.forest a.index) new handed.output.notes
 
 -- answers are taken, one after another
-abbrev pub AreTaken : Inventory → List Answered → State → State → List ℕ → Type 0
-AreTaken s [] old new text = (new ≡ old) × (text ≡ [])
-AreTaken s (a ∷ rest) old new text =
-    (mid : State) × ((first : List ℕ) × ((later : List ℕ) × (IsTaken s a old mid first × (AreTaken s rest mid new later × (text ≡ first ++ later)))))
+abbrev pub AnswersAreTakenAndTold : Inventory → List Answered → WatchState → WatchState → List ℕ → Type 0
+AnswersAreTakenAndTold s [] old new text = (new ≡ old) × (text ≡ [])
+AnswersAreTakenAndTold s (a ∷ rest) old new text =
+    (mid : WatchState) × ((first : List ℕ) × ((later : List ℕ) × (AnswerIsTakenAndTold s a old mid first × (AnswersAreTakenAndTold s rest mid new later × (text ≡ first ++ later)))))
 
 -- after a text stands one of which this holds, and nothing else
 abbrev pub Appended : List ℕ → List ℕ → (List ℕ → Type 0) → Type 0

@@ -5,7 +5,7 @@ use Rattle.watch_machine.specs.declared.command.Output.{Output}
 use Rattle.watch_machine.specs.declared.event.Event.{Event}
 use Rattle.watch_machine.specs.declared.event.Event.TheVariants as events
 use Rattle.watch_machine.specs.History.{Turn}
-use Rattle.watch_lines.specs.Clocked.{IsClocked, Side}
+use Rattle.watch_lines.specs.Clocked.{IsClocked, WatchingSide}
 use Rattle.watch_lines.specs.Lines.{line_in}
 use Rattle.watch_lines.specs.Texts.{after_clock_line, clock_line, planned_line, unknown_name_line}
 use Rattle.watch_lines.specs.Watching.{Watching}
@@ -13,31 +13,31 @@ use Rattle.watch_lines.specs.declared.line.Line.{Line}
 use Rattle.watch_lines.specs.declared.line.Line.TheVariants.{Clock, Need, Begin, Known, Unknown}
 
 -- one turn of the machine takes the event, and nothing else changes
-pub record IsTurned (old : Watching) (event : Event) (new : Watching) : Type 0 where
+pub record WatchIsTurned (old : Watching) (event : Event) (new : Watching) : Type 0 where
   pub output : Output
   pub turn : Turn old.machine event (Ok output) new.machine
   pub rest : new ≡ record old { machine = new.machine }
 
 -- an end that an earlier watch told is taken over before the first clock, rounded down to a whole second
-abbrev pub IsKnown : Bool → Watching → ℕ → ℕ → Bool → Watching → List ℕ → Type 0
-IsKnown true old i end renewable new text = (new ≡ old) × (text ≡ after_clock_line ++ clock_line)
-IsKnown false old i end renewable new text = IsTurned old (events.Known i (end / 1000) renewable) new × (text ≡ clock_line)
+abbrev pub EndIsTakenOver : Bool → Watching → ℕ → ℕ → Bool → Watching → List ℕ → Type 0
+EndIsTakenOver true old i end renewable new text = (new ≡ old) × (text ≡ after_clock_line ++ clock_line)
+EndIsTakenOver false old i end renewable new text = WatchIsTurned old (events.Known i (end / 1000) renewable) new × (text ≡ clock_line)
 
 -- what a line says that is no clock is done, and this text answers it
-abbrev pub IsTold : Watching → Line → Watching → List ℕ → Type 0
-IsTold old (Clock wall elapsed) new text = ⊥
-IsTold old (Need i until) new text = IsTurned old (events.Need i until) new × (text ≡ planned_line ++ clock_line)
-IsTold old Begin new text = IsTurned old events.Begin new × (text ≡ clock_line)
-IsTold old (Known i end renewable) new text = IsKnown (is_some old.machine.begun) old i end renewable new text
-IsTold old Unknown new text = (new ≡ old) × (text ≡ unknown_name_line ++ clock_line)
+abbrev pub LineIsAnswered : Watching → Line → Watching → List ℕ → Type 0
+LineIsAnswered old (Clock wall elapsed) new text = ⊥
+LineIsAnswered old (Need i until) new text = WatchIsTurned old (events.Need i until) new × (text ≡ planned_line ++ clock_line)
+LineIsAnswered old Begin new text = WatchIsTurned old events.Begin new × (text ≡ clock_line)
+LineIsAnswered old (Known i end renewable) new text = EndIsTakenOver (is_some old.machine.begun) old i end renewable new text
+LineIsAnswered old Unknown new text = (new ≡ old) × (text ≡ unknown_name_line ++ clock_line)
 
 -- what a line says is done, and this text answers it. A clock alone makes requests, which name this port
-abbrev pub IsHeard : ℕ → Side → Line → Side → List ℕ → Type 0
-IsHeard port old (Clock wall elapsed) new text = IsClocked port old wall elapsed new text
-IsHeard port old line new text = IsTold old.watching line new.watching text × (new.lanes ≡ old.lanes)
+abbrev pub LineIsHeard : ℕ → WatchingSide → Line → WatchingSide → List ℕ → Type 0
+LineIsHeard port old (Clock wall elapsed) new text = IsClocked port old wall elapsed new text
+LineIsHeard port old line new text = LineIsAnswered old.watching line new.watching text × (new.lanes ≡ old.lanes)
 
 -- a line of the input, without its line feed, is heard
-pub record IsLineHeard (port : ℕ) (old : Side) (line : List ℕ) (new : Side) (text : List ℕ) : Type 0 where
+pub record InputLineIsHeard (port : ℕ) (old : WatchingSide) (line : List ℕ) (new : WatchingSide) (text : List ℕ) : Type 0 where
   pub says : Line
   pub is : line_in old.watching.inventory.forest line ≡ Some says
-  pub heard : IsHeard port old says new text
+  pub heard : LineIsHeard port old says new text

@@ -26,8 +26,8 @@ of_heard (heard.Need i until) = Some (Need i until)
 of_heard heard.Unknown = Some Unknown
 of_heard (heard.Tick t) = None
 
-abbrev pub need_of : Option Heard → Option Line
-need_of said = option_and_then of_heard said
+abbrev pub line_of_heard : Option Heard → Option Line
+line_of_heard said = option_and_then of_heard said
 
 -- `begin`
 abbrev pub begin_in : List ℕ → Option Line
@@ -37,28 +37,28 @@ begin_in word = if bytes_eq word (codes "begin") then Some Begin else None
 abbrev pub flag_in : List ℕ → Option Bool
 flag_in word = if bytes_eq word (codes "yes") then Some true else (if bytes_eq word (codes "no") then Some false else None)
 
-abbrev pub known_of : Option ℕ → ℕ → Bool → Line
-known_of None end renewable = Unknown
-known_of (Some i) end renewable = Known i end renewable
+abbrev pub known_line : Option ℕ → ℕ → Bool → Line
+known_line None end renewable = Unknown
+known_line (Some i) end renewable = Known i end renewable
 
 abbrev pub known_in : Forest → List ℕ → List ℕ → List ℕ → Option Line
 known_in g name end flag =
-    if length name == 0 then None else option_and_then (λ n. option_map (known_of (index_named g.entries name) n) (flag_in flag)) (number_in end)
+    if length name == 0 then None else option_and_then (λ n. option_map (known_line (index_named g.entries name) n) (flag_in flag)) (number_in end)
 
-abbrev pub words_in : Forest → List (List ℕ) → Option Line
-words_in g (word ∷ []) = begin_in word
-words_in g (word ∷ one ∷ other ∷ []) = if bytes_eq word (codes "clock") then clock_in one other else need_of (need_in g word one other)
-words_in g (word ∷ name ∷ end ∷ flag ∷ []) = if bytes_eq word (codes "known") then known_in g name end flag else None
-words_in g ws = None
+abbrev pub line_in_words : Forest → List (List ℕ) → Option Line
+line_in_words g (word ∷ []) = begin_in word
+line_in_words g (word ∷ one ∷ other ∷ []) = if bytes_eq word (codes "clock") then clock_in one other else line_of_heard (need_in g word one other)
+line_in_words g (word ∷ name ∷ end ∷ flag ∷ []) = if bytes_eq word (codes "known") then known_in g name end flag else None
+line_in_words g ws = None
 
 -- what a line without its line feed says, which has 256 bytes at most with it; none where it is none of the four
 unfoldable pub line_in : Forest → List ℕ → Option Line
-line_in g line = if nat_lt (length line) MOST_LINE then words_in g (words line) else None
+line_in g line = if nat_lt (length line) MOST_LINE then line_in_words g (words line) else None
 
 -- the entry that a line speaks of, if it does, is among so many
-abbrev pub IsWithin : ℕ → Line → Type 0
-IsWithin n (Clock wall elapsed) = Unit {0}
-IsWithin n (Need entry until) = entry < n
-IsWithin n Begin = Unit {0}
-IsWithin n (Known entry end renewable) = entry < n
-IsWithin n Unknown = Unit {0}
+abbrev pub IsLineWithin : ℕ → Line → Type 0
+IsLineWithin n (Clock wall elapsed) = Unit {0}
+IsLineWithin n (Need entry until) = entry < n
+IsLineWithin n Begin = Unit {0}
+IsLineWithin n (Known entry end renewable) = entry < n
+IsLineWithin n Unknown = Unit {0}

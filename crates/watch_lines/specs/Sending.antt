@@ -1,8 +1,7 @@
 -- Sending: whom is asked what, and at which moment.
 -- Source: this project's own.
-use Rattle.std.specs.Prelude.{ℕ, ◌/◌, List, ◌++◌, codes, filter, map, min}
+use Rattle.std.specs.Prelude.{ℕ, List, ◌++◌, codes, filter, map}
 use Rattle.keep_lines.specs.Text.{name_of}
-use Rattle.keep_moment.specs.declared.moment.TheConstants.{LAST}
 use Rattle.keep_tree.specs.Forest.{Forest}
 use Rattle.watch_machine.specs.declared.command.Request.{Request}
 use Rattle.watch_machine.specs.declared.event.Operation.{Operation}
@@ -16,7 +15,3 @@ asked_names g operation requests = map (λ r. name_of g r.entry) (filter (λ r. 
 
 unfoldable pub asked_lines : Forest → List Request → List ℕ
 asked_lines g requests = asked_line (codes "look") (asked_names g Look requests) ++ asked_line (codes "renew") (asked_names g Renew requests)
-
--- the second that a wall clock shows, no later than the last moment
-abbrev pub moment_of : ℕ → ℕ
-moment_of wall = min (wall / 1000) LAST

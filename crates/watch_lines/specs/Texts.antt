@@ -39,9 +39,6 @@ no_next_line = line (codes "next" ∷ codes "none" ∷ [])
 
 -- ---- an answer
 
-abbrev pub entry_line : List ℕ → ℕ → List ℕ
-entry_line name end = line (codes "entry" ∷ name ∷ decimal end ∷ [])
-
 abbrev pub told_line : List ℕ → ℕ → List ℕ
 told_line name seconds = line (codes "told" ∷ name ∷ decimal seconds ∷ [])
 
@@ -54,15 +51,15 @@ end_line name end renewable = line (codes "end" ∷ name ∷ decimal end ∷ yes
 abbrev pub refused_line : List ℕ → ℕ → List ℕ
 refused_line name status = line (codes "refused" ∷ name ∷ decimal status ∷ [])
 
-abbrev pub loss_word : Loss → List ℕ
-loss_word losses.Connect = codes "connect"
-loss_word losses.Timeout = codes "timeout"
-loss_word losses.Closed = codes "closed"
-loss_word losses.Reply = codes "reply"
-loss_word (losses.Status status) = decimal status
+abbrev pub loss_word_text : Loss → List ℕ
+loss_word_text losses.Connect = codes "connect"
+loss_word_text losses.Timeout = codes "timeout"
+loss_word_text losses.Closed = codes "closed"
+loss_word_text losses.Reply = codes "reply"
+loss_word_text (losses.Status status) = decimal status
 
 abbrev pub lost_line : List ℕ → Loss → List ℕ
-lost_line name why = line (codes "lost" ∷ name ∷ loss_word why ∷ [])
+lost_line name why = line (codes "lost" ∷ name ∷ loss_word_text why ∷ [])
 
 abbrev pub gone_line : List ℕ → ℕ → List ℕ
 gone_line name status = line (codes "gone" ∷ name ∷ decimal status ∷ [])

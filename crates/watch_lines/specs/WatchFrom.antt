@@ -3,7 +3,7 @@
 use Rattle.std.specs.Prelude.{◌≡◌, ◌⊎◌, ℕ, List, Option, Ok, Err, codes}
 use Rattle.keep_device.specs.Seen.{Change}
 use Rattle.keep_device.specs.declared.fault.InputFault.{InputFault}
-use Rattle.keep_files.specs.Files.{IsRead}
+use Rattle.keep_files.specs.Files.{FileIsRead}
 use Rattle.keep_inventory.specs.declared.limits.TheConstants.{MOST_INVENTORY}
 use Rattle.keep_report.specs.declared.exit.Exit.{Exit}
 use Rattle.keep_report.specs.Exits.{exit_of, stop_of_input}
@@ -20,5 +20,5 @@ WatchOver bytes port width old exit fed out errors new = WatchEnds bytes exit er
 -- line was read, and nothing written or asked
 abbrev pub WatchFrom : Option (List ℕ) → ℕ → ℕ → Lanes → Exit → Change → Change → Change → Lanes → Type 0
 WatchFrom known port width old exit fed out errors new =
-    ((bytes : List ℕ) × IsRead known MOST_INVENTORY (Ok bytes) × WatchOver bytes port width old exit fed out errors new)
-    ⊎ ((fault : InputFault) × IsRead known MOST_INVENTORY (Err fault) × (exit ≡ exit_of (stop_of_input fault)) × IsUnbegun old fed out new × Reports (fault_line (codes "leasekeep") (stop_of_input fault)) errors)
+    ((bytes : List ℕ) × FileIsRead known MOST_INVENTORY (Ok bytes) × WatchOver bytes port width old exit fed out errors new)
+    ⊎ ((fault : InputFault) × FileIsRead known MOST_INVENTORY (Err fault) × (exit ≡ exit_of (stop_of_input fault)) × IsUnbegun old fed out new × Reports (fault_line (codes "leasekeep") (stop_of_input fault)) errors)

@@ -12,10 +12,10 @@ use Rattle.keep_report.specs.Exits.{exit_of}
 use Rattle.keep_report.specs.FaultLine.{fault_line}
 use Rattle.keep_report.specs.Sent.{IsUntouched}
 use Rattle.keep_report.specs.Told.{Reports}
-use Rattle.watch_lines.specs.Clocked.{Side, side}
-use Rattle.watch_lines.specs.Listening.{Listens}
+use Rattle.watch_lines.specs.Clocked.{WatchingSide, watching_side}
+use Rattle.watch_lines.specs.Listening.{ListensToLines}
 use Rattle.keep_asking.specs.Sending.{Lanes}
-use Rattle.watch_lines.specs.Watching.{fresh}
+use Rattle.watch_lines.specs.Watching.{fresh_watching}
 
 -- why lines are answered no more: a line is none, a read or a write failed, or memory was wanting
 abbrev pub IsListenStop : Stop → Type 0
@@ -38,11 +38,11 @@ WatchEnds bytes exit errors = (stop : Stop) × (exit ≡ exit_of stop) × IsWatc
 -- ---- what it does
 
 -- a watch of that width over the inventory has listened; and the lanes are as that left them
-pub record HasListened (port : ℕ) (bytes : List ℕ) (width : ℕ) (old : Lanes) (result : Result (Unit {0}) Stop) (fed : Change) (out : Change) (new : Lanes) : Type 0 where
+pub record WatchHasListened (port : ℕ) (bytes : List ℕ) (width : ℕ) (old : Lanes) (result : Result (Unit {0}) Stop) (fed : Change) (out : Change) (new : Lanes) : Type 0 where
   pub inventory : Inventory
   pub is : inventory_for_good bytes ≡ Ok inventory
-  pub final : Side
-  pub listened : Listens port (side (fresh inventory width) old) result final fed out
+  pub final : WatchingSide
+  pub listened : ListensToLines port (watching_side (fresh_watching inventory width) old) result final fed out
   pub lanes : new ≡ final.lanes
 
 -- no line is read, and nothing written or asked
@@ -54,8 +54,8 @@ pub record IsUnbegun (old : Lanes) (fed : Change) (out : Change) (new : Lanes) :
 -- how the watch over the bytes of an inventory goes
 abbrev pub WatchesTo : ℕ → List ℕ → ℕ → Lanes → Result (Unit {0}) Stop → Change → Change → Lanes → Type 0
 WatchesTo port bytes width old (Err (stops.Inventory fault)) fed out new = (inventory_for_good bytes ≡ Err fault) × IsUnbegun old fed out new
-WatchesTo port bytes width old (Err stops.Memory) fed out new = IsUnbegun old fed out new ⊎ HasListened port bytes width old (Err stops.Memory) fed out new
-WatchesTo port bytes width old result fed out new = HasListened port bytes width old result fed out new
+WatchesTo port bytes width old (Err stops.Memory) fed out new = IsUnbegun old fed out new ⊎ WatchHasListened port bytes width old (Err stops.Memory) fed out new
+WatchesTo port bytes width old result fed out new = WatchHasListened port bytes width old result fed out new
 
 -- `watch` over the bytes of an inventory, by exit: how the watch goes, and what it tells of its end
 abbrev pub WatchRun : ℕ → List ℕ → ℕ → Lanes → Exit → Change → Change → Change → Lanes → Type 0

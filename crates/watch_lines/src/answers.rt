@@ -2,8 +2,8 @@
 ghost use Rattle.std.specs.Prelude.{◌≡◌, ◌≢◌, ◌++◌, ◌<◌, IfOk, None, OnOk, length};
 ghost use Rattle.keep_lines.specs.Text.{name_of};
 ghost use Rattle.keep_asking.specs.Handing.{IsHandedIn, out_of};
-ghost use Rattle.watch_lines.specs.Answers.{Appended, AreTaken, IsTaken, end_here, noted_lines, reply_lines, told_as, told_at};
-ghost use Rattle.keep_asking.specs.InStep.{AreOut, IsSound};
+ghost use Rattle.watch_lines.specs.Answers.{AnswerIsTakenAndTold, AnswersAreTakenAndTold, Appended, end_here, noted_lines, said_lines, told_at, told_lines};
+ghost use Rattle.keep_asking.specs.InStep.{AreOut, MachineIsSound};
 
 use crate::texts::{
     push_end, push_entry, push_gone, push_link, push_lost, push_never, push_orphan, push_refused,
@@ -24,9 +24,9 @@ impl Watching {
         answers: Vec<Answered>,
         text: &mut Vec<u8>,
     ) -> Result<(), AllocError>
-        requires sound { IsSound self.old.machine }
+        requires sound { MachineIsSound self.old.machine }
         requires out { AreOut self.old.machine answers.items }
-        ensures taken { OnOk result (Appended text.old.items text.new.items (AreTaken self.old.inventory answers.items self.old.machine self.new.machine)) }
+        ensures taken { OnOk result (Appended text.old.items text.new.items (AnswersAreTakenAndTold self.old.inventory answers.items self.old.machine self.new.machine)) }
         ensures rest { self.new ≡ record self.old { machine = self.new.machine } }
     {
         for answered in answers {
@@ -42,9 +42,9 @@ impl Watching {
         answered: Answered,
         text: &mut Vec<u8>,
     ) -> Result<(), AllocError>
-        requires sound { IsSound self.old.machine }
+        requires sound { MachineIsSound self.old.machine }
         requires out { out_of self.old.machine.out answered.index ≢ None }
-        ensures taken { OnOk result (Appended text.old.items text.new.items (IsTaken self.old.inventory answered self.old.machine self.new.machine)) }
+        ensures taken { OnOk result (Appended text.old.items text.new.items (AnswerIsTakenAndTold self.old.inventory answered self.old.machine self.new.machine)) }
         ensures rest { self.new ≡ record self.old { machine = self.new.machine } }
     {
         let entry = answered.index;
@@ -56,7 +56,7 @@ impl Watching {
 
     /// Hands the answer in to the machine. The only error is out of memory.
     fn hand_in(&mut self, alloc: Global, answered: Answered) -> Result<HandedIn, AllocError>
-        requires sound { IsSound self.old.machine }
+        requires sound { MachineIsSound self.old.machine }
         requires out { out_of self.old.machine.out answered.index ≢ None }
         ensures handed { IfOk result (λ handed. IsHandedIn self.old.inventory answered self.old.machine handed self.new.machine) }
         ensures within { answered.index < length self.new.inventory.forest.entries }
@@ -66,7 +66,7 @@ impl Watching {
     }
 
     /// Appends what came of a request, and after an end that was told the line that keeps it.
-    #[tactic(auto, unfolding(crate::specs::Answers::reply_lines))]
+    #[tactic(auto, unfolding(crate::specs::Answers::said_lines))]
     fn push_reply(
         &self,
         alloc: Global,
@@ -76,7 +76,7 @@ impl Watching {
         text: &mut Vec<u8>,
     ) -> Result<(), AllocError>
         requires { entry < length self.now.inventory.forest.entries }
-        ensures { OnOk result (text.new.items ≡ text.old.items ++ reply_lines (name_of self.now.inventory.forest entry) self.now.machine operation entry said) }
+        ensures { OnOk result (text.new.items ≡ text.old.items ++ said_lines (name_of self.now.inventory.forest entry) self.now.machine operation entry said) }
     {
         let name = name_of(self.names(), entry);
         match said.reply {
@@ -106,7 +106,7 @@ impl Watching {
         text: &mut Vec<u8>,
     ) -> Result<(), AllocError>
         requires { entry < length self.now.inventory.forest.entries }
-        ensures { OnOk result (text.new.items ≡ text.old.items ++ told_as operation (name_of self.now.inventory.forest entry) self.now.machine seconds date) }
+        ensures { OnOk result (text.new.items ≡ text.old.items ++ told_lines operation (name_of self.now.inventory.forest entry) self.now.machine seconds date) }
     {
         let name = name_of(self.names(), entry);
         match operation {

@@ -1,10 +1,11 @@
 //! A clock: what the machine does at it.
 ghost use Rattle.std.specs.Prelude.{◌≡◌, ◌+◌, ◌-◌, ◌<◌, ◌≤◌, ◌++◌, All, IfOk, OnOk, Ok, Some, length};
 ghost use Rattle.watch_lines.specs.Answers.{Appended};
-ghost use Rattle.watch_lines.specs.Clocked.{IsClocked, IsNextThere, IsWaited, IsDone, changed_line, clock_lines, said_after, short_lines, side};
+ghost use Rattle.watch_lines.specs.Clocked.{IsClocked, IsNextThere, IsWaited, IsDoneUntil, changed_line, clock_lines, said_after, short_lines, watching_side};
 ghost use Rattle.keep_asking.specs.InStep.{IsAbreast};
 ghost use Rattle.keep_asking.specs.Sending.{GoOut};
-ghost use Rattle.watch_lines.specs.Sending.{asked_lines, moment_of};
+ghost use Rattle.watch_lines.specs.Sending.{asked_lines};
+ghost use Rattle.watch_machine.specs.Clocks.{second_of_wall};
 
 use crate::sending::{Readings, moment_of, push_asked_lines};
 use crate::shorts::push_shorts;
@@ -28,7 +29,7 @@ impl Watching {
         text: &mut Vec<u8>,
     ) -> Result<(), AllocError>
         requires abreast { IsAbreast self.old.machine (L.width lanes.old) (L.out lanes.old) }
-        ensures clocked { OnOk result (Appended text.old.items text.new.items (IsClocked (L.host_port lanes.old) (side self.old (⟦<L as SeenLanes>⟧.seen lanes.old)) readings.wall readings.elapsed (side self.new (⟦<L as SeenLanes>⟧.seen lanes.new)))) }
+        ensures clocked { OnOk result (Appended text.old.items text.new.items (IsClocked (L.host_port lanes.old) (watching_side self.old (⟦<L as SeenLanes>⟧.seen lanes.old)) readings.wall readings.elapsed (watching_side self.new (⟦<L as SeenLanes>⟧.seen lanes.new)))) }
         ensures abreast { OnOk result (IsAbreast self.new.machine (L.width lanes.new) (L.out lanes.new)) }
         ensures port { OnOk result (L.host_port lanes.new ≡ L.host_port lanes.old) }
     {
@@ -57,7 +58,7 @@ impl Watching {
     ) -> Result<(), AllocError>
         requires within { All (λ r. r.entry < length self.now.machine.forest.entries) requests.now }
         requires free { length (L.out lanes.old) + length requests.now ≤ L.width lanes.old }
-        ensures sent { OnOk result (GoOut (L.host_port lanes.old) self.now.inventory self.now.machine (moment_of readings.wall) readings.elapsed requests.now (⟦<L as SeenLanes>⟧.seen lanes.old) (⟦<L as SeenLanes>⟧.seen lanes.new)) }
+        ensures sent { OnOk result (GoOut (L.host_port lanes.old) self.now.inventory self.now.machine (second_of_wall readings.wall) readings.elapsed requests.now (⟦<L as SeenLanes>⟧.seen lanes.old) (⟦<L as SeenLanes>⟧.seen lanes.new)) }
         ensures text { OnOk result (text.new.items ≡ text.old.items ++ asked_lines self.now.inventory.forest requests.now) }
         ensures width { L.width lanes.new ≡ L.width lanes.old }
         ensures port { L.host_port lanes.new ≡ L.host_port lanes.old }
@@ -88,7 +89,7 @@ impl Watching {
         text: &mut Vec<u8>,
     ) -> Result<(), AllocError>
         requires abreast { IsAbreast self.old.machine (L.width lanes.old) (L.out lanes.old) }
-        ensures done { OnOk result (Appended text.old.items text.new.items (IsDone self.old.machine.out elapsed until (side self.old (⟦<L as SeenLanes>⟧.seen lanes.old)) (side self.new (⟦<L as SeenLanes>⟧.seen lanes.new)))) }
+        ensures done { OnOk result (Appended text.old.items text.new.items (IsDoneUntil self.old.machine.out elapsed until (watching_side self.old (⟦<L as SeenLanes>⟧.seen lanes.old)) (watching_side self.new (⟦<L as SeenLanes>⟧.seen lanes.new)))) }
         ensures abreast { OnOk result (IsAbreast self.new.machine (L.width lanes.new) (L.out lanes.new)) }
         ensures port { L.host_port lanes.new ≡ L.host_port lanes.old }
     {

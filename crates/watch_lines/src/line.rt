@@ -1,7 +1,7 @@
 //! What a line of the input says.
 ghost use Rattle.std.specs.Prelude.{◌≡◌, ◌==◌, IfSome, ℕ, bytes_eq, codes, if◌then◌else◌, None, length};
 ghost use Rattle.keep_lines.specs.EventLines.{heard_in};
-ghost use Rattle.watch_lines.specs.Lines.{IsWithin, begin_in, clock_in, flag_in, known_in, line_in, need_of, number_in};
+ghost use Rattle.watch_lines.specs.Lines.{IsLineWithin, begin_in, clock_in, flag_in, known_in, line_in, line_of_heard, number_in};
 
 use keep_lines::{Heard, MOST_LINE, heard_in};
 use keep_moment::Moment;
@@ -38,7 +38,7 @@ pub enum Line {
 #[tactic(auto, unfolding(crate::specs::Lines::line_in), using(crate::proofs::Saying::three_say, crate::proofs::Saying::four_say, crate::proofs::Saying::need_say, crate::proofs::Saying::none_say))]
 pub fn line_in(forest: &Forest, line: &[u8]) -> Option<Line>
     ensures said { result ≡ line_in forest.now line.now }
-    ensures within { IfSome result (λ said. IsWithin (length forest.now.entries) said) }
+    ensures within { IfSome result (λ said. IsLineWithin (length forest.now.entries) said) }
 {
     if line.len() >= MOST_LINE {
         return None;
@@ -59,7 +59,7 @@ pub fn line_in(forest: &Forest, line: &[u8]) -> Option<Line>
 /// `begin`
 fn begin_in(word: &[u8]) -> Option<Line>
     ensures said { result ≡ begin_in word.now }
-    ensures within { (n : ℕ) → IfSome result (λ said. IsWithin n said) }
+    ensures within { (n : ℕ) → IfSome result (λ said. IsLineWithin n said) }
 {
     if word == b"begin".as_slice() {
         Some(Line::Begin)
@@ -71,7 +71,7 @@ fn begin_in(word: &[u8]) -> Option<Line>
 /// The readings of `clock WALL ELAPSED`.
 fn clock_in(wall: &[u8], elapsed: &[u8]) -> Option<Line>
     ensures said { result ≡ clock_in wall.now elapsed.now }
-    ensures within { (n : ℕ) → IfSome result (λ said. IsWithin n said) }
+    ensures within { (n : ℕ) → IfSome result (λ said. IsLineWithin n said) }
 {
     let wall = number_in(wall)?;
     let elapsed = number_in(elapsed)?;
@@ -81,7 +81,7 @@ fn clock_in(wall: &[u8], elapsed: &[u8]) -> Option<Line>
 /// `known NAME END yes|no`
 fn known_in(forest: &Forest, word: &[u8], name: &[u8], end: &[u8], flag: &[u8]) -> Option<Line>
     ensures said { result ≡ (if bytes_eq word.now (codes "known") then known_in forest.now name.now end.now flag.now else None) }
-    ensures within { IfSome result (λ said. IsWithin (length forest.now.entries) said) }
+    ensures within { IfSome result (λ said. IsLineWithin (length forest.now.entries) said) }
 {
     if word != b"known".as_slice() || name.is_empty() {
         return None;
@@ -100,8 +100,8 @@ fn known_in(forest: &Forest, word: &[u8], name: &[u8], end: &[u8], flag: &[u8]) 
 
 /// `need NAME T`, as `keep_lines` reads it.
 fn need_in(forest: &Forest, line: &[u8]) -> Option<Line>
-    ensures said { result ≡ need_of (heard_in forest.now line.now) }
-    ensures within { IfSome result (λ said. IsWithin (length forest.now.entries) said) }
+    ensures said { result ≡ line_of_heard (heard_in forest.now line.now) }
+    ensures within { IfSome result (λ said. IsLineWithin (length forest.now.entries) said) }
 {
     match heard_in(forest, line)? {
         Heard::Need { i, until } => Some(Line::Need { entry: i, until }),

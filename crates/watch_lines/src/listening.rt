@@ -1,11 +1,11 @@
 //! Lines as they come, heard one after another.
 ghost use Rattle.std.specs.Prelude.{◌≡◌, ℕ};
 ghost use Rattle.std.specs.Result.{IfErr};
-ghost use Rattle.watch_lines.specs.Clocked.{Side, side};
+ghost use Rattle.watch_lines.specs.Clocked.{WatchingSide, watching_side};
 ghost use Rattle.watch_lines.specs.Listening as listening;
-ghost use Rattle.watch_lines.specs.Listening.{Listens};
+ghost use Rattle.watch_lines.specs.Listening.{ListensToLines};
 ghost use Rattle.keep_asking.specs.InStep.{IsAbreast};
-ghost use Rattle.watch_lines.specs.StopsAfter.{stops_after};
+ghost use Rattle.watch_lines.specs.StopsAfter.{lines_stop_after};
 ghost use Rattle.watch_lines.specs.WatchRun.{IsListenStop};
 
 use crate::line::line_in;
@@ -20,13 +20,13 @@ use std::alloc::Global;
 impl<L: Lanes> Hearer<L> for Watching {
     ghost Key = { ℕ };
 
-    ghost State = { Side };
+    ghost State = { WatchingSide };
 
     ghost key = { λ watching lanes. L.host_port lanes };
 
-    ghost state = { λ watching lanes. side watching (⟦<L as SeenLanes>⟧.seen lanes) };
+    ghost state = { λ watching lanes. watching_side watching (⟦<L as SeenLanes>⟧.seen lanes) };
 
-    ghost hearing = { λ port. listening.hearing port };
+    ghost hearing = { λ port. listening.hearing_of_lines port };
 
     ghost is_ready = { λ watching lanes out. IsAbreast watching.machine (L.width lanes) (L.out lanes) };
 
@@ -47,7 +47,7 @@ impl<L: Lanes> Hearer<L> for Watching {
         send(out, &text)
     }
 
-    ghost stops_after = { λ port. stops_after port };
+    ghost stops_after = { λ port. lines_stop_after port };
 }
 
 /// Answers lines until they end. Each is answered, and its lines written and flushed, before `lines` is read again.
@@ -64,7 +64,7 @@ pub(crate) fn listen<R: Source, L: Lanes, W: Sink>(
     out: &mut W,
 ) -> Result<(), Stop>
     requires abreast { IsAbreast watching.old.machine (L.width lanes.old) (L.out lanes.old) }
-    ensures listens { Listens (L.host_port lanes.old) (side watching.old (⟦<L as SeenLanes>⟧.seen lanes.old)) result (side watching.new (⟦<L as SeenLanes>⟧.seen lanes.new)) (⟦<R as Watched>⟧.change lines.old lines.new) (⟦<W as Watched>⟧.change out.old out.new) }
+    ensures listens { ListensToLines (L.host_port lanes.old) (watching_side watching.old (⟦<L as SeenLanes>⟧.seen lanes.old)) result (watching_side watching.new (⟦<L as SeenLanes>⟧.seen lanes.new)) (⟦<R as Watched>⟧.change lines.old lines.new) (⟦<W as Watched>⟧.change out.old out.new) }
     ensures stops { IfErr result IsListenStop }
 {
     let limits = Limits {

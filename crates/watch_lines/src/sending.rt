@@ -1,9 +1,10 @@
 //! Whom is asked what, and answers as they are waited for.
 ghost use Rattle.std.specs.Prelude.{◌≡◌, ◌-◌, ◌++◌, OnOk};
-ghost use Rattle.watch_lines.specs.Answers.{Appended, cut};
-ghost use Rattle.watch_lines.specs.Clocked.{AreTakenOn, listens_until, side};
+ghost use Rattle.watch_lines.specs.Answers.{Appended, number_to_write};
+ghost use Rattle.watch_lines.specs.Clocked.{AreTakenOn, listens_until, watching_side};
 ghost use Rattle.keep_asking.specs.InStep.{IsAbreast};
-ghost use Rattle.watch_lines.specs.Sending.{asked_lines, moment_of};
+ghost use Rattle.watch_lines.specs.Sending.{asked_lines};
+ghost use Rattle.watch_machine.specs.Clocks.{second_of_wall};
 
 use crate::texts::push_asked;
 use crate::watching::Watching;
@@ -25,7 +26,7 @@ pub(crate) struct Readings {
 
 /// The moment that a wall clock shows at so many milliseconds; after the last one, that.
 pub(crate) fn moment_of(wall: u64) -> Moment
-    ensures { result ≡ moment_of wall }
+    ensures { result ≡ second_of_wall wall }
 {
     Moment::new((wall / 1000).min(LAST)).unwrap()
 }
@@ -55,7 +56,7 @@ impl Watching {
         text: &mut Vec<u8>,
     ) -> Result<(), AllocError>
         requires abreast { IsAbreast self.old.machine (L.width lanes.old) (L.out lanes.old) }
-        ensures taken { OnOk result (Appended text.old.items text.new.items (AreTakenOn elapsed (listens_until self.old.machine elapsed until) (side self.old (⟦<L as SeenLanes>⟧.seen lanes.old)) (side self.new (⟦<L as SeenLanes>⟧.seen lanes.new)))) }
+        ensures taken { OnOk result (Appended text.old.items text.new.items (AreTakenOn elapsed (listens_until self.old.machine elapsed until) (watching_side self.old (⟦<L as SeenLanes>⟧.seen lanes.old)) (watching_side self.new (⟦<L as SeenLanes>⟧.seen lanes.new)))) }
         ensures abreast { OnOk result (IsAbreast self.new.machine (L.width lanes.new) (L.out lanes.new)) }
         ensures port { L.host_port lanes.new ≡ L.host_port lanes.old }
     {

@@ -1,6 +1,7 @@
 //! Needs that cannot be kept any more.
 ghost use Rattle.std.specs.Prelude.{◌≡◌, ◌++◌, ◌<◌, OnOk, length};
-ghost use Rattle.watch_lines.specs.Clocked.{is_news, is_time, later, news_line, said_after, short_lines, short_now};
+ghost use Rattle.watch_lines.specs.Clocked.{is_time_to_say, last_said_after, news_line, said_after, short_lines, short_now};
+ghost use Rattle.watch_machine.specs.Shortness.{is_news};
 
 use crate::texts::push_short;
 use keep_lines::name_of;
@@ -53,7 +54,7 @@ fn short_now(watch: &Watch, entry: u32) -> Option<u64>
 #[tactic(auto, unfolding(watch_machine::specs::Clocks::sec))]
 fn is_time(watch: &Watch, entry: u32, reach: u64) -> bool
     requires { entry < length watch.now.forest.entries }
-    ensures { result ≡ is_time watch.now entry reach }
+    ensures { result ≡ is_time_to_say watch.now entry reach }
 {
     let now = watch.broker_moment(watch.clocks().at / 1000);
     watch.forest().get(entry).need < LAST || reach.saturating_sub(DAY_BEFORE) <= now
@@ -78,7 +79,7 @@ fn push_news(
 
 /// What was said last of an entry, once that is said, too.
 fn later(margin: u32, last: Option<u64>, reach: Option<u64>) -> Option<u64>
-    ensures { result ≡ later margin last reach }
+    ensures { result ≡ last_said_after margin last reach }
 {
     match reach {
         Some(reach) if is_news(margin, last, reach) => Some(reach),

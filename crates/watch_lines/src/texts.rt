@@ -6,6 +6,7 @@ ghost use Rattle.watch_lines.specs.Answers.{if_some};
 ghost use Rattle.watch_lines.specs.Sending.{asked_names};
 ghost use Rattle.watch_lines.specs.Texts as lines;
 ghost use Rattle.watch_lines.specs.code.Asking.{asked_name};
+ghost use Rattle.keep_lines.specs.Text.{entry_line};
 
 use keep_lanes::Loss;
 use keep_lines::{name_of, push_name, push_numbered};
@@ -122,7 +123,7 @@ pub(crate) fn push_entry(
     end: u64,
     text: &mut Vec<u8>,
 ) -> Result<(), AllocError>
-    ensures { OnOk result (text.new.items ≡ text.old.items ++ lines.entry_line name.now end) }
+    ensures { OnOk result (text.new.items ≡ text.old.items ++ entry_line name.now end) }
 {
     push_numbered(alloc, b"entry ", name, end, text)
 }
@@ -153,7 +154,7 @@ pub(crate) fn push_refused(
 
 /// Appends why a request counts as lost.
 fn push_loss(alloc: Global, why: Loss, text: &mut Vec<u8>) -> Result<(), AllocError>
-    ensures { OnOk result (text.new.items ≡ text.old.items ++ lines.loss_word why) }
+    ensures { OnOk result (text.new.items ≡ text.old.items ++ lines.loss_word_text why) }
 {
     match why {
         Loss::Connect => text.extend_from_slice(b"connect"),

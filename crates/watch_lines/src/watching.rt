@@ -4,12 +4,12 @@ ghost use Rattle.watch_machine.specs.History.{Turn};
 ghost use Rattle.watch_machine.specs.Refusal.{refusal};
 ghost use Rattle.watch_machine.specs.declared.event.Event.TheVariants as events;
 ghost use Rattle.watch_lines.specs.Answers.{Appended};
-ghost use Rattle.watch_lines.specs.Clocked.{side};
+ghost use Rattle.watch_lines.specs.Clocked.{watching_side};
 ghost use Rattle.keep_asking.specs.InStep.{IsAbreast};
-ghost use Rattle.watch_lines.specs.Hears.{IsHeard, IsKnown, IsTurned};
-ghost use Rattle.watch_lines.specs.Lines.{IsWithin};
+ghost use Rattle.watch_lines.specs.Hears.{EndIsTakenOver, LineIsHeard, WatchIsTurned};
+ghost use Rattle.watch_lines.specs.Lines.{IsLineWithin};
 ghost use Rattle.watch_lines.specs.Texts.{after_clock_line, clock_line, planned_line};
-ghost use Rattle.watch_lines.specs.Watching.{IsWhole, fresh};
+ghost use Rattle.watch_lines.specs.Watching.{WatchIsWhole, fresh_watching};
 
 use crate::line::Line;
 use crate::sending::Readings;
@@ -35,13 +35,13 @@ pub(crate) struct Watching {
 }
 
 impl Model for Watching {
-    ghost use Rattle.watch_lines.specs.Watching.{IsWhole, Watching};
+    ghost use Rattle.watch_lines.specs.Watching.{WatchIsWhole, Watching};
 
     ghost Value = { Watching };
 
     ghost view = { λ w. record { machine = w.watch; inventory = w.inventory; said = w.shorts.items; next = w.next } };
 
-    ghost invariant = { λ w. IsWhole (record { machine = w.watch; inventory = w.inventory; said = w.shorts.items; next = w.next }) };
+    ghost invariant = { λ w. WatchIsWhole (record { machine = w.watch; inventory = w.inventory; said = w.shorts.items; next = w.next }) };
 }
 
 /// A place for each of so many entries, with nothing said of it.
@@ -64,7 +64,7 @@ impl Watching {
         inventory: Inventory,
         width: u32,
     ) -> Result<Watching, AllocError>
-        ensures { IfOk result (λ watching. watching ≡ fresh inventory width) }
+        ensures { IfOk result (λ watching. watching ≡ fresh_watching inventory width) }
     {
         let forest = inventory.forest().copy()?;
         let shorts = nothing_said(alloc, forest.len())?;
@@ -83,7 +83,7 @@ impl Watching {
     /// The entries, by their names.
     pub(crate) fn names(&self) -> &Forest
         ensures names { result.now ≡ self.now.inventory.forest }
-        ensures whole { IsWhole self.now }
+        ensures whole { WatchIsWhole self.now }
     {
         self.inventory.forest()
     }
@@ -113,8 +113,8 @@ impl Watching {
         text: &mut Vec<u8>,
     ) -> Result<(), AllocError>
         requires abreast { IsAbreast self.old.machine (L.width lanes.old) (L.out lanes.old) }
-        requires within { IsWithin (length self.old.machine.forest.entries) line }
-        ensures heard { OnOk result (Appended text.old.items text.new.items (IsHeard (L.host_port lanes.old) (side self.old (⟦<L as SeenLanes>⟧.seen lanes.old)) line (side self.new (⟦<L as SeenLanes>⟧.seen lanes.new)))) }
+        requires within { IsLineWithin (length self.old.machine.forest.entries) line }
+        ensures heard { OnOk result (Appended text.old.items text.new.items (LineIsHeard (L.host_port lanes.old) (watching_side self.old (⟦<L as SeenLanes>⟧.seen lanes.old)) line (watching_side self.new (⟦<L as SeenLanes>⟧.seen lanes.new)))) }
         ensures abreast { OnOk result (IsAbreast self.new.machine (L.width lanes.new) (L.out lanes.new)) }
         ensures port { OnOk result (L.host_port lanes.new ≡ L.host_port lanes.old) }
     {
@@ -143,7 +143,7 @@ impl Watching {
         text: &mut Vec<u8>,
     ) -> Result<(), AllocError>
         requires within { entry < length self.old.machine.forest.entries }
-        ensures needed { OnOk result (IsTurned self.old (events.Need entry until) self.new) }
+        ensures needed { OnOk result (WatchIsTurned self.old (events.Need entry until) self.new) }
         ensures text { OnOk result (text.new.items ≡ text.old.items ++ (planned_line ++ clock_line)) }
     {
         let until = until.get();
@@ -154,7 +154,7 @@ impl Watching {
     /// Everything is to be looked up anew.
     #[tactic(auto, using(crate::proofs::Turns::begin_free))]
     fn begin(&mut self, alloc: Global, text: &mut Vec<u8>) -> Result<(), AllocError>
-        ensures begun { OnOk result (IsTurned self.old events.Begin self.new) }
+        ensures begun { OnOk result (WatchIsTurned self.old events.Begin self.new) }
         ensures text { OnOk result (text.new.items ≡ text.old.items ++ clock_line) }
     {
         self.turn(alloc, Event::Begin)?;
@@ -172,7 +172,7 @@ impl Watching {
         text: &mut Vec<u8>,
     ) -> Result<(), AllocError>
         requires within { entry < length self.old.machine.forest.entries }
-        ensures known { OnOk result (Appended text.old.items text.new.items (IsKnown (is_some self.old.machine.begun) self.old entry end renewable self.new)) }
+        ensures known { OnOk result (Appended text.old.items text.new.items (EndIsTakenOver (is_some self.old.machine.begun) self.old entry end renewable self.new)) }
     {
         if self.watch.has_begun() {
             return text.extend_from_slice(b"fault after-clock\nclock\n");

@@ -4,10 +4,10 @@ use Rattle.std.specs.Prelude.{ℕ, ◌<◌}
 use Rattle.watch_machine.specs.declared.event.Event.{Event}
 use Rattle.watch_machine.specs.declared.event.Event.TheVariants.{Clock, Looked, Renewed, Need, Begin, Known}
 
-abbrev pub IsWithin : ℕ → Event → Type 0
-IsWithin n (Clock wall elapsed) = Unit {0}
-IsWithin n (Looked i reply terms) = i < n
-IsWithin n (Renewed i reply) = i < n
-IsWithin n (Need i until) = i < n
-IsWithin n Begin = Unit {0}
-IsWithin n (Known i end renewable) = i < n
+abbrev pub IsEventWithin : ℕ → Event → Type 0
+IsEventWithin n (Clock wall elapsed) = Unit {0}
+IsEventWithin n (Looked i reply terms) = i < n
+IsEventWithin n (Renewed i reply) = i < n
+IsEventWithin n (Need i until) = i < n
+IsEventWithin n Begin = Unit {0}
+IsEventWithin n (Known i end renewable) = i < n

@@ -6,7 +6,7 @@ use Rattle.std.specs.Cmp.Lexicographic.{slice_cmp}
 use Rattle.std.specs.Ordering.{nat_cmp}
 use Rattle.std.specs.declared.alloc.Global.{Global}
 use Rattle.keep_change.specs.declared.row.Row.{Row}
-use Rattle.keep_change.specs.Rows.{is_named, named}
+use Rattle.keep_change.specs.Rows.{is_row_named, named}
 
 -- what a map has at these bytes
 abbrev pub at_bytes : BTreeMap (Vec ℕ Global) ℕ → List ℕ → Option ℕ
@@ -44,4 +44,4 @@ has_seen m rows = are_seen (at_bytes m) rows
 -- the first of these rows has that name
 abbrev pub begins_with : List ℕ → List Row → Bool
 begins_with name [] = false
-begins_with name (r ∷ rows) = is_named name r
+begins_with name (r ∷ rows) = is_row_named name r

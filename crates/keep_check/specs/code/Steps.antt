@@ -8,15 +8,15 @@ use Rattle.keep_rule.specs.Forced.{latest_end}
 use Rattle.keep_rule.specs.declared.force.Force.{Force}
 use Rattle.keep_rule.specs.declared.run.Run.{Run}
 use Rattle.keep_check.specs.declared.answer.Cause.{Cause}
-use Rattle.keep_check.specs.Fit.{IsFit}
+use Rattle.keep_check.specs.Fit.{RunIsFit}
 use Rattle.keep_check.specs.Walk.{fault}
 
 -- what a walk over the wake-ups us finds, by the present ends, whatever follows them: with no fault in them it goes on
 -- after one at last with the k'-th
-abbrev pub Finds : Forest → ℕ → Option ℕ → ℕ → List Force → ℕ → ℕ → Option Cause → Type 0
-Finds g s prev k us last k' None =
+abbrev pub WalkFinds : Forest → ℕ → Option ℕ → ℕ → List Force → ℕ → ℕ → Option Cause → Type 0
+WalkFinds g s prev k us last k' None =
     (rest : List Force) → fault g.entries g.margin s (end_of g.entries) prev k (us ++ rest) ≡ fault g.entries g.margin s (end_of g.entries) (Some last) k' rest
-Finds g s prev k us last k' (Some cause) = (rest : List Force) → fault g.entries g.margin s (end_of g.entries) prev k (us ++ rest) ≡ Some cause
+WalkFinds g s prev k us last k' (Some cause) = (rest : List Force) → fault g.entries g.margin s (end_of g.entries) prev k (us ++ rest) ≡ Some cause
 
 -- from `top` on, and no sooner, a wake-up leads an entry up to the need
 pub record LongFrom (e : Entry) (need top : ℕ) : Type 0 where
@@ -58,4 +58,4 @@ last_behind t (u ∷ us) = last_behind u us
 
 -- each of these runs is fit, among n entries
 abbrev pub AllFit : ℕ → List Run → Type 0
-AllFit n rs = AllByRecursion (IsFit n) rs
+AllFit n rs = AllByRecursion (RunIsFit n) rs

@@ -5,8 +5,8 @@ use Rattle.keep_tree.specs.declared.entry.Entry.{Entry}
 use Rattle.keep_tree.specs.Renewal.{renewal}
 use Rattle.keep_core.specs.declared.event.Event.{Event}
 use Rattle.keep_core.specs.declared.event.Event.TheVariants.{Told}
-use Rattle.keep_core.specs.State.{Round, State}
-use Rattle.keep_core.specs.Step.{heard, left, of_entry, without}
+use Rattle.keep_core.specs.State.{CoreState, Round}
+use Rattle.keep_core.specs.Step.{entry_of_event, left, state_after_answer, without_index}
 
 -- whether an answer to a round at this moment gives its entry the rule's end and leaves it renewable
 unfoldable pub is_rules : ℕ → Event → Entry → Bool
@@ -16,9 +16,9 @@ is_rules at event e = false
 -- who is waited for once this entry has answered: nobody, where no round is open
 abbrev pub others : Option Round → ℕ → List ℕ
 others None i = []
-others (Some round) i = without i round.unanswered
+others (Some round) i = without_index i round.unanswered
 
 -- the state after one answer more to the round, where one is open; it stays open
-abbrev pub heard_in : Option Round → State → Event → State
-heard_in None s event = s
-heard_in (Some round) s event = heard s event round.at (Some (left round (of_entry event)))
+abbrev pub heard_in_round : Option Round → CoreState → Event → CoreState
+heard_in_round None s event = s
+heard_in_round (Some round) s event = state_after_answer s event round.at (Some (left round (entry_of_event event)))

@@ -17,27 +17,27 @@ use Rattle.keep_core.specs.declared.round.OpenRound.{OpenRound}
 use Rattle.keep_core.specs.InForce.{AllForcedAs}
 use Rattle.keep_core.specs.Replan.{IsPlanOf}
 use Rattle.keep_core.specs.State.{Round}
-use Rattle.keep_core.specs.States.{IsOpened}
+use Rattle.keep_core.specs.States.{RoundIsOpened}
 
 -- whether the answer of an entry is waited for
-abbrev pub flag : List Bool → ℕ → Bool
-flag flags i = slice_index_or flags i false
+abbrev pub flag_of : List Bool → ℕ → Bool
+flag_of flags i = slice_index_or flags i false
 
 -- the entries whose answers are waited for, by index
 unfoldable pub waited_for : List Bool → List ℕ
-waited_for flags = filter (flag flags) (range_with_len 0 (length flags))
+waited_for flags = filter (flag_of flags) (range_with_len 0 (length flags))
 
 -- what callers see of a round
-abbrev pub shown : OpenRound → Round
-shown r = record { at = r.at; unanswered = waited_for r.waiting.items }
+abbrev pub shown_round : OpenRound → Round
+shown_round r = record { at = r.at; unanswered = waited_for r.waiting.items }
 
-abbrev pub seen : Option OpenRound → Option Round
-seen None = None
-seen (Some r) = Some (shown r)
+abbrev pub seen_round : Option OpenRound → Option Round
+seen_round None = None
+seen_round (Some r) = Some (shown_round r)
 
 -- g is the forest at the opening of a round at t, with a plan whose first wake-up was x and whose others are still to come;
 -- of the entries that were asked, those that are no longer waited for were told the rule's end and stay renewable
-pub record IsByRule (h : Forest) (t : ℕ) (p : Planned) (flags : List Bool) : Type 0 where
+pub record RoundIsByRule (h : Forest) (t : ℕ) (p : Planned) (flags : List Bool) : Type 0 where
   pub g : Forest
   pub forest : IsForest g
   pub x : Force
@@ -46,9 +46,9 @@ pub record IsByRule (h : Forest) (t : ℕ) (p : Planned) (flags : List Bool) : T
   pub forced : AllForcedAs g.entries g.margin t (end_of g.entries) None (x ∷ to_come p)
   pub margin : h.margin ≡ g.margin
   pub count : length h.entries ≡ length g.entries
-  pub asked : (i : ℕ) → flag flags i ≡ true → is_asked (asking g.entries g.margin t (end_of g.entries) t (first_of (moments_of (to_come p)))) i ≡ true
+  pub asked : (i : ℕ) → flag_of flags i ≡ true → is_asked (asking g.entries g.margin t (end_of g.entries) t (first_of (moments_of (to_come p)))) i ≡ true
   pub each : (i : ℕ) → entry_at h.entries i
-      ≡ record (entry_at g.entries i) { end = if is_asked (asking g.entries g.margin t (end_of g.entries) t (first_of (moments_of (to_come p)))) i && not (flag flags i) then renewal (entry_at g.entries i) t else (entry_at g.entries i).end }
+      ≡ record (entry_at g.entries i) { end = if is_asked (asking g.entries g.margin t (end_of g.entries) t (first_of (moments_of (to_come p)))) i && not (flag_of flags i) then renewal (entry_at g.entries i) t else (entry_at g.entries i).end }
 
 -- a round that is open since the last moment
 pub record IsOpen (h : Forest) (last : ℕ) (p : Planned) (r : OpenRound) : Type 0 where
@@ -56,8 +56,8 @@ pub record IsOpen (h : Forest) (last : ℕ) (p : Planned) (r : OpenRound) : Type
   pub count : length r.waiting.items ≡ length h.entries
   pub left : r.left ≡ length (waited_for r.waiting.items)
   pub some : 0 < r.left
-  pub opened : IsOpened h (moments_of (to_come p)) (shown r)
-  pub by_rule : r.by_rule ≡ true → IsByRule h last p r.waiting.items
+  pub opened : RoundIsOpened h (moments_of (to_come p)) (shown_round r)
+  pub by_rule : r.by_rule ≡ true → RoundIsByRule h last p r.waiting.items
 
 -- a forest, the last moment, a plan and a round, if one is open, that belong together
 pub record IsKeeper (h : Forest) (last : ℕ) (p : Planned) (round : Option OpenRound) : Type 0 where

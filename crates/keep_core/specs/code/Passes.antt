@@ -4,7 +4,7 @@ use Rattle.std.specs.Prelude.{◌≡◌, ℕ, ◌<◌, if◌then◌else◌, List
 use Rattle.std.specs.List.{range_with_len}
 use Rattle.keep_tree.specs.declared.entry.Entry.{Entry}
 use Rattle.keep_tree.specs.Forest.{Forest, entry_at}
-use Rattle.keep_plan.specs.Decides.{IsTooLong}
+use Rattle.keep_plan.specs.Decides.{PlanIsTooLong}
 use Rattle.keep_core.specs.declared.fault.StepFault.{StepFault}
 use Rattle.keep_core.specs.declared.fault.StepFault.TheVariants.{TooLong, OutOfMemory}
 use Rattle.keep_core.specs.Shorten.{cut_to, exceeds, least_reach}
@@ -28,12 +28,12 @@ pub record AreNeeds (n : ℕ) (f : ℕ → ℕ) (needs : List ℕ) : Type 0 wher
   pub each : (i : ℕ) → i < n → slice_index needs i ≡ f i
 
 -- the forest with these needs
-abbrev pub with_needs : Forest → List ℕ → Forest
-with_needs g needs = record { entries = needing g.entries (slice_index needs); margin = g.margin }
+abbrev pub forest_with_needs : Forest → List ℕ → Forest
+forest_with_needs g needs = record { entries = needing g.entries (slice_index needs); margin = g.margin }
 
 -- the needs of a forest
-abbrev pub HasNeeds : Forest → List ℕ → Type 0
-HasNeeds g needs = AreNeeds (length g.entries) (λ i. (entry_at g.entries i).need) needs
+abbrev pub ForestHasNeeds : Forest → List ℕ → Type 0
+ForestHasNeeds g needs = AreNeeds (length g.entries) (λ i. (entry_at g.entries i).need) needs
 
 -- what a need is shortened to, None where it is not
 unfoldable pub shorter : ℕ → Option ℕ → ℕ → Option ℕ
@@ -41,6 +41,6 @@ shorter t reach need = if exceeds t reach need then Some (cut_to reach need) els
 
 -- what stands in the way of a plan for a forest in which no need is to be shortened
 abbrev pub PlanRefused : Forest → ℕ → StepFault → Type 0
-PlanRefused g t TooLong = IsTooLong g t
+PlanRefused g t TooLong = PlanIsTooLong g t
 PlanRefused g t OutOfMemory = Unit {0}
 PlanRefused g t fault = ⊥

@@ -8,9 +8,9 @@ use Rattle.keep_rule.specs.Asks.{asks, first_of}
 use Rattle.keep_core.specs.declared.event.Output.{Output}
 use Rattle.keep_core.specs.declared.event.Output.TheVariants as out
 use Rattle.keep_core.specs.declared.opening.Opening.{Opening}
-use Rattle.keep_core.specs.code.Keeping.{flag, waited_for}
-use Rattle.keep_core.specs.State.{State}
-use Rattle.keep_core.specs.Step.{opened}
+use Rattle.keep_core.specs.code.Keeping.{flag_of, waited_for}
+use Rattle.keep_core.specs.State.{CoreState}
+use Rattle.keep_core.specs.Step.{round_opened}
 
 -- whether the next wake-up comes before t
 abbrev pub is_late : ℕ → Option ℕ → Bool
@@ -20,10 +20,10 @@ is_late t (Some w) = nat_lt w t
 -- for each of n entries whether it is among those asked
 pub record AreFlags (n : ℕ) (asked : List ℕ) (flags : List Bool) : Type 0 where
   pub count : length flags ≡ n
-  pub each : (i : ℕ) → flag flags i ≡ list_any (λ j. j == i) asked
+  pub each : (i : ℕ) → flag_of flags i ≡ list_any (λ j. j == i) asked
 
 -- the first moment to come is t; the Asks there are asked, and then waited for
-pub record IsOpening (h : Forest) (t : ℕ) (ts : List ℕ) (o : Opening) : Type 0 where
+pub record IsRoundOpening (h : Forest) (t : ℕ) (ts : List ℕ) (o : Opening) : Type 0 where
   pub forest : IsForest h
   pub rest : List ℕ
   pub is : ts ≡ t ∷ rest
@@ -35,15 +35,15 @@ pub record IsOpening (h : Forest) (t : ℕ) (ts : List ℕ) (o : Opening) : Type
   pub some : 0 < length o.asked
 
 -- what opens a round at t, None where the first moment to come is after t, or there is none
-abbrev pub Opens : Forest → ℕ → List ℕ → Option Opening → Type 0
-Opens h t ts None = IfSome (first_of ts) (λ w. t < w)
-Opens h t ts (Some o) = IsOpening h t ts o
+abbrev pub OpensRound : Forest → ℕ → List ℕ → Option Opening → Type 0
+OpensRound h t ts None = IfSome (first_of ts) (λ w. t < w)
+OpensRound h t ts (Some o) = IsRoundOpening h t ts o
 
 -- what a state that is planned from its last moment answers there, and what it is then
-abbrev pub Wakes : State → Output → State → Type 0
-Wakes old out.Idle new = (old.to_come ≡ []) × (new ≡ old)
-Wakes old (out.Sleep w) new = (first_of old.to_come ≡ Some w) × ((old.last < w) × (new ≡ old))
-Wakes old (out.Ask asked) new =
+abbrev pub CoreWakes : CoreState → Output → CoreState → Type 0
+CoreWakes old out.Idle new = (old.to_come ≡ []) × (new ≡ old)
+CoreWakes old (out.Sleep w) new = (first_of old.to_come ≡ Some w) × ((old.last < w) × (new ≡ old))
+CoreWakes old (out.Ask asked) new =
     (rest : List ℕ) × ((old.to_come ≡ old.last ∷ rest)
-    × ((asked ≡ (opened old old.last (first_of rest)).unanswered) × (new ≡ record old { to_come = rest; round = Some (opened old old.last (first_of rest)) })))
-Wakes old output new = ⊥
+    × ((asked ≡ (round_opened old old.last (first_of rest)).unanswered) × (new ≡ record old { to_come = rest; round = Some (round_opened old old.last (first_of rest)) })))
+CoreWakes old output new = ⊥

@@ -5,8 +5,8 @@ use Rattle.keep_cert.specs.declared.cert.Cert.{Cert}
 use Rattle.keep_check.specs.declared.answer.Answer.TheVariants.{No, Yes}
 use Rattle.keep_check.specs.declared.answer.Cause.{Cause}
 use Rattle.keep_check.specs.declared.answer.Cause.TheVariants.{NotForced, NotKept, NotRising, NotUnkeepable}
-use Rattle.keep_check.specs.Answer.{IsAnswer}
-use Rattle.keep_check.specs.Laws.{Holds}
+use Rattle.keep_check.specs.Answer.{IsCertificateAnswer}
+use Rattle.keep_check.specs.Laws.{ClaimHolds}
 use Rattle.keep_report.specs.declared.exit.Exit.{Exit}
 use Rattle.keep_report.specs.declared.exit.Exit.TheVariants as exits
 use Rattle.keep_engine.specs.CheckRun.{StartsAsAsked}
@@ -14,16 +14,16 @@ use Rattle.keep_engine.specs.CheckText.{no_line}
 use Rattle.keep_engine.specs.Running.{Texts}
 
 -- the entry that a cause names is one of n
-abbrev pub IsNamed : ℕ → Cause → Type 0
-IsNamed n (NotRising k) = Unit {0}
-IsNamed n (NotForced k) = Unit {0}
-IsNamed n (NotKept i) = i < n
-IsNamed n NotUnkeepable = Unit {0}
+abbrev pub CauseIsNamed : ℕ → Cause → Type 0
+CauseIsNamed n (NotRising k) = Unit {0}
+CauseIsNamed n (NotForced k) = Unit {0}
+CauseIsNamed n (NotKept i) = i < n
+CauseIsNamed n NotUnkeepable = Unit {0}
 
 -- the line about a certificate that goes with an exit
 abbrev pub IsVerdict : Forest → Cert → Exit → List ℕ → Type 0
-IsVerdict g c exits.Done line = IsAnswer g c Yes × (Holds g c.start c.body × (line ≡ codes "yes\n"))
-IsVerdict g c exits.No line = (cause : Cause) × IsAnswer g c (No cause) × (line ≡ no_line g.entries cause)
+IsVerdict g c exits.Done line = IsCertificateAnswer g c Yes × (ClaimHolds g c.start c.body × (line ≡ codes "yes\n"))
+IsVerdict g c exits.No line = (cause : Cause) × IsCertificateAnswer g c (No cause) × (line ≡ no_line g.entries cause)
 IsVerdict g c exit line = ⊥
 
 abbrev pub VerdictTexts : Cert → Texts

@@ -13,11 +13,11 @@ use Rattle.keep_report.specs.declared.exit.Exit.TheVariants as exits
 use Rattle.keep_report.specs.declared.stop.Stop.{Stop}
 use Rattle.keep_report.specs.declared.stop.Stop.TheVariants as stops
 use Rattle.keep_report.specs.Exits.{exit_of}
-use Rattle.keep_report.specs.Sent.{IsAll, IsUntouched, Sends}
+use Rattle.keep_report.specs.Sent.{IsAll, IsUntouched, SendsText}
 use Rattle.keep_report.specs.Told.{Reports}
 use Rattle.keep_engine.specs.declared.outcome.Outcome.{Outcome}
 use Rattle.keep_engine.specs.PlanDates.{AreRunsInDates, IsPairInDates}
-use Rattle.keep_engine.specs.Running.{Halts, Texts, line_of}
+use Rattle.keep_engine.specs.Running.{Halts, Texts, line_of_stop}
 
 -- what a command makes of a forest
 abbrev pub MakesOf : Texts → Halts → Forest → Result Outcome Stop → Type 0
@@ -26,17 +26,17 @@ MakesOf Written Halt g (Err stops.Memory) = Unit {0}
 MakesOf Written Halt g (Err stop) = Halt g stop
 
 -- what it makes of what was read
-abbrev pub Makes : Texts → Halts → Result Inventory InvFault → Result Outcome Stop → Type 0
-Makes Written Halt answer (Err (stops.Inventory fault)) = answer ≡ Err fault
-Makes Written Halt answer (Err stops.Memory) = Unit {0}
-Makes Written Halt answer made = (inventory : Inventory) × (answer ≡ Ok inventory) × MakesOf Written Halt inventory.forest made
+abbrev pub MakesOutcome : Texts → Halts → Result Inventory InvFault → Result Outcome Stop → Type 0
+MakesOutcome Written Halt answer (Err (stops.Inventory fault)) = answer ≡ Err fault
+MakesOutcome Written Halt answer (Err stops.Memory) = Unit {0}
+MakesOutcome Written Halt answer made = (inventory : Inventory) × (answer ≡ Ok inventory) × MakesOf Written Halt inventory.forest made
 
 -- a text was sent, or why only a front of it was; or why there is none was told
 abbrev pub Delivers : Result Outcome Stop → Exit → Change → Change → Type 0
 Delivers (Ok outcome) exit out errors =
     ((exit ≡ outcome.exit) × IsAll outcome.text out × IsUntouched errors)
-    ⊎ ((stop : Stop) × Sends (Err stop) outcome.text out × (exit ≡ exit_of stop) × Reports (line_of stop) errors)
-Delivers (Err stop) exit out errors = (exit ≡ exit_of stop) × IsUntouched out × Reports (line_of stop) errors
+    ⊎ ((stop : Stop) × SendsText (Err stop) outcome.text out × (exit ≡ exit_of stop) × Reports (line_of_stop stop) errors)
+Delivers (Err stop) exit out errors = (exit ≡ exit_of stop) × IsUntouched out × Reports (line_of_stop stop) errors
 
 -- a list of ends as the function from an index to its end
 unfoldable pub at_index : List ℕ → ℕ → ℕ

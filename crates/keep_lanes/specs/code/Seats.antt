@@ -6,16 +6,16 @@ use Rattle.keep_lanes.specs.declared.coming.Coming.{Coming}
 use Rattle.keep_lanes.specs.declared.lanes.Answered.{Answered}
 use Rattle.keep_lanes.specs.declared.seats.Seat.{Seat}
 
-abbrev pub out_of : {T : Type 0} → (T → Option Coming) → Seat T → Out
-out_of comes seat = record { index = seat.index; comes = comes seat.standing }
+abbrev pub out_of_seat : {T : Type 0} → (T → Option Coming) → Seat T → Out
+out_of_seat comes seat = record { index = seat.index; comes = comes seat.standing }
 
 abbrev pub outs : {T : Type 0} → (T → Option Coming) → List (Seat T) → List Out
-outs comes seats = map (out_of comes) seats
+outs comes seats = map (out_of_seat comes) seats
 
 -- there is an answer, and it is what comes of the request where that is known
-abbrev pub Opens : Option Coming → Option Answer → Type 0
-Opens comes None = ⊥
-Opens comes (Some a) = IfSome comes (λ c. a ≡ c.answer)
+abbrev pub AnswerIsWhatComes : Option Coming → Option Answer → Type 0
+AnswerIsWhatComes comes None = ⊥
+AnswerIsWhatComes comes (Some a) = IfSome comes (λ c. a ≡ c.answer)
 
 -- those that are there are handed back, and the others stay
 pub record AreTakenOut {T : Type 0} (there : T → Bool) (old new : List (Seat T)) (answers : List Answered) : Type 0 where

@@ -5,15 +5,15 @@ use Rattle.std.specs.Io.KnownBytes.{Consumes}
 use Rattle.keep_device.specs.Seen.{Change}
 use Rattle.keep_device.specs.Whole.{MakesAtMost}
 use Rattle.keep_report.specs.declared.stop.Stop.{Stop}
-use Rattle.keep_lines.specs.Hearing.{Hearing, IsSent, counted}
-use Rattle.keep_lines.specs.Listening.{Halts, IsHeardFirst, MakesAtLeast}
+use Rattle.keep_lines.specs.Hearing.{Hearing, IsSaidWhole, counted_line}
+use Rattle.keep_lines.specs.Listening.{IsHeardFirst, ListeningHalts, MakesAtLeast}
 use Rattle.keep_lines.specs.declared.limits.Limits.{Limits}
 use Rattle.keep_lines.specs.declared.limits.TheConstants.{MOST_LINE}
 
 -- as many of so many bytes as may be heard where so many are left
-abbrev pub part : Option ℕ → ℕ → ℕ
-part None n = n
-part (Some left) n = min n left
+abbrev pub part_left_to_hear : Option ℕ → ℕ → ℕ
+part_left_to_hear None n = n
+part_left_to_hear (Some left) n = min n left
 
 -- how many are left after so many more
 abbrev pub left_after : Option ℕ → ℕ → Option ℕ
@@ -21,19 +21,19 @@ left_after None taken = None
 left_after (Some left) taken = Some (left - taken)
 
 -- so many are left of what may be heard, after so many
-abbrev pub IsLeft : Option ℕ → Option ℕ → ℕ → Type 0
-IsLeft None None read = Unit {0}
-IsLeft (Some most) (Some left) read = left + read ≡ most
-IsLeft None (Some left) read = ⊥
-IsLeft (Some most) None read = ⊥
+abbrev pub SoManyAreLeft : Option ℕ → Option ℕ → ℕ → Type 0
+SoManyAreLeft None None read = Unit {0}
+SoManyAreLeft (Some most) (Some left) read = left + read ≡ most
+SoManyAreLeft None (Some left) read = ⊥
+SoManyAreLeft (Some most) None read = ⊥
 
 -- after so many lines, those of these bytes are heard up to these pieces, and their text is written and flushed
 pub record HearsUpTo (S : Type 0) (h : Hearing S) (first : ℕ) (old : S) (bytes : List ℕ) (behind : List (List ℕ)) (new : S) (last : ℕ) (out : Change) : Type 0 where
   pub lines : List (List ℕ)
   pub text : List ℕ
   pub heard : IsHeardFirst S h old bytes lines behind new text
-  pub count : last ≡ counted (first + length lines)
-  pub sent : IsSent text out
+  pub count : last ≡ counted_line (first + length lines)
+  pub sent : IsSaidWhole text out
 
 -- after so many lines, one of these bytes stops listening
 pub record HaltsWithin (S : Type 0) (h : Hearing S) (first : ℕ) (old : S) (bytes : List ℕ) (stop : Stop) (new : S) (out : Change) : Type 0 where
@@ -42,7 +42,7 @@ pub record HaltsWithin (S : Type 0) (h : Hearing S) (first : ℕ) (old : S) (byt
   pub mid : S
   pub text : List ℕ
   pub heard : IsHeardFirst S h old bytes lines behind mid text
-  pub halts : Halts S h (counted (first + length lines + 1)) mid behind text stop new ⊥ out
+  pub halts : ListeningHalts S h (counted_line (first + length lines + 1)) mid behind text stop new ⊥ out
 
 -- listening under way: by so many reads, of a byte each at least, all of what was read may be heard, of which these bytes are after
 -- the last line, and so many more may be read
@@ -55,4 +55,4 @@ pub record IsListening (S : Type 0) (h : Hearing S) (limits : Limits) (old : S) 
   pub failed : fed.new.failed_calls ≡ fed.old.failed_calls
   pub up_to : HearsUpTo S h 0 old read (pending ∷ []) now last out
   pub short : length pending < MOST_LINE
-  pub within : IsLeft limits.bytes left (length read)
+  pub within : SoManyAreLeft limits.bytes left (length read)

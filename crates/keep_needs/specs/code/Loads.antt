@@ -7,8 +7,8 @@ use Rattle.keep_needs.specs.declared.load.Load.{Load}
 use Rattle.keep_needs.specs.Carried.{CarriedNeed}
 
 -- what callers see of a load
-abbrev pub seen : Load → CarriedNeed
-seen l = record { need = l.need; from = if l.need == 0 then None else Some l.from }
+abbrev pub seen_load : Load → CarriedNeed
+seen_load l = record { need = l.need; from = if l.need == 0 then None else Some l.from }
 
 unfoldable pub nth : List Load → ℕ → Load
 nth loads i = slice_index_or loads i (record { need = 0; from = 0 })

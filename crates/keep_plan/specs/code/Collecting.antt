@@ -8,7 +8,7 @@ use Rattle.keep_rule.specs.declared.limit.TheConstants.{LIMIT}
 use Rattle.keep_plan.specs.Decides.{AreLongest}
 
 -- the runs are those of the list to come, at most so many of them
-pub record IsWhole (comes : List Force → Type 0) (most : ℕ) (rs : List Run) : Type 0 where
+pub record RunsAreWhole (comes : List Force → Type 0) (most : ℕ) (rs : List Run) : Type 0 where
   pub runs : AreRuns rs
   pub all : comes (all_wakes rs)
   pub longest : AreLongest rs
@@ -16,8 +16,8 @@ pub record IsWhole (comes : List Force → Type 0) (most : ℕ) (rs : List Run) 
   pub few_runs : length rs ≤ most
 
 -- the list to come is longer than a plan may be
-abbrev pub IsOverlong : (List Force → Type 0) → Type 0
-IsOverlong comes = (xs : List Force) → comes xs → LIMIT < length xs
+abbrev pub ListIsOverlong : (List Force → Type 0) → Type 0
+ListIsOverlong comes = (xs : List Force) → comes xs → LIMIT < length xs
 
 -- where `rest` follows the runs, no longer run stands at the place of any of them
 abbrev pub AreLongestBefore : List Run → List Force → Type 0
@@ -26,7 +26,7 @@ AreLongestBefore (r ∷ rs) rest = ((other : Run) (ys : List Force) → all_wake
 
 -- of a list to come, whose runs are at most so many, these runs were taken: what stood for it stands for what follows them.
 -- There is room for so many wake-ups more, of which one is past the limit
-pub record IsTaken (old new : List Force → Type 0) (old_most new_most : ℕ) (taken : List Run) (room : ℕ) : Type 0 where
+pub record RunsAreTaken (old new : List Force → Type 0) (old_most new_most : ℕ) (taken : List Run) (room : ℕ) : Type 0 where
   pub runs : AreRuns taken
   pub some : 0 < room
   pub filled : length (all_wakes taken) + room ≡ LIMIT + 1

@@ -3,7 +3,7 @@
 use Rattle.std.specs.Prelude.{ℕ, ◌+◌, Bool, ◌&&◌, List, Option, Some, None, nat_lt}
 use Rattle.keep_tree.specs.Forest.{Forest, end_of}
 use Rattle.keep_tree.specs.Renewal.{renewed}
-use Rattle.keep_rule.specs.Asks.{is_due}
+use Rattle.keep_rule.specs.Asks.{is_end_due}
 use Rattle.keep_needs.specs.Carried.{CarriedNeed, load_at}
 
 -- until when an end has to last so that its entry can wait for the next moment, None where there is none
@@ -15,4 +15,4 @@ waits_until margin (Some next) = Some (next + margin)
 abbrev pub is_test : Forest → List CarriedNeed → ℕ → Option ℕ → ℕ → Bool
 is_test g loads at until i =
     nat_lt (end_of g.entries i) (load_at loads i).need
-    && (is_due 0 until (end_of g.entries i) && nat_lt (end_of g.entries i) (renewed g.entries g.margin (end_of g.entries) at i))
+    && (is_end_due 0 until (end_of g.entries i) && nat_lt (end_of g.entries i) (renewed g.entries g.margin (end_of g.entries) at i))

@@ -6,7 +6,7 @@ use Rattle.keep_plan.specs.declared.widest.Widest.{Widest}
 use Rattle.keep_plan.specs.Widest.{IsEnough, IsFewest}
 
 -- low is 0, or enough with its fewest wake-ups; and none over high is enough
-pub record IsBetween (g : Forest) (s most : ℕ) (low : Widest) (high : ℕ) : Type 0 where
+pub record WidestIsBetween (g : Forest) (s most : ℕ) (low : Widest) (high : ℕ) : Type 0 where
   pub ordered : low.margin ≤ high
   pub enough : 0 < low.margin → IsEnough g s most low.margin
   pub fewest : 0 < low.margin → IsFewest (record g { margin = low.margin }) s low.wakes

@@ -6,8 +6,8 @@ use Rattle.keep_tree.specs.Renewal.{all_last, renewal}
 use Rattle.keep_rule.specs.Keeps.{Alive}
 
 -- a list of ends as the function from an index to its end, 0 past the last
-unfoldable pub shown : List ℕ → ℕ → ℕ
-shown ends i = slice_index ends i
+unfoldable pub shown_ends : List ℕ → ℕ → ℕ
+shown_ends ends i = slice_index ends i
 
 -- each of lasts is the least end among those of the entry and of all over it
 pub record Lasts (es : List Entry) (ends : ℕ → ℕ) (lasts : List ℕ) : Type 0 where
@@ -19,5 +19,5 @@ abbrev pub KeptBetween : List Entry → (ℕ → ℕ) → ℕ → ℕ → Type 0
 KeptBetween es ends from to = (i m : ℕ) → from ≤ m → m < to → m < (entry_at es i).need → Alive es ends m i
 
 -- the end after a request at t of an entry with this end, over which each end is `last` or later
-abbrev pub renewed_by : Entry → ℕ → ℕ → ℕ → ℕ → ℕ
-renewed_by e margin t last end = if e.renewable && nat_le (t + margin) last then renewal e t else end
+abbrev pub end_renewed_by : Entry → ℕ → ℕ → ℕ → ℕ → ℕ
+end_renewed_by e margin t last end = if e.renewable && nat_le (t + margin) last then renewal e t else end

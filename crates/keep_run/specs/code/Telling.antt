@@ -10,14 +10,14 @@ use Rattle.keep_report.specs.declared.stop.Stop.{Stop}
 use Rattle.keep_report.specs.declared.stop.Stop.TheVariants as stops
 use Rattle.keep_report.specs.Sent.{IsAll}
 use Rattle.keep_run.specs.Closed.{AreAnswered, Exchanged, World}
-use Rattle.keep_run.specs.Hearing.{IsAskLeft, IsOverlong}
+use Rattle.keep_run.specs.Hearing.{IsAskLeft, NeedIsOverlong}
 use Rattle.keep_lines.specs.declared.event_line.Heard.{Heard}
 use Rattle.keep_run.specs.code.Playing.{Answers, AnswersAll}
 use Rattle.keep_run.specs.Text.{answer_text, inventory_with}
 
 -- all of a text was written and flushed, and no call failed
-abbrev pub IsSent : List ℕ → Change → Type 0
-IsSent text out = IsAll text out × (out.new.failed_calls ≡ out.old.failed_calls)
+abbrev pub IsSentWhole : List ℕ → Change → Type 0
+IsSentWhole text out = IsAll text out × (out.new.failed_calls ≡ out.old.failed_calls)
 
 -- ---- one answer
 
@@ -27,7 +27,7 @@ IsOneCut port cs t old i new out = (output : Output) × ((text : List ℕ) × (A
 
 -- what asking one comes to: its lines were written and flushed, or why not
 abbrev pub TellsOne : ℕ → List (List ℕ) → ℕ → World → ℕ → Result Output Stop → World → Change → Type 0
-TellsOne port cs t old i (Ok output) new out = (text : List ℕ) × (Answers port cs t old i output new [] text × IsSent text out)
+TellsOne port cs t old i (Ok output) new out = (text : List ℕ) × (Answers port cs t old i output new [] text × IsSentWhole text out)
 TellsOne port cs t old i (Err stops.Write) new out = HasFailed out.old.failed_calls out.new.failed_calls × IsOneCut port cs t old i new out
 TellsOne port cs t old i (Err stops.Memory) new out = (Keeps out.old.output.written out.new.output.written × IsAskLeft port cs t old (i ∷ []) new.behind) ⊎ (IsTrue out.is_in_memory × IsOneCut port cs t old i new out)
 TellsOne port cs t old i (Err stop) new out = ⊥
@@ -70,7 +70,7 @@ pub record IsRoundBroken (port : ℕ) (cs : List (List ℕ)) (t : ℕ) (old : Wo
 
 -- what a round comes to: the lines of each answer were written and flushed before the next was asked, or why not
 abbrev pub TellsRound : ℕ → List (List ℕ) → ℕ → World → List ℕ → Result (Option ℕ) Stop → World → Change → Type 0
-TellsRound port cs t old asked (Ok next) new out = (text : List ℕ) × (AnswersAll port cs t old asked next new [] text × IsSent text out)
+TellsRound port cs t old asked (Ok next) new out = (text : List ℕ) × (AnswersAll port cs t old asked next new [] text × IsSentWhole text out)
 TellsRound port cs t old asked (Err stops.Write) new out = HasFailed out.old.failed_calls out.new.failed_calls × IsRoundCut port cs t old asked new out
 TellsRound port cs t old asked (Err stops.Memory) new out = IsRoundBroken port cs t old asked new out ⊎ (IsTrue out.is_in_memory × IsRoundCut port cs t old asked new out)
 TellsRound port cs t old asked (Err stop) new out = ⊥
@@ -79,6 +79,6 @@ TellsRound port cs t old asked (Err stop) new out = ⊥
 
 -- why hearing a need stops
 abbrev pub StopsNeed : World → Heard → Stop → World → Type 0
-StopsNeed old heard stops.TooLong new = IsOverlong old heard new
+StopsNeed old heard stops.TooLong new = NeedIsOverlong old heard new
 StopsNeed old heard stops.Memory new = Unit {0}
 StopsNeed old heard stop new = ⊥

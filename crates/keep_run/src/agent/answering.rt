@@ -5,7 +5,7 @@ ghost use Rattle.keep_core.specs.Refusal.{waits_for};
 ghost use Rattle.keep_report.specs.declared.stop.Stop.TheVariants as stops;
 ghost use Rattle.keep_run.specs.Closed.{told_next};
 ghost use Rattle.keep_run.specs.Hearing.{IsAskLeft};
-ghost use Rattle.keep_run.specs.code.Playing.{Answers, Hears};
+ghost use Rattle.keep_run.specs.code.Playing.{Answers, TakesAnswer};
 ghost use Rattle.keep_run.specs.Stops.{both};
 
 use crate::agent::Agent;
@@ -32,7 +32,7 @@ pub(crate) fn answer<E: Exchange>(
     requires quiet { agent.old.keeper.shortened ≡ [] }
     ensures memory { IfErr result (λ stop. stop ≡ stops.Memory) }
     ensures left { OnErr result (IsAskLeft (E.host_port exchange.old) agent.old.credentials t (both agent.old.keeper (E.behind exchange.old)) (i ∷ []) (E.behind exchange.new)) }
-    ensures hears { IfOk result (λ output. Hears i agent.old.keeper output agent.new.keeper) }
+    ensures hears { IfOk result (λ output. TakesAnswer i agent.old.keeper output agent.new.keeper) }
     ensures answers { IfOk result (λ output. Answers (E.host_port exchange.old) agent.old.credentials t (both agent.old.keeper (E.behind exchange.old)) i output (both agent.new.keeper (E.behind exchange.new)) text.old.items text.new.items) }
     ensures credentials { agent.new.credentials ≡ agent.old.credentials }
     ensures port { E.host_port exchange.new ≡ E.host_port exchange.old }

@@ -1,10 +1,11 @@
 //! The lines that a run is written as.
 ghost use Rattle.std.specs.Prelude.{◌≡◌, ◌++◌, ◌<◌, OnOk, length};
 ghost use Rattle.std.specs.List.{All};
-ghost use Rattle.keep_run.specs.Text.{answer_line, done_text, short_line, short_lines, wake_line};
+ghost use Rattle.keep_run.specs.Text.{answer_line, done_text, short_need_line, short_need_lines, wake_line_of_output};
 ghost use Rattle.keep_core.specs.declared.event.Output.TheVariants as out;
-ghost use Rattle.keep_run.specs.Hearing.{entry_line, next_line, sleep_line};
+ghost use Rattle.keep_run.specs.Hearing.{next_tick_line, sleep_line};
 ghost use Rattle.keep_run.specs.Replies.{IsAnswerOf};
+ghost use Rattle.keep_lines.specs.Text.{entry_line};
 
 use keep_core::{Event, ShortNeed};
 use keep_lines::{push_numbered, push_wake};
@@ -13,7 +14,7 @@ use std::alloc::{AllocError, Global};
 use vault_http::Reply;
 
 /// Appends the line of each need that was shortened.
-#[tactic(auto, unfolding(crate::specs::Text::short_lines))]
+#[tactic(auto, unfolding(crate::specs::Text::short_need_lines))]
 pub(crate) fn push_short_lines(
     alloc: Global,
     forest: &Forest,
@@ -21,7 +22,7 @@ pub(crate) fn push_short_lines(
     text: &mut Vec<u8>,
 ) -> Result<(), AllocError>
     requires { All (λ p. p.entry < length forest.now.entries) short.now }
-    ensures { OnOk result (text.new.items ≡ text.old.items ++ short_lines forest.now short.now) }
+    ensures { OnOk result (text.new.items ≡ text.old.items ++ short_need_lines forest.now short.now) }
 {
     for pair in short {
         push_short_line(alloc, forest, *pair, text)?;
@@ -37,7 +38,7 @@ fn push_short_line(
     text: &mut Vec<u8>,
 ) -> Result<(), AllocError>
     requires { pair.entry < length forest.now.entries }
-    ensures { OnOk result (text.new.items ≡ text.old.items ++ short_line forest.now pair) }
+    ensures { OnOk result (text.new.items ≡ text.old.items ++ short_need_line forest.now pair) }
 {
     let need = pair.need.to_string(alloc)?;
     text.extend_from_slice(b"short ")?;
@@ -56,7 +57,7 @@ pub(crate) fn push_wake_line(
     asked: &[u32],
     text: &mut Vec<u8>,
 ) -> Result<(), AllocError>
-    ensures { OnOk result (text.new.items ≡ text.old.items ++ wake_line forest.now t (out.Ask asked.now)) }
+    ensures { OnOk result (text.new.items ≡ text.old.items ++ wake_line_of_output forest.now t (out.Ask asked.now)) }
 {
     push_wake(alloc, forest, t, asked, text)
 }
@@ -131,7 +132,7 @@ pub(crate) fn push_next(
     next: Option<u64>,
     text: &mut Vec<u8>,
 ) -> Result<(), AllocError>
-    ensures { OnOk result (text.new.items ≡ text.old.items ++ next_line next) }
+    ensures { OnOk result (text.new.items ≡ text.old.items ++ next_tick_line next) }
 {
     let Some(t) = next else {
         text.extend_from_slice(b"next none\n")?;

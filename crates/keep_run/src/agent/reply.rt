@@ -1,7 +1,7 @@
 //! The event that a reply to a renewal gives.
 ghost use Rattle.std.specs.Prelude.{◌≡◌, IfOk};
 ghost use Rattle.keep_core.specs.Refusal.{TellsSpan};
-ghost use Rattle.keep_run.specs.Replies.{event_of, told_of};
+ghost use Rattle.keep_run.specs.Replies.{event_of, told_of_body};
 
 use keep_core::Event;
 use keep_exchange::renewed_in;
@@ -37,7 +37,7 @@ pub fn event_from(
 
 // The event of what a body tells of the entry, if it tells something.
 fn told_of(i: u32, renewed: Option<Renewed>) -> Event
-    ensures is { result ≡ told_of i renewed }
+    ensures is { result ≡ told_of_body i renewed }
     ensures span { TellsSpan result }
 {
     match renewed {

@@ -2,9 +2,9 @@
 ghost use Rattle.std.specs.Prelude.{◌≡◌, ◌≤◌, IfOk, Some, length};
 ghost use Rattle.std.specs.Result.{IfErr};
 ghost use Rattle.keep_report.specs.declared.stop.Stop.TheVariants as stops;
-ghost use Rattle.keep_run.specs.Closed.{asked_in};
-ghost use Rattle.keep_run.specs.Hearing.{IsReady};
-ghost use Rattle.keep_run.specs.code.Playing.{Comes, Leaves, Ticks};
+ghost use Rattle.keep_run.specs.Closed.{asked_by_output};
+ghost use Rattle.keep_run.specs.Hearing.{IsBetweenEvents};
+ghost use Rattle.keep_run.specs.code.Playing.{MayCome, TickLeaves, Ticks};
 
 use crate::agent::Agent;
 use crate::agent::lines::{push_short_lines, push_wake_line};
@@ -20,12 +20,12 @@ pub(crate) fn tick(
     t: u64,
     text: &mut Vec<u8>,
 ) -> Result<Output, Stop>
-    requires ready { IsReady agent.old.keeper }
-    requires comes { Comes agent.old.keeper.last (Some t) }
+    requires ready { IsBetweenEvents agent.old.keeper }
+    requires comes { MayCome agent.old.keeper.last (Some t) }
     ensures memory { IfErr result (λ stop. stop ≡ stops.Memory) }
     ensures ticks { IfOk result (λ output. Ticks t agent.old.keeper output agent.new.keeper text.old.items text.new.items) }
-    ensures leaves { IfOk result (λ output. Leaves t output agent.new.keeper) }
-    ensures few { IfOk result (λ output. length (asked_in output) ≤ 4096) }
+    ensures leaves { IfOk result (λ output. TickLeaves t output agent.new.keeper) }
+    ensures few { IfOk result (λ output. length (asked_by_output output) ≤ 4096) }
     ensures credentials { agent.new.credentials ≡ agent.old.credentials }
 {
     let _entries = agent.forest().len();

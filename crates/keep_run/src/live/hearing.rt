@@ -2,8 +2,8 @@
 ghost use Rattle.std.specs.Prelude.{◌≡◌, ◌++◌, ◌<◌, List, Option, ℕ, IsTrue, OnOk, length};
 ghost use Rattle.std.specs.Result.{IfErr};
 ghost use Rattle.keep_exchange.specs.Exchanges.{Behind};
-ghost use Rattle.keep_lines.specs.EventLines.{IsWithin};
-ghost use Rattle.keep_run.specs.Hearing.{HearsTo, IsNeeded, IsReady};
+ghost use Rattle.keep_lines.specs.EventLines.{IsEventLineWithin};
+ghost use Rattle.keep_run.specs.Hearing.{HearsTo, IsBetweenEvents, NeedIsInForce};
 ghost use Rattle.keep_lines.specs.declared.event_line.Heard.TheVariants as heards;
 ghost use Rattle.keep_run.specs.Stops.{both};
 ghost use Rattle.keep_run.specs.code.Telling.{StopsNeed};
@@ -38,13 +38,13 @@ pub fn hear<E: Exchange, W: Sink>(
     heard: Heard,
     out: &mut W,
 ) -> Result<(), Stop>
-    requires ready { IsReady agent.old.keeper }
-    requires within { IsWithin (length agent.old.keeper.forest.entries) heard }
+    requires ready { IsBetweenEvents agent.old.keeper }
+    requires within { IsEventLineWithin (length agent.old.keeper.forest.entries) heard }
     requires flushed { IsTrue (W.seen out.old).output.is_flushed }
     requires begun { E.limit exchange.old ≡ E.longest exchange.old }
     ensures hears { HearsTo (E.host_port exchange.old) agent.old.credentials (both agent.old.keeper (E.behind exchange.old)) heard result (both agent.new.keeper (E.behind exchange.new)) (⟦<W as Watched>⟧.change out.old out.new) }
     ensures count { OnOk result ((W.seen out.new).failed_calls ≡ (W.seen out.old).failed_calls) }
-    ensures ready { OnOk result (IsReady agent.new.keeper) }
+    ensures ready { OnOk result (IsBetweenEvents agent.new.keeper) }
     ensures credentials { agent.new.credentials ≡ agent.old.credentials }
     ensures port { E.host_port exchange.new ≡ E.host_port exchange.old }
 {
@@ -67,11 +67,11 @@ fn hear_need(
     until: Moment,
     text: &mut Vec<u8>,
 ) -> Result<(), Stop>
-    requires ready { IsReady agent.old.keeper }
+    requires ready { IsBetweenEvents agent.old.keeper }
     requires within { i < length agent.old.keeper.forest.entries }
     ensures stops { IfErr result (λ stop. (behind : Option Behind) → StopsNeed (both agent.old.keeper behind) (heards.Need i until) stop (both agent.new.keeper behind)) }
-    ensures needed { OnOk result ((b : Option Behind) → (lines : List ℕ) × (IsNeeded i until (both agent.old.keeper b) (both agent.new.keeper b) lines × (text.new.items ≡ text.old.items ++ lines))) }
-    ensures ready { OnOk result (IsReady agent.new.keeper) }
+    ensures needed { OnOk result ((b : Option Behind) → (lines : List ℕ) × (NeedIsInForce i until (both agent.old.keeper b) (both agent.new.keeper b) lines × (text.new.items ≡ text.old.items ++ lines))) }
+    ensures ready { OnOk result (IsBetweenEvents agent.new.keeper) }
     ensures credentials { agent.new.credentials ≡ agent.old.credentials }
 {
     let event = Event::Need {
@@ -96,11 +96,11 @@ fn hear_tick<E: Exchange, W: Sink>(
     t: Moment,
     out: &mut W,
 ) -> Result<(), Stop>
-    requires ready { IsReady agent.old.keeper }
+    requires ready { IsBetweenEvents agent.old.keeper }
     requires flushed { IsTrue (W.seen out.old).output.is_flushed }
     ensures hears { HearsTo (E.host_port exchange.old) agent.old.credentials (both agent.old.keeper (E.behind exchange.old)) (heards.Tick t) result (both agent.new.keeper (E.behind exchange.new)) (⟦<W as Watched>⟧.change out.old out.new) }
     ensures count { OnOk result ((W.seen out.new).failed_calls ≡ (W.seen out.old).failed_calls) }
-    ensures ready { OnOk result (IsReady agent.new.keeper) }
+    ensures ready { OnOk result (IsBetweenEvents agent.new.keeper) }
     ensures credentials { agent.new.credentials ≡ agent.old.credentials }
     ensures port { E.host_port exchange.new ≡ E.host_port exchange.old }
 {

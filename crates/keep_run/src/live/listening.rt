@@ -1,12 +1,12 @@
 //! Event lines as they come, heard one after another.
 ghost use Rattle.std.specs.Prelude.{◌≡◌, IsTrue};
-ghost use Rattle.keep_lines.specs.Hearing.{IsBetween};
-ghost use Rattle.keep_run.specs.Hearing.{IsReady};
+ghost use Rattle.keep_lines.specs.Hearing.{EndsBetweenLines};
+ghost use Rattle.keep_run.specs.Hearing.{IsBetweenEvents};
 ghost use Rattle.keep_run.specs.Listening as listening;
-ghost use Rattle.keep_run.specs.Listening.{Listens};
+ghost use Rattle.keep_run.specs.Listening.{ListensToEvents};
 ghost use Rattle.keep_run.specs.Stops.{both};
 ghost use Rattle.keep_run.specs.Closed.{World};
-ghost use Rattle.keep_run.specs.StopsAfter.{stops_after};
+ghost use Rattle.keep_run.specs.StopsAfter.{events_stop_after};
 
 use crate::agent::Agent;
 use crate::live::hearing::hear;
@@ -31,9 +31,9 @@ impl<E: Exchange> Hearer<E> for Agent {
 
     ghost state = { λ agent exchange. both agent.keeper (E.behind exchange) };
 
-    ghost hearing = { λ asked. listening.hearing asked.port asked.credentials };
+    ghost hearing = { λ asked. listening.hearing_of_events asked.port asked.credentials };
 
-    ghost is_ready = { λ agent exchange out. IsReady agent.keeper × IsTrue out.output.is_flushed };
+    ghost is_ready = { λ agent exchange out. IsBetweenEvents agent.keeper × IsTrue out.output.is_flushed };
 
     /// Its requests may take as long as those of the first line.
     fn hear<W: Sink>(
@@ -51,7 +51,7 @@ impl<E: Exchange> Hearer<E> for Agent {
         hear(alloc, self, neighbours, heard, out)
     }
 
-    ghost stops_after = { λ asked. stops_after asked.port asked.credentials };
+    ghost stops_after = { λ asked. events_stop_after asked.port asked.credentials };
 }
 
 /// Hears event lines until they end, in at most 65,536 reads: each line is answered, and its lines written and flushed, before
@@ -68,10 +68,10 @@ pub(crate) fn listen<R: Source, E: Exchange, W: Sink>(
     exchange: &mut E,
     out: &mut W,
 ) -> Result<(), Stop>
-    requires ready { IsReady agent.old.keeper }
+    requires ready { IsBetweenEvents agent.old.keeper }
     requires flushed { IsTrue (W.seen out.old).output.is_flushed }
-    ensures listens { Listens (E.host_port exchange.old) agent.old.credentials (both agent.old.keeper (E.behind exchange.old)) result (both agent.new.keeper (E.behind exchange.new)) (⟦<R as Watched>⟧.change events.old events.new) (⟦<W as Watched>⟧.change out.old out.new) }
-    ensures flushed { IsBetween result → IsTrue (W.seen out.new).output.is_flushed }
+    ensures listens { ListensToEvents (E.host_port exchange.old) agent.old.credentials (both agent.old.keeper (E.behind exchange.old)) result (both agent.new.keeper (E.behind exchange.new)) (⟦<R as Watched>⟧.change events.old events.new) (⟦<W as Watched>⟧.change out.old out.new) }
+    ensures flushed { EndsBetweenLines result → IsTrue (W.seen out.new).output.is_flushed }
     ensures output { (R.seen events.new).output ≡ (R.seen events.old).output }
 {
     let limits = Limits {

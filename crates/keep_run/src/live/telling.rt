@@ -2,8 +2,8 @@
 ghost use Rattle.std.specs.Prelude.{◌≡◌, ◌≢◌, ◌<◌, [], IfOk, IsTrue, OnOk, length, true};
 ghost use Rattle.keep_core.specs.LawsOfSteps.{IsShaped};
 ghost use Rattle.keep_core.specs.Refusal.{waits_for};
-ghost use Rattle.keep_run.specs.Hearing.{IsReady};
-ghost use Rattle.keep_run.specs.code.Playing.{Hears, Waits};
+ghost use Rattle.keep_run.specs.Hearing.{IsBetweenEvents};
+ghost use Rattle.keep_run.specs.code.Playing.{RoundWaits, TakesAnswer};
 ghost use Rattle.keep_run.specs.Stops.{both};
 ghost use Rattle.keep_run.specs.code.Telling.{TellsOne, TellsRound};
 
@@ -26,12 +26,12 @@ pub(crate) fn tell_round<E: Exchange, W: Sink>(
     asked: &[u32],
     out: &mut W,
 ) -> Result<Option<u64>, Stop>
-    requires waits { Waits agent.old.keeper t asked.now }
+    requires waits { RoundWaits agent.old.keeper t asked.now }
     requires some { asked.now ≢ [] }
     requires quiet { agent.old.keeper.shortened ≡ [] }
     requires flushed { IsTrue (W.seen out.old).output.is_flushed }
     ensures tells { TellsRound (E.host_port exchange.old) agent.old.credentials t (both agent.old.keeper (E.behind exchange.old)) asked.now result (both agent.new.keeper (E.behind exchange.new)) (⟦<W as Watched>⟧.change out.old out.new) }
-    ensures ready { IfOk result (λ _. IsReady agent.new.keeper) }
+    ensures ready { IfOk result (λ _. IsBetweenEvents agent.new.keeper) }
     ensures credentials { agent.new.credentials ≡ agent.old.credentials }
     ensures port { E.host_port exchange.new ≡ E.host_port exchange.old }
 {
@@ -58,7 +58,7 @@ fn tell_answer<E: Exchange, W: Sink>(
     requires quiet { agent.old.keeper.shortened ≡ [] }
     requires flushed { IsTrue (W.seen out.old).output.is_flushed }
     ensures tells { TellsOne (E.host_port exchange.old) agent.old.credentials t (both agent.old.keeper (E.behind exchange.old)) i result (both agent.new.keeper (E.behind exchange.new)) (⟦<W as Watched>⟧.change out.old out.new) }
-    ensures hears { IfOk result (λ output. Hears i agent.old.keeper output agent.new.keeper) }
+    ensures hears { IfOk result (λ output. TakesAnswer i agent.old.keeper output agent.new.keeper) }
     ensures credentials { agent.new.credentials ≡ agent.old.credentials }
     ensures port { E.host_port exchange.new ≡ E.host_port exchange.old }
 {

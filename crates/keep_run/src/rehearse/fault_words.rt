@@ -1,6 +1,6 @@
 //! FAULT words: what is to go wrong at which renewal request.
 ghost use Rattle.std.specs.Prelude.{◌≡◌, []};
-ghost use Rattle.keep_run.specs.FaultWords.{SetsFaults, fault_word, kind_of, stop_at};
+ghost use Rattle.keep_run.specs.FaultWords.{SetsFaults, fault_of_text, fault_word, stop_at};
 
 use broker_table::{Fault, NumberedFault, SetFault, Table};
 use keep_inventory::SPAN_MAX;
@@ -54,9 +54,9 @@ fn fault_of(word: &[u8]) -> Option<NumberedFault>
 }
 
 /// What goes wrong: `short:SECONDS`, `drop` or `deny`.
-#[tactic(auto, unfolding(crate::specs::FaultWords::kind_of))]
+#[tactic(auto, unfolding(crate::specs::FaultWords::fault_of_text))]
 fn kind_of(text: &[u8]) -> Option<Fault>
-    ensures { result ≡ kind_of text.now }
+    ensures { result ≡ fault_of_text text.now }
 {
     if text == b"drop".as_slice() {
         return Some(Fault::Drop);

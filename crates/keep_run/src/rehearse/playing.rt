@@ -2,8 +2,8 @@
 ghost use Rattle.std.specs.Prelude.{◌≡◌, ◌++◌, List, None, Option, Some, ℕ};
 ghost use Rattle.keep_exchange.specs.Exchanges.{Behind};
 ghost use Rattle.keep_run.specs.Text.{done_text};
-ghost use Rattle.keep_run.specs.Hearing.{IsReady};
-ghost use Rattle.keep_run.specs.code.Playing.{Comes, Finishes, LastPlays, Plays};
+ghost use Rattle.keep_run.specs.Hearing.{IsBetweenEvents};
+ghost use Rattle.keep_run.specs.code.Playing.{Finishes, LastPlays, MayCome, Plays};
 ghost use Rattle.keep_run.specs.Stops.{both};
 
 use crate::agent::Agent;
@@ -27,8 +27,8 @@ pub(crate) fn play<W: Sink>(
     lines: &[u8],
     out: &mut W,
 ) -> Result<(), Stop>
-    requires ready { IsReady agent.old.keeper }
-    requires comes { Comes agent.old.keeper.last (Some start) }
+    requires ready { IsBetweenEvents agent.old.keeper }
+    requires comes { MayCome agent.old.keeper.last (Some start) }
     ensures { Plays agent.old.credentials (both agent.old.keeper (Some exchange.old)) start lines.now result (both agent.new.keeper (Some exchange.new)) (⟦<W as Watched>⟧.change out.old out.new) }
 {
     write_all(out, lines)?;
@@ -57,8 +57,8 @@ fn last<W: Sink>(
     requests: u64,
     out: &mut W,
 ) -> Result<(), Stop>
-    requires ready { IsReady agent.old.keeper }
-    requires comes { Comes agent.old.keeper.last (Some due) }
+    requires ready { IsBetweenEvents agent.old.keeper }
+    requires comes { MayCome agent.old.keeper.last (Some due) }
     ensures { (cs : List (List ℕ)) (behind : Option Behind) → LastPlays cs behind agent.old.keeper due requests result agent.new.keeper (⟦<W as Watched>⟧.change out.old out.new) }
 {
     let mut text = Vec::new(alloc);

@@ -4,8 +4,8 @@ ghost use Rattle.std.specs.Result.{IfErr};
 ghost use Rattle.keep_report.specs.declared.stop.Stop.TheVariants as stops;
 ghost use Rattle.keep_core.specs.LawsOfSteps.{IsShaped};
 ghost use Rattle.keep_exchange.specs.Exchanges.{Behind};
-ghost use Rattle.keep_run.specs.Hearing.{IsReady};
-ghost use Rattle.keep_run.specs.code.Playing.{AnswersAll, Comes, LeavesOpen, OpensOrEnds, Waits, Wakes, asked_of, next_in, requests_in};
+ghost use Rattle.keep_run.specs.Hearing.{IsBetweenEvents};
+ghost use Rattle.keep_run.specs.code.Playing.{AnswersAll, LeavesOpen, MayCome, OpensOrEnds, RoundWaits, RunWakes, asked_of_opened, next_in, requests_in};
 ghost use Rattle.keep_run.specs.Stops.{both};
 
 use crate::agent::Agent;
@@ -40,14 +40,14 @@ pub(crate) fn wake(
     due: u64,
     text: &mut Vec<u8>,
 ) -> Result<Option<Woken>, Stop>
-    requires ready { IsReady agent.old.keeper }
-    requires comes { Comes agent.old.keeper.last (Some due) }
+    requires ready { IsBetweenEvents agent.old.keeper }
+    requires comes { MayCome agent.old.keeper.last (Some due) }
     ensures memory { IfErr result (λ stop. stop ≡ stops.Memory) }
-    ensures wakes { IfOk result (λ woken. Wakes agent.old.credentials (both agent.old.keeper (Some exchange.old)) due woken (both agent.new.keeper (Some exchange.new)) text.old.items text.new.items) }
+    ensures wakes { IfOk result (λ woken. RunWakes agent.old.credentials (both agent.old.keeper (Some exchange.old)) due woken (both agent.new.keeper (Some exchange.new)) text.old.items text.new.items) }
     ensures few { IfOk result (λ woken. requests_in woken ≤ 4096) }
     ensures shaped { IfOk result (λ _. IsShaped agent.old.keeper.forest agent.new.keeper.forest) }
-    ensures ready { IfOk result (λ _. IsReady agent.new.keeper) }
-    ensures comes { IfOk result (λ woken. Comes agent.new.keeper.last (next_in woken)) }
+    ensures ready { IfOk result (λ _. IsBetweenEvents agent.new.keeper) }
+    ensures comes { IfOk result (λ woken. MayCome agent.new.keeper.last (next_in woken)) }
     ensures credentials { agent.new.credentials ≡ agent.old.credentials }
 {
     let Some(opened) = open(alloc, agent, due, text)? else {
@@ -72,14 +72,14 @@ fn round<E: Exchange>(
     asked: &[u32],
     text: &mut Vec<u8>,
 ) -> Result<Option<u64>, Stop>
-    requires waits { Waits agent.old.keeper t asked.now }
+    requires waits { RoundWaits agent.old.keeper t asked.now }
     requires some { asked.now ≢ [] }
     requires quiet { agent.old.keeper.shortened ≡ [] }
     ensures memory { IfErr result (λ stop. stop ≡ stops.Memory) }
     ensures answers { IfOk result (λ next. AnswersAll (E.host_port exchange.old) agent.old.credentials t (both agent.old.keeper (E.behind exchange.old)) asked.now next (both agent.new.keeper (E.behind exchange.new)) text.old.items text.new.items) }
     ensures shaped { IfOk result (λ _. IsShaped agent.old.keeper.forest agent.new.keeper.forest) }
-    ensures ready { IfOk result (λ _. IsReady agent.new.keeper) }
-    ensures comes { IfOk result (λ next. Comes agent.new.keeper.last next) }
+    ensures ready { IfOk result (λ _. IsBetweenEvents agent.new.keeper) }
+    ensures comes { IfOk result (λ next. MayCome agent.new.keeper.last next) }
     ensures credentials { agent.new.credentials ≡ agent.old.credentials }
 {
     let mut next = None;
@@ -97,12 +97,12 @@ pub(crate) fn open(
     t: u64,
     text: &mut Vec<u8>,
 ) -> Result<Option<Opened>, Stop>
-    requires ready { IsReady agent.old.keeper }
-    requires comes { Comes agent.old.keeper.last (Some t) }
+    requires ready { IsBetweenEvents agent.old.keeper }
+    requires comes { MayCome agent.old.keeper.last (Some t) }
     ensures memory { IfErr result (λ stop. stop ≡ stops.Memory) }
     ensures opens { IfOk result (λ opened. (cs : List (List ℕ)) (behind : Option Behind) → OpensOrEnds cs behind agent.old.keeper t opened agent.new.keeper text.old.items text.new.items) }
     ensures leaves { IfOk result (λ opened. LeavesOpen opened agent.new.keeper) }
-    ensures few { IfOk result (λ opened. length (asked_of opened) ≤ 4096) }
+    ensures few { IfOk result (λ opened. length (asked_of_opened opened) ≤ 4096) }
     ensures taken { IfOk result (λ _. agent.new.keeper.shortened ≡ []) }
     ensures shaped { IfOk result (λ _. IsShaped agent.old.keeper.forest agent.new.keeper.forest) }
     ensures credentials { agent.new.credentials ≡ agent.old.credentials }

@@ -24,10 +24,10 @@ pub record Lined : Type 0 where
   pub room : ℕ
 
 -- x stands in the line, and none stands ahead of it
-pub record IsFirst (spots : List Spot) (x : Spot) : Type 0 where
+pub record IsFirstInLine (spots : List Spot) (x : Spot) : Type 0 where
   pub among : Contains spots x
   pub ahead : All (λ y. Ahead x.0.0 x.0.1 y.0.0 y.0.1) spots
 
 abbrev pub FirstOf : List Spot → Option ℕ → Type 0
 FirstOf spots None = spots ≡ []
-FirstOf spots (Some i) = (key : ℕ) × IsFirst spots (spot key i)
+FirstOf spots (Some i) = (key : ℕ) × IsFirstInLine spots (spot key i)

@@ -6,7 +6,7 @@ use Rattle.keep_schedule.specs.Prospect.{Prospect, terms_of}
 use Rattle.keep_schedule.specs.Terms.{Terms}
 
 -- each entry that falls short can be asked the margin before its end, gains by it, and is needed at a moment at most
-pub record IsSound (t : Terms) : Type 0 where
+pub record TermsAreSound (t : Terms) : Type 0 where
   pub step : (i : ℕ) → t.end i < t.need i → t.margin < t.step i
   pub end : (i : ℕ) → t.end i < t.need i → t.margin ≤ t.end i
   pub need : (i : ℕ) → t.need i ≤ LAST
@@ -14,4 +14,4 @@ pub record IsSound (t : Terms) : Type 0 where
 -- what is known of its terms
 pub record IsInSight (o : Prospect) : Type 0 where
   pub count : length o.loads ≡ length o.forest.entries
-  pub sound : IsSound (terms_of o)
+  pub sound : TermsAreSound (terms_of o)

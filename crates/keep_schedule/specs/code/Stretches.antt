@@ -5,7 +5,7 @@ use Rattle.keep_moment.specs.declared.moment.TheConstants.{LAST}
 use Rattle.keep_schedule.specs.declared.groups.Groups.{Groups}
 use Rattle.keep_schedule.specs.declared.groups.Next.{Next}
 use Rattle.keep_schedule.specs.declared.groups.Next.TheVariants.{Done, Joined, Waiting}
-use Rattle.keep_schedule.specs.code.Groups.{Settles}
+use Rattle.keep_schedule.specs.code.Groups.{SettlesGroups}
 use Rattle.keep_schedule.specs.Prospect.{Prospect, terms_of}
 use Rattle.keep_schedule.specs.Terms.{Leads, Terms}
 
@@ -19,10 +19,10 @@ pub record Stretches (o : Prospect) (f first most : ℕ) (old new : Groups) (mor
   pub ends : last ≡ first + more * ((terms_of o).step f - (terms_of o).margin)
   pub moment : last ≤ LAST
   pub leads : LeadsAll (terms_of o) first ((terms_of o).step f - (terms_of o).margin) f more
-  pub settles : Settles o last old new next
+  pub settles : SettlesGroups o last old new next
 
 -- another entry forces the next wake-up, or none
-abbrev pub IsOther : ℕ → Next → Type 0
-IsOther f Done = Unit {0}
-IsOther f (Waiting h) = Unit {0}
-IsOther f (Joined g) = g ≡ f → ⊥
+abbrev pub IsOtherEntry : ℕ → Next → Type 0
+IsOtherEntry f Done = Unit {0}
+IsOtherEntry f (Waiting h) = Unit {0}
+IsOtherEntry f (Joined g) = g ≡ f → ⊥

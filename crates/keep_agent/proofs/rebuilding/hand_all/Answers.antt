@@ -1,7 +1,7 @@
 -- One end more is handed in.
 use Rattle.std.proofs.Common.{◌≡◌, ◌∙◌, ℕ, suc, ◌+◌, Option, ap, arith, get_or, length, refl, subst, sym}
 use Rattle.keep_tree.specs.Forest.{Forest}
-use Rattle.watch_machine.specs.State.{State}
+use Rattle.watch_machine.specs.State.{WatchState}
 use Rattle.keep_agent.specs.declared.standing.Standing.{Standing}
 use Rattle.keep_agent.specs.declared.standing.Told.{Told}
 use Rattle.keep_agent.specs.Rebuilding.{AreHanded}

@@ -6,13 +6,13 @@ use Rattle.keep_control.specs.Words.{tree_of_words}
 use Rattle.keep_control.specs.declared.fault.RequestFault.TheVariants.{NotWords}
 use Rattle.keep_control.proofs.Chosen.{granted, ok_same}
 use Rattle.keep_control.proofs.WordTrees.{without_floats}
-use Rattle.keep_calling.specs.Asking.{is_text, tree_for, words_for, words_line}
+use Rattle.keep_calling.specs.Asking.{is_ask_text, tree_for_ask, words_for_ask, words_line}
 use Rattle.keep_calling.proofs.words.words_line.Goals as goal
 
 pub returns : goal.returns
-unfolding words_line tree_for
+unfolding words_line tree_for_ask
 returns c =
-    let ws = words_for c.args.ask.now c.args.input.now in
-    let p = granted (is_text c.args.ask.now c.args.input.now) (Ok (tree_of_words ws)) NotWords _ c.in_ok-tree.ensures in
+    let ws = words_for_ask c.args.ask.now c.args.input.now in
+    let p = granted (is_ask_text c.args.ask.now c.args.input.now) (Ok (tree_of_words ws)) NotWords _ c.in_ok-tree.ensures in
     let whole = without_floats ws _ (ok_same _ _ p.1) in
     ap (λ a. a >>= (λ d. Ok (compact_text d))) c.in_ok-tree.ensures ∙ ap (λ t. Ok t) (sym (c.in_ok-to_vec.ensures.text whole))

@@ -2,10 +2,10 @@
 use Rattle.std.proofs.Common.{◌≡◌, ◌+◌, ◌++◌, ◌∷◌, ◌<◌, ◌≤◌, [], true, false, bytes_eq, ap, arith, length, length-append, sym, ◌∙◌}
 use Rattle.std.proofs.lemmas.Result.{err_from_is_err_and}
 use Rattle.keep_cert.specs.declared.cert.TheConstants.{MAX_LINES}
-use Rattle.keep_rule.specs.Runs.{counted}
+use Rattle.keep_rule.specs.Runs.{wake_count}
 use Rattle.keep_words.specs.Pieces.{keyword}
 use Rattle.keep_cert.specs.Lines.{line_at, lines}
-use Rattle.keep_cert.specs.Reading.{ending, run_keyword, run_line, runs_of}
+use Rattle.keep_cert.specs.Reading.{ending, run_in_line, run_keyword, runs_of}
 use Rattle.keep_cert.proofs.Answering.{fails_along}
 use Rattle.keep_cert.proofs.Turns.{Behind, counted_push, full_done, full_fault, no_turn, other_done, other_fault, run_fault, run_more}
 use Rattle.keep_cert.proofs.run_lines.runs_of.Goals as goal
@@ -69,7 +69,7 @@ returns-in_err-run c =
     let key : bytes_eq (keyword line) (run_keyword v) ≡ true = sym (c.begins.ensures ∙ ap (bytes_eq (keyword line)) c.run_keyword.ensures) ∙ c.if-not-begins.false in
     let few : length found < MAX_LINES = omega (arith, c.loop-read.invariant.found, c.loop-read-test.true) in
     let p = err_from_is_err_and c.from_residual-in_err-run.result c.from_residual-in_err-run.ensures.1 in
-    rw (p.1, p.2) (fails_along c.in_err-run.field-0.0 (run_line v n es c.loop-read.total line) all (run_fault v es found n c.loop-read.total ls all b line rest c.in_ok-line.ensures key few) c.in_err-run.ensures.value)
+    rw (p.1, p.2) (fails_along c.in_err-run.field-0.0 (run_in_line v n es c.loop-read.total line) all (run_fault v es found n c.loop-read.total ls all b line rest c.in_ok-line.ensures key few) c.in_err-run.ensures.value)
 
 pub loop-read-preserved : goal.loop-read-preserved
 loop-read-preserved c =
@@ -91,7 +91,7 @@ loop-read-preserved c =
     record {
       whole = ap (λ rs. runs_of v es rs rest) pushed ∙ more;
       found = ap length pushed ∙ omega (arith, length-append found (run ∷ []), c.loop-read.invariant.found);
-      total = ap (λ t. t + run.count) c.loop-read.invariant.total ∙ sym (ap counted pushed ∙ counted_push found run);
+      total = ap (λ t. t + run.count) c.loop-read.invariant.total ∙ sym (ap wake_count pushed ∙ counted_push found run);
       within = omega (arith, c.loop-read.invariant.within, c.in_ok-run.ensures.within);
     }
 

@@ -1,7 +1,7 @@
 -- The lines from here on, after the runs that were found, are the whole from the start.
 use Rattle.std.proofs.Common.{◌≡◌, ◌≤◌, ◌*◌, [], length}
 use Rattle.keep_rule.specs.declared.limit.TheConstants.{LIMIT}
-use Rattle.keep_rule.specs.Runs.{counted}
+use Rattle.keep_rule.specs.Runs.{wake_count}
 use Rattle.keep_cert.specs.Lines.{lines}
 use Rattle.keep_cert.specs.Reading.{runs_of}
 use Rattle.keep_cert.proofs.run_lines.runs_of.Given as goal
@@ -10,6 +10,6 @@ abbrev pub invariant-loop-read : goal.invariant-loop-read
 invariant-loop-read l = record {
   whole : runs_of l.version l.forest.entries l.runs.items (lines l.rest) ≡ runs_of l.version l.forest.entries [] (lines l.text);
   found : length l.runs.items ≡ l.read;
-  total : l.total ≡ counted l.runs.items;
+  total : l.total ≡ wake_count l.runs.items;
   within : l.total ≤ l.read * LIMIT;
 }

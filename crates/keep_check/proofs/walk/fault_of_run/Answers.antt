@@ -4,7 +4,7 @@ use Rattle.keep_tree.specs.Forest.{end_of}
 use Rattle.keep_rule.proofs.Keeping.{end_below_bound}
 use Rattle.keep_rule.specs.declared.force.Force.{Force}
 use Rattle.keep_rule.specs.Runs.{wakes_of}
-use Rattle.keep_check.specs.code.Steps.{Finds}
+use Rattle.keep_check.specs.code.Steps.{WalkFinds}
 use Rattle.keep_check.specs.Walk.{fault}
 use Rattle.keep_check.proofs.Answers.{first_rises, forced_parts}
 use Rattle.keep_check.proofs.Run.{falls, found_behind, run_first, unforced}
@@ -62,7 +62,7 @@ returns c =
     let last = r.first + (r.count - 1) * r.step in
     let some : 0 < r.count = c.requires.fit.moments.some in
     let number : c.args.count + 1 + (r.count - 1) ≡ c.args.count + r.count = omega arith in
-    subst (λ ws. Finds g c.args.start c.args.previous c.args.count ws last (c.args.count + r.count) c.fault_after_first.result) (sym (run_first r.first r.step r.count r.entry r.needed some))
-    (subst (λ k. Finds g c.args.start c.args.previous c.args.count (w ∷ us) last k c.fault_after_first.result) number
+    subst (λ ws. WalkFinds g c.args.start c.args.previous c.args.count ws last (c.args.count + r.count) c.fault_after_first.result) (sym (run_first r.first r.step r.count r.entry r.needed some))
+    (subst (λ k. WalkFinds g c.args.start c.args.previous c.args.count (w ∷ us) last k c.fault_after_first.result) number
     (found_behind g c.args.start c.args.previous c.args.count w us last (c.args.count + 1 + (r.count - 1)) c.fault_after_first.result
     (sym c.rises.ensures ∙ c.if-not-rises.false) (sym c.is_forced.ensures ∙ c.if-not-is_forced.false) c.fault_after_first.ensures))

@@ -2,7 +2,7 @@
 use Rattle.std.proofs.Common.{◌≡◌, ◌+◌, ◌≤◌, IfSome, drop, length}
 use Rattle.keep_moment.specs.declared.moment.TheConstants.{LAST}
 use Rattle.keep_tree.specs.Forest.{end_of}
-use Rattle.keep_rule.specs.Runs.{all_wakes, counted}
+use Rattle.keep_rule.specs.Runs.{all_wakes, wake_count}
 use Rattle.keep_check.specs.Answer.{first_fault}
 use Rattle.keep_check.specs.code.Steps.{AllFit}
 use Rattle.keep_check.specs.Walk.{fault}
@@ -13,6 +13,6 @@ abbrev pub invariant-loop-run : goal.invariant-loop-run
 invariant-loop-run l = record {
   walk : fault l.forest.entries l.forest.margin l.start (end_of l.forest.entries) l.previous l.count (all_wakes (drop l.run-index l.runs)) ≡ first_fault l.forest l.start (all_wakes l.runs);
   fit : AllFit (length l.forest.entries) (drop l.run-index l.runs);
-  number : l.count + counted (drop l.run-index l.runs) ≡ 1 + counted l.runs;
+  number : l.count + wake_count (drop l.run-index l.runs) ≡ 1 + wake_count l.runs;
   room : IfSome l.previous (λ t. t ≤ LAST);
 }

@@ -1,7 +1,7 @@
 -- A line more is read of what is left, which gets shorter.
 use Rattle.std.proofs.Common.{◌≡◌, ◌∙◌, ◌++◌, ◌∷◌, [], List, ℕ, ap, option_map, sym}
 use Rattle.keep_words.specs.Pieces.{pieces}
-use Rattle.keep_control.specs.Replies.{closed}
+use Rattle.keep_control.specs.Replies.{closed_lines}
 use Rattle.keep_control.proofs.Replied.{line_read, shorter}
 use Rattle.keep_control.proofs.reply_reader.lines.Goals as goal
 
@@ -15,6 +15,6 @@ loop-line-preserved c =
     let after = c.in-Some.after.now in
     let items : c.push.new.self.items ≡ lines ++ line ∷ [] = cc (c.in_ok-push.ensures.items, c.in_ok-of.ensures) in
     c.loop-line.invariant
-    ∙ ap (λ ps. option_map (λ ls. lines ++ ls) (closed ps)) c.in-Some.ensures
+    ∙ ap (λ ps. option_map (λ ls. lines ++ ls) (closed_lines ps)) c.in-Some.ensures
     ∙ line_read lines line after
-    ∙ ap (λ (l : List (List ℕ)). option_map (λ ls. l ++ ls) (closed (pieces 10 after))) (sym items)
+    ∙ ap (λ (l : List (List ℕ)). option_map (λ ls. l ++ ls) (closed_lines (pieces 10 after))) (sym items)

@@ -2,7 +2,7 @@
 use Rattle.std.proofs.Common.{◌≡◌, ◌∙◌, ap, arith, length, subst, sym}
 use Rattle.keep_tree.specs.Forest.{Forest, end_of}
 use Rattle.keep_rule.specs.Unkeepable.{AllKeepable}
-use Rattle.keep_core.specs.code.Passes.{HasNeeds, PlanRefused}
+use Rattle.keep_core.specs.code.Passes.{ForestHasNeeds, PlanRefused}
 use Rattle.keep_core.proofs.Passing.{fails, taken_back}
 use Rattle.keep_core.proofs.Shortening.{shorten_count, shorten_keepable}
 use Rattle.keep_core.proofs.tick.replan_late.Goals as goal
@@ -25,7 +25,7 @@ returns-clause-refused c =
 pub returns-clause-unchanged : goal.returns-clause-unchanged
 returns-clause-unchanged c =
     let after = c.in_ok-needs.ensures in
-    let needs : HasNeeds c.args.forest.now c.deref.result.now = subst (HasNeeds c.args.forest.now) (sym c.deref.ensures.value) after.before in
+    let needs : ForestHasNeeds c.args.forest.now c.deref.result.now = subst (ForestHasNeeds c.args.forest.now) (sym c.deref.ensures.value) after.before in
     let whole = c.args.shortened.now.ok.0 in
     let noted : c.len-noted.result ≡ length c.args.shortened.now.items = omega (arith, c.len-noted.ensures) in
     let back = taken_back c.args.forest.now c.shorten.new.forest c.args.at c.args.shortened.now.items c.shorten.new.shortened.items c.deref.result.now c.len-noted.result after.shortened.0 after.shortened.1 noted needs in

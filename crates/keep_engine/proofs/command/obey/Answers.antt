@@ -1,6 +1,6 @@
 -- Each command is obeyed by the run over the bytes of its files.
 use Rattle.std.proofs.Common.{List, Ok, subst, ℕ}
-use Rattle.keep_files.specs.Files.{IsRead}
+use Rattle.keep_files.specs.Files.{FileIsRead}
 use Rattle.keep_engine.specs.Obeys.{ObeysOver}
 use Rattle.keep_inventory.specs.declared.limits.TheConstants.{MOST_INVENTORY}
 use Rattle.keep_engine.proofs.Obeying.{over_same, run_read}
@@ -10,6 +10,6 @@ pub returns-in-Ok : goal.returns-in-Ok
 returns-in-Ok g c =
     let command = c.args.command.now in
     let files = g.I.Inputs.bytes_at c.args.inputs.now in
-    let read = subst (λ (path : List ℕ). IsRead (files path) MOST_INVENTORY (Ok c.in-Ok.inventory)) c.inventory.ensures c.in-Ok.ensures.read in
+    let read = subst (λ (path : List ℕ). FileIsRead (files path) MOST_INVENTORY (Ok c.in-Ok.inventory)) c.inventory.ensures c.in-Ok.ensures.read in
     run_read _ MOST_INVENTORY (λ bytes. ObeysOver command files bytes) c.obey_over.result _ _ c.in-Ok.inventory c.list.result.now read c.list.ensures
     (over_same command files _ c.list.result.now c.obey_over.result _ _ c.in-Ok.ensures.same c.obey_over.ensures)

@@ -3,7 +3,7 @@ use Rattle.std.proofs.Common.{◌∙◌, ◌++◌, ap, sym}
 use Rattle.std.proofs.lemmas.List.{append-nil, append_assoc}
 use Rattle.keep_tree.specs.Forest.{entry_at}
 use Rattle.keep_engine.specs.code.Making.{at_index}
-use Rattle.keep_engine.specs.EndsText.{end_line, end_lines}
+use Rattle.keep_engine.specs.EndsText.{end_lines, name_end_line}
 use Rattle.keep_engine.proofs.Lines.{end_lines_more, end_lines_none}
 use Rattle.keep_engine.proofs.ends_text.push_lines.Goals as goal
 
@@ -17,7 +17,7 @@ loop-index-preserved c =
     let i = c.loop-index.index in
     let ends = at_index c.args.ends.now in
     c.in_ok-push_line.ensures
-    ∙ ap (λ e. c.loop-index.text.items ++ end_line e (ends i)) c.get.ensures.value
-    ∙ ap (λ xs. xs ++ end_line (entry_at es i) (ends i)) c.loop-index.invariant
-    ∙ append_assoc c.args.text.now.items (end_lines es ends i) (end_line (entry_at es i) (ends i))
+    ∙ ap (λ e. c.loop-index.text.items ++ name_end_line e (ends i)) c.get.ensures.value
+    ∙ ap (λ xs. xs ++ name_end_line (entry_at es i) (ends i)) c.loop-index.invariant
+    ∙ append_assoc c.args.text.now.items (end_lines es ends i) (name_end_line (entry_at es i) (ends i))
     ∙ ap (λ xs. c.args.text.now.items ++ xs) (sym (end_lines_more es ends i))

@@ -1,7 +1,7 @@
 -- The lines of the ends and the line `keeps` are what asking every entry at the moments comes to.
 use Rattle.std.proofs.Common.{◌≡◌, ◌∙◌, ◌++◌, ◌↔◌, IsTrue, None, ap, refl, length, subst}
 use Rattle.keep_tree.specs.Forest.{end_of}
-use Rattle.keep_rule.specs.Ends.{ends_after, listed}
+use Rattle.keep_rule.specs.Ends.{ends_after, ends_listed}
 use Rattle.keep_rule.specs.Keeps.{Keeps}
 use Rattle.keep_rule.specs.Plans.{wake_fault}
 use Rattle.keep_engine.specs.code.Making.{at_index}
@@ -20,8 +20,8 @@ returns c =
     let asked = all_asked (length es) c.args.moments.now in
     let wakes : c.deref.result.now ≡ asked = c.deref.ensures.value ∙ c.in_ok-wakes.ensures in
     let wakes' : c.deref-2.result.now ≡ asked = c.deref-2.ensures.value ∙ c.in_ok-wakes.ensures in
-    let ends : c.list.result.now ≡ listed es (ends_after es g.margin (end_of es) asked) =
-    c.list.ensures ∙ c.in_ok-ends.ensures.ends.1 ∙ ap (λ ws. listed es (ends_after es g.margin (end_of es) ws)) wakes in
+    let ends : c.list.result.now ≡ ends_listed es (ends_after es g.margin (end_of es) asked) =
+    c.list.ensures ∙ c.in_ok-ends.ensures.ends.1 ∙ ap (λ ws. ends_listed es (ends_after es g.margin (end_of es) ws)) wakes in
     let judged : IsTrue c.in_ok-kept.kept ↔ Keeps es g.margin s (end_of es) asked =
     subst (λ ws. IsTrue c.in_ok-kept.kept ↔ Keeps es g.margin s (end_of es) ws) wakes' c.in_ok-kept.ensures.kept.1 in
     let lines : end_lines es (at_index c.list.result.now) (length es) ≡ end_lines es (ends_after es g.margin (end_of es) asked) (length es) =

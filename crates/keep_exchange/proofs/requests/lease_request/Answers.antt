@@ -1,6 +1,6 @@
 -- The request that renews a lease can be sent and answered.
 use Rattle.std.proofs.Common.{subst, sym}
-use Rattle.keep_exchange.specs.Requests.{IsFit}
+use Rattle.keep_exchange.specs.Requests.{RequestIsFit}
 use Rattle.keep_exchange.proofs.Sendable.{lease_fit}
 use Rattle.keep_exchange.proofs.requests.lease_request.Goals as goal
 
@@ -9,5 +9,5 @@ lease_message-requires c = c.credentials_are_sendable.ensures.text c.args.id.now
 
 pub returns-clause-fit : goal.returns-clause-fit
 returns-clause-fit c =
-    subst IsFit (sym c.in_ok-request.ensures)
+    subst RequestIsFit (sym c.in_ok-request.ensures)
     (lease_fit c.args.port c.args.owner c.args.id.now c.args.step c.are_bounded.ensures.port c.are_bounded.ensures.step c.requires.owner c.requires.id)

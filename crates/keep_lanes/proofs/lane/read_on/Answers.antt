@@ -1,6 +1,6 @@
 -- An answer is that of the bytes before this piece and of those that may follow it.
 use Rattle.std.proofs.Common.{◌<◌, [], length, arith, Some, subst, sym}
-use Rattle.keep_lanes.specs.Lanes.{IsCounted, IsSettled}
+use Rattle.keep_lanes.specs.Lanes.{IsCounted, RequestIsSettled}
 use Rattle.keep_lanes.proofs.Arrives.{heard_read}
 use Rattle.keep_lanes.proofs.Lost.{settled_by}
 use Rattle.keep_lanes.proofs.lane.read_on.Goals as goal
@@ -13,6 +13,6 @@ returns-in-Some-clause-heard g c =
 
 pub returns-in-Some-clause-settled : goal.returns-in-Some-clause-settled
 returns-in-Some-clause-settled g c =
-    subst (λ a. IsSettled a c.args.now c.hear.new.self.stage [] (Some c.in-Some.answer)) (sym c.hear.ensures.allowance)
+    subst (λ a. RequestIsSettled a c.args.now c.hear.new.self.stage [] (Some c.in-Some.answer)) (sym c.hear.ensures.allowance)
     (settled_by c.loop.course.allowance c.args.now c.loop.course.stage c.hear.new.self.stage c.in-Some.answer c.loop.invariant.sent
     (subst (λ a. IsCounted c.loop.course.allowance c.args.now c.loop.course.stage a c.hear.new.self.stage) c.in-Some.is c.in_ok-answer-in-Done.ensures.counted))

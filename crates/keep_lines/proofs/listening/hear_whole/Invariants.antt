@@ -2,7 +2,7 @@
 use Rattle.std.proofs.Common.{◌≡◌, ◌-◌, ◌≤◌, drop, length}
 use Rattle.keep_device.specs.Seen.{change}
 use Rattle.keep_words.specs.Pieces.{pieces}
-use Rattle.keep_lines.specs.Hearing.{counted}
+use Rattle.keep_lines.specs.Hearing.{counted_line}
 use Rattle.keep_lines.specs.code.LineByLine.{HearsUpTo}
 use Rattle.keep_lines.proofs.listening.hear_whole.Given as goal
 
@@ -12,7 +12,7 @@ invariant-loop-line g l = record {
       (change g.W.Device.is_in_memory (g.W.Device.seen l.fn.out) (g.W.Device.seen l.out));
   rest : drop (length l.bytes - length l.rest) l.bytes ≡ l.rest;
   within : length l.rest ≤ length l.bytes;
-  numbered : counted l.count ≡ l.count;
+  numbered : counted_line l.count ≡ l.count;
   ready : g.H.Hearer.is_ready l.hearer l.neighbours (g.W.Device.seen l.out);
   same : g.H.Hearer.key l.hearer l.neighbours ≡ g.H.Hearer.key l.fn.hearer l.fn.neighbours;
 }

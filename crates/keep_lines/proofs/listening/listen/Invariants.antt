@@ -1,7 +1,7 @@
 -- What was read so far is heard line by line.
 use Rattle.std.proofs.Common.{◌≡◌, length}
 use Rattle.keep_device.specs.Seen.{change}
-use Rattle.keep_lines.specs.Hearing.{counted}
+use Rattle.keep_lines.specs.Hearing.{counted_line}
 use Rattle.keep_lines.specs.code.LineByLine.{IsListening}
 use Rattle.keep_lines.specs.declared.limits.TheConstants.{ROOM}
 use Rattle.keep_lines.proofs.listening.listen.Given as goal
@@ -12,7 +12,7 @@ invariant-loop g l = record {
       (change g.R.Device.is_in_memory (g.R.Device.seen l.fn.lines) (g.R.Device.seen l.lines))
       (change g.W.Device.is_in_memory (g.W.Device.seen l.fn.out) (g.W.Device.seen l.out));
   room : length l.room.items ≡ ROOM;
-  numbered : counted l.count ≡ l.count;
+  numbered : counted_line l.count ≡ l.count;
   ready : g.H.Hearer.is_ready l.hearer l.neighbours (g.W.Device.seen l.out);
   same : g.H.Hearer.key l.hearer l.neighbours ≡ g.H.Hearer.key l.fn.hearer l.fn.neighbours;
   output : (g.R.Device.seen l.lines).output ≡ (g.R.Device.seen l.fn.lines).output;

@@ -4,7 +4,7 @@ use Rattle.std.proofs.lemmas.Bool.{cond-true, cond-false}
 use Rattle.std.proofs.lemmas.List.{append-nil}
 use Rattle.std.specs.List.{range_with_len}
 use Rattle.keep_tree.specs.Forest.{end_of}
-use Rattle.keep_rule.specs.Asks.{is_wanted}
+use Rattle.keep_rule.specs.Asks.{is_to_be_asked}
 use Rattle.keep_plan.specs.code.Wanted.{waits_until}
 use Rattle.keep_plan.proofs.Wanted.{asked_more, asks_of, test_is}
 use Rattle.keep_plan.proofs.asks.asks_before.Goals as goal
@@ -15,7 +15,7 @@ loop-index-preserved c = λ s is.
     let g = c.args.forest.now in
     let es = g.entries in
     let i = c.loop-index.index in
-    let p = is_wanted es g.margin s (end_of es) c.args.at c.args.next in
+    let p = is_to_be_asked es g.margin s (end_of es) c.args.at c.args.next in
     let so_far = c.loop-index.invariant s is in
     let waits : c.waits_until-until.result ≡ waits_until g.margin c.args.next = c.waits_until-until.ensures ∙ ap (λ m. waits_until m c.args.next) c.margin.ensures in
     let wanted : c.is_wanted.result ≡ p i = c.is_wanted.ensures ∙ test_is g c.len-index-end.ensures.sound.margin_above s c.args.at c.args.next c.waits_until-until.result c.args.carried.now i (omega (arith, c.len-index-end.ensures.value)) is waits in

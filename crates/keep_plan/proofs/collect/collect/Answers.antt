@@ -1,7 +1,7 @@
 -- One run more is taken from the list, which is overlong where the run has no room left.
 use Rattle.std.proofs.Common.{◌-◌, ◌<◌, arith, subst, sym}
 use Rattle.keep_schedule.specs.Courses.{IsToCome}
-use Rattle.keep_plan.specs.code.Collecting.{IsTaken}
+use Rattle.keep_plan.specs.code.Collecting.{RunsAreTaken}
 use Rattle.keep_plan.proofs.Collecting.{one_more, overlong, whole}
 use Rattle.keep_plan.proofs.collect.collect.Goals as goal
 
@@ -20,7 +20,7 @@ loop-run-preserved c =
     let within = c.in-Some.ensures.run.within in
     let other = c.if-run-room.false in
     let less : c.in-Some.run'.count < c.loop-run.room = omega arith in
-    subst (λ xs. IsTaken old new c.args.schedule.now.runs c.next_run.new.self.runs xs (c.loop-run.room - c.in-Some.run'.count)) (sym c.in_ok-push.ensures.items)
+    subst (λ xs. RunsAreTaken old new c.args.schedule.now.runs c.next_run.new.self.runs xs (c.loop-run.room - c.in-Some.run'.count)) (sym c.in_ok-push.ensures.items)
     (one_more old mid new c.args.schedule.now.runs c.loop-run.schedule.runs c.next_run.new.self.runs c.loop-run.runs.items c.loop-run.room c.in-Some.run' c.loop-run.invariant c.in-Some.ensures.run less (c.in-Some.ensures.fewer.1 less))
 
 pub returns : goal.returns

@@ -1,7 +1,7 @@
 -- The runs of the whole list are the least and latest plan, and an overlong list makes it too long.
 use Rattle.keep_schedule.specs.Courses.{IsToCome}
-use Rattle.keep_plan.specs.code.Collecting.{IsOverlong, IsWhole}
-use Rattle.keep_plan.specs.Decides.{AreBest, IsTooLong}
+use Rattle.keep_plan.specs.code.Collecting.{ListIsOverlong, RunsAreWhole}
+use Rattle.keep_plan.specs.Decides.{AreBest, PlanIsTooLong}
 use Rattle.keep_plan.proofs.Deciding.{best_of, each_case, too_long}
 use Rattle.keep_plan.proofs.planning.best_runs.Goals as goal
 
@@ -13,7 +13,7 @@ returns c =
     let comes = IsToCome schedule.course in
     let list = c.in_ok-schedule.ensures.list in
     let forest = c.len-entries.ensures.sound in
-    each_case c.in_ok-collect.field-0 (IsOverlong comes) (IsTooLong g s) (λ v. IsWhole comes schedule.runs v.items) (λ v. AreBest g s v.items)
+    each_case c.in_ok-collect.field-0 (ListIsOverlong comes) (PlanIsTooLong g s) (λ v. RunsAreWhole comes schedule.runs v.items) (λ v. AreBest g s v.items)
     (too_long g s forest c.requires.keepable comes (λ xs h. (list xs).1 h))
     (λ v h. best_of g s forest c.requires.keepable comes (λ xs h. (list xs).0 h) schedule.runs c.in_ok-schedule.ensures.runs v.items h)
     c.in_ok-collect.ensures

@@ -2,7 +2,7 @@
 use Rattle.std.proofs.Common.{ℕ, ◌<◌, ◌∙◌, ap, arith, length, subst, sym, ◌+◌, set}
 use Rattle.keep_tree.specs.declared.entry.Entry.{Entry}
 use Rattle.keep_tree.proofs.Placed.{parents_first}
-use Rattle.keep_rule.specs.code.Replay.{shown}
+use Rattle.keep_rule.specs.code.Replay.{shown_ends}
 use Rattle.keep_rule.proofs.Rounds.{LastsBelow, lasts_child, lasts_root}
 use Rattle.keep_rule.proofs.replay.carry_lasts.Goals as goal
 use Rattle.keep_rule.proofs.replay.carry_lasts.Goals.{in-None, in-Some}
@@ -13,7 +13,7 @@ loop-index-preserved c =
     let ends = c.args.ends.now in
     let i = c.loop-index.index in
     let there : i < length c.loop-index.lasts = omega arith in
-    let Goal : ℕ → Type 0 = λ v. LastsBelow es (shown ends) (set c.loop-index.lasts i v) (i + 1) in
+    let Goal : ℕ → Type 0 = λ v. LastsBelow es (shown_ends ends) (set c.loop-index.lasts i v) (i + 1) in
     elim c.match-get.branch [
       | in-None w ↦ subst Goal (sym w.lasts-is) (lasts_root es ends c.loop-index.lasts i there (sym (ap (λ (e : Entry). e.parent) c.get.ensures.value) ∙ w.in-None.is) c.loop-index.invariant)
       | in-Some w ↦ subst Goal (sym (w.lasts-is ∙ w.min.ensures))

@@ -2,8 +2,8 @@
 use Rattle.std.proofs.Common.{◌≡◌, ◌∙◌, ◌+◌, ◌∷◌, ap, arith, drop, length, subst, sym}
 use Rattle.std.proofs.lemmas.List.{drop_all}
 use Rattle.keep_tree.specs.Forest.{end_of}
-use Rattle.keep_rule.specs.Ends.{after, ends_after, listed}
-use Rattle.keep_rule.specs.code.Replay.{shown}
+use Rattle.keep_rule.specs.Ends.{ends_after, ends_after_wake_up, ends_listed}
+use Rattle.keep_rule.specs.code.Replay.{shown_ends}
 use Rattle.keep_rule.proofs.Lists.{listed_shown, rewritten, unrolled}
 use Rattle.keep_rule.proofs.Walk.{Rises, ends_after_cons, ends_after_nil, rises}
 use Rattle.keep_rule.proofs.replay.ends_after.Goals as goal
@@ -34,10 +34,10 @@ loop-wake-preserved c =
       ends = c.loop-wake.invariant.ends;
       lasts = c.loop-wake.invariant.lasts;
       rises = (w.at, risen.1.1);
-      rest = ap (λ xs. ends_after es margin (shown xs) ws') written
-          ∙ ap (λ f. ends_after es margin f ws') (c.renew.ensures ∙ ap (λ xs. after es margin (shown xs) w) c.deref_mut-in-loop-wake.ensures.value)
-          ∙ sym (ends_after_cons es margin (shown ends) w ws')
-          ∙ sym (ap (ends_after es margin (shown ends)) rest)
+      rest = ap (λ xs. ends_after es margin (shown_ends xs) ws') written
+          ∙ ap (λ f. ends_after es margin f ws') (c.renew.ensures ∙ ap (λ xs. ends_after_wake_up es margin (shown_ends xs) w) c.deref_mut-in-loop-wake.ensures.value)
+          ∙ sym (ends_after_cons es margin (shown_ends ends) w ws')
+          ∙ sym (ap (ends_after es margin (shown_ends ends)) rest)
           ∙ c.loop-wake.invariant.rest;
     }
 
@@ -47,8 +47,8 @@ returns-clause-ends c =
     let margin = c.args.forest.now.margin in
     let ws = c.args.wakes.now in
     let ends = c.loop-wake.ends.items in
-    let done : shown ends ≡ ends_after es margin (end_of es) ws =
-    sym (ends_after_nil es margin (shown ends)) ∙ sym (ap (ends_after es margin (shown ends)) (drop_all c.loop-wake.wake-index ws (omega arith))) ∙ c.loop-wake.invariant.rest in (
+    let done : shown_ends ends ≡ ends_after es margin (end_of es) ws =
+    sym (ends_after_nil es margin (shown_ends ends)) ∙ sym (ap (ends_after es margin (shown_ends ends)) (drop_all c.loop-wake.wake-index ws (omega arith))) ∙ c.loop-wake.invariant.rest in (
       sym c.in_default.ensures,
-      c.from_vec.ensures ∙ listed_shown es ends (sym c.loop-wake.ends.ok.0 ∙ c.loop-wake.invariant.ends) ∙ ap (listed es) done,
+      c.from_vec.ensures ∙ listed_shown es ends (sym c.loop-wake.ends.ok.0 ∙ c.loop-wake.invariant.ends) ∙ ap (ends_listed es) done,
     )

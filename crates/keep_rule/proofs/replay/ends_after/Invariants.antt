@@ -2,7 +2,7 @@
 use Rattle.std.proofs.Common.{◌≡◌, ℕ, drop, length, vec_len}
 use Rattle.keep_tree.specs.Forest.{end_of}
 use Rattle.keep_rule.specs.Ends.{ends_after}
-use Rattle.keep_rule.specs.code.Replay.{shown}
+use Rattle.keep_rule.specs.code.Replay.{shown_ends}
 use Rattle.keep_rule.proofs.Walk.{Rises}
 use Rattle.keep_rule.proofs.replay.ends_after.Given as goal
 
@@ -11,5 +11,5 @@ invariant-loop-wake l = record {
   ends : vec_len l.ends ≡ length l.forest.entries;
   lasts : vec_len l.lasts ≡ length l.forest.entries;
   rises : (s : ℕ) × Rises (length l.forest.entries) s (drop l.wake-index l.wakes);
-  rest : ends_after l.forest.entries l.forest.margin (shown l.ends.items) (drop l.wake-index l.wakes) ≡ ends_after l.forest.entries l.forest.margin (end_of l.forest.entries) l.wakes;
+  rest : ends_after l.forest.entries l.forest.margin (shown_ends l.ends.items) (drop l.wake-index l.wakes) ≡ ends_after l.forest.entries l.forest.margin (end_of l.forest.entries) l.wakes;
 }

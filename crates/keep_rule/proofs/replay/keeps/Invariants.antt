@@ -2,7 +2,7 @@
 use Rattle.std.proofs.Common.{◌≡◌, ◌↔◌, IsTrue, drop, length, vec_len}
 use Rattle.keep_tree.specs.Forest.{end_of}
 use Rattle.keep_rule.specs.Keeps.{Keeps}
-use Rattle.keep_rule.specs.code.Replay.{shown}
+use Rattle.keep_rule.specs.code.Replay.{shown_ends}
 use Rattle.keep_rule.proofs.Walk.{Rises}
 use Rattle.keep_rule.proofs.replay.keeps.Given as goal
 
@@ -11,6 +11,6 @@ invariant-loop-wake l = record {
   ends : vec_len l.ends ≡ length l.forest.entries;
   lasts : vec_len l.lasts ≡ length l.forest.entries;
   rises : Rises (length l.forest.entries) l.from (drop l.wake-index l.wakes);
-  rest : (IsTrue l.kept × Keeps l.forest.entries l.forest.margin l.from (shown l.ends.items) (drop l.wake-index l.wakes))
+  rest : (IsTrue l.kept × Keeps l.forest.entries l.forest.margin l.from (shown_ends l.ends.items) (drop l.wake-index l.wakes))
       ↔ Keeps l.forest.entries l.forest.margin l.fn.start (end_of l.forest.entries) l.wakes;
 }

@@ -1,13 +1,13 @@
 -- Those that a wake-up asks are entries, and each gets its end by what lasted before the wake-up.
 use Rattle.std.proofs.Common.{◌<◌, ◌+◌, ℕ, ap, arith, get_or, length, refl, set, subst, sym}
 use Rattle.std.proofs.lemmas.List.{take_all}
-use Rattle.keep_rule.specs.code.Replay.{shown}
+use Rattle.keep_rule.specs.code.Replay.{shown_ends}
 use Rattle.keep_rule.proofs.Lists.{read_within}
 use Rattle.keep_rule.proofs.Rounds.{ServedTo, served_all, served_more}
 use Rattle.keep_rule.proofs.replay.renew.Goals as goal
 
 pub loop-index-init : goal.loop-index-init
-unfolding shown
+unfolding shown_ends
 loop-index-init c = λ k. refl
 
 pub bounds-lasts-i : goal.bounds-lasts-i

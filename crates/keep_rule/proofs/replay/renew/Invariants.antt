@@ -2,11 +2,11 @@
 use Rattle.std.proofs.Common.{◌≡◌, ◌==◌, ℕ, cond, get_or, take}
 use Rattle.std.specs.List.{list_any}
 use Rattle.keep_tree.specs.Renewal.{renewed}
-use Rattle.keep_rule.specs.code.Replay.{shown}
+use Rattle.keep_rule.specs.code.Replay.{shown_ends}
 use Rattle.keep_rule.proofs.replay.renew.Given as goal
 
 -- those asked so far have their new ends, by the ends before the wake-up, and the others have theirs as they were
 abbrev pub invariant-loop-index : goal.invariant-loop-index
 invariant-loop-index l =
     (k : ℕ) → get_or l.ends k 0
-    ≡ cond (list_any (λ j. j == k) (take l.index-index l.wake.asked)) (renewed l.forest.entries l.forest.margin (shown l.fn.ends) l.wake.at k) (shown l.fn.ends k)
+    ≡ cond (list_any (λ j. j == k) (take l.index-index l.wake.asked)) (renewed l.forest.entries l.forest.margin (shown_ends l.fn.ends) l.wake.at k) (shown_ends l.fn.ends k)

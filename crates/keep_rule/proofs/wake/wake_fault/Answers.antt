@@ -1,7 +1,7 @@
 -- The first fault that the walk over the wake-ups meets is that of the list; where it meets none, there is none.
 use Rattle.std.proofs.Common.{◌≡◌, ◌+◌, ◌∙◌, ap, arith, drop, is_some, sym, true, false}
 use Rattle.std.proofs.lemmas.List.{drop_all}
-use Rattle.keep_rule.specs.Plans.{fault_at, fault_from, wake_fault}
+use Rattle.keep_rule.specs.Plans.{fault_from, wake_fault, wake_fault_at}
 use Rattle.keep_rule.proofs.Lists.{unrolled}
 use Rattle.keep_rule.proofs.Walk.{fault_from_cons, fault_from_nil, first_some_none, first_some_some}
 use Rattle.keep_rule.proofs.wake.wake_fault.Goals as goal
@@ -15,9 +15,9 @@ returns-then-is_some c =
     let w = c.index-wakes-i.result in
     let i = c.loop-i.i in
     let rest = unrolled ws i w (omega arith) c.index-wakes-i.is in
-    let found : is_some (fault_at n s c.loop-i.before (i + 1) w) ≡ true = ap is_some (sym c.fault_at-fault.ensures) ∙ sym c.is_some.ensures ∙ c.if-is_some.true in
+    let found : is_some (wake_fault_at n s c.loop-i.before (i + 1) w) ≡ true = ap is_some (sym c.fault_at-fault.ensures) ∙ sym c.is_some.ensures ∙ c.if-is_some.true in
     c.fault_at-fault.ensures
-    ∙ sym (first_some_some (fault_at n s c.loop-i.before (i + 1) w) (fault_from n s w.at (i + 1 + 1) (drop (i + 1) ws)) found)
+    ∙ sym (first_some_some (wake_fault_at n s c.loop-i.before (i + 1) w) (fault_from n s w.at (i + 1 + 1) (drop (i + 1) ws)) found)
     ∙ sym (fault_from_cons n s c.loop-i.before (i + 1) w (drop (i + 1) ws))
     ∙ sym (ap (fault_from n s c.loop-i.before (i + 1)) rest)
     ∙ c.loop-i.invariant
@@ -31,10 +31,10 @@ loop-i-preserved c =
     let w = c.index-wakes-i.result in
     let i = c.loop-i.i in
     let rest = unrolled ws i w (omega arith) c.index-wakes-i.is in
-    let none : is_some (fault_at n s c.loop-i.before (i + 1) w) ≡ false = ap is_some (sym c.fault_at-fault.ensures) ∙ sym c.is_some.ensures ∙ c.if-is_some.false in
+    let none : is_some (wake_fault_at n s c.loop-i.before (i + 1) w) ≡ false = ap is_some (sym c.fault_at-fault.ensures) ∙ sym c.is_some.ensures ∙ c.if-is_some.false in
     sym (ap (fault_from n s c.loop-i.before (i + 1)) rest
     ∙ fault_from_cons n s c.loop-i.before (i + 1) w (drop (i + 1) ws)
-    ∙ first_some_none (fault_at n s c.loop-i.before (i + 1) w) (fault_from n s w.at (i + 1 + 1) (drop (i + 1) ws)) none)
+    ∙ first_some_none (wake_fault_at n s c.loop-i.before (i + 1) w) (fault_from n s w.at (i + 1 + 1) (drop (i + 1) ws)) none)
     ∙ c.loop-i.invariant
 
 pub returns : goal.returns

@@ -3,14 +3,14 @@ use Rattle.std.proofs.Common.{◌≡◌, ◌∙◌, ◌++◌, ap, length, refl, 
 use Rattle.keep_device.specs.Seen.{Change, change}
 use Rattle.keep_report.specs.declared.stop.Stop.TheVariants as stops
 use Rattle.keep_tree.specs.Forest.{Forest}
-use Rattle.keep_core.specs.State.{State}
-use Rattle.keep_run.specs.Agent.{Agent}
-use Rattle.keep_run.specs.Hearing.{IsReady}
-use Rattle.keep_run.specs.LiveRun.{IsOpened}
-use Rattle.keep_run.specs.Text.{short_lines}
+use Rattle.keep_core.specs.State.{CoreState}
+use Rattle.keep_run.specs.Agent.{RunAgent}
+use Rattle.keep_run.specs.Hearing.{IsBetweenEvents}
+use Rattle.keep_run.specs.LiveRun.{RunIsOpened}
+use Rattle.keep_run.specs.Text.{short_need_lines}
 use Rattle.keep_run.proofs.Rehearsed.{fit_opened, ready_opened}
 use Rattle.keep_inventory.specs.Inventories.{Inventory}
-use Rattle.keep_run.specs.Looking.{Looked, first}
+use Rattle.keep_run.specs.Looking.{Looked, first_indices}
 use Rattle.keep_run.proofs.LookedUp.{same_count}
 use Rattle.keep_start.proofs.Started.{kept_credentials}
 use Rattle.keep_run.proofs.LiveOpening.{for_err, memory_ends, opens, planning_ends, sending_ends}
@@ -22,12 +22,12 @@ pub push_short_lines-requires : goal.push_short_lines-requires
 push_short_lines-requires g c =
     let k = c.in_ok-keeper.keeper in
     let all = replan_within _ c.args.start k refl (planned_as c.into_parts-forest.result.0 c.args.start c.new-made.result c.in_ok-keeper.keeper c.new-made.ensures.opened c.in_ok-keeper.ensures.keeper c.in_ok-keeper.ensures.stop) in
-    subst (λ n. AreOf n c.list.result.now) (sym (ap (λ (h : Forest). length h.entries) (c.forest.ensures ∙ ap (λ (s : State). s.forest) c.take_shortened-short.ensures.after)))
+    subst (λ n. AreOf n c.list.result.now) (sym (ap (λ (h : Forest). length h.entries) (c.forest.ensures ∙ ap (λ (s : CoreState). s.forest) c.take_shortened-short.ensures.after)))
     (subst (AreOf (length k.forest.entries)) (sym (c.list.ensures ∙ c.take_shortened-short.ensures.value)) all)
 
 pub returns-clause-ready : goal.returns-clause-ready
 returns-clause-ready g c =
-    subst (λ (agent : Agent). IsReady agent.keeper) (sym c.new.ensures) (ready_opened c.into_parts-forest.result.0 c.args.start c.in_ok-keeper.keeper c.take_shortened-short.new.self (planned_as c.into_parts-forest.result.0 c.args.start c.new-made.result c.in_ok-keeper.keeper c.new-made.ensures.opened c.in_ok-keeper.ensures.keeper c.in_ok-keeper.ensures.stop) c.take_shortened-short.ensures.after)
+    subst (λ (agent : RunAgent). IsBetweenEvents agent.keeper) (sym c.new.ensures) (ready_opened c.into_parts-forest.result.0 c.args.start c.in_ok-keeper.keeper c.take_shortened-short.new.self (planned_as c.into_parts-forest.result.0 c.args.start c.new-made.result c.in_ok-keeper.keeper c.new-made.ensures.opened c.in_ok-keeper.ensures.keeper c.in_ok-keeper.ensures.stop) c.take_shortened-short.ensures.after)
 
 pub new-requires : goal.new-requires
 new-requires g c =
@@ -44,7 +44,7 @@ returns-in_err-keeper-clause-early g c =
 pub need_always-requires : goal.need_always-requires
 need_always-requires g c =
     c.requires
-    ∙ sym (same_count (g.E.Exchange.host_port c.args.exchange.now) c.args.start (record { inventory = c.args.inventory; behind = g.E.Exchange.behind c.args.exchange.now }) (first (length c.args.inventory.forest.entries))
+    ∙ sym (same_count (g.E.Exchange.host_port c.args.exchange.now) c.args.start (record { inventory = c.args.inventory; behind = g.E.Exchange.behind c.args.exchange.now }) (first_indices (length c.args.inventory.forest.entries))
     (record { inventory = c.look_all_up.new.inventory; behind = g.E.Exchange.behind c.look_all_up.new.exchange }) c.in_ok-look_all_up.ensures.looked.looked)
 
 pub returns-in_err-need_always-clause-early : goal.returns-in_err-need_always-clause-early
@@ -62,11 +62,11 @@ returns-in_err-push_short_lines-clause-early g c =
 pub returns-in_err-send-clause-early : goal.returns-in_err-send-clause-early
 returns-in_err-send-clause-early g c =
     let k = c.in_ok-keeper.keeper in
-    let lines : c.deref.result.now ≡ short_lines k.forest k.shortened =
+    let lines : c.deref.result.now ≡ short_need_lines k.forest k.shortened =
     c.deref.ensures.value ∙ c.in_ok-push_short_lines.ensures
-    ∙ ap (λ l. l ++ short_lines c.forest.result.now c.list.result.now) c.new-text.ensures.items
-    ∙ ap (λ h. short_lines h c.list.result.now) (c.forest.ensures ∙ ap (λ (s : State). s.forest) c.take_shortened-short.ensures.after)
-    ∙ ap (short_lines k.forest) (c.list.ensures ∙ c.take_shortened-short.ensures.value) in
+    ∙ ap (λ l. l ++ short_need_lines c.forest.result.now c.list.result.now) c.new-text.ensures.items
+    ∙ ap (λ h. short_need_lines h c.list.result.now) (c.forest.ensures ∙ ap (λ (s : CoreState). s.forest) c.take_shortened-short.ensures.after)
+    ∙ ap (short_need_lines k.forest) (c.list.ensures ∙ c.take_shortened-short.ensures.value) in
     for_err c.from_residual-in_err-send.result c.in_err-send.field-0.0 _ c.from_residual-in_err-send.ensures
     (sending_ends (g.E.Exchange.host_port c.args.exchange.now) c.args.start c.args.always.now (record { inventory = c.args.inventory; behind = g.E.Exchange.behind c.args.exchange.now }) c.look_all_up.new.inventory (g.E.Exchange.behind c.look_all_up.new.exchange)
     (g.W.Device.seen c.args.out.now) (g.W.Device.seen c.look_all_up.new.out) (g.W.Device.seen c.send.new.out) g.W.Device.is_in_memory c.in_ok-look_all_up.ensures.looked
@@ -75,14 +75,14 @@ returns-in_err-send-clause-early g c =
 pub returns-clause-opened : goal.returns-clause-opened
 returns-clause-opened g c =
     let k = c.in_ok-keeper.keeper in
-    let lines : c.deref.result.now ≡ short_lines k.forest k.shortened =
+    let lines : c.deref.result.now ≡ short_need_lines k.forest k.shortened =
     c.deref.ensures.value ∙ c.in_ok-push_short_lines.ensures
-    ∙ ap (λ l. l ++ short_lines c.forest.result.now c.list.result.now) c.new-text.ensures.items
-    ∙ ap (λ h. short_lines h c.list.result.now) (c.forest.ensures ∙ ap (λ (s : State). s.forest) c.take_shortened-short.ensures.after)
-    ∙ ap (short_lines k.forest) (c.list.ensures ∙ c.take_shortened-short.ensures.value) in
+    ∙ ap (λ l. l ++ short_need_lines c.forest.result.now c.list.result.now) c.new-text.ensures.items
+    ∙ ap (λ h. short_need_lines h c.list.result.now) (c.forest.ensures ∙ ap (λ (s : CoreState). s.forest) c.take_shortened-short.ensures.after)
+    ∙ ap (short_need_lines k.forest) (c.list.ensures ∙ c.take_shortened-short.ensures.value) in
     let out : Change = change g.W.Device.is_in_memory (g.W.Device.seen c.args.out.now) (g.W.Device.seen c.send.new.out) in
     let before : Looked = record { inventory = c.args.inventory; behind = g.E.Exchange.behind c.args.exchange.now } in
-    subst (λ (agent : Agent). IsOpened (g.E.Exchange.host_port c.args.exchange.now) c.args.start c.args.always.now before agent.credentials agent.keeper (g.E.Exchange.behind c.look_all_up.new.exchange) out) (sym c.new.ensures)
+    subst (λ (agent : RunAgent). RunIsOpened (g.E.Exchange.host_port c.args.exchange.now) c.args.start c.args.always.now before agent.credentials agent.keeper (g.E.Exchange.behind c.look_all_up.new.exchange) out) (sym c.new.ensures)
     (opens (g.E.Exchange.host_port c.args.exchange.now) c.args.start c.args.always.now (record { inventory = c.args.inventory; behind = g.E.Exchange.behind c.args.exchange.now }) c.look_all_up.new.inventory (g.E.Exchange.behind c.look_all_up.new.exchange)
     (g.W.Device.seen c.args.out.now) (g.W.Device.seen c.look_all_up.new.out) (g.W.Device.seen c.send.new.out) g.W.Device.is_in_memory c.in_ok-look_all_up.ensures.looked
     c.into_parts-forest.result.0 c.into_parts-forest.result.1 k c.take_shortened-short.new.self c.deref.result.now (c.into_parts-forest.ensures.forest ∙ ap (λ (v : Inventory). v.forest) c.in_ok-need_always.ensures.needed) (c.into_parts-forest.ensures.credentials ∙ ap (λ (v : Inventory). v.credentials) c.in_ok-need_always.ensures.needed ∙ kept_credentials c.look_all_up.new.inventory c.args.always.now c.args.start) (planned_as c.into_parts-forest.result.0 c.args.start c.new-made.result c.in_ok-keeper.keeper c.new-made.ensures.opened c.in_ok-keeper.ensures.keeper c.in_ok-keeper.ensures.stop)

@@ -3,7 +3,7 @@ use Rattle.std.proofs.Common.{◌≡◌, ◌∙◌, ap, subst}
 use Rattle.std.specs.Prelude.{Bool, List}
 use Rattle.keep_device.specs.Seen.{Change, change}
 use Rattle.keep_inventory.specs.Inventories.{Inventory}
-use Rattle.keep_run.specs.LiveRun.{EndsEarly, IsOpened}
+use Rattle.keep_run.specs.LiveRun.{EndsEarly, RunIsOpened}
 use Rattle.keep_served.specs.ForGood.{marks}
 use Rattle.keep_served.proofs.ForGood.{places}
 use Rattle.keep_run.proofs.LiveListening.{early_lives, listened_lives, read_lives, unmarked_lives}
@@ -43,8 +43,8 @@ returns g c =
     let agent = c.in_ok-agent.agent in
     let out : Change = change g.W.Device.is_in_memory (g.W.Device.seen c.args.out.now) (g.W.Device.seen c.begin.new.out) in
     let always_is : c.deref-2.result.now ≡ marks v.notes = c.deref-2.ensures.value ∙ c.in_ok-always.ensures ∙ ap marks (c.deref.ensures.value ∙ c.into_parts-inventory.ensures.notes) in
-    let over_served : IsOpened port c.args.start c.deref-2.result.now (record { inventory = v.inventory; behind = before }) agent.credentials agent.keeper middle out =
-    subst (λ (w : Inventory). IsOpened port c.args.start c.deref-2.result.now (record { inventory = w; behind = before }) agent.credentials agent.keeper middle out) c.into_parts-inventory.ensures.inventory c.in_ok-agent.ensures.opened in
+    let over_served : RunIsOpened port c.args.start c.deref-2.result.now (record { inventory = v.inventory; behind = before }) agent.credentials agent.keeper middle out =
+    subst (λ (w : Inventory). RunIsOpened port c.args.start c.deref-2.result.now (record { inventory = w; behind = before }) agent.credentials agent.keeper middle out) c.into_parts-inventory.ensures.inventory c.in_ok-agent.ensures.opened in
     listened_lives port c.args.bytes.now c.args.start before (g.E.Exchange.host_port c.begin.new.exchange) v _ _ _ _ _ _ _ c.listen.result _ _
     c.in_ok-served.ensures c.in_ok-agent.ensures.port
-    (subst (λ (l : List Bool). IsOpened port c.args.start l (record { inventory = v.inventory; behind = before }) agent.credentials agent.keeper middle out) always_is over_served) c.listen.ensures.listens c.listen.ensures.flushed
+    (subst (λ (l : List Bool). RunIsOpened port c.args.start l (record { inventory = v.inventory; behind = before }) agent.credentials agent.keeper middle out) always_is over_served) c.listen.ensures.listens c.listen.ensures.flushed

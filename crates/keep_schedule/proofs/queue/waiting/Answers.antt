@@ -4,7 +4,7 @@ use Rattle.std.proofs.lemmas.List.Sorted.{length_permutation}
 use Rattle.std.specs.List.Sorted.{IsPermutation}
 use Rattle.keep_schedule.specs.code.Line.{spot}
 use Rattle.keep_schedule.specs.Prospect.{terms_of}
-use Rattle.keep_schedule.specs.code.Queueing.{Fills}
+use Rattle.keep_schedule.specs.code.Queueing.{FillsLine}
 use Rattle.keep_schedule.proofs.Queueing.{fills_added, fills_kept}
 use Rattle.keep_schedule.proofs.queue.waiting.Goals as goal
 use Rattle.keep_schedule.proofs.queue.waiting.Goals.{else-end-need, then-end-need}
@@ -15,9 +15,9 @@ loop-index-preserved c =
     let t = terms_of o in
     let k = c.loop-index.index in
     elim c.if-end-need.branch [
-      | then-end-need w ↦ subst (λ l. Fills o (k + 1) l) (sym w.line-is) (
+      | then-end-need w ↦ subst (λ l. FillsLine o (k + 1) l) (sym w.line-is) (
           let added = subst (λ e. IsPermutation (spot e k ∷ c.loop-index.line.spots) w.add.new.self.spots) c.end-end.ensures.value w.add.ensures.spots in
           let longer = length_permutation (spot (t.end k) k ∷ c.loop-index.line.spots) w.add.new.self.spots added in
           fills_added o k c.loop-index.line w.add.new.self c.loop-index.invariant (omega arith) (omega arith) added w.add.ensures.room (omega arith))
-      | else-end-need w ↦ subst (λ l. Fills o (k + 1) l) (sym w.line-is) (fills_kept o k c.loop-index.line c.loop-index.invariant (omega arith))
+      | else-end-need w ↦ subst (λ l. FillsLine o (k + 1) l) (sym w.line-is) (fills_kept o k c.loop-index.line c.loop-index.invariant (omega arith))
     ]

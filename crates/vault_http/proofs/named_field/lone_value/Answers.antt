@@ -3,7 +3,7 @@ use Rattle.std.proofs.Common.{◌≡◌, ℕ, ◌+◌, ◌<◌, Bool, List, leng
 use Rattle.std.proofs.lemmas.List.Elements.{All-get_or}
 use Rattle.httparse.specs.declared.spans.HeaderSpan.{HeaderSpan}
 use Rattle.httparse.specs.Spans.{header_bytes, span_bytes, IsHeaderWithin}
-use Rattle.vault_http.specs.Fields.{is_named, values_of}
+use Rattle.vault_http.specs.Fields.{is_field_named, values_of}
 use Rattle.vault_http.specs.NamedField.{IsLone, and_lone}
 use Rattle.vault_http.specs.declared.named_field.Lone.{Lone}
 use Rattle.vault_http.proofs.FieldValues.{IsLone-and, values_of_more, and_value}
@@ -11,7 +11,7 @@ use Rattle.vault_http.proofs.named_field.lone_value.Goals as goal
 
 open_step : (buf name : List ℕ) (headers : List HeaderSpan) (i : ℕ) (d : HeaderSpan) (found after : Lone) (named : Bool) → i < length headers
     → All (IsHeaderWithin (length buf)) headers
-    → named ≡ is_named name (span_bytes buf (get_or headers i d).name)
+    → named ≡ is_field_named name (span_bytes buf (get_or headers i d).name)
     → after ≡ and_lone found named (get_or headers i d).value
     → IsLone buf (values_of name (map (header_bytes buf) (take i headers))) found
     → IsLone buf (values_of name (map (header_bytes buf) (take (i + 1) headers))) after
@@ -26,5 +26,5 @@ open_step buf name headers i d found after named inside within is next so_far =
 pub loop-header-preserved : goal.loop-header-preserved
 loop-header-preserved c =
     open_step c.args.buf.now c.args.name.now c.args.headers.now c.loop-header.header-index _ c.loop-header.found c.and-found.result c.has_name-named.result
-    c.loop-header-test.true c.requires (c.has_name-named.ensures ∙ ap (is_named c.args.name.now) c.of.ensures)
+    c.loop-header-test.true c.requires (c.has_name-named.ensures ∙ ap (is_field_named c.args.name.now) c.of.ensures)
     c.and-found.ensures c.loop-header.invariant

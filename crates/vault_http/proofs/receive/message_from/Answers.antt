@@ -4,7 +4,7 @@ use Rattle.std.proofs.Common.{◌≡◌, ℕ, List, [], ◌++◌, arith, IsTrue,
 use Rattle.std.proofs.lemmas.Bool.{not-true}
 use Rattle.std.specs.Io.KnownBytes.{Keeps}
 use Rattle.vault_http.specs.Holding.{HandedNone}
-use Rattle.vault_http.specs.Known.{IsKnown}
+use Rattle.vault_http.specs.Known.{StaysKnown}
 use Rattle.vault_http.specs.Messages.{UnlessMemory}
 use Rattle.vault_http.proofs.MessageLemmas.{settled, counted}
 use Rattle.vault_http.proofs.Waiting.{handed_none, known_on, late, waited}
@@ -14,7 +14,7 @@ pub go_on-requires : goal.go_on-requires
 go_on-requires g c =
     let max = c.args.max in
     let grown = c.in_ok-some.ensures.grown in record {
-      known = subst (λ t. IsKnown g.M.Message.has_no_head (g.M.Message.is_answer max) g.M.Message.with_body max t c.loop.known) (sym (c.deref.ensures.value ∙ grown.1))
+      known = subst (λ t. StaysKnown g.M.Message.has_no_head (g.M.Message.is_answer max) g.M.Message.with_body max t c.loop.known) (sym (c.deref.ensures.value ∙ grown.1))
           (known_on g.M.Message.has_no_head (g.M.Message.is_answer max) g.M.Message.with_body max c.loop.bytes.items grown.0 c.loop.known c.loop.invariant.known);
     }
 

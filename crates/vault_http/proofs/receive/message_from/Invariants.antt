@@ -3,7 +3,7 @@
 use Rattle.std.proofs.Common.{◌≡◌, ◌+◌, ◌<◌, ◌≤◌, ◌⊎◌, IfSome, vec_len}
 use Rattle.std.specs.Io.KnownBytes.{Consumes, IsAtEnd}
 use Rattle.keep_device.specs.Whole.{MakesAtMost}
-use Rattle.vault_http.specs.Known.{IsCurrent, IsKnown}
+use Rattle.vault_http.specs.Known.{IsCurrent, StaysKnown}
 use Rattle.vault_http.proofs.receive.message_from.Given as goal
 
 abbrev pub invariant-loop : goal.invariant-loop
@@ -15,7 +15,7 @@ invariant-loop g l = record {
   made : MakesAtMost l.counter (g.R.Device.seen l.fn.reader).input (g.R.Device.seen l.reader).input;
   last : (l.counter ≡ 0) ⊎ ((g.R.Device.seen l.reader).input.reads_left ≤ 1 → IsAtEnd (g.R.Device.seen l.reader).input.remaining);
   output : (g.R.Device.seen l.reader).output ≡ (g.R.Device.seen l.fn.reader).output;
-  known : IsKnown g.M.Message.has_no_head (g.M.Message.is_answer l.max) g.M.Message.with_body l.max l.bytes.items l.known;
+  known : StaysKnown g.M.Message.has_no_head (g.M.Message.is_answer l.max) g.M.Message.with_body l.max l.bytes.items l.known;
   current : IsCurrent l.max l.bytes.items l.known;
   count : (g.R.Device.seen l.reader).failed_calls ≡ (g.R.Device.seen l.fn.reader).failed_calls;
 }

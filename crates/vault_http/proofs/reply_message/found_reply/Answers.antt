@@ -2,7 +2,7 @@
 use Rattle.std.proofs.Common.{◌++◌, Err, sym, subst, take}
 use Rattle.vault_http.specs.declared.reply.Reply.{Reply}
 use Rattle.vault_http.specs.Heads.{FoundReply}
-use Rattle.vault_http.specs.Messages.{IsReply}
+use Rattle.vault_http.specs.Messages.{IsHttpReply}
 use Rattle.vault_http.proofs.MessageLemmas.{unless}
 use Rattle.vault_http.proofs.ReplyLaws.{final, headed, informational_reply, lengthless_reply}
 use Rattle.vault_http.proofs.reply_message.found_reply.Goals as goal
@@ -14,8 +14,8 @@ returns-then-status-lt200 c = λ more.
 pub returns-in-Err : goal.returns-in-Err
 returns-in-Err c = λ more.
     let f = subst (FoundReply (take c.args.max c.args.bytes.now) c.args.len c.args.status) c.in-Err.is c.requires.found in
-    unless {A = Reply} (Err c.into.result) (IsReply c.args.max (c.args.bytes.now ++ more) (Err c.into.result))
-    (subst (λ x. IsReply c.args.max (c.args.bytes.now ++ more) (Err x)) (sym c.into.ensures)
+    unless {A = Reply} (Err c.into.result) (IsHttpReply c.args.max (c.args.bytes.now ++ more) (Err c.into.result))
+    (subst (λ x. IsHttpReply c.args.max (c.args.bytes.now ++ more) (Err x)) (sym c.into.ensures)
     (lengthless_reply c.args.max c.args.bytes.now more c.args.len c.args.status c.in-Err.fault f (final c.args.status c.else-status-ge100.either)))
 
 pub returns-in-Ok : goal.returns-in-Ok

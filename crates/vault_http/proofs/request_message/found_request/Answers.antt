@@ -3,7 +3,7 @@ use Rattle.std.proofs.Common.{◌≡◌, ◌++◌, ◌∙◌, ap, Err, refl, sym
 use Rattle.vault_http.specs.declared.request.Request.{Request}
 use Rattle.vault_http.specs.Heads.{FoundRequest}
 use Rattle.vault_http.specs.Known.{IsHeaded}
-use Rattle.vault_http.specs.Messages.{IsRequest, length_fault, request_with}
+use Rattle.vault_http.specs.Messages.{IsHttpRequest, length_fault, request_with}
 use Rattle.vault_http.specs.Starts.{IsStart}
 use Rattle.vault_http.proofs.MessageLemmas.{unless}
 use Rattle.vault_http.proofs.RequestLaws.{bodiless, headed}
@@ -17,8 +17,8 @@ bodiless-requires c =
 pub returns-in-Err : goal.returns-in-Err
 returns-in-Err c = λ more.
     let f = subst (FoundRequest (take c.args.max c.args.bytes.now) c.args.len c.args.start) c.in-Err.is c.requires.found in
-    unless {A = Request} (Err c.into.result) (IsRequest c.args.max (c.args.bytes.now ++ more) (Err c.into.result))
-    (subst (λ x. IsRequest c.args.max (c.args.bytes.now ++ more) (Err x)) (sym c.into.ensures)
+    unless {A = Request} (Err c.into.result) (IsHttpRequest c.args.max (c.args.bytes.now ++ more) (Err c.into.result))
+    (subst (λ x. IsHttpRequest c.args.max (c.args.bytes.now ++ more) (Err x)) (sym c.into.ensures)
     (headed_request c.args.max c.args.bytes.now more c.args.len c.args.start (Err c.in-Err.fault) (Err (length_fault c.in-Err.fault)) f refl))
 
 pub returns-in-Ok-bodiless : goal.returns-in-Ok-bodiless
@@ -26,5 +26,5 @@ returns-in-Ok-bodiless c =
     let f = subst (FoundRequest (take c.args.max c.args.bytes.now) c.args.len c.args.start) c.in-Ok.is c.requires.found in
     let same : c.in-Ok-bodiless.request ≡ bodiless c.front_of.result.now c.args.start = cc (c.in-Ok-bodiless.ensures) in
     let is : c.in-Ok-bodiless.request ≡ bodiless (take c.args.max c.args.bytes.now) c.args.start = same ∙ ap (λ t. bodiless t c.args.start) c.front_of.ensures in
-    subst (λ r. IsHeaded (IsRequest c.args.max) request_with c.args.max c.args.bytes.now c.args.len r c.in-Ok.framing) (sym is)
+    subst (λ r. IsHeaded (IsHttpRequest c.args.max) request_with c.args.max c.args.bytes.now c.args.len r c.in-Ok.framing) (sym is)
     (headed c.args.max c.args.bytes.now c.args.len c.args.start c.in-Ok.framing f)

@@ -7,8 +7,8 @@ use Rattle.keep_lines.proofs.LineByLine.{handed_on}
 use Rattle.keep_asking.specs.InStep.{IsAbreast}
 use Rattle.keep_asking.specs.Sending.{Lanes, lanes_of}
 use Rattle.keep_lanes.specs.Out.{Out}
-use Rattle.watch_lines.specs.Clocked.{side}
-use Rattle.watch_lines.specs.Watching.{Watching, fresh}
+use Rattle.watch_lines.specs.Clocked.{watching_side}
+use Rattle.watch_lines.specs.Watching.{Watching, fresh_watching}
 use Rattle.watch_lines.specs.WatchRun.{IsUnbegun, WatchesTo}
 use Rattle.keep_asking.proofs.InStep.{abreast_new}
 use Rattle.watch_lines.proofs.WatchEnding.{listened_watches, read_watches}
@@ -40,8 +40,8 @@ listen-requires g c =
     let out = g.L.Lanes.out c.args.lanes.now in
     let free : c.free.result ≡ width =
     (let all = c.free.ensures ∙ ap (λ (o : List Out). width - length o) c.requires.free in omega (arith, all)) in
-    let is = c.in_ok-watching.ensures ∙ ap (fresh c.in_ok-inventory.inventory) free in
-    record { abreast = subst (λ (w : Watching). IsAbreast w.machine width out) (sym is) (subst (IsAbreast (fresh c.in_ok-inventory.inventory width).machine width) (sym c.requires.free) (abreast_new c.in_ok-inventory.inventory.forest width)) }
+    let is = c.in_ok-watching.ensures ∙ ap (fresh_watching c.in_ok-inventory.inventory) free in
+    record { abreast = subst (λ (w : Watching). IsAbreast w.machine width out) (sym is) (subst (IsAbreast (fresh_watching c.in_ok-inventory.inventory width).machine width) (sym c.requires.free) (abreast_new c.in_ok-inventory.inventory.forest width)) }
 
 pub returns-clause-run : goal.returns-clause-run
 returns-clause-run g c =
@@ -52,5 +52,5 @@ returns-clause-run g c =
     let out : Change = change g.W.Device.is_in_memory (g.W.Device.seen c.args.out.now) (g.W.Device.seen c.listen.new.out) in
     let free : c.free.result ≡ width =
     (let all = c.free.ensures ∙ ap (λ (o : List Out). width - length o) c.requires.free in omega (arith, all)) in
-    listened_watches port c.args.bytes.now width old fed out c.in_ok-inventory.inventory c.in_ok-watching.watching (side c.listen.new.watching (lanes_of (g.L.Lanes.behind c.listen.new.lanes) (g.L.Lanes.out c.listen.new.lanes) (g.L.Lanes.seconds c.listen.new.lanes))) c.listen.result
-    c.in_ok-inventory.ensures (c.in_ok-watching.ensures ∙ ap (fresh c.in_ok-inventory.inventory) free) c.listen.ensures.listens
+    listened_watches port c.args.bytes.now width old fed out c.in_ok-inventory.inventory c.in_ok-watching.watching (watching_side c.listen.new.watching (lanes_of (g.L.Lanes.behind c.listen.new.lanes) (g.L.Lanes.out c.listen.new.lanes) (g.L.Lanes.seconds c.listen.new.lanes))) c.listen.result
+    c.in_ok-inventory.ensures (c.in_ok-watching.ensures ∙ ap (fresh_watching c.in_ok-inventory.inventory) free) c.listen.ensures.listens

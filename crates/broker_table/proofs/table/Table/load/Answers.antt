@@ -2,12 +2,12 @@
 use Rattle.std.proofs.Common.{◌≡◌, ◌∙◌, ap, List, []}
 use Rattle.broker_table.specs.declared.row.Row.{Row}
 use Rattle.broker_table.specs.Faults.{Faults}
-use Rattle.broker_table.specs.Table.{Table}
+use Rattle.broker_table.specs.Table.{BrokerTable}
 use Rattle.broker_table.specs.Slots.{listed_rows}
 use Rattle.broker_table.proofs.Loaded.{rows_of_slots}
 use Rattle.broker_table.proofs.table.Table.load.Goals as goal
 
-tables : (rows rows' : List Row) (f g : Faults) → rows ≡ rows' → f ≡ g → ◌≡◌ {A = Table} (record { rows = rows; faults = f.faults; count = f.count }) (record { rows = rows'; faults = g.faults; count = g.count })
+tables : (rows rows' : List Row) (f g : Faults) → rows ≡ rows' → f ≡ g → ◌≡◌ {A = BrokerTable} (record { rows = rows; faults = f.faults; count = f.count }) (record { rows = rows'; faults = g.faults; count = g.count })
 tables rows rows' f g e same = ap (λ rs. record { rows = rs; faults = f.faults; count = f.count }) e ∙ ap (λ (h : Faults). record { rows = rows'; faults = h.faults; count = h.count }) same
 
 pub returns : goal.returns

@@ -1,7 +1,7 @@
 -- What is made is a fresh agent.
 use Rattle.std.proofs.Common.{◌≡◌, ◌∙◌, List, ap, length, replicate, subst, sym}
 use Rattle.keep_tree.specs.Forest.{Forest}
-use Rattle.watch_machine.specs.State.{State, opened}
+use Rattle.watch_machine.specs.State.{WatchState, opened}
 use Rattle.keep_agent.specs.declared.standing.Standing.{Standing}
 use Rattle.keep_agent.specs.Agent.{IsAgent}
 use Rattle.keep_agent.specs.Standings.{fresh_standing}
@@ -15,5 +15,5 @@ invariant_of-result c =
     let machine : c.in_ok-watch.watch ≡ opened s.forest c.args.width = c.in_ok-watch.ensures.opened ∙ ap (λ (g : Forest). opened g c.args.width) forest in
     let standings : c.in_ok-standings.standings.items ≡ replicate (length s.forest.entries) fresh_standing =
     c.in_ok-standings.ensures ∙ ap (λ n. replicate n fresh_standing) (c.len.ensures.value ∙ ap (λ (g : Forest). length g.entries) forest) in
-    subst (λ (m : State). IsAgent (record { machine = m; inventory = s; standings = c.in_ok-standings.standings.items; beginnings = 0 })) (sym machine)
+    subst (λ (m : WatchState). IsAgent (record { machine = m; inventory = s; standings = c.in_ok-standings.standings.items; beginnings = 0 })) (sym machine)
     (subst (λ (xs : List Standing). IsAgent (record { machine = opened s.forest c.args.width; inventory = s; standings = xs; beginnings = 0 })) (sym standings) (fresh_is_agent s c.args.width))

@@ -2,7 +2,7 @@
 use Rattle.std.proofs.Common.{◌≡◌, ◌∙◌, List, ap, length, subst, sym}
 use Rattle.watch_machine.proofs.Rewritten.{once}
 use Rattle.keep_agent.specs.declared.standing.Standing.{Standing}
-use Rattle.keep_agent.specs.code.Within.{IsWithin}
+use Rattle.keep_agent.specs.code.Within.{IsEventWithin}
 use Rattle.keep_agent.specs.Agent.{Agent, IsAgent}
 use Rattle.keep_agent.specs.Standings.{standings_after}
 use Rattle.keep_agent.proofs.Left.{left_turn}
@@ -14,7 +14,7 @@ pub stand-requires-clause-watched : goal.stand-requires-clause-watched
 stand-requires-clause-watched c =
     let turn = c.in_ok-output.ensures.turn in
     let left = left_turn c.self.inside.watch c.step.new.self c.args.event c.in_ok-output.output turn in
-    subst (λ n. IsWithin n c.args.event) (sym left.entries) (taken_within c.self.inside.watch c.args.event turn.0)
+    subst (λ n. IsEventWithin n c.args.event) (sym left.entries) (taken_within c.self.inside.watch c.args.event turn.0)
 
 pub invariant_of-self-2 : goal.invariant_of-self-2
 invariant_of-self-2 c =

@@ -2,7 +2,7 @@
 use Rattle.std.proofs.Common.{◌≡◌, ◌∙◌, List, Some, ap, sym}
 use Rattle.std.specs.List.{position}
 use Rattle.keep_change.specs.declared.row.Row.{Row}
-use Rattle.keep_change.specs.Rows.{is_named, with_named}
+use Rattle.keep_change.specs.Rows.{is_row_named, with_named}
 use Rattle.keep_change.proofs.Places.{need_named, nobody_needs}
 use Rattle.keep_change.proofs.rows.Rows.set_need.Goals as goal
 
@@ -10,7 +10,7 @@ pub returns-in-Some : goal.returns-in-Some
 returns-in-Some c =
     let rows = c.self.inside.items.items in
     let name = c.args.name.now in
-    let there : position (is_named name) rows ≡ Some c.in-Some.index = ap (λ (l : List Row). position (is_named name) l) c.self.view_is ∙ (sym c.place.ensures ∙ c.in-Some.is) in
+    let there : position (is_row_named name) rows ≡ Some c.in-Some.index = ap (λ (l : List Row). position (is_row_named name) l) c.self.view_is ∙ (sym c.place.ensures ∙ c.in-Some.is) in
     need_named name c.args.until rows c.in-Some.index c.index_mut.result.now there c.index_mut.ensures.value
     ∙ ap (λ (l : List Row). with_named (λ row. record row { need = c.args.until }) name l) c.self.view_is
 

@@ -3,11 +3,11 @@ use Rattle.std.proofs.Common.{◌≡◌, ◌∙◌, ◌<◌, None, Some, ap, ari
 use Rattle.std.proofs.lemmas.Result.{err_from_is_err_and}
 use Rattle.std.proofs.lemmas.Bool.Decides.{nat_tests}
 use Rattle.keep_core.specs.declared.event.Output.TheVariants as out
-use Rattle.keep_core.specs.code.Hearing.{heard_in, others}
+use Rattle.keep_core.specs.code.Hearing.{heard_in_round, others}
 use Rattle.keep_core.specs.Refusal.{waits_for}
 use Rattle.keep_core.specs.Replan.{Replan}
 use Rattle.keep_core.specs.State.{Round}
-use Rattle.keep_core.specs.Step.{heard, of_entry}
+use Rattle.keep_core.specs.Step.{entry_of_event, state_after_answer}
 use Rattle.keep_core.proofs.Heard.{as_answer, nobody, of_some, somebody, wants_turn}
 use Rattle.keep_core.proofs.Hearing.{waits_in}
 use Rattle.keep_core.proofs.Refusals.{answer_taken}
@@ -28,13 +28,13 @@ returns-then-waits_for_others c =
     let now = c.args.self.now in
     let event = c.args.event in
     let taken = answer_taken now event c.requires.answer c.requires.taken in
-    let round = waits_in now.round (of_entry event) taken.waits in
+    let round = waits_in now.round (entry_of_event event) taken.waits in
     let test : nat_lt 0 (length (others now.round c.args.i)) ≡ true = sym c.waits_for_others.ensures ∙ c.if-waits_for_others.true in
     let some : 0 < length (others now.round c.args.i) = grind (arith, nat_tests) in
     let left = ap (λ o. length (others o c.args.i)) round.1 ∙ ap (λ i. length (others (Some round.0) i)) (sym c.requires.entry) in (
       c.requires.taken,
       as_answer now event out.Waiting c.hear.new.self c.requires.answer
-          (round.0, (round.1, (somebody _ (subst (λ n. 0 < n) left some), c.hear.ensures ∙ ap (λ o. heard_in o now event) round.1))),
+          (round.0, (round.1, (somebody _ (subst (λ n. 0 < n) left some), c.hear.ensures ∙ ap (λ o. heard_in_round o now event) round.1))),
     )
 
 pub returns-in_err-close : goal.returns-in_err-close
@@ -42,7 +42,7 @@ returns-in_err-close c =
     let now = c.args.self.now in
     let event = c.args.event in
     let taken = answer_taken now event c.requires.answer c.requires.taken in
-    let round = waits_in now.round (of_entry event) taken.waits in
+    let round = waits_in now.round (entry_of_event event) taken.waits in
     let test : nat_lt 0 (length (others now.round c.args.i)) ≡ false = sym c.waits_for_others.ensures ∙ c.if-waits_for_others.false in
     let none : length (others now.round c.args.i) ≡ 0 = grind (arith, nat_tests) in
     let left = ap (λ o. length (others o c.args.i)) round.1 ∙ ap (λ i. length (others (Some round.0) i)) (sym c.requires.entry) in
@@ -56,9 +56,9 @@ returns c =
     let event = c.args.event in
     let new = c.close.new.self in
     let taken = answer_taken now event c.requires.answer c.requires.taken in
-    let round = waits_in now.round (of_entry event) taken.waits in
+    let round = waits_in now.round (entry_of_event event) taken.waits in
     let test : nat_lt 0 (length (others now.round c.args.i)) ≡ false = sym c.waits_for_others.ensures ∙ c.if-waits_for_others.false in
     let none : length (others now.round c.args.i) ≡ 0 = grind (arith, nat_tests) in
     let left = ap (λ o. length (others o c.args.i)) round.1 ∙ ap (λ i. length (others (Some round.0) i)) (sym c.requires.entry) in
-    let planned = of_some now.round round.0 (λ (r : Round). Replan (heard now event r.at None) r.at new) round.1 c.in_ok-close.ensures.planned in
+    let planned = of_some now.round round.0 (λ (r : Round). Replan (state_after_answer now event r.at None) r.at new) round.1 c.in_ok-close.ensures.planned in
     (c.requires.taken, as_answer now event (out.Round c.next_seconds.result) new c.requires.answer (round.0, (round.1, (nobody _ (sym left ∙ none), (planned, c.next_seconds.ensures)))))

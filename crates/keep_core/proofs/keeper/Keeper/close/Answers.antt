@@ -7,11 +7,11 @@ use Rattle.keep_rule.specs.Runs.{moments_of}
 use Rattle.keep_plan.specs.Planned.{to_come}
 use Rattle.keep_core.specs.declared.round.OpenRound.{OpenRound}
 use Rattle.keep_core.specs.code.Hearing.{is_rules}
-use Rattle.keep_core.specs.code.Keeping.{IsKeeper, seen}
+use Rattle.keep_core.specs.code.Keeping.{IsKeeper, seen_round}
 use Rattle.keep_core.specs.Replan.{Replan, ReplanTooLong}
 use Rattle.keep_core.specs.Shorten.{pairs, shorten}
-use Rattle.keep_core.specs.State.{State}
-use Rattle.keep_core.specs.Step.{answered, change, heard, of_entry}
+use Rattle.keep_core.specs.State.{CoreState}
+use Rattle.keep_core.specs.Step.{entry_after_answer, entry_of_event, state_after_answer, with_entry_changed}
 use Rattle.keep_core.proofs.Heard.{Stays, answer_fits, answered_keeper, handed_seconds, handed_within, hears, if_some, only_memory, others_are, state_of, stays, stays_planned}
 use Rattle.keep_core.proofs.Made.{made, made_keeper}
 use Rattle.keep_core.proofs.Shortening.{shorten_forest}
@@ -36,10 +36,10 @@ invariant_of-self-then-round-is_rules c =
     let event = c.args.event in
     let is = sym c.take.ensures.value ∙ c.in-Some.is in
     let hears = hears h c.self.inside.last c.self.inside.plan c.self.inside.round c.self.inside.shortened.items c.args.self.now r event c.self.view_is c.self.invariant is c.requires.answer c.requires.taken in
-    let told = c.tell.ensures ∙ ap (λ i. change h i (answered r.at event)) (sym c.requires.entry) in
+    let told = c.tell.ensures ∙ ap (λ i. with_entry_changed h i (entry_after_answer r.at event)) (sym c.requires.entry) in
     let rules = c.is_rules.ensures ∙ ap (λ i. is_rules r.at event (entry_at h.entries i)) (sym c.requires.entry) in
-    let now_is = sym (ap (λ (s : State). s.round) c.self.view_is) ∙ ap seen is in
-    let others = others_are c.args.self.now.round r c.args.i (of_entry event) now_is c.requires.entry in
+    let now_is = sym (ap (λ (s : CoreState). s.round) c.self.view_is) ∙ ap seen_round is in
+    let others = others_are c.args.self.now.round r c.args.i (entry_of_event event) now_is c.requires.entry in
     let p = c.self.inside.plan in
     let k = c.tell.new.forest in
     let both = c.if-round-is_rules.true in
@@ -54,10 +54,10 @@ returns-then-round-is_rules-clause-planned c =
     let event = c.args.event in
     let is = sym c.take.ensures.value ∙ c.in-Some.is in
     let hears = hears h c.self.inside.last c.self.inside.plan c.self.inside.round c.self.inside.shortened.items c.args.self.now r event c.self.view_is c.self.invariant is c.requires.answer c.requires.taken in
-    let told = c.tell.ensures ∙ ap (λ i. change h i (answered r.at event)) (sym c.requires.entry) in
+    let told = c.tell.ensures ∙ ap (λ i. with_entry_changed h i (entry_after_answer r.at event)) (sym c.requires.entry) in
     let rules = c.is_rules.ensures ∙ ap (λ i. is_rules r.at event (entry_at h.entries i)) (sym c.requires.entry) in
-    let now_is = sym (ap (λ (s : State). s.round) c.self.view_is) ∙ ap seen is in
-    let others = others_are c.args.self.now.round r c.args.i (of_entry event) now_is c.requires.entry in
+    let now_is = sym (ap (λ (s : CoreState). s.round) c.self.view_is) ∙ ap seen_round is in
+    let others = others_are c.args.self.now.round r c.args.i (entry_of_event event) now_is c.requires.entry in
     let p = c.self.inside.plan in
     let k = c.tell.new.forest in
     let both = c.if-round-is_rules.true in
@@ -65,10 +65,10 @@ returns-then-round-is_rules-clause-planned c =
     let stay = stays h k c.self.inside.last p r event hears.keeper hears.taken told (and_left r.by_rule c.is_rules.result both) (sym rules ∙ and_right r.by_rule c.is_rules.result both) (omega arith) in
     let list = c.self.inside.shortened.items in
     let old = state_of h c.self.inside.last p c.self.inside.round list in
-    let there = stays_planned (heard old event r.at None) r.at k p told refl (subst (λ t. Stays k t p) (sym hears.at) stay) in
-    let last = subst (λ t. Replan (heard old event r.at None) r.at (record { forest = k; last = t; to_come = moments_of (to_come p); round = None; shortened = list })) hears.at there in
-    let closed = subst (λ (o : Option OpenRound). Replan (heard old event r.at None) r.at (state_of k c.self.inside.last p o list)) (sym c.take.ensures.after) last in
-    if_some c.args.self.now.round _ _ now_is (subst (λ (s : State). Replan (heard s event r.at None) r.at (state_of k c.self.inside.last p c.take.new.self list)) c.self.view_is closed)
+    let there = stays_planned (state_after_answer old event r.at None) r.at k p told refl (subst (λ t. Stays k t p) (sym hears.at) stay) in
+    let last = subst (λ t. Replan (state_after_answer old event r.at None) r.at (record { forest = k; last = t; to_come = moments_of (to_come p); round = None; shortened = list })) hears.at there in
+    let closed = subst (λ (o : Option OpenRound). Replan (state_after_answer old event r.at None) r.at (state_of k c.self.inside.last p o list)) (sym c.take.ensures.after) last in
+    if_some c.args.self.now.round _ _ now_is (subst (λ (s : CoreState). Replan (state_after_answer s event r.at None) r.at (state_of k c.self.inside.last p c.take.new.self list)) c.self.view_is closed)
 
 pub replan_with_answer-requires-clause-within : goal.replan_with_answer-requires-clause-within
 replan_with_answer-requires-clause-within c = handed_within c.args.event c.self.view_is c.self.invariant (sym c.take.ensures.value ∙ c.in-Some.is) c.requires.answer c.requires.taken c.args.i c.requires.entry
@@ -86,7 +86,7 @@ invariant_of-self-in-Ok-1 c =
     let k = c.replan_with_answer.new.forest in
     let p = c.in-Ok.plan in
     let heard = answered_keeper h c.self.inside.last c.self.inside.plan r event hears.keeper hears.taken in
-    let told = subst (λ i. IsForest (change h i (answered r.at event))) c.requires.entry heard in
+    let told = subst (λ i. IsForest (with_entry_changed h i (entry_after_answer r.at event))) c.requires.entry heard in
     let forest = subst IsForest (sym c.in-Ok.ensures.shortened.0) (shorten_forest _ told r.at) in
     let late = c.self.invariant.late in
     subst (IsKeeper k c.self.inside.last p) (sym c.take.ensures.after) (subst (λ t. IsKeeper k t p None) hears.at (made_keeper k r.at p forest (omega (arith, hears.at)) c.in-Ok.ensures.planned))
@@ -102,14 +102,14 @@ returns-in-Ok-clause-planned c =
     let p = c.in-Ok.plan in
     let list = c.replan_with_answer.new.shortened.items in
     let old = state_of h c.self.inside.last c.self.inside.plan c.self.inside.round c.self.inside.shortened.items in
-    let now_is = sym (ap (λ (s : State). s.round) c.self.view_is) ∙ ap seen is in
-    let told = ap (λ i. change h i (answered r.at event)) (sym c.requires.entry) in
+    let now_is = sym (ap (λ (s : CoreState). s.round) c.self.view_is) ∙ ap seen_round is in
+    let told = ap (λ i. with_entry_changed h i (entry_after_answer r.at event)) (sym c.requires.entry) in
     let short = c.in-Ok.ensures.shortened.0 ∙ ap (λ g. shorten g r.at) told in
     let noted = c.in-Ok.ensures.shortened.1 ∙ ap (λ g. c.self.inside.shortened.items ++ pairs g r.at) told in
-    let there = made (heard old event r.at None) r.at k p list short noted c.in-Ok.ensures.planned in
-    let last = subst (λ t. Replan (heard old event r.at None) r.at (record { forest = k; last = t; to_come = moments_of (to_come p); round = None; shortened = list })) hears.at there in
-    let closed = subst (λ (o : Option OpenRound). Replan (heard old event r.at None) r.at (state_of k c.self.inside.last p o list)) (sym c.take.ensures.after) last in
-    if_some c.args.self.now.round _ _ now_is (subst (λ (s : State). Replan (heard s event r.at None) r.at (state_of k c.self.inside.last p c.take.new.self list)) c.self.view_is closed)
+    let there = made (state_after_answer old event r.at None) r.at k p list short noted c.in-Ok.ensures.planned in
+    let last = subst (λ t. Replan (state_after_answer old event r.at None) r.at (record { forest = k; last = t; to_come = moments_of (to_come p); round = None; shortened = list })) hears.at there in
+    let closed = subst (λ (o : Option OpenRound). Replan (state_after_answer old event r.at None) r.at (state_of k c.self.inside.last p o list)) (sym c.take.ensures.after) last in
+    if_some c.args.self.now.round _ _ now_is (subst (λ (s : CoreState). Replan (state_after_answer s event r.at None) r.at (state_of k c.self.inside.last p c.take.new.self list)) c.self.view_is closed)
 
 pub returns-in-Err-clause-refused : goal.returns-in-Err-clause-refused
 returns-in-Err-clause-refused c =
@@ -119,4 +119,4 @@ returns-in-Err-clause-refused c =
     let is = sym c.take.ensures.value ∙ c.in-Some.is in
     let hears = hears h c.self.inside.last c.self.inside.plan c.self.inside.round c.self.inside.shortened.items c.args.self.now r event c.self.view_is c.self.invariant is c.requires.answer c.requires.taken in
     only_memory _ r.at c.in-Err.fault c.in-Err.ensures.refused
-    (λ long. answer_fits h c.self.inside.last c.self.inside.plan r event hears.keeper hears.taken (subst (λ i. ReplanTooLong (change h i (answered r.at event)) r.at) (sym c.requires.entry) long))
+    (λ long. answer_fits h c.self.inside.last c.self.inside.plan r event hears.keeper hears.taken (subst (λ i. ReplanTooLong (with_entry_changed h i (entry_after_answer r.at event)) r.at) (sym c.requires.entry) long))

@@ -3,10 +3,10 @@ use Rattle.std.proofs.Common.{◌≡◌, ◌∙◌, ◌+◌, ◌-◌, ◌<◌, �
 use Rattle.std.specs.Vec.{with_item}
 use Rattle.keep_tree.specs.Forest.{Forest, entry_at}
 use Rattle.keep_core.specs.declared.round.OpenRound.{OpenRound}
-use Rattle.keep_core.specs.code.Hearing.{heard_in, is_rules}
-use Rattle.keep_core.specs.code.Keeping.{seen, waited_for}
-use Rattle.keep_core.specs.State.{State}
-use Rattle.keep_core.specs.Step.{answered, change, of_entry, without}
+use Rattle.keep_core.specs.code.Hearing.{heard_in_round, is_rules}
+use Rattle.keep_core.specs.code.Keeping.{seen_round, waited_for}
+use Rattle.keep_core.specs.State.{CoreState}
+use Rattle.keep_core.specs.Step.{entry_after_answer, entry_of_event, with_entry_changed, without_index}
 use Rattle.keep_core.proofs.Heard.{handed_seconds, handed_within, hears, heard_keeper, others_are, state_of}
 use Rattle.keep_core.proofs.Hearing.{waited_set}
 use Rattle.keep_core.proofs.keeper.Keeper.hear.Goals as goal
@@ -40,10 +40,10 @@ invariant_of-self-2 c =
     let event = c.args.event in
     let is = sym c.take.ensures.value ∙ c.in-Some.is in
     let hears = hears h c.self.inside.last c.self.inside.plan c.self.inside.round c.self.inside.shortened.items c.args.self.now r event c.self.view_is c.self.invariant is c.requires.answer c.requires.taken in
-    let told = c.tell.ensures ∙ ap (λ i. change h i (answered r.at event)) (sym c.requires.entry) in
+    let told = c.tell.ensures ∙ ap (λ i. with_entry_changed h i (entry_after_answer r.at event)) (sym c.requires.entry) in
     let rules = c.is_rules.ensures ∙ ap (λ i. is_rules r.at event (entry_at h.entries i)) (sym c.requires.entry) in
-    let now_is = sym (ap (λ (s : State). s.round) c.self.view_is) ∙ ap seen is in
-    let others = others_are c.args.self.now.round r c.args.i (of_entry event) now_is c.requires.entry in
+    let now_is = sym (ap (λ (s : CoreState). s.round) c.self.view_is) ∙ ap seen_round is in
+    let others = others_are c.args.self.now.round r c.args.i (entry_of_event event) now_is c.requires.entry in
     let n : OpenRound = record { at = r.at; waiting = with_item r.waiting c.args.i false; left = r.left - 1; by_rule = r.by_rule && c.is_rules.result } in
     let less : n.left + 1 ≡ r.left = (let some = hears.some in omega arith) in
     let flags = ap (λ i. set r.waiting.items i false) (sym c.requires.entry) in
@@ -57,15 +57,15 @@ returns c =
     let event = c.args.event in
     let is = sym c.take.ensures.value ∙ c.in-Some.is in
     let hears = hears h c.self.inside.last c.self.inside.plan c.self.inside.round c.self.inside.shortened.items c.args.self.now r event c.self.view_is c.self.invariant is c.requires.answer c.requires.taken in
-    let told = c.tell.ensures ∙ ap (λ i. change h i (answered r.at event)) (sym c.requires.entry) in
+    let told = c.tell.ensures ∙ ap (λ i. with_entry_changed h i (entry_after_answer r.at event)) (sym c.requires.entry) in
     let rules = c.is_rules.ensures ∙ ap (λ i. is_rules r.at event (entry_at h.entries i)) (sym c.requires.entry) in
-    let now_is = sym (ap (λ (s : State). s.round) c.self.view_is) ∙ ap seen is in
-    let others = others_are c.args.self.now.round r c.args.i (of_entry event) now_is c.requires.entry in
+    let now_is = sym (ap (λ (s : CoreState). s.round) c.self.view_is) ∙ ap seen_round is in
+    let others = others_are c.args.self.now.round r c.args.i (entry_of_event event) now_is c.requires.entry in
     let n : OpenRound = record { at = r.at; waiting = with_item r.waiting c.args.i false; left = r.left - 1; by_rule = r.by_rule && c.is_rules.result } in
     let old = state_of h c.self.inside.last c.self.inside.plan c.self.inside.round c.self.inside.shortened.items in
-    let unanswered : waited_for n.waiting.items ≡ without (of_entry event) (waited_for r.waiting.items) =
-    ap (λ i. waited_for (set r.waiting.items i false)) (sym c.requires.entry) ∙ waited_set r.waiting.items (of_entry event) hears.taken.there in
-    ap (λ (g : Forest). record old { forest = g; round = seen (Some n) }) told
-    ∙ ap (λ us. record old { forest = change h (of_entry event) (answered r.at event); round = Some (record { at = r.at; unanswered = us }) }) unanswered
-    ∙ ap (λ (o : Option OpenRound). heard_in (seen o) old event) (sym is)
-    ∙ ap (λ (s : State). heard_in s.round s event) c.self.view_is
+    let unanswered : waited_for n.waiting.items ≡ without_index (entry_of_event event) (waited_for r.waiting.items) =
+    ap (λ i. waited_for (set r.waiting.items i false)) (sym c.requires.entry) ∙ waited_set r.waiting.items (entry_of_event event) hears.taken.there in
+    ap (λ (g : Forest). record old { forest = g; round = seen_round (Some n) }) told
+    ∙ ap (λ us. record old { forest = with_entry_changed h (entry_of_event event) (entry_after_answer r.at event); round = Some (record { at = r.at; unanswered = us }) }) unanswered
+    ∙ ap (λ (o : Option OpenRound). heard_in_round (seen_round o) old event) (sym is)
+    ∙ ap (λ (s : CoreState). heard_in_round s.round s event) c.self.view_is

@@ -4,10 +4,10 @@ use Rattle.keep_tree.specs.Push.{IsForest}
 use Rattle.keep_rule.specs.Runs.{moments_of}
 use Rattle.keep_plan.specs.Planned.{to_come}
 use Rattle.keep_core.specs.declared.round.OpenRound.{OpenRound}
-use Rattle.keep_core.specs.code.Keeping.{IsKeeper, seen}
+use Rattle.keep_core.specs.code.Keeping.{IsKeeper, seen_round}
 use Rattle.keep_core.specs.Replan.{Replan}
-use Rattle.keep_core.specs.State.{State}
-use Rattle.keep_core.specs.Step.{needed}
+use Rattle.keep_core.specs.State.{CoreState}
+use Rattle.keep_core.specs.Step.{with_new_need}
 use Rattle.keep_core.proofs.Changed.{needed_forest}
 use Rattle.keep_core.proofs.Made.{made, made_keeper, none_seen}
 use Rattle.keep_core.proofs.Shortening.{shorten_forest}
@@ -20,7 +20,7 @@ unwrap-until-requires c = c.new.ensures.within.1 (need_taken c.args.self.now c.a
 
 pub replan_with_need-requires : goal.replan_with_need-requires
 replan_with_need-requires c =
-    let same = ap (λ (s : State). length s.forest.entries) c.self.view_is in
+    let same = ap (λ (s : CoreState). length s.forest.entries) c.self.view_is in
     let within = (need_taken c.args.self.now c.args.i c.args.until c.requires).1 in
     omega arith
 
@@ -31,8 +31,8 @@ invariant_of-self-2 c =
     let h = c.replan_with_need.new.forest in
     let p = c.in_ok-plan.plan in
     let taken = need_taken c.args.self.now c.args.i c.args.until c.requires in
-    let none : c.self.inside.round ≡ None = none_seen c.self.inside.round (ap (λ (s : State). s.round) c.self.view_is ∙ taken.2) in
-    let within : c.args.i < length g.entries = (let same = ap (λ (s : State). length s.forest.entries) c.self.view_is in omega (arith, taken.1)) in
+    let none : c.self.inside.round ≡ None = none_seen c.self.inside.round (ap (λ (s : CoreState). s.round) c.self.view_is ∙ taken.2) in
+    let within : c.args.i < length g.entries = (let same = ap (λ (s : CoreState). length s.forest.entries) c.self.view_is in omega (arith, taken.1)) in
     let value : c.unwrap-until.result ≡ c.args.until = moment_is c.new.result c.unwrap-until.result c.args.until c.unwrap-until.ensures c.new.ensures.value in
     let set = needed_forest g c.self.invariant.forest c.args.i within c.unwrap-until.result (omega (arith, taken.0)) in
     let forest = subst IsForest (sym c.in_ok-plan.ensures.shortened.0) (shorten_forest _ set t) in
@@ -44,8 +44,8 @@ returns c =
     let p = c.in_ok-plan.plan in
     let i = c.args.i in
     let list = c.replan_with_need.new.shortened.items in
-    let old : State = record { forest = c.self.inside.forest; last = c.self.inside.last; to_come = moments_of (to_come c.self.inside.plan); round = seen c.self.inside.round; shortened = c.self.inside.shortened.items } in
-    let new : State = record { forest = h; last = c.self.inside.last; to_come = moments_of (to_come p); round = seen c.self.inside.round; shortened = list } in
+    let old : CoreState = record { forest = c.self.inside.forest; last = c.self.inside.last; to_come = moments_of (to_come c.self.inside.plan); round = seen_round c.self.inside.round; shortened = c.self.inside.shortened.items } in
+    let new : CoreState = record { forest = h; last = c.self.inside.last; to_come = moments_of (to_come p); round = seen_round c.self.inside.round; shortened = list } in
     let value : c.unwrap-until.result ≡ c.args.until = moment_is c.new.result c.unwrap-until.result c.args.until c.unwrap-until.ensures c.new.ensures.value in
-    let there : Replan (needed old i c.unwrap-until.result) c.self.inside.last new = made (needed old i c.unwrap-until.result) c.self.inside.last h p list c.in_ok-plan.ensures.shortened.0 c.in_ok-plan.ensures.shortened.1 c.in_ok-plan.ensures.planned in
-    (c.requires, subst (λ (s : State). Replan (needed s i c.args.until) s.last new) c.self.view_is (subst (λ n. Replan (needed old i n) c.self.inside.last new) value there))
+    let there : Replan (with_new_need old i c.unwrap-until.result) c.self.inside.last new = made (with_new_need old i c.unwrap-until.result) c.self.inside.last h p list c.in_ok-plan.ensures.shortened.0 c.in_ok-plan.ensures.shortened.1 c.in_ok-plan.ensures.planned in
+    (c.requires, subst (λ (s : CoreState). Replan (with_new_need s i c.args.until) s.last new) c.self.view_is (subst (λ n. Replan (with_new_need old i n) c.self.inside.last new) value there))

@@ -2,12 +2,12 @@
 use Rattle.std.proofs.Common.{◌≡◌, ◌∙◌, None, ap, arith, subst}
 use Rattle.keep_plan.specs.Planned.{to_come}
 use Rattle.keep_core.specs.InForce.{InForce}
-use Rattle.keep_core.specs.State.{State}
+use Rattle.keep_core.specs.State.{CoreState}
 use Rattle.keep_core.proofs.Made.{count_moments, none_seen}
 use Rattle.keep_core.proofs.keeper.Keeper.plan.Goals as goal
 
 pub returns-clause-in_force : goal.returns-clause-in_force
 returns-clause-in_force c = λ closed.
-    let none : c.self.inside.round ≡ None = none_seen c.self.inside.round (ap (λ (s : State). s.round) c.self.view_is ∙ closed) in
+    let none : c.self.inside.round ≡ None = none_seen c.self.inside.round (ap (λ (s : CoreState). s.round) c.self.view_is ∙ closed) in
     let few = c.self.invariant.few in
     subst InForce c.self.view_is (c.self.invariant.best none, (let l = count_moments (to_come c.self.inside.plan) in omega arith))

@@ -4,7 +4,7 @@ use Rattle.std.proofs.lemmas.List.{take_more}
 use Rattle.keep_core.specs.declared.event.Event.{Event}
 use Rattle.keep_core.specs.declared.event.Output.{Output}
 use Rattle.keep_core.specs.declared.fault.StepFault.{StepFault}
-use Rattle.keep_core.specs.History.{History}
+use Rattle.keep_core.specs.History.{CoreHistory}
 use Rattle.keep_core.proofs.Stepping.{history_more}
 use Rattle.keep_core.proofs.keeper.Keeper.steps.Goals as goal
 
@@ -17,8 +17,8 @@ loop-event-preserved c =
     let history = history_more old c.loop-event.self c.step.new.self (take k events) _ c.loop-event.results.items c.step.result c.loop-event.invariant.0 c.step.ensures in
     let len = c.loop-event.invariant.1 in
     let room = c.loop-event.invariant.2 in (
-      subst (λ (rs : List (Result Output StepFault)). History old (take (k + 1) events) rs c.step.new.self) (sym c.push_reserved.ensures.items)
-          (subst (λ (es : List Event). History old es (c.loop-event.results.items ++ c.step.result ∷ []) c.step.new.self) (sym (take_more events k _ within)) history),
+      subst (λ (rs : List (Result Output StepFault)). CoreHistory old (take (k + 1) events) rs c.step.new.self) (sym c.push_reserved.ensures.items)
+          (subst (λ (es : List Event). CoreHistory old es (c.loop-event.results.items ++ c.step.result ∷ []) c.step.new.self) (sym (take_more events k _ within)) history),
       omega (arith, c.push_reserved.ensures.len),
       omega (arith, c.push_reserved.ensures.capacity),
     )

@@ -4,8 +4,8 @@ use Rattle.keep_rule.specs.Runs.{moments_of}
 use Rattle.keep_plan.specs.Planned.{Planned, to_come}
 use Rattle.keep_core.specs.declared.opening.Opening.{Opening}
 use Rattle.keep_core.specs.code.Keeping.{IsKeeper}
-use Rattle.keep_core.specs.State.{State}
-use Rattle.keep_core.specs.code.Waking.{IsOpening, Opens}
+use Rattle.keep_core.specs.State.{CoreState}
+use Rattle.keep_core.specs.code.Waking.{IsRoundOpening, OpensRound}
 use Rattle.keep_core.proofs.Made.{none_seen}
 use Rattle.keep_core.proofs.Waking.{opened_keeper}
 use Rattle.keep_core.proofs.keeper.Keeper.wake.Goals as goal
@@ -16,9 +16,9 @@ invariant_of-self c =
     let t = c.self.inside.last in
     let p = c.self.inside.plan in
     let o = c.in-Some.opening in
-    let none : c.self.inside.round ≡ None = none_seen c.self.inside.round (ap (λ (s : State). s.round) c.self.view_is ∙ c.requires.closed) in
-    let given : Opens c.args.self.now.forest c.args.self.now.last c.args.self.now.to_come (Some o) =
-    subst (λ (q : Option Opening). Opens c.args.self.now.forest c.args.self.now.last c.args.self.now.to_come q) c.in-Some.is c.requires.opening in
-    let opens : IsOpening h t (moments_of (to_come p)) o = subst (λ (s : State). Opens s.forest s.last s.to_come (Some o)) (sym c.self.view_is) given in
+    let none : c.self.inside.round ≡ None = none_seen c.self.inside.round (ap (λ (s : CoreState). s.round) c.self.view_is ∙ c.requires.closed) in
+    let given : OpensRound c.args.self.now.forest c.args.self.now.last c.args.self.now.to_come (Some o) =
+    subst (λ (q : Option Opening). OpensRound c.args.self.now.forest c.args.self.now.last c.args.self.now.to_come q) c.in-Some.is c.requires.opening in
+    let opens : IsRoundOpening h t (moments_of (to_come p)) o = subst (λ (s : CoreState). OpensRound s.forest s.last s.to_come (Some o)) (sym c.self.view_is) given in
     let whole : IsKeeper h t p None = subst (IsKeeper h t p) none c.self.invariant in
     opened_keeper h t p c.drop_first.new.self o whole opens (ap (λ (q : Planned). q.start) c.drop_first.ensures.runs) (ap (λ (q : Planned). q.carried) c.drop_first.ensures.runs) c.drop_first.ensures.tail

@@ -3,7 +3,7 @@ use Rattle.std.proofs.Common.{◌≡◌, ℕ, ◌+◌, ◌-◌, ◌<◌, ◌≤�
 use Rattle.std.proofs.lemmas.List.{drop-drop}
 use Rattle.std.proofs.Math.Seq.{length-take-le}
 use Rattle.std.proofs.lemmas.Grind.{common_steps}
-use Rattle.keep_device.specs.Memory.{handed, reads_of}
+use Rattle.keep_device.specs.Memory.{handed_out, reads_of}
 use Rattle.keep_device.proofs.Handing.{handed_front, none_handed, rest_empty, next_pieces, fewer_reads}
 use Rattle.keep_device.proofs.memory_source.MemorySourceSource.read_some.Goals as goal
 
@@ -30,7 +30,7 @@ returns-clause-pieces c =
     let fits : c.next_length-n.result ≤ length c.args.buf.now = omega (arith, c.next_length-n.ensures) in
     let count : length c.copy_from_slice.new.self ≡ c.next_length-n.result = c.copy_from_slice.ensures.len ∙ length-take-le c.next_length-n.result c.args.buf.now fits in
     let same = same_room c.copy_from_slice.new.self c.args.buf.now c.next_length-n.result count fits in (
-      c.next_length-n.ensures ∙ ap (handed c.args.self.now) (sym same),
+      c.next_length-n.ensures ∙ ap (handed_out c.args.self.now) (sym same),
       sym (drop-drop c.next_length-n.result c.self.inside.place c.self.inside.bytes.items) ∙ ap (drop c.next_length-n.result) bytes,
       ap (λ k. drop k c.self.inside.pieces.items) c.min-self-inside.ensures ∙ next_pieces c.self.inside.pieces.items c.self.inside.next c.len.result (grind (arith, common_steps)) ∙ ap (drop 1) pieces,
     )

@@ -2,12 +2,12 @@
 use Rattle.std.proofs.Common.{◌≡◌, ◌∙◌, ◌<◌, ap, length, subst, sym}
 use Rattle.keep_tree.specs.Forest.{Forest}
 use Rattle.keep_tree.specs.Push.{IsForest}
-use Rattle.keep_inventory.specs.Inventories.{IsInventory, Inventory, with_need}
+use Rattle.keep_inventory.specs.Inventories.{IsInventory, Inventory, inventory_with_need}
 use Rattle.keep_inventory.proofs.Told.{needed_is_inventory}
 use Rattle.keep_inventory.proofs.inventory.Inventory.set_need.Goals as goal
 
 pub invariant_of-self : goal.invariant_of-self
-unfolding with_need
+unfolding inventory_with_need
 invariant_of-self c =
     let s : Inventory = record { forest = c.self.inside.forest; credentials = c.self.inside.credentials; terms = c.self.inside.terms.items } in
     let within : c.args.index < length s.forest.entries = subst (λ (x : Inventory). c.args.index < length x.forest.entries) (sym c.self.view_is) c.requires in
@@ -15,7 +15,7 @@ invariant_of-self c =
     (needed_is_inventory s c.self.invariant c.args.index within c.args.need (subst IsForest c.set_need.ensures.set c.set_need.ensures.sound))
 
 pub returns : goal.returns
-unfolding with_need
+unfolding inventory_with_need
 returns c =
     let s : Inventory = record { forest = c.self.inside.forest; credentials = c.self.inside.credentials; terms = c.self.inside.terms.items } in
-    ap (λ (g : Forest). record { forest = g; credentials = s.credentials; terms = s.terms }) c.set_need.ensures.set ∙ ap (λ (x : Inventory). with_need x c.args.index c.args.need) c.self.view_is
+    ap (λ (g : Forest). record { forest = g; credentials = s.credentials; terms = s.terms }) c.set_need.ensures.set ∙ ap (λ (x : Inventory). inventory_with_need x c.args.index c.args.need) c.self.view_is

@@ -2,9 +2,9 @@
 use Rattle.std.proofs.Common.{◌≡◌, ap, ◌∙◌, ◌++◌, Err, length, sym, subst}
 use Rattle.keep_tree.specs.declared.entry.Entry.{Entry}
 use Rattle.keep_tree.specs.Forest.{Forest, entry_at}
-use Rattle.keep_core.specs.State.{State}
+use Rattle.keep_core.specs.State.{CoreState}
 use Rattle.keep_run.specs.Replies.{IsAnswerOf, event_for, event_of}
-use Rattle.keep_run.specs.Text.{answer_line, short_lines}
+use Rattle.keep_run.specs.Text.{answer_line, short_need_lines}
 use Rattle.keep_run.proofs.OneAnswer.{answers_for, one_answer}
 use Rattle.keep_run.proofs.Refusing.{answer_taken, taken_stop}
 use Rattle.keep_run.proofs.Within.{AreOf, short_within}
@@ -28,7 +28,7 @@ returns-in-Err-clause-memory g c =
 pub push_short_lines-requires : goal.push_short_lines-requires
 push_short_lines-requires g c =
     let all = short_within c.args.agent.now.keeper c.step.new.self.keeper c.in_ok-event.event c.in-Ok.output c.requires.quiet c.in-Ok.ensures.turn in
-    subst (λ n. AreOf n c.list.result.now) (sym (ap (λ (h : Forest). length h.entries) (c.forest-3.ensures ∙ ap (λ (s : State). s.forest) c.take_shortened-short.ensures.after)))
+    subst (λ n. AreOf n c.list.result.now) (sym (ap (λ (h : Forest). length h.entries) (c.forest-3.ensures ∙ ap (λ (s : CoreState). s.forest) c.take_shortened-short.ensures.after)))
     (subst (AreOf (length c.step.new.self.keeper.forest.entries)) (sym (c.list.ensures ∙ c.take_shortened-short.ensures.value)) all)
 
 pub returns-clause-hears : goal.returns-clause-hears
@@ -56,5 +56,5 @@ returns-clause-answers g c =
     c.args.text.now.items c.push_answer_line.new.text.items c.push_short_lines.new.text.items asks means c.in-Ok.ensures.turn c.take_shortened-short.ensures.after
     (c.in_ok-push_answer_line.ensures ∙ ap (λ (h : Forest). c.args.text.now.items ++ answer_line h event reply) c.forest-2.ensures)
     (c.in_ok-push_short_lines.ensures
-    ∙ ap (λ (h : Forest). c.push_answer_line.new.text.items ++ short_lines h c.list.result.now) c.forest-3.ensures
-    ∙ ap (λ ps. c.push_answer_line.new.text.items ++ short_lines c.take_shortened-short.new.self.keeper.forest ps) (c.list.ensures ∙ c.take_shortened-short.ensures.value))
+    ∙ ap (λ (h : Forest). c.push_answer_line.new.text.items ++ short_need_lines h c.list.result.now) c.forest-3.ensures
+    ∙ ap (λ ps. c.push_answer_line.new.text.items ++ short_need_lines c.take_shortened-short.new.self.keeper.forest ps) (c.list.ensures ∙ c.take_shortened-short.ensures.value))

@@ -1,7 +1,7 @@
 -- The shortened needs of a tick are of the forest, and only lack of memory refuses one.
 use Rattle.std.proofs.Common.{ap, ◌∙◌, ◌≤◌, Err, Ok, arith, length, sym, subst}
 use Rattle.keep_tree.specs.Forest.{Forest}
-use Rattle.keep_core.specs.State.{State}
+use Rattle.keep_core.specs.State.{CoreState}
 use Rattle.keep_core.specs.States.{IsState}
 use Rattle.keep_core.specs.declared.event.Event.TheVariants.{Tick}
 use Rattle.keep_core.proofs.Shaped.{shape}
@@ -12,7 +12,7 @@ use Rattle.keep_run.proofs.agent.ticking.tick.Goals as goal
 pub push_short_lines-requires : goal.push_short_lines-requires
 push_short_lines-requires c =
     let all = short_within c.args.agent.now.keeper c.step.new.self.keeper (Tick c.args.t) c.in-Ok.output c.requires.ready.quiet c.in-Ok.ensures.turn in
-    subst (λ n. AreOf n c.list.result.now) (sym (ap (λ g. length g.entries) (c.forest-2.ensures ∙ ap (λ (s : State). s.forest) c.take_shortened-short.ensures.after)))
+    subst (λ n. AreOf n c.list.result.now) (sym (ap (λ g. length g.entries) (c.forest-2.ensures ∙ ap (λ (s : CoreState). s.forest) c.take_shortened-short.ensures.after)))
     (subst (AreOf (length c.step.new.self.keeper.forest.entries)) (sym (c.list.ensures ∙ c.take_shortened-short.ensures.value)) all)
 
 pub stop_of-requires : goal.stop_of-requires

@@ -1,7 +1,7 @@
 -- The lines of a need, or of an unknown name, are sent at once.
 use Rattle.std.proofs.Common.{refl, subst}
 use Rattle.keep_device.specs.Seen.{Change, change}
-use Rattle.keep_report.specs.Sent.{Sends}
+use Rattle.keep_report.specs.Sent.{SendsText}
 use Rattle.keep_run.specs.Hearing.{HearsTo}
 use Rattle.keep_run.specs.Stops.{both}
 use Rattle.keep_lines.proofs.LineByLine.{handed_on}
@@ -19,7 +19,7 @@ pub returns-in_ok-hear_need-in-Need-clause-hears : goal.returns-in_ok-hear_need-
 returns-in_ok-hear_need-in-Need-clause-hears g c =
     let out : Change = change g.W.Device.is_in_memory (g.W.Device.seen c.args.out.now) (g.W.Device.seen c.send.new.out) in
     need_sent (g.E.Exchange.host_port c.args.exchange.now) c.args.agent.now.credentials (g.E.Exchange.behind c.args.exchange.now) c.args.agent.now.keeper c.hear_need.new.agent.keeper c.in-Need.i c.in-Need.until c.args.heard c.new-text.result.items c.hear_need.new.text.items
-    c.send.result out c.in-Need.is c.new-text.ensures.items (c.in_ok-hear_need-in-Need.ensures.needed (g.E.Exchange.behind c.args.exchange.now)) (subst (λ l. Sends c.send.result l out) c.deref.ensures.value c.send.ensures.sent) c.requires.flushed
+    c.send.result out c.in-Need.is c.new-text.ensures.items (c.in_ok-hear_need-in-Need.ensures.needed (g.E.Exchange.behind c.args.exchange.now)) (subst (λ l. SendsText c.send.result l out) c.deref.ensures.value c.send.ensures.sent) c.requires.flushed
 
 pub returns-in-Unknown-clause-hears : goal.returns-in-Unknown-clause-hears
 returns-in-Unknown-clause-hears g c =

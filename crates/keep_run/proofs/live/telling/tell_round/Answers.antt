@@ -6,7 +6,7 @@ use Rattle.keep_core.proofs.Shaped.{both_shaped, same}
 use Rattle.keep_run.specs.Stops.{both}
 use Rattle.keep_run.specs.code.Telling.{TellsOne, TellsRound}
 use Rattle.keep_run.proofs.Agents.{as_begun}
-use Rattle.keep_lines.specs.Hearing.{joined}
+use Rattle.keep_lines.specs.Hearing.{joined_changes}
 use Rattle.keep_lines.proofs.LineByLine.{handed_on}
 use Rattle.keep_run.proofs.Refusing.{Stands, hears_leads, hears_shaped, stands_first, stands_now}
 use Rattle.keep_run.proofs.Rounds.{none_answered}
@@ -38,7 +38,7 @@ returns-in_err-output-clause-tells g c =
     let new = g.E.Exchange.behind c.tell_answer.new.exchange in
     let a : Change = change g.W.Device.is_in_memory (g.W.Device.seen c.args.out.now) (g.W.Device.seen c.loop-i.out) in
     let b : Change = change g.W.Device.is_in_memory (g.W.Device.seen c.loop-i.out) (g.W.Device.seen c.tell_answer.new.out) in
-    handed_on c.from_residual.result c.in_err-output.field-0.0 (λ r. TellsRound port cs c.args.t (both c.args.agent.now.keeper o) c.args.asked.now r (both c.tell_answer.new.agent.keeper new) (joined a b)) c.from_residual.ensures
+    handed_on c.from_residual.result c.in_err-output.field-0.0 (λ r. TellsRound port cs c.args.t (both c.args.agent.now.keeper o) c.args.asked.now r (both c.tell_answer.new.agent.keeper new) (joined_changes a b)) c.from_residual.ensures
     (stopped_on port cs c.args.t o mid c.args.agent.now.keeper c.loop-i.agent.keeper c.args.asked.now c.loop-i.i-index c.loop-i.next a b refl c.loop-i-test.true c.loop-i.invariant.shaped c.in_err-output.field-0.0 new
     c.tell_answer.new.agent.keeper c.loop-i.invariant.told
     (as_begun c.loop-i.invariant.port c.loop-i.invariant.credentials (λ p ks. TellsOne p ks c.args.t (both c.loop-i.agent.keeper mid) (get_or c.args.asked.now c.loop-i.i-index 0) (Err c.in_err-output.field-0.0) (both c.tell_answer.new.agent.keeper new) b) c.in_err-output.ensures.tells))

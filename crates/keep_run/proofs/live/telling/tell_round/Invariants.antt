@@ -2,7 +2,7 @@
 use Rattle.std.proofs.Common.{◌≡◌, List, [], ℕ, drop, take}
 use Rattle.keep_device.specs.Seen.{change}
 use Rattle.keep_core.specs.LawsOfSteps.{IsShaped}
-use Rattle.keep_run.specs.code.Telling.{IsSent}
+use Rattle.keep_run.specs.code.Telling.{IsSentWhole}
 use Rattle.keep_run.specs.code.Playing.{AnswersAll}
 use Rattle.keep_run.specs.Stops.{both}
 use Rattle.keep_run.proofs.Refusing.{Stands}
@@ -11,7 +11,7 @@ use Rattle.keep_run.proofs.live.telling.tell_round.Given as goal
 abbrev pub invariant-loop-i : goal.invariant-loop-i
 invariant-loop-i g l = record {
   told : (text : List ℕ) × (AnswersAll (g.E.Exchange.host_port l.fn.exchange) l.fn.agent.credentials l.t (both l.fn.agent.keeper (g.E.Exchange.behind l.fn.exchange)) (take l.i-index l.asked) l.next (both l.agent.keeper (g.E.Exchange.behind l.exchange)) [] text
-      × IsSent text (change g.W.Device.is_in_memory (g.W.Device.seen l.fn.out) (g.W.Device.seen l.out)));
+      × IsSentWhole text (change g.W.Device.is_in_memory (g.W.Device.seen l.fn.out) (g.W.Device.seen l.out)));
   shaped : IsShaped l.fn.agent.keeper.forest l.agent.keeper.forest;
   credentials : l.agent.credentials ≡ l.fn.agent.credentials;
   port : g.E.Exchange.host_port l.exchange ≡ g.E.Exchange.host_port l.fn.exchange;

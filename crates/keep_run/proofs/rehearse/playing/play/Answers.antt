@@ -3,7 +3,7 @@ use Rattle.std.proofs.Common.{◌≡◌, ◌∙◌, ◌≤◌, None, Some, arith
 use Rattle.std.specs.Io.KnownBytes.{Appends}
 use Rattle.keep_device.specs.Seen.{Change, change}
 use Rattle.keep_device.specs.Front.{AppendsFront}
-use Rattle.keep_run.specs.code.Playing.{Comes, Goes, Wakes, next_in, requests_in}
+use Rattle.keep_run.specs.code.Playing.{MayCome, RunGoes, RunWakes, next_in, requests_in}
 use Rattle.keep_run.specs.Stops.{both}
 use Rattle.keep_run.specs.Text.{inventory_with}
 use Rattle.keep_run.proofs.Written.{Going, for_memory, going_done, going_first, going_more, going_stops, going_to_end, going_unwritten, last_played, piece_goes, unwritten_before}
@@ -36,8 +36,8 @@ returns-in_default g c =
     let cs = c.args.agent.now.credentials in
     let now = both c.loop-wakes.agent.keeper (Some c.loop-wakes.exchange) in
     let new = both c.wake.new.agent.keeper (Some c.wake.new.exchange) in
-    let wakes = subst (λ ks. Wakes ks now c.loop-wakes.due c.in_ok-woken.field-0 new c.new-text.result.items c.wake.new.text.items) c.loop-wakes.invariant.credentials c.in_ok-woken.ensures.wakes in
-    let piece = subst (λ w. Wakes cs now c.loop-wakes.due w new c.new-text.result.items c.wake.new.text.items) c.in_default.is wakes in
+    let wakes = subst (λ ks. RunWakes ks now c.loop-wakes.due c.in_ok-woken.field-0 new c.new-text.result.items c.wake.new.text.items) c.loop-wakes.invariant.credentials c.in_ok-woken.ensures.wakes in
+    let piece = subst (λ w. RunWakes cs now c.loop-wakes.due w new c.new-text.result.items c.wake.new.text.items) c.in_default.is wakes in
     let more = piece_goes cs now new c.loop-wakes.due None 0 0 c.new-text.result.items c.wake.new.text.items c.new-text.ensures.items piece in
     going_to_end cs (both c.args.agent.now.keeper (Some c.args.exchange.now)) c.args.start c.args.lines.now _ _ now c.loop-wakes.due c.loop-wakes.wakes c.loop-wakes.requests _ _ new c.wake.new.text.items c.finish.result _ _ c.loop-wakes.invariant.going more
     (let h = c.loop-wakes-test.true in omega arith) c.finish.ensures refl refl refl c.loop-wakes.invariant.going.count refl refl
@@ -47,8 +47,8 @@ returns-in_err-write_all-2 g c =
     let cs = c.args.agent.now.credentials in
     let now = both c.loop-wakes.agent.keeper (Some c.loop-wakes.exchange) in
     let new = both c.wake.new.agent.keeper (Some c.wake.new.exchange) in
-    let wakes = subst (λ ks. Wakes ks now c.loop-wakes.due c.in_ok-woken.field-0 new c.new-text.result.items c.wake.new.text.items) c.loop-wakes.invariant.credentials c.in_ok-woken.ensures.wakes in
-    let piece = subst (λ w. Wakes cs now c.loop-wakes.due w new c.new-text.result.items c.wake.new.text.items) c.in-Some.is wakes in
+    let wakes = subst (λ ks. RunWakes ks now c.loop-wakes.due c.in_ok-woken.field-0 new c.new-text.result.items c.wake.new.text.items) c.loop-wakes.invariant.credentials c.in_ok-woken.ensures.wakes in
+    let piece = subst (λ w. RunWakes cs now c.loop-wakes.due w new c.new-text.result.items c.wake.new.text.items) c.in-Some.is wakes in
     let more = piece_goes cs now new c.loop-wakes.due c.in-Some.woken.next 1 c.in-Some.woken.requests c.new-text.result.items c.wake.new.text.items c.new-text.ensures.items piece in
     let front = subst (AppendsFront (g.W.Device.seen c.loop-wakes.out).output.written (g.W.Device.seen c.write_all-in-loop-wakes.new.sink).output.written) c.deref.ensures.value c.in_err-write_all-2.ensures.front in
     going_unwritten cs (both c.args.agent.now.keeper (Some c.args.exchange.now)) c.args.start c.args.lines.now _ _ now c.loop-wakes.due c.loop-wakes.wakes c.loop-wakes.requests _ _ c.loop-wakes.invariant.going
@@ -60,9 +60,9 @@ returns-in_default-next g c =
     let cs = c.args.agent.now.credentials in
     let now = both c.loop-wakes.agent.keeper (Some c.loop-wakes.exchange) in
     let new = both c.wake.new.agent.keeper (Some c.wake.new.exchange) in
-    let wakes = subst (λ ks. Wakes ks now c.loop-wakes.due c.in_ok-woken.field-0 new c.new-text.result.items c.wake.new.text.items) c.loop-wakes.invariant.credentials c.in_ok-woken.ensures.wakes in
-    let piece = subst (λ w. Wakes cs now c.loop-wakes.due w new c.new-text.result.items c.wake.new.text.items) c.in-Some.is wakes in
-    let more = subst (λ n. Goes (inventory_with cs now.keeper.forest) now (Some c.loop-wakes.due) new n 1 c.in-Some.woken.requests c.wake.new.text.items) c.in_default-next.is
+    let wakes = subst (λ ks. RunWakes ks now c.loop-wakes.due c.in_ok-woken.field-0 new c.new-text.result.items c.wake.new.text.items) c.loop-wakes.invariant.credentials c.in_ok-woken.ensures.wakes in
+    let piece = subst (λ w. RunWakes cs now c.loop-wakes.due w new c.new-text.result.items c.wake.new.text.items) c.in-Some.is wakes in
+    let more = subst (λ n. RunGoes (inventory_with cs now.keeper.forest) now (Some c.loop-wakes.due) new n 1 c.in-Some.woken.requests c.wake.new.text.items) c.in_default-next.is
     (piece_goes cs now new c.loop-wakes.due c.in-Some.woken.next 1 c.in-Some.woken.requests c.new-text.result.items c.wake.new.text.items c.new-text.ensures.items piece) in
     let all = subst (Appends (g.W.Device.seen c.loop-wakes.out).output.written (g.W.Device.seen c.write_all-in-loop-wakes.new.sink).output.written) c.deref.ensures.value c.in_ok-write_all-2.ensures.written in
     going_done cs (both c.args.agent.now.keeper (Some c.args.exchange.now)) c.args.start c.args.lines.now _ _ now c.loop-wakes.due c.loop-wakes.wakes c.loop-wakes.requests _ _ new c.in-Some.woken.requests c.wake.new.text.items c.new.result.items _
@@ -73,12 +73,12 @@ loop-wakes-preserved g c =
     let cs = c.args.agent.now.credentials in
     let now = both c.loop-wakes.agent.keeper (Some c.loop-wakes.exchange) in
     let new = both c.wake.new.agent.keeper (Some c.wake.new.exchange) in
-    let wakes = subst (λ ks. Wakes ks now c.loop-wakes.due c.in_ok-woken.field-0 new c.new-text.result.items c.wake.new.text.items) c.loop-wakes.invariant.credentials c.in_ok-woken.ensures.wakes in
-    let piece = subst (λ w. Wakes cs now c.loop-wakes.due w new c.new-text.result.items c.wake.new.text.items) c.in-Some.is wakes in
-    let more = subst (λ n. Goes (inventory_with cs now.keeper.forest) now (Some c.loop-wakes.due) new n 1 c.in-Some.woken.requests c.wake.new.text.items) c.in-Some-next.is
+    let wakes = subst (λ ks. RunWakes ks now c.loop-wakes.due c.in_ok-woken.field-0 new c.new-text.result.items c.wake.new.text.items) c.loop-wakes.invariant.credentials c.in_ok-woken.ensures.wakes in
+    let piece = subst (λ w. RunWakes cs now c.loop-wakes.due w new c.new-text.result.items c.wake.new.text.items) c.in-Some.is wakes in
+    let more = subst (λ n. RunGoes (inventory_with cs now.keeper.forest) now (Some c.loop-wakes.due) new n 1 c.in-Some.woken.requests c.wake.new.text.items) c.in-Some-next.is
     (piece_goes cs now new c.loop-wakes.due c.in-Some.woken.next 1 c.in-Some.woken.requests c.new-text.result.items c.wake.new.text.items c.new-text.ensures.items piece) in
     let few = subst (λ w. requests_in w ≤ 4096) c.in-Some.is c.in_ok-woken.ensures.few in
-    let comes = subst (Comes c.wake.new.agent.keeper.last) c.in-Some-next.is (subst (λ w. Comes c.wake.new.agent.keeper.last (next_in w)) c.in-Some.is c.in_ok-woken.ensures.comes) in
+    let comes = subst (MayCome c.wake.new.agent.keeper.last) c.in-Some-next.is (subst (λ w. MayCome c.wake.new.agent.keeper.last (next_in w)) c.in-Some.is c.in_ok-woken.ensures.comes) in
     let all = subst (Appends (g.W.Device.seen c.loop-wakes.out).output.written (g.W.Device.seen c.write_all-in-loop-wakes.new.sink).output.written) c.deref.ensures.value c.in_ok-write_all-2.ensures.written in
     record {
       going = going_more cs (both c.args.agent.now.keeper (Some c.args.exchange.now)) c.args.start c.args.lines.now _ _ now c.loop-wakes.due c.loop-wakes.wakes c.loop-wakes.requests _ _ c.loop-wakes.invariant.going new c.in-Some-next.next c.in-Some.woken.requests

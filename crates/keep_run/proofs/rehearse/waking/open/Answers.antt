@@ -1,6 +1,6 @@
 -- A tick asks at once, or sleeps until one that asks, or leaves nothing to do.
 use Rattle.std.proofs.Common.{ap, arith, subst}
-use Rattle.keep_core.specs.State.{State}
+use Rattle.keep_core.specs.State.{CoreState}
 use Rattle.keep_core.proofs.Shaped.{both_shaped}
 use Rattle.keep_run.specs.code.Playing.{Ticks}
 use Rattle.keep_run.proofs.LiveTicks.{ticks_ready}
@@ -55,6 +55,6 @@ returns-in_default c = record {
   leaves = leaves_closed c.args.t c.in_ok-asked.field-0 c.tick.new.agent.keeper c.in_default.not-Ask c.in_default.not-Sleep c.in_ok-asked.ensures.leaves;
   few = omega arith;
   credentials = c.in_ok-asked.ensures.credentials;
-  taken = ap (λ (s : State). s.shortened) c.in_ok-asked.ensures.ticks.is;
+  taken = ap (λ (s : CoreState). s.shortened) c.in_ok-asked.ensures.ticks.is;
   shaped = ticks_shaped c.args.t c.args.agent.now.keeper c.tick.new.agent.keeper c.in_ok-asked.field-0 c.args.text.now.items c.tick.new.text.items c.in_ok-asked.ensures.ticks;
 }

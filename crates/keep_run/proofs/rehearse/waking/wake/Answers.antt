@@ -1,7 +1,7 @@
 -- The round that a tick opens can be played, and where nobody is asked any more the run ends.
 use Rattle.std.specs.Prelude.{◌≢◌}
 use Rattle.std.proofs.Common.{◌≡◌, ap, ◌++◌, List, [], ℕ, Some, length, sym, subst, true, false}
-use Rattle.keep_run.specs.code.Playing.{AnswersAll, Goes, LeavesOpen, OpensOrEnds, Waits}
+use Rattle.keep_run.specs.code.Playing.{AnswersAll, LeavesOpen, OpensOrEnds, RoundWaits, RunGoes}
 use Rattle.keep_core.specs.declared.event.Output.TheVariants as out
 use Rattle.keep_run.specs.Stops.{both}
 use Rattle.keep_run.specs.Text.{inventory_with}
@@ -32,13 +32,13 @@ returns-clause-wakes c =
     c.in_ok-opened.ensures.credentials c.in_ok-next.ensures.answers)) in
     let goes = round_goes_on cs (Some c.args.exchange.now) c.args.agent.now.keeper c.open.new.agent.keeper (both c.round.new.agent.keeper (Some c.round.new.exchange)) c.args.due c.in-Some.opened.at c.in-Some.opened.asked c.args.text.now.items c.open.new.text.items c.round.new.text.items
     c.in_ok-next.next c.in_ok-opened.ensures.shaped opens answers in
-    subst (λ n. (text : List ℕ) × (Goes (inventory_with cs c.args.agent.now.keeper.forest) (both c.args.agent.now.keeper (Some c.args.exchange.now)) (Some c.args.due) (both c.round.new.agent.keeper (Some c.round.new.exchange)) c.in_ok-next.next 1 n text × (c.round.new.text.items ≡ c.args.text.now.items ++ text)))
+    subst (λ n. (text : List ℕ) × (RunGoes (inventory_with cs c.args.agent.now.keeper.forest) (both c.args.agent.now.keeper (Some c.args.exchange.now)) (Some c.args.due) (both c.round.new.agent.keeper (Some c.round.new.exchange)) c.in_ok-next.next 1 n text × (c.round.new.text.items ≡ c.args.text.now.items ++ text)))
     (ap length (sym c.list-2.ensures)) goes
 
 pub round-requires-clause-waits : goal.round-requires-clause-waits
 round-requires-clause-waits c =
     let leaves = subst (λ o. LeavesOpen o c.open.new.agent.keeper) c.in-Some.is c.in_ok-opened.ensures.leaves in
-    subst (λ t. Waits c.open.new.agent.keeper t c.list.result.now) (sym c.in-Some-new.ensures.value) (subst (Waits c.open.new.agent.keeper c.in-Some.opened.at) (sym c.list.ensures) leaves.0)
+    subst (λ t. RoundWaits c.open.new.agent.keeper t c.list.result.now) (sym c.in-Some-new.ensures.value) (subst (RoundWaits c.open.new.agent.keeper c.in-Some.opened.at) (sym c.list.ensures) leaves.0)
 
 pub round-requires-clause-some : goal.round-requires-clause-some
 round-requires-clause-some c =

@@ -2,7 +2,7 @@
 use Rattle.std.proofs.Common.{◌≡◌, ◌∙◌, [], ap, length, None, subst, sym}
 use Rattle.keep_schedule.specs.declared.groups.Groups.{Groups}
 use Rattle.keep_schedule.specs.code.Line.{FirstOf}
-use Rattle.keep_schedule.specs.code.Queueing.{IsReady}
+use Rattle.keep_schedule.specs.code.Queueing.{GroupsAreReady}
 use Rattle.keep_schedule.proofs.Queueing.{new_done, new_due}
 use Rattle.keep_schedule.proofs.Taking.{comes_forces}
 use Rattle.keep_schedule.proofs.queue.QueueSchedule.new.Goals as goal
@@ -15,8 +15,8 @@ invariant_of-result c =
     let room : c.in_ok-with_room.field-0 ≡ record { spots = []; room = length o.loads } = c.in_ok-with_room.ensures ∙ ap (λ k. record { spots = []; room = k }) c.len.ensures.value in (
       tt,
       elim c.match-first.branch [
-        | in-None w ↦ subst (λ next. IsReady o None g next) (sym w.next-is) (new_done o g c.in_ok-waiting.ensures room (subst (λ r. FirstOf g.waits.spots r) w.in-None.is c.first.ensures))
-        | in-Some w ↦ subst (λ next. IsReady o None g next) (sym w.next-is) (new_due o g w.in-Some.front c.in_ok-waiting.ensures room (subst (λ r. FirstOf g.waits.spots r) w.in-Some.is c.first.ensures))
+        | in-None w ↦ subst (λ next. GroupsAreReady o None g next) (sym w.next-is) (new_done o g c.in_ok-waiting.ensures room (subst (λ r. FirstOf g.waits.spots r) w.in-None.is c.first.ensures))
+        | in-Some w ↦ subst (λ next. GroupsAreReady o None g next) (sym w.next-is) (new_due o g w.in-Some.front c.in_ok-waiting.ensures room (subst (λ r. FirstOf g.waits.spots r) w.in-Some.is c.first.ensures))
       ],
     )
 

@@ -2,7 +2,7 @@
 use Rattle.std.proofs.Common.{◌≡◌, ◌+◌, ◌-◌, ◌<◌, ◌⊎◌, None, Some, subst, inl, inr, arith}
 use Rattle.keep_schedule.specs.Courses.{IsToCome}
 use Rattle.keep_schedule.specs.Prospect.{terms_of}
-use Rattle.keep_schedule.specs.code.Queueing.{IsReady}
+use Rattle.keep_schedule.specs.code.Queueing.{GroupsAreReady}
 use Rattle.keep_schedule.specs.Queues.{Queue}
 use Rattle.keep_schedule.specs.Given.{GivesRun, IsFirstRun}
 use Rattle.keep_schedule.proofs.Queueing.{gives_no_run, ready_settled, taken}
@@ -13,7 +13,7 @@ pub returns-in_default-clause-run : goal.returns-in_default-clause-run
 returns-in_default-clause-run c =
     let o = c.self.inside.outlook in
     let prev = c.self.inside.last in
-    let ready = subst (λ next. IsReady o prev c.self.inside.groups next) (c.begin.ensures.none c.in_default.is).0 c.self.invariant.1 in
+    let ready = subst (λ next. GroupsAreReady o prev c.self.inside.groups next) (c.begin.ensures.none c.in_default.is).0 c.self.invariant.1 in
     subst (λ (q : Queue). GivesRun (IsToCome q.course) (IsToCome (record { prospect = o; last = prev })) c.args.most None) c.self.view_is (gives_no_run o prev c.args.most ready)
 
 pub invariant_of-self-2 : goal.invariant_of-self-2

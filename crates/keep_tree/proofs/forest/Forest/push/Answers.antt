@@ -6,7 +6,7 @@ use Rattle.std.specs.Cmp.Lexicographic.{slice_cmp}
 use Rattle.std.specs.Ordering.{nat_cmp}
 use Rattle.keep_tree.specs.declared.entry.Entry.{Entry}
 use Rattle.keep_tree.specs.Forest.{Forest, index_named}
-use Rattle.keep_tree.specs.Push.{IsForest, refusal}
+use Rattle.keep_tree.specs.Push.{IsForest, entry_refusal}
 use Rattle.keep_tree.proofs.Names.{named_push}
 use Rattle.keep_tree.proofs.Placed.{pushed_is_forest}
 use Rattle.keep_tree.proofs.forest.Forest.push.Goals as goal
@@ -15,7 +15,7 @@ pub invariant_of-self-2 : goal.invariant_of-self-2
 invariant_of-self-2 c =
     let g : Forest = record { entries = c.self.inside.entries.items; margin = c.self.inside.margin } in
     let e : Entry = c.args.entry in
-    let none : refusal g e ≡ None = subst (λ (h : Forest). refusal h e ≡ None) (sym c.self.view_is) (sym c.in_default.ensures) in
+    let none : entry_refusal g e ≡ None = subst (λ (h : Forest). entry_refusal h e ≡ None) (sym c.self.view_is) (sym c.in_default.ensures) in
     let room : vec_len c.reserve.new.self + 1 ≤ vec_capacity c.reserve.new.self = c.in_ok-reserve.ensures.ok in
     let pushed : is_ok c.push.result ≡ true = c.push.ensures.succeeds (omega (arith, room)) in
     let items : c.push.new.self.items ≡ g.entries ++ e ∷ [] =

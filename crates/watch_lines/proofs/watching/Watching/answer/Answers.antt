@@ -4,7 +4,7 @@ use Rattle.std.proofs.lemmas.Result.{on_ok_weaker}
 use Rattle.keep_inventory.specs.Inventories.{Inventory}
 use Rattle.keep_lines.specs.Text.{name_of}
 use Rattle.keep_tree.specs.Forest.{Forest}
-use Rattle.watch_lines.specs.Answers.{noted_lines, reply_lines}
+use Rattle.watch_lines.specs.Answers.{noted_lines, said_lines}
 use Rattle.watch_lines.specs.Watching.{Watching}
 use Rattle.watch_lines.proofs.Answering.{taken_made}
 use Rattle.watch_lines.proofs.watching.Watching.answer.Goals as goal
@@ -20,8 +20,8 @@ returns-clause-taken c =
     let mid = c.push_reply.new.text.items in
     let last = c.push_notes.new.text.items in
     let same : v.inventory ≡ w.inventory = ap (λ (x : Watching). x.inventory) c.hand_in.ensures.rest in
-    let told : mid ≡ first ++ reply_lines (name_of w.inventory.forest i) v.machine handed.request.operation i handed.said =
-    subst (λ (s : Inventory). mid ≡ first ++ reply_lines (name_of s.forest i) v.machine handed.request.operation i handed.said) same c.in_ok-push_reply.ensures in
+    let told : mid ≡ first ++ said_lines (name_of w.inventory.forest i) v.machine handed.request.operation i handed.said =
+    subst (λ (s : Inventory). mid ≡ first ++ said_lines (name_of s.forest i) v.machine handed.request.operation i handed.said) same c.in_ok-push_reply.ensures in
     let name : c.name_of-name.result.now ≡ name_of w.inventory.forest i =
     c.name_of-name.ensures ∙ ap (λ (g : Forest). name_of g i) c.names.ensures.names ∙ ap (λ (s : Inventory). name_of s.forest i) same in
     on_ok_weaker c.push_notes.result

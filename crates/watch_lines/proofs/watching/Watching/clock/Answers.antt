@@ -1,9 +1,9 @@
 -- The requests of a clock go out on lanes that are free, and all that is done is a clock of the definitions.
 use Rattle.std.proofs.Common.{◌≡◌, ◌<◌, All, ap, length, subst, sym}
 use Rattle.watch_machine.specs.declared.command.Request.{Request}
-use Rattle.watch_machine.specs.State.{State}
+use Rattle.watch_machine.specs.State.{WatchState}
 use Rattle.watch_lines.specs.Answers.{Appended}
-use Rattle.watch_lines.specs.Clocked.{IsClocked, IsDone, side}
+use Rattle.watch_lines.specs.Clocked.{IsClocked, IsDoneUntil, watching_side}
 use Rattle.keep_asking.specs.InStep.{IsAbreast}
 use Rattle.keep_asking.specs.Sending.{Lanes, lanes_of}
 use Rattle.watch_lines.specs.Watching.{Watching}
@@ -43,7 +43,7 @@ go_on-requires g c =
     let all : IsAbreast mid (g.L.Lanes.width c.args.lanes.now) (g.L.Lanes.out c.send_out.new.lanes) = abreast_sent old mid requests (g.L.Lanes.width c.args.lanes.now) (g.L.Lanes.out c.args.lanes.now) (g.L.Lanes.out c.send_out.new.lanes) c.requires.abreast gone sent in
     record {
       abreast =
-          subst (λ (m : State). IsAbreast m (g.L.Lanes.width c.send_out.new.lanes) (g.L.Lanes.out c.send_out.new.lanes)) (sym machine)
+          subst (λ (m : WatchState). IsAbreast m (g.L.Lanes.width c.send_out.new.lanes) (g.L.Lanes.out c.send_out.new.lanes)) (sym machine)
           (subst (λ width. IsAbreast mid width (g.L.Lanes.out c.send_out.new.lanes)) (sym c.in_ok-send_out-in-Go.ensures.width) all);
     }
 
@@ -64,7 +64,7 @@ returns-in-Go-clause-clocked g c =
     let x0 = c.args.text.now.items in
     let x3 = c.send_out.new.text.items in
     let x4 = c.go_on.new.text.items in
-    on_ok c.go_on.result (Appended x3 x4 (IsDone w2.machine.out elapsed until (side w2 between) (side w3 after))) (Appended x0 x4 (IsClocked port (side w before) wall elapsed (side w3 after))) c.go_on.ensures.done
+    on_ok c.go_on.result (Appended x3 x4 (IsDoneUntil w2.machine.out elapsed until (watching_side w2 between) (watching_side w3 after))) (Appended x0 x4 (IsClocked port (watching_side w before) wall elapsed (watching_side w3 after))) c.go_on.ensures.done
     (λ done.
     clock_made port w w1 w2 w3 before between after wall elapsed c.in_ok-output.output requests until x0 c.push_clock_notes.new.text.items c.push_short_needs.new.text.items x3 x4 c.in_ok-output.ensures.turned c.in-Go.is
     c.in_ok-output.ensures.rest c.in_ok-push_clock_notes.ensures c.in_ok-push_short_needs.ensures.text c.in_ok-push_short_needs.ensures.said c.in_ok-send_out-in-Go.ensures.text c.in_ok-send_out-in-Go.ensures.sent done)

@@ -1,7 +1,7 @@
 -- The answers that are there are those of requests that are out, and they are taken.
 use Rattle.std.proofs.Common.{◌≡◌, ◌++◌, Ok, Err, OnOk, Result, rules, subst, sym}
 use Rattle.std.proofs.lemmas.Result.{on_ok_weaker}
-use Rattle.watch_lines.specs.Answers.{Appended, AreTaken}
+use Rattle.watch_lines.specs.Answers.{AnswersAreTakenAndTold, Appended}
 use Rattle.watch_lines.specs.Clocked.{listens_until}
 use Rattle.keep_asking.specs.InStep.{IsAbreast}
 use Rattle.keep_asking.specs.Sending.{AreHandedBack, Lanes, lanes_of}
@@ -44,7 +44,7 @@ returns-clause-abreast g c =
     let old = c.args.self.now in
     let new = c.take_answers.new.self in
     let left = g.L.Lanes.out c.take_back.new.lanes in
-    let taken : Appended c.args.text.now.items c.take_answers.new.text.items (AreTaken old.inventory c.in_ok-answers.answers.items old.machine new.machine) = c.in_ok-take_answers.ensures.taken in
+    let taken : Appended c.args.text.now.items c.take_answers.new.text.items (AnswersAreTakenAndTold old.inventory c.in_ok-answers.answers.items old.machine new.machine) = c.in_ok-take_answers.ensures.taken in
     let abreast : IsAbreast old.machine (g.L.Lanes.width c.take_back.new.lanes) (g.L.Lanes.out c.args.lanes.now) =
     subst (λ w. IsAbreast old.machine w (g.L.Lanes.out c.args.lanes.now)) (sym c.take_back.ensures.width) c.requires.abreast in
     always c.extend_from_slice.result (IsAbreast new.machine (g.L.Lanes.width c.take_back.new.lanes) left)
