@@ -10,6 +10,8 @@ mod examples;
 #[cfg(test)]
 mod outages;
 #[cfg(test)]
+mod plays;
+#[cfg(test)]
 mod sick_brokers;
 #[cfg(test)]
 mod tokens;

@@ -15,18 +15,17 @@ use Rattle.watch_machine.specs.declared.track.Track.{Track}
 use Rattle.watch_machine.specs.declared.track.Try.{Try}
 use Rattle.watch_machine.specs.Answers.{noted, replied}
 use Rattle.watch_machine.specs.Clocks.{sec}
-use Rattle.watch_machine.specs.History.{Turn}
+use Rattle.watch_machine.specs.History.{Turn, after_all}
 use Rattle.watch_machine.specs.Margins.{lead, own_by, own_margin, time, time_before}
 use Rattle.watch_machine.specs.Outlook.{time_of}
 use Rattle.watch_machine.specs.Refusal.{request_out}
-use Rattle.watch_machine.specs.Renewed.{from_base, from_try, granted_from, renewed, renewed_track, time_from}
-use Rattle.watch_machine.specs.State.{State, entry_of, no_track, opened, track_at}
+use Rattle.watch_machine.specs.Renewed.{from_base, from_try, granted_from, renewed_track, state_renewed, time_from}
+use Rattle.watch_machine.specs.State.{WatchState, entry_of, no_track, opened, track_at}
 use Rattle.watch_machine.specs.Step.{Step, StepRenewed}
 use Rattle.watch_machine.proofs.Cases.{if_cases, of_value}
 use Rattle.watch_machine.proofs.Within.{out_all, out_entry}
-use Rattle.watch_laws.specs.Absence.{is_taken}
+use Rattle.watch_laws.specs.Absence.{is_event_taken}
 use Rattle.watch_laws.specs.Time.{AheadLaw}
-use Rattle.watch_laws.specs.Turns.{after_all}
 use Rattle.watch_laws.proofs.Grounds.{opened_base, ran_base}
 use Rattle.watch_laws.proofs.Lasting.{Bears, back_bears, same_bears}
 use Rattle.watch_laws.proofs.Outliving.{first_turns, last_turns}
@@ -61,12 +60,12 @@ bears_time margin e y x h =
     (ap (λ n. time_before y.end n) g ∙ ap (λ v. time_before v (own_by margin (lead e.step x.grant))) h.0, g)
 
 renewed_far :
-    (s new : State) (q : Out) (seconds : ℕ) (renewable : Bool) (date : Option ℕ) (i : ℕ) → new ≡ replied (renewed s q (Told seconds renewable date)) q (Told seconds renewable date) → q.entry ≡ i → i < length s.tracks →
+    (s new : WatchState) (q : Out) (seconds : ℕ) (renewable : Bool) (date : Option ℕ) (i : ℕ) → new ≡ replied (state_renewed s q (Told seconds renewable date)) q (Told seconds renewable date) → q.entry ≡ i → i < length s.tracks →
     q.since ≤ s.clocks.at → own_margin new.forest.margin (entry_of new i) (track_at new i) + 2 ≤ seconds → sec q.since + 2 ≤ time_of new i
 unfolding renewed_track
 renewed_far s new q seconds renewable date i is own within before far =
     let reply = Told seconds renewable date in
-    let mid = renewed s q reply in
+    let mid = state_renewed s q reply in
     let g = s.forest in
     let e = entry_of s i in
     let x = track_at s i in
@@ -77,8 +76,8 @@ renewed_far s new q seconds renewable date i is own within before far =
     (get_or-set_same s.tracks q.entry (granted_from (entry_of s q.entry).step s.clocks.at seconds renewable (from_try g.margin (entry_of s q.entry).step seconds s.clocks.at q.since (track_at s q.entry).attempt) (track_at s q.entry)) no_track
     (omega (arith, own, within))) in
     let bears : Bears (track_at new i) made =
-    subst (λ (y : Track). Bears (track_at new i) y) there (subst (λ (y : State). Bears (track_at y i) (track_at mid i)) (sym is) (back_kept Bears same_bears back_bears mid q reply i)) in
-    let forest : new.forest ≡ g = ap (λ (y : State). y.forest) is ∙ replied_forest mid q reply in
+    subst (λ (y : Track). Bears (track_at new i) y) there (subst (λ (y : WatchState). Bears (track_at y i) (track_at mid i)) (sym is) (back_kept Bears same_bears back_bears mid q reply i)) in
+    let forest : new.forest ≡ g = ap (λ (y : WatchState). y.forest) is ∙ replied_forest mid q reply in
     let same = bears_time g.margin e (track_at new i) made bears in
     let is_time = granted_time g.margin e s.clocks.at seconds renewable from' x in
     let t : time_of new i ≡ time g.margin e (track_at new i) = ap (λ (h : Forest). time h.margin (entry_at h.entries i) (track_at new i)) forest in
@@ -91,7 +90,7 @@ renewed_far s new q seconds renewable date i is own within before far =
     omega (arith, late, t, same0, time0)
 
 turn_far :
-    (width n : ℕ) (old new : State) (event : Event) (result : Result Output WatchFault) (i seconds : ℕ) (renewable : Bool) (date : Option ℕ) → Turn old event result new → is_taken result ≡ true →
+    (width n : ℕ) (old new : WatchState) (event : Event) (result : Result Output WatchFault) (i seconds : ℕ) (renewable : Bool) (date : Option ℕ) → Turn old event result new → is_event_taken result ≡ true →
     event ≡ Renewed i (Told seconds renewable date) → i < length old.tracks → All (λ (q : Out). q.since ≤ old.clocks.at) old.out →
     own_margin new.forest.margin (entry_of new i) (track_at new i) + 2 ≤ seconds → IfSome (request_out old.out i Renew) (λ (q : Out). sec q.since + 2 ≤ time_of new i)
 turn_far width n old new event (Err fault) i seconds renewable date turn taken' told within now far = absurd (true≢false (sym taken'))

@@ -18,18 +18,18 @@ use Rattle.watch_machine.specs.declared.fault.WatchFault.{WatchFault}
 use Rattle.watch_machine.specs.declared.lanes.Out.{Out}
 use Rattle.watch_machine.specs.declared.lanes.Presence.{Presence}
 use Rattle.watch_machine.specs.declared.track.Track.{Track}
-use Rattle.watch_machine.specs.Answers.{answers_all, heard, lane_freed, noted, replied, silent, without}
+use Rattle.watch_machine.specs.Answers.{answers_all, heard, lane_freed, noted, replied, silent, without_request}
 use Rattle.watch_machine.specs.Clocks.{sec}
 use Rattle.watch_machine.specs.History.{Turn}
 use Rattle.watch_machine.specs.Lines.{is_due}
 use Rattle.watch_machine.specs.Looked.{looked}
 use Rattle.watch_machine.specs.Press.{pressed}
 use Rattle.watch_machine.specs.Refusal.{request_out}
-use Rattle.watch_machine.specs.Renewed.{renewed}
-use Rattle.watch_machine.specs.Round.{asked_by as round_of}
+use Rattle.watch_machine.specs.Renewed.{state_renewed}
+use Rattle.watch_machine.specs.Round.{asked_by_round as round_of}
 use Rattle.watch_machine.specs.Sending.{out_at, sent}
 use Rattle.watch_machine.specs.Settling.{is_real}
-use Rattle.watch_machine.specs.State.{State, no_track, track_at, track_in}
+use Rattle.watch_machine.specs.State.{WatchState, no_track, track_at, track_in}
 use Rattle.watch_machine.specs.Step.{Step, StepCommand, StepLooked, StepRenewed, known, readied}
 use Rattle.watch_machine.proofs.Cases.{if_both, if_cases, not_both}
 use Rattle.watch_laws.proofs.Clocking.{refused_stays}
@@ -44,12 +44,12 @@ lanes_of i out = length (filter (λ q. q.entry == i) out)
 abbrev pub flag : Bool → ℕ
 flag b = if b then 1 else 0
 
-pub record IsAlone (s : State) : Type 0 where
+pub record IsAlone (s : WatchState) : Type 0 where
   pub once : (i : ℕ) → lanes_of i s.out ≤ flag (track_at s i).out
 
 -- those that remain
-fewer : (i e : ℕ) (out : List Out) → lanes_of i (without e out) ≤ lanes_of i out
-unfolding without
+fewer : (i e : ℕ) (out : List Out) → lanes_of i (without_request e out) ≤ lanes_of i out
+unfolding without_request
 fewer i e [] = omega arith
 fewer i e (q ∷ out) =
     let rest = fewer i e out in
@@ -61,8 +61,8 @@ fewer i e (q ∷ out) =
       if_both_le true o xs ys h = omega (arith, h)
       if_both_le false o xs ys h = h
 
-pub none_left : (i : ℕ) (out : List Out) → lanes_of i (without i out) ≡ 0
-unfolding without
+pub none_left : (i : ℕ) (out : List Out) → lanes_of i (without_request i out) ≡ 0
+unfolding without_request
 none_left i [] = refl
 none_left i (q ∷ out) =
     let p : Out → Bool = λ o. o.entry == i in
@@ -82,14 +82,14 @@ heard_same i (q ∷ out) = by (q.entry == i) (heard_same i out) where
   by true h = ap (λ n. suc n) h
   by false h = h
 
-pub replied_lanes : (s : State) (q : Out) (reply : Reply) (i : ℕ) → lanes_of i (replied s q reply).out ≤ lanes_of i (without q.entry s.out)
+pub replied_lanes : (s : WatchState) (q : Out) (reply : Reply) (i : ℕ) → lanes_of i (replied s q reply).out ≤ lanes_of i (without_request q.entry s.out)
 replied_lanes s q reply i =
     let free = lane_freed s q in
-    let same = heard_same i (without q.entry s.out) in
-    if_both (λ (t : State). lanes_of i t.out ≤ lanes_of i (without q.entry s.out)) (is_real reply) (answers_all free) (if q.heard then free else silent free)
-    (if_both (λ (t : State). lanes_of i t.out ≤ lanes_of i (without q.entry s.out)) s.presence.away _ _ (omega (arith, same)) (omega (arith, same)))
-    (if_both (λ (t : State). lanes_of i t.out ≤ lanes_of i (without q.entry s.out)) q.heard free (silent free) (omega arith)
-    (if_both (λ (t : State). lanes_of i t.out ≤ lanes_of i (without q.entry s.out)) s.presence.away _ _ (omega arith) (omega arith)))
+    let same = heard_same i (without_request q.entry s.out) in
+    if_both (λ (t : WatchState). lanes_of i t.out ≤ lanes_of i (without_request q.entry s.out)) (is_real reply) (answers_all free) (if q.heard then free else silent free)
+    (if_both (λ (t : WatchState). lanes_of i t.out ≤ lanes_of i (without_request q.entry s.out)) s.presence.away _ _ (omega (arith, same)) (omega (arith, same)))
+    (if_both (λ (t : WatchState). lanes_of i t.out ≤ lanes_of i (without_request q.entry s.out)) q.heard free (silent free) (omega arith)
+    (if_both (λ (t : WatchState). lanes_of i t.out ≤ lanes_of i (without_request q.entry s.out)) s.presence.away _ _ (omega arith) (omega arith)))
 
 -- those that go out
 sent_lanes : (p : Presence) (now at : ℕ) (xs : List Track) (i : ℕ) (is : List ℕ) → lanes_of i (map (out_at at) (map (request_at p now xs) is)) ≡ times i is
@@ -105,7 +105,7 @@ sent_lanes p now at xs i (j ∷ js) =
       | inr other ↦ ap (λ b. length (cond b (out_at at r ∷ tail) tail)) (ap (λ n. n == i) e ∙ other) ∙ rest ∙ sym (skips i j js other)
     ]
 
-sent_alone : (s : State) (requests : List Request) (lanes : ℕ) → Goes s.presence s.clocks.at s.tracks lanes requests → IsAlone s → IsAlone (sent s requests)
+sent_alone : (s : WatchState) (requests : List Request) (lanes : ℕ) → Goes s.presence s.clocks.at s.tracks lanes requests → IsAlone s → IsAlone (sent s requests)
 sent_alone s requests lanes h alone = record {
   once = λ i.
       let p = s.presence in
@@ -136,7 +136,7 @@ sent_alone s requests lanes h alone = record {
   cases_one (suc n) h' = inr (omega arith)
 
 -- a clock
-mid_alone : (old : State) (wall elapsed : ℕ) (round : List ℕ) → IsAlone old → IsAlone (pressed (readied old wall elapsed) round)
+mid_alone : (old : WatchState) (wall elapsed : ℕ) (round : List ℕ) → IsAlone old → IsAlone (pressed (readied old wall elapsed) round)
 mid_alone old wall elapsed round alone = record {
   once = λ i.
       let same = ap flag (mid_flag old wall elapsed round i) in
@@ -145,22 +145,22 @@ mid_alone old wall elapsed round alone = record {
       omega (arith, same, out, before);
 }
 
-commanded : (s new : State) (command : Command) → IsAlone s → StepCommand s command new → IsAlone new
+commanded : (s new : WatchState) (command : Command) → IsAlone s → StepCommand s command new → IsAlone new
 commanded s new (Go requests until) alone h =
     subst IsAlone (sym h.0.1) (sent_alone s requests (s.width - length s.out) (goes s.presence s.clocks.at s.tracks (s.width - length s.out) requests h.0.0) alone)
 commanded s new Taken alone h = absurd h
 
 -- an answer
-answered : (old mid new : State) (q : Out) (reply : Reply) → new ≡ replied mid q reply → mid.out ≡ old.out → ((i : ℕ) → q.entry ≢ i → track_at mid i ≡ track_at old i) → IsAlone old → IsAlone new
+answered : (old mid new : WatchState) (q : Out) (reply : Reply) → new ≡ replied mid q reply → mid.out ≡ old.out → ((i : ℕ) → q.entry ≢ i → track_at mid i ≡ track_at old i) → IsAlone old → IsAlone new
 answered old mid new q reply is out other alone = record {
   once = λ i.
       let less = replied_lanes mid q reply i in
-      let that = ap (λ (x : State). lanes_of i x.out) is in
-      let same = ap (λ os. lanes_of i (without q.entry os)) out in
+      let that = ap (λ (x : WatchState). lanes_of i x.out) is in
+      let same = ap (λ os. lanes_of i (without_request q.entry os)) out in
       elim (cases_Bool (q.entry == i)) [
         | inl here ↦
             let none = none_left i old.out in
-            let these = ap (λ n. lanes_of i (without n old.out)) (eqb-true q.entry i here) in
+            let these = ap (λ n. lanes_of i (without_request n old.out)) (eqb-true q.entry i here) in
             omega (arith, less, that, same, none, these)
         | inr different ↦
             let apart : q.entry ≢ i = λ e. not_both (subst (λ n. (n == i) ≡ true) (sym e) (same_index' i)) different in
@@ -173,22 +173,22 @@ answered old mid new q reply is out other alone = record {
   same_index' : (n : ℕ) → (n == n) ≡ true
   same_index' n = grind (arith, nat_tests)
 
-looked_alone : (old new : State) (found : Option Out) (reply : Reply) (terms : Terms) (output : Output) → StepLooked old found reply terms output new → IsAlone old → IsAlone new
+looked_alone : (old new : WatchState) (found : Option Out) (reply : Reply) (terms : Terms) (output : Output) → StepLooked old found reply terms output new → IsAlone old → IsAlone new
 looked_alone old new None reply terms output step alone = absurd step
 looked_alone old new (Some q) reply terms output step alone =
     let s = noted old q reply in
     answered old (looked s q reply terms) new q reply step.1 (looked_out s q reply terms) (λ i. looked_other s q reply terms i) alone
 
-renewed_alone : (old new : State) (found : Option Out) (reply : Reply) (output : Output) → StepRenewed old found reply output new → IsAlone old → IsAlone new
+renewed_alone : (old new : WatchState) (found : Option Out) (reply : Reply) (output : Output) → StepRenewed old found reply output new → IsAlone old → IsAlone new
 renewed_alone old new None reply output step alone = absurd step
 renewed_alone old new (Some q) reply output step alone =
     let s = noted old q reply in
-    answered old (renewed s q reply) new q reply step.1 refl (λ i apart. get_or-set_other s.tracks q.entry i _ no_track (λ e. apart (sym e))) alone
+    answered old (state_renewed s q reply) new q reply step.1 refl (λ i apart. get_or-set_other s.tracks q.entry i _ no_track (λ e. apart (sym e))) alone
 
-known_flag : (s : State) (j end : ℕ) (renewable : Bool) (i : ℕ) → (track_at (known s j end renewable) i).out ≡ (track_at s i).out
+known_flag : (s : WatchState) (j end : ℕ) (renewable : Bool) (i : ℕ) → (track_at (known s j end renewable) i).out ≡ (track_at s i).out
 known_flag s j end renewable i = set_kept (λ (y x : Track). y.out ≡ x.out) (λ x. refl) s.tracks j _ refl i
 
-step_alone : (old new : State) (event : Event) (output : Output) → Step old event output new → IsAlone old → IsAlone new
+step_alone : (old new : WatchState) (event : Event) (output : Output) → Step old event output new → IsAlone old → IsAlone new
 step_alone old new (Clock wall elapsed) output step alone =
     commanded (pressed (readied old wall elapsed) (round_of step.round)) new output.command (mid_alone old wall elapsed (round_of step.round) alone) step.command
 step_alone old new (Looked j reply terms) output step alone = looked_alone old new (request_out old.out j Look) reply terms output step alone
@@ -203,6 +203,6 @@ step_alone old new (Known j end renewable) output step alone =
           omega (arith, same, before);
     })
 
-pub turn_alone : (old new : State) (event : Event) (result : Result Output WatchFault) → Turn old event result new → IsAlone old → IsAlone new
+pub turn_alone : (old new : WatchState) (event : Event) (result : Result Output WatchFault) → Turn old event result new → IsAlone old → IsAlone new
 turn_alone old new event (Ok output) turn alone = step_alone old new event output turn.1 alone
 turn_alone old new event (Err fault) turn alone = subst IsAlone (sym (refused_stays old new event fault turn)) alone

@@ -16,13 +16,13 @@ use Rattle.watch_machine.specs.Answers.{heard, noted}
 use Rattle.watch_machine.specs.Clocks.{ms}
 use Rattle.watch_machine.specs.Looked.{looked}
 use Rattle.watch_machine.specs.Refusal.{request_out}
-use Rattle.watch_machine.specs.Renewed.{renewed, renewed_track, track_renewed, ungranted_track}
+use Rattle.watch_machine.specs.Renewed.{renewed_track, state_renewed, track_renewed, ungranted_track}
 use Rattle.watch_machine.specs.Settling.{is_busy, is_real}
-use Rattle.watch_machine.specs.State.{State, no_track, track_at}
+use Rattle.watch_machine.specs.State.{WatchState, no_track, track_at}
 use Rattle.watch_machine.specs.Step.{StepLooked, StepRenewed}
 use Rattle.watch_machine.proofs.Cases.{not_both, of_value}
 use Rattle.watch_machine.proofs.Within.{out_all, out_entry}
-use Rattle.watch_laws.specs.Outage.{IsReply, comes, how_many, is_served, is_whole, settled_by, waiting}
+use Rattle.watch_laws.specs.Outage.{IsReplyInOutage, comes, how_many, is_request_served, is_request_whole, outage_settled_by, waiting}
 use Rattle.watch_laws.proofs.Alone.{flag}
 use Rattle.watch_laws.proofs.Answering.{looked_leaves, renewed_leaves, rest_of}
 use Rattle.watch_laws.proofs.Enduring.{Cutting, Endures, IsAnswered, after, any_more, lost_endures, own_endures, real_endures, second_before}
@@ -35,27 +35,27 @@ use Rattle.watch_laws.proofs.Spacing.{after_flag, looked_other, looked_out, same
 use Rattle.watch_laws.proofs.Stages.{Facts, IsBase, IsGoing, IsThrough, free_from}
 
 -- an answer that was lived
-pub record IsReplied (f : Facts) (due : ℕ) (old mid new : State) (q : Out) (reply : Reply) : Type 0 where
+pub record IsReplied (f : Facts) (due : ℕ) (old mid new : WatchState) (q : Out) (reply : Reply) : Type 0 where
   pub answered : IsAnswered old mid new q reply
   pub j : ℕ
   pub operation : Operation
   pub found : request_out old.out j operation ≡ Some q
-  pub reply_is : IsReply f.o reply q
+  pub reply_is : IsReplyInOutage f.o reply q
   pub other : q.entry ≢ f.i → track_at mid f.i ≡ track_at old f.i
   pub own : q.entry ≡ f.i → (reply ≡ Lost) × ((f.i < length mid.tracks) × (track_at mid f.i ≡ ungranted_track old.clocks.at q.heard Lost (track_at old f.i)))
   pub going : IsGoing f due old
   pub base : IsBase f.width f.n new
   pub same : Same f.i old new
 
-module _ (f : Facts) (due : ℕ) (old mid new : State) (q : Out) (reply : Reply) (t : IsReplied f due old mid new q reply) where
+module _ (f : Facts) (due : ℕ) (old mid new : WatchState) (q : Out) (reply : Reply) (t : IsReplied f due old mid new q reply) where
   of_this : (P : Out → Type 0) → All P old.out → P q
   of_this P all = of_value P (request_out old.out t.j t.operation) q (out_all P old.out t.j t.operation all) t.found
 
-  timely : due ≤ settled_by f.o q.since + f.o.late
-  timely = of_this (λ (r : Out). due ≤ settled_by f.o r.since + f.o.late) t.going.timely
+  timely : due ≤ outage_settled_by f.o q.since + f.o.late
+  timely = of_this (λ (r : Out). due ≤ outage_settled_by f.o r.since + f.o.late) t.going.timely
 
-  lost_broke : reply ≡ Lost → is_whole f.o q.since ≡ false
-  lost_broke is = subst (λ r. IsReply f.o r q) is t.reply_is
+  lost_broke : reply ≡ Lost → is_request_whole f.o q.since ≡ false
+  lost_broke is = subst (λ r. IsReplyInOutage f.o r q) is t.reply_is
 
   -- the entry endures it
   by_lost : (bound : ℕ) (miss : Type 0) → (w : Reply) → reply ≡ w → (q.entry ≡ f.i → reply ≡ Lost → miss) → Endures f.o f.i f.end bound due miss old → Endures f.o f.i f.end bound due miss new
@@ -65,7 +65,7 @@ module _ (f : Facts) (due : ℕ) (old mid new : State) (q : Out) (reply : Reply)
   by_lost bound miss (Refused status date) is may h =
       let apart : q.entry ≢ f.i = λ own. (let bad : Refused status date ≡ Lost = sym is ∙ (t.own own).0 in absurd cc) in
       real_endures f.o f.i f.end bound due miss old mid new q reply t.answered (t.other apart) apart (ap is_real is) t.going.base.past.hold h
-  by_lost bound miss Busy is may h = absurd (subst (λ r. IsReply f.o r q) is t.reply_is)
+  by_lost bound miss Busy is may h = absurd (subst (λ r. IsReplyInOutage f.o r q) is t.reply_is)
   by_lost bound miss Lost is may h =
       let broke = lost_broke is in
       let a : IsAnswered old mid new q Lost = subst (IsAnswered old mid new q) is t.answered in
@@ -85,9 +85,9 @@ module _ (f : Facts) (due : ℕ) (old mid new : State) (q : Out) (reply : Reply)
   endures_reply bound miss may h = by_lost bound miss reply refl may h
 
   kept_all : (P : Out → Type 0) → ((r : Out) → P r → P (heard r)) → All P old.out → All P new.out
-  kept_all P hears all = subst (λ (x : State). All P x.out) (sym t.answered.is) (all_left P hears mid q reply (subst (All P) (sym t.answered.outs) all))
+  kept_all P hears all = subst (λ (x : WatchState). All P x.out) (sym t.answered.is) (all_left P hears mid q reply (subst (All P) (sym t.answered.outs) all))
 
-  not_busy : (w : Reply) → IsReply f.o w q → is_busy w ≡ false
+  not_busy : (w : Reply) → IsReplyInOutage f.o w q → is_busy w ≡ false
   not_busy (Told seconds renewable date) h = refl
   not_busy (Refused status date) h = refl
   not_busy Busy h = absurd h
@@ -107,7 +107,7 @@ module _ (f : Facts) (due : ℕ) (old mid new : State) (q : Out) (reply : Reply)
         margin = t.same.margin ∙ t.going.margin;
         end_is = t.same.bears.0 ∙ t.going.end_is;
         asks = kept_all (λ (r : Out). r.entry ≡ f.i → r.operation ≡ Renew) (λ r h. h) t.going.asks;
-        timely = kept_all (λ (r : Out). due ≤ settled_by f.o r.since + f.o.late) (λ r h. h) t.going.timely;
+        timely = kept_all (λ (r : Out). due ≤ outage_settled_by f.o r.since + f.o.late) (λ r h. h) t.going.timely;
         calm =
             elim (cases_Bool (list_any (λ (b : Answer). is_busy b.reply) new.answers)) as (λ _. list_any (λ (b : Answer). is_busy b.reply) new.answers ≡ false) [
               | inl busy ↦
@@ -118,19 +118,19 @@ module _ (f : Facts) (due : ℕ) (old mid new : State) (q : Out) (reply : Reply)
               | inr calm ↦ calm
             ];
         free =
-            let e = ap (λ (x : State). x.presence.free) t.answered.is ∙ replied_free mid q reply ∙ ap (λ (p : Presence). p.free) t.answered.presence in
+            let e = ap (λ (x : WatchState). x.presence.free) t.answered.is ∙ replied_free mid q reply ∙ ap (λ (p : Presence). p.free) t.answered.presence in
             let low = t.going.free in
             omega (arith, e, low);
         ahead = omega (arith, clock, ahead);
         by = omega (arith, clock, by);
       }
 
-  stays_unserved : is_served f.o old f.i ≡ false → is_served f.o new f.i ≡ false
+  stays_unserved : is_request_served f.o old f.i ≡ false → is_request_served f.o new f.i ≡ false
   stays_unserved unserved =
-      elim (cases_Bool (is_served f.o new f.i)) as (λ _. is_served f.o new f.i ≡ false) [
+      elim (cases_Bool (is_request_served f.o new f.i)) as (λ _. is_request_served f.o new f.i ≡ false) [
         | inl served ↦
-            let p : ℕ → ℕ → Bool = λ k since. k == f.i && is_whole f.o since in
-            let there = replied_any p mid q reply (sym (ap (λ (x : State). list_any (passes p) x.out) t.answered.is) ∙ served) in
+            let p : ℕ → ℕ → Bool = λ k since. k == f.i && is_request_whole f.o since in
+            let there = replied_any p mid q reply (sym (ap (λ (x : WatchState). list_any (passes p) x.out) t.answered.is) ∙ served) in
             absurd (not_both (sym (ap (list_any (passes p)) t.answered.outs) ∙ there) unserved)
         | inr no' ↦ no'
       ]
@@ -153,7 +153,7 @@ module _ (f : Facts) (due : ℕ) (old mid new : State) (q : Out) (reply : Reply)
       inl (inl (record {
         endures = endures_reply (ms f.time) ⊥ (λ own is. apart own) h.endures;
         idle = after_flag old mid new q reply f.i t.answered.is t.answered.outs t.other apart ∙ h.idle;
-        whole = kept_all (λ (r : Out). is_whole f.o r.since ≡ true) (λ r k. k) h.whole;
+        whole = kept_all (λ (r : Out). is_request_whole f.o r.since ≡ true) (λ r k. k) h.whole;
         r = h.r;
         from = h.from;
         count = omega (arith, all, count);
@@ -201,12 +201,12 @@ module _ (f : Facts) (due : ℕ) (old mid new : State) (q : Out) (reply : Reply)
         next = h.next;
       }))
   replied_through rest sends (inr (inr (inl h))) =
-      let P : Out → Type 0 = λ r. r.entry ≡ f.i → (is_whole f.o r.since ≡ true) × (r.since ≤ h.sent) in
+      let P : Out → Type 0 = λ r. r.entry ≡ f.i → (is_request_whole f.o r.since ≡ true) × (r.since ≤ h.sent) in
       let apart : q.entry ≢ f.i = λ is. not_both (of_this P h.whole is).0 (lost_broke (t.own is).0) in
       inr (inr (inl (record {
         served =
-            ap (λ (x : State). is_served f.o x f.i) t.answered.is
-            ∙ replied_lane f.i (is_whole f.o) mid q reply apart (ap (list_any (is_of f.i (is_whole f.o))) t.answered.outs ∙ h.served);
+            ap (λ (x : WatchState). is_request_served f.o x f.i) t.answered.is
+            ∙ replied_lane f.i (is_request_whole f.o) mid q reply apart (ap (list_any (is_of f.i (is_request_whole f.o))) t.answered.outs ∙ h.served);
         sent = h.sent;
         whole = kept_all P (λ r k. k) h.whole;
         next = h.next;
@@ -231,8 +231,8 @@ module _ (f : Facts) (due : ℕ) (old mid new : State) (q : Out) (reply : Reply)
 
 -- the answers themselves
 pub looked_replied :
-    (f : Facts) (due : ℕ) (old new : State) (j : ℕ) (q : Out) (reply : Reply) (terms : Terms) (output : Output) → request_out old.out j Look ≡ Some q → StepLooked old (Some q) reply terms output new →
-    IsReply f.o reply q → IsGoing f due old → IsBase f.width f.n new → Same f.i old new → IsReplied f due old (looked (noted old q reply) q reply terms) new q reply
+    (f : Facts) (due : ℕ) (old new : WatchState) (j : ℕ) (q : Out) (reply : Reply) (terms : Terms) (output : Output) → request_out old.out j Look ≡ Some q → StepLooked old (Some q) reply terms output new →
+    IsReplyInOutage f.o reply q → IsGoing f due old → IsBase f.width f.n new → Same f.i old new → IsReplied f due old (looked (noted old q reply) q reply terms) new q reply
 looked_replied f due old new j q reply terms output found step reply_is going base same =
     let s = noted old q reply in
     let apart = no_look f.i j old q found going.asks in
@@ -240,7 +240,7 @@ looked_replied f due old new j q reply terms output found step reply_is going ba
       answered = record {
         is = step.1;
         presence = looked_presence s q reply terms;
-        clocks = ap (λ (x : State). x.clocks) (ap rest_of step.1 ∙ looked_leaves old q reply terms);
+        clocks = ap (λ (x : WatchState). x.clocks) (ap rest_of step.1 ∙ looked_leaves old q reply terms);
         outs = looked_out s q reply terms;
         answers = looked_answers s q reply terms;
       };
@@ -255,16 +255,16 @@ looked_replied f due old new j q reply terms output found step reply_is going ba
       same = same;
     }
 
-own_made : (t : State) (r : Out) (w : Reply) (i : ℕ) → r.entry ≡ i → w ≡ Lost → i < length t.tracks → track_at (renewed (noted t r w) r w) i ≡ ungranted_track t.clocks.at r.heard Lost (track_at t i)
+own_made : (t : WatchState) (r : Out) (w : Reply) (i : ℕ) → r.entry ≡ i → w ≡ Lost → i < length t.tracks → track_at (state_renewed (noted t r w) r w) i ≡ ungranted_track t.clocks.at r.heard Lost (track_at t i)
 unfolding renewed_track
 own_made t r w i is lost' below' =
-    subst (λ v. track_at (renewed (noted t r v) r v) i ≡ ungranted_track t.clocks.at r.heard Lost (track_at t i)) (sym lost')
-    (subst (λ k. track_at (renewed (noted t r Lost) r Lost) k ≡ ungranted_track t.clocks.at r.heard Lost (track_at t k)) is
+    subst (λ v. track_at (state_renewed (noted t r v) r v) i ≡ ungranted_track t.clocks.at r.heard Lost (track_at t i)) (sym lost')
+    (subst (λ k. track_at (state_renewed (noted t r Lost) r Lost) k ≡ ungranted_track t.clocks.at r.heard Lost (track_at t k)) is
     (get_or-set_same t.tracks r.entry (ungranted_track t.clocks.at r.heard Lost (track_at t r.entry)) no_track (omega (arith, is, below'))))
 
 pub renewed_replied :
-    (f : Facts) (due : ℕ) (old new : State) (j : ℕ) (q : Out) (reply : Reply) (output : Output) → f.i < f.n → request_out old.out j Renew ≡ Some q → StepRenewed old (Some q) reply output new →
-    IsReply f.o reply q → (j ≡ f.i → reply ≡ Lost) → IsGoing f due old → IsBase f.width f.n new → Same f.i old new → IsReplied f due old (renewed (noted old q reply) q reply) new q reply
+    (f : Facts) (due : ℕ) (old new : WatchState) (j : ℕ) (q : Out) (reply : Reply) (output : Output) → f.i < f.n → request_out old.out j Renew ≡ Some q → StepRenewed old (Some q) reply output new →
+    IsReplyInOutage f.o reply q → (j ≡ f.i → reply ≡ Lost) → IsGoing f due old → IsBase f.width f.n new → Same f.i old new → IsReplied f due old (state_renewed (noted old q reply) q reply) new q reply
 renewed_replied f due old new j q reply output low found step reply_is lost going base same =
     let s = noted old q reply in
     let entry = out_entry old.out j Renew q found in
@@ -275,7 +275,7 @@ renewed_replied f due old new j q reply output low found step reply_is lost goin
       answered = record {
         is = step.1;
         presence = refl;
-        clocks = ap (λ (x : State). x.clocks) (ap rest_of step.1 ∙ renewed_leaves old q reply);
+        clocks = ap (λ (x : WatchState). x.clocks) (ap rest_of step.1 ∙ renewed_leaves old q reply);
         outs = refl;
         answers = refl;
       };

@@ -12,14 +12,14 @@ use Rattle.watch_machine.specs.declared.notes.Why.{Why}
 use Rattle.watch_machine.specs.declared.track.Track.{Track}
 use Rattle.watch_machine.specs.declared.track.Try.{Try}
 use Rattle.watch_machine.specs.Answers.{back_track, back_try, failing}
-use Rattle.watch_machine.specs.Beginning.{begun, is_called, is_pressed, owed, owing, owing_lookup, soon, sooner, untopped, untopped_track}
+use Rattle.watch_machine.specs.Beginning.{begun, is_called, is_pressed, owed, owing, owing_lookup, soon, sooner_try, untopped, untopped_track}
 use Rattle.watch_machine.specs.Clocks.{sec}
 use Rattle.watch_machine.specs.Looked.{at_once, refused_try, told_try, untold}
 use Rattle.watch_machine.specs.Margins.{has_come}
-use Rattle.watch_machine.specs.Press.{asked_in, asked_track, dropped, is_fresh, let_go, press, pressed, pressed_alone, pressed_track}
+use Rattle.watch_machine.specs.Press.{asked_track, dropped, is_fresh, let_go, press, pressed, pressed_alone, pressed_track, track_asked_in}
 use Rattle.watch_machine.specs.Renewed.{from_base, from_try, granted_try, time_from, ungranted}
 use Rattle.watch_machine.specs.Settling.{settled, settled_track, settled_try, timed}
-use Rattle.watch_machine.specs.State.{State, no_track, track_at, track_in}
+use Rattle.watch_machine.specs.State.{WatchState, no_track, track_at, track_in}
 use Rattle.watch_machine.specs.Step.{readied, why}
 use Rattle.watch_machine.specs.Wanted.{is_alive, is_open, need_of, wants}
 use Rattle.watch_machine.proofs.Cases.{if_both, if_cases, not_both}
@@ -78,7 +78,7 @@ settled_passes now asked margin at x = (
 untopped_passes : (now asked : ℕ) (x : Track) → Passes now asked (untopped_track x) x
 untopped_passes now asked x = (refl, λ h. record { base = h.base; out = h.out })
 
-sooner_base : (n from : ℕ) (o : Option Try) → BaseBy n o → BaseBy n (Some (sooner from o))
+sooner_base : (n from : ℕ) (o : Option Try) → BaseBy n o → BaseBy n (Some (sooner_try from o))
 sooner_base n from None h = tt
 sooner_base n from (Some t) h = h
 
@@ -86,7 +86,7 @@ owing_passes : (now asked at : ℕ) (called : Bool) (x : Track) → Passes now a
 unfolding owing
 owing_passes now asked at called x =
     if_both (λ y. Passes now asked y x) (called && is_open (sec at) x) (owing_lookup at x) x
-    (if_both (λ y. Passes now asked y x) x.out (record x { owes = true }) (record x { owes = true; attempt = Some (sooner (soon at x) x.attempt) })
+    (if_both (λ y. Passes now asked y x) x.out (record x { owes = true }) (record x { owes = true; attempt = Some (sooner_try (soon at x) x.attempt) })
     (refl, λ h. record { base = h.base; out = h.out })
     (refl, λ h. record { base = sooner_base now (soon at x) x.attempt h.base; out = λ o. sooner_base asked (soon at x) x.attempt (h.out o) }))
     (same_passes now asked x)
@@ -115,7 +115,7 @@ pressed_passes now asked margin e need at x le =
     if_both (λ y. Passes now asked y x) (wants x need || x.out) x (record x { attempt = dropped x x.attempt }) (same_passes now asked x)
     (refl, λ h. record { base = dropped_base now x x.attempt h.base; out = λ o. dropped_base asked x x.attempt (h.out o) }))
 
-asked_passes : (now asked margin : ℕ) (e : Entry) (at : ℕ) (round : List ℕ) (i : ℕ) (x : Track) → at ≤ now → Passes now asked (asked_in margin e at round i x) x
+asked_passes : (now asked margin : ℕ) (e : Entry) (at : ℕ) (round : List ℕ) (i : ℕ) (x : Track) → at ≤ now → Passes now asked (track_asked_in margin e at round i x) x
 unfolding asked_track press
 asked_passes now asked margin e at round i x le =
     if_both (λ y. Passes now asked y x) (list_any (λ j. j == i) round) (asked_track margin e at x) x
@@ -123,7 +123,7 @@ asked_passes now asked margin e at round i x le =
     (λ free. (refl, λ h. record { base = le; out = λ o. absurd (not_both o free) })))
     (same_passes now asked x)
 
-begun_passes : (now asked : ℕ) (s : State) (w : Option Why) (i : ℕ) → Passes now asked (track_at (begun s w) i) (track_at s i)
+begun_passes : (now asked : ℕ) (s : WatchState) (w : Option Why) (i : ℕ) → Passes now asked (track_at (begun s w) i) (track_at s i)
 begun_passes now asked s None i = same_passes now asked (track_at s i)
 begun_passes now asked s (Some w) i =
     let R : Track → Track → Type 0 = Passes now asked in
@@ -132,21 +132,21 @@ begun_passes now asked s (Some w) i =
     (each_kept R (same_passes now asked no_track) (λ j. owing s.clocks.at (is_called s.forest xs s.clocks j)) xs (λ j x. owing_passes now asked s.clocks.at (is_called s.forest xs s.clocks j) x) i)
     (each_kept R (same_passes now asked no_track) (λ j. untopped_track) s.tracks (λ j x. untopped_passes now asked x) i)
 
-pub readied_passes : (now asked : ℕ) (s : State) (wall elapsed i : ℕ) → Passes now asked (track_at (readied s wall elapsed) i) (track_at s i)
+pub readied_passes : (now asked : ℕ) (s : WatchState) (wall elapsed i : ℕ) → Passes now asked (track_at (readied s wall elapsed) i) (track_at s i)
 unfolding readied
 readied_passes now asked s wall elapsed i =
     let t = timed s wall elapsed in
     both_pass now asked (track_at (begun (settled t) (why s wall elapsed)) i) (track_at (settled t) i) (track_at s i) (begun_passes now asked (settled t) (why s wall elapsed) i)
     (each_kept (Passes now asked) (same_passes now asked no_track) (λ j. settled_track t.forest.margin t.clocks.at) s.tracks (λ j x. settled_passes now asked t.forest.margin t.clocks.at x) i)
 
-pub mid_passes : (now asked : ℕ) (s : State) (round : List ℕ) (i : ℕ) → s.clocks.at ≤ now → Passes now asked (track_at (pressed s round) i) (track_at s i)
+pub mid_passes : (now asked : ℕ) (s : WatchState) (round : List ℕ) (i : ℕ) → s.clocks.at ≤ now → Passes now asked (track_at (pressed s round) i) (track_at s i)
 mid_passes now asked s round i le =
     let R : Track → Track → Type 0 = Passes now asked in
     let c = s.clocks in
     let g = s.forest in
     let alone = pressed_alone g c s.tracks in
     both_pass now asked (track_at (pressed s round) i) (track_in alone i) (track_at s i)
-    (each_kept R (same_passes now asked no_track) (λ j. asked_in g.margin (entry_at g.entries j) c.at round j) alone (λ j x. asked_passes now asked g.margin (entry_at g.entries j) c.at round j x le) i)
+    (each_kept R (same_passes now asked no_track) (λ j. track_asked_in g.margin (entry_at g.entries j) c.at round j) alone (λ j x. asked_passes now asked g.margin (entry_at g.entries j) c.at round j x le) i)
     (each_kept R (same_passes now asked no_track) (λ j. pressed_track g.margin (entry_at g.entries j) (need_of g.entries s.tracks c j) c.at) s.tracks
     (λ j x. pressed_passes now asked g.margin (entry_at g.entries j) (need_of g.entries s.tracks c j) c.at x le) i)
 

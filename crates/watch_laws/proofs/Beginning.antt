@@ -19,22 +19,21 @@ use Rattle.watch_machine.specs.declared.track.Track.{Track}
 use Rattle.watch_machine.specs.Answers.{noted}
 use Rattle.watch_machine.specs.Beginning.{beginning, begun, is_past, is_urgent}
 use Rattle.watch_machine.specs.Clocks.{sec}
-use Rattle.watch_machine.specs.History.{History, Turn, Turned}
+use Rattle.watch_machine.specs.History.{History, Turn, Turned, after_all}
 use Rattle.watch_machine.specs.Press.{pressed}
 use Rattle.watch_machine.specs.Refusal.{request_out}
-use Rattle.watch_machine.specs.Round.{asked_by}
+use Rattle.watch_machine.specs.Round.{asked_by_round}
 use Rattle.watch_machine.specs.Sending.{sent}
 use Rattle.watch_machine.specs.Settling.{has_jumped, settled, timed}
-use Rattle.watch_machine.specs.State.{State}
+use Rattle.watch_machine.specs.State.{WatchState}
 use Rattle.watch_machine.specs.Step.{Step, StepClock, StepLooked, StepRenewed, readied, why}
-use Rattle.watch_laws.specs.Beginnings.{Begins, FewLaw, Jumps, asks, is_begin, why_of}
-use Rattle.watch_laws.specs.Turns.{after_all}
+use Rattle.watch_laws.specs.Beginnings.{FewLaw, IsBeginning, Jumps, asks_beginning, is_begin, why_begun}
 use Rattle.watch_laws.proofs.Answering.{looked_begins, looked_leaves, renewed_begins, renewed_leaves, rest_of}
 use Rattle.watch_laws.proofs.Clocking.{clock_rises, readied_clocks, refused_stays, sent_by}
 
 -- the last beginning was at that clock or later, and is past; and came says whether a Begin came since that clock, as it did where
 -- one is still asked for
-record Since (at : ℕ) (came : Bool) (s : State) : Type 0 where
+record Since (at : ℕ) (came : Bool) (s : WatchState) : Type 0 where
   begun : ℕ
   begun_is : s.begun ≡ Some begun
   from : at ≤ begun
@@ -42,24 +41,24 @@ record Since (at : ℕ) (came : Bool) (s : State) : Type 0 where
   asked : s.asked ≡ true → came ≡ true
 
 -- what leaves the clocks and the last beginning leaves this
-left_since : (at : ℕ) (came : Bool) (old new : State) → rest_of new ≡ rest_of old → Since at came old → Since at came new
+left_since : (at : ℕ) (came : Bool) (old new : WatchState) → rest_of new ≡ rest_of old → Since at came old → Since at came new
 left_since at came old new same h = record {
   begun = h.begun;
-  begun_is = ap (λ (x : State). x.begun) same ∙ h.begun_is;
+  begun_is = ap (λ (x : WatchState). x.begun) same ∙ h.begun_is;
   from = h.from;
-  past = let e = ap (λ (x : State). x.clocks.at) same in let p = h.past in omega (arith, e, p);
-  asked = λ yes'. h.asked (sym (ap (λ (x : State). x.asked) same) ∙ yes');
+  past = let e = ap (λ (x : WatchState). x.clocks.at) same in let p = h.past in omega (arith, e, p);
+  asked = λ yes'. h.asked (sym (ap (λ (x : WatchState). x.asked) same) ∙ yes');
 }
 
 -- a clock
-begun_since : (at : ℕ) (came : Bool) (s : State) (w : Option Why) → at ≤ s.clocks.at → Since at came s → Since at came (begun s w)
+begun_since : (at : ℕ) (came : Bool) (s : WatchState) (w : Option Why) → at ≤ s.clocks.at → Since at came s → Since at came (begun s w)
 begun_since at came s None later h = record { begun = h.begun; begun_is = h.begun_is; from = h.from; past = later; asked = h.asked }
 begun_since at came s (Some w) later h = record { begun = s.clocks.at; begun_is = refl; from = later; past = later; asked = λ yes'. absurd cc }
 
 some_begun : (o : Option ℕ) (b : ℕ) → o ≡ Some b → is_none o ≡ false
 some_begun o b is = ap (λ (x : Option ℕ). is_none x) is
 
-readied_since : (at : ℕ) (came : Bool) (s : State) (wall elapsed : ℕ) → Since at came s → Since at came (readied s wall elapsed)
+readied_since : (at : ℕ) (came : Bool) (s : WatchState) (wall elapsed : ℕ) → Since at came s → Since at came (readied s wall elapsed)
 unfolding readied
 readied_since at came s wall elapsed h =
     let rises = clock_rises s wall elapsed (some_begun s.begun h.begun h.begun_is) in
@@ -68,19 +67,19 @@ readied_since at came s wall elapsed h =
     begun_since at came (settled (timed s wall elapsed)) (why s wall elapsed) later
     (record { begun = h.begun; begun_is = h.begun_is; from = h.from; past = later; asked = h.asked })
 
-clock_since : (at : ℕ) (came : Bool) (old new : State) (wall elapsed : ℕ) (output : Output) → StepClock old wall elapsed output new → Since at came old → Since at came new
+clock_since : (at : ℕ) (came : Bool) (old new : WatchState) (wall elapsed : ℕ) (output : Output) → StepClock old wall elapsed output new → Since at came old → Since at came new
 clock_since at came old new wall elapsed output step h =
-    let mid = pressed (readied old wall elapsed) (asked_by step.round) in
+    let mid = pressed (readied old wall elapsed) (asked_by_round step.round) in
     let is = sent_by mid new output.command step.command in
     let ready = readied_since at came old wall elapsed h in
     left_since at came (readied old wall elapsed) new (ap rest_of is.1) ready
 
 -- an answer
-looked_since : (at : ℕ) (came : Bool) (old new : State) (o : Option Out) (reply : Reply) (terms : Terms) (output : Output) → StepLooked old o reply terms output new → Since at came old → Since at came new
+looked_since : (at : ℕ) (came : Bool) (old new : WatchState) (o : Option Out) (reply : Reply) (terms : Terms) (output : Output) → StepLooked old o reply terms output new → Since at came old → Since at came new
 looked_since at came old new None reply terms output step h = absurd step
 looked_since at came old new (Some r) reply terms output step h = left_since at came old new (ap rest_of step.1 ∙ looked_leaves old r reply terms) h
 
-renewed_since : (at : ℕ) (came : Bool) (old new : State) (o : Option Out) (reply : Reply) (output : Output) → StepRenewed old o reply output new → Since at came old → Since at came new
+renewed_since : (at : ℕ) (came : Bool) (old new : WatchState) (o : Option Out) (reply : Reply) (output : Output) → StepRenewed old o reply output new → Since at came old → Since at came new
 renewed_since at came old new None reply output step h = absurd step
 renewed_since at came old new (Some r) reply output step h = left_since at came old new (ap rest_of step.1 ∙ renewed_leaves old r reply) h
 
@@ -89,7 +88,7 @@ or_false true = refl
 or_false false = refl
 
 -- a step, and a turn
-step_since : (at : ℕ) (came : Bool) (old new : State) (event : Event) (output : Output) → Step old event output new → Since at came old → Since at (came || is_begin event) new
+step_since : (at : ℕ) (came : Bool) (old new : WatchState) (event : Event) (output : Output) → Step old event output new → Since at came old → Since at (came || is_begin event) new
 step_since at came old new (Clock wall elapsed) output step h = subst (λ b. Since at b new) (sym (or_false came)) (clock_since at came old new wall elapsed output step h)
 step_since at came old new (Looked i reply terms) output step h = subst (λ b. Since at b new) (sym (or_false came)) (looked_since at came old new (request_out old.out i Look) reply terms output step h)
 step_since at came old new (Renewed i reply) output step h = subst (λ b. Since at b new) (sym (or_false came)) (renewed_since at came old new (request_out old.out i Renew) reply output step h)
@@ -98,10 +97,10 @@ step_since at came old new Begin output step h =
     subst (Since at (came || true)) (sym step.1) (record { begun = h.begun; begun_is = h.begun_is; from = h.from; past = h.past; asked = λ yes'. or_right came true refl })
 step_since at came old new (Known i end renewable) output step h = subst (λ b. Since at b new) (sym (or_false came)) (left_since at came old new (ap rest_of step.1) h)
 
-stays : (at : ℕ) (came more : Bool) (s : State) → Since at came s → Since at (came || more) s
+stays : (at : ℕ) (came more : Bool) (s : WatchState) → Since at came s → Since at (came || more) s
 stays at came more s h = record { begun = h.begun; begun_is = h.begun_is; from = h.from; past = h.past; asked = λ yes'. or_left came more (h.asked yes') }
 
-turn_since : (at : ℕ) (came : Bool) (old new : State) (event : Event) (result : Result Output WatchFault) → Turn old event result new → Since at came old → Since at (came || is_begin event) new
+turn_since : (at : ℕ) (came : Bool) (old new : WatchState) (event : Event) (result : Result Output WatchFault) → Turn old event result new → Since at came old → Since at (came || is_begin event) new
 turn_since at came old new event (Ok output) turn h = step_since at came old new event output turn.1 h
 turn_since at came old new event (Err fault) turn h = subst (Since at (came || is_begin event)) (sym (refused_stays old new event fault turn)) (stays at came (is_begin event) old h)
 
@@ -132,14 +131,14 @@ reasons b at asked stepped false xs yes' =
 
 -- a beginning after that
 clock_begins :
-    (at : ℕ) (came : Bool) (old new : State) (wall elapsed : ℕ) (output : Output) → StepClock old wall elapsed output new → is_some output.notes.began ≡ true → Since at came old →
+    (at : ℕ) (came : Bool) (old new : WatchState) (wall elapsed : ℕ) (output : Output) → StepClock old wall elapsed output new → is_some output.notes.began ≡ true → Since at came old →
     (has_jumped old wall elapsed ≡ true) ⊎ ((came ≡ true) ⊎ (at + 600000 ≤ new.clocks.at))
 unfolding why
 clock_begins at came old new wall elapsed output step begins h =
     let t = settled (timed old wall elapsed) in
-    let mid = pressed (readied old wall elapsed) (asked_by step.round) in
+    let mid = pressed (readied old wall elapsed) (asked_by_round step.round) in
     let is = sent_by mid new output.command step.command in
-    let clock : new.clocks.at ≡ t.clocks.at = ap (λ (x : State). x.clocks.at) is.1 ∙ ap (λ c. c.at) (readied_clocks old wall elapsed) in
+    let clock : new.clocks.at ≡ t.clocks.at = ap (λ (x : WatchState). x.clocks.at) is.1 ∙ ap (λ c. c.at) (readied_clocks old wall elapsed) in
     let noted' = sym (ap (λ (x : Notes). is_some x.began) step.notes) ∙ begins in
     let late = h.from in
     elim (reasons h.begun t.clocks.at t.asked t.stepped (has_jumped old wall elapsed) t.tracks
@@ -151,18 +150,18 @@ clock_begins at came old new wall elapsed output step begins h =
 no_beginning : {X : Type 0} (output o : Output) → output ≡ o → o.notes.began ≡ None → is_some output.notes.began ≡ true → X
 no_beginning output o is none begins = absurd (let bad : true ≡ false = sym begins ∙ ap (λ (x : Output). is_some x.notes.began) is ∙ ap is_some none in cc)
 
-looked_none : {X : Type 0} (old new : State) (o : Option Out) (reply : Reply) (terms : Terms) (output : Output) → StepLooked old o reply terms output new → is_some output.notes.began ≡ true → X
+looked_none : {X : Type 0} (old new : WatchState) (o : Option Out) (reply : Reply) (terms : Terms) (output : Output) → StepLooked old o reply terms output new → is_some output.notes.began ≡ true → X
 looked_none old new None reply terms output step begins = absurd step
 looked_none old new (Some r) reply terms output step begins = no_beginning output _ step.0 (looked_begins (noted old r reply) r reply terms) begins
 
-renewed_none : {X : Type 0} (old new : State) (o : Option Out) (reply : Reply) (output : Output) → StepRenewed old o reply output new → is_some output.notes.began ≡ true → X
+renewed_none : {X : Type 0} (old new : WatchState) (o : Option Out) (reply : Reply) (output : Output) → StepRenewed old o reply output new → is_some output.notes.began ≡ true → X
 renewed_none old new None reply output step begins = absurd step
 renewed_none old new (Some r) reply output step begins = no_beginning output _ step.0 (renewed_begins (noted old r reply) r reply) begins
 
-abbrev Few : ℕ → Bool → State → Event → State → Type 0
+abbrev Few : ℕ → Bool → WatchState → Event → WatchState → Type 0
 Few at came old event new = Jumps old event ⊎ ((came ≡ true) ⊎ (at + 600000 ≤ new.clocks.at))
 
-step_begins : (at : ℕ) (came : Bool) (old new : State) (event : Event) (output : Output) → Step old event output new → is_some output.notes.began ≡ true → Since at came old → Few at came old event new
+step_begins : (at : ℕ) (came : Bool) (old new : WatchState) (event : Event) (output : Output) → Step old event output new → is_some output.notes.began ≡ true → Since at came old → Few at came old event new
 step_begins at came old new (Clock wall elapsed) output step begins h = clock_begins at came old new wall elapsed output step begins h
 step_begins at came old new (Looked i reply terms) output step begins h = looked_none old new (request_out old.out i Look) reply terms output step begins
 step_begins at came old new (Renewed i reply) output step begins h = renewed_none old new (request_out old.out i Renew) reply output step begins
@@ -171,22 +170,22 @@ step_begins at came old new Begin output step begins h = no_beginning output _ s
 step_begins at came old new (Known i end renewable) output step begins h = no_beginning output _ step.0 refl begins
 
 turn_begins :
-    (at : ℕ) (came : Bool) (old new : State) (event : Event) (result : Result Output WatchFault) → Turn old event result new → is_some (why_of result) ≡ true → Since at came old →
+    (at : ℕ) (came : Bool) (old new : WatchState) (event : Event) (result : Result Output WatchFault) → Turn old event result new → is_some (why_begun result) ≡ true → Since at came old →
     Few at came old event new
 turn_begins at came old new event (Ok output) turn begins h = step_begins at came old new event output turn.1 begins h
 turn_begins at came old new event (Err fault) turn begins h = absurd cc
 
 -- the first beginning
-begun_starts : (s : State) (w : Option Why) → is_some w ≡ true → (begun s w).begun ≡ Some (begun s w).clocks.at
+begun_starts : (s : WatchState) (w : Option Why) → is_some w ≡ true → (begun s w).begun ≡ Some (begun s w).clocks.at
 begun_starts s None some = absurd cc
 begun_starts s (Some w) some = refl
 
-begun_asked : (s : State) (w : Option Why) → is_some w ≡ true → (begun s w).asked ≡ true → false ≡ true
+begun_asked : (s : WatchState) (w : Option Why) → is_some w ≡ true → (begun s w).asked ≡ true → false ≡ true
 begun_asked s None some yes' = absurd cc
 begun_asked s (Some w) some yes' = yes'
 
 readied_starts :
-    (old : State) (wall elapsed : ℕ) (round : List ℕ) (requests : List Request) → is_some (why old wall elapsed) ≡ true →
+    (old : WatchState) (wall elapsed : ℕ) (round : List ℕ) (requests : List Request) → is_some (why old wall elapsed) ≡ true →
     Since (readied old wall elapsed).clocks.at false (sent (pressed (readied old wall elapsed) round) requests)
 unfolding readied
 readied_starts old wall elapsed round requests some = record {
@@ -197,14 +196,14 @@ readied_starts old wall elapsed round requests some = record {
   asked = begun_asked (settled (timed old wall elapsed)) (why old wall elapsed) some;
 }
 
-clock_starts : (old new : State) (wall elapsed : ℕ) (output : Output) → StepClock old wall elapsed output new → is_some output.notes.began ≡ true → Since new.clocks.at false new
+clock_starts : (old new : WatchState) (wall elapsed : ℕ) (output : Output) → StepClock old wall elapsed output new → is_some output.notes.began ≡ true → Since new.clocks.at false new
 clock_starts old new wall elapsed output step begins =
-    let mid = pressed (readied old wall elapsed) (asked_by step.round) in
+    let mid = pressed (readied old wall elapsed) (asked_by_round step.round) in
     let is = sent_by mid new output.command step.command in
     let noted' : is_some (why old wall elapsed) ≡ true = sym (ap (λ (x : Notes). is_some x.began) step.notes) ∙ begins in
-    subst (λ (x : State). Since x.clocks.at false x) (sym is.1) (readied_starts old wall elapsed (asked_by step.round) is.0 noted')
+    subst (λ (x : WatchState). Since x.clocks.at false x) (sym is.1) (readied_starts old wall elapsed (asked_by_round step.round) is.0 noted')
 
-step_starts : (old new : State) (event : Event) (output : Output) → Step old event output new → is_some output.notes.began ≡ true → Since new.clocks.at false new
+step_starts : (old new : WatchState) (event : Event) (output : Output) → Step old event output new → is_some output.notes.began ≡ true → Since new.clocks.at false new
 step_starts old new (Clock wall elapsed) output step begins = clock_starts old new wall elapsed output step begins
 step_starts old new (Looked i reply terms) output step begins = looked_none old new (request_out old.out i Look) reply terms output step begins
 step_starts old new (Renewed i reply) output step begins = renewed_none old new (request_out old.out i Renew) reply output step begins
@@ -212,7 +211,7 @@ step_starts old new (Need i until) output step begins = no_beginning output _ st
 step_starts old new Begin output step begins = no_beginning output _ step.0 refl begins
 step_starts old new (Known i end renewable) output step begins = no_beginning output _ step.0 refl begins
 
-turn_starts : (old new : State) (event : Event) (result : Result Output WatchFault) → Turn old event result new → is_some (why_of result) ≡ true → Since new.clocks.at false new
+turn_starts : (old new : WatchState) (event : Event) (result : Result Output WatchFault) → Turn old event result new → is_some (why_begun result) ≡ true → Since new.clocks.at false new
 turn_starts old new event (Ok output) turn begins = step_starts old new event output turn.1 begins
 turn_starts old new event (Err fault) turn begins = absurd cc
 
@@ -222,12 +221,12 @@ any_more true here rest = refl
 any_more false here rest = refl
 
 ran :
-    (between : List Turned) (second : Turned) (at : ℕ) (came : Bool) (old : State) → History old (between ++ second ∷ []) → Begins second → Since at came old →
-    Few at (came || list_any asks between) (after_all old between) second.event second.state
+    (between : List Turned) (second : Turned) (at : ℕ) (came : Bool) (old : WatchState) → History old (between ++ second ∷ []) → IsBeginning second → Since at came old →
+    Few at (came || list_any asks_beginning between) (after_all old between) second.event second.state
 ran [] second at came old h begins since = subst (λ b. Few at b old second.event second.state) (sym (or_false came)) (turn_begins at came old second.state second.event second.result h.0 begins since)
 ran (turn ∷ between) second at came old h begins since =
-    subst (λ b. Few at b (after_all turn.state between) second.event second.state) (any_more came (asks turn) (list_any asks between))
-    (ran between second at (came || asks turn) turn.state h.1 begins (turn_since at came old turn.state turn.event turn.result h.0 since))
+    subst (λ b. Few at b (after_all turn.state between) second.event second.state) (any_more came (asks_beginning turn) (list_any asks_beginning between))
+    (ran between second at (came || asks_beginning turn) turn.state h.1 begins (turn_since at came old turn.state turn.event turn.result h.0 since))
 
 pub few : FewLaw
 few old first second between h first_begins second_begins =

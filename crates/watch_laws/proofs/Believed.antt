@@ -18,8 +18,8 @@ use Rattle.keep_tree.proofs.Entries.{entry_at_past, entry_at_set_other, entry_at
 use Rattle.keep_tree.proofs.Placed.{Replaces, parents_first, range_from_parts, replaced_is_forest}
 use Rattle.watch_machine.specs.declared.clocks.Clocks.{Clocks}
 use Rattle.watch_machine.specs.Clocks.{of_wall, to_here}
-use Rattle.watch_machine.specs.State.{State, second}
-use Rattle.watch_machine.specs.Wanted.{ceiling_here, need_here, need_of, seen, view, wanted_need}
+use Rattle.watch_machine.specs.State.{WatchState, second}
+use Rattle.watch_machine.specs.Wanted.{ceiling_here, need_here, need_of, seen_entry, view, wanted_need}
 use Rattle.watch_machine.proofs.Cases.{if_cases}
 use Rattle.watch_laws.specs.Calm.{believed_forest, terms}
 
@@ -94,8 +94,8 @@ ceiling_within c (Some t) = capped_low (to_here c.broker t) where
   capped_low : (x : ℕ) → nat_lt END_MAX (min END_MAX x) ≡ false
   capped_low x = let l : min END_MAX x ≤ END_MAX = omega arith in grind (arith, nat_tests)
 
-terms_replace : (s : State) → IsForest s.forest → (i : ℕ) → i < length s.forest.entries → Replaces s.forest i (terms s i)
-unfolding terms seen
+terms_replace : (s : WatchState) → IsForest s.forest → (i : ℕ) → i < length s.forest.entries → Replaces s.forest i (terms s i)
+unfolding terms seen_entry
 terms_replace s forest i within =
     let n = need_within s.clocks (entry_at s.forest.entries i).need in
     record {
@@ -107,19 +107,19 @@ terms_replace s forest i within =
       range = range_from_parts (terms s i) (record { end = omega arith; ceiling = ceiling_within s.clocks (entry_at s.forest.entries i).ceiling; need = omega arith });
     }
 
-pub believed_is_forest : (s : State) → IsForest s.forest → IsForest (believed_forest s)
+pub believed_is_forest : (s : WatchState) → IsForest s.forest → IsForest (believed_forest s)
 unfolding believed_forest
 believed_is_forest s forest = all_replaced s.forest forest (terms s) (terms_replace s forest)
 
-pub believed_margin : (s : State) → (believed_forest s).margin ≡ s.forest.margin
+pub believed_margin : (s : WatchState) → (believed_forest s).margin ≡ s.forest.margin
 unfolding believed_forest
 believed_margin s = refl
 
-pub believed_count : (s : State) → length (believed_forest s).entries ≡ length s.forest.entries
+pub believed_count : (s : WatchState) → length (believed_forest s).entries ≡ length s.forest.entries
 unfolding believed_forest
 believed_count s = written_count (terms s) (length s.forest.entries)
 
-pub believed_at : (s : State) (i : ℕ) → i < length s.forest.entries → entry_at (believed_forest s).entries i ≡ terms s i
+pub believed_at : (s : WatchState) (i : ℕ) → i < length s.forest.entries → entry_at (believed_forest s).entries i ≡ terms s i
 unfolding believed_forest
 believed_at s i within = written_at (terms s) (length s.forest.entries) i within
 
@@ -167,12 +167,12 @@ written_same f h n first each =
     }
 
 -- what an entry carries
-pub carried_believed : (s : State) → IsForest s.forest → (i : ℕ) → carried (believed_forest s).entries (second s) i ≡ wanted_need s i
+pub carried_believed : (s : WatchState) → IsForest s.forest → (i : ℕ) → carried (believed_forest s).entries (second s) i ≡ wanted_need s i
 unfolding believed_forest need_of terms
 carried_believed s forest i =
     let n = length s.forest.entries in
     let first = parents_first (believed_forest s) (believed_is_forest s forest) in
-    let same : AreSameNeeds (map (terms s) (range_with_len 0 n)) (map (seen s.forest.entries s.tracks s.clocks) (range_with_len 0 n)) = written_same (terms s) (seen s.forest.entries s.tracks s.clocks) n first (λ k h. (refl, refl)) in
+    let same : AreSameNeeds (map (terms s) (range_with_len 0 n)) (map (seen_entry s.forest.entries s.tracks s.clocks) (range_with_len 0 n)) = written_same (terms s) (seen_entry s.forest.entries s.tracks s.clocks) n first (λ k h. (refl, refl)) in
     sym (same_carried (map (terms s) (range_with_len 0 n)) (view s.forest.entries s.tracks s.clocks) same (second s) i)
 
 -- what is over an entry does not stand behind it

@@ -11,8 +11,8 @@ use Rattle.keep_tree.specs.Push.{IsForest}
 use Rattle.keep_tree.specs.Renewal.{all_last, renewal}
 use Rattle.keep_tree.proofs.Carrying.{and_left, and_right}
 use Rattle.keep_rule.specs.declared.wake.Wake.{Wake}
-use Rattle.keep_rule.specs.Asks.{asking, first_of, is_wanted as is_asked_now, with_asks}
-use Rattle.keep_rule.specs.Ends.{after, is_asked}
+use Rattle.keep_rule.specs.Asks.{asking, first_of, is_to_be_asked as is_asked_now, with_asks}
+use Rattle.keep_rule.specs.Ends.{ends_after_wake_up, is_asked}
 use Rattle.keep_rule.specs.Forced.{bound, latest_end}
 use Rattle.keep_rule.specs.Least.{IsLeastAndLatest}
 use Rattle.keep_rule.specs.Schedule.{IsSchedule}
@@ -34,12 +34,12 @@ use Rattle.watch_machine.specs.Clocks.{sec}
 use Rattle.watch_machine.specs.Margins.{has_come, time}
 use Rattle.watch_machine.specs.Press.{asked_track, is_fresh, press, pressed, pressed_track}
 use Rattle.watch_machine.specs.Outlook.{time_of}
-use Rattle.watch_machine.specs.Round.{IsRound, asked_by, opens}
-use Rattle.watch_machine.specs.Sending.{IsSent as IsSending, sent}
-use Rattle.watch_machine.specs.State.{State, attempt_at, entry_of, second, track_at}
+use Rattle.watch_machine.specs.Round.{IsRound, asked_by_round, opens}
+use Rattle.watch_machine.specs.Sending.{RequestsAreSent as IsSending, sent}
+use Rattle.watch_machine.specs.State.{WatchState, attempt_at, entry_of, second, track_at}
 use Rattle.watch_machine.specs.Wanted.{believed, is_alive, is_wanted, wanted_need}
 use Rattle.watch_machine.proofs.Cases.{value_is}
-use Rattle.watch_laws.specs.Calm.{IsBetween, IsCalm, IsKeepable, IsPlanNow, NonePassed, asks_now, believed_forest, ends, in_plan_at, terms}
+use Rattle.watch_laws.specs.Calm.{IsCalm, IsCalmSecond, IsKeepable, IsPlanNow, NonePassed, asks_now, believed_forest, ends, in_plan_at, terms}
 use Rattle.watch_laws.proofs.Believed.{believed_at, believed_count, believed_is_forest, believed_margin, carried_believed}
 use Rattle.watch_laws.proofs.Calming.{AreAlike, IsIdle, IsKept, ends_alike, forest_alike, idle_on, kept_same, lead_alike, led_parts, need_kept, need_less, plan_alike, terms_alike, unpressed}
 use Rattle.watch_laws.proofs.Foreseen.{led_by, short_led, time_is, wanted_short}
@@ -50,44 +50,44 @@ use Rattle.watch_laws.proofs.Opener.{bearing, mid_bears}
 -- ---- a clock that opens nothing
 
 -- the words of a state for whether it is pressed now
-abbrev pub fresh_at : State → ℕ → Bool
+abbrev pub fresh_at : WatchState → ℕ → Bool
 fresh_at s i = is_fresh s.forest.margin (entry_of s i) (track_at s i) (wanted_need s i) (second s)
 
 -- a state, the one that its clock has readied, and what goes out then
-pub record IsStep (s r : State) (round : List ℕ) (requests : List Request) : Type 0 where
+pub record IsStep (s r : WatchState) (round : List ℕ) (requests : List Request) : Type 0 where
   pub timed : IsTimed r s
   pub begun : is_none r.begun ≡ false
   pub going : IsSending (pressed r round) requests (sent (pressed r round) requests)
 
 -- the state after such a clock
-abbrev pub after_clock : State → List ℕ → List Request → State
+abbrev pub after_clock : WatchState → List ℕ → List Request → WatchState
 after_clock r round requests = sent (pressed r round) requests
 
-pressed_alike : (r : State) (round : List ℕ) (requests : List Request) → AreAlike (after_clock r round requests) r
+pressed_alike : (r : WatchState) (round : List ℕ) (requests : List Request) → AreAlike (after_clock r round requests) r
 pressed_alike r round requests = bears_alike (after_clock r round requests) r refl refl refl (mid_bears r round requests)
 
-timed_bears : (r s : State) → IsTimed r s → (i : ℕ) → bearing (track_at r i) ≡ bearing (track_at s i)
+timed_bears : (r s : WatchState) → IsTimed r s → (i : ℕ) → bearing (track_at r i) ≡ bearing (track_at s i)
 timed_bears r s h i = ap bearing (h.tracks i)
 
 -- what is kept of a track whose try stays
-kept_on : (s r : State) (round : List ℕ) (requests : List Request) → IsTimed r s → (i : ℕ) → attempt_at (pressed r round) i ≡ attempt_at r i → IsKept (track_at (after_clock r round requests) i) (track_at s i)
+kept_on : (s r : WatchState) (round : List ℕ) (requests : List Request) → IsTimed r s → (i : ℕ) → attempt_at (pressed r round) i ≡ attempt_at r i → IsKept (track_at (after_clock r round requests) i) (track_at s i)
 kept_on s r round requests timed i kept = record {
   bears = mid_bears r round requests i ∙ timed_bears r s timed i;
   attempt = attempt_sent r round requests i ∙ kept ∙ ap (λ (x : Track). x.attempt) (timed.tracks i);
   owes = owes_kept r round requests i ∙ ap (λ (x : Track). x.owes) (timed.tracks i);
 }
 
-all_alike : (s r : State) (round : List ℕ) (requests : List Request) → IsTimed r s → AreAlike (after_clock r round requests) s
+all_alike : (s r : WatchState) (round : List ℕ) (requests : List Request) → IsTimed r s → AreAlike (after_clock r round requests) s
 all_alike s r round requests timed = bears_alike (after_clock r round requests) s timed.forest timed.broker timed.wall (λ i. mid_bears r round requests i ∙ timed_bears r s timed i)
 
-pub forest_of : (s : State) (g : Forest) (e : ℕ → ℕ) (last : Wake) (ts : List ℕ) → Goes s g e last ts → IsForest g
+pub forest_of : (s : WatchState) (g : Forest) (e : ℕ → ℕ) (last : Wake) (ts : List ℕ) → Goes s g e last ts → IsForest g
 forest_of s g e last ts goes = subst IsForest goes.same (believed_is_forest s goes.forest)
 
-pub keepable_of : (s : State) (g : Forest) (e : ℕ → ℕ) (last : Wake) (ts : List ℕ) → Goes s g e last ts → AllKeepable (believed_forest s) (second s) e
+pub keepable_of : (s : WatchState) (g : Forest) (e : ℕ → ℕ) (last : Wake) (ts : List ℕ) → Goes s g e last ts → AllKeepable (believed_forest s) (second s) e
 keepable_of s g e last ts goes = subst (λ h. AllKeepable h (second s) e) (sym goes.same) (plan_keepable g (second s) e ts goes.plan)
 
 quiet_on :
-    (s r : State) (g : Forest) (e : ℕ → ℕ) (last : Wake) (wakes : List Wake) (ts : List ℕ) (s0 : ℕ) (requests : List Request) →
+    (s r : WatchState) (g : Forest) (e : ℕ → ℕ) (last : Wake) (wakes : List Wake) (ts : List ℕ) (s0 : ℕ) (requests : List Request) →
     Goes s g e last ts → IsStep s r [] requests → wakes ≡ with_asks g.entries g.margin s0 e ts → s0 ≤ second s →
     ((i : ℕ) → i < length r.forest.entries → fresh_at r i ≡ false) → IsLeastAndLatest g.entries g.margin (second r) e ts → ((i : ℕ) → IsTried s e last ts i → second r < ends s i) →
     IsOn (after_clock r [] requests) g s0 e last wakes None requests
@@ -144,14 +144,14 @@ quiet_on s r g e last wakes ts s0 requests goes step to_come from not_fresh plan
 
 -- ---- while someone is being renewed
 
-time_alike : (new old : State) → new.forest ≡ old.forest → (i : ℕ) → track_at new i ≡ track_at old i → time_of new i ≡ time_of old i
+time_alike : (new old : WatchState) → new.forest ≡ old.forest → (i : ℕ) → track_at new i ≡ track_at old i → time_of new i ≡ time_of old i
 time_alike new old forest i same = ap₂ (λ (g : Forest) (x : Track). time g.margin (entry_at g.entries i) x) forest same
 
 bound_none : (es : List Entry) (e : ℕ → ℕ) (i : ℕ) → bound es e None i ≡ e i
 unfolding bound latest_end
 bound_none es e i = refl
 
-fresh_parts : (s : State) (i : ℕ) → fresh_at s i ≡ true → (is_wanted s i ≡ true) × ((time_of s i ≤ second s) × (is_pressed (track_at s i) ≡ false))
+fresh_parts : (s : WatchState) (i : ℕ) → fresh_at s i ≡ true → (is_wanted s i ≡ true) × ((time_of s i ≤ second s) × (is_pressed (track_at s i) ≡ false))
 unfolding is_fresh has_come
 fresh_parts s i fresh =
     let x = track_at s i in
@@ -163,14 +163,14 @@ fresh_parts s i fresh =
       not_so true h = absurd cc
       not_so false h = refl
 
-is_pressed_so : (s : State) (i : ℕ) (t : Try) → attempt_at s i ≡ Some t → t.pressed ≡ true → is_pressed (track_at s i) ≡ true
+is_pressed_so : (s : WatchState) (i : ℕ) (t : Try) → attempt_at s i ≡ Some t → t.pressed ≡ true → is_pressed (track_at s i) ≡ true
 is_pressed_so s i t is yes' = ap is_pressed_try is ∙ yes'
 
-has_try : (s : State) (e : ℕ → ℕ) (last : Wake) (ts : List ℕ) (i : ℕ) → IsTried s e last ts i → is_none (attempt_at s i) ≡ false
+has_try : (s : WatchState) (e : ℕ → ℕ) (last : Wake) (ts : List ℕ) (i : ℕ) → IsTried s e last ts i → is_none (attempt_at s i) ≡ false
 has_try s e last ts i tried = ap is_none tried.is
 
 -- before any round can open nobody's time has come who is not asked
-none_fresh : (s r : State) (g : Forest) (e : ℕ → ℕ) (last : Wake) (ts : List ℕ) → Goes s g e last ts → IsTimed r s → IsBetween s (second r) → (i : ℕ) → fresh_at r i ≡ false
+none_fresh : (s r : WatchState) (g : Forest) (e : ℕ → ℕ) (last : Wake) (ts : List ℕ) → Goes s g e last ts → IsTimed r s → IsCalmSecond s (second r) → (i : ℕ) → fresh_at r i ≡ false
 none_fresh s r g e last ts goes timed' between i =
     elim (cases_Bool (fresh_at r i)) as (λ _. fresh_at r i ≡ false) [
       | inr no' ↦ no'
@@ -194,7 +194,7 @@ none_fresh s r g e last ts goes timed' between i =
     ]
 
 -- nor has the next moment of the plan come
-next_ahead : (s : State) (g : Forest) (e : ℕ → ℕ) (last : Wake) (ts : List ℕ) → Goes s g e last ts → (now : ℕ) → IsBetween s now → (u : ℕ) → first_of ts ≡ Some u → now < u
+next_ahead : (s : WatchState) (g : Forest) (e : ℕ → ℕ) (last : Wake) (ts : List ℕ) → Goes s g e last ts → (now : ℕ) → IsCalmSecond s now → (u : ℕ) → first_of ts ≡ Some u → now < u
 next_ahead s g e last ts goes now between u first = comes ts first (plan_schedule g (forest_of s g e last ts goes) (second s) e ts goes.plan).0 where
   comes : (ts' : List ℕ) → first_of ts' ≡ Some u → IsSchedule g.entries g.margin (second s) e None ts' → now < u
   comes [] first' schedule = absurd cc
@@ -221,14 +221,14 @@ next_ahead s g e last ts goes now between u first = comes ts first (plan_schedul
             omega arith
       ]
 
-opens_fresh : (s : State) (i : ℕ) → opens_at s i ≡ true → fresh_at s i ≡ true
+opens_fresh : (s : WatchState) (i : ℕ) → opens_at s i ≡ true → fresh_at s i ≡ true
 unfolding opens
 opens_fresh s i h = and_left (fresh_at s i) (in_plan_at s i && is_alive (second s) (track_at s i)) h
 
 pub going_on :
-    (s r : State) (g : Forest) (e : ℕ → ℕ) (last : Wake) (wakes : List Wake) (ts : List ℕ) (s0 : ℕ) (requests : List Request) (round : Option (List ℕ)) →
-    Goes s g e last ts → IsStep s r (asked_by round) requests → wakes ≡ with_asks g.entries g.margin s0 e ts → s0 ≤ second s → IsRound r.forest r.tracks r.clocks round →
-    IsBetween s (second r) → IsOn (after_clock r (asked_by round) requests) g s0 e last wakes round requests
+    (s r : WatchState) (g : Forest) (e : ℕ → ℕ) (last : Wake) (wakes : List Wake) (ts : List ℕ) (s0 : ℕ) (requests : List Request) (round : Option (List ℕ)) →
+    Goes s g e last ts → IsStep s r (asked_by_round round) requests → wakes ≡ with_asks g.entries g.margin s0 e ts → s0 ≤ second s → IsRound r.forest r.tracks r.clocks round →
+    IsCalmSecond s (second r) → IsOn (after_clock r (asked_by_round round) requests) g s0 e last wakes round requests
 going_on s r g e last wakes ts s0 requests (Some asked) goes step to_come from round between =
     let some = some_opens r round.0 in
     let fresh = opens_fresh r some.0 some.1.1 in
@@ -243,7 +243,7 @@ going_on s r g e last wakes ts s0 requests None goes step to_come from round bet
 -- ---- at rest
 
 -- at rest nothing is fresh where nothing opens
-rest_fresh : (r : State) → (forest : IsForest r.forest) → (calm : IsCalm r) → IsRound r.forest r.tracks r.clocks None → (i : ℕ) → i < length r.forest.entries → fresh_at r i ≡ false
+rest_fresh : (r : WatchState) → (forest : IsForest r.forest) → (calm : IsCalm r) → IsRound r.forest r.tracks r.clocks None → (i : ℕ) → i < length r.forest.entries → fresh_at r i ≡ false
 rest_fresh r forest calm round i within =
     elim (cases_Bool (fresh_at r i)) as (λ _. fresh_at r i ≡ false) [
       | inr no' ↦ no'
@@ -258,7 +258,7 @@ asked_short es margin s e t next i asked =
     grind (arith, nat_tests)
 
 -- an entry that is named, and not out, has the try of a round
-named_try : (r : State) (round : List ℕ) (requests : List Request) (i : ℕ) → i < length r.tracks → list_any (λ j. j == i) round ≡ true → (track_at r i).out ≡ false → (along : Bool) × (x : Track) × ((attempt_at (pressed r round) i ≡ Some (press r.clocks.at along x)) × (x.end ≡ (track_at r i).end))
+named_try : (r : WatchState) (round : List ℕ) (requests : List Request) (i : ℕ) → i < length r.tracks → list_any (λ j. j == i) round ≡ true → (track_at r i).out ≡ false → (along : Bool) × (x : Track) × ((attempt_at (pressed r round) i ≡ Some (press r.clocks.at along x)) × (x.end ≡ (track_at r i).end))
 unfolding asked_track
 named_try r round requests i within named free =
     let e = entry_of r i in
@@ -282,7 +282,7 @@ press_pressed at along x = (refl, (refl, refl))
 
 -- an entry that a round asks
 opened_tried :
-    (r : State) (asked : List ℕ) (requests : List Request) (now : Wake) (e : ℕ → ℕ) (us : List ℕ) (i : ℕ) → IsForest r.forest → IsCalm r → length r.tracks ≡ length r.forest.entries →
+    (r : WatchState) (asked : List ℕ) (requests : List Request) (now : Wake) (e : ℕ → ℕ) (us : List ℕ) (i : ℕ) → IsForest r.forest → IsCalm r → length r.tracks ≡ length r.forest.entries →
     is_wanted r i ≡ true → list_any (λ j. j == i) asked ≡ true → is_asked now i ≡ true → second r ≡ now.at →
     e i ≡ renewal (terms r i) (second r) → ends r i < e i → (track_at r i).owes ≡ false → IsTried (after_clock r asked requests) e now us i
 unfolding ends
@@ -326,12 +326,12 @@ opened_tried r asked requests now e us i forest calm count wanted named is_named
       owes = owes_kept r asked requests i ∙ owes;
     }
 
-with_end : (s : State) (e d : ℕ → ℕ) (i : ℕ) → e i ≡ d i → IsIdle s e i → IsIdle s d i
+with_end : (s : WatchState) (e d : ℕ → ℕ) (i : ℕ) → e i ≡ d i → IsIdle s e i → IsIdle s d i
 with_end s e d i same idle = record { none = idle.none; end = idle.end ∙ same; owes = idle.owes; out = idle.out; in_plan = idle.in_plan; led = idle.led }
 
 -- a round opens
 opening_on :
-    (s r : State) (last : Wake) (wakes : List Wake) (ts us : List ℕ) (s0 : ℕ) (requests : List Request) (asked : List ℕ) →
+    (s r : WatchState) (last : Wake) (wakes : List Wake) (ts us : List ℕ) (s0 : ℕ) (requests : List Request) (asked : List ℕ) →
     Goes s (believed_forest r) (ends r) last ts → IsStep s r asked requests → wakes ≡ with_asks (believed_forest r).entries (believed_forest r).margin s0 (ends r) ts → s0 ≤ second s →
     IsForest r.forest → IsCalm r → ((i : ℕ) → IsIdle s (ends r) i) → IsLeastAndLatest (believed_forest r).entries (believed_forest r).margin (second r) (ends r) ts →
     IsPlanNow r (second r ∷ us) → asked ≡ asks_now r (first_of us) → IsOn (after_clock r asked requests) (believed_forest r) s0 (ends r) last wakes (Some asked) requests
@@ -345,7 +345,7 @@ opening_on s r last wakes ts us s0 requests asked goes step to_come from forest_
     let e = ends r in
     let next = first_of us in
     let w = asking es m t e t next in
-    let d = after es m e w in
+    let d = ends_after_wake_up es m e w in
     let forest_g : IsForest g = believed_is_forest r forest_r in
     let same_ts : ts ≡ t ∷ us = one_least es m t e ts (t ∷ us) plan best in
     let rest : IsLeastAndLatest es m t d us = tail asks_enough g t t e us forest_g best in
@@ -355,7 +355,7 @@ opening_on s r last wakes ts us s0 requests asked goes step to_come from forest_
     let here : w ≡ now = ap (λ a. record { at = t; asked = a }) (sym is) in
     let comes : wakes ≡ now ∷ with_asks es m s0 d us =
     to_come ∙ ap (λ xs. with_asks es m s0 e xs) same_ts
-    ∙ ap (λ x. x ∷ with_asks es m s0 (after es m e x) us) first
+    ∙ ap (λ x. x ∷ with_asks es m s0 (ends_after_wake_up es m e x) us) first
     ∙ ap (λ x. x ∷ with_asks es m s0 d us) here in
     let alike = pressed_alike r asked requests in
     let p = is_asked_now es m t e t next in
@@ -407,7 +407,7 @@ opening_on s r last wakes ts us s0 requests asked goes step to_come from forest_
       };
       to_come = refl;
       from = omega arith;
-      so = ap (after es m e) here;
+      so = ap (ends_after_wake_up es m e) here;
     } where
       not_fresh : (i : ℕ) → i < length r.forest.entries → is_asked_now (believed_forest r).entries r.forest.margin (second r) (ends r) (second r) (first_of us) i ≡ false → fresh_at r i ≡ false
       not_fresh i within no' =
@@ -423,9 +423,9 @@ opening_on s r last wakes ts us s0 requests asked goes step to_come from forest_
 
 -- a clock that finds a watch at rest
 pub resting_on :
-    (s r : State) (g : Forest) (e : ℕ → ℕ) (last : Wake) (wakes : List Wake) (ts : List ℕ) (s0 : ℕ) (requests : List Request) (round : Option (List ℕ)) →
-    Goes s g e last ts → IsStep s r (asked_by round) requests → wakes ≡ with_asks g.entries g.margin s0 e ts → s0 ≤ second s → IsRound r.forest r.tracks r.clocks round →
-    ((i : ℕ) → IsIdle s e i) → ((i : ℕ) → i < length s.forest.entries → is_wanted s i ≡ true → second r ≤ time_of s i) → IsOn (after_clock r (asked_by round) requests) g s0 e last wakes round requests
+    (s r : WatchState) (g : Forest) (e : ℕ → ℕ) (last : Wake) (wakes : List Wake) (ts : List ℕ) (s0 : ℕ) (requests : List Request) (round : Option (List ℕ)) →
+    Goes s g e last ts → IsStep s r (asked_by_round round) requests → wakes ≡ with_asks g.entries g.margin s0 e ts → s0 ≤ second s → IsRound r.forest r.tracks r.clocks round →
+    ((i : ℕ) → IsIdle s e i) → ((i : ℕ) → i < length s.forest.entries → is_wanted s i ≡ true → second r ≤ time_of s i) → IsOn (after_clock r (asked_by_round round) requests) g s0 e last wakes round requests
 resting_on s r g e last wakes ts s0 requests round goes step to_come from is_round idle in_time =
     let forest_g = forest_of s g e last ts goes in
     let forest_r : IsForest r.forest = subst IsForest (sym step.timed.forest) goes.forest in
@@ -464,7 +464,7 @@ resting_on s r g e last wakes ts s0 requests round goes step to_come from is_rou
           let m' = believed_margin s in
           omega arith
 
-      by_round : (round' : Option (List ℕ)) → IsStep s r (asked_by round') requests → IsRound r.forest r.tracks r.clocks round' → IsCalm r → IsLeastAndLatest g.entries g.margin (second r) e ts → believed_forest r ≡ g → ends r ≡ e → IsOn (after_clock r (asked_by round') requests) g s0 e last wakes round' requests
+      by_round : (round' : Option (List ℕ)) → IsStep s r (asked_by_round round') requests → IsRound r.forest r.tracks r.clocks round' → IsCalm r → IsLeastAndLatest g.entries g.margin (second r) e ts → believed_forest r ≡ g → ends r ≡ e → IsOn (after_clock r (asked_by_round round') requests) g s0 e last wakes round' requests
       by_round None step' is_round' calm plan same own =
           quiet_on s r g e last wakes ts s0 requests goes step' to_come from (rest_fresh r (subst IsForest (sym step.timed.forest) goes.forest) calm is_round') plan (λ i tried. absurd (some_not_none (attempt_at s i) tried.try tried.is (idle i).none))
       by_round (Some asked) step' is_round' calm plan same own =

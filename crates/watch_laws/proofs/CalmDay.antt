@@ -23,14 +23,14 @@ use Rattle.watch_machine.specs.Clocks.{sec}
 use Rattle.watch_machine.specs.History.{History, Turn, Turned}
 use Rattle.watch_machine.specs.Press.{pressed}
 use Rattle.watch_machine.specs.Refusal.{request_out}
-use Rattle.watch_machine.specs.Renewed.{renewed}
-use Rattle.watch_machine.specs.Round.{asked_by}
+use Rattle.watch_machine.specs.Renewed.{state_renewed}
+use Rattle.watch_machine.specs.Round.{asked_by_round}
 use Rattle.watch_machine.specs.Settling.{timed}
-use Rattle.watch_machine.specs.State.{State, attempt_at, second}
+use Rattle.watch_machine.specs.State.{WatchState, attempt_at, second}
 use Rattle.watch_machine.specs.Step.{Step, StepClock, StepCommand, StepRenewed, readied}
 use Rattle.watch_machine.proofs.Cases.{if_both}
-use Rattle.watch_laws.specs.Calm.{AreCalm, CalmLaw, EndAs, GoBy, IsAtRest, IsBetween, IsByRule, IsCalmClock, IsCalmEvent, IsCalmTurn, NonePassed, believed_forest, ends, left_by}
-use Rattle.watch_laws.specs.Load.{asked_by as asked_for, requests_of}
+use Rattle.watch_laws.specs.Calm.{AreCalm, CalmLaw, EndAs, GoBy, GrantIsByRule, IsCalmClock, IsCalmEvent, IsCalmSecond, IsCalmTurn, NonePassed, StateIsAtRest, believed_forest, ends, ends_left_by}
+use Rattle.watch_laws.specs.Load.{requests_asked_by as asked_for, requests_of}
 use Rattle.watch_laws.specs.Time.{round_of}
 use Rattle.watch_laws.proofs.CalmClock.{IsStep, after_clock, forest_of, going_on, resting_on}
 use Rattle.watch_laws.proofs.CalmGrant.{answer_goes}
@@ -62,7 +62,7 @@ if_none P o is = subst (λ x. IfSome x P) (sym is) tt
 
 -- a turn that asks nobody, and leaves the moment
 stays_on :
-    (s new : State) (g : Forest) (e : ℕ → ℕ) (last : Wake) (wakes : List Wake) (ts : List ℕ) (s0 : ℕ) → Goes new g e last ts → wakes ≡ with_asks g.entries g.margin s0 e ts → s0 ≤ second s → second new ≡ second s →
+    (s new : WatchState) (g : Forest) (e : ℕ → ℕ) (last : Wake) (wakes : List Wake) (ts : List ℕ) (s0 : ℕ) → Goes new g e last ts → wakes ≡ with_asks g.entries g.margin s0 e ts → s0 ≤ second s → second new ≡ second s →
     IsOn new g s0 e last wakes None []
 stays_on s new g e last wakes ts s0 goes to_come from now = record {
   now = last;
@@ -79,13 +79,13 @@ stays_on s new g e last wakes ts s0 goes to_come from now = record {
 
 -- a clock
 clock_to :
-    (s new : State) (wall elapsed : ℕ) (output : Output) (command : Command) (g : Forest) (e : ℕ → ℕ) (last : Wake) (wakes : List Wake) (ts : List ℕ) (s0 : ℕ) → Goes s g e last ts → wakes ≡ with_asks g.entries g.margin s0 e ts → s0 ≤ second s →
-    (step : StepClock s wall elapsed output new) → StepCommand (pressed (readied s wall elapsed) (asked_by step.round)) command new → IsCalmClock s wall elapsed → IsOn new g s0 e last wakes step.round (asked_for command)
+    (s new : WatchState) (wall elapsed : ℕ) (output : Output) (command : Command) (g : Forest) (e : ℕ → ℕ) (last : Wake) (wakes : List Wake) (ts : List ℕ) (s0 : ℕ) → Goes s g e last ts → wakes ≡ with_asks g.entries g.margin s0 e ts → s0 ≤ second s →
+    (step : StepClock s wall elapsed output new) → StepCommand (pressed (readied s wall elapsed) (asked_by_round step.round)) command new → IsCalmClock s wall elapsed → IsOn new g s0 e last wakes step.round (asked_for command)
 clock_to s new wall elapsed output Taken g e last wakes ts s0 goes to_come from step h clock = absurd h
 clock_to s new wall elapsed output (Go requests until) g e last wakes ts s0 goes to_come from step h clock =
     let r = readied s wall elapsed in
     let n = length s.forest.entries in
-    let round = asked_by step.round in
+    let round = asked_by_round step.round in
     let whole : (i : ℕ) → IfSome (attempt_at s i) (λ t. t.failed ≡ false) = λ i. elim (goes.each i) as (λ _. IfSome (attempt_at s i) (λ t. t.failed ≡ false)) [
       | inl idle ↦ if_none (λ t. t.failed ≡ false) (attempt_at s i) idle.none
       | inr tried ↦ if_some (λ t. t.failed ≡ false) (attempt_at s i) tried.try tried.is tried.failed
@@ -109,33 +109,33 @@ clock_to s new wall elapsed output (Go requests until) g e last wakes ts s0 goes
           let i = one'.0 in
           elim (goes.each i) as (λ _. IsOn (after_clock r round requests) g s0 e last wakes step.round requests) [
             | inl idle ↦ absurd (let a : is_none (attempt_at s i) ≡ false = one'.1.1 in let b : is_none (attempt_at s i) ≡ true = ap is_none idle.none in cc)
-            | inr tried ↦ going_on s r g e last wakes ts s0 requests step.round goes is to_come from step.is_round (subst (IsBetween s) (sym now) (clock.answered i one'.1.0 one'.1.1))
+            | inr tried ↦ going_on s r g e last wakes ts s0 requests step.round goes is to_come from step.is_round (subst (IsCalmSecond s) (sym now) (clock.answered i one'.1.0 one'.1.1))
           ]
     ])
 
 clock_on :
-    (s new : State) (wall elapsed : ℕ) (output : Output) (g : Forest) (e : ℕ → ℕ) (last : Wake) (wakes : List Wake) (ts : List ℕ) (s0 : ℕ) → Goes s g e last ts → wakes ≡ with_asks g.entries g.margin s0 e ts → s0 ≤ second s →
+    (s new : WatchState) (wall elapsed : ℕ) (output : Output) (g : Forest) (e : ℕ → ℕ) (last : Wake) (wakes : List Wake) (ts : List ℕ) (s0 : ℕ) → Goes s g e last ts → wakes ≡ with_asks g.entries g.margin s0 e ts → s0 ≤ second s →
     StepClock s wall elapsed output new → IsCalmClock s wall elapsed → IsOn new g s0 e last wakes output.notes.round (asked_for output.command)
 clock_on s new wall elapsed output g e last wakes ts s0 goes to_come from step clock =
     subst (λ o. IsOn new g s0 e last wakes o (asked_for output.command)) (sym (ap (λ (x : Notes). x.round) step.notes))
     (clock_to s new wall elapsed output output.command g e last wakes ts s0 goes to_come from step step.command clock)
 
-second_replied : (s : State) (q : Out) (seconds : ℕ) (date : Option ℕ) → second (replied (renewed (noted s q (Told seconds true date)) q (Told seconds true date)) q (Told seconds true date)) ≡ second s
-second_replied s q seconds date = if_both (λ (t : State). second t ≡ second s) s.presence.away _ _ refl refl
+second_replied : (s : WatchState) (q : Out) (seconds : ℕ) (date : Option ℕ) → second (replied (state_renewed (noted s q (Told seconds true date)) q (Told seconds true date)) q (Told seconds true date)) ≡ second s
+second_replied s q seconds date = if_both (λ (t : WatchState). second t ≡ second s) s.presence.away _ _ refl refl
 
 renewed_on :
-    (s new : State) (i seconds : ℕ) (date : Option ℕ) (found : Option Out) (output : Output) (g : Forest) (e : ℕ → ℕ) (last : Wake) (wakes : List Wake) (ts : List ℕ) (s0 : ℕ) → Goes s g e last ts → wakes ≡ with_asks g.entries g.margin s0 e ts → s0 ≤ second s →
-    request_out s.out i Renew ≡ found → StepRenewed s found (Told seconds true date) output new → IfSome found (IsByRule s i seconds) →
+    (s new : WatchState) (i seconds : ℕ) (date : Option ℕ) (found : Option Out) (output : Output) (g : Forest) (e : ℕ → ℕ) (last : Wake) (wakes : List Wake) (ts : List ℕ) (s0 : ℕ) → Goes s g e last ts → wakes ≡ with_asks g.entries g.margin s0 e ts → s0 ≤ second s →
+    request_out s.out i Renew ≡ found → StepRenewed s found (Told seconds true date) output new → IfSome found (GrantIsByRule s i seconds) →
     IsOn new g s0 e last wakes output.notes.round (asked_for output.command)
 renewed_on s new i seconds date None output g e last wakes ts s0 goes to_come from is step rule = absurd step
 renewed_on s new i seconds date (Some q) output g e last wakes ts s0 goes to_come from is step rule =
     let reply = Told seconds true date in
     let there = answer_goes s g e last ts goes q i seconds date is rule in
-    let on = stays_on s (replied (renewed (noted s q reply) q reply) q reply) g e last wakes ts s0 there to_come from (second_replied s q seconds date) in
+    let on = stays_on s (replied (state_renewed (noted s q reply) q reply) q reply) g e last wakes ts s0 there to_come from (second_replied s q seconds date) in
     subst (λ (x : Output). IsOn new g s0 e last wakes x.notes.round (asked_for x.command)) (sym step.0) (subst (λ x. IsOn x g s0 e last wakes None []) (sym step.1) on)
 
 step_on :
-    (s new : State) (event : Event) (output : Output) (g : Forest) (e : ℕ → ℕ) (last : Wake) (wakes : List Wake) (ts : List ℕ) (s0 : ℕ) → Goes s g e last ts → wakes ≡ with_asks g.entries g.margin s0 e ts → s0 ≤ second s →
+    (s new : WatchState) (event : Event) (output : Output) (g : Forest) (e : ℕ → ℕ) (last : Wake) (wakes : List Wake) (ts : List ℕ) (s0 : ℕ) → Goes s g e last ts → wakes ≡ with_asks g.entries g.margin s0 e ts → s0 ≤ second s →
     Step s event output new → IsCalmEvent s event → IsOn new g s0 e last wakes output.notes.round (asked_for output.command)
 step_on s new (Clock wall elapsed) output g e last wakes ts s0 goes to_come from step calm = clock_on s new wall elapsed output g e last wakes ts s0 goes to_come from step calm
 step_on s new (Renewed i (Told seconds renewable date)) output g e last wakes ts s0 goes to_come from step calm =
@@ -150,14 +150,14 @@ step_on s new Begin output g e last wakes ts s0 goes to_come from step calm = ab
 step_on s new (Known i end renewable) output g e last wakes ts s0 goes to_come from step calm = absurd calm
 
 turn_on :
-    (s new : State) (event : Event) (result : Result Output WatchFault) (g : Forest) (e : ℕ → ℕ) (last : Wake) (wakes : List Wake) (ts : List ℕ) (s0 : ℕ) → Goes s g e last ts → wakes ≡ with_asks g.entries g.margin s0 e ts → s0 ≤ second s →
+    (s new : WatchState) (event : Event) (result : Result Output WatchFault) (g : Forest) (e : ℕ → ℕ) (last : Wake) (wakes : List Wake) (ts : List ℕ) (s0 : ℕ) → Goes s g e last ts → wakes ≡ with_asks g.entries g.margin s0 e ts → s0 ≤ second s →
     Turn s event result new → IsCalmTurn s event result → IsOn new g s0 e last wakes (round_of result) (requests_of result)
 turn_on s new event (Ok output) g e last wakes ts s0 goes to_come from turn calm = step_on s new event output g e last wakes ts s0 goes to_come from turn.1 calm
 turn_on s new event (Err fault) g e last wakes ts s0 goes to_come from turn calm =
     subst (λ x. IsOn x g s0 e last wakes None []) (sym (refused_stays s new event fault turn)) (stays_on s s g e last wakes ts s0 goes to_come from refl)
 
 -- whoever has no try ends as it should
-as_it_should : (s : State) (g : Forest) (e : ℕ → ℕ) (last : Wake) (ts : List ℕ) → Goes s g e last ts → EndAs e s
+as_it_should : (s : WatchState) (g : Forest) (e : ℕ → ℕ) (last : Wake) (ts : List ℕ) → Goes s g e last ts → EndAs e s
 as_it_should s g e last ts goes i none =
     elim (goes.each i) as (λ _. ends s i ≡ e i) [
       | inl idle ↦ idle.end
@@ -165,18 +165,18 @@ as_it_should s g e last ts goes i none =
     ]
 
 goes_by :
-    (turns : List Turned) (s : State) (g : Forest) (e : ℕ → ℕ) (last : Wake) (wakes : List Wake) (ts : List ℕ) (s0 : ℕ) → Goes s g e last ts → wakes ≡ with_asks g.entries g.margin s0 e ts → s0 ≤ second s →
+    (turns : List Turned) (s : WatchState) (g : Forest) (e : ℕ → ℕ) (last : Wake) (wakes : List Wake) (ts : List ℕ) (s0 : ℕ) → Goes s g e last ts → wakes ≡ with_asks g.entries g.margin s0 e ts → s0 ≤ second s →
     History s turns → AreCalm s turns → GoBy g e last wakes turns
 goes_by [] s g e last wakes ts s0 goes to_come from h calm = tt
 goes_by (turn ∷ turns) s g e last wakes ts s0 goes to_come from h calm =
     let on = turn_on s turn.state turn.event turn.result g e last wakes ts s0 goes to_come from h.0 calm.0 in
-    let d = left_by g e (round_of turn.result) on.now in
+    let d = ends_left_by g e (round_of turn.result) on.now in
     let ends' : EndAs d turn.state = subst (λ f. EndAs f turn.state) on.so (as_it_should turn.state g on.e on.now on.ts on.goes) in
     let rest : GoBy g d on.now on.next turns = subst (λ f. GoBy g f on.now on.next turns) on.so (goes_by turns turn.state g on.e on.now on.next on.ts s0 on.goes on.to_come on.from h.1 calm.1) in
     (on.now, (on.next, (on.opens, (on.sends, (ends', rest)))))
 
 -- a watch at rest
-idle_at_rest : (s : State) → IsAtRest s → (i : ℕ) → IsIdle s (ends s) i
+idle_at_rest : (s : WatchState) → StateIsAtRest s → (i : ℕ) → IsIdle s (ends s) i
 idle_at_rest s rest i = record {
   none = rest.idle i;
   end = refl;

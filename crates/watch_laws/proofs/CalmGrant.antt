@@ -17,16 +17,16 @@ use Rattle.watch_machine.specs.declared.track.End.TheVariants.{Unknown, At, Neve
 use Rattle.watch_machine.specs.declared.track.Grant.{Grant}
 use Rattle.watch_machine.specs.declared.track.Track.{Track}
 use Rattle.watch_machine.specs.declared.track.Try.{Try}
-use Rattle.watch_machine.specs.Answers.{failing, heard, lane_freed, noted, replied, with_track, without}
+use Rattle.watch_machine.specs.Answers.{failing, heard, lane_freed, noted, replied, with_track, without_request}
 use Rattle.watch_machine.specs.Beginning.{owed}
 use Rattle.watch_machine.specs.Clocks.{sec}
 use Rattle.watch_machine.specs.Margins.{lead}
 use Rattle.watch_machine.specs.Refusal.{is_same, request_out}
-use Rattle.watch_machine.specs.Renewed.{from_try, granted, granted_from, granted_try, is_no_further, renewed, renewed_track}
-use Rattle.watch_machine.specs.State.{State, attempt_at, entry_of, no_track, track_at}
-use Rattle.watch_machine.specs.Wanted.{believed, is_fixed, is_wanted, seen}
+use Rattle.watch_machine.specs.Renewed.{from_try, granted, granted_from, granted_try, is_no_further, renewed_track, state_renewed}
+use Rattle.watch_machine.specs.State.{WatchState, attempt_at, entry_of, no_track, track_at}
+use Rattle.watch_machine.specs.Wanted.{believed, is_fixed, is_wanted, seen_entry}
 use Rattle.watch_machine.proofs.Within.{out_entry}
-use Rattle.watch_laws.specs.Calm.{IsByRule, end_granted, ends, in_plan_at, lead_at, terms}
+use Rattle.watch_laws.specs.Calm.{GrantIsByRule, end_granted, ends, in_plan_at, lead_at, terms}
 use Rattle.watch_laws.proofs.Calming.{AreAlike, IsIdle, entry_step, forest_alike, idle_on, kept_same, plan_alike}
 use Rattle.watch_laws.proofs.CalmClock.{keepable_of}
 use Rattle.watch_laws.proofs.Foreseen.{wanted_short}
@@ -63,7 +63,7 @@ no_try at end owes (Some t) ahead none =
     cond-true (nat_lt (sec at) end) (if owes then Some (owed (at + 30000)) else None) (Some (failing t Look false false)) test ∙ cond-false owes (Some (owed (at + 30000))) None none
 
 -- the track of an entry that was granted a renewal
-record IsGranted (s : State) (x : Track) (i end seconds : ℕ) : Type 0 where
+record IsGranted (s : WatchState) (x : Track) (i end seconds : ℕ) : Type 0 where
   pub end' : x.end ≡ At end
   pub renewable : x.renewable ≡ true
   pub top : x.top ≡ false
@@ -73,10 +73,10 @@ record IsGranted (s : State) (x : Track) (i end seconds : ℕ) : Type 0 where
   pub out : x.out ≡ false
 
 -- the track after a grant to the request q
-abbrev granted_track : State → Out → ℕ → Track
+abbrev granted_track : WatchState → Out → ℕ → Track
 granted_track s q seconds = granted s.forest.margin (entry_of s q.entry).step s.clocks.at q.since seconds true (track_at s q.entry)
 
-is_granted : (s : State) (e : ℕ → ℕ) (last : Wake) (ts : List ℕ) (q : Out) (seconds : ℕ) → IsTried s e last ts q.entry → end_granted s q seconds ≡ e q.entry → IsGranted s (granted_track s q seconds) q.entry (e q.entry) seconds
+is_granted : (s : WatchState) (e : ℕ → ℕ) (last : Wake) (ts : List ℕ) (q : Out) (seconds : ℕ) → IsTried s e last ts q.entry → end_granted s q seconds ≡ e q.entry → IsGranted s (granted_track s q seconds) q.entry (e q.entry) seconds
 unfolding granted_from
 is_granted s e last ts q seconds tried is =
     let i = q.entry in
@@ -104,15 +104,15 @@ not_fixed x renewable top = by x.end where
 -- ---- the state after it
 
 -- the broker is there, and all hear of it
-replied_there : (s : State) (q : Out) (seconds : ℕ) (date : Option ℕ) → s.presence.away ≡ false → replied s q (Told seconds true date) ≡ record s { out = map heard (without q.entry s.out) }
+replied_there : (s : WatchState) (q : Out) (seconds : ℕ) (date : Option ℕ) → s.presence.away ≡ false → replied s q (Told seconds true date) ≡ record s { out = map heard (without_request q.entry s.out) }
 replied_there s q seconds date there =
     let free = lane_freed s q in
-    let all : State = record free { out = map heard free.out } in
+    let all : WatchState = record free { out = map heard free.out } in
     cond-false s.presence.away _ all there
 
 -- those whom nobody has answered now
-left_out : (xs : List Out) (i j : ℕ) → list_any (λ (r : Out). r.entry == i) (map heard (without j xs)) ≡ true → (i ≢ j) × (list_any (λ (r : Out). r.entry == i) xs ≡ true)
-unfolding without
+left_out : (xs : List Out) (i j : ℕ) → list_any (λ (r : Out). r.entry == i) (map heard (without_request j xs)) ≡ true → (i ≢ j) × (list_any (λ (r : Out). r.entry == i) xs ≡ true)
+unfolding without_request
 left_out [] i j h = absurd cc
 left_out (x ∷ xs) i j h =
     let kept = filter (λ (r : Out). not (r.entry == j)) xs in
@@ -130,17 +130,17 @@ left_out (x ∷ xs) i j h =
       later true b h = refl
       later false b h = h
 
-module _ (s : State) (g : Forest) (e : ℕ → ℕ) (last : Wake) (ts : List ℕ) (goes : Goes s g e last ts) (q : Out) (seconds : ℕ) (tried : IsTried s e last ts q.entry) (rule : IsByRule s q.entry seconds q) (answers : List Answer) where
+module _ (s : WatchState) (g : Forest) (e : ℕ → ℕ) (last : Wake) (ts : List ℕ) (goes : Goes s g e last ts) (q : Out) (seconds : ℕ) (tried : IsTried s e last ts q.entry) (rule : GrantIsByRule s q.entry seconds q) (answers : List Answer) where
   abbrev j : ℕ
   j = q.entry
 
   abbrev x : Track
   x = granted_track s q seconds
 
-  abbrev pub granted_state : State
-  granted_state = record (with_track s j x) { out = map heard (without j s.out); answers = answers }
+  abbrev pub granted_state : WatchState
+  granted_state = record (with_track s j x) { out = map heard (without_request j s.out); answers = answers }
 
-  abbrev new : State
+  abbrev new : WatchState
   new = granted_state
 
   granted_is : IsGranted s x j (e j) seconds
@@ -181,7 +181,7 @@ module _ (s : State) (g : Forest) (e : ℕ → ℕ) (last : Wake) (ts : List ℕ
   new_lead = ap (λ (y : Track). lead (entry_of s j).step y.grant) own ∙ granted_is.seconds'
 
   step_is : (terms s j).step ≡ (entry_of s j).step
-  unfolding terms seen
+  unfolding terms seen_entry
   step_is = refl
 
   none : attempt_at new j ≡ None
@@ -240,7 +240,7 @@ module _ (s : State) (g : Forest) (e : ℕ → ℕ) (last : Wake) (ts : List ℕ
       ]
 
   pub granted_goes : Goes new g e last ts
-  unfolding without
+  unfolding without_request
   granted_goes = record {
     forest = goes.forest;
     count = length-set s.tracks j x ∙ goes.count;
@@ -270,16 +270,16 @@ asked_any out i q is = found_any (λ (r : Out). r.entry == i && is_same r.operat
 
 -- the state after an answer by the rule
 pub answer_goes :
-    (s : State) (g : Forest) (e : ℕ → ℕ) (last : Wake) (ts : List ℕ) → Goes s g e last ts → (q : Out) (i seconds : ℕ) (date : Option ℕ) → request_out s.out i Renew ≡ Some q →
-    IsByRule s i seconds q → Goes (replied (renewed (noted s q (Told seconds true date)) q (Told seconds true date)) q (Told seconds true date)) g e last ts
+    (s : WatchState) (g : Forest) (e : ℕ → ℕ) (last : Wake) (ts : List ℕ) → Goes s g e last ts → (q : Out) (i seconds : ℕ) (date : Option ℕ) → request_out s.out i Renew ≡ Some q →
+    GrantIsByRule s i seconds q → Goes (replied (state_renewed (noted s q (Told seconds true date)) q (Told seconds true date)) q (Told seconds true date)) g e last ts
 unfolding renewed_track
 answer_goes s g e last ts goes q i seconds date is rule =
     let own : q.entry ≡ i = out_entry s.out i Renew q is in
     let named : list_any (λ (r : Out). r.entry == q.entry) s.out ≡ true = subst (λ k. list_any (λ (r : Out). r.entry == k) s.out ≡ true) (sym own) (asked_any s.out i q is) in
-    let rule' = subst (λ k. IsByRule s k seconds q) (sym own) rule in
+    let rule' = subst (λ k. GrantIsByRule s k seconds q) (sym own) rule in
     let tried : IsTried s e last ts q.entry = elim (goes.each q.entry) as (λ _. IsTried s e last ts q.entry) [
       | inl idle ↦ absurd (goes.waits q.entry named idle.none)
       | inr tried' ↦ tried'
     ] in
-    let after = renewed (noted s q (Told seconds true date)) q (Told seconds true date) in
+    let after = state_renewed (noted s q (Told seconds true date)) q (Told seconds true date) in
     subst (λ n. Goes n g e last ts) (sym (replied_there after q seconds date goes.there)) (granted_goes s g e last ts goes q seconds tried rule' after.answers)

@@ -1,7 +1,7 @@
 -- Calming: what is believed but for ends, and what is known of an entry that nobody asks, stays while time passes and others are answered.
 -- For the law of calm.
 use Rattle.std.proofs.Common.{◌≡◌, ◌∙◌, ℕ, ◌-◌, ◌*◌, ◌/◌, ◌<◌, ◌≤◌, Bool, true, false, cond, not, ◌&&◌, ◌==◌, if◌then◌else◌, List, [], ◌∷◌, Option, None, filter, length, map, max, min, option_map, refl, sym, ap, ap₂, arith, inl, inr}
-use Rattle.std.proofs.lemmas.Bool.{cases_Bool, cases_lt}
+use Rattle.std.proofs.lemmas.Bool.{cases_Bool}
 use Rattle.std.proofs.Math.Path.{fun_ext}
 use Rattle.std.specs.List.{range_with_len}
 use Rattle.keep_moment.specs.declared.moment.TheConstants.{LAST}
@@ -11,7 +11,6 @@ use Rattle.keep_tree.specs.Carried.{carried}
 use Rattle.keep_tree.specs.Forest.{Forest, entry_at}
 use Rattle.keep_tree.specs.Over.{chain}
 use Rattle.keep_tree.specs.Push.{IsForest}
-use Rattle.keep_tree.proofs.Carrying.{carried_at_least, carried_is_of}
 use Rattle.keep_rule.specs.Unkeepable.{AllKeepable}
 use Rattle.watch_machine.specs.declared.clocks.BrokerOffset.{BrokerOffset}
 use Rattle.watch_machine.specs.declared.clocks.WallOffset.{WallOffset}
@@ -20,15 +19,16 @@ use Rattle.watch_machine.specs.declared.track.Track.{Track}
 use Rattle.watch_machine.specs.Beginning.{is_pressed, is_pressed_try}
 use Rattle.watch_machine.specs.Clocks.{of_wall, to_here}
 use Rattle.watch_machine.specs.Margins.{is_in_plan, lead, own_margin}
-use Rattle.watch_machine.specs.State.{State, attempt_at, entry_of, second, track_at}
-use Rattle.watch_machine.specs.Wanted.{believed, is_fixed, is_wanted, least, least_over, limit, need_here, seen, wanted_need}
+use Rattle.watch_machine.specs.State.{WatchState, attempt_at, entry_of, second, track_at}
+use Rattle.watch_machine.specs.Wanted.{believed, is_fixed, is_wanted, least, least_over, limit, need_here, seen_entry, wanted_need}
+use Rattle.watch_machine.proofs.Carries.{carried_less, carried_same}
 use Rattle.watch_laws.specs.Calm.{believed_forest, ends, in_plan_at, lead_at, terms}
 use Rattle.watch_laws.proofs.Believed.{carried_believed}
 use Rattle.watch_laws.proofs.Foreseen.{IsLed, led_by, wanted_short}
 use Rattle.watch_laws.proofs.Opener.{bearing}
 
 -- two states in which as much is believed of each entry, but for the ends of those that may be led further
-pub record AreAlike (new old : State) : Type 0 where
+pub record AreAlike (new old : WatchState) : Type 0 where
   pub forest : new.forest ≡ old.forest
   pub broker : new.clocks.broker ≡ old.clocks.broker
   pub wall : new.clocks.wall ≡ old.clocks.wall
@@ -55,10 +55,10 @@ least_same f h b c same held (x ∷ xs) m =
           ∙ sym (ap (λ d. least m (map c (cond d (x ∷ filter h xs) (filter h xs)))) no')
     ]
 
-limit_at : State → ℕ → ℕ
+limit_at : WatchState → ℕ → ℕ
 limit_at s i = limit s.forest.entries s.tracks i
 
-limit_alike : (new old : State) → AreAlike new old → (i : ℕ) → limit_at new i ≡ limit_at old i
+limit_alike : (new old : WatchState) → AreAlike new old → (i : ℕ) → limit_at new i ≡ limit_at old i
 unfolding least_over limit_at
 limit_alike new old a i =
     least_same (λ k. is_fixed (track_at new k)) (λ k. is_fixed (track_at old k)) (λ k. believed (track_at new k).end) (λ k. believed (track_at old k).end) a.fixed a.held (chain new.forest.entries i) END_MAX
@@ -73,11 +73,11 @@ term_of e broker wall most led = record e {
   need = min (if e.need == 0 then 0 else min LAST (max (to_here broker e.need) (to_here (of_wall wall) e.need))) most;
 }
 
-terms_are : (s : State) (i : ℕ) → terms s i ≡ term_of (entry_of s i) s.clocks.broker s.clocks.wall (limit_at s i) ((track_at s i).renewable && not (track_at s i).top)
-unfolding terms seen need_here term_of limit_at
+terms_are : (s : WatchState) (i : ℕ) → terms s i ≡ term_of (entry_of s i) s.clocks.broker s.clocks.wall (limit_at s i) ((track_at s i).renewable && not (track_at s i).top)
+unfolding terms seen_entry need_here term_of limit_at
 terms_are s i = refl
 
-pub terms_alike : (new old : State) → AreAlike new old → (i : ℕ) → terms new i ≡ terms old i
+pub terms_alike : (new old : WatchState) → AreAlike new old → (i : ℕ) → terms new i ≡ terms old i
 terms_alike new old a i =
     let e : entry_of new i ≡ entry_of old i = ap (λ (g : Forest). entry_at g.entries i) a.forest in
     let l = limit_alike new old a i in
@@ -88,24 +88,14 @@ terms_alike new old a i =
     ∙ ap₂ (λ n b. term_of (entry_of old i) old.clocks.broker old.clocks.wall n b) l led
     ∙ sym (terms_are old i)
 
-pub forest_alike : (new old : State) → AreAlike new old → believed_forest new ≡ believed_forest old
+pub forest_alike : (new old : WatchState) → AreAlike new old → believed_forest new ≡ believed_forest old
 unfolding believed_forest
 forest_alike new old a =
     ap (λ (f : ℕ → Entry). record { entries = map f (range_with_len 0 (length new.forest.entries)); margin = new.forest.margin }) (fun_ext (terms_alike new old a))
     ∙ ap (λ (g : Forest). record { entries = map (terms old) (range_with_len 0 (length g.entries)); margin = g.margin }) a.forest
 
 -- while time passes, no more is carried
-carried_less : (es : List Entry) (s t i : ℕ) → s ≤ t → carried es t i ≤ carried es s i
-carried_less es s t i later =
-    elim (cases_lt (carried es s i) (carried es t i)) [
-      | inl more ↦
-          let f = carried_is_of es t i (carried es s i) more in
-          let l : (entry_at es f.0).need ≤ carried es s i = carried_at_least es s i f.0 f.1 (omega (arith, f.2)) in
-          absurd (omega (arith, f.3))
-      | inr no_more ↦ no_more
-    ]
-
-pub need_less : (new old : State) → IsForest new.forest → IsForest old.forest → AreAlike new old → second old ≤ second new → (i : ℕ) → wanted_need new i ≤ wanted_need old i
+pub need_less : (new old : WatchState) → IsForest new.forest → IsForest old.forest → AreAlike new old → second old ≤ second new → (i : ℕ) → wanted_need new i ≤ wanted_need old i
 need_less new old forest forest' a later i =
     let n = carried_believed new forest i in
     let o = carried_believed old forest' i in
@@ -114,17 +104,8 @@ need_less new old forest forest' a later i =
     omega arith
 
 -- and as much, as long as the need is ahead
-carried_same : (es : List Entry) (s t i : ℕ) → s ≤ t → t < carried es s i → carried es t i ≡ carried es s i
-carried_same es s t i later ahead =
-    let c = carried es s i in
-    let less = carried_less es s t i later in
-    let f = carried_is_of es s i (c - 1) (omega arith) in
-    let most = f.3 in
-    let l : (entry_at es f.0).need ≤ carried es t i = carried_at_least es t i f.0 f.1 (omega arith) in
-    omega arith
-
 pub need_kept :
-    (new old : State) → IsForest new.forest → IsForest old.forest → AreAlike new old → second old ≤ second new → (i : ℕ) → second new < wanted_need old i →
+    (new old : WatchState) → IsForest new.forest → IsForest old.forest → AreAlike new old → second old ≤ second new → (i : ℕ) → second new < wanted_need old i →
     wanted_need new i ≡ wanted_need old i
 need_kept new old forest forest' a later i ahead =
     let n = carried_believed new forest i in
@@ -133,22 +114,22 @@ need_kept new old forest forest' a later i ahead =
     let kept = carried_same (believed_forest old).entries (second old) (second new) i later (omega arith) in
     omega arith
 
-pub lead_alike : (new old : State) → new.forest ≡ old.forest → (i : ℕ) → (track_at new i).grant ≡ (track_at old i).grant → lead_at new i ≡ lead_at old i
+pub lead_alike : (new old : WatchState) → new.forest ≡ old.forest → (i : ℕ) → (track_at new i).grant ≡ (track_at old i).grant → lead_at new i ≡ lead_at old i
 lead_alike new old forest i same = ap₂ (λ (g : Forest) (o : Option Grant). lead (entry_at g.entries i).step o) forest same
 
-pub entry_step : (new old : State) → new.forest ≡ old.forest → (i : ℕ) → (entry_of new i).step ≡ (entry_of old i).step
+pub entry_step : (new old : WatchState) → new.forest ≡ old.forest → (i : ℕ) → (entry_of new i).step ≡ (entry_of old i).step
 entry_step new old forest i = ap (λ (g : Forest). (entry_at g.entries i).step) forest
 
-pub plan_alike : (new old : State) → new.forest ≡ old.forest → (i : ℕ) → lead_at new i ≡ lead_at old i → in_plan_at new i ≡ in_plan_at old i
+pub plan_alike : (new old : WatchState) → new.forest ≡ old.forest → (i : ℕ) → lead_at new i ≡ lead_at old i → in_plan_at new i ≡ in_plan_at old i
 unfolding is_in_plan own_margin
 plan_alike new old forest i same = ap₂ (λ (g : Forest) (n : ℕ). min g.margin (3 * n / 4) == g.margin) forest same
 
-pub ends_alike : (new old : State) (i : ℕ) → bearing (track_at new i) ≡ bearing (track_at old i) → ends new i ≡ ends old i
+pub ends_alike : (new old : WatchState) (i : ℕ) → bearing (track_at new i) ≡ bearing (track_at old i) → ends new i ≡ ends old i
 unfolding ends
 ends_alike new old i same = ap (λ (x : Track). believed x.end) same
 
 -- an entry of which nothing is asked: it ends as it should, and a renewal leads it as far as its step
-pub record IsIdle (s : State) (e : ℕ → ℕ) (i : ℕ) : Type 0 where
+pub record IsIdle (s : WatchState) (e : ℕ → ℕ) (i : ℕ) : Type 0 where
   pub none : attempt_at s i ≡ None
   pub end : ends s i ≡ e i
   pub owes : (track_at s i).owes ≡ false
@@ -161,7 +142,7 @@ led_parts true false h = (refl, refl)
 led_parts true true h = absurd cc
 led_parts false top h = absurd cc
 
-pub unpressed : (s : State) (i : ℕ) → attempt_at s i ≡ None → is_pressed (track_at s i) ≡ false
+pub unpressed : (s : WatchState) (i : ℕ) → attempt_at s i ≡ None → is_pressed (track_at s i) ≡ false
 unpressed s i none = ap is_pressed_try none
 
 -- what is seen of a track and what asks it stay
@@ -175,7 +156,7 @@ kept_same y x same = record { bears = ap bearing same; attempt = ap (λ (z : Tra
 
 -- so it stays while time passes and while others are answered, as long as there is a plan for the ends as they should be
 pub idle_on :
-    (new old : State) (e : ℕ → ℕ) → IsForest new.forest → IsForest old.forest → AreAlike new old → second old ≤ second new → AllKeepable (believed_forest old) (second old) e →
+    (new old : WatchState) (e : ℕ → ℕ) → IsForest new.forest → IsForest old.forest → AreAlike new old → second old ≤ second new → AllKeepable (believed_forest old) (second old) e →
     (i : ℕ) → IsKept (track_at new i) (track_at old i) → (track_at new i).out ≡ false → IsIdle old e i → IsIdle new e i
 idle_on new old e forest forest' a later keepable i same out idle =
     let less = need_less new old forest forest' a later i in

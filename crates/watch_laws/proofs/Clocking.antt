@@ -14,22 +14,22 @@ use Rattle.watch_machine.specs.declared.lanes.Answer.{Answer}
 use Rattle.watch_machine.specs.declared.notes.Why.{Why}
 use Rattle.watch_machine.specs.declared.notes.Why.TheVariants.{Start}
 use Rattle.watch_machine.specs.Beginning.{beginning, begun}
-use Rattle.watch_machine.specs.Clocks.{dated_by, first_clocks, is_ahead, is_behind, is_stepped, moment, reading, walled}
+use Rattle.watch_machine.specs.Clocks.{dated_by, first_clocks, is_ahead, is_behind, is_stepped, moment_at_reading, reading, walled}
 use Rattle.watch_machine.specs.History.{Turn}
 use Rattle.watch_machine.specs.Sending.{sent}
 use Rattle.watch_machine.specs.Settling.{at_reading, clocks_after, date_of, dated, dated_by_all, dated_on, read, settled, timed}
-use Rattle.watch_machine.specs.State.{State}
+use Rattle.watch_machine.specs.State.{WatchState}
 use Rattle.watch_machine.specs.Step.{StepCommand, readied, why}
 use Rattle.watch_machine.proofs.Cases.{if_both}
 
 -- what is refused leaves the watch as it was
-pub refused_stays : (old new : State) (event : Event) (fault : WatchFault) → Turn old event (Err fault) new → new ≡ old
+pub refused_stays : (old new : WatchState) (event : Event) (fault : WatchFault) → Turn old event (Err fault) new → new ≡ old
 refused_stays old new event NotAsked h = h.1
 refused_stays old new event BadIndex h = h.1
 refused_stays old new event OutOfMemory h = h.1.1
 
 -- what goes out at a clock
-pub sent_by : (mid new : State) (command : Command) → StepCommand mid command new → (requests : List Request) × (new ≡ sent mid requests)
+pub sent_by : (mid new : WatchState) (command : Command) → StepCommand mid command new → (requests : List Request) × (new ≡ sent mid requests)
 sent_by mid new (Go requests until) h = (requests, h.0.1)
 sent_by mid new Taken h = absurd h
 
@@ -52,8 +52,8 @@ unfolding walled
 walled_at c wall = if_both (λ (x : Clocks). x.at ≡ c.at) (is_stepped c wall) _ c refl refl
 
 -- this clock does not fall
-pub clock_rises : (s : State) (wall elapsed : ℕ) → is_none s.begun ≡ false → s.clocks.at ≤ (timed s wall elapsed).clocks.at
-unfolding clocks_after moment
+pub clock_rises : (s : WatchState) (wall elapsed : ℕ) → is_none s.begun ≡ false → s.clocks.at ≤ (timed s wall elapsed).clocks.at
+unfolding clocks_after moment_at_reading
 clock_rises s wall elapsed begun' =
     let later = le-max_left s.clocks.at (reading (elapsed + s.clocks.phase)) in
     let is =
@@ -63,27 +63,27 @@ clock_rises s wall elapsed begun' =
     omega (arith, is, m)
 
 -- nothing after the first step moves the clocks
-begun_clocks : (s : State) (w : Option Why) → (begun s w).clocks ≡ s.clocks
+begun_clocks : (s : WatchState) (w : Option Why) → (begun s w).clocks ≡ s.clocks
 begun_clocks s None = refl
 begun_clocks s (Some w) = refl
 
-pub readied_clocks : (s : State) (wall elapsed : ℕ) → (readied s wall elapsed).clocks ≡ (timed s wall elapsed).clocks
+pub readied_clocks : (s : WatchState) (wall elapsed : ℕ) → (readied s wall elapsed).clocks ≡ (timed s wall elapsed).clocks
 unfolding readied
 readied_clocks s wall elapsed = begun_clocks (settled (timed s wall elapsed)) (why s wall elapsed)
 
-begun_width : (s : State) (w : Option Why) → (begun s w).width ≡ s.width
+begun_width : (s : WatchState) (w : Option Why) → (begun s w).width ≡ s.width
 begun_width s None = refl
 begun_width s (Some w) = refl
 
-pub readied_width : (s : State) (wall elapsed : ℕ) → (readied s wall elapsed).width ≡ s.width
+pub readied_width : (s : WatchState) (wall elapsed : ℕ) → (readied s wall elapsed).width ≡ s.width
 unfolding readied
 readied_width s wall elapsed = begun_width (settled (timed s wall elapsed)) (why s wall elapsed)
 
 -- a beginning has been after a clock
-pub begun_some : (s : State) (wall elapsed : ℕ) → is_none (readied s wall elapsed).begun ≡ false
+pub begun_some : (s : WatchState) (wall elapsed : ℕ) → is_none (readied s wall elapsed).begun ≡ false
 unfolding readied why beginning
 begun_some s wall elapsed = by (settled (timed s wall elapsed)) (why s wall elapsed) (λ none. cond-true (is_none s.begun) (Some Start) _ none) where
-  by : (t : State) (w : Option Why) → (is_none t.begun ≡ true → w ≡ Some Start) → is_none (begun t w).begun ≡ false
+  by : (t : WatchState) (w : Option Why) → (is_none t.begun ≡ true → w ≡ Some Start) → is_none (begun t w).begun ≡ false
   by t (Some w) first = refl
   by t None first =
       elim (cases_Bool (is_none t.begun)) [

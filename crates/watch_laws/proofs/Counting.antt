@@ -5,9 +5,9 @@ use Rattle.std.proofs.lemmas.List.Elements.{All-cons, All-head, All-nil, All-tai
 use Rattle.std.specs.List.{list_any}
 use Rattle.watch_machine.specs.declared.lanes.Out.{Out}
 use Rattle.watch_machine.specs.Wanted.{least}
+use Rattle.watch_machine.proofs.Leasts.{least_start}
 use Rattle.watch_laws.specs.Outage.{how_many, one_if}
 use Rattle.watch_laws.proofs.Alone.{lanes_of}
-use Rattle.watch_laws.proofs.Minding.{least_start}
 use Rattle.watch_laws.proofs.Spacing.{same_index}
 
 -- sums of what each index adds

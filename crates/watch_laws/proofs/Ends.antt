@@ -27,23 +27,23 @@ use Rattle.watch_machine.specs.declared.lanes.Out.{Out}
 use Rattle.watch_machine.specs.declared.track.End.{End}
 use Rattle.watch_machine.specs.declared.track.End.TheVariants.{Unknown, At, Never}
 use Rattle.watch_machine.specs.declared.track.Track.{Track}
-use Rattle.watch_machine.specs.Answers.{noted, replied, with_track, without}
-use Rattle.watch_machine.specs.Clocks.{dated_by, first_clocks, is_ahead, is_behind, is_stepped, moment, ms, reading, sec, walled}
+use Rattle.watch_machine.specs.Answers.{noted, replied, with_track, without_request}
+use Rattle.watch_machine.specs.Clocks.{dated_by, first_clocks, is_ahead, is_behind, is_stepped, moment_at_reading, ms, reading, sec, walled}
 use Rattle.watch_machine.specs.History.{Turn}
 use Rattle.watch_machine.specs.Looked.{is_called_for, looked, told_state, told_track, told_try, untold_track}
 use Rattle.watch_machine.specs.Press.{pressed}
 use Rattle.watch_machine.specs.Refusal.{request_out}
-use Rattle.watch_machine.specs.Renewed.{from_try, granted_from, renewed, renewed_track, track_renewed, ungranted_track}
-use Rattle.watch_machine.specs.Round.{asked_by as round_of}
+use Rattle.watch_machine.specs.Renewed.{from_try, granted_from, renewed_track, state_renewed, track_renewed, ungranted_track}
+use Rattle.watch_machine.specs.Round.{asked_by_round as round_of}
 use Rattle.watch_machine.specs.Sending.{out_at, sent, sent_in, sent_track}
 use Rattle.watch_machine.specs.Settling.{at_reading, clocks_after, date_of, dated, dated_by_all, dated_on, read}
-use Rattle.watch_machine.specs.State.{State, entry_of, fresh_track, no_track, opened, track_at, track_in}
+use Rattle.watch_machine.specs.State.{WatchState, entry_of, fresh_track, no_track, opened, track_at, track_in}
 use Rattle.watch_machine.specs.Step.{Step, StepClock, StepCommand, StepLooked, StepRenewed, known, readied}
 use Rattle.watch_machine.proofs.Cases.{if_both, not_both, of_value}
 use Rattle.watch_machine.proofs.Within.{out_all, out_entry}
-use Rattle.watch_laws.specs.Ends.{AllNoLater, AreLivedFrom, IsHonest, IsNoLater, IsTrueEvent, IsTrueReply, Lived, NeverPastLaw, Origin, World, asked_after, is_told, never, tells, told_after}
-use Rattle.watch_laws.specs.Absence.{is_taken}
-use Rattle.watch_laws.specs.Load.{asked_by, requests_of}
+use Rattle.watch_laws.specs.Ends.{AllNoLater, AreLivedFrom, IsHonest, IsNoLater, IsTrueEvent, IsTrueReply, Lived, NeverPastLaw, Origin, TimedWorld, asked_after, no_origin, tells, tells_an_end, told_after}
+use Rattle.watch_laws.specs.Absence.{is_event_taken}
+use Rattle.watch_laws.specs.Load.{requests_asked_by, requests_of}
 use Rattle.watch_laws.proofs.Alone.{IsAlone, flag, turn_alone}
 use Rattle.watch_laws.proofs.Answering.{looked_leaves, renewed_leaves, rest_of}
 use Rattle.watch_laws.proofs.Basing.{BaseBy, Passes, Timely, back_passes, base_later, from_try_by, granted_base, later_timely, mid_passes, none_timely, readied_passes, same_passes, told_base, ungranted_base, untold_base}
@@ -53,12 +53,12 @@ use Rattle.watch_laws.proofs.Spacing.{looked_other, looked_out, not_of, passed_o
 use Rattle.watch_laws.proofs.Tracking.{back_kept, each_holds, set_holds, set_kept}
 
 -- an end, if it is one, comes no later than the real one
-abbrev EndBy : World → ℕ → ℕ → Origin → End → Type 0
+abbrev EndBy : TimedWorld → ℕ → ℕ → Origin → End → Type 0
 EndBy w phase real o Unknown = Unit {0}
 EndBy w phase real o (At end) = IsNoLater w phase end real o
 EndBy w phase real o Never = Unit {0}
 
-later_end : (w : World) → IsHonest w → (phase more real far : ℕ) (o : Origin) (e : End) → phase ≤ more → real ≤ far → EndBy w phase real o e → EndBy w more far o e
+later_end : (w : TimedWorld) → IsHonest w → (phase more real far : ℕ) (o : Origin) (e : End) → phase ≤ more → real ≤ far → EndBy w phase real o e → EndBy w more far o e
 later_end w honest phase more real far o Unknown p r h = tt
 later_end w honest phase more real far o Never p r h = tt
 later_end w honest phase more real far o (At end) p r h =
@@ -74,7 +74,7 @@ SinceBy i n q = q.entry ≡ i → q.since ≤ n
 
 -- what holds after a turn that was lived, where the clocks are c: last is the moment of that turn, asked that of the clock at which the
 -- last request of i went out, and its end was told so
-record StandsBy (w : World) (i last asked : ℕ) (told : Origin) (real : ℕ) (c : Clocks) (s : State) : Type 0 where
+record StandsBy (w : TimedWorld) (i last asked : ℕ) (told : Origin) (real : ℕ) (c : Clocks) (s : WatchState) : Type 0 where
   alone : IsAlone s
   past : asked ≤ last
   at : c.at ≤ w.reading last + c.phase
@@ -83,11 +83,11 @@ record StandsBy (w : World) (i last asked : ℕ) (told : Origin) (real : ℕ) (c
   end : EndBy w c.phase real told (track_at s i).end
   timely : Timely c.at (w.reading asked + c.phase) (track_at s i)
 
-abbrev Stands : World → ℕ → ℕ → ℕ → Origin → ℕ → State → Type 0
+abbrev Stands : TimedWorld → ℕ → ℕ → ℕ → Origin → ℕ → WatchState → Type 0
 Stands w i last asked told real s = StandsBy w i last asked told real s.clocks s
 
 -- time passes, and the real end may come to be later
-later_stands : (w : World) → IsHonest w → (i last next asked : ℕ) (told : Origin) (real far : ℕ) (s : State) → last ≤ next → real ≤ far → Stands w i last asked told real s → Stands w i next asked told far s
+later_stands : (w : TimedWorld) → IsHonest w → (i last next asked : ℕ) (told : Origin) (real far : ℕ) (s : WatchState) → last ≤ next → real ≤ far → Stands w i last asked told real s → Stands w i next asked told far s
 later_stands w honest i last next asked told real far s le further h =
     let rises = honest.rises last next le in
     let at = h.at in
@@ -133,7 +133,7 @@ record IsOn (r : ℕ) (c d : Clocks) : Type 0 where
   phase : c.phase ≤ d.phase
 
 moved : (c : Clocks) (wall elapsed r : ℕ) (answers : List Answer) → c.at ≤ r + c.phase → elapsed ≤ r → IsOn r c (dated_by_all (read c wall elapsed) answers)
-unfolding moment
+unfolding moment_at_reading
 moved c wall elapsed r answers at read' =
     let all = all_moment (read c wall elapsed) answers in
     let one = walled_moment (at_reading c elapsed) (reading wall) in
@@ -145,7 +145,7 @@ first_on : (c : Clocks) (wall elapsed r : ℕ) → c.at ≡ 0 → c.phase ≡ 0 
 unfolding first_clocks
 first_on c wall elapsed r at phase read' = record { at = omega (arith, read'); since = omega (arith, at); phase = omega (arith, phase) }
 
-clocks_on : (w : World) (i now asked : ℕ) (told : Origin) (real : ℕ) (s : State) (wall elapsed : ℕ) → Stands w i now asked told real s → elapsed ≤ w.reading now → IsOn (w.reading now) s.clocks (clocks_after s wall elapsed)
+clocks_on : (w : TimedWorld) (i now asked : ℕ) (told : Origin) (real : ℕ) (s : WatchState) (wall elapsed : ℕ) → Stands w i now asked told real s → elapsed ≤ w.reading now → IsOn (w.reading now) s.clocks (clocks_after s wall elapsed)
 unfolding clocks_after
 clocks_on w i now asked told real s wall elapsed h read' =
     let first = first_clocks wall elapsed in
@@ -172,7 +172,7 @@ sent_end : (at i : ℕ) (requests : List Request) (x : Track) → (sent_in at re
 sent_end at i requests x = if_both (λ (y : Track). y.end ≡ x.end) (list_any (λ (r : Request). r.entry == i) requests) (sent_track at x) x refl refl
 
 -- before it does
-record Ready (w : World) (i now asked : ℕ) (told : Origin) (real : ℕ) (c : Clocks) (s : State) : Type 0 where
+record Ready (w : TimedWorld) (i now asked : ℕ) (told : Origin) (real : ℕ) (c : Clocks) (s : WatchState) : Type 0 where
   past : asked ≤ now
   at : c.at ≤ w.reading now + c.phase
   clocks : s.clocks ≡ c
@@ -182,7 +182,7 @@ record Ready (w : World) (i now asked : ℕ) (told : Origin) (real : ℕ) (c : C
   timely : Timely c.at (w.reading asked + c.phase) (track_at s i)
 
 goes_stands :
-    (w : World) → IsHonest w → (i now asked : ℕ) (told : Origin) (real : ℕ) (c : Clocks) (s : State) (requests : List Request) → Ready w i now asked told real c s → IsAlone (sent s requests) →
+    (w : TimedWorld) → IsHonest w → (i now asked : ℕ) (told : Origin) (real : ℕ) (c : Clocks) (s : WatchState) (requests : List Request) → Ready w i now asked told real c s → IsAlone (sent s requests) →
     StandsBy w i now (if list_any (λ (r : Request). r.entry == i) requests then now else asked) told real c (sent s requests)
 goes_stands w honest i now asked told real c s requests h alone =
     let named = list_any (λ (r : Request). r.entry == i) requests in
@@ -224,20 +224,20 @@ goes_stands w honest i now asked told real c s requests h alone =
     ]
 
 commanded :
-    (w : World) → IsHonest w → (i now asked : ℕ) (told : Origin) (real : ℕ) (c : Clocks) (mid new : State) (command : Command) → Ready w i now asked told real c mid → IsAlone new →
-    StepCommand mid command new → StandsBy w i now (if list_any (λ (r : Request). r.entry == i) (asked_by command) then now else asked) told real c new
+    (w : TimedWorld) → IsHonest w → (i now asked : ℕ) (told : Origin) (real : ℕ) (c : Clocks) (mid new : WatchState) (command : Command) → Ready w i now asked told real c mid → IsAlone new →
+    StepCommand mid command new → StandsBy w i now (if list_any (λ (r : Request). r.entry == i) (requests_asked_by command) then now else asked) told real c new
 commanded w honest i now asked told real c mid new (Go requests until) h alone step =
     subst (StandsBy w i now (if list_any (λ (r : Request). r.entry == i) requests then now else asked) told real c) (sym step.0.1)
     (goes_stands w honest i now asked told real c mid requests h (subst IsAlone step.0.1 alone))
 commanded w honest i now asked told real c mid new Taken h alone step = absurd step
 
 -- a clock
-same_clocks : (mid new : State) (command : Command) → StepCommand mid command new → new.clocks ≡ mid.clocks
-same_clocks mid new (Go requests until) step = ap (λ (x : State). x.clocks) step.0.1
+same_clocks : (mid new : WatchState) (command : Command) → StepCommand mid command new → new.clocks ≡ mid.clocks
+same_clocks mid new (Go requests until) step = ap (λ (x : WatchState). x.clocks) step.0.1
 same_clocks mid new Taken step = absurd step
 
 mid_is_ready :
-    (w : World) → IsHonest w → (i now asked : ℕ) (told : Origin) (real : ℕ) (s : State) (wall elapsed : ℕ) (round : List ℕ) → Stands w i now asked told real s → elapsed ≤ w.reading now →
+    (w : TimedWorld) → IsHonest w → (i now asked : ℕ) (told : Origin) (real : ℕ) (s : WatchState) (wall elapsed : ℕ) (round : List ℕ) → Stands w i now asked told real s → elapsed ≤ w.reading now →
     Ready w i now asked told real (clocks_after s wall elapsed) (pressed (readied s wall elapsed) round)
 mid_is_ready w honest i now asked told real s wall elapsed round h read' =
     let c = clocks_after s wall elapsed in
@@ -261,44 +261,44 @@ mid_is_ready w honest i now asked told real s wall elapsed round h read' =
     }
 
 clock_stands :
-    (w : World) → IsHonest w → (i now asked : ℕ) (told : Origin) (real : ℕ) (old new : State) (wall elapsed : ℕ) (output : Output) → Stands w i now asked told real old → elapsed ≤ w.reading now →
-    StepClock old wall elapsed output new → IsAlone new → Stands w i now (if list_any (λ (r : Request). r.entry == i) (asked_by output.command) then now else asked) told real new
+    (w : TimedWorld) → IsHonest w → (i now asked : ℕ) (told : Origin) (real : ℕ) (old new : WatchState) (wall elapsed : ℕ) (output : Output) → Stands w i now asked told real old → elapsed ≤ w.reading now →
+    StepClock old wall elapsed output new → IsAlone new → Stands w i now (if list_any (λ (r : Request). r.entry == i) (requests_asked_by output.command) then now else asked) told real new
 clock_stands w honest i now asked told real old new wall elapsed output h read' step alone =
     let mid = pressed (readied old wall elapsed) (round_of step.round) in
     let ready = mid_is_ready w honest i now asked told real old wall elapsed (round_of step.round) h read' in
-    let after = if list_any (λ (r : Request). r.entry == i) (asked_by output.command) then now else asked in
+    let after = if list_any (λ (r : Request). r.entry == i) (requests_asked_by output.command) then now else asked in
     subst (λ c. StandsBy w i now after told real c new) (sym (same_clocks mid new output.command step.command ∙ ready.clocks))
     (commanded w honest i now asked told real (clocks_after old wall elapsed) mid new output.command ready alone step.command)
 
 -- an answer: mid is the state before what it says of the broker
-without_of : (P : Out → Type 0) (i : ℕ) (out : List Out) → All P out → All P (without i out)
-unfolding without
+without_of : (P : Out → Type 0) (i : ℕ) (out : List Out) → All P out → All P (without_request i out)
+unfolding without_request
 without_of P i out all = All-filter (λ q. not (q.entry == i)) P out all
 
 answered :
-    (w : World) (i now asked : ℕ) (told after : Origin) (real : ℕ) (old mid new : State) (q : Out) (reply : Reply) → new ≡ replied mid q reply → mid.out ≡ old.out → rest_of new ≡ rest_of old →
+    (w : TimedWorld) (i now asked : ℕ) (told after : Origin) (real : ℕ) (old mid new : WatchState) (q : Out) (reply : Reply) → new ≡ replied mid q reply → mid.out ≡ old.out → rest_of new ≡ rest_of old →
     IsAlone new → Stands w i now asked told real old → EndBy w old.clocks.phase real after (track_at mid i).end → Timely old.clocks.at (w.reading asked + old.clocks.phase) (track_at mid i) →
     Stands w i now asked after real new
 answered w i now asked told after real old mid new q reply is out rest alone h end timely =
     let c = old.clocks in
     let n = w.reading asked + c.phase in
     let P : Out → Type 0 = SinceBy i n in
-    let passes = subst (λ (x : State). Passes c.at n (track_at x i) (track_at mid i)) (sym is) (back_kept (Passes c.at n) (λ x. same_passes c.at n x) (λ x. back_passes c.at n x) mid q reply i) in
-    let begun' = ap (λ (x : State). is_none x.begun) rest in
-    subst (λ d. StandsBy w i now asked after real d new) (sym (ap (λ (x : State). x.clocks) rest))
+    let passes = subst (λ (x : WatchState). Passes c.at n (track_at x i) (track_at mid i)) (sym is) (back_kept (Passes c.at n) (λ x. same_passes c.at n x) (λ x. back_passes c.at n x) mid q reply i) in
+    let begun' = ap (λ (x : WatchState). is_none x.begun) rest in
+    subst (λ d. StandsBy w i now asked after real d new) (sym (ap (λ (x : WatchState). x.clocks) rest))
     (record {
       alone = alone;
       past = h.past;
       at = h.at;
       unbegun = λ none. h.unbegun (sym begun' ∙ none);
-      out = subst (λ (x : State). All P x.out) (sym is) (replied_out P (λ r by. by) mid q reply (without_of P q.entry mid.out (subst (All P) (sym out) h.out)));
+      out = subst (λ (x : WatchState). All P x.out) (sym is) (replied_out P (λ r by. by) mid q reply (without_of P q.entry mid.out (subst (All P) (sym out) h.out)));
       end = subst (EndBy w c.phase real after) (sym passes.0) end;
       timely = passes.1 timely;
     })
 
 -- an end that is told counts from a second that the clock had reached when the request went out
 told_end :
-    (w : World) → IsHonest w → (asked from seconds phase real : ℕ) (o : Origin) → from ≤ w.reading asked + phase → asked ≤ o.since → o.since ≤ real → o.since + ms seconds ≤ real + o.over →
+    (w : TimedWorld) → IsHonest w → (asked from seconds phase real : ℕ) (o : Origin) → from ≤ w.reading asked + phase → asked ≤ o.since → o.since ≤ real → o.since + ms seconds ≤ real + o.over →
     IsNoLater w phase (sec from + seconds) real o
 unfolding sec
 told_end w honest asked from seconds phase real o reached sent' before far =
@@ -308,19 +308,19 @@ told_end w honest asked from seconds phase real o reached sent' before far =
     record { before = before; no_later = omega (arith, reached, rises, before, far, counts) }
 
 -- the track of an entry that was answered
-record Freed (w : World) (phase real : ℕ) (o : Origin) (now : ℕ) (x : Track) : Type 0 where
+record Freed (w : TimedWorld) (phase real : ℕ) (o : Origin) (now : ℕ) (x : Track) : Type 0 where
   end : EndBy w phase real o x.end
   base : BaseBy now x.attempt
   free : x.out ≡ false
 
-none_freed : (w : World) (phase real : ℕ) (o : Origin) (now : ℕ) → Freed w phase real o now no_track
+none_freed : (w : TimedWorld) (phase real : ℕ) (o : Origin) (now : ℕ) → Freed w phase real o now no_track
 none_freed w phase real o now = record { end = tt; base = tt; free = refl }
 
-freed_timely : (w : World) (phase real : ℕ) (o : Origin) (now asked : ℕ) (x : Track) → Freed w phase real o now x → Timely now asked x
+freed_timely : (w : TimedWorld) (phase real : ℕ) (o : Origin) (now asked : ℕ) (x : Track) → Freed w phase real o now x → Timely now asked x
 freed_timely w phase real o now asked x h = record { base = h.base; out = λ out. absurd (not_both out h.free) }
 
 -- the answer to a lookup
-module _ (w : World) (honest : IsHonest w) (asked real : ℕ) (told o : Origin) (s : State) (q : Out) (since : q.since ≤ w.reading asked + s.clocks.phase) (base : BaseBy s.clocks.at (track_at s q.entry).attempt) (end : EndBy w s.clocks.phase real told (track_at s q.entry).end) where
+module _ (w : TimedWorld) (honest : IsHonest w) (asked real : ℕ) (told o : Origin) (s : WatchState) (q : Out) (since : q.since ≤ w.reading asked + s.clocks.phase) (base : BaseBy s.clocks.at (track_at s q.entry).attempt) (end : EndBy w s.clocks.phase real told (track_at s q.entry).end) where
   told_freed : (seconds : ℕ) (renewable endless : Bool) (date : Option ℕ) → IsTrueReply asked real o (Told seconds renewable date) → Freed w s.clocks.phase real o s.clocks.at (told_track q.since seconds renewable endless (track_at s q.entry))
   unfolding told_track
   told_freed seconds renewable endless date so = record {
@@ -335,7 +335,7 @@ module _ (w : World) (honest : IsHonest w) (asked real : ℕ) (told o : Origin) 
       set_holds (Freed w s.clocks.phase real told s.clocks.at) (none_freed w s.clocks.phase real told s.clocks.at) s.tracks q.entry (untold_track s.clocks.at q.heard reply (track_at s q.entry))
       (record { end = end; base = untold_base s.clocks.at s.clocks.at q.heard reply (track_at s q.entry) (track_at s q.entry).attempt base; free = refl })
 
-  looked_freed : (reply : Reply) (terms : Terms) → IsTrueReply asked real o reply → Freed w s.clocks.phase real (if is_told reply then o else told) s.clocks.at (track_at (looked s q reply terms) q.entry)
+  looked_freed : (reply : Reply) (terms : Terms) → IsTrueReply asked real o reply → Freed w s.clocks.phase real (if tells_an_end reply then o else told) s.clocks.at (track_at (looked s q reply terms) q.entry)
   looked_freed (Told seconds renewable date) terms so =
       let i = q.entry in
       let P : Track → Type 0 = Freed w s.clocks.phase real o s.clocks.at in
@@ -367,20 +367,20 @@ module _ (w : World) (honest : IsHonest w) (asked real : ℕ) (told o : Origin) 
   unfolding ungranted_track
   ungranted_freed reply = record { end = end; base = ungranted_base s.clocks.at s.clocks.at q.heard reply (track_at s q.entry) (track_at s q.entry).attempt base; free = refl }
 
-  renewed_made : (reply : Reply) → IsTrueReply asked real o reply → BaseBy (w.reading asked + s.clocks.phase) (track_at s q.entry).attempt → Freed w s.clocks.phase real (if is_told reply then o else told) s.clocks.at (track_renewed s q reply)
+  renewed_made : (reply : Reply) → IsTrueReply asked real o reply → BaseBy (w.reading asked + s.clocks.phase) (track_at s q.entry).attempt → Freed w s.clocks.phase real (if tells_an_end reply then o else told) s.clocks.at (track_renewed s q reply)
   unfolding renewed_track
   renewed_made (Told seconds renewable date) so early = granted_freed s.forest.margin (entry_of s q.entry).step seconds renewable date so early
   renewed_made (Refused status date) so early = ungranted_freed (Refused status date)
   renewed_made Busy so early = ungranted_freed Busy
   renewed_made Lost so early = ungranted_freed Lost
 
-  renewed_freed : (reply : Reply) → IsTrueReply asked real o reply → BaseBy (w.reading asked + s.clocks.phase) (track_at s q.entry).attempt → Freed w s.clocks.phase real (if is_told reply then o else told) s.clocks.at (track_at (renewed s q reply) q.entry)
+  renewed_freed : (reply : Reply) → IsTrueReply asked real o reply → BaseBy (w.reading asked + s.clocks.phase) (track_at s q.entry).attempt → Freed w s.clocks.phase real (if tells_an_end reply then o else told) s.clocks.at (track_at (state_renewed s q reply) q.entry)
   renewed_freed reply so early =
-      let after = if is_told reply then o else told in
+      let after = if tells_an_end reply then o else told in
       set_holds (Freed w s.clocks.phase real after s.clocks.at) (none_freed w s.clocks.phase real after s.clocks.at) s.tracks q.entry (track_renewed s q reply) (renewed_made reply so early)
 
 -- a request that is found is marked as out
-out_marked : (s : State) (i : ℕ) (operation : Operation) (q : Out) → request_out s.out i operation ≡ Some q → IsAlone s → (track_at s i).out ≡ true
+out_marked : (s : WatchState) (i : ℕ) (operation : Operation) (q : Out) → request_out s.out i operation ≡ Some q → IsAlone s → (track_at s i).out ≡ true
 unfolding request_out
 out_marked s i operation q found alone =
     let lane = found_lane i operation s.out q found in
@@ -390,7 +390,7 @@ out_marked s i operation q found alone =
       by true h = refl
       by false h = absurd (omega (arith, h))
 
-out_since : (w : World) (i now asked : ℕ) (told : Origin) (real : ℕ) (s : State) (j : ℕ) (operation : Operation) (q : Out) → Stands w i now asked told real s → request_out s.out j operation ≡ Some q → q.entry ≡ i → q.since ≤ w.reading asked + s.clocks.phase
+out_since : (w : TimedWorld) (i now asked : ℕ) (told : Origin) (real : ℕ) (s : WatchState) (j : ℕ) (operation : Operation) (q : Out) → Stands w i now asked told real s → request_out s.out j operation ≡ Some q → q.entry ≡ i → q.since ≤ w.reading asked + s.clocks.phase
 out_since w i now asked told real s j operation q h found own =
     let P : Out → Type 0 = SinceBy i (w.reading asked + s.clocks.phase) in
     of_value P (request_out s.out j operation) q (out_all P s.out j operation h.out) found own
@@ -405,35 +405,35 @@ both_false false b h = refl
 
 -- the state before what an answer says of the broker, where it is of the entry itself, or of another
 own_answer :
-    (w : World) (i now asked j : ℕ) (told o : Origin) (real : ℕ) (old mid new : State) (q : Out) (reply : Reply) → new ≡ replied mid q reply → mid.out ≡ old.out → rest_of new ≡ rest_of old →
+    (w : TimedWorld) (i now asked j : ℕ) (told o : Origin) (real : ℕ) (old mid new : WatchState) (q : Out) (reply : Reply) → new ≡ replied mid q reply → mid.out ≡ old.out → rest_of new ≡ rest_of old →
     IsAlone new → q.entry ≡ j → Stands w i now asked told real old → (q.entry ≢ i → track_at mid i ≡ track_at old i) →
-    (j ≡ i → q.entry ≡ i → Freed w old.clocks.phase real (if is_told reply then o else told) old.clocks.at (track_at mid q.entry)) →
-    Stands w i now asked (if is_told reply && j == i then o else told) real new
+    (j ≡ i → q.entry ≡ i → Freed w old.clocks.phase real (if tells_an_end reply then o else told) old.clocks.at (track_at mid q.entry)) →
+    Stands w i now asked (if tells_an_end reply && j == i then o else told) real new
 own_answer w i now asked j told o real old mid new q reply is out rest alone entry h other own =
     let n = w.reading asked + old.clocks.phase in
-    let after = if is_told reply && j == i then o else told in
+    let after = if tells_an_end reply && j == i then o else told in
     elim (cases_Bool (j == i)) as (λ _. Stands w i now asked after real new) [
       | inl same ↦
           let mine : q.entry ≡ i = entry ∙ eqb-true j i same in
           let freed = own (eqb-true j i same) mine in
-          let which = ap (λ b. if b then o else told) (both_true (is_told reply) (j == i) same) in
-          let this = if is_told reply then o else told in
+          let which = ap (λ b. if b then o else told) (both_true (tells_an_end reply) (j == i) same) in
+          let this = if tells_an_end reply then o else told in
           let x : Freed w old.clocks.phase real this old.clocks.at (track_at mid i) = subst (λ k. Freed w old.clocks.phase real this old.clocks.at (track_at mid k)) mine freed in
           subst (λ y. Stands w i now asked y real new) (sym which)
           (answered w i now asked told this real old mid new q reply is out rest alone h x.end (freed_timely w old.clocks.phase real this old.clocks.at n (track_at mid i) x))
       | inr different ↦
           let apart : q.entry ≢ i = λ e. not_both (subst (λ k. (k == i) ≡ true) (sym e ∙ entry) (same_index i)) different in
           let left = other apart in
-          let which = ap (λ b. if b then o else told) (both_false (is_told reply) (j == i) different) in
+          let which = ap (λ b. if b then o else told) (both_false (tells_an_end reply) (j == i) different) in
           subst (λ y. Stands w i now asked y real new) (sym which)
           (answered w i now asked told told real old mid new q reply is out rest alone h (subst (λ (x : Track). EndBy w old.clocks.phase real told x.end) (sym left) h.end)
           (subst (Timely old.clocks.at n) (sym left) h.timely))
     ]
 
 looked_stands :
-    (w : World) → IsHonest w → (i now asked j : ℕ) (told o : Origin) (real : ℕ) (old new : State) (found : Option Out) (reply : Reply) (terms : Terms) (output : Output) → request_out old.out j Look ≡ found →
+    (w : TimedWorld) → IsHonest w → (i now asked j : ℕ) (told o : Origin) (real : ℕ) (old new : WatchState) (found : Option Out) (reply : Reply) (terms : Terms) (output : Output) → request_out old.out j Look ≡ found →
     StepLooked old found reply terms output new → IsAlone new → (j ≡ i → IsTrueReply asked real o reply) → Stands w i now asked told real old →
-    Stands w i now asked (if is_told reply && j == i then o else told) real new
+    Stands w i now asked (if tells_an_end reply && j == i then o else told) real new
 looked_stands w honest i now asked j told o real old new None reply terms output is step alone so h = absurd step
 looked_stands w honest i now asked j told o real old new (Some q) reply terms output is step alone so h =
     let s = noted old q reply in
@@ -444,13 +444,13 @@ looked_stands w honest i now asked j told o real old new (Some q) reply terms ou
     (subst (λ k. EndBy w old.clocks.phase real told (track_at old k).end) (sym mine) h.end) reply terms (so same))
 
 renewed_stands :
-    (w : World) → IsHonest w → (i now asked j : ℕ) (told o : Origin) (real : ℕ) (old new : State) (found : Option Out) (reply : Reply) (output : Output) → request_out old.out j Renew ≡ found →
+    (w : TimedWorld) → IsHonest w → (i now asked j : ℕ) (told o : Origin) (real : ℕ) (old new : WatchState) (found : Option Out) (reply : Reply) (output : Output) → request_out old.out j Renew ≡ found →
     StepRenewed old found reply output new → IsAlone new → (j ≡ i → IsTrueReply asked real o reply) → Stands w i now asked told real old →
-    Stands w i now asked (if is_told reply && j == i then o else told) real new
+    Stands w i now asked (if tells_an_end reply && j == i then o else told) real new
 renewed_stands w honest i now asked j told o real old new None reply output is step alone so h = absurd step
 renewed_stands w honest i now asked j told o real old new (Some q) reply output is step alone so h =
     let s = noted old q reply in
-    own_answer w i now asked j told o real old (renewed s q reply) new q reply step.1 refl (ap rest_of step.1 ∙ renewed_leaves old q reply) alone (out_entry old.out j Renew q is) h
+    own_answer w i now asked j told o real old (state_renewed s q reply) new q reply step.1 refl (ap rest_of step.1 ∙ renewed_leaves old q reply) alone (out_entry old.out j Renew q is) h
     (λ apart. get_or-set_other s.tracks q.entry i _ no_track (λ e. apart (sym e)))
     (λ same mine.
     let n = w.reading asked + old.clocks.phase in
@@ -459,21 +459,21 @@ renewed_stands w honest i now asked j told o real old new (Some q) reply output 
     (subst (λ k. BaseBy n (track_at old k).attempt) (sym mine) (h.timely.out (subst (λ k. (track_at old k).out ≡ true) same (out_marked old j Renew q is h.alone)))))
 
 -- a step, and a turn
-quiet : (i now asked : ℕ) (output out : Output) → output ≡ out → asked_by out.command ≡ [] → (if list_any (λ (r : Request). r.entry == i) (asked_by output.command) then now else asked) ≡ asked
+quiet : (i now asked : ℕ) (output out : Output) → output ≡ out → requests_asked_by out.command ≡ [] → (if list_any (λ (r : Request). r.entry == i) (requests_asked_by output.command) then now else asked) ≡ asked
 quiet i now asked output out is none =
-    cond-false (list_any (λ (r : Request). r.entry == i) (asked_by output.command)) now asked
-    (ap (λ (x : Output). list_any (λ (r : Request). r.entry == i) (asked_by x.command)) is ∙ ap (list_any (λ (r : Request). r.entry == i)) none)
+    cond-false (list_any (λ (r : Request). r.entry == i) (requests_asked_by output.command)) now asked
+    (ap (λ (x : Output). list_any (λ (r : Request). r.entry == i) (requests_asked_by x.command)) is ∙ ap (list_any (λ (r : Request). r.entry == i)) none)
 
-looked_quiet : (i now asked : ℕ) (old new : State) (found : Option Out) (reply : Reply) (terms : Terms) (output : Output) → StepLooked old found reply terms output new → (if list_any (λ (r : Request). r.entry == i) (asked_by output.command) then now else asked) ≡ asked
+looked_quiet : (i now asked : ℕ) (old new : WatchState) (found : Option Out) (reply : Reply) (terms : Terms) (output : Output) → StepLooked old found reply terms output new → (if list_any (λ (r : Request). r.entry == i) (requests_asked_by output.command) then now else asked) ≡ asked
 looked_quiet i now asked old new None reply terms output step = absurd step
 looked_quiet i now asked old new (Some q) reply terms output step = quiet i now asked output _ step.0 refl
 
-renewed_quiet : (i now asked : ℕ) (old new : State) (found : Option Out) (reply : Reply) (output : Output) → StepRenewed old found reply output new → (if list_any (λ (r : Request). r.entry == i) (asked_by output.command) then now else asked) ≡ asked
+renewed_quiet : (i now asked : ℕ) (old new : WatchState) (found : Option Out) (reply : Reply) (output : Output) → StepRenewed old found reply output new → (if list_any (λ (r : Request). r.entry == i) (requests_asked_by output.command) then now else asked) ≡ asked
 renewed_quiet i now asked old new None reply output step = absurd step
 renewed_quiet i now asked old new (Some q) reply output step = quiet i now asked output _ step.0 refl
 
 -- what leaves the clocks, the tracks and the requests that are out
-left_stands : (w : World) (i now asked : ℕ) (told : Origin) (real : ℕ) (old new : State) → new.clocks ≡ old.clocks → new.begun ≡ old.begun → new.out ≡ old.out → new.tracks ≡ old.tracks → IsAlone new → Stands w i now asked told real old → Stands w i now asked told real new
+left_stands : (w : TimedWorld) (i now asked : ℕ) (told : Origin) (real : ℕ) (old new : WatchState) → new.clocks ≡ old.clocks → new.begun ≡ old.begun → new.out ≡ old.out → new.tracks ≡ old.tracks → IsAlone new → Stands w i now asked told real old → Stands w i now asked told real new
 left_stands w i now asked told real old new clocks begun' out tracks alone h =
     subst (λ c. StandsBy w i now asked told real c new) (sym clocks)
     (record {
@@ -487,13 +487,13 @@ left_stands w i now asked told real old new clocks begun' out tracks alone h =
     })
 
 -- an end that an earlier watch told
-known_end : (w : World) (phase end real : ℕ) (o : Origin) → IsNoLater w phase end real o → IsNoLater w phase (min END_MAX end) real o
+known_end : (w : TimedWorld) (phase end real : ℕ) (o : Origin) → IsNoLater w phase end real o → IsNoLater w phase (min END_MAX end) real o
 known_end w phase end real o h =
     let n = h.no_later in
     record { before = h.before; no_later = omega (arith, n) }
 
 known_stands :
-    (w : World) (i now asked j : ℕ) (told o : Origin) (real : ℕ) (old new : State) (end : ℕ) (renewable : Bool) → new ≡ known old j end renewable → IsAlone new →
+    (w : TimedWorld) (i now asked j : ℕ) (told o : Origin) (real : ℕ) (old new : WatchState) (end : ℕ) (renewable : Bool) → new ≡ known old j end renewable → IsAlone new →
     (j ≡ i → IsNoLater w old.clocks.phase end real o) → Stands w i now asked told real old → Stands w i now asked (if j == i then o else told) real new
 known_stands w i now asked j told o real old new end renewable is alone so h =
     let there = known old j end renewable in
@@ -503,7 +503,7 @@ known_stands w i now asked j told o real old new end renewable is alone so h =
     let timely : Timely c.at n (track_at there i) =
     set_kept (λ (z x : Track). Timely c.at n x → Timely c.at n z) (λ x k. k) old.tracks j y (λ k. record { base = k.base; out = k.out }) i h.timely in
     let stands : (after : Origin) → EndBy w c.phase real after (track_at there i).end → Stands w i now asked after real new =
-    λ after e. subst (λ (x : State). Stands w i now asked after real x) (sym is)
+    λ after e. subst (λ (x : WatchState). Stands w i now asked after real x) (sym is)
     (record { alone = subst IsAlone is alone; past = h.past; at = h.at; unbegun = h.unbegun; out = h.out; end = e; timely = timely }) in
     elim (cases_Bool (j == i)) as (λ _. Stands w i now asked (if j == i then o else told) real new) [
       | inl same ↦
@@ -520,36 +520,36 @@ abbrev Asked : ℕ → ℕ → ℕ → Result Output WatchFault → ℕ
 Asked i now asked result = if list_any (λ (r : Request). r.entry == i) (requests_of result) then now else asked
 
 step_stands :
-    (w : World) → IsHonest w → (i asked : ℕ) (told : Origin) (l : Lived) (old : State) (event : Event) (output : Output) (new : State) → Stands w i l.at asked told l.real old →
+    (w : TimedWorld) → IsHonest w → (i asked : ℕ) (told : Origin) (l : Lived) (old : WatchState) (event : Event) (output : Output) (new : WatchState) → Stands w i l.at asked told l.real old →
     IsTrueEvent w i asked old l event → Step old event output new → IsAlone new → Stands w i l.at (Asked i l.at asked (Ok output)) (if tells i event then l.origin else told) l.real new
 step_stands w honest i asked told l old (Clock wall elapsed) output new h so step alone = clock_stands w honest i l.at asked told l.real old new wall elapsed output h so step alone
 step_stands w honest i asked told l old (Looked j reply terms) output new h so step alone =
-    subst (λ a. Stands w i l.at a (if is_told reply && j == i then l.origin else told) l.real new) (sym (looked_quiet i l.at asked old new (request_out old.out j Look) reply terms output step))
+    subst (λ a. Stands w i l.at a (if tells_an_end reply && j == i then l.origin else told) l.real new) (sym (looked_quiet i l.at asked old new (request_out old.out j Look) reply terms output step))
     (looked_stands w honest i l.at asked j told l.origin l.real old new (request_out old.out j Look) reply terms output refl step alone so h)
 step_stands w honest i asked told l old (Renewed j reply) output new h so step alone =
-    subst (λ a. Stands w i l.at a (if is_told reply && j == i then l.origin else told) l.real new) (sym (renewed_quiet i l.at asked old new (request_out old.out j Renew) reply output step))
+    subst (λ a. Stands w i l.at a (if tells_an_end reply && j == i then l.origin else told) l.real new) (sym (renewed_quiet i l.at asked old new (request_out old.out j Renew) reply output step))
     (renewed_stands w honest i l.at asked j told l.origin l.real old new (request_out old.out j Renew) reply output refl step alone so h)
 step_stands w honest i asked told l old (Need j until) output new h so step alone =
     subst (λ a. Stands w i l.at a told l.real new) (sym (quiet i l.at asked output _ step.0 refl))
-    (left_stands w i l.at asked told l.real old new (ap (λ (x : State). x.clocks) step.1) (ap (λ (x : State). x.begun) step.1) (ap (λ (x : State). x.out) step.1) (ap (λ (x : State). x.tracks) step.1) alone h)
+    (left_stands w i l.at asked told l.real old new (ap (λ (x : WatchState). x.clocks) step.1) (ap (λ (x : WatchState). x.begun) step.1) (ap (λ (x : WatchState). x.out) step.1) (ap (λ (x : WatchState). x.tracks) step.1) alone h)
 step_stands w honest i asked told l old Begin output new h so step alone =
     subst (λ a. Stands w i l.at a told l.real new) (sym (quiet i l.at asked output _ step.0 refl))
-    (left_stands w i l.at asked told l.real old new (ap (λ (x : State). x.clocks) step.1) (ap (λ (x : State). x.begun) step.1) (ap (λ (x : State). x.out) step.1) (ap (λ (x : State). x.tracks) step.1) alone h)
+    (left_stands w i l.at asked told l.real old new (ap (λ (x : WatchState). x.clocks) step.1) (ap (λ (x : WatchState). x.begun) step.1) (ap (λ (x : WatchState). x.out) step.1) (ap (λ (x : WatchState). x.tracks) step.1) alone h)
 step_stands w honest i asked told l old (Known j end renewable) output new h so step alone =
     subst (λ a. Stands w i l.at a (if j == i then l.origin else told) l.real new) (sym (quiet i l.at asked output _ step.0 refl))
     (known_stands w i l.at asked j told l.origin l.real old new end renewable step.1 alone so h)
 
 turn_stands :
-    (w : World) → IsHonest w → (i asked : ℕ) (told : Origin) (l : Lived) (old : State) (event : Event) (result : Result Output WatchFault) (new : State) → Stands w i l.at asked told l.real old →
-    IsTrueEvent w i asked old l event → Turn old event result new → Stands w i l.at (Asked i l.at asked result) (if is_taken result && tells i event then l.origin else told) l.real new
+    (w : TimedWorld) → IsHonest w → (i asked : ℕ) (told : Origin) (l : Lived) (old : WatchState) (event : Event) (result : Result Output WatchFault) (new : WatchState) → Stands w i l.at asked told l.real old →
+    IsTrueEvent w i asked old l event → Turn old event result new → Stands w i l.at (Asked i l.at asked result) (if is_event_taken result && tells i event then l.origin else told) l.real new
 turn_stands w honest i asked told l old event (Ok output) new h so turn = step_stands w honest i asked told l old event output new h so turn.1 (turn_alone old new event (Ok output) turn h.alone)
 turn_stands w honest i asked told l old event (Err fault) new h so turn = subst (Stands w i l.at asked told l.real) (sym (refused_stays old new event fault turn)) h
 
 -- all of them
-end_of_track : (w : World) (phase real : ℕ) (o : Origin) (e : End) (end : ℕ) → EndBy w phase real o e → e ≡ At end → IsNoLater w phase end real o
+end_of_track : (w : TimedWorld) (phase real : ℕ) (o : Origin) (e : End) (end : ℕ) → EndBy w phase real o e → e ≡ At end → IsNoLater w phase end real o
 end_of_track w phase real o e end h is = subst (EndBy w phase real o) is h
 
-along : (w : World) → IsHonest w → (i : ℕ) (s : State) (last asked real : ℕ) (told : Origin) → Stands w i last asked told real s → (ls : List Lived) → AreLivedFrom w i s last asked real ls → AllNoLater w i told ls
+along : (w : TimedWorld) → IsHonest w → (i : ℕ) (s : WatchState) (last asked real : ℕ) (told : Origin) → Stands w i last asked told real s → (ls : List Lived) → AreLivedFrom w i s last asked real ls → AllNoLater w i told ls
 along w honest i s last asked real told h [] lived = tt
 along w honest i s last asked real told h (l ∷ ls) lived =
     let before = later_stands w honest i last l.at asked told real l.real s lived.1.0 lived.1.1.1.0 h in
@@ -563,16 +563,16 @@ fresh_holds P none fresh [] i = none
 fresh_holds P none fresh (e ∷ es) zero = fresh e
 fresh_holds P none fresh (e ∷ es) (suc i) = fresh_holds P none fresh es i
 
-opened_stands : (w : World) (g : Forest) (width i real : ℕ) → Stands w i 0 0 never real (opened g width)
+opened_stands : (w : TimedWorld) (g : Forest) (width i real : ℕ) → Stands w i 0 0 no_origin real (opened g width)
 opened_stands w g width i real = record {
   alone = record { once = λ j. omega arith };
   past = omega arith;
   at = omega arith;
   unbegun = λ none. (refl, refl);
   out = All-nil (SinceBy i (w.reading 0 + 0));
-  end = fresh_holds (λ x. EndBy w 0 real never x.end) tt (λ e. tt) g.entries i;
+  end = fresh_holds (λ x. EndBy w 0 real no_origin x.end) tt (λ e. tt) g.entries i;
   timely = fresh_holds (Timely 0 (w.reading 0 + 0)) (none_timely 0 (w.reading 0 + 0)) (λ e. record { base = tt; out = λ o. tt }) g.entries i;
 }
 
 pub never_past : NeverPastLaw
-never_past w honest g width i real ls lived = along w honest i (opened g width) 0 0 real never (opened_stands w g width i real) ls lived
+never_past w honest g width i real ls lived = along w honest i (opened g width) 0 0 real no_origin (opened_stands w g width i real) ls lived

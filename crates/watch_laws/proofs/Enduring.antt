@@ -15,22 +15,22 @@ use Rattle.watch_machine.specs.declared.lanes.Presence.{Presence}
 use Rattle.watch_machine.specs.declared.track.End.TheVariants.{At}
 use Rattle.watch_machine.specs.declared.track.Track.{Track}
 use Rattle.watch_machine.specs.declared.track.Try.{Try}
-use Rattle.watch_machine.specs.Answers.{answers_all, back_track, back_try, failing, is_back, is_gone, lane_freed, replied, silent, without}
+use Rattle.watch_machine.specs.Answers.{answers_all, back_track, back_try, failing, is_back, lane_freed, presence_gone, replied, silent, without_request}
 use Rattle.watch_machine.specs.Beginning.{hastened}
 use Rattle.watch_machine.specs.Clocks.{ms, sec}
 use Rattle.watch_machine.specs.Lines.{is_first, rested}
 use Rattle.watch_machine.specs.Margins.{has_come}
 use Rattle.watch_machine.specs.Pauses.{cap, cap_of, left_to, pause}
-use Rattle.watch_machine.specs.Press.{asked_in, asked_track, dropped, is_fresh, let_go, press, pressed, pressed_alone, pressed_track}
+use Rattle.watch_machine.specs.Press.{asked_track, dropped, is_fresh, let_go, press, pressed, pressed_alone, pressed_track, track_asked_in}
 use Rattle.watch_machine.specs.Renewed.{after_renewal, ungranted, ungranted_track}
 use Rattle.watch_machine.specs.Settling.{is_real, is_silent, presence_after, settled, settled_track, settled_try, timed}
-use Rattle.watch_machine.specs.State.{State, attempt_at, each, track_at, track_in}
+use Rattle.watch_machine.specs.State.{WatchState, attempt_at, each, track_at, track_in}
 use Rattle.watch_machine.specs.Step.{readied, why}
 use Rattle.watch_machine.specs.Wanted.{believed, is_alive, need_of, wants}
 use Rattle.watch_machine.proofs.Cases.{if_both, if_cases, not_both, value_is}
 use Rattle.watch_machine.proofs.Seeing.{each_read}
 use Rattle.watch_machine.proofs.Written.{each_length}
-use Rattle.watch_laws.specs.Outage.{Outage, again, is_whole, settled_by}
+use Rattle.watch_laws.specs.Outage.{Outage, again, is_request_whole, outage_settled_by}
 use Rattle.watch_laws.proofs.Lanes.{all_left, is_of, replied_lane}
 use Rattle.watch_laws.proofs.Lasting.{calm_ready}
 use Rattle.watch_laws.proofs.Retrying.{held_least, held_to, pause_within}
@@ -40,8 +40,8 @@ use Rattle.watch_laws.proofs.Tracking.{back_kept}
 abbrev pub cut : Outage → ℕ
 cut o = o.until + o.slow + o.late
 
-pub cut_off : (o : Outage) (since : ℕ) → is_whole o since ≡ false → settled_by o since + o.late ≤ cut o
-unfolding is_whole settled_by
+pub cut_off : (o : Outage) (since : ℕ) → is_request_whole o since ≡ false → outage_settled_by o since + o.late ≤ cut o
+unfolding is_request_whole outage_settled_by
 cut_off o since not_whole =
     let both = or_parts (nat_le (since + o.quick) o.from) (nat_le o.until since) not_whole in
     let early : since < o.until = (let late = both.1 in grind (arith, nat_tests)) in
@@ -96,7 +96,7 @@ module _ (end at bound : ℕ) (S : Type 0) (ahead : sec at < end) where
       (if_both (Steady end at bound S) (wants x need || x.out) x (record x { attempt = dropped x x.attempt }) h
       (record { end_is = h.end_is; owes = h.owes; last = h.last; tries = λ t is. absurd (dropped_none x x.attempt t h.owes is) }))
 
-  asked_steady : (margin : ℕ) (e : Entry) (round : List ℕ) (i : ℕ) (x : Track) → Steady end at bound S x → Steady end at bound S (asked_in margin e at round i x)
+  asked_steady : (margin : ℕ) (e : Entry) (round : List ℕ) (i : ℕ) (x : Track) → Steady end at bound S x → Steady end at bound S (track_asked_in margin e at round i x)
   unfolding asked_track
   asked_steady margin e round i x h =
       if_both (Steady end at bound S) (list_any (λ j. j == i) round) (asked_track margin e at x) x
@@ -106,14 +106,14 @@ module _ (end at bound : ℕ) (S : Type 0) (ahead : sec at < end) where
 each_in : (P : Track → Type 0) (f : ℕ → Track → Track) (xs : List Track) (i : ℕ) → i < length xs → P (f i (track_in xs i)) → P (track_in (each f xs) i)
 each_in P f xs i within made = subst P (sym (each_read f xs i within)) made
 
-mid_steady : (s : State) (round : List ℕ) (i end bound : ℕ) (S : Type 0) → i < length s.tracks → sec s.clocks.at < end → Steady end s.clocks.at bound S (track_at s i) → Steady end s.clocks.at bound S (track_at (pressed s round) i)
+mid_steady : (s : WatchState) (round : List ℕ) (i end bound : ℕ) (S : Type 0) → i < length s.tracks → sec s.clocks.at < end → Steady end s.clocks.at bound S (track_at s i) → Steady end s.clocks.at bound S (track_at (pressed s round) i)
 mid_steady s round i end bound S within ahead h =
     let c = s.clocks in
     let g = s.forest in
     let alone = pressed_alone g c s.tracks in
     let count = each_length (λ j. pressed_track g.margin (entry_at g.entries j) (need_of g.entries s.tracks c j) c.at) s.tracks in
     let below : i < length alone = omega (arith, count, within) in
-    each_in (Steady end c.at bound S) (λ j. asked_in g.margin (entry_at g.entries j) c.at round j) alone i below
+    each_in (Steady end c.at bound S) (λ j. track_asked_in g.margin (entry_at g.entries j) c.at round j) alone i below
     (asked_steady end c.at bound S ahead g.margin (entry_at g.entries i) round i (track_in alone i)
     (each_in (Steady end c.at bound S) (λ j. pressed_track g.margin (entry_at g.entries j) (need_of g.entries s.tracks c j) c.at) s.tracks i within
     (pressed_steady end c.at bound S ahead g.margin (entry_at g.entries i) (need_of g.entries s.tracks c i) (track_at s i) h)))
@@ -142,26 +142,26 @@ again_cut margin at end until x t is ahead le =
     omega (arith, capped, later)
 
 -- what holds of an entry between two clocks: bound is by when its try may go, and it fails only where miss
-unfoldable pub Kept : ℕ → ℕ → Type 0 → State → Try → Type 0
+unfoldable pub Kept : ℕ → ℕ → Type 0 → WatchState → Try → Type 0
 Kept i bound miss s t = (t.failed ≡ false) × ((t.at ≤ max s.clocks.at bound) × ((track_at s i).out ≡ false → (is_first t ≡ true) ⊎ (miss × (s.presence.hold ≤ bound))))
 
-unfoldable pub Missed : ℕ → ℕ → ℕ → ℕ → Type 0 → State → Try → Type 0
+unfoldable pub Missed : ℕ → ℕ → ℕ → ℕ → Type 0 → WatchState → Try → Type 0
 Missed i bound due last miss s t =
     (t.failed ≡ true) × (((track_at s i).out ≡ false) × (miss × ((due ≤ last) × ((s.presence.hold ≤ bound) ⊎ ((list_any is_silent s.answers ≡ true) × (s.presence.away ≡ true))))))
 
-pub record IsPending (i bound due last : ℕ) (miss : Type 0) (s : State) (t : Try) : Type 0 where
+pub record IsPending (i bound due last : ℕ) (miss : Type 0) (s : WatchState) (t : Try) : Type 0 where
   pub pressed : t.pressed ≡ true
   pub renews : t.operation ≡ Renew
   pub how : Kept i bound miss s t ⊎ Missed i bound due last miss s t
 
-abbrev pub Cutting : Outage → ℕ → ℕ → Type 0 → State → Out → Type 0
-Cutting o i bound miss s q = q.entry ≡ i → miss × ((is_whole o q.since ≡ false) × (q.heard ≡ true → s.presence.hold ≤ bound))
+abbrev pub Cutting : Outage → ℕ → ℕ → Type 0 → WatchState → Out → Type 0
+Cutting o i bound miss s q = q.entry ≡ i → miss × ((is_request_whole o q.since ≡ false) × (q.heard ≡ true → s.presence.hold ≤ bound))
 
 -- whenever it went out
 abbrev pub any_time : ℕ → Bool
 any_time since = true
 
-pub record Endures (o : Outage) (i end bound due : ℕ) (miss : Type 0) (s : State) : Type 0 where
+pub record Endures (o : Outage) (i end bound due : ℕ) (miss : Type 0) (s : WatchState) : Type 0 where
   pub end_is : (track_at s i).end ≡ At end
   pub owes : (track_at s i).owes ≡ false
   pub last : rested (track_at s i).last ≤ bound
@@ -171,7 +171,7 @@ pub record Endures (o : Outage) (i end bound due : ℕ) (miss : Type 0) (s : Sta
   pub silent' : list_any is_silent s.answers ≡ true → s.presence.away ≡ true → due ≤ cut o
 
 -- a clock that settles
-module _ (o : Outage) (i end bound due : ℕ) (miss : Type 0) (s : State) (at : ℕ) (within : i < length s.tracks) (h : Endures o i end bound due miss s) (ahead : at < ms end) (soon' : at ≤ due) (rises : s.clocks.at ≤ at) (far : miss → again end (cut o) ≤ bound) where
+module _ (o : Outage) (i end bound due : ℕ) (miss : Type 0) (s : WatchState) (at : ℕ) (within : i < length s.tracks) (h : Endures o i end bound due miss s) (ahead : at < ms end) (soon' : at ≤ due) (rises : s.clocks.at ≤ at) (far : miss → again end (cut o) ≤ bound) where
   abbrev margin : ℕ
   margin = s.forest.margin
 
@@ -245,7 +245,7 @@ second_before n e le = omega (arith, le)
 
 -- so all that are pressed at it
 pub clock_steady :
-    (o : Outage) (i end bound due : ℕ) (miss : Type 0) (old : State) (wall elapsed : ℕ) (round : List ℕ) → why old wall elapsed ≡ None → i < length old.tracks → Endures o i end bound due miss old →
+    (o : Outage) (i end bound due : ℕ) (miss : Type 0) (old : WatchState) (wall elapsed : ℕ) (round : List ℕ) → why old wall elapsed ≡ None → i < length old.tracks → Endures o i end bound due miss old →
     (timed old wall elapsed).clocks.at < ms end → (timed old wall elapsed).clocks.at ≤ due → old.clocks.at ≤ (timed old wall elapsed).clocks.at → (miss → again end (cut o) ≤ bound) →
     Steady end (timed old wall elapsed).clocks.at bound
     (((track_at old i).out ≡ true) ⊎ (miss × ((presence_after old.forest.margin (timed old wall elapsed).clocks.at old.tracks old.answers old.presence).hold ≤ bound)))
@@ -259,12 +259,12 @@ clock_steady o i end bound due miss old wall elapsed round none within h ahead s
     let first : Steady end at bound S (track_at b i) =
     each_in (Steady end at bound S) (λ j. settled_track old.forest.margin at) old.tracks i within (settled_steady o i end bound due miss old at within h ahead soon' rises far) in
     let second' : sec at < end = second_before at end ahead in
-    subst (λ (x : State). Steady end at bound S (track_at (pressed x round) i)) (sym (calm_ready old wall elapsed none))
+    subst (λ (x : WatchState). Steady end at bound S (track_at (pressed x round) i)) (sym (calm_ready old wall elapsed none))
     (mid_steady b round i end bound S (omega (arith, count, within)) second' first)
 
 -- and what held back a try holds it back no longer
 pub clock_held :
-    (o : Outage) (i end bound due : ℕ) (miss : Type 0) (old : State) (at : ℕ) → i < length old.tracks → Endures o i end bound due miss old → at < ms end → at ≤ due → old.clocks.at ≤ at →
+    (o : Outage) (i end bound due : ℕ) (miss : Type 0) (old : WatchState) (at : ℕ) → i < length old.tracks → Endures o i end bound due miss old → at < ms end → at ≤ due → old.clocks.at ≤ at →
     (miss → again end (cut o) ≤ bound) → miss → is_some (attempt_at old i) ≡ true → old.presence.hold ≤ bound → (presence_after old.forest.margin at old.tracks old.answers old.presence).hold ≤ bound
 clock_held o i end bound due miss old at within h ahead soon' rises far may tried low = by (attempt_at old i) refl tried where
   by : (v : Option Try) → attempt_at old i ≡ v → is_some v ≡ true → (presence_after old.forest.margin at old.tracks old.answers old.presence).hold ≤ bound
@@ -308,47 +308,47 @@ back_backs x = record { end = refl; owes = refl; last = refl; out = refl; tries 
   by (Some t) same u is = (t, (same, back_from x t u is))
 
 -- what an answer says of the broker
-real_hold : (s : State) (q : Out) (reply : Reply) → is_real reply ≡ true → (s.presence.away ≡ false → s.presence.hold ≡ 0) → (replied s q reply).presence.hold ≡ 0
+real_hold : (s : WatchState) (q : Out) (reply : Reply) → is_real reply ≡ true → (s.presence.away ≡ false → s.presence.hold ≡ 0) → (replied s q reply).presence.hold ≡ 0
 real_hold s q reply real none =
     let free = lane_freed s q in
-    ap (λ (t : State). t.presence.hold) (cond-true (is_real reply) (answers_all free) (if q.heard then free else silent free) real)
-    ∙ if_cases (λ (t : State). t.presence.hold ≡ 0) s.presence.away (record free { out = _; tracks = each (λ i. back_track) s.tracks; presence = is_back s.presence }) _ (λ e. refl) none
+    ap (λ (t : WatchState). t.presence.hold) (cond-true (is_real reply) (answers_all free) (if q.heard then free else silent free) real)
+    ∙ if_cases (λ (t : WatchState). t.presence.hold ≡ 0) s.presence.away (record free { out = _; tracks = each (λ i. back_track) s.tracks; presence = is_back s.presence }) _ (λ e. refl) none
 
-pub real_away : (s : State) (q : Out) (reply : Reply) → is_real reply ≡ true → (replied s q reply).presence.away ≡ false
+pub real_away : (s : WatchState) (q : Out) (reply : Reply) → is_real reply ≡ true → (replied s q reply).presence.away ≡ false
 real_away s q reply real =
     let free = lane_freed s q in
-    ap (λ (t : State). t.presence.away) (cond-true (is_real reply) (answers_all free) (if q.heard then free else silent free) real)
-    ∙ if_cases (λ (t : State). t.presence.away ≡ false) s.presence.away (record free { out = _; tracks = each (λ i. back_track) s.tracks; presence = is_back s.presence }) _ (λ e. refl) (λ there. there)
+    ap (λ (t : WatchState). t.presence.away) (cond-true (is_real reply) (answers_all free) (if q.heard then free else silent free) real)
+    ∙ if_cases (λ (t : WatchState). t.presence.away ≡ false) s.presence.away (record free { out = _; tracks = each (λ i. back_track) s.tracks; presence = is_back s.presence }) _ (λ e. refl) (λ there. there)
 
-replied_answers : (s : State) (q : Out) (reply : Reply) → (replied s q reply).answers ≡ s.answers
+replied_answers : (s : WatchState) (q : Out) (reply : Reply) → (replied s q reply).answers ≡ s.answers
 replied_answers s q reply =
     let free = lane_freed s q in
-    let P : State → Type 0 = λ t. t.answers ≡ s.answers in
+    let P : WatchState → Type 0 = λ t. t.answers ≡ s.answers in
     if_both P (is_real reply) (answers_all free) (if q.heard then free else silent free) (if_both P s.presence.away _ _ refl refl) (if_both P q.heard free (silent free) refl (if_both P s.presence.away _ _ refl refl))
 
-lost_hold : (s : State) (q : Out) → (replied s q Lost).presence.hold ≤ s.presence.hold
+lost_hold : (s : WatchState) (q : Out) → (replied s q Lost).presence.hold ≤ s.presence.hold
 lost_hold s q =
     let free = lane_freed s q in
-    let P : State → Type 0 = λ t. t.presence.hold ≤ s.presence.hold in
-    if_both P q.heard free (silent free) (omega arith) (if_both P s.presence.away free (record free { presence = is_gone s.presence }) (omega arith) (omega arith))
+    let P : WatchState → Type 0 = λ t. t.presence.hold ≤ s.presence.hold in
+    if_both P q.heard free (silent free) (omega arith) (if_both P s.presence.away free (record free { presence = presence_gone s.presence }) (omega arith) (omega arith))
 
-lost_away : (s : State) (q : Out) → s.presence.away ≡ true → (replied s q Lost).presence.away ≡ true
+lost_away : (s : WatchState) (q : Out) → s.presence.away ≡ true → (replied s q Lost).presence.away ≡ true
 lost_away s q away =
     let free = lane_freed s q in
-    let P : State → Type 0 = λ t. t.presence.away ≡ true in
-    if_both P q.heard free (silent free) away (if_both P s.presence.away free (record free { presence = is_gone s.presence }) away refl)
+    let P : WatchState → Type 0 = λ t. t.presence.away ≡ true in
+    if_both P q.heard free (silent free) away (if_both P s.presence.away free (record free { presence = presence_gone s.presence }) away refl)
 
-unheard_away : (s : State) (q : Out) → q.heard ≡ false → (replied s q Lost).presence.away ≡ true
+unheard_away : (s : WatchState) (q : Out) → q.heard ≡ false → (replied s q Lost).presence.away ≡ true
 unheard_away s q unheard =
     let free = lane_freed s q in
-    let P : State → Type 0 = λ t. t.presence.away ≡ true in
-    if_cases P q.heard free (silent free) (λ e. absurd (not_both e unheard)) (λ e. if_cases P s.presence.away free (record free { presence = is_gone s.presence }) (λ away. away) (λ there. refl))
+    let P : WatchState → Type 0 = λ t. t.presence.away ≡ true in
+    if_cases P q.heard free (silent free) (λ e. absurd (not_both e unheard)) (λ e. if_cases P s.presence.away free (record free { presence = presence_gone s.presence }) (λ away. away) (λ there. refl))
 
-lost_tracks : (s : State) (q : Out) (i : ℕ) → track_at (replied s q Lost) i ≡ track_at s i
+lost_tracks : (s : WatchState) (q : Out) (i : ℕ) → track_at (replied s q Lost) i ≡ track_at s i
 lost_tracks s q i =
     let free = lane_freed s q in
-    let P : State → Type 0 = λ t. track_at t i ≡ track_at s i in
-    if_both P q.heard free (silent free) refl (if_both P s.presence.away free (record free { presence = is_gone s.presence }) refl refl)
+    let P : WatchState → Type 0 = λ t. track_at t i ≡ track_at s i in
+    if_both P q.heard free (silent free) refl (if_both P s.presence.away free (record free { presence = presence_gone s.presence }) refl refl)
 
 -- the answers since the last clock, after one more
 or_false : (a : Bool) → a || false ≡ true → a ≡ true
@@ -380,34 +380,34 @@ any_added test [] a h = ap (λ b. b || false) h
 any_added test (x ∷ xs) a h = or_right (test x) (list_any test (xs ++ a ∷ [])) (any_added test xs a h)
 
 -- an answer: mid is the state before what it says of the broker
-pub record IsAnswered (old mid new : State) (q : Out) (reply : Reply) : Type 0 where
+pub record IsAnswered (old mid new : WatchState) (q : Out) (reply : Reply) : Type 0 where
   pub is : new ≡ replied mid q reply
   pub presence : mid.presence ≡ old.presence
   pub clocks : new.clocks ≡ old.clocks
   pub outs : mid.out ≡ old.out
   pub answers : mid.answers ≡ old.answers ++ record { since = q.since; heard = q.heard; reply = reply } ∷ []
 
-module _ (old mid new : State) (q : Out) (reply : Reply) (a : IsAnswered old mid new q reply) where
+module _ (old mid new : WatchState) (q : Out) (reply : Reply) (a : IsAnswered old mid new q reply) where
   abbrev answer : Answer
   answer = record { since = q.since; heard = q.heard; reply = reply }
 
   pub after : new.answers ≡ old.answers ++ answer ∷ []
-  after = ap (λ (x : State). x.answers) a.is ∙ replied_answers mid q reply ∙ a.answers
+  after = ap (λ (x : WatchState). x.answers) a.is ∙ replied_answers mid q reply ∙ a.answers
 
   new_backs : (i : ℕ) → Backs (track_at new i) (track_at mid i)
-  new_backs i = subst (λ (x : State). Backs (track_at x i) (track_at mid i)) (sym a.is) (back_kept_all mid q reply i) where
-    back_kept_all : (t : State) (r : Out) (w : Reply) (k : ℕ) → Backs (track_at (replied t r w) k) (track_at t k)
+  new_backs i = subst (λ (x : WatchState). Backs (track_at x i) (track_at mid i)) (sym a.is) (back_kept_all mid q reply i) where
+    back_kept_all : (t : WatchState) (r : Out) (w : Reply) (k : ℕ) → Backs (track_at (replied t r w) k) (track_at t k)
     back_kept_all t r w k = back_kept Backs same_backs back_backs t r w k
 
 -- a real one to another: nothing is held back
 pub real_endures :
-    (o : Outage) (i end bound due : ℕ) (miss : Type 0) (old mid new : State) (q : Out) (reply : Reply) → IsAnswered old mid new q reply → track_at mid i ≡ track_at old i → q.entry ≢ i →
+    (o : Outage) (i end bound due : ℕ) (miss : Type 0) (old mid new : WatchState) (q : Out) (reply : Reply) → IsAnswered old mid new q reply → track_at mid i ≡ track_at old i → q.entry ≢ i →
     is_real reply ≡ true → (old.presence.away ≡ false → old.presence.hold ≡ 0) → Endures o i end bound due miss old → Endures o i end bound due miss new
 unfolding Kept Missed
 real_endures o i end bound due miss old mid new q reply a same apart real none h =
     let backs = subst (Backs (track_at new i)) same (new_backs old mid new q reply a i) in
     let hold : new.presence.hold ≡ 0 =
-    ap (λ (x : State). x.presence.hold) a.is ∙ real_hold mid q reply real (subst (λ (p : Presence). p.away ≡ false → p.hold ≡ 0) (sym a.presence) none) in
+    ap (λ (x : WatchState). x.presence.hold) a.is ∙ real_hold mid q reply real (subst (λ (p : Presence). p.away ≡ false → p.hold ≡ 0) (sym a.presence) none) in
     let low : new.presence.hold ≤ bound = omega (arith, hold) in
     let clock = ap (λ c. c.at) a.clocks in
     let P : Out → Type 0 = Cutting o i bound miss new in
@@ -442,42 +442,42 @@ real_endures o i end bound due miss old mid new q reply a same apart real none h
             ];
           };
       lane = λ out.
-          subst (λ (x : State). list_any (is_of i any_time) x.out ≡ true) (sym a.is)
+          subst (λ (x : WatchState). list_any (is_of i any_time) x.out ≡ true) (sym a.is)
           (replied_lane i any_time mid q reply apart (subst (λ os. list_any (is_of i any_time) os ≡ true) (sym a.outs) (h.lane (sym backs.out ∙ out))));
       out =
-          subst (λ (x : State). All P x.out) (sym a.is)
+          subst (λ (x : WatchState). All P x.out) (sym a.is)
           (all_left P (λ r k e. ((k e).0, ((k e).1.0, λ heard'. low))) mid q reply
           (subst (All P) (sym a.outs) (All-weaker (Cutting o i bound miss old) P (λ r k e. ((k e).0, ((k e).1.0, λ heard'. low))) old.out h.out)));
-      silent' = λ any away. absurd (not_both away (ap (λ (x : State). x.presence.away) a.is ∙ real_away mid q reply real));
+      silent' = λ any away. absurd (not_both away (ap (λ (x : WatchState). x.presence.away) a.is ∙ real_away mid q reply real));
     }
 
 -- a lost one: the requests that are left, and by when the next clock comes
-lost_out : (s : State) (q : Out) → (replied s q Lost).out ≡ without q.entry s.out
+lost_out : (s : WatchState) (q : Out) → (replied s q Lost).out ≡ without_request q.entry s.out
 lost_out s q =
     let free = lane_freed s q in
-    let P : State → Type 0 = λ t. t.out ≡ without q.entry s.out in
-    if_both P q.heard free (silent free) refl (if_both P s.presence.away free (record free { presence = is_gone s.presence }) refl refl)
+    let P : WatchState → Type 0 = λ t. t.out ≡ without_request q.entry s.out in
+    if_both P q.heard free (silent free) refl (if_both P s.presence.away free (record free { presence = presence_gone s.presence }) refl refl)
 
-module _ (o : Outage) (i end bound due : ℕ) (miss : Type 0) (old mid new : State) (q : Out) (a : IsAnswered old mid new q Lost) (not_whole : is_whole o q.since ≡ false) (in_time : due ≤ settled_by o q.since + o.late) (h : Endures o i end bound due miss old) where
+module _ (o : Outage) (i end bound due : ℕ) (miss : Type 0) (old mid new : WatchState) (q : Out) (a : IsAnswered old mid new q Lost) (not_whole : is_request_whole o q.since ≡ false) (in_time : due ≤ outage_settled_by o q.since + o.late) (h : Endures o i end bound due miss old) where
   by_cut : due ≤ cut o
   by_cut = let c = cut_off o q.since not_whole in omega (arith, in_time, c)
 
   lower : new.presence.hold ≤ old.presence.hold
   lower =
       let l = lost_hold mid q in
-      let e = ap (λ (x : State). x.presence.hold) a.is in
+      let e = ap (λ (x : WatchState). x.presence.hold) a.is in
       let same = ap (λ (p : Presence). p.hold) a.presence in
       omega (arith, l, e, same)
 
   still_away : old.presence.away ≡ true → new.presence.away ≡ true
-  still_away away = ap (λ (x : State). x.presence.away) a.is ∙ lost_away mid q (ap (λ (p : Presence). p.away) a.presence ∙ away)
+  still_away away = ap (λ (x : WatchState). x.presence.away) a.is ∙ lost_away mid q (ap (λ (p : Presence). p.away) a.presence ∙ away)
 
   left_out : All (Cutting o i bound miss new) new.out
-  unfolding without
+  unfolding without_request
   left_out =
       let P : Out → Type 0 = Cutting o i bound miss new in
       let l = lower in
-      subst (All P) (sym (ap (λ (x : State). x.out) a.is ∙ lost_out mid q))
+      subst (All P) (sym (ap (λ (x : WatchState). x.out) a.is ∙ lost_out mid q))
       (All-filter (λ r. not (r.entry == q.entry)) P mid.out
       (subst (All P) (sym a.outs) (All-weaker (Cutting o i bound miss old) P (λ r k e. ((k e).0, ((k e).1.0, λ heard'. let b = (k e).1.1 heard' in omega (arith, b, l)))) old.out h.out)))
 
@@ -496,7 +496,7 @@ module _ (o : Outage) (i end bound due : ℕ) (miss : Type 0) (old mid new : Sta
   pub lost_endures : track_at mid i ≡ track_at old i → q.entry ≢ i → Endures o i end bound due miss new
   unfolding Kept Missed
   lost_endures same apart =
-      let track : track_at new i ≡ track_at old i = ap (λ (x : State). track_at x i) a.is ∙ lost_tracks mid q i ∙ same in
+      let track : track_at new i ≡ track_at old i = ap (λ (x : WatchState). track_at x i) a.is ∙ lost_tracks mid q i ∙ same in
       let clock = ap (λ c. c.at) a.clocks in
       let l = lower in
       record {
@@ -525,7 +525,7 @@ module _ (o : Outage) (i end bound due : ℕ) (miss : Type 0) (old mid new : Sta
               ];
             };
         lane = λ out.
-            subst (λ (x : State). list_any (is_of i any_time) x.out ≡ true) (sym a.is)
+            subst (λ (x : WatchState). list_any (is_of i any_time) x.out ≡ true) (sym a.is)
             (replied_lane i any_time mid q Lost apart (subst (λ os. list_any (is_of i any_time) os ≡ true) (sym a.outs) (h.lane (sym (ap (λ (x : Track). x.out) track) ∙ out))));
         out = left_out;
         silent' = λ any away. by_cut;
@@ -550,7 +550,7 @@ module _ (o : Outage) (i end bound due : ℕ) (miss : Type 0) (old mid new : Sta
   unfolding Kept Missed ungranted_track
   own_endures may own within made ahead spared =
       let x = track_at old i in
-      let track : track_at new i ≡ record x { out = false; attempt = ungranted old.clocks.at q.heard Lost x x.attempt } = ap (λ (y : State). track_at y i) a.is ∙ lost_tracks mid q i ∙ made in
+      let track : track_at new i ≡ record x { out = false; attempt = ungranted old.clocks.at q.heard Lost x x.attempt } = ap (λ (y : WatchState). track_at y i) a.is ∙ lost_tracks mid q i ∙ made in
       let l = lower in
       let free : (track_at new i).out ≡ false = ap (λ (y : Track). y.out) track in
       record {
@@ -575,7 +575,7 @@ module _ (o : Outage) (i end bound due : ℕ) (miss : Type 0) (old mid new : Sta
                         | inr unheard ↦
                             inr (
                               ap (list_any is_silent) (after old mid new q Lost a) ∙ any_added is_silent old.answers (answer old mid new q Lost a) (ap not unheard),
-                              ap (λ (y : State). y.presence.away) a.is ∙ unheard_away mid q unheard,
+                              ap (λ (y : WatchState). y.presence.away) a.is ∙ unheard_away mid q unheard,
                             )
                       ],
                     ),
@@ -590,7 +590,7 @@ module _ (o : Outage) (i end bound due : ℕ) (miss : Type 0) (old mid new : Sta
 
 -- the bound may be later, and then it may miss
 pub later_endures :
-    (o : Outage) (i end bound more due : ℕ) (miss may : Type 0) (s : State) → bound ≤ more → (miss → may) → Endures o i end bound due miss s → Endures o i end more due may s
+    (o : Outage) (i end bound more due : ℕ) (miss may : Type 0) (s : WatchState) → bound ≤ more → (miss → may) → Endures o i end bound due miss s → Endures o i end more due may s
 unfolding Kept Missed
 later_endures o i end bound more due miss may s le weaker h = record {
   end_is = h.end_is;

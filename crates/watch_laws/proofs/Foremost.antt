@@ -25,13 +25,13 @@ use Rattle.watch_machine.specs.Margins.{has_come, time}
 use Rattle.watch_machine.specs.Press.{pressed}
 use Rattle.watch_machine.specs.Refusal.{request_out}
 use Rattle.watch_machine.specs.Sending.{sent, sent_in}
-use Rattle.watch_machine.specs.State.{State, entry_of, opened, second, track_at}
+use Rattle.watch_machine.specs.State.{WatchState, entry_of, opened, second, track_at}
 use Rattle.watch_machine.specs.Step.{Step, StepLooked, StepRenewed, readied}
 use Rattle.watch_machine.specs.Wait.{wait}
 use Rattle.watch_machine.specs.Wanted.{is_alive}
 use Rattle.watch_machine.proofs.Cases.{not_both, value_is}
 use Rattle.watch_machine.proofs.Written.{each_length}
-use Rattle.watch_laws.specs.Load.{asked_by, requests_of}
+use Rattle.watch_laws.specs.Load.{requests_asked_by, requests_of}
 use Rattle.watch_laws.specs.Partial.{is_own_try, stands_before}
 use Rattle.watch_laws.specs.Recovery.{MayGo}
 use Rattle.watch_laws.specs.Starts.{AllKnownFirst, IsToRenew, KnownFirstLaw}
@@ -61,14 +61,14 @@ absent i (j ∷ js) none =
       same_is : (a b : ℕ) → a ≡ b → (a == b) ≡ true
       same_is a b e = grind (arith, nat_tests)
 
-module _ (old new : State) (wall elapsed : ℕ) (output : Output) (h : Ticks old new wall elapsed output) (i : ℕ) where
-  abbrev ready : State
+module _ (old new : WatchState) (wall elapsed : ℕ) (output : Output) (h : Ticks old new wall elapsed output) (i : ℕ) where
+  abbrev ready : WatchState
   ready = readied old wall elapsed
 
-  abbrev mid : State
+  abbrev mid : WatchState
   mid = pressed ready h.round
 
-  abbrev left : State
+  abbrev left : WatchState
   left = sent mid h.requests
 
   abbrev gone : List ℕ
@@ -133,30 +133,30 @@ module _ (old new : State) (wall elapsed : ℕ) (output : Output) (h : Ticks old
 
   pub new_first : new.presence.away ≡ false → IsToRenew new i → All (λ (r : Request). stands_before i new r.entry ≡ true) h.requests
   new_first there r =
-      subst (λ (x : State). All (λ (q : Request). stands_before i x q.entry ≡ true) h.requests) (sym h.new_is)
-      (clock_first (subst (λ (x : State). x.presence.away ≡ false) h.new_is there) (subst (λ (x : State). IsToRenew x i) h.new_is r))
+      subst (λ (x : WatchState). All (λ (q : Request). stands_before i x q.entry ≡ true) h.requests) (sym h.new_is)
+      (clock_first (subst (λ (x : WatchState). x.presence.away ≡ false) h.new_is there) (subst (λ (x : WatchState). IsToRenew x i) h.new_is r))
 
 -- ---- a step, a turn
 
-abbrev First : State → ℕ → Output → Type 0
-First new i output = All (λ (r : Request). stands_before i new r.entry ≡ true) (asked_by output.command)
+abbrev First : WatchState → ℕ → Output → Type 0
+First new i output = All (λ (r : Request). stands_before i new r.entry ≡ true) (requests_asked_by output.command)
 
-none_goes : (new : State) (i : ℕ) (output out : Output) → output ≡ out → out.command ≡ Taken → First new i output
+none_goes : (new : WatchState) (i : ℕ) (output out : Output) → output ≡ out → out.command ≡ Taken → First new i output
 none_goes new i output out is taken' =
-    subst (λ c. All (λ (r : Request). stands_before i new r.entry ≡ true) (asked_by c)) (sym (ap (λ (x : Output). x.command) is ∙ taken')) (All-nil (λ (r : Request). stands_before i new r.entry ≡ true))
+    subst (λ c. All (λ (r : Request). stands_before i new r.entry ≡ true) (requests_asked_by c)) (sym (ap (λ (x : Output). x.command) is ∙ taken')) (All-nil (λ (r : Request). stands_before i new r.entry ≡ true))
 
-looked_first : (old new : State) (i : ℕ) (found : Option Out) (reply : Reply) (terms : Terms) (output : Output) → StepLooked old found reply terms output new → First new i output
+looked_first : (old new : WatchState) (i : ℕ) (found : Option Out) (reply : Reply) (terms : Terms) (output : Output) → StepLooked old found reply terms output new → First new i output
 looked_first old new i None reply terms output step = absurd step
 looked_first old new i (Some q) reply terms output step = none_goes new i output _ step.0 refl
 
-renewed_first : (old new : State) (i : ℕ) (found : Option Out) (reply : Reply) (output : Output) → StepRenewed old found reply output new → First new i output
+renewed_first : (old new : WatchState) (i : ℕ) (found : Option Out) (reply : Reply) (output : Output) → StepRenewed old found reply output new → First new i output
 renewed_first old new i None reply output step = absurd step
 renewed_first old new i (Some q) reply output step = none_goes new i output _ step.0 refl
 
-step_first : (old new : State) (event : Event) (output : Output) (i : ℕ) → Step old event output new → new.presence.away ≡ false → IsToRenew new i → First new i output
+step_first : (old new : WatchState) (event : Event) (output : Output) (i : ℕ) → Step old event output new → new.presence.away ≡ false → IsToRenew new i → First new i output
 step_first old new (Clock wall elapsed) output i step there r =
     let h = ticks old new wall elapsed output step in
-    subst (λ c. All (λ (q : Request). stands_before i new q.entry ≡ true) (asked_by c)) (sym h.command) (new_first old new wall elapsed output h i there r)
+    subst (λ c. All (λ (q : Request). stands_before i new q.entry ≡ true) (requests_asked_by c)) (sym h.command) (new_first old new wall elapsed output h i there r)
 step_first old new (Looked j reply terms) output i step there r = looked_first old new i (request_out old.out j Look) reply terms output step
 step_first old new (Renewed j reply) output i step there r = renewed_first old new i (request_out old.out j Renew) reply output step
 step_first old new (Need j until) output i step there r = none_goes new i output _ step.0 refl
@@ -164,12 +164,12 @@ step_first old new Begin output i step there r = none_goes new i output _ step.0
 step_first old new (Known j end renewable) output i step there r = none_goes new i output _ step.0 refl
 
 turn_first :
-    (old new : State) (event : Event) (result : Result Output WatchFault) (i : ℕ) → Turn old event result new → new.presence.away ≡ false → IsToRenew new i →
+    (old new : WatchState) (event : Event) (result : Result Output WatchFault) (i : ℕ) → Turn old event result new → new.presence.away ≡ false → IsToRenew new i →
     All (λ (r : Request). stands_before i new r.entry ≡ true) (requests_of result)
 turn_first old new event (Ok output) i turn there r = step_first old new event output i turn.1 there r
 turn_first old new event (Err fault) i turn there r = All-nil (λ (q : Request). stands_before i new q.entry ≡ true)
 
-ran : (turns : List Turned) (old : State) → History old turns → AllKnownFirst turns
+ran : (turns : List Turned) (old : WatchState) → History old turns → AllKnownFirst turns
 ran [] old h = tt
 ran (turn ∷ turns) old h = ((λ there i r. turn_first old turn.state turn.event turn.result i h.0 there r), ran turns turn.state h.1)
 

@@ -10,7 +10,7 @@ use Rattle.keep_tree.specs.Push.{IsForest}
 use Rattle.keep_tree.proofs.Carrying.{and_right, carried_is_of}
 use Rattle.keep_rule.specs.Asks.{first_of}
 use Rattle.keep_rule.specs.Forced.{bound, latest_end}
-use Rattle.keep_rule.specs.Schedule.{IsNext, IsSchedule}
+use Rattle.keep_rule.specs.Schedule.{IsNextMoment, IsSchedule}
 use Rattle.keep_rule.specs.Unkeepable.{AllKeepable}
 use Rattle.keep_rule.proofs.Existence.{there_is_one}
 use Rattle.keep_rule.proofs.Lists.{need_within}
@@ -21,14 +21,14 @@ use Rattle.watch_machine.specs.declared.track.End.TheVariants.{Unknown, At, Neve
 use Rattle.watch_machine.specs.History.{History, Turned}
 use Rattle.watch_machine.specs.Margins.{is_in_plan, own_margin, time, time_before}
 use Rattle.watch_machine.specs.Outlook.{time_of}
-use Rattle.watch_machine.specs.State.{State, entry_of, opened, second, track_at}
+use Rattle.watch_machine.specs.State.{WatchState, entry_of, opened, second, track_at}
 use Rattle.watch_machine.specs.Wanted.{believed, is_never, is_unknown, is_wanted, wanted_need, wants}
 use Rattle.watch_laws.specs.Calm.{AllForeseen, AllInPlan, IsForeseen, IsKeepable, IsLeastTime, IsPlanNow, NextMomentLaw, believed_forest, ends, in_plan_at, terms}
 use Rattle.watch_laws.proofs.Believed.{believed_at, believed_count, believed_is_forest, believed_margin, carried_believed}
 use Rattle.watch_laws.proofs.Forested.{turned_forest}
 
 -- an entry that is wanted ends before it is needed no more
-pub wanted_short : (s : State) (i : ℕ) → is_wanted s i ≡ true → ends s i < wanted_need s i
+pub wanted_short : (s : WatchState) (i : ℕ) → is_wanted s i ≡ true → ends s i < wanted_need s i
 unfolding wants ends
 wanted_short s i wanted =
     let x = track_at s i in
@@ -54,7 +54,7 @@ all_wanted true unknown true endless short r e s = absurd cc
 all_wanted false unknown top endless short r e s = absurd cc
 
 -- what is known of an entry that has to be led further, where no pair is Unkeepable
-pub record IsLed (s : State) (i : ℕ) : Type 0 where
+pub record IsLed (s : WatchState) (i : ℕ) : Type 0 where
   pub within : i < length s.forest.entries
   pub wanted : is_wanted s i ≡ true
   pub room : second s + s.forest.margin ≤ ends s i
@@ -63,7 +63,7 @@ pub record IsLed (s : State) (i : ℕ) : Type 0 where
   pub known : (track_at s i).end ≡ At (ends s i)
   pub more : (c : ℕ) → (terms s i).ceiling ≡ Some c → wanted_need s i ≤ c
 
-pub led_by : (s : State) → IsForest s.forest → (e : ℕ → ℕ) → AllKeepable (believed_forest s) (second s) e → (i : ℕ) → e i ≡ ends s i → ends s i < wanted_need s i → IsLed s i
+pub led_by : (s : WatchState) → IsForest s.forest → (e : ℕ → ℕ) → AllKeepable (believed_forest s) (second s) e → (i : ℕ) → e i ≡ ends s i → ends s i < wanted_need s i → IsLed s i
 unfolding wants ends terms
 led_by s forest e keepable i own short =
     let g = believed_forest s in
@@ -96,11 +96,11 @@ led_by s forest e keepable i own short =
       more = λ c e. (let l = led.ceiling c (ap (λ (y : Entry). y.ceiling) is ∙ e) in omega arith);
     }
 
-pub short_led : (s : State) → IsForest s.forest → IsKeepable s → (i : ℕ) → ends s i < wanted_need s i → IsLed s i
+pub short_led : (s : WatchState) → IsForest s.forest → IsKeepable s → (i : ℕ) → ends s i < wanted_need s i → IsLed s i
 short_led s forest keepable i short = led_by s forest (ends s) keepable i refl short
 
 -- its time comes a margin before its end
-pub time_is : (s : State) (i : ℕ) → IsLed s i → in_plan_at s i ≡ true → time_of s i ≡ ends s i - s.forest.margin
+pub time_is : (s : WatchState) (i : ℕ) → IsLed s i → in_plan_at s i ≡ true → time_of s i ≡ ends s i - s.forest.margin
 unfolding time is_in_plan
 time_is s i led planned =
     let mine = own_margin s.forest.margin (entry_of s i) (track_at s i) in
@@ -111,7 +111,7 @@ bound_none : (es : List Entry) (e : ℕ → ℕ) (i : ℕ) → bound es e None i
 unfolding bound latest_end
 bound_none es e i = refl
 
-least_time : (s : State) → IsForest s.forest → IsKeepable s → AllInPlan s → (ts : List ℕ) → IsSchedule (believed_forest s).entries (believed_forest s).margin (second s) (ends s) None ts → IsLeastTime s (first_of ts)
+least_time : (s : WatchState) → IsForest s.forest → IsKeepable s → AllInPlan s → (ts : List ℕ) → IsSchedule (believed_forest s).entries (believed_forest s).margin (second s) (ends s) None ts → IsLeastTime s (first_of ts)
 least_time s forest keepable in_plan [] schedule = λ i within.
     elim (cases_Bool (is_wanted s i)) as (λ _. is_wanted s i ≡ false) [
       | inr no' ↦ no'
@@ -124,7 +124,7 @@ least_time s forest keepable in_plan [] schedule = λ i within.
     ]
 least_time s forest keepable in_plan (t ∷ ts) schedule =
     let es = (believed_forest s).entries in
-    let next : IsNext es (believed_forest s).margin (second s) (ends s) None t = schedule.0 in
+    let next : IsNextMoment es (believed_forest s).margin (second s) (ends s) None t = schedule.0 in
     let e = next.entry in
     let b = bound_none es (ends s) e in
     let c = carried_believed s forest e in
@@ -145,12 +145,12 @@ least_time s forest keepable in_plan (t ∷ ts) schedule =
     )
 
 -- the plan with its schedule
-pub record IsScheduled (s : State) (ts : List ℕ) : Type 0 where
+pub record IsScheduled (s : WatchState) (ts : List ℕ) : Type 0 where
   pub schedule : IsSchedule (believed_forest s).entries (believed_forest s).margin (second s) (ends s) None ts
   pub best : IsPlanNow s ts
   pub least : IsLeastTime s (first_of ts)
 
-pub there_is_plan : (s : State) → IsForest s.forest → IsKeepable s → AllInPlan s → (ts : List ℕ) × IsScheduled s ts
+pub there_is_plan : (s : WatchState) → IsForest s.forest → IsKeepable s → AllInPlan s → (ts : List ℕ) × IsScheduled s ts
 unfolding believed_forest
 there_is_plan s forest keepable in_plan =
     let g = believed_forest s in
@@ -159,12 +159,12 @@ there_is_plan s forest keepable in_plan =
     let all = schedule_is_best g (second s) (ends s) forest' keepable some.0 some.1 in
     (some.0, record { schedule = some.1; best = all.1.1.1; least = least_time s forest keepable in_plan some.0 some.1 })
 
-pub foreseen : (s : State) → IsForest s.forest → IsForeseen s
+pub foreseen : (s : WatchState) → IsForest s.forest → IsForeseen s
 foreseen s forest keepable in_plan =
     let some = there_is_plan s forest keepable in_plan in
     (some.0, (some.1.best, some.1.least))
 
-ran : (turns : List Turned) (old : State) → History old turns → IsForest old.forest → AllForeseen turns
+ran : (turns : List Turned) (old : WatchState) → History old turns → IsForest old.forest → AllForeseen turns
 ran [] old h forest = tt
 ran (turn ∷ turns) old h forest =
     let there = turned_forest old turn.state turn.event turn.result h.0 forest in

@@ -27,10 +27,10 @@ use Rattle.watch_machine.specs.History.{Turn}
 use Rattle.watch_machine.specs.Looked.{by_terms, looked, step_told, with_terms}
 use Rattle.watch_machine.specs.Press.{pressed}
 use Rattle.watch_machine.specs.Refusal.{refusal, request_out}
-use Rattle.watch_machine.specs.Renewed.{renewed}
-use Rattle.watch_machine.specs.Round.{asked_by}
+use Rattle.watch_machine.specs.Renewed.{state_renewed}
+use Rattle.watch_machine.specs.Round.{asked_by_round}
 use Rattle.watch_machine.specs.Settling.{settled, timed}
-use Rattle.watch_machine.specs.State.{State}
+use Rattle.watch_machine.specs.State.{WatchState}
 use Rattle.watch_machine.specs.Step.{Step, StepLooked, StepRenewed, readied, why}
 use Rattle.watch_machine.proofs.Cases.{if_cases}
 use Rattle.watch_machine.proofs.Within.{asked_none, out_entry, within_none}
@@ -53,7 +53,7 @@ told_ceiling : (o : Option ℕ) → is_too_high (option_map (λ t. min END_MAX t
 told_ceiling None = refl
 told_ceiling (Some t) = let l : min END_MAX t ≤ END_MAX = omega arith in grind (arith, nat_tests)
 
-told_forest : (s : State) (i : ℕ) (terms : Terms) → IsForest s.forest → i < length s.forest.entries → IsForest (with_terms s i terms).forest
+told_forest : (s : WatchState) (i : ℕ) (terms : Terms) → IsForest s.forest → i < length s.forest.entries → IsForest (with_terms s i terms).forest
 unfolding by_terms
 told_forest s i terms forest within =
     let g = s.forest in
@@ -96,38 +96,38 @@ told_forest s i terms forest within =
       not_so true h = absurd cc
       not_so false h = refl
 
-looked_forest : (s : State) (r : Out) (reply : Reply) (terms : Terms) → IsForest s.forest → r.entry < length s.forest.entries → IsForest (looked s r reply terms).forest
+looked_forest : (s : WatchState) (r : Out) (reply : Reply) (terms : Terms) → IsForest s.forest → r.entry < length s.forest.entries → IsForest (looked s r reply terms).forest
 looked_forest s r (Told seconds renewable date) terms forest within = told_forest s r.entry terms forest within
 looked_forest s r (Refused status date) terms forest within = forest
 looked_forest s r Busy terms forest within = forest
 looked_forest s r Lost terms forest within = forest
 
-looked_on : (old new : State) (i : ℕ) (found : Option Out) (reply : Reply) (terms : Terms) (output : Output) → request_out old.out i Look ≡ found → StepLooked old found reply terms output new → i < length old.forest.entries → IsForest old.forest → IsForest new.forest
+looked_on : (old new : WatchState) (i : ℕ) (found : Option Out) (reply : Reply) (terms : Terms) (output : Output) → request_out old.out i Look ≡ found → StepLooked old found reply terms output new → i < length old.forest.entries → IsForest old.forest → IsForest new.forest
 looked_on old new i None reply terms output is step within forest = absurd step
 looked_on old new i (Some q) reply terms output is step within forest =
     let s = noted old q reply in
     let inside = subst (λ n. n < length old.forest.entries) (sym (out_entry old.out i Look q is)) within in
-    subst (λ (x : State). IsForest x.forest) (sym step.1) (subst IsForest (sym (replied_forest (looked s q reply terms) q reply)) (looked_forest s q reply terms forest inside))
+    subst (λ (x : WatchState). IsForest x.forest) (sym step.1) (subst IsForest (sym (replied_forest (looked s q reply terms) q reply)) (looked_forest s q reply terms forest inside))
 
-renewed_on : (old new : State) (found : Option Out) (reply : Reply) (output : Output) → StepRenewed old found reply output new → IsForest old.forest → IsForest new.forest
+renewed_on : (old new : WatchState) (found : Option Out) (reply : Reply) (output : Output) → StepRenewed old found reply output new → IsForest old.forest → IsForest new.forest
 renewed_on old new None reply output step forest = absurd step
 renewed_on old new (Some q) reply output step forest =
-    subst (λ (x : State). IsForest x.forest) (sym step.1) (subst IsForest (sym (replied_forest (renewed (noted old q reply) q reply) q reply)) forest)
+    subst (λ (x : WatchState). IsForest x.forest) (sym step.1) (subst IsForest (sym (replied_forest (state_renewed (noted old q reply) q reply) q reply)) forest)
 
-begun_forest : (s : State) (w : Option Why) → (begun s w).forest ≡ s.forest
+begun_forest : (s : WatchState) (w : Option Why) → (begun s w).forest ≡ s.forest
 begun_forest s None = refl
 begun_forest s (Some w) = refl
 
-pub readied_forest : (s : State) (wall elapsed : ℕ) → (readied s wall elapsed).forest ≡ s.forest
+pub readied_forest : (s : WatchState) (wall elapsed : ℕ) → (readied s wall elapsed).forest ≡ s.forest
 unfolding readied
 readied_forest s wall elapsed = begun_forest (settled (timed s wall elapsed)) (why s wall elapsed)
 
-stepped : (old new : State) (event : Event) (output : Output) → refusal old event ≡ None → Step old event output new → IsForest old.forest → IsForest new.forest
+stepped : (old new : WatchState) (event : Event) (output : Output) → refusal old event ≡ None → Step old event output new → IsForest old.forest → IsForest new.forest
 unfolding refusal
 stepped old new (Clock wall elapsed) output taken step forest =
-    let mid = pressed (readied old wall elapsed) (asked_by step.round) in
+    let mid = pressed (readied old wall elapsed) (asked_by_round step.round) in
     let go = sent_by mid new output.command step.command in
-    subst (λ (x : State). IsForest x.forest) (sym go.1) (subst IsForest (sym (readied_forest old wall elapsed)) forest)
+    subst (λ (x : WatchState). IsForest x.forest) (sym go.1) (subst IsForest (sym (readied_forest old wall elapsed)) forest)
 stepped old new (Looked i reply terms) output taken step forest = looked_on old new i (request_out old.out i Look) reply terms output refl step (asked_none old i Look taken) forest
 stepped old new (Renewed i reply) output taken step forest = renewed_on old new (request_out old.out i Renew) reply output step forest
 stepped old new (Need i until) output taken step forest =
@@ -144,11 +144,11 @@ stepped old new (Need i until) output taken step forest =
       step = (forest.placed i within).step_past_margin;
       range = range_from_parts e (record { end = low; ceiling = parts.ceiling; need = omega arith });
     } in
-    subst (λ (x : State). IsForest x.forest) (sym step.1) (replaced_is_forest g forest i e fits)
-stepped old new Begin output taken step forest = subst (λ (x : State). IsForest x.forest) (sym step.1) forest
-stepped old new (Known i end renewable) output taken step forest = subst (λ (x : State). IsForest x.forest) (sym step.1) forest
+    subst (λ (x : WatchState). IsForest x.forest) (sym step.1) (replaced_is_forest g forest i e fits)
+stepped old new Begin output taken step forest = subst (λ (x : WatchState). IsForest x.forest) (sym step.1) forest
+stepped old new (Known i end renewable) output taken step forest = subst (λ (x : WatchState). IsForest x.forest) (sym step.1) forest
 
 -- whatever an event gives, the forest stays one
-pub turned_forest : (old new : State) (event : Event) (result : Result Output WatchFault) → Turn old event result new → IsForest old.forest → IsForest new.forest
+pub turned_forest : (old new : WatchState) (event : Event) (result : Result Output WatchFault) → Turn old event result new → IsForest old.forest → IsForest new.forest
 turned_forest old new event (Ok output) turn forest = stepped old new event output turn.0 turn.1 forest
-turned_forest old new event (Err fault) turn forest = subst (λ (x : State). IsForest x.forest) (sym (refused_stays old new event fault turn)) forest
+turned_forest old new event (Err fault) turn forest = subst (λ (x : WatchState). IsForest x.forest) (sym (refused_stays old new event fault turn)) forest

@@ -13,7 +13,7 @@ use Rattle.watch_machine.specs.declared.track.Try.{Try}
 use Rattle.watch_machine.specs.Clocks.{sec}
 use Rattle.watch_machine.specs.Lines.{asked_rank, is_due, is_first, rank}
 use Rattle.watch_machine.specs.Sending.{is_alone, is_alone_try, is_before, is_partial, patience, place, place_of, request_of, sent, sent_in, sent_track}
-use Rattle.watch_machine.specs.State.{State, track_at, track_in}
+use Rattle.watch_machine.specs.State.{WatchState, track_at, track_in}
 use Rattle.watch_machine.specs.Wanted.{believed, is_alive, is_unknown}
 use Rattle.watch_machine.proofs.Cases.{if_both}
 use Rattle.watch_machine.proofs.Written.{each_length}
@@ -75,7 +75,7 @@ fronts p at xs i k there own due other h =
 abbrev Stays : Track → Track → Type 0
 Stays y x = (y.attempt ≡ x.attempt) × (y.end ≡ x.end)
 
-sent_stays : (s : State) (rs : List Request) (j : ℕ) → Stays (track_at (sent s rs) j) (track_at s j)
+sent_stays : (s : WatchState) (rs : List Request) (j : ℕ) → Stays (track_at (sent s rs) j) (track_at s j)
 sent_stays s rs j =
     each_kept Stays (refl, refl) (sent_in s.clocks.at rs) s.tracks
     (λ k x. if_both (λ y. Stays y x) (list_any (λ (r : Request). r.entry == k) rs) (sent_track s.clocks.at x) x (refl, refl) (refl, refl)) j
@@ -83,12 +83,12 @@ sent_stays s rs j =
 abbrev own_by : ℕ → Option Try → End → Bool
 own_by now o e = is_own_try o && nat_lt now (believed e)
 
-pub sent_own : (s : State) (rs : List Request) (now j : ℕ) → own_at now (sent s rs).tracks j ≡ own_at now s.tracks j
+pub sent_own : (s : WatchState) (rs : List Request) (now j : ℕ) → own_at now (sent s rs).tracks j ≡ own_at now s.tracks j
 sent_own s rs now j =
     let h = sent_stays s rs j in
     ap (λ o. own_by now o (track_at (sent s rs) j).end) h.0 ∙ ap (λ e. own_by now (track_at s j).attempt e) h.1
 
-pub sent_front : (s : State) (rs : List Request) (now i k : ℕ) → front_at now (sent s rs).tracks i k ≡ front_at now s.tracks i k
+pub sent_front : (s : WatchState) (rs : List Request) (now i k : ℕ) → front_at now (sent s rs).tracks i k ≡ front_at now s.tracks i k
 sent_front s rs now i k =
     let h = sent_stays s rs k in
     let e = sent_stays s rs i in
@@ -116,7 +116,7 @@ index_alone test (x ∷ xs) (suc j) within h = or_right (test x) (list_any test 
 abbrev alone_by : ℕ → Option Try → End → Bool
 alone_by now o e = is_alone_try o && (is_unknown e || nat_lt now (believed e))
 
-pub sent_partial : (s : State) (rs : List Request) (now : ℕ) → is_partial now (sent s rs).tracks ≡ true → is_partial now s.tracks ≡ true
+pub sent_partial : (s : WatchState) (rs : List Request) (now : ℕ) → is_partial now (sent s rs).tracks ≡ true → is_partial now s.tracks ≡ true
 unfolding is_partial
 sent_partial s rs now h =
     let there = alone_index (is_alone now) (sent s rs).tracks h in

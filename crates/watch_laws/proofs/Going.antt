@@ -16,7 +16,7 @@ use Rattle.watch_machine.specs.declared.track.Track.{Track}
 use Rattle.watch_machine.specs.declared.track.Try.{Try}
 use Rattle.watch_machine.specs.Clocks.{sec}
 use Rattle.watch_machine.specs.Lines.{is_due}
-use Rattle.watch_machine.specs.Sending.{IsGoing, IsLine, Place, due, is_before, is_partial, place, place_of, request, request_of}
+use Rattle.watch_machine.specs.Sending.{IsGoing, IsSendingOrder, Place, due, is_before, is_partial, place, place_of, request, request_of}
 use Rattle.watch_machine.specs.State.{track_in}
 use Rattle.watch_machine.proofs.Cases.{if_cases, not_both}
 use Rattle.watch_laws.specs.Load.{Sent, sent_at}
@@ -161,7 +161,7 @@ all_placed p at xs line all =
 
 -- who is due and is not among the first stands before none of them
 first_in_line :
-    (p : Presence) (at : ℕ) (xs : List Track) (lanes : ℕ) (line : List Place) (i : ℕ) → IsLine p at xs line → 1 ≤ times i (map (λ (q : Place). q.entry) line) →
+    (p : Presence) (at : ℕ) (xs : List Track) (lanes : ℕ) (line : List Place) (i : ℕ) → IsSendingOrder p at xs line → 1 ≤ times i (map (λ (q : Place). q.entry) line) →
     times i (map (λ (q : Place). q.entry) (take lanes line)) ≡ 0 → All (λ (q : Place). is_before (place p.away (sec at) xs i) (place p.away (sec at) xs q.entry) ≡ false) (take lanes line)
 first_in_line p at xs lanes line i h some none = λ k d below.
     let there = after_first i lanes line some none in

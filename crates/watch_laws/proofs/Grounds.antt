@@ -13,14 +13,13 @@ use Rattle.watch_machine.specs.declared.fault.WatchFault.{WatchFault}
 use Rattle.watch_machine.specs.declared.lanes.Out.{Out}
 use Rattle.watch_machine.specs.Answers.{noted, replied}
 use Rattle.watch_machine.specs.Clocks.{sec}
-use Rattle.watch_machine.specs.History.{History, Turn, Turned}
+use Rattle.watch_machine.specs.History.{History, Turn, Turned, after_all}
 use Rattle.watch_machine.specs.Looked.{looked}
 use Rattle.watch_machine.specs.Press.{pressed}
 use Rattle.watch_machine.specs.Refusal.{request_out}
-use Rattle.watch_machine.specs.Renewed.{renewed}
-use Rattle.watch_machine.specs.State.{State, fresh_track, opened}
+use Rattle.watch_machine.specs.Renewed.{state_renewed}
+use Rattle.watch_machine.specs.State.{WatchState, fresh_track, opened}
 use Rattle.watch_machine.specs.Step.{Step, StepLooked, StepRenewed, readied}
-use Rattle.watch_laws.specs.Turns.{after_all}
 use Rattle.watch_laws.proofs.Alone.{turn_alone}
 use Rattle.watch_laws.proofs.Answering.{looked_leaves, renewed_leaves, rest_of}
 use Rattle.watch_laws.proofs.Clocking.{readied_clocks, refused_stays}
@@ -33,46 +32,46 @@ use Rattle.watch_laws.proofs.Stages.{IsBase}
 use Rattle.watch_laws.proofs.Topping.{readied_count, turn_count}
 use Rattle.watch_laws.proofs.Width.{turn_fits}
 
-abbrev Bounds : ℕ → State → Type 0
+abbrev Bounds : ℕ → WatchState → Type 0
 Bounds n s = All (λ (q : Out). q.entry < n) s.out × All (λ (q : Out). q.since ≤ s.clocks.at) s.out
 
 since_later : (a b : ℕ) (out : List Out) → a ≤ b → All (λ (q : Out). q.since ≤ a) out → All (λ (q : Out). q.since ≤ b) out
 since_later a b out le all = All-weaker (λ (q : Out). q.since ≤ a) (λ (q : Out). q.since ≤ b) (λ q h. omega (arith, h, le)) out all
 
-clock_bounds : (n : ℕ) (old new : State) (wall elapsed : ℕ) (output : Output) → Ticks old new wall elapsed output → length old.tracks ≡ n → IsPast old → Bounds n old → Bounds n new
+clock_bounds : (n : ℕ) (old new : WatchState) (wall elapsed : ℕ) (output : Output) → Ticks old new wall elapsed output → length old.tracks ≡ n → IsPast old → Bounds n old → Bounds n new
 clock_bounds n old new wall elapsed output h count past b =
     let mid = pressed (readied old wall elapsed) h.round in
     let many = pressed_count (readied old wall elapsed) h.round in
     let more = readied_count old wall elapsed in
     let up = rises old wall elapsed past.start in
-    let clock : new.clocks.at ≡ mid.clocks.at = ap (λ (x : State). x.clocks.at) h.new_is in
+    let clock : new.clocks.at ≡ mid.clocks.at = ap (λ (x : WatchState). x.clocks.at) h.new_is in
     let same = ap (λ c. c.at) (readied_clocks old wall elapsed) in (
       all_sent (λ (q : Out). q.entry < n) old new wall elapsed output h b.0
           (λ k low due named. let e = entry_by mid.presence (sec mid.clocks.at) mid.tracks k in omega (arith, e, low, many, more, count)),
       all_sent (λ (q : Out). q.since ≤ new.clocks.at) old new wall elapsed output h (since_later old.clocks.at new.clocks.at old.out (omega (arith, up, clock, same)) b.1) (λ k low due named. omega (arith, clock)),
     )
 
-answer_bounds : (n : ℕ) (old mid new : State) (q : Out) (reply : Reply) → new ≡ replied mid q reply → mid.out ≡ old.out → new.clocks ≡ old.clocks → Bounds n old → Bounds n new
+answer_bounds : (n : ℕ) (old mid new : WatchState) (q : Out) (reply : Reply) → new ≡ replied mid q reply → mid.out ≡ old.out → new.clocks ≡ old.clocks → Bounds n old → Bounds n new
 answer_bounds n old mid new q reply is out clocks b =
     let clock = ap (λ c. c.at) clocks in (
-      subst (λ (x : State). All (λ (r : Out). r.entry < n) x.out) (sym is) (all_left (λ (r : Out). r.entry < n) (λ r h. h) mid q reply (subst (All (λ (r : Out). r.entry < n)) (sym out) b.0)),
-      subst (λ (x : State). All (λ (r : Out). r.since ≤ new.clocks.at) x.out) (sym is)
+      subst (λ (x : WatchState). All (λ (r : Out). r.entry < n) x.out) (sym is) (all_left (λ (r : Out). r.entry < n) (λ r h. h) mid q reply (subst (All (λ (r : Out). r.entry < n)) (sym out) b.0)),
+      subst (λ (x : WatchState). All (λ (r : Out). r.since ≤ new.clocks.at) x.out) (sym is)
           (all_left (λ (r : Out). r.since ≤ new.clocks.at) (λ r h. h) mid q reply
           (subst (All (λ (r : Out). r.since ≤ new.clocks.at)) (sym out) (since_later old.clocks.at new.clocks.at old.out (omega (arith, clock)) b.1))),
     )
 
-looked_bounds : (n : ℕ) (old new : State) (found : Option Out) (reply : Reply) (terms : Terms) (output : Output) → StepLooked old found reply terms output new → Bounds n old → Bounds n new
+looked_bounds : (n : ℕ) (old new : WatchState) (found : Option Out) (reply : Reply) (terms : Terms) (output : Output) → StepLooked old found reply terms output new → Bounds n old → Bounds n new
 looked_bounds n old new None reply terms output step b = absurd step
 looked_bounds n old new (Some q) reply terms output step b =
     let s = noted old q reply in
-    answer_bounds n old (looked s q reply terms) new q reply step.1 (looked_out s q reply terms) (ap (λ (x : State). x.clocks) (ap rest_of step.1 ∙ looked_leaves old q reply terms)) b
+    answer_bounds n old (looked s q reply terms) new q reply step.1 (looked_out s q reply terms) (ap (λ (x : WatchState). x.clocks) (ap rest_of step.1 ∙ looked_leaves old q reply terms)) b
 
-renewed_bounds : (n : ℕ) (old new : State) (found : Option Out) (reply : Reply) (output : Output) → StepRenewed old found reply output new → Bounds n old → Bounds n new
+renewed_bounds : (n : ℕ) (old new : WatchState) (found : Option Out) (reply : Reply) (output : Output) → StepRenewed old found reply output new → Bounds n old → Bounds n new
 renewed_bounds n old new None reply output step b = absurd step
 renewed_bounds n old new (Some q) reply output step b =
-    answer_bounds n old (renewed (noted old q reply) q reply) new q reply step.1 refl (ap (λ (x : State). x.clocks) (ap rest_of step.1 ∙ renewed_leaves old q reply)) b
+    answer_bounds n old (state_renewed (noted old q reply) q reply) new q reply step.1 refl (ap (λ (x : WatchState). x.clocks) (ap rest_of step.1 ∙ renewed_leaves old q reply)) b
 
-step_bounds : (n : ℕ) (old new : State) (event : Event) (output : Output) → Step old event output new → length old.tracks ≡ n → IsPast old → Bounds n old → Bounds n new
+step_bounds : (n : ℕ) (old new : WatchState) (event : Event) (output : Output) → Step old event output new → length old.tracks ≡ n → IsPast old → Bounds n old → Bounds n new
 step_bounds n old new (Clock wall elapsed) output step count past b = clock_bounds n old new wall elapsed output (ticks old new wall elapsed output step) count past b
 step_bounds n old new (Looked j reply terms) output step count past b = looked_bounds n old new (request_out old.out j Look) reply terms output step b
 step_bounds n old new (Renewed j reply) output step count past b = renewed_bounds n old new (request_out old.out j Renew) reply output step b
@@ -80,11 +79,11 @@ step_bounds n old new (Need j until) output step count past b = subst (Bounds n)
 step_bounds n old new Begin output step count past b = subst (Bounds n) (sym step.1) b
 step_bounds n old new (Known j end renewable) output step count past b = subst (Bounds n) (sym step.1) b
 
-turn_bounds : (n : ℕ) (old new : State) (event : Event) (result : Result Output WatchFault) → Turn old event result new → length old.tracks ≡ n → IsPast old → Bounds n old → Bounds n new
+turn_bounds : (n : ℕ) (old new : WatchState) (event : Event) (result : Result Output WatchFault) → Turn old event result new → length old.tracks ≡ n → IsPast old → Bounds n old → Bounds n new
 turn_bounds n old new event (Ok output) turn count past b = step_bounds n old new event output turn.1 count past b
 turn_bounds n old new event (Err fault) turn count past b = subst (Bounds n) (sym (refused_stays old new event fault turn)) b
 
-pub turn_base : (width n : ℕ) (old new : State) (event : Event) (result : Result Output WatchFault) → Turn old event result new → IsBase width n old → IsBase width n new
+pub turn_base : (width n : ℕ) (old new : WatchState) (event : Event) (result : Result Output WatchFault) → Turn old event result new → IsBase width n old → IsBase width n new
 turn_base width n old new event result turn h =
     let bounds = turn_bounds n old new event result turn h.count h.past (h.within, h.since) in
     record {
@@ -98,7 +97,7 @@ turn_base width n old new event result turn h =
     }
 
 -- over a history
-pub ran_base : (width n : ℕ) (turns : List Turned) (old : State) → History old turns → IsBase width n old → IsBase width n (after_all old turns)
+pub ran_base : (width n : ℕ) (turns : List Turned) (old : WatchState) → History old turns → IsBase width n old → IsBase width n (after_all old turns)
 ran_base width n [] old h base = base
 ran_base width n (turn ∷ turns) old h base = ran_base width n turns turn.state h.1 (turn_base width n old turn.state turn.event turn.result h.0 base)
 

@@ -18,20 +18,19 @@ use Rattle.watch_machine.specs.declared.lanes.Out.{Out}
 use Rattle.watch_machine.specs.declared.track.Track.{Track}
 use Rattle.watch_machine.specs.Answers.{noted, replied}
 use Rattle.watch_machine.specs.Clocks.{sec}
-use Rattle.watch_machine.specs.History.{History, Turn, Turned}
+use Rattle.watch_machine.specs.History.{History, Turn, Turned, after_all}
 use Rattle.watch_machine.specs.Looked.{looked}
 use Rattle.watch_machine.specs.Press.{pressed}
 use Rattle.watch_machine.specs.Refusal.{request_out}
-use Rattle.watch_machine.specs.Renewed.{renewed}
+use Rattle.watch_machine.specs.Renewed.{state_renewed}
 use Rattle.watch_machine.specs.Sending.{out_at, sent}
 use Rattle.watch_machine.specs.Settling.{timed}
-use Rattle.watch_machine.specs.State.{State, opened, track_at, track_in}
+use Rattle.watch_machine.specs.State.{WatchState, opened, track_at, track_in}
 use Rattle.watch_machine.specs.Step.{Step, StepLooked, StepRenewed, readied}
 use Rattle.watch_machine.specs.Wait.{wait}
-use Rattle.watch_laws.specs.Absence.{is_clock, is_taken}
+use Rattle.watch_laws.specs.Absence.{is_clock, is_event_taken}
 use Rattle.watch_laws.specs.Outage.{one_if}
-use Rattle.watch_laws.specs.Partial.{AreHolding, AreSettled, IsHeld, IsHeldUp, IsHolding, IsInTime, Partial, PartialLaw, comes_before, coming_before, due_after, keeps_lane, longest, next_after, next_after_command, next_by, settled_by, stands_before, total, waiting_before, waits_before}
-use Rattle.watch_laws.specs.Turns.{after_all}
+use Rattle.watch_laws.specs.Partial.{AreHolding, AreSettled, ClockIsInTime, IsHeld, IsHeldUp, IsHolding, Partial, PartialLaw, comes_before, coming_before, due_after, keeps_lane, longest, partial_next_after, partial_next_after_command, partial_next_by, partial_settled_by, stands_before, total, waiting_before, waits_before}
 use Rattle.watch_laws.proofs.Answering.{looked_leaves, renewed_leaves, rest_of}
 use Rattle.watch_laws.proofs.Clocking.{readied_clocks, refused_stays}
 use Rattle.watch_laws.proofs.Counting.{least_all}
@@ -49,7 +48,7 @@ use Rattle.watch_laws.proofs.Stages.{IsBase}
 use Rattle.watch_laws.proofs.Topping.{readied_count}
 
 -- who goes out between two states and stood before i
-abbrev goes_before : ℕ → State → State → ℕ → Bool
+abbrev goes_before : ℕ → WatchState → WatchState → ℕ → Bool
 goes_before i old new j = stands_before i new j && ((track_at new j).out && not (track_at old j).out)
 
 -- it waited before, or came to
@@ -62,17 +61,17 @@ one_each true false true true = omega arith
 one_each true false true false = omega arith
 one_each true false false was = omega arith
 
-fewer : (o : Partial) (n i : ℕ) (old new : State) → waiting_before o n i new + total n (keeps_lane o) (goes_before i old new) ≤ waiting_before o n i old + total n (keeps_lane o) (comes_before i old new)
+fewer : (o : Partial) (n i : ℕ) (old new : WatchState) → waiting_before o n i new + total n (keeps_lane o) (goes_before i old new) ≤ waiting_before o n i old + total n (keeps_lane o) (comes_before i old new)
 fewer o n i old new =
     totals n (keeps_lane o) (waits_before i new) (goes_before i old new) (waits_before i old) (comes_before i old new)
     (λ j. one_each (stands_before i new j) (track_at new j).out (stands_before i old j) (track_at old j).out)
 
 -- a clock after which i is held up: whoever goes out stood before it, and keeps its lane as long as is said
-module _ (o : Partial) (width n i : ℕ) (old new : State) (wall elapsed : ℕ) (output : Output) (h : Ticks old new wall elapsed output) (base : IsBase width n old) where
-  abbrev mid : State
+module _ (o : Partial) (width n i : ℕ) (old new : WatchState) (wall elapsed : ℕ) (output : Output) (h : Ticks old new wall elapsed output) (base : IsBase width n old) where
+  abbrev mid : WatchState
   mid = pressed (readied old wall elapsed) h.round
 
-  abbrev left : State
+  abbrev left : WatchState
   left = sent mid h.requests
 
   abbrev gone : List ℕ
@@ -130,22 +129,22 @@ module _ (o : Partial) (width n i : ℕ) (old new : State) (wall elapsed : ℕ) 
 
 -- what holds after each turn: the lanes are kept until the next clock, and then as long as those that are out and those that wait and come
 -- to wait keep them, and all that is no more than the bound; or the next clock would come before this one
-record Timed (o : Partial) (width due bound k : ℕ) (s : State) : Type 0 where
-  timely : All (λ (q : Out). due ≤ settled_by o q + o.late) s.out
+record Timed (o : Partial) (width due bound k : ℕ) (s : WatchState) : Type 0 where
+  timely : All (λ (q : Out). due ≤ partial_settled_by o q + o.late) s.out
   area : width * due + span o due s.out + k ≤ bound
 
-record Holds (o : Partial) (width n due bound k : ℕ) (s : State) : Type 0 where
+record Holds (o : Partial) (width n due bound k : ℕ) (s : WatchState) : Type 0 where
   base : IsBase width n s
   rest : (due < s.clocks.at) ⊎ Timed o width due bound k s
 
 -- from the clock at which all lanes are taken on until the next one
 full_on :
-    (o : Partial) (width at bound k : ℕ) (s : State) → length s.out ≡ width → width * at + span o at s.out + k ≤ bound →
-    (due : ℕ) → All (λ (q : Out). due ≤ settled_by o q + o.late) s.out → at ≤ due → Timed o width due bound k s
+    (o : Partial) (width at bound k : ℕ) (s : WatchState) → length s.out ≡ width → width * at + span o at s.out + k ≤ bound →
+    (due : ℕ) → All (λ (q : Out). due ≤ partial_settled_by o q + o.late) s.out → at ≤ due → Timed o width due bound k s
 full_on o width at bound k s full room due timely later =
     let d = due - at in
     let e : at + d ≡ due = omega (arith, later) in
-    let less = span_later o at d s.out (subst (λ m. All (λ (q : Out). m ≤ settled_by o q + o.late) s.out) (sym e) timely) in
+    let less = span_later o at d s.out (subst (λ m. All (λ (q : Out). m ≤ partial_settled_by o q + o.late) s.out) (sym e) timely) in
     let lanes = ap (λ m. d * m) full in
     let sum = mul-add width at d in
     let turned = mul_comm d width in
@@ -155,9 +154,9 @@ full_on o width at bound k s full room due timely later =
     }
 
 clock_holds :
-    (o : Partial) (width n i due bound rest : ℕ) (old new : State) (wall elapsed : ℕ) (output : Output) → Step old (Clock wall elapsed) output new → IsHolding o i due old (Clock wall elapsed) output new → IsBase width n new →
+    (o : Partial) (width n i due bound rest : ℕ) (old new : WatchState) (wall elapsed : ℕ) (output : Output) → Step old (Clock wall elapsed) output new → IsHolding o i due old (Clock wall elapsed) output new → IsBase width n new →
     Holds o width n due bound (waiting_before o n i old + (total n (keeps_lane o) (comes_before i old new) + rest)) old →
-    Holds o width n (next_after_command o output.command new due) bound (waiting_before o n i new + rest) new
+    Holds o width n (partial_next_after_command o output.command new due) bound (waiting_before o n i new + rest) new
 clock_holds o width n i due bound rest old new wall elapsed output step holding base p =
     let h = ticks old new wall elapsed output step in
     let e = left o width n i old new wall elapsed output h p.base in
@@ -166,23 +165,23 @@ clock_holds o width n i due bound rest old new wall elapsed output step holding 
     let up = rises old wall elapsed p.base.past.start in
     let in_time = holding.0 in
     let is = h.new_is in
-    let held : IsHeldUp o e i = subst (λ (x : State). IsHeldUp o x i) is holding.1.1 in
+    let held : IsHeldUp o e i = subst (λ (x : WatchState). IsHeldUp o x i) is holding.1.1 in
     let settled : All (λ r. o.takes r.entry at ≤ longest o r) h.requests = subst (λ x. AreSettled o (Go h.requests (wait new)) x) is (subst (λ x. AreSettled o x new) h.command holding.1.0) in
-    let base' : IsBase width n e = subst (λ (x : State). IsBase width n x) is base in
+    let base' : IsBase width n e = subst (λ (x : WatchState). IsBase width n x) is base in
     let full' = full_lanes old new wall elapsed output i width h holding.1.1.may base.fits.0 in
-    let same = ap (λ (x : State). length x.out) is in
+    let same = ap (λ (x : WatchState). length x.out) is in
     let fits = base'.fits.1 in
     let full : length e.out ≡ width = omega (arith, full', same, fits) in
-    subst (λ x. Holds o width n (next_after_command o x new due) bound (waiting_before o n i new + rest) new) (sym h.command)
-    (subst (λ (x : State). Holds o width n (next_by o (wait x) x.out) bound (waiting_before o n i x + rest) x) (sym is)
+    subst (λ x. Holds o width n (partial_next_after_command o x new due) bound (waiting_before o n i new + rest) new) (sym h.command)
+    (subst (λ (x : WatchState). Holds o width n (partial_next_by o (wait x) x.out) bound (waiting_before o n i x + rest) x) (sym is)
     (record {
       base = base';
-      rest = elim p.rest as (λ _. (next_by o (wait e) e.out < at) ⊎ Timed o width (next_by o (wait e) e.out) bound (waiting_before o n i e + rest) e) [
+      rest = elim p.rest as (λ _. (partial_next_by o (wait e) e.out < at) ⊎ Timed o width (partial_next_by o (wait e) e.out) bound (waiting_before o n i e + rest) e) [
         | inl early ↦ absurd (omega (arith, early, up, in_time))
         | inr t ↦
             let d = due - at in
             let now : at + d ≡ due = omega (arith, c, in_time) in
-            let less = span_later o at d old.out (subst (λ m. All (λ (q : Out). m ≤ settled_by o q + o.late) old.out) (sym now) t.timely) in
+            let less = span_later o at d old.out (subst (λ m. All (λ (q : Out). m ≤ partial_settled_by o q + o.late) old.out) (sym now) t.timely) in
             let came = total n (keeps_lane o) (comes_before i old new) in
             let area : width * (at + d) + span o (at + d) old.out + (waiting_before o n i old + (came + rest)) ≤ bound =
             subst (λ m. width * m + span o m old.out + (waiting_before o n i old + (came + rest)) ≤ bound) (sym now) t.area in
@@ -190,65 +189,65 @@ clock_holds o width n i due bound rest old new wall elapsed output step holding 
             let few = mul-le-mul_left d p.base.fits.1 in
             let turned = mul_comm d width in
             let more = grown o width n i old new wall elapsed output h p.base held settled in
-            let coming = ap (λ (x : State). total n (keeps_lane o) (comes_before i old x)) is in
+            let coming = ap (λ (x : WatchState). total n (keeps_lane o) (comes_before i old x)) is in
             let room : width * at + span o at e.out + (waiting_before o n i e + rest) ≤ bound = omega (arith, less, area, sum, few, turned, more, coming) in
-            elim (cases_lt (next_by o (wait e) e.out) at) as (λ _. (next_by o (wait e) e.out < at) ⊎ Timed o width (next_by o (wait e) e.out) bound (waiting_before o n i e + rest) e) [
+            elim (cases_lt (partial_next_by o (wait e) e.out) at) as (λ _. (partial_next_by o (wait e) e.out < at) ⊎ Timed o width (partial_next_by o (wait e) e.out) bound (waiting_before o n i e + rest) e) [
               | inl early ↦ inl early
               | inr later ↦
-                  inr (full_on o width at bound (waiting_before o n i e + rest) e full room (next_by o (wait e) e.out) (least_all (λ (q : Out). settled_by o q + o.late) (wait e + o.late) e.out) later)
+                  inr (full_on o width at bound (waiting_before o n i e + rest) e full room (partial_next_by o (wait e) e.out) (least_all (λ (q : Out). partial_settled_by o q + o.late) (wait e + o.late) e.out) later)
             ]
       ];
     }))
 
 -- any other event leaves the clock, and some of what is out
-abbrev Quiet : Partial → ℕ → State → State → Output → Type 0
+abbrev Quiet : Partial → ℕ → WatchState → WatchState → Output → Type 0
 Quiet o due old new output =
     (new.clocks.at ≡ old.clocks.at)
-    × ((All (λ (q : Out). due ≤ settled_by o q + o.late) old.out → All (λ (q : Out). due ≤ settled_by o q + o.late) new.out)
-    × ((span o due new.out ≤ span o due old.out) × (next_after_command o output.command new due ≡ due)))
+    × ((All (λ (q : Out). due ≤ partial_settled_by o q + o.late) old.out → All (λ (q : Out). due ≤ partial_settled_by o q + o.late) new.out)
+    × ((span o due new.out ≤ span o due old.out) × (partial_next_after_command o output.command new due ≡ due)))
 
 answer_quiet :
-    (o : Partial) (due : ℕ) (old mid new : State) (q : Out) (reply : Reply) (output out : Output) → new ≡ replied mid q reply → mid.out ≡ old.out → new.clocks ≡ old.clocks → output ≡ out → out.command ≡ Taken →
+    (o : Partial) (due : ℕ) (old mid new : WatchState) (q : Out) (reply : Reply) (output out : Output) → new ≡ replied mid q reply → mid.out ≡ old.out → new.clocks ≡ old.clocks → output ≡ out → out.command ≡ Taken →
     Quiet o due old new output
 answer_quiet o due old mid new q reply output out is outs clocks made taken' =
-    let T : Out → Type 0 = λ r. due ≤ settled_by o r + o.late in
+    let T : Out → Type 0 = λ r. due ≤ partial_settled_by o r + o.late in
     let less = span_replied o due mid q reply in
-    let a = ap (λ (x : State). span o due x.out) is in
+    let a = ap (λ (x : WatchState). span o due x.out) is in
     let b = ap (span o due) outs in (
       ap (λ c. c.at) clocks,
       (
-        (λ all. subst (λ (x : State). All T x.out) (sym is) (all_left T (λ r h. h) mid q reply (subst (All T) (sym outs) all))),
-        (omega (arith, less, a, b), ap (λ c. next_after_command o c new due) (ap (λ (x : Output). x.command) made ∙ taken')),
+        (λ all. subst (λ (x : WatchState). All T x.out) (sym is) (all_left T (λ r h. h) mid q reply (subst (All T) (sym outs) all))),
+        (omega (arith, less, a, b), ap (λ c. partial_next_after_command o c new due) (ap (λ (x : Output). x.command) made ∙ taken')),
       ),
     )
 
-looked_quiet : (o : Partial) (due : ℕ) (old new : State) (found : Option Out) (reply : Reply) (terms : Terms) (output : Output) → StepLooked old found reply terms output new → Quiet o due old new output
+looked_quiet : (o : Partial) (due : ℕ) (old new : WatchState) (found : Option Out) (reply : Reply) (terms : Terms) (output : Output) → StepLooked old found reply terms output new → Quiet o due old new output
 looked_quiet o due old new None reply terms output step = absurd step
 looked_quiet o due old new (Some q) reply terms output step =
     let s = noted old q reply in
-    answer_quiet o due old (looked s q reply terms) new q reply output _ step.1 (looked_out s q reply terms) (ap (λ (x : State). x.clocks) (ap rest_of step.1 ∙ looked_leaves old q reply terms)) step.0 refl
+    answer_quiet o due old (looked s q reply terms) new q reply output _ step.1 (looked_out s q reply terms) (ap (λ (x : WatchState). x.clocks) (ap rest_of step.1 ∙ looked_leaves old q reply terms)) step.0 refl
 
-renewed_quiet : (o : Partial) (due : ℕ) (old new : State) (found : Option Out) (reply : Reply) (output : Output) → StepRenewed old found reply output new → Quiet o due old new output
+renewed_quiet : (o : Partial) (due : ℕ) (old new : WatchState) (found : Option Out) (reply : Reply) (output : Output) → StepRenewed old found reply output new → Quiet o due old new output
 renewed_quiet o due old new None reply output step = absurd step
 renewed_quiet o due old new (Some q) reply output step =
-    answer_quiet o due old (renewed (noted old q reply) q reply) new q reply output _ step.1 refl (ap (λ (x : State). x.clocks) (ap rest_of step.1 ∙ renewed_leaves old q reply)) step.0 refl
+    answer_quiet o due old (state_renewed (noted old q reply) q reply) new q reply output _ step.1 refl (ap (λ (x : WatchState). x.clocks) (ap rest_of step.1 ∙ renewed_leaves old q reply)) step.0 refl
 
-same_quiet : (o : Partial) (due : ℕ) (old mid new : State) (output out : Output) → new ≡ mid → mid.clocks ≡ old.clocks → mid.out ≡ old.out → output ≡ out → out.command ≡ Taken → Quiet o due old new output
+same_quiet : (o : Partial) (due : ℕ) (old mid new : WatchState) (output out : Output) → new ≡ mid → mid.clocks ≡ old.clocks → mid.out ≡ old.out → output ≡ out → out.command ≡ Taken → Quiet o due old new output
 same_quiet o due old mid new output out is clocks outs made taken' =
-    let T : Out → Type 0 = λ r. due ≤ settled_by o r + o.late in
-    let a = ap (λ (x : State). span o due x.out) is in
+    let T : Out → Type 0 = λ r. due ≤ partial_settled_by o r + o.late in
+    let a = ap (λ (x : WatchState). span o due x.out) is in
     let b = ap (span o due) outs in (
-      ap (λ (x : State). x.clocks.at) is ∙ ap (λ c. c.at) clocks,
+      ap (λ (x : WatchState). x.clocks.at) is ∙ ap (λ c. c.at) clocks,
       (
-        (λ all. subst (All T) (sym (ap (λ (x : State). x.out) is ∙ outs)) all),
-        (omega (arith, a, b), ap (λ c. next_after_command o c new due) (ap (λ (x : Output). x.command) made ∙ taken')),
+        (λ all. subst (All T) (sym (ap (λ (x : WatchState). x.out) is ∙ outs)) all),
+        (omega (arith, a, b), ap (λ c. partial_next_after_command o c new due) (ap (λ (x : Output). x.command) made ∙ taken')),
       ),
     )
 
 quiet_holds :
-    (o : Partial) (width n i due bound rest : ℕ) (old new : State) (output : Output) → Quiet o due old new output → IsBase width n new →
+    (o : Partial) (width n i due bound rest : ℕ) (old new : WatchState) (output : Output) → Quiet o due old new output → IsBase width n new →
     Holds o width n due bound (waiting_before o n i old + (total n (keeps_lane o) (comes_before i old new) + rest)) old →
-    Holds o width n (next_after_command o output.command new due) bound (waiting_before o n i new + rest) new
+    Holds o width n (partial_next_after_command o output.command new due) bound (waiting_before o n i new + rest) new
 quiet_holds o width n i due bound rest old new output quiet base p =
     let c = quiet.0 in
     let span' = quiet.1.1.0 in
@@ -263,9 +262,9 @@ quiet_holds o width n i due bound rest old new output quiet base p =
     })
 
 step_holds :
-    (o : Partial) (width n i due bound rest : ℕ) (old new : State) (event : Event) (output : Output) → Step old event output new → IsHolding o i due old event output new → IsBase width n new →
+    (o : Partial) (width n i due bound rest : ℕ) (old new : WatchState) (event : Event) (output : Output) → Step old event output new → IsHolding o i due old event output new → IsBase width n new →
     Holds o width n due bound (waiting_before o n i old + (total n (keeps_lane o) (comes_before i old new) + rest)) old →
-    Holds o width n (next_after_command o output.command new due) bound (waiting_before o n i new + rest) new
+    Holds o width n (partial_next_after_command o output.command new due) bound (waiting_before o n i new + rest) new
 step_holds o width n i due bound rest old new (Clock wall elapsed) output step holding base p = clock_holds o width n i due bound rest old new wall elapsed output step holding base p
 step_holds o width n i due bound rest old new (Looked j reply terms) output step holding base p =
     quiet_holds o width n i due bound rest old new output (looked_quiet o due old new (request_out old.out j Look) reply terms output step) base p
@@ -277,45 +276,45 @@ step_holds o width n i due bound rest old new (Known j end renewable) output ste
     quiet_holds o width n i due bound rest old new output (same_quiet o due old _ new output _ step.1 refl refl step.0 refl) base p
 
 turn_holds :
-    (o : Partial) (width n i due bound rest : ℕ) (old new : State) (event : Event) (result : Result Output WatchFault) → Turn old event result new → IsHeld o i due old event result new → IsBase width n new →
+    (o : Partial) (width n i due bound rest : ℕ) (old new : WatchState) (event : Event) (result : Result Output WatchFault) → Turn old event result new → IsHeld o i due old event result new → IsBase width n new →
     Holds o width n due bound (waiting_before o n i old + (total n (keeps_lane o) (comes_before i old new) + rest)) old →
-    Holds o width n (next_after o result new due) bound (waiting_before o n i new + rest) new
+    Holds o width n (partial_next_after o result new due) bound (waiting_before o n i new + rest) new
 turn_holds o width n i due bound rest old new event (Ok output) turn held base p = step_holds o width n i due bound rest old new event output turn.1 held base p
 turn_holds o width n i due bound rest old new event (Err fault) turn held base p =
     let is = refused_stays old new event fault turn in
-    let c = ap (λ (x : State). x.clocks.at) is in
+    let c = ap (λ (x : WatchState). x.clocks.at) is in
     let less = fewer o n i old new in
-    let out = ap (λ (x : State). span o due x.out) is in
+    let out = ap (λ (x : WatchState). span o due x.out) is in
     record {
       base = base;
       rest = elim p.rest as (λ _. (due < new.clocks.at) ⊎ Timed o width due bound (waiting_before o n i new + rest) new) [
         | inl early ↦ inl (omega (arith, early, c))
         | inr t ↦
             inr (record {
-              timely = subst (λ (x : State). All (λ (q : Out). due ≤ settled_by o q + o.late) x.out) (sym is) t.timely;
+              timely = subst (λ (x : WatchState). All (λ (q : Out). due ≤ partial_settled_by o q + o.late) x.out) (sym is) t.timely;
               area = let area = t.area in omega (arith, area, out, less);
             })
       ];
     }
 
 along :
-    (o : Partial) (width n i bound : ℕ) (turns : List Turned) (due : ℕ) (old : State) → History old turns → AreHolding o i due old turns →
+    (o : Partial) (width n i bound : ℕ) (turns : List Turned) (due : ℕ) (old : WatchState) → History old turns → AreHolding o i due old turns →
     Holds o width n due bound (waiting_before o n i old + coming_before o n i old turns) old → (k : ℕ) × Holds o width n (due_after o due turns) bound k (after_all old turns)
 along o width n i bound [] due old history holding p = (waiting_before o n i old + 0, p)
 along o width n i bound (turn ∷ turns) due old history holding p =
     let base = turn_base width n old turn.state turn.event turn.result history.0 p.base in
-    along o width n i bound turns (next_after o turn.result turn.state due) turn.state history.1 holding.1
+    along o width n i bound turns (partial_next_after o turn.result turn.state due) turn.state history.1 holding.1
     (turn_holds o width n i due bound (coming_before o n i turn.state turns) old turn.state turn.event turn.result history.0 holding.0 base p)
 
 -- the clock from which on it is held up
-record Starts (o : Partial) (old : State) (first : Turned) : Type 0 where
+record Starts (o : Partial) (old : WatchState) (first : Turned) : Type 0 where
   wall : ℕ
   elapsed : ℕ
   output : Output
   ticks' : Ticks old first.state wall elapsed output
-  due : next_after o first.result first.state 0 ≡ next_by o (wait first.state) first.state.out
+  due : partial_next_after o first.result first.state 0 ≡ partial_next_by o (wait first.state) first.state.out
 
-starts : (o : Partial) (old : State) (first : Turned) (event : Event) (result : Result Output WatchFault) → first.result ≡ result → Turn old event result first.state → is_clock event ≡ true → is_taken result ≡ true → Starts o old first
+starts : (o : Partial) (old : WatchState) (first : Turned) (event : Event) (result : Result Output WatchFault) → first.result ≡ result → Turn old event result first.state → is_clock event ≡ true → is_event_taken result ≡ true → Starts o old first
 starts o old first (Clock wall elapsed) (Ok output) same turn clock taken' =
     let go = ticks old first.state wall elapsed output turn.1 in
     record {
@@ -323,7 +322,7 @@ starts o old first (Clock wall elapsed) (Ok output) same turn clock taken' =
       elapsed = elapsed;
       output = output;
       ticks' = go;
-      due = ap (λ r. next_after o r first.state 0) same ∙ ap (λ c. next_after_command o c first.state 0) go.command;
+      due = ap (λ r. partial_next_after o r first.state 0) same ∙ ap (λ c. partial_next_after_command o c first.state 0) go.command;
     }
 starts o old first (Looked j reply terms) (Ok output) same turn clock taken' = absurd (true≢false (sym clock))
 starts o old first (Renewed j reply) (Ok output) same turn clock taken' = absurd (true≢false (sym clock))
@@ -334,11 +333,11 @@ starts o old first event (Err fault) same turn clock taken' = absurd (true≢fal
 
 -- and the next one, at which it may go out
 comes_in_time :
-    (due : ℕ) (old new : State) (event : Event) (result : Result Output WatchFault) → Turn old event result new → is_clock event ≡ true → is_taken result ≡ true → IsInTime due old event → IsPast old →
+    (due : ℕ) (old new : WatchState) (event : Event) (result : Result Output WatchFault) → Turn old event result new → is_clock event ≡ true → is_event_taken result ≡ true → ClockIsInTime due old event → IsPast old →
     (old.clocks.at ≤ new.clocks.at) × (new.clocks.at ≤ due)
 comes_in_time due old new (Clock wall elapsed) (Ok output) turn clock taken' in_time past =
     let h = ticks old new wall elapsed output turn.1 in
-    let c = ap (λ (x : State). x.clocks.at) h.new_is ∙ ap (λ x. x.at) (readied_clocks old wall elapsed) in
+    let c = ap (λ (x : WatchState). x.clocks.at) h.new_is ∙ ap (λ x. x.at) (readied_clocks old wall elapsed) in
     let up = rises old wall elapsed past.start in
     (omega (arith, c, up), omega (arith, c, in_time))
 comes_in_time due old new (Looked j reply terms) (Ok output) turn clock taken' in_time past = absurd (true≢false (sym clock))
@@ -348,7 +347,7 @@ comes_in_time due old new Begin (Ok output) turn clock taken' in_time past = abs
 comes_in_time due old new (Known j end renewable) (Ok output) turn clock taken' in_time past = absurd (true≢false (sym clock))
 comes_in_time due old new event (Err fault) turn clock taken' in_time past = absurd (true≢false (sym taken'))
 
-ends_by : (o : Partial) (width n due bound k : ℕ) (s new : State) → Holds o width n due bound k s → (s.clocks.at ≤ new.clocks.at) × (new.clocks.at ≤ due) → width * new.clocks.at ≤ bound
+ends_by : (o : Partial) (width n due bound k : ℕ) (s new : WatchState) → Holds o width n due bound k s → (s.clocks.at ≤ new.clocks.at) × (new.clocks.at ≤ due) → width * new.clocks.at ≤ bound
 ends_by o width n due bound k s new p between =
     let up = between.0 in
     let by = between.1 in
@@ -373,8 +372,8 @@ held_up o g width before first turns next i run clock taken' may out holding clo
     let full : length s.out ≡ width = omega (arith, full', fits) in
     let k = waiting_before o n i s + coming_before o n i s turns in
     let bound = width * (at + o.slow + o.late) + k in
-    let due = next_by o (wait s) s.out in
-    let most = span_most o at (o.slow + o.late) s.out (All-weaker (λ (q : Out). settled_by o q ≤ at + o.slow) (λ (q : Out). settled_by o q + o.late ≤ at + (o.slow + o.late)) (λ q h. omega (arith, h)) s.out out) in
+    let due = partial_next_by o (wait s) s.out in
+    let most = span_most o at (o.slow + o.late) s.out (All-weaker (λ (q : Out). partial_settled_by o q ≤ at + o.slow) (λ (q : Out). partial_settled_by o q + o.late ≤ at + (o.slow + o.late)) (λ q h. omega (arith, h)) s.out out) in
     let lanes = ap (λ m. (o.slow + o.late) * m) full in
     let turned = mul_comm (o.slow + o.late) width in
     let sum = mul-add width at (o.slow + o.late) in
@@ -384,10 +383,10 @@ held_up o g width before first turns next i run clock taken' may out holding clo
       base = base;
       rest = elim (cases_lt due at) as (λ _. (due < at) ⊎ Timed o width due bound k s) [
         | inl early ↦ inl early
-        | inr later ↦ inr (full_on o width at bound k s full room due (least_all (λ (q : Out). settled_by o q + o.late) (wait s + o.late) s.out) later)
+        | inr later ↦ inr (full_on o width at bound k s full room due (least_all (λ (q : Out). partial_settled_by o q + o.late) (wait s + o.late) s.out) later)
       ];
     } in
-    let first_due = next_after o first.result s 0 in
+    let first_due = partial_next_after o first.result s 0 in
     let begins' : Holds o width n first_due bound k s = subst (λ d. Holds o width n d bound k s) (sym start.due) begins in
     let ran = along o width n i bound turns first_due s (first_turns turns (next ∷ []) s history.1) holding begins' in
     let last = (last_turns turns (next ∷ []) s history.1).0 in

@@ -20,20 +20,19 @@ use Rattle.watch_machine.specs.declared.track.Try.{Try}
 use Rattle.watch_machine.specs.Answers.{answers_all, lane_freed, noted, replied, silent}
 use Rattle.watch_machine.specs.Beginning.{begun}
 use Rattle.watch_machine.specs.Clocks.{ms}
-use Rattle.watch_machine.specs.History.{History, Turn, Turned}
+use Rattle.watch_machine.specs.History.{History, Turn, Turned, after_all}
 use Rattle.watch_machine.specs.Looked.{looked}
 use Rattle.watch_machine.specs.Pauses.{cap, doubled, left_to}
 use Rattle.watch_machine.specs.Press.{pressed}
 use Rattle.watch_machine.specs.Refusal.{request_out}
-use Rattle.watch_machine.specs.Renewed.{renewed}
-use Rattle.watch_machine.specs.Round.{asked_by as round_of}
+use Rattle.watch_machine.specs.Renewed.{state_renewed}
+use Rattle.watch_machine.specs.Round.{asked_by_round as round_of}
 use Rattle.watch_machine.specs.Settling.{count_after, held, held_back, held_by, held_try, hold_after, is_real, is_silent, presence_after, settled, timed}
-use Rattle.watch_machine.specs.State.{State}
+use Rattle.watch_machine.specs.State.{WatchState}
 use Rattle.watch_machine.specs.Step.{Step, StepClock, StepLooked, StepRenewed, readied, why}
 use Rattle.watch_machine.specs.Wanted.{least}
 use Rattle.watch_machine.proofs.Cases.{if_both, if_cases}
 use Rattle.watch_laws.specs.Absence.{AllAway, HeldLaw, Sets}
-use Rattle.watch_laws.specs.Turns.{after_all}
 use Rattle.watch_laws.proofs.Answering.{looked_leaves, renewed_leaves, rest_of}
 use Rattle.watch_laws.proofs.Clocking.{begun_some, clock_rises, readied_clocks, refused_stays, sent_by}
 use Rattle.watch_laws.proofs.Resting.{cap_above, doubled_above}
@@ -77,36 +76,36 @@ keeps_hold margin at from xs answers p later h =
     (record p { count = count_after at p; hold = hold_after margin at xs p }) p
     (if_both (λ n. from + 1000 ≤ n) (nat_le p.hold at) (at + held margin at xs (count_after at p)) (min p.hold (at + held margin at xs p.count)) (omega (arith, long, later)) (omega (arith, less, later, h))) h
 
-begun_presence : (s : State) (w : Option Why) → (begun s w).presence ≡ s.presence
+begun_presence : (s : WatchState) (w : Option Why) → (begun s w).presence ≡ s.presence
 begun_presence s None = refl
 begun_presence s (Some w) = refl
 
-pub ready_presence : (s : State) (wall elapsed : ℕ) → (readied s wall elapsed).presence ≡ presence_after s.forest.margin (timed s wall elapsed).clocks.at s.tracks s.answers s.presence
+pub ready_presence : (s : WatchState) (wall elapsed : ℕ) → (readied s wall elapsed).presence ≡ presence_after s.forest.margin (timed s wall elapsed).clocks.at s.tracks s.answers s.presence
 unfolding readied
 ready_presence s wall elapsed = begun_presence (settled (timed s wall elapsed)) (why s wall elapsed)
 
 -- since that clock a hold lasts a second
-record Holds (from : ℕ) (s : State) : Type 0 where
+record Holds (from : ℕ) (s : WatchState) : Type 0 where
   begun : is_none s.begun ≡ false
   past : from ≤ s.clocks.at
   hold : from + 1000 ≤ s.presence.hold
 
 -- the clock that sets it
-clock_sets : (old new : State) (wall elapsed : ℕ) (output : Output) → StepClock old wall elapsed output new → old.presence.away ≡ true → list_any is_silent old.answers ≡ true → old.presence.hold ≤ new.clocks.at → Holds new.clocks.at new
+clock_sets : (old new : WatchState) (wall elapsed : ℕ) (output : Output) → StepClock old wall elapsed output new → old.presence.away ≡ true → list_any is_silent old.answers ≡ true → old.presence.hold ≤ new.clocks.at → Holds new.clocks.at new
 clock_sets old new wall elapsed output step away silent' over =
     let ready = readied old wall elapsed in
     let is = sent_by (pressed ready (round_of step.round)) new output.command step.command in
-    let clock : new.clocks.at ≡ (timed old wall elapsed).clocks.at = ap (λ (x : State). x.clocks.at) is.1 ∙ ap (λ c. c.at) (readied_clocks old wall elapsed) in
+    let clock : new.clocks.at ≡ (timed old wall elapsed).clocks.at = ap (λ (x : WatchState). x.clocks.at) is.1 ∙ ap (λ c. c.at) (readied_clocks old wall elapsed) in
     let hold : new.presence.hold ≡ (presence_after old.forest.margin (timed old wall elapsed).clocks.at old.tracks old.answers old.presence).hold =
-    ap (λ (x : State). x.presence.hold) is.1 ∙ ap (λ (p : Presence). p.hold) (ready_presence old wall elapsed) in
+    ap (λ (x : WatchState). x.presence.hold) is.1 ∙ ap (λ (p : Presence). p.hold) (ready_presence old wall elapsed) in
     let long = sets_hold old.forest.margin (timed old wall elapsed).clocks.at old.tracks old.answers old.presence away silent' (omega (arith, clock, over)) in
     record {
-      begun = ap (λ (x : State). is_none x.begun) is.1 ∙ begun_some old wall elapsed;
+      begun = ap (λ (x : WatchState). is_none x.begun) is.1 ∙ begun_some old wall elapsed;
       past = omega arith;
       hold = omega (arith, clock, hold, long);
     }
 
-first_sets : (old new : State) (event : Event) (result : Result Output WatchFault) → Turn old event result new → Sets old (record { event = event; result = result; state = new }) → Holds new.clocks.at new
+first_sets : (old new : WatchState) (event : Event) (result : Result Output WatchFault) → Turn old event result new → Sets old (record { event = event; result = result; state = new }) → Holds new.clocks.at new
 first_sets old new (Clock wall elapsed) (Ok output) turn h = clock_sets old new wall elapsed output turn.1 h.away h.silent h.over
 first_sets old new (Looked i reply terms) (Ok output) turn h = absurd (let e = h.clock in cc)
 first_sets old new (Renewed i reply) (Ok output) turn h = absurd (let e = h.clock in cc)
@@ -116,47 +115,47 @@ first_sets old new (Known i end renewable) (Ok output) turn h = absurd (let e = 
 first_sets old new event (Err fault) turn h = absurd (let e = h.taken in cc)
 
 -- every turn after which the broker is still away keeps it
-clock_holds : (from : ℕ) (old new : State) (wall elapsed : ℕ) (output : Output) → StepClock old wall elapsed output new → Holds from old → Holds from new
+clock_holds : (from : ℕ) (old new : WatchState) (wall elapsed : ℕ) (output : Output) → StepClock old wall elapsed output new → Holds from old → Holds from new
 clock_holds from old new wall elapsed output step h =
     let ready = readied old wall elapsed in
     let is = sent_by (pressed ready (round_of step.round)) new output.command step.command in
     let rises = clock_rises old wall elapsed h.begun in
-    let clock : new.clocks.at ≡ (timed old wall elapsed).clocks.at = ap (λ (x : State). x.clocks.at) is.1 ∙ ap (λ c. c.at) (readied_clocks old wall elapsed) in
+    let clock : new.clocks.at ≡ (timed old wall elapsed).clocks.at = ap (λ (x : WatchState). x.clocks.at) is.1 ∙ ap (λ c. c.at) (readied_clocks old wall elapsed) in
     let hold : new.presence.hold ≡ (presence_after old.forest.margin (timed old wall elapsed).clocks.at old.tracks old.answers old.presence).hold =
-    ap (λ (x : State). x.presence.hold) is.1 ∙ ap (λ (p : Presence). p.hold) (ready_presence old wall elapsed) in
+    ap (λ (x : WatchState). x.presence.hold) is.1 ∙ ap (λ (p : Presence). p.hold) (ready_presence old wall elapsed) in
     let past = h.past in
     let long = keeps_hold old.forest.margin (timed old wall elapsed).clocks.at from old.tracks old.answers old.presence (omega (arith, rises, past)) h.hold in
     record {
-      begun = ap (λ (x : State). is_none x.begun) is.1 ∙ begun_some old wall elapsed;
+      begun = ap (λ (x : WatchState). is_none x.begun) is.1 ∙ begun_some old wall elapsed;
       past = omega (arith, rises, clock, past);
       hold = omega (arith, hold, long);
     }
 
 -- an answer after which it is still away leaves the presence
-abbrev StillAway : State → State → Type 0
+abbrev StillAway : WatchState → WatchState → Type 0
 StillAway old new = new.presence.away ≡ true → new.presence ≡ old.presence
 
-pub replied_presence : (s : State) (q : Out) (reply : Reply) → s.presence.away ≡ true → StillAway s (replied s q reply)
+pub replied_presence : (s : WatchState) (q : Out) (reply : Reply) → s.presence.away ≡ true → StillAway s (replied s q reply)
 replied_presence s q reply away =
     let free = lane_freed s q in
     if_both (StillAway s) (is_real reply) (answers_all free) (if q.heard then free else silent free)
     (if_cases (StillAway s) s.presence.away _ _ (λ e still. absurd cc) (λ e. absurd (true≢false (sym away ∙ e))))
     (if_both (StillAway s) q.heard free (silent free) (λ still. refl) (if_cases (StillAway s) s.presence.away _ _ (λ e still. refl) (λ e. absurd (true≢false (sym away ∙ e)))))
 
-pub looked_presence : (s : State) (q : Out) (reply : Reply) (terms : Terms) → (looked s q reply terms).presence ≡ s.presence
+pub looked_presence : (s : WatchState) (q : Out) (reply : Reply) (terms : Terms) → (looked s q reply terms).presence ≡ s.presence
 looked_presence s q (Told seconds renewable date) terms = refl
 looked_presence s q (Refused status date) terms = refl
 looked_presence s q Busy terms = refl
 looked_presence s q Lost terms = refl
 
-left_holds : (from : ℕ) (old new : State) → rest_of new ≡ rest_of old → new.presence ≡ old.presence → Holds from old → Holds from new
+left_holds : (from : ℕ) (old new : WatchState) → rest_of new ≡ rest_of old → new.presence ≡ old.presence → Holds from old → Holds from new
 left_holds from old new rest same h = record {
-  begun = ap (λ (x : State). is_none x.begun) rest ∙ h.begun;
-  past = let e = ap (λ (x : State). x.clocks.at) rest in let p = h.past in omega (arith, e, p);
+  begun = ap (λ (x : WatchState). is_none x.begun) rest ∙ h.begun;
+  past = let e = ap (λ (x : WatchState). x.clocks.at) rest in let p = h.past in omega (arith, e, p);
   hold = let e = ap (λ (p : Presence). p.hold) same in let l = h.hold in omega (arith, e, l);
 }
 
-pub looked_still : (old new : State) (found : Option Out) (reply : Reply) (terms : Terms) (output : Output) → StepLooked old found reply terms output new → old.presence.away ≡ true → (rest_of new ≡ rest_of old) × StillAway old new
+pub looked_still : (old new : WatchState) (found : Option Out) (reply : Reply) (terms : Terms) (output : Output) → StepLooked old found reply terms output new → old.presence.away ≡ true → (rest_of new ≡ rest_of old) × StillAway old new
 looked_still old new None reply terms output step away = absurd step
 looked_still old new (Some q) reply terms output step away =
     let mid = looked (noted old q reply) q reply terms in
@@ -165,14 +164,14 @@ looked_still old new (Some q) reply terms output step away =
       subst (StillAway old) (sym step.1) (λ still. replied_presence mid q reply (ap (λ (p : Presence). p.away) same ∙ away) still ∙ same),
     )
 
-pub renewed_still : (old new : State) (found : Option Out) (reply : Reply) (output : Output) → StepRenewed old found reply output new → old.presence.away ≡ true → (rest_of new ≡ rest_of old) × StillAway old new
+pub renewed_still : (old new : WatchState) (found : Option Out) (reply : Reply) (output : Output) → StepRenewed old found reply output new → old.presence.away ≡ true → (rest_of new ≡ rest_of old) × StillAway old new
 renewed_still old new None reply output step away = absurd step
 renewed_still old new (Some q) reply output step away = (
   ap rest_of step.1 ∙ renewed_leaves old q reply,
-  subst (StillAway old) (sym step.1) (λ still. replied_presence (renewed (noted old q reply) q reply) q reply away still),
+  subst (StillAway old) (sym step.1) (λ still. replied_presence (state_renewed (noted old q reply) q reply) q reply away still),
 )
 
-step_holds : (from : ℕ) (old new : State) (event : Event) (output : Output) → Step old event output new → old.presence.away ≡ true → new.presence.away ≡ true → Holds from old → Holds from new
+step_holds : (from : ℕ) (old new : WatchState) (event : Event) (output : Output) → Step old event output new → old.presence.away ≡ true → new.presence.away ≡ true → Holds from old → Holds from new
 step_holds from old new (Clock wall elapsed) output step away still h = clock_holds from old new wall elapsed output step h
 step_holds from old new (Looked i reply terms) output step away still h =
     let left = looked_still old new (request_out old.out i Look) reply terms output step away in
@@ -180,18 +179,18 @@ step_holds from old new (Looked i reply terms) output step away still h =
 step_holds from old new (Renewed i reply) output step away still h =
     let left = renewed_still old new (request_out old.out i Renew) reply output step away in
     left_holds from old new left.0 (left.1 still) h
-step_holds from old new (Need i until) output step away still h = left_holds from old new (ap rest_of step.1) (ap (λ (x : State). x.presence) step.1) h
+step_holds from old new (Need i until) output step away still h = left_holds from old new (ap rest_of step.1) (ap (λ (x : WatchState). x.presence) step.1) h
 step_holds from old new Begin output step away still h = subst (Holds from) (sym step.1) (record { begun = h.begun; past = h.past; hold = h.hold })
-step_holds from old new (Known i end renewable) output step away still h = left_holds from old new (ap rest_of step.1) (ap (λ (x : State). x.presence) step.1) h
+step_holds from old new (Known i end renewable) output step away still h = left_holds from old new (ap rest_of step.1) (ap (λ (x : WatchState). x.presence) step.1) h
 
 turn_holds :
-    (from : ℕ) (old new : State) (event : Event) (result : Result Output WatchFault) → Turn old event result new → old.presence.away ≡ true → new.presence.away ≡ true → Holds from old →
+    (from : ℕ) (old new : WatchState) (event : Event) (result : Result Output WatchFault) → Turn old event result new → old.presence.away ≡ true → new.presence.away ≡ true → Holds from old →
     Holds from new
 turn_holds from old new event (Ok output) turn away still h = step_holds from old new event output turn.1 away still h
 turn_holds from old new event (Err fault) turn away still h = subst (Holds from) (sym (refused_stays old new event fault turn)) h
 
 ran :
-    (between : List Turned) (next : Turned) (from : ℕ) (old : State) → History old (between ++ next ∷ []) → old.presence.away ≡ true → AllAway between → Holds from old →
+    (between : List Turned) (next : Turned) (from : ℕ) (old : WatchState) → History old (between ++ next ∷ []) → old.presence.away ≡ true → AllAway between → Holds from old →
     Sets (after_all old between) next → from + 1000 ≤ next.state.clocks.at
 ran [] next from old h away all holds sets = let over = sets.over in let hold = holds.hold in omega (arith, over, hold)
 ran (turn ∷ between) next from old h away all holds sets =

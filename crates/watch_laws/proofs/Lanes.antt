@@ -16,23 +16,23 @@ use Rattle.watch_machine.specs.declared.fault.WatchFault.{WatchFault}
 use Rattle.watch_machine.specs.declared.lanes.Out.{Out}
 use Rattle.watch_machine.specs.declared.lanes.Presence.{Presence}
 use Rattle.watch_machine.specs.declared.track.Track.{Track}
-use Rattle.watch_machine.specs.Answers.{answers_all, heard, lane_freed, noted, replied, silent, without}
+use Rattle.watch_machine.specs.Answers.{answers_all, heard, lane_freed, noted, replied, silent, without_request}
 use Rattle.watch_machine.specs.Clocks.{sec}
 use Rattle.watch_machine.specs.History.{Turn}
 use Rattle.watch_machine.specs.Lines.{is_due}
 use Rattle.watch_machine.specs.Looked.{looked}
 use Rattle.watch_machine.specs.Press.{pressed, pressed_alone}
 use Rattle.watch_machine.specs.Refusal.{request_out}
-use Rattle.watch_machine.specs.Renewed.{renewed}
-use Rattle.watch_machine.specs.Round.{asked_by as round_of}
+use Rattle.watch_machine.specs.Renewed.{state_renewed}
+use Rattle.watch_machine.specs.Round.{asked_by_round as round_of}
 use Rattle.watch_machine.specs.Sending.{out_at, sent, sent_in}
 use Rattle.watch_machine.specs.Settling.{is_real}
-use Rattle.watch_machine.specs.State.{State, track_at, track_in}
+use Rattle.watch_machine.specs.State.{WatchState, track_at, track_in}
 use Rattle.watch_machine.specs.Step.{Step, StepClock, StepCommand, StepLooked, StepRenewed, readied}
 use Rattle.watch_machine.specs.Wait.{wait}
 use Rattle.watch_machine.proofs.Cases.{if_both, not_both}
 use Rattle.watch_machine.proofs.Written.{each_length}
-use Rattle.watch_laws.specs.Outage.{Outage, comes, how_many, is_served, is_tried, is_whole, waits}
+use Rattle.watch_laws.specs.Outage.{Outage, comes, how_many, is_request_served, is_request_whole, is_tried, waits_to_be_asked}
 use Rattle.watch_laws.proofs.Alone.{IsAlone, flag}
 use Rattle.watch_laws.proofs.Clocking.{refused_stays}
 use Rattle.watch_laws.proofs.Counting.{counted, no_lane, sums}
@@ -46,7 +46,7 @@ abbrev pub passes : (ℕ → ℕ → Bool) → Out → Bool
 passes f q = f q.entry q.since
 
 -- what of the requests that are out passes was out, or goes out now of an entry that was not out
-abbrev pub Sends : State → State → ℕ → Type 0
+abbrev pub Sends : WatchState → WatchState → ℕ → Type 0
 Sends old new n = (f : ℕ → ℕ → Bool) → list_any (passes f) new.out ≡ true → (list_any (passes f) old.out ≡ true) ⊎ ((k : ℕ) × ((f k new.clocks.at ≡ true) × ((k < n) × ((track_at old k).out ≡ false))))
 
 -- an answer leaves some of them
@@ -66,8 +66,8 @@ kept_or : (b a c d : Bool) (k m : Bool) → (b ≡ true → k ≡ (a || c)) → 
 kept_or true a c d k m first last more h = or_more a c d more (sym (first refl) ∙ h)
 kept_or false a c d k m first last more h = or_last a d (more (sym (last refl) ∙ h))
 
-left_any : (f : ℕ → ℕ → Bool) (e : ℕ) (out : List Out) → list_any (passes f) (without e out) ≡ true → list_any (passes f) out ≡ true
-unfolding without
+left_any : (f : ℕ → ℕ → Bool) (e : ℕ) (out : List Out) → list_any (passes f) (without_request e out) ≡ true → list_any (passes f) out ≡ true
+unfolding without_request
 left_any f e [] h = absurd cc
 left_any f e (q ∷ out) h =
     let rest = filter (λ (r : Out). not (r.entry == e)) out in
@@ -79,12 +79,12 @@ heard_any : (f : ℕ → ℕ → Bool) (out : List Out) → list_any (passes f) 
 heard_any f [] = refl
 heard_any f (q ∷ out) = ap (λ b. passes f q || b) (heard_any f out)
 
-pub replied_any : (f : ℕ → ℕ → Bool) (s : State) (q : Out) (reply : Reply) → list_any (passes f) (replied s q reply).out ≡ true → list_any (passes f) s.out ≡ true
+pub replied_any : (f : ℕ → ℕ → Bool) (s : WatchState) (q : Out) (reply : Reply) → list_any (passes f) (replied s q reply).out ≡ true → list_any (passes f) s.out ≡ true
 replied_any f s q reply =
     let free = lane_freed s q in
-    let P : State → Type 0 = λ t. list_any (passes f) t.out ≡ true → list_any (passes f) s.out ≡ true in
+    let P : WatchState → Type 0 = λ t. list_any (passes f) t.out ≡ true → list_any (passes f) s.out ≡ true in
     let left = left_any f q.entry s.out in
-    let hears : list_any (passes f) (map heard (without q.entry s.out)) ≡ true → list_any (passes f) s.out ≡ true = λ h. left (sym (heard_any f (without q.entry s.out)) ∙ h) in
+    let hears : list_any (passes f) (map heard (without_request q.entry s.out)) ≡ true → list_any (passes f) s.out ≡ true = λ h. left (sym (heard_any f (without_request q.entry s.out)) ∙ h) in
     if_both P (is_real reply) (answers_all free) (if q.heard then free else silent free)
     (if_both P s.presence.away _ _ hears hears) (if_both P q.heard free (silent free) left (if_both P s.presence.away _ _ left left))
 
@@ -92,8 +92,8 @@ replied_any f s q reply =
 abbrev pub is_of : ℕ → (ℕ → Bool) → Out → Bool
 is_of i test q = q.entry == i && test q.since
 
-kept_any : (i e : ℕ) (test : ℕ → Bool) (out : List Out) → e ≢ i → list_any (is_of i test) out ≡ true → list_any (is_of i test) (without e out) ≡ true
-unfolding without
+kept_any : (i e : ℕ) (test : ℕ → Bool) (out : List Out) → e ≢ i → list_any (is_of i test) out ≡ true → list_any (is_of i test) (without_request e out) ≡ true
+unfolding without_request
 kept_any i e test [] apart h = absurd cc
 kept_any i e test (q ∷ out) apart h =
     let rest = filter (λ (r : Out). not (r.entry == e)) out in
@@ -109,12 +109,12 @@ kept_any i e test (q ∷ out) apart h =
       by true no' = absurd (no' refl)
       by false no' = refl
 
-pub replied_lane : (i : ℕ) (test : ℕ → Bool) (s : State) (q : Out) (reply : Reply) → q.entry ≢ i → list_any (is_of i test) s.out ≡ true → list_any (is_of i test) (replied s q reply).out ≡ true
+pub replied_lane : (i : ℕ) (test : ℕ → Bool) (s : WatchState) (q : Out) (reply : Reply) → q.entry ≢ i → list_any (is_of i test) s.out ≡ true → list_any (is_of i test) (replied s q reply).out ≡ true
 replied_lane i test s q reply apart h =
     let free = lane_freed s q in
-    let P : State → Type 0 = λ t. list_any (is_of i test) t.out ≡ true in
+    let P : WatchState → Type 0 = λ t. list_any (is_of i test) t.out ≡ true in
     let left = kept_any i q.entry test s.out apart h in
-    let hears : list_any (is_of i test) (map heard (without q.entry s.out)) ≡ true = heard_any (λ k since. k == i && test since) (without q.entry s.out) ∙ left in
+    let hears : list_any (is_of i test) (map heard (without_request q.entry s.out)) ≡ true = heard_any (λ k since. k == i && test since) (without_request q.entry s.out) ∙ left in
     if_both P (is_real reply) (answers_all free) (if q.heard then free else silent free)
     (if_both P s.presence.away _ _ hears hears) (if_both P q.heard free (silent free) left (if_both P s.presence.away _ _ left left))
 
@@ -165,11 +165,11 @@ some_sent f P p now at xs (j ∷ js) all h =
       | inr there ↦ some_sent f P p now at xs js (All-tail P j js all) (sym (ap (λ b. b || rest) (e ∙ there)) ∙ h)
     ]
 
-pub pressed_count : (s : State) (round : List ℕ) → length (pressed s round).tracks ≡ length s.tracks
+pub pressed_count : (s : WatchState) (round : List ℕ) → length (pressed s round).tracks ≡ length s.tracks
 pressed_count s round = each_length _ (pressed_alone s.forest s.clocks s.tracks) ∙ each_length _ s.tracks
 
 -- a clock: the state in which all are pressed, and what goes out of it
-pub record Ticks (old new : State) (wall elapsed : ℕ) (output : Output) : Type 0 where
+pub record Ticks (old new : WatchState) (wall elapsed : ℕ) (output : Output) : Type 0 where
   pub round : List ℕ
   pub requests : List Request
   pub command : output.command ≡ Go requests (wait new)
@@ -179,67 +179,67 @@ pub record Ticks (old new : State) (wall elapsed : ℕ) (output : Output) : Type
   pub new_is : new ≡ sent (pressed (readied old wall elapsed) round) requests
 
 commanded :
-    (s new : State) (command : Command) → StepCommand s command new →
+    (s new : WatchState) (command : Command) → StepCommand s command new →
     (requests : List Request) × ((command ≡ Go requests (wait new)) × (Goes s.presence s.clocks.at s.tracks (s.width - length s.out) requests × (new ≡ sent s requests)))
 commanded s new (Go requests until) h = (requests, (ap (λ n. Go requests n) h.1, (goes s.presence s.clocks.at s.tracks (s.width - length s.out) requests h.0.0, h.0.1)))
 commanded s new Taken h = absurd h
 
-pub ticks : (old new : State) (wall elapsed : ℕ) (output : Output) → StepClock old wall elapsed output new → Ticks old new wall elapsed output
+pub ticks : (old new : WatchState) (wall elapsed : ℕ) (output : Output) → StepClock old wall elapsed output new → Ticks old new wall elapsed output
 ticks old new wall elapsed output step =
     let go = commanded (pressed (readied old wall elapsed) (round_of step.round)) new output.command step.command in
     record { round = round_of step.round; requests = go.0; command = go.1.0; going = go.1.1.0; new_is = go.1.1.1 }
 
-pub still_out : (old new : State) (wall elapsed : ℕ) (output : Output) (test : Out → Bool) → Ticks old new wall elapsed output → list_any test old.out ≡ true → list_any test new.out ≡ true
+pub still_out : (old new : WatchState) (wall elapsed : ℕ) (output : Output) (test : Out → Bool) → Ticks old new wall elapsed output → list_any test old.out ≡ true → list_any test new.out ≡ true
 still_out old new wall elapsed output test h any =
     let mid = pressed (readied old wall elapsed) h.round in
-    ap (λ (x : State). list_any test x.out) h.new_is
+    ap (λ (x : WatchState). list_any test x.out) h.new_is
     ∙ first_any test mid.out (map (out_at mid.clocks.at) h.requests) (ap (list_any test) (readied_out old wall elapsed) ∙ any)
 
 -- who was not out and is out now went out now
 pub goes_out_now :
-    (old new : State) (wall elapsed : ℕ) (output : Output) (i : ℕ) (test : ℕ → Bool) (h : Ticks old new wall elapsed output) → (track_at old i).out ≡ false → (track_at new i).out ≡ true →
+    (old new : WatchState) (wall elapsed : ℕ) (output : Output) (i : ℕ) (test : ℕ → Bool) (h : Ticks old new wall elapsed output) → (track_at old i).out ≡ false → (track_at new i).out ≡ true →
     test (pressed (readied old wall elapsed) h.round).clocks.at ≡ true → list_any (is_of i test) new.out ≡ true
 goes_out_now old new wall elapsed output i test h free out yes' =
     let mid = pressed (readied old wall elapsed) h.round in
     let before : (track_at mid i).out ≡ false = mid_flag old wall elapsed h.round i ∙ free in
-    let after : (track_at (sent mid h.requests) i).out ≡ true = ap (λ (x : State). (track_at x i).out) (sym h.new_is) ∙ out in
+    let after : (track_at (sent mid h.requests) i).out ≡ true = ap (λ (x : WatchState). (track_at x i).out) (sym h.new_is) ∙ out in
     let named : list_any (λ (r : Request). r.entry == i) h.requests ≡ true =
     elim (cases_Bool (list_any (λ (r : Request). r.entry == i) h.requests)) [
       | inl yes'' ↦ yes''
       | inr none ↦ absurd (not_both after (ap (λ (x : Track). x.out) (passed_over mid h.requests i none) ∙ before))
     ] in
-    ap (λ (x : State). list_any (is_of i test) x.out) h.new_is ∙ last_any (is_of i test) mid.out (map (out_at mid.clocks.at) h.requests) (named_any i mid.clocks.at test h.requests yes' named)
+    ap (λ (x : WatchState). list_any (is_of i test) x.out) h.new_is ∙ last_any (is_of i test) mid.out (map (out_at mid.clocks.at) h.requests) (named_any i mid.clocks.at test h.requests yes' named)
 
 -- who is not out after a clock has the track with which all were pressed
-pub stays_free : (old new : State) (wall elapsed : ℕ) (output : Output) (i : ℕ) (h : Ticks old new wall elapsed output) → i < length old.tracks → (track_at new i).out ≡ false → track_at new i ≡ track_at (pressed (readied old wall elapsed) h.round) i
+pub stays_free : (old new : WatchState) (wall elapsed : ℕ) (output : Output) (i : ℕ) (h : Ticks old new wall elapsed output) → i < length old.tracks → (track_at new i).out ≡ false → track_at new i ≡ track_at (pressed (readied old wall elapsed) h.round) i
 stays_free old new wall elapsed output i h within free =
     let mid = pressed (readied old wall elapsed) h.round in
-    let after : (track_at (sent mid h.requests) i).out ≡ false = ap (λ (x : State). (track_at x i).out) (sym h.new_is) ∙ free in
+    let after : (track_at (sent mid h.requests) i).out ≡ false = ap (λ (x : WatchState). (track_at x i).out) (sym h.new_is) ∙ free in
     let none : list_any (λ (r : Request). r.entry == i) h.requests ≡ false =
     elim (cases_Bool (list_any (λ (r : Request). r.entry == i) h.requests)) [
       | inl named ↦ absurd (not_both (each_holds_out mid h.requests i named (mid_within old wall elapsed h.round i within)) after)
       | inr none' ↦ none'
     ] in
-    ap (λ (x : State). track_at x i) h.new_is ∙ passed_over mid h.requests i none where
-      each_holds_out : (s : State) (rs : List Request) (k : ℕ) → list_any (λ (r : Request). r.entry == k) rs ≡ true → k < length s.tracks → (track_at (sent s rs) k).out ≡ true
+    ap (λ (x : WatchState). track_at x i) h.new_is ∙ passed_over mid h.requests i none where
+      each_holds_out : (s : WatchState) (rs : List Request) (k : ℕ) → list_any (λ (r : Request). r.entry == k) rs ≡ true → k < length s.tracks → (track_at (sent s rs) k).out ≡ true
       each_holds_out s rs k named low = ap (λ (x : Track). x.out) (went s rs k named low)
 
-      mid_within : (s : State) (w e : ℕ) (round : List ℕ) (k : ℕ) → k < length s.tracks → k < length (pressed (readied s w e) round).tracks
+      mid_within : (s : WatchState) (w e : ℕ) (round : List ℕ) (k : ℕ) → k < length s.tracks → k < length (pressed (readied s w e) round).tracks
       mid_within s w e round k low =
           let a = pressed_count (readied s w e) round in
           let b = readied_count s w e in
           omega (arith, low, a, b)
 
-clock_sends : (old new : State) (wall elapsed : ℕ) (output : Output) (n : ℕ) → Ticks old new wall elapsed output → length new.tracks ≤ n → Sends old new n
+clock_sends : (old new : WatchState) (wall elapsed : ℕ) (output : Output) (n : ℕ) → Ticks old new wall elapsed output → length new.tracks ≤ n → Sends old new n
 clock_sends old new wall elapsed output n h many f any =
     let mid = pressed (readied old wall elapsed) h.round in
     let p = mid.presence in
     let at = mid.clocks.at in
     let xs = mid.tracks in
-    let count = ap (λ (x : State). length x.tracks) h.new_is in
+    let count = ap (λ (x : WatchState). length x.tracks) h.new_is in
     let out : new.out ≡ old.out ++ map (out_at at) (map (request_at p (sec at) xs) h.going.entries) =
-    ap (λ (x : State). x.out) h.new_is ∙ ap (λ os. os ++ map (out_at at) h.requests) (readied_out old wall elapsed) ∙ ap (λ rs. old.out ++ map (out_at at) rs) h.going.requests_are in
-    let clock : new.clocks.at ≡ at = ap (λ (x : State). x.clocks.at) h.new_is in
+    ap (λ (x : WatchState). x.out) h.new_is ∙ ap (λ os. os ++ map (out_at at) h.requests) (readied_out old wall elapsed) ∙ ap (λ rs. old.out ++ map (out_at at) rs) h.going.requests_are in
+    let clock : new.clocks.at ≡ at = ap (λ (x : WatchState). x.clocks.at) h.new_is in
     elim (appended_any f old.out (map (out_at at) (map (request_at p (sec at) xs) h.going.entries)) (sym (ap (list_any (passes f)) out) ∙ any))
     as (λ _. (list_any (passes f) old.out ≡ true) ⊎ ((k : ℕ) × ((f k new.clocks.at ≡ true) × ((k < n) × ((track_at old k).out ≡ false))))) [
       | inl before ↦ inl before
@@ -251,49 +251,49 @@ clock_sends old new wall elapsed output n h many f any =
           let same = each_length' mid h.requests in
           inr (k, (subst (λ c. f k c ≡ true) (sym clock) one.1.0, (omega (arith, low, many, count, same), sym (mid_flag old wall elapsed h.round k) ∙ free)))
     ] where
-      each_length' : (s : State) (rs : List Request) → length (sent s rs).tracks ≡ length s.tracks
+      each_length' : (s : WatchState) (rs : List Request) → length (sent s rs).tracks ≡ length s.tracks
       each_length' s rs = each_length (sent_in s.clocks.at rs) s.tracks
 
-looked_sends : (old new : State) (found : Option Out) (reply : Reply) (terms : Terms) (output : Output) (n : ℕ) → StepLooked old found reply terms output new → Sends old new n
+looked_sends : (old new : WatchState) (found : Option Out) (reply : Reply) (terms : Terms) (output : Output) (n : ℕ) → StepLooked old found reply terms output new → Sends old new n
 looked_sends old new None reply terms output n step f any = absurd step
 looked_sends old new (Some q) reply terms output n step f any =
     let s = noted old q reply in
     let mid = looked s q reply terms in
-    inl (sym (ap (list_any (passes f)) (looked_out s q reply terms)) ∙ replied_any f mid q reply (sym (ap (λ (x : State). list_any (passes f) x.out) step.1) ∙ any))
+    inl (sym (ap (list_any (passes f)) (looked_out s q reply terms)) ∙ replied_any f mid q reply (sym (ap (λ (x : WatchState). list_any (passes f) x.out) step.1) ∙ any))
 
-renewed_sends : (old new : State) (found : Option Out) (reply : Reply) (output : Output) (n : ℕ) → StepRenewed old found reply output new → Sends old new n
+renewed_sends : (old new : WatchState) (found : Option Out) (reply : Reply) (output : Output) (n : ℕ) → StepRenewed old found reply output new → Sends old new n
 renewed_sends old new None reply output n step f any = absurd step
 renewed_sends old new (Some q) reply output n step f any =
-    inl (replied_any f (renewed (noted old q reply) q reply) q reply (sym (ap (λ (x : State). list_any (passes f) x.out) step.1) ∙ any))
+    inl (replied_any f (state_renewed (noted old q reply) q reply) q reply (sym (ap (λ (x : WatchState). list_any (passes f) x.out) step.1) ∙ any))
 
-step_sends : (old new : State) (event : Event) (output : Output) (n : ℕ) → length new.tracks ≤ n → Step old event output new → Sends old new n
+step_sends : (old new : WatchState) (event : Event) (output : Output) (n : ℕ) → length new.tracks ≤ n → Step old event output new → Sends old new n
 step_sends old new (Clock wall elapsed) output n many step f any = clock_sends old new wall elapsed output n (ticks old new wall elapsed output step) many f any
 step_sends old new (Looked j reply terms) output n many step f any = looked_sends old new (request_out old.out j Look) reply terms output n step f any
 step_sends old new (Renewed j reply) output n many step f any = renewed_sends old new (request_out old.out j Renew) reply output n step f any
-step_sends old new (Need j until) output n many step f any = inl (sym (ap (λ (x : State). list_any (passes f) x.out) step.1) ∙ any)
-step_sends old new Begin output n many step f any = inl (sym (ap (λ (x : State). list_any (passes f) x.out) step.1) ∙ any)
-step_sends old new (Known j end renewable) output n many step f any = inl (sym (ap (λ (x : State). list_any (passes f) x.out) step.1) ∙ any)
+step_sends old new (Need j until) output n many step f any = inl (sym (ap (λ (x : WatchState). list_any (passes f) x.out) step.1) ∙ any)
+step_sends old new Begin output n many step f any = inl (sym (ap (λ (x : WatchState). list_any (passes f) x.out) step.1) ∙ any)
+step_sends old new (Known j end renewable) output n many step f any = inl (sym (ap (λ (x : WatchState). list_any (passes f) x.out) step.1) ∙ any)
 
-pub turn_sends : (old new : State) (event : Event) (result : Result Output WatchFault) (n : ℕ) → length new.tracks ≤ n → Turn old event result new → Sends old new n
+pub turn_sends : (old new : WatchState) (event : Event) (result : Result Output WatchFault) (n : ℕ) → length new.tracks ≤ n → Turn old event result new → Sends old new n
 turn_sends old new event (Ok output) n many turn f any = step_sends old new event output n many turn.1 f any
-turn_sends old new event (Err fault) n many turn f any = inl (subst (λ (x : State). list_any (passes f) x.out ≡ true) (refused_stays old new event fault turn) any)
+turn_sends old new event (Err fault) n many turn f any = inl (subst (λ (x : WatchState). list_any (passes f) x.out ≡ true) (refused_stays old new event fault turn) any)
 
 -- a request of j that is whole, and went out at a moment or later, is out
-abbrev pub is_anew : Outage → ℕ → State → ℕ → Bool
-is_anew o from s j = list_any (λ (q : Out). q.entry == j && (is_whole o q.since && nat_le from q.since)) s.out
+abbrev pub is_anew : Outage → ℕ → WatchState → ℕ → Bool
+is_anew o from s j = list_any (λ (q : Out). q.entry == j && (is_request_whole o q.since && nat_le from q.since)) s.out
 
 -- whose request is out is marked as out, and has something to be asked
-marked : (s : State) (j : ℕ) (test : Out → Bool) → IsAlone s → list_any (λ (q : Out). q.entry == j && test q) s.out ≡ true → (track_at s j).out ≡ true
+marked : (s : WatchState) (j : ℕ) (test : Out → Bool) → IsAlone s → list_any (λ (q : Out). q.entry == j && test q) s.out ≡ true → (track_at s j).out ≡ true
 marked s j test alone any =
     elim (cases_Bool (track_at s j).out) [
       | inl out ↦ out
       | inr free ↦ absurd (not_both any (no_lane j test s.out (let once = alone.once j in let e = ap flag free in omega (arith, once, e))))
     ]
 
-pub served_marked : (o : Outage) (s : State) (j : ℕ) → IsAlone s → is_served o s j ≡ true → (track_at s j).out ≡ true
-served_marked o s j alone served = marked s j (λ q. is_whole o q.since) alone served
+pub served_marked : (o : Outage) (s : WatchState) (j : ℕ) → IsAlone s → is_request_served o s j ≡ true → (track_at s j).out ≡ true
+served_marked o s j alone served = marked s j (λ q. is_request_whole o q.since) alone served
 
-pub served_tried : (o : Outage) (s : State) (j : ℕ) → IsAlone s → AllTry s → is_served o s j ≡ true → is_tried s j ≡ true
+pub served_tried : (o : Outage) (s : WatchState) (j : ℕ) → IsAlone s → AllTry s → is_request_served o s j ≡ true → is_tried s j ≡ true
 served_tried o s j alone tries served = (tries j).out (served_marked o s j alone served)
 
 weaker_any : (p q : Out → Bool) (out : List Out) → ((r : Out) → p r ≡ true → q r ≡ true) → list_any p out ≡ true → list_any q out ≡ true
@@ -307,30 +307,30 @@ weaker_any p q (r ∷ out) h any =
       or_last true b e = refl
       or_last false b e = e
 
-pub anew_served : (o : Outage) (from : ℕ) (s : State) (j : ℕ) → is_anew o from s j ≡ true → is_served o s j ≡ true
+pub anew_served : (o : Outage) (from : ℕ) (s : WatchState) (j : ℕ) → is_anew o from s j ≡ true → is_request_served o s j ≡ true
 anew_served o from s j anew =
-    weaker_any (λ (q : Out). q.entry == j && (is_whole o q.since && nat_le from q.since)) (λ (q : Out). q.entry == j && is_whole o q.since) s.out
+    weaker_any (λ (q : Out). q.entry == j && (is_request_whole o q.since && nat_le from q.since)) (λ (q : Out). q.entry == j && is_request_whole o q.since) s.out
     (λ r h.
-    let both = and_parts (r.entry == j) (is_whole o r.since && nat_le from r.since) h in
-    and_from (r.entry == j) (is_whole o r.since) both.0 (and_parts (is_whole o r.since) (nat_le from r.since) both.1).0) anew
+    let both = and_parts (r.entry == j) (is_request_whole o r.since && nat_le from r.since) h in
+    and_from (r.entry == j) (is_request_whole o r.since) both.0 (and_parts (is_request_whole o r.since) (nat_le from r.since) both.1).0) anew
 
 -- those that wait after a turn, and those that are out anew, waited before, came to wait, or were out anew
 pub fewer_wait :
-    (o : Outage) (from n : ℕ) (old new : State) → IsAlone old → IsAlone new → AllTry new → Sends old new n →
-    how_many n (waits o new) + how_many n (is_anew o from new) ≤ how_many n (waits o old) + how_many n (comes o old new) + how_many n (is_anew o from old)
+    (o : Outage) (from n : ℕ) (old new : WatchState) → IsAlone old → IsAlone new → AllTry new → Sends old new n →
+    how_many n (waits_to_be_asked o new) + how_many n (is_anew o from new) ≤ how_many n (waits_to_be_asked o old) + how_many n (comes o old new) + how_many n (is_anew o from old)
 fewer_wait o from n old new alone_old alone tries sends =
-    sums n (waits o new) (is_anew o from new) (waits o old) (comes o old new) (is_anew o from old)
+    sums n (waits_to_be_asked o new) (is_anew o from new) (waits_to_be_asked o old) (comes o old new) (is_anew o from old)
     (λ j.
-    counted (is_tried new j) (is_served o new j) (is_tried old j) (is_served o old j) (is_anew o from new j) (is_anew o from old j) (served_tried o new j alone tries)
+    counted (is_tried new j) (is_request_served o new j) (is_tried old j) (is_request_served o old j) (is_anew o from new j) (is_anew o from old j) (served_tried o new j alone tries)
     (λ anew.
-    elim (sends (λ k since. k == j && (is_whole o since && nat_le from since)) anew) as (λ _. (is_anew o from old j ≡ true) ⊎ ((is_served o new j ≡ true) × (is_served o old j ≡ false))) [
+    elim (sends (λ k since. k == j && (is_request_whole o since && nat_le from since)) anew) as (λ _. (is_anew o from old j ≡ true) ⊎ ((is_request_served o new j ≡ true) × (is_request_served o old j ≡ false))) [
       | inl before ↦ inl before
       | inr now ↦
-          let same = eqb-true now.0 j (and_parts (now.0 == j) (is_whole o new.clocks.at && nat_le from new.clocks.at) now.1.0).0 in
+          let same = eqb-true now.0 j (and_parts (now.0 == j) (is_request_whole o new.clocks.at && nat_le from new.clocks.at) now.1.0).0 in
           let free = subst (λ k. (track_at old k).out ≡ false) same now.1.1.1 in
           let once = alone_old.once j in
           let e = ap flag free in
-          inr (anew_served o from new j anew, no_lane j (λ q. is_whole o q.since) old.out (omega (arith, once, e)))
+          inr (anew_served o from new j anew, no_lane j (λ q. is_request_whole o q.since) old.out (omega (arith, once, e)))
     ]))
 
 -- what holds of the requests that are out, and of those that go out, holds of all after a clock
@@ -346,7 +346,7 @@ each_named p now xs (j ∷ js) =
       or_last' false b e = e
 
 pub all_sent :
-    (P : Out → Type 0) (old new : State) (wall elapsed : ℕ) (output : Output) (h : Ticks old new wall elapsed output) → All P old.out →
+    (P : Out → Type 0) (old new : WatchState) (wall elapsed : ℕ) (output : Output) (h : Ticks old new wall elapsed output) → All P old.out →
     ((k : ℕ) → k < length (pressed (readied old wall elapsed) h.round).tracks →
     is_due (pressed (readied old wall elapsed) h.round).presence (pressed (readied old wall elapsed) h.round).clocks.at (track_at (pressed (readied old wall elapsed) h.round) k) ≡ true →
     list_any (λ (r : Request). r.entry == k) h.requests ≡ true →
@@ -359,7 +359,7 @@ all_sent P old new wall elapsed output h all made =
     let is = h.going.entries in
     let rq : ℕ → Request = request_at p (sec at) mid.tracks in
     let out : new.out ≡ old.out ++ map (out_at at) (map rq is) =
-    ap (λ (x : State). x.out) h.new_is ∙ ap (λ os. os ++ map (out_at at) h.requests) (readied_out old wall elapsed) ∙ ap (λ rs. old.out ++ map (out_at at) rs) h.going.requests_are in
+    ap (λ (x : WatchState). x.out) h.new_is ∙ ap (λ os. os ++ map (out_at at) h.requests) (readied_out old wall elapsed) ∙ ap (λ rs. old.out ++ map (out_at at) rs) h.going.requests_are in
     let named : All (λ k. list_any (λ (r : Request). r.entry == k) h.requests ≡ true) is =
     subst (λ rs. All (λ k. list_any (λ (r : Request). r.entry == k) rs ≡ true) is) (sym h.going.requests_are) (each_named p (sec at) mid.tracks is) in
     let due = h.going.due in
@@ -368,6 +368,6 @@ all_sent P old new wall elapsed output h all made =
     (All-map P (out_at at) (map rq is) (All-map (λ r. P (out_at at r)) rq is (λ k d below. made (get_or is k d) (due k d below).0 (due k d below).1 (named k d below)))))
 
 -- and of those that an answer leaves
-pub all_left : (P : Out → Type 0) → ((q : Out) → P q → P (heard q)) → (s : State) (q : Out) (reply : Reply) → All P s.out → All P (replied s q reply).out
-unfolding without
+pub all_left : (P : Out → Type 0) → ((q : Out) → P q → P (heard q)) → (s : WatchState) (q : Out) (reply : Reply) → All P s.out → All P (replied s q reply).out
+unfolding without_request
 all_left P hears s q reply all = replied_out P hears s q reply (All-filter (λ r. not (r.entry == q.entry)) P s.out all)

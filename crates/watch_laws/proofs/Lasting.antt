@@ -25,14 +25,14 @@ use Rattle.watch_machine.specs.Clocks.{sec}
 use Rattle.watch_machine.specs.History.{Turn}
 use Rattle.watch_machine.specs.Looked.{by_terms, looked}
 use Rattle.watch_machine.specs.Margins.{has_come, own_by, own_margin, lead, time, time_before}
-use Rattle.watch_machine.specs.Press.{asked_in, asked_track, dropped, is_fresh, press, pressed, pressed_alone, pressed_track}
+use Rattle.watch_machine.specs.Press.{asked_track, dropped, is_fresh, press, pressed, pressed_alone, pressed_track, track_asked_in}
 use Rattle.watch_machine.specs.Outlook.{time_of}
 use Rattle.watch_machine.specs.Refusal.{request_out}
-use Rattle.watch_machine.specs.Renewed.{renewed, renewed_track, ungranted_track}
+use Rattle.watch_machine.specs.Renewed.{renewed_track, state_renewed, ungranted_track}
 use Rattle.watch_machine.specs.Sending.{sent, sent_in, sent_track}
 use Rattle.watch_machine.specs.Settling.{settled, settled_track, timed}
-use Rattle.watch_machine.specs.State.{State, entry_of, no_track, track_at, track_in}
-use Rattle.watch_machine.specs.Step.{Step, StepLooked, StepRenewed, needed, readied, why}
+use Rattle.watch_machine.specs.State.{WatchState, entry_of, no_track, track_at, track_in}
+use Rattle.watch_machine.specs.Step.{Step, StepLooked, StepRenewed, readied, why, with_need_until}
 use Rattle.watch_machine.specs.Wanted.{need_of, wants}
 use Rattle.watch_machine.proofs.Cases.{if_both, not_both, of_value}
 use Rattle.watch_machine.proofs.Within.{out_all, out_entry}
@@ -43,7 +43,7 @@ use Rattle.watch_laws.proofs.Spacing.{looked_other, out_operation, same_index}
 use Rattle.watch_laws.proofs.Tracking.{back_kept, each_kept, replied_forest, set_kept}
 
 -- the requests of i that are out are renewals
-abbrev pub Asks : ℕ → State → Type 0
+abbrev pub Asks : ℕ → WatchState → Type 0
 Asks i s = All (λ (q : Out). q.entry ≡ i → q.operation ≡ Renew) s.out
 
 -- the end, the last grant and what is owed
@@ -66,7 +66,7 @@ pressed_bears margin e need at x =
     if_both (λ y. Bears y x) (is_fresh margin e x need (sec at)) (record x { attempt = Some (press at false x) }) (if wants x need || x.out then x else record x { attempt = dropped x x.attempt })
     (refl, (refl, refl)) (if_both (λ y. Bears y x) (wants x need || x.out) x (record x { attempt = dropped x x.attempt }) (refl, (refl, refl)) (refl, (refl, refl)))
 
-asked_bears : (margin : ℕ) (e : Entry) (at : ℕ) (round : List ℕ) (i : ℕ) (x : Track) → Bears (asked_in margin e at round i x) x
+asked_bears : (margin : ℕ) (e : Entry) (at : ℕ) (round : List ℕ) (i : ℕ) (x : Track) → Bears (track_asked_in margin e at round i x) x
 unfolding asked_track
 asked_bears margin e at round i x =
     if_both (λ y. Bears y x) (list_any (λ j. j == i) round) (asked_track margin e at x) x
@@ -84,56 +84,56 @@ unfolding ungranted_track
 ungranted_bears at heard reply x = (refl, (refl, refl))
 
 -- a clock at which nothing begins anew
-pub calm_ready : (s : State) (wall elapsed : ℕ) → why s wall elapsed ≡ None → readied s wall elapsed ≡ settled (timed s wall elapsed)
+pub calm_ready : (s : WatchState) (wall elapsed : ℕ) → why s wall elapsed ≡ None → readied s wall elapsed ≡ settled (timed s wall elapsed)
 unfolding readied
 calm_ready s wall elapsed none = ap (begun (settled (timed s wall elapsed))) none
 
-pub mid_bears : (s : State) (round : List ℕ) (i : ℕ) → Bears (track_at (pressed s round) i) (track_at s i)
+pub mid_bears : (s : WatchState) (round : List ℕ) (i : ℕ) → Bears (track_at (pressed s round) i) (track_at s i)
 mid_bears s round i =
     let c = s.clocks in
     let g = s.forest in
     let alone = pressed_alone g c s.tracks in
     both_bear (track_at (pressed s round) i) (track_in alone i) (track_at s i)
-    (each_kept Bears (same_bears no_track) (λ j. asked_in g.margin (entry_at g.entries j) c.at round j) alone (λ j x. asked_bears g.margin (entry_at g.entries j) c.at round j x) i)
+    (each_kept Bears (same_bears no_track) (λ j. track_asked_in g.margin (entry_at g.entries j) c.at round j) alone (λ j x. asked_bears g.margin (entry_at g.entries j) c.at round j x) i)
     (each_kept Bears (same_bears no_track) (λ j. pressed_track g.margin (entry_at g.entries j) (need_of g.entries s.tracks c j) c.at) s.tracks
     (λ j x. pressed_bears g.margin (entry_at g.entries j) (need_of g.entries s.tracks c j) c.at x) i)
 
-pub clock_bears : (old new : State) (wall elapsed : ℕ) (output : Output) (i : ℕ) → Ticks old new wall elapsed output → why old wall elapsed ≡ None → Bears (track_at new i) (track_at old i)
+pub clock_bears : (old new : WatchState) (wall elapsed : ℕ) (output : Output) (i : ℕ) → Ticks old new wall elapsed output → why old wall elapsed ≡ None → Bears (track_at new i) (track_at old i)
 clock_bears old new wall elapsed output i h none =
     let t = timed old wall elapsed in
     let ready = readied old wall elapsed in
     let mid = pressed ready h.round in
     let calm = calm_ready old wall elapsed none in
-    subst (λ (x : State). Bears (track_at x i) (track_at old i)) (sym h.new_is)
+    subst (λ (x : WatchState). Bears (track_at x i) (track_at old i)) (sym h.new_is)
     (both_bear (track_at (sent mid h.requests) i) (track_at mid i) (track_at old i)
     (each_kept Bears (same_bears no_track) (sent_in mid.clocks.at h.requests) mid.tracks (λ j x. sent_bears mid.clocks.at h.requests j x) i)
     (both_bear (track_at mid i) (track_at ready i) (track_at old i) (mid_bears ready h.round i)
-    (subst (λ (x : State). Bears (track_at x i) (track_at old i)) (sym calm)
+    (subst (λ (x : WatchState). Bears (track_at x i) (track_at old i)) (sym calm)
     (each_kept Bears (same_bears no_track) (λ j. settled_track t.forest.margin t.clocks.at) t.tracks (λ j x. settled_bears t.forest.margin t.clocks.at x) i))))
 
-begun_forest : (s : State) (w : Option Why) → (begun s w).forest ≡ s.forest
+begun_forest : (s : WatchState) (w : Option Why) → (begun s w).forest ≡ s.forest
 begun_forest s None = refl
 begun_forest s (Some w) = refl
 
-pub clock_forest : (old new : State) (wall elapsed : ℕ) (output : Output) → Ticks old new wall elapsed output → new.forest ≡ old.forest
+pub clock_forest : (old new : WatchState) (wall elapsed : ℕ) (output : Output) → Ticks old new wall elapsed output → new.forest ≡ old.forest
 unfolding readied
-clock_forest old new wall elapsed output h = ap (λ (x : State). x.forest) h.new_is ∙ begun_forest (settled (timed old wall elapsed)) (why old wall elapsed)
+clock_forest old new wall elapsed output h = ap (λ (x : WatchState). x.forest) h.new_is ∙ begun_forest (settled (timed old wall elapsed)) (why old wall elapsed)
 
 -- what stays of an entry, and of the forest
-pub record Same (i : ℕ) (old new : State) : Type 0 where
+pub record Same (i : ℕ) (old new : WatchState) : Type 0 where
   pub count : length new.forest.entries ≡ length old.forest.entries
   pub margin : new.forest.margin ≡ old.forest.margin
   pub step : (entry_of new i).step ≡ (entry_of old i).step
   pub bears : Bears (track_at new i) (track_at old i)
 
-pub same_all : (i : ℕ) (a b c : State) → Same i a b → Same i b c → Same i a c
+pub same_all : (i : ℕ) (a b c : WatchState) → Same i a b → Same i b c → Same i a c
 same_all i a b c h k = record { count = k.count ∙ h.count; margin = k.margin ∙ h.margin; step = k.step ∙ h.step; bears = both_bear (track_at c i) (track_at b i) (track_at a i) k.bears h.bears }
 
-pub same_first : (i : ℕ) (s : State) → Same i s s
+pub same_first : (i : ℕ) (s : WatchState) → Same i s s
 same_first i s = record { count = refl; margin = refl; step = refl; bears = same_bears (track_at s i) }
 
 -- so its time does
-pub same_time : (i : ℕ) (old new : State) → Same i old new → time_of new i ≡ time_of old i
+pub same_time : (i : ℕ) (old new : WatchState) → Same i old new → time_of new i ≡ time_of old i
 unfolding time own_margin
 same_time i old new h =
     let m = h.margin in
@@ -159,7 +159,7 @@ unfolding entry_at
 entry_other es j e i apart = get_or-set_other es j i e no_entry apart
 
 -- the answer to a lookup of another
-looked_forest : (s : State) (q : Out) (reply : Reply) (terms : Terms) (i : ℕ) → q.entry ≢ i → (length (looked s q reply terms).forest.entries ≡ length s.forest.entries) × (((looked s q reply terms).forest.margin ≡ s.forest.margin) × ((entry_of (looked s q reply terms) i).step ≡ (entry_of s i).step))
+looked_forest : (s : WatchState) (q : Out) (reply : Reply) (terms : Terms) (i : ℕ) → q.entry ≢ i → (length (looked s q reply terms).forest.entries ≡ length s.forest.entries) × (((looked s q reply terms).forest.margin ≡ s.forest.margin) × ((entry_of (looked s q reply terms) i).step ≡ (entry_of s i).step))
 looked_forest s q (Told seconds renewable date) terms i apart =
     let e = by_terms s.forest.margin terms (entry_of s q.entry) in
     (length-set s.forest.entries q.entry e, (refl, ap (λ (x : Entry). x.step) (entry_other s.forest.entries q.entry e i (λ is. apart (sym is)))))
@@ -167,10 +167,10 @@ looked_forest s q (Refused status date) terms i apart = (refl, (refl, refl))
 looked_forest s q Busy terms i apart = (refl, (refl, refl))
 looked_forest s q Lost terms i apart = (refl, (refl, refl))
 
-replied_same : (i : ℕ) (old mid new : State) (q : Out) (reply : Reply) → new ≡ replied mid q reply → Same i old mid → Same i old new
+replied_same : (i : ℕ) (old mid new : WatchState) (q : Out) (reply : Reply) → new ≡ replied mid q reply → Same i old mid → Same i old new
 replied_same i old mid new q reply is h =
-    let forest = ap (λ (x : State). x.forest) is ∙ replied_forest mid q reply in
-    let bears = subst (λ (x : State). Bears (track_at x i) (track_at mid i)) (sym is) (back_kept Bears same_bears back_bears mid q reply i) in
+    let forest = ap (λ (x : WatchState). x.forest) is ∙ replied_forest mid q reply in
+    let bears = subst (λ (x : WatchState). Bears (track_at x i) (track_at mid i)) (sym is) (back_kept Bears same_bears back_bears mid q reply i) in
     record {
       count = ap (λ (g : Forest). length g.entries) forest ∙ h.count;
       margin = ap (λ (g : Forest). g.margin) forest ∙ h.margin;
@@ -179,13 +179,13 @@ replied_same i old mid new q reply is h =
     }
 
 -- a lookup that is out is not of i
-pub no_look : (i j : ℕ) (s : State) (q : Out) → request_out s.out j Look ≡ Some q → Asks i s → q.entry ≢ i
+pub no_look : (i j : ℕ) (s : WatchState) (q : Out) → request_out s.out j Look ≡ Some q → Asks i s → q.entry ≢ i
 no_look i j s q found asks is =
     let operation = of_value (λ (r : Out). r.entry ≡ i → r.operation ≡ Renew) (request_out s.out j Look) q (out_all (λ (r : Out). r.entry ≡ i → r.operation ≡ Renew) s.out j Look asks) found is in
     absurd (let bad : Look ≡ Renew = sym (out_operation s.out j Look q found) ∙ operation in cc)
 
 looked_same :
-    (i j : ℕ) (old new : State) (found : Option Out) (reply : Reply) (terms : Terms) (output : Output) → request_out old.out j Look ≡ found → StepLooked old found reply terms output new → Asks i old →
+    (i j : ℕ) (old new : WatchState) (found : Option Out) (reply : Reply) (terms : Terms) (output : Output) → request_out old.out j Look ≡ found → StepLooked old found reply terms output new → Asks i old →
     Same i old new
 looked_same i j old new None reply terms output is step asks = absurd step
 looked_same i j old new (Some q) reply terms output is step asks =
@@ -195,33 +195,33 @@ looked_same i j old new (Some q) reply terms output is step asks =
     replied_same i old (looked s q reply terms) new q reply step.1
     (record { count = forest.0; margin = forest.1.0; step = forest.1.1; bears = subst (λ x. Bears x (track_at old i)) (sym (looked_other s q reply terms i apart)) (same_bears (track_at old i)) })
 
-lost_bears : (t : State) (r : Out) (k : ℕ) → Bears (track_at (renewed t r Lost) k) (track_at t k)
+lost_bears : (t : WatchState) (r : Out) (k : ℕ) → Bears (track_at (state_renewed t r Lost) k) (track_at t k)
 unfolding renewed_track
 lost_bears t r k = set_kept Bears same_bears t.tracks r.entry _ (ungranted_bears t.clocks.at r.heard Lost (track_at t r.entry)) k
 
-renewed_bears : (s : State) (q : Out) (reply : Reply) (i : ℕ) → (q.entry ≡ i → reply ≡ Lost) → Bears (track_at (renewed s q reply) i) (track_at s i)
+renewed_bears : (s : WatchState) (q : Out) (reply : Reply) (i : ℕ) → (q.entry ≡ i → reply ≡ Lost) → Bears (track_at (state_renewed s q reply) i) (track_at s i)
 renewed_bears s q reply i lost =
     elim (cases_Bool (q.entry == i)) [
-      | inl same ↦ subst (λ r. Bears (track_at (renewed s q r) i) (track_at s i)) (sym (lost (eqb-true q.entry i same))) (lost_bears s q i)
+      | inl same ↦ subst (λ r. Bears (track_at (state_renewed s q r) i) (track_at s i)) (sym (lost (eqb-true q.entry i same))) (lost_bears s q i)
       | inr different ↦
           let apart : q.entry ≢ i = λ e. not_both (subst (λ n. (n == i) ≡ true) (sym e) (same_index i)) different in
           subst (λ x. Bears x (track_at s i)) (sym (get_or-set_other s.tracks q.entry i _ no_track (λ e. apart (sym e)))) (same_bears (track_at s i))
     ]
 
 renewed_same :
-    (i j : ℕ) (old new : State) (found : Option Out) (reply : Reply) (output : Output) → request_out old.out j Renew ≡ found → StepRenewed old found reply output new → (j ≡ i → reply ≡ Lost) → Same i old new
+    (i j : ℕ) (old new : WatchState) (found : Option Out) (reply : Reply) (output : Output) → request_out old.out j Renew ≡ found → StepRenewed old found reply output new → (j ≡ i → reply ≡ Lost) → Same i old new
 renewed_same i j old new None reply output is step lost = absurd step
 renewed_same i j old new (Some q) reply output is step lost =
     let s = noted old q reply in
     let entry = out_entry old.out j Renew q is in
-    replied_same i old (renewed s q reply) new q reply step.1
+    replied_same i old (state_renewed s q reply) new q reply step.1
     (record { count = refl; margin = refl; step = refl; bears = renewed_bears s q reply i (λ own. lost (sym entry ∙ own)) })
 
-needed_step : (s : State) (j until i : ℕ) → (entry_of (needed s j until) i).step ≡ (entry_of s i).step
+needed_step : (s : WatchState) (j until i : ℕ) → (entry_of (with_need_until s j until) i).step ≡ (entry_of s i).step
 needed_step s j until i = entry_kept s.forest.entries j (record (entry_of s j) { need = min LAST until }) i refl
 
 -- a turn
-step_same : (o : Outage) (i due : ℕ) (old new : State) (event : Event) (output : Output) → Step old event output new → IsLived o i due old event (Ok output) → Asks i old → Same i old new
+step_same : (o : Outage) (i due : ℕ) (old new : WatchState) (event : Event) (output : Output) → Step old event output new → IsLived o i due old event (Ok output) → Asks i old → Same i old new
 step_same o i due old new (Clock wall elapsed) output step lived asks =
     let h = ticks old new wall elapsed output step in
     let forest = clock_forest old new wall elapsed output h in
@@ -238,6 +238,6 @@ step_same o i due old new (Need j until) output step lived asks =
 step_same o i due old new Begin output step lived asks = absurd lived
 step_same o i due old new (Known j end renewable) output step lived asks = absurd lived
 
-pub turn_same : (o : Outage) (i due : ℕ) (old new : State) (event : Event) (result : Result Output WatchFault) → Turn old event result new → IsLived o i due old event result → Asks i old → Same i old new
+pub turn_same : (o : Outage) (i due : ℕ) (old new : WatchState) (event : Event) (result : Result Output WatchFault) → Turn old event result new → IsLived o i due old event result → Asks i old → Same i old new
 turn_same o i due old new event (Ok output) turn lived asks = step_same o i due old new event output turn.1 lived asks
 turn_same o i due old new event (Err fault) turn lived asks = subst (Same i old) (sym (refused_stays old new event fault turn)) (same_first i old)

@@ -4,7 +4,7 @@ use Rattle.std.proofs.lemmas.Bool.{cases_Bool}
 use Rattle.std.proofs.lemmas.Bool.Decides.{nat_tests}
 use Rattle.watch_machine.specs.declared.event.Operation.{Operation}
 use Rattle.watch_machine.specs.declared.event.Operation.TheVariants.{Look, Renew}
-use Rattle.watch_laws.specs.Load.{AreApart, AreApartFrom, IsApart, LoadLaw, Sent, is_between, sent}
+use Rattle.watch_laws.specs.Load.{AreApartFrom, IsApart, LoadLaw, Sent, SentAreApart, is_between, sent_in_turns}
 use Rattle.watch_machine.proofs.Cases.{if_cases}
 use Rattle.watch_laws.proofs.Spacing.{spaced}
 
@@ -54,7 +54,7 @@ one_at_most from until x xs =
     if_cases (λ (ys : List Sent). length ys ≤ suc (length (filter (is_between from until) xs))) (is_between from until x) (x ∷ filter (is_between from until) xs) (filter (is_between from until) xs) (λ e. omega arith) (λ e. omega arith)
 
 -- from the first that is counted on
-few_from : (x from until : ℕ) (xs : List Sent) → until ≡ from + 1000 * x → AreApart xs → AreFrom from xs → (low : ℕ) → length (filter (is_between low until) xs) ≤ 2 * (x + 1)
+few_from : (x from until : ℕ) (xs : List Sent) → until ≡ from + 1000 * x → SentAreApart xs → AreFrom from xs → (low : ℕ) → length (filter (is_between low until) xs) ≤ 2 * (x + 1)
 few_from x from until [] is apart all low = omega arith
 few_from x from until (a ∷ []) is apart all low = let one = one_at_most low until a [] in omega arith
 few_from zero from until (a ∷ (b ∷ rest)) is apart all low =
@@ -71,7 +71,7 @@ few_from (suc x) from until (a ∷ (b ∷ rest)) is apart all low =
     let h = all.0 in
     let few = few_from x (from + 1000) until rest (omega arith) (loose b rest apart.1) (weaker (a.at + 1000) (from + 1000) rest (omega arith) later) low in
     omega arith where
-      loose : (y : Sent) (ys : List Sent) → AreApartFrom y ys → AreApart ys
+      loose : (y : Sent) (ys : List Sent) → AreApartFrom y ys → SentAreApart ys
       loose y [] h' = tt
       loose y (z ∷ zs) h' = h'.1
 
@@ -80,7 +80,7 @@ few_from (suc x) from until (a ∷ (b ∷ rest)) is apart all low =
       weaker t u (z ∷ zs) le h' = (let l = h'.0 in omega arith, weaker t u zs le h'.1)
 
 -- those before it are not counted
-few : (x from : ℕ) (xs : List Sent) → AreApart xs → length (filter (is_between from (from + 1000 * x)) xs) ≤ 2 * (x + 1)
+few : (x from : ℕ) (xs : List Sent) → SentAreApart xs → length (filter (is_between from (from + 1000 * x)) xs) ≤ 2 * (x + 1)
 few x from [] apart = omega arith
 few x from (a ∷ rest) apart =
     elim (cases_Bool (nat_le from a.at)) as (λ _. length (filter (is_between from (from + 1000 * x)) (a ∷ rest)) ≤ 2 * (x + 1)) [
@@ -91,9 +91,9 @@ few x from (a ∷ rest) apart =
           let less = few x from rest (loose a rest apart) in
           omega arith
     ] where
-      loose : (y : Sent) (ys : List Sent) → AreApartFrom y ys → AreApart ys
+      loose : (y : Sent) (ys : List Sent) → AreApartFrom y ys → SentAreApart ys
       loose y [] h = tt
       loose y (z ∷ zs) h = h.1
 
 pub load : LoadLaw
-load g width turns run i from x = few x from (sent i turns) (spaced g width turns run i)
+load g width turns run i from x = few x from (sent_in_turns i turns) (spaced g width turns run i)

@@ -26,17 +26,17 @@ use Rattle.watch_machine.specs.declared.track.End.TheVariants.{Unknown, At, Neve
 use Rattle.watch_machine.specs.declared.track.Track.{Track}
 use Rattle.watch_machine.specs.declared.track.Try.{Try}
 use Rattle.watch_machine.specs.Answers.{back_track, noted, replied}
-use Rattle.watch_machine.specs.Beginning.{begun, called_by, is_called, owing, owing_all, owing_lookup, soon, sooner, untopped, untopped_track}
+use Rattle.watch_machine.specs.Beginning.{begun, called_by, is_called, owing, owing_all, owing_lookup, soon, sooner_try, untopped, untopped_track}
 use Rattle.watch_machine.specs.Clocks.{sec}
-use Rattle.watch_machine.specs.History.{History, Turn, Turned}
+use Rattle.watch_machine.specs.History.{History, Turn, Turned, after_all}
 use Rattle.watch_machine.specs.Lines.{is_due}
-use Rattle.watch_machine.specs.Looked.{is_called_for, looked, told_by, told_state, told_track, told_try}
+use Rattle.watch_machine.specs.Looked.{is_called_for, looked, told_state, told_track, told_try, with_told_try}
 use Rattle.watch_machine.specs.Press.{pressed}
 use Rattle.watch_machine.specs.Refusal.{is_same, request_out}
-use Rattle.watch_machine.specs.Renewed.{from_try, granted_from, renewed, renewed_track}
+use Rattle.watch_machine.specs.Renewed.{from_try, granted_from, renewed_track, state_renewed}
 use Rattle.watch_machine.specs.Sending.{out_at, sent, sent_in, sent_track}
 use Rattle.watch_machine.specs.Settling.{settled, settled_track, timed}
-use Rattle.watch_machine.specs.State.{State, attempt_at, entry_of, no_track, opened, second, track_at, track_in}
+use Rattle.watch_machine.specs.State.{WatchState, attempt_at, entry_of, no_track, opened, second, track_at, track_in}
 use Rattle.watch_machine.specs.Step.{Step, StepClock, StepLooked, StepRenewed, known, readied, why}
 use Rattle.watch_machine.specs.Wanted.{believed, is_alive, is_open, is_never, is_unknown, wanted_need, wants}
 use Rattle.watch_machine.proofs.Cases.{if_both, not_both}
@@ -44,10 +44,9 @@ use Rattle.watch_machine.proofs.Seeing.{SameSeen, both_seen, each_read, need_sam
 use Rattle.watch_machine.proofs.Unseen.{owing_seen, pressed_seen, sent_seen}
 use Rattle.watch_machine.proofs.Within.{out_entry}
 use Rattle.watch_machine.proofs.Written.{each_length}
-use Rattle.watch_laws.specs.Beginnings.{GoWell, GoesWell, GoesWellAt, LookupLaw, TellsAhead, is_lookup, is_needed, lookups, looks, why_of}
-use Rattle.watch_laws.specs.Load.{asked_by, requests_of}
+use Rattle.watch_laws.specs.Beginnings.{GoWell, GoesWell, GoesWellAt, OneLookupLaw, TellsAhead, is_lookup, is_needed, lookups, looks, why_begun}
+use Rattle.watch_laws.specs.Load.{requests_asked_by, requests_of}
 use Rattle.watch_laws.specs.Outage.{is_tried}
-use Rattle.watch_laws.specs.Turns.{after_all}
 use Rattle.watch_laws.proofs.Alone.{IsAlone, flag, turn_alone}
 use Rattle.watch_laws.proofs.Answering.{looked_begins, replied_rest}
 use Rattle.watch_laws.proofs.Clocking.{refused_stays}
@@ -63,7 +62,7 @@ use Rattle.watch_laws.proofs.Topping.{readied_count, turn_count}
 use Rattle.watch_laws.proofs.Tracking.{back_kept, each_kept, set_kept}
 
 -- since a beginning i was not looked up yet, and owes a lookup if it did; or it was once, and its lookup is out or told
-abbrev Holds : State → ℕ → Bool → ℕ → Type 0
+abbrev Holds : WatchState → ℕ → Bool → ℕ → Type 0
 Holds s i due n =
     ((n ≡ 0) × ((looks i s.out ≡ 0) × (due ≡ true → (track_at s i).owes ≡ true)))
     ⊎ ((n ≡ 1) × ((looks i s.out ≡ 1) ⊎ ((looks i s.out ≡ 0) × IsTold (track_at s i))))
@@ -105,7 +104,7 @@ wants_needs x need written dated h =
     let two = (and_parts (not x.top) (not (is_never x.end) && far) one).1 in
     or_left (nat_lt 0 need) (not dated && nat_lt 0 written) (past_need (believed x.end) need (and_parts (not (is_never x.end)) far two).1)
 
-not_wanted : (s : State) (i : ℕ) → is_called s.forest s.tracks s.clocks i ≡ false → wants (track_at s i) (wanted_need s i) ≡ false
+not_wanted : (s : WatchState) (i : ℕ) → is_called s.forest s.tracks s.clocks i ≡ false → wants (track_at s i) (wanted_need s i) ≡ false
 not_wanted s i none =
     elim (cases_Bool (wants (track_at s i) (wanted_need s i))) [
       | inl yes' ↦ absurd (not_both (wants_needs (track_at s i) (wanted_need s i) (carried s.forest.entries 0 i) s.clocks.dated yes') none)
@@ -122,11 +121,11 @@ neither true b h k e = cc
 neither false true h k e = cc
 neither false false h k e = cc
 
-module _ (old new : State) (wall elapsed : ℕ) (output : Output) (i : ℕ) (h : Ticks old new wall elapsed output) where
-  abbrev ready : State
+module _ (old new : WatchState) (wall elapsed : ℕ) (output : Output) (i : ℕ) (h : Ticks old new wall elapsed output) where
+  abbrev ready : WatchState
   ready = readied old wall elapsed
 
-  abbrev mid : State
+  abbrev mid : WatchState
   mid = pressed ready h.round
 
   abbrev go : ℕ
@@ -135,7 +134,7 @@ module _ (old new : State) (wall elapsed : ℕ) (output : Output) (i : ℕ) (h :
   -- what is out after it
   looks_after : looks i new.out ≡ looks i old.out + go
   looks_after =
-      ap (λ (x : State). looks i x.out) h.new_is
+      ap (λ (x : WatchState). looks i x.out) h.new_is
       ∙ ap length (filter-append (λ (q : Out). q.entry == i && is_same q.operation Look) mid.out (map (out_at mid.clocks.at) h.requests))
       ∙ length-append (filter (λ (q : Out). q.entry == i && is_same q.operation Look) mid.out) (filter (λ (q : Out). q.entry == i && is_same q.operation Look) (map (out_at mid.clocks.at) h.requests))
       ∙ ap (λ n. n + looks i (map (out_at mid.clocks.at) h.requests)) (ap (looks i) (readied_out old wall elapsed))
@@ -193,7 +192,7 @@ module _ (old new : State) (wall elapsed : ℕ) (output : Output) (i : ℕ) (h :
   -- nor of one that has nothing to be asked
   tried_same : is_tried new i ≡ is_some (attempt_at mid i)
   tried_same =
-      ap (λ (x : State). is_tried x i) h.new_is
+      ap (λ (x : WatchState). is_tried x i) h.new_is
       ∙ each_kept (λ (y x : Track). is_some y.attempt ≡ is_some x.attempt) refl (sent_in mid.clocks.at h.requests) mid.tracks
       (λ j x. if_both (λ (y : Track). is_some y.attempt ≡ is_some x.attempt) (list_any (λ (r : Request). r.entry == j) h.requests) (sent_track mid.clocks.at x) x refl refl) i
 
@@ -207,7 +206,7 @@ module _ (old new : State) (wall elapsed : ℕ) (output : Output) (i : ℕ) (h :
   -- pressing and sending leave the end, and what is owed
   bears : Bears (track_at new i) (track_at ready i)
   bears =
-      subst (λ (x : State). Bears (track_at x i) (track_at ready i)) (sym h.new_is)
+      subst (λ (x : WatchState). Bears (track_at x i) (track_at ready i)) (sym h.new_is)
       (both_bear (track_at (sent mid h.requests) i) (track_at mid i) (track_at ready i)
       (each_kept Bears (same_bears no_track) (sent_in mid.clocks.at h.requests) mid.tracks (λ j x. sent_bears mid.clocks.at h.requests j x) i) (mid_bears ready h.round i))
 
@@ -219,7 +218,7 @@ module _ (old new : State) (wall elapsed : ℕ) (output : Output) (i : ℕ) (h :
 
   seen : SameSeen new.tracks ready.tracks
   seen =
-      subst (λ (x : State). SameSeen x.tracks ready.tracks) (sym h.new_is)
+      subst (λ (x : WatchState). SameSeen x.tracks ready.tracks) (sym h.new_is)
       (both_seen (sent mid h.requests).tracks mid.tracks ready.tracks (sent_seen mid.clocks.at h.requests mid.tracks) (pressed_seen ready.forest ready.clocks h.round ready.tracks))
 
   -- of one that is told, where its end is ahead or it has nothing to be asked
@@ -233,14 +232,14 @@ module _ (old new : State) (wall elapsed : ℕ) (output : Output) (i : ℕ) (h :
             let told =
             mid_told ready h.round i (omega (arith, many, within))
             (pressed_told ready.forest.margin (entry_of ready i) (wanted_need ready i) ready.clocks.at (track_at ready i) there.owes there.known alive (λ e free. there.asks free)) in
-            (subst (λ (x : State). IsTold (track_at x i)) (sym h.new_is) (sent_told mid h.requests i told.0), none_told told.0)
+            (subst (λ (x : WatchState). IsTold (track_at x i)) (sym h.new_is) (sent_told mid h.requests i told.0), none_told told.0)
         | inr idle ↦ (record { owes = bears.1.1 ∙ there.owes; known = known; asks = λ free. none_asks (attempt_at new i) idle }, none_idle idle)
       ]
 
   calm_told : why old wall elapsed ≡ None → IsTold (track_at old i) → IsTold (track_at ready i)
   calm_told none told =
       let t = timed old wall elapsed in
-      subst (λ (x : State). IsTold (track_at x i)) (sym (calm_ready old wall elapsed none))
+      subst (λ (x : WatchState). IsTold (track_at x i)) (sym (calm_ready old wall elapsed none))
       (each_kept (λ y x. IsTold x → IsTold y) (λ k. k) (λ j. settled_track t.forest.margin t.clocks.at) t.tracks (λ j x. settled_told t.forest.margin t.clocks.at x) i told)
 
   calm_owes : why old wall elapsed ≡ None → (track_at old i).owes ≡ true → (track_at new i).owes ≡ true
@@ -289,8 +288,8 @@ module _ (old new : State) (wall elapsed : ℕ) (output : Output) (i : ℕ) (h :
   -- whoever is needed after it was needed at it
   needed_same : is_needed new i ≡ is_called ready.forest ready.tracks ready.clocks i
   needed_same =
-      ap (λ (x : State). is_called x.forest x.tracks x.clocks i) h.new_is
-      ∙ called_same (sent mid h.requests).tracks ready.tracks (subst (λ (x : State). SameSeen x.tracks ready.tracks) h.new_is seen) ready.forest ready.clocks i
+      ap (λ (x : WatchState). is_called x.forest x.tracks x.clocks i) h.new_is
+      ∙ called_same (sent mid h.requests).tracks ready.tracks (subst (λ (x : WatchState). SameSeen x.tracks ready.tracks) h.new_is seen) ready.forest ready.clocks i
 
   -- where nobody needs it, its end is ahead and it owes no lookup, it is told
   unneeded_told : i < length old.tracks → is_needed new i ≡ false → is_alive (second new) (track_at new i) ≡ true → (track_at ready i).owes ≡ false → IsTold (track_at new i) × (go ≡ 0)
@@ -303,7 +302,7 @@ module _ (old new : State) (wall elapsed : ℕ) (output : Output) (i : ℕ) (h :
       mid_told ready h.round i (omega (arith, many, within))
       (pressed_told ready.forest.margin (entry_of ready i) (wanted_need ready i) ready.clocks.at x owes (known_end (second ready) x.end here) here
       (λ yes' free. absurd (neither (wants x (wanted_need ready i)) x.out unwanted free yes'))) in
-      (subst (λ (y : State). IsTold (track_at y i)) (sym h.new_is) (sent_told mid h.requests i told.0), none_told told.0)
+      (subst (λ (y : WatchState). IsTold (track_at y i)) (sym h.new_is) (sent_told mid h.requests i told.0), none_told told.0)
 
 -- ---- a beginning
 
@@ -315,20 +314,20 @@ owing_owes : (at : ℕ) (called : Bool) (x : Track) → called ≡ true → is_o
 unfolding owing
 owing_owes at called x needed' ahead =
     ap (λ (y : Track). y.owes) (cond-true (called && is_open (sec at) x) (owing_lookup at x) x (and_from called (is_open (sec at) x) needed' ahead))
-    ∙ if_both (λ (y : Track). y.owes ≡ true) x.out (record x { owes = true }) (record x { owes = true; attempt = Some (sooner (soon at x) x.attempt) }) refl refl
+    ∙ if_both (λ (y : Track). y.owes ≡ true) x.out (record x { owes = true }) (record x { owes = true; attempt = Some (sooner_try (soon at x) x.attempt) }) refl refl
 
 owing_end : (at : ℕ) (called : Bool) (x : Track) → (owing at called x).end ≡ x.end
 unfolding owing
 owing_end at called x =
     if_both (λ (y : Track). y.end ≡ x.end) (called && is_open (sec at) x) (owing_lookup at x) x
-    (if_both (λ (y : Track). y.end ≡ x.end) x.out (record x { owes = true }) (record x { owes = true; attempt = Some (sooner (soon at x) x.attempt) }) refl refl) refl
+    (if_both (λ (y : Track). y.end ≡ x.end) x.out (record x { owes = true }) (record x { owes = true; attempt = Some (sooner_try (soon at x) x.attempt) }) refl refl) refl
 
 some_why : (o : Option Why) → is_some o ≡ true → (w : Why) × (o ≡ Some w)
 some_why None h = absurd cc
 some_why (Some w) h = (w, refl)
 
-module _ (old : State) (wall elapsed i : ℕ) (w : Why) (is : why old wall elapsed ≡ Some w) where
-  abbrev t : State
+module _ (old : WatchState) (wall elapsed i : ℕ) (w : Why) (is : why old wall elapsed ≡ Some w) where
+  abbrev t : WatchState
   t = timed old wall elapsed
 
   -- the tracks at a beginning, before anybody is called
@@ -343,11 +342,11 @@ module _ (old : State) (wall elapsed i : ℕ) (w : Why) (is : why old wall elaps
   ready_is within =
       let one = each_length (λ j. settled_track t.forest.margin t.clocks.at) t.tracks in
       let two = each_length (λ j. untopped_track) (settled t).tracks in
-      ap (λ (x : State). track_at x i) begins_so ∙ each_read (λ j. owing t.clocks.at (is_called t.forest fresh t.clocks j)) fresh i (omega (arith, one, two, within))
+      ap (λ (x : WatchState). track_at x i) begins_so ∙ each_read (λ j. owing t.clocks.at (is_called t.forest fresh t.clocks j)) fresh i (omega (arith, one, two, within))
 
   called_so : is_called (readied old wall elapsed).forest (readied old wall elapsed).tracks (readied old wall elapsed).clocks i ≡ is_called t.forest fresh t.clocks i
   called_so =
-      ap (λ (x : State). is_called x.forest x.tracks x.clocks i) begins_so
+      ap (λ (x : WatchState). is_called x.forest x.tracks x.clocks i) begins_so
       ∙ called_same (owing_all t.forest t.clocks fresh) fresh (owing_seen t.forest t.clocks fresh) t.forest t.clocks i
 
   owes_fresh : (track_in fresh i).owes ≡ (track_at old i).owes
@@ -375,7 +374,7 @@ module _ (old : State) (wall elapsed i : ℕ) (w : Why) (is : why old wall elaps
 
 -- ---- other events
 
-stays : (new old : State) (i n : ℕ) (due : Bool) → looks i new.out ≡ looks i old.out → Owes (track_at new i) (track_at old i) → (IsTold (track_at old i) → IsTold (track_at new i)) → Holds old i due n → Holds new i due n
+stays : (new old : WatchState) (i n : ℕ) (due : Bool) → looks i new.out ≡ looks i old.out → Owes (track_at new i) (track_at old i) → (IsTold (track_at old i) → IsTold (track_at new i)) → Holds old i due n → Holds new i due n
 stays new old i n due same owes told (inl (none, (quiet, owing'))) = inl (none, (same ∙ quiet, λ d. owes (owing' d)))
 stays new old i n due same owes told (inr (one, inl out)) = inr (one, inl (same ∙ out))
 stays new old i n due same owes told (inr (one, inr (quiet, here))) = inr (one, inr (same ∙ quiet, told here))
@@ -389,40 +388,40 @@ unfolding back_track
 back_end x = refl
 
 -- an answer, where mid is the state before what it says of the broker
-module _ (old mid new : State) (q : Out) (reply : Reply) (is : new ≡ replied mid q reply) (out : mid.out ≡ old.out) where
+module _ (old mid new : WatchState) (q : Out) (reply : Reply) (is : new ≡ replied mid q reply) (out : mid.out ≡ old.out) where
   other_holds : (i n : ℕ) (due : Bool) → q.entry ≢ i → track_at mid i ≡ track_at old i → Holds old i due n → Holds new i due n
   other_holds i n due apart same holds =
-      subst (λ (x : State). Holds x i due n) (sym is)
+      subst (λ (x : WatchState). Holds x i due n) (sym is)
       (stays (replied mid q reply) old i n due (other_looks mid q reply i apart ∙ ap (looks i) out)
       (λ owes. back_kept Owes (λ x k. k) (λ x. back_owes x) mid q reply i (ap (λ (x : Track). x.owes) same ∙ owes))
       (λ told. back_kept (λ y x. IsTold x → IsTold y) (λ x k. k) (λ x. back_told x) mid q reply i (subst IsTold (sym same) told)) holds)
 
   own_quiet : looks q.entry new.out ≡ 0
-  own_quiet = ap (λ (x : State). looks q.entry x.out) is ∙ own_looks mid q reply
+  own_quiet = ap (λ (x : WatchState). looks q.entry x.out) is ∙ own_looks mid q reply
 
   own_told : IsTold (track_at mid q.entry) → IsTold (track_at new q.entry)
-  own_told told = subst (λ (x : State). IsTold (track_at x q.entry)) (sym is) (back_kept (λ y x. IsTold x → IsTold y) (λ x k. k) (λ x. back_told x) mid q reply q.entry told)
+  own_told told = subst (λ (x : WatchState). IsTold (track_at x q.entry)) (sym is) (back_kept (λ y x. IsTold x → IsTold y) (λ x k. k) (λ x. back_told x) mid q reply q.entry told)
 
   own_owes : (track_at mid q.entry).owes ≡ true → (track_at new q.entry).owes ≡ true
-  own_owes owes = subst (λ (x : State). (track_at x q.entry).owes ≡ true) (sym is) (back_kept Owes (λ x k. k) (λ x. back_owes x) mid q reply q.entry owes)
+  own_owes owes = subst (λ (x : WatchState). (track_at x q.entry).owes ≡ true) (sym is) (back_kept Owes (λ x k. k) (λ x. back_owes x) mid q reply q.entry owes)
 
   own_alive : is_alive (second new) (track_at new q.entry) ≡ is_alive (second mid) (track_at mid q.entry)
   own_alive =
       let end = back_kept (λ (y x : Track). y.end ≡ x.end) (λ x. refl) (λ x. back_end x) mid q reply q.entry in
-      let clocks = ap (λ (x : State). x.clocks) (replied_rest mid q reply) in
-      ap (λ (x : State). is_alive (second x) (track_at x q.entry)) is
+      let clocks = ap (λ (x : WatchState). x.clocks) (replied_rest mid q reply) in
+      ap (λ (x : WatchState). is_alive (second x) (track_at x q.entry)) is
       ∙ ap (λ e. nat_lt (second (replied mid q reply)) (believed e)) end ∙ ap (λ c. nat_lt (sec c.at) (believed (track_at mid q.entry).end)) clocks
 
 -- of a lookup of the entry
 own_looked :
-    (old new : State) (q : Out) (reply : Reply) (terms : Terms) (n : ℕ) (due : Bool) → new ≡ replied (looked (noted old q reply) q reply terms) q reply → request_out old.out q.entry Look ≡ Some q →
+    (old new : WatchState) (q : Out) (reply : Reply) (terms : Terms) (n : ℕ) (due : Bool) → new ≡ replied (looked (noted old q reply) q reply terms) q reply → request_out old.out q.entry Look ≡ Some q →
     q.entry < length old.tracks → TellsAhead new q.entry reply → Holds old q.entry due n → Holds new q.entry due n
 own_looked old new q (Told seconds renewable date) terms n due is found within well holds =
     let reply : Reply = Told seconds renewable date in
     let s = noted old q reply in
     let i = q.entry in
     let told = told_state s i q.since seconds renewable terms in
-    let end = told_by told i in
+    let end = with_told_try told i in
     let x = told_track q.since seconds renewable terms.endless (track_at s i) in
     let there : track_at told i ≡ x = get_or-set_same s.tracks i x no_track within in
     let y = track_at told i in
@@ -443,14 +442,14 @@ own_looked old new q Lost terms n due is found within well holds = absurd well
 
 -- and of a renewal
 own_renewed :
-    (old new : State) (q : Out) (reply : Reply) (n : ℕ) (due : Bool) → new ≡ replied (renewed (noted old q reply) q reply) q reply → request_out old.out q.entry Renew ≡ Some q → IsAlone old →
+    (old new : WatchState) (q : Out) (reply : Reply) (n : ℕ) (due : Bool) → new ≡ replied (state_renewed (noted old q reply) q reply) q reply → request_out old.out q.entry Renew ≡ Some q → IsAlone old →
     q.entry < length old.tracks → TellsAhead new q.entry reply → Holds old q.entry due n → Holds new q.entry due n
 unfolding renewed_track
 own_renewed old new q (Told seconds renewable date) n due is found alone within well holds =
     let reply : Reply = Told seconds renewable date in
     let s = noted old q reply in
     let i = q.entry in
-    let mid = renewed s q reply in
+    let mid = state_renewed s q reply in
     let step = (entry_of s i).step in
     let x = track_at s i in
     let from = from_try s.forest.margin step seconds s.clocks.at q.since x.attempt in
@@ -479,7 +478,7 @@ own_renewed old new q Busy n due is found alone within well holds = absurd well
 own_renewed old new q Lost n due is found alone within well holds = absurd well
 
 looked_holds :
-    (old new : State) (found : Option Out) (j i n : ℕ) (reply : Reply) (terms : Terms) (output : Output) (due : Bool) → request_out old.out j Look ≡ found → StepLooked old found reply terms output new →
+    (old new : WatchState) (found : Option Out) (j i n : ℕ) (reply : Reply) (terms : Terms) (output : Output) (due : Bool) → request_out old.out j Look ≡ found → StepLooked old found reply terms output new →
     i < length old.tracks → (j ≡ i → TellsAhead new i reply) → Holds old i due n → Holds new i due n
 looked_holds old new None j i n reply terms output due is step within well holds = absurd step
 looked_holds old new (Some q) j i n reply terms output due is step within well holds =
@@ -493,7 +492,7 @@ looked_holds old new (Some q) j i n reply terms output due is step within well h
     ]
 
 renewed_holds :
-    (old new : State) (found : Option Out) (j i n : ℕ) (reply : Reply) (output : Output) (due : Bool) → request_out old.out j Renew ≡ found → StepRenewed old found reply output new → IsAlone old →
+    (old new : WatchState) (found : Option Out) (j i n : ℕ) (reply : Reply) (output : Output) (due : Bool) → request_out old.out j Renew ≡ found → StepRenewed old found reply output new → IsAlone old →
     i < length old.tracks → (j ≡ i → TellsAhead new i reply) → Holds old i due n → Holds new i due n
 renewed_holds old new None j i n reply output due is step alone within well holds = absurd step
 renewed_holds old new (Some q) j i n reply output due is step alone within well holds =
@@ -503,56 +502,56 @@ renewed_holds old new (Some q) j i n reply output due is step alone within well 
       | inl same ↦ subst (λ k. Holds new k due n) same
           (own_renewed old new q reply n due step.1 (ap (λ k. request_out old.out k Renew) entry ∙ is) alone (omega (arith, same, within)) (subst (λ k. TellsAhead new k reply) (sym same) (well (sym entry ∙ same)))
           (subst (λ k. Holds old k due n) (sym same) holds))
-      | inr apart ↦ other_holds old (renewed s q reply) new q reply step.1 refl i n due apart (get_or-set_other s.tracks q.entry i _ no_track (λ e. apart (sym e))) holds
+      | inr apart ↦ other_holds old (state_renewed s q reply) new q reply step.1 refl i n due apart (get_or-set_other s.tracks q.entry i _ no_track (λ e. apart (sym e))) holds
     ]
 
 known_told : (x : Track) (end : ℕ) (renewable : Bool) → IsTold x → IsTold (record x { end = At (min END_MAX end); renewable = renewable })
 known_told x end renewable told = record { owes = told.owes; known = refl; asks = told.asks }
 
-known_holds : (old : State) (j end i n : ℕ) (renewable due : Bool) → Holds old i due n → Holds (known old j end renewable) i due n
+known_holds : (old : WatchState) (j end i n : ℕ) (renewable due : Bool) → Holds old i due n → Holds (known old j end renewable) i due n
 known_holds old j end i n renewable due holds =
     stays (known old j end renewable) old i n due refl (set_kept Owes (λ x k. k) old.tracks j _ (λ k. k) i)
     (set_kept (λ y x. IsTold x → IsTold y) (λ x k. k) old.tracks j _ (known_told (track_at old j) end renewable) i) holds
 
 -- nothing goes out at an event that is taken and no more
-quiet : (new : State) (i n : ℕ) (due : Bool) (output out : Output) → output ≡ out → asked_by out.command ≡ [] → Holds new i due n → Holds new i due (n + length (filter (is_lookup i) (asked_by output.command)))
+quiet : (new : WatchState) (i n : ℕ) (due : Bool) (output out : Output) → output ≡ out → requests_asked_by out.command ≡ [] → Holds new i due n → Holds new i due (n + length (filter (is_lookup i) (requests_asked_by output.command)))
 quiet new i n due output out is none holds =
-    let e : length (filter (is_lookup i) (asked_by output.command)) ≡ 0 = ap (λ (x : Output). length (filter (is_lookup i) (asked_by x.command))) is ∙ ap (λ rs. length (filter (is_lookup i) rs)) none in
-    subst (Holds new i due) (let k : n ≡ n + length (filter (is_lookup i) (asked_by output.command)) = omega (arith, e) in k) holds
+    let e : length (filter (is_lookup i) (requests_asked_by output.command)) ≡ 0 = ap (λ (x : Output). length (filter (is_lookup i) (requests_asked_by x.command))) is ∙ ap (λ rs. length (filter (is_lookup i) rs)) none in
+    subst (Holds new i due) (let k : n ≡ n + length (filter (is_lookup i) (requests_asked_by output.command)) = omega (arith, e) in k) holds
 
-goes_of : (old new : State) (wall elapsed : ℕ) (output : Output) (i : ℕ) (h : Ticks old new wall elapsed output) → length (filter (is_lookup i) (asked_by output.command)) ≡ length (filter (is_lookup i) h.requests)
-goes_of old new wall elapsed output i h = ap (λ c. length (filter (is_lookup i) (asked_by c))) h.command
+goes_of : (old new : WatchState) (wall elapsed : ℕ) (output : Output) (i : ℕ) (h : Ticks old new wall elapsed output) → length (filter (is_lookup i) (requests_asked_by output.command)) ≡ length (filter (is_lookup i) h.requests)
+goes_of old new wall elapsed output i h = ap (λ c. length (filter (is_lookup i) (requests_asked_by c))) h.command
 
 step_holds :
-    (old new : State) (event : Event) (output : Output) (i n : ℕ) (due : Bool) → Step old event output new → GoesWell i new event output → IsAlone old → i < length old.tracks → Holds old i due n →
-    Holds new i due (n + length (filter (is_lookup i) (asked_by output.command)))
+    (old new : WatchState) (event : Event) (output : Output) (i n : ℕ) (due : Bool) → Step old event output new → GoesWell i new event output → IsAlone old → i < length old.tracks → Holds old i due n →
+    Holds new i due (n + length (filter (is_lookup i) (requests_asked_by output.command)))
 step_holds old new (Clock wall elapsed) output i n due step well alone within holds =
     let h = ticks old new wall elapsed output step in
     let none : why old wall elapsed ≡ None = sym (ap (λ (x : Notes). x.began) step.notes) ∙ well.0 in
     subst (λ k. Holds new i due (n + k)) (sym (goes_of old new wall elapsed output i h)) (clock_holds old new wall elapsed output i h n due none alone within well.1 holds)
 step_holds old new (Looked j reply terms) output i n due step well alone within holds =
     looked_turn (request_out old.out j Look) refl step where
-      looked_turn : (found : Option Out) → request_out old.out j Look ≡ found → StepLooked old found reply terms output new → Holds new i due (n + length (filter (is_lookup i) (asked_by output.command)))
+      looked_turn : (found : Option Out) → request_out old.out j Look ≡ found → StepLooked old found reply terms output new → Holds new i due (n + length (filter (is_lookup i) (requests_asked_by output.command)))
       looked_turn None is step' = absurd step'
       looked_turn (Some q) is step' = quiet new i n due output _ step'.0 refl (looked_holds old new (Some q) j i n reply terms output due is step' within well holds)
 step_holds old new (Renewed j reply) output i n due step well alone within holds =
     renewed_turn (request_out old.out j Renew) refl step where
-      renewed_turn : (found : Option Out) → request_out old.out j Renew ≡ found → StepRenewed old found reply output new → Holds new i due (n + length (filter (is_lookup i) (asked_by output.command)))
+      renewed_turn : (found : Option Out) → request_out old.out j Renew ≡ found → StepRenewed old found reply output new → Holds new i due (n + length (filter (is_lookup i) (requests_asked_by output.command)))
       renewed_turn None is step' = absurd step'
       renewed_turn (Some q) is step' = quiet new i n due output _ step'.0 refl (renewed_holds old new (Some q) j i n reply output due is step' alone within well holds)
-step_holds old new (Need j until) output i n due step well alone within holds = quiet new i n due output _ step.0 refl (subst (λ (x : State). Holds x i due n) (sym step.1) holds)
-step_holds old new Begin output i n due step well alone within holds = quiet new i n due output _ step.0 refl (subst (λ (x : State). Holds x i due n) (sym step.1) holds)
+step_holds old new (Need j until) output i n due step well alone within holds = quiet new i n due output _ step.0 refl (subst (λ (x : WatchState). Holds x i due n) (sym step.1) holds)
+step_holds old new Begin output i n due step well alone within holds = quiet new i n due output _ step.0 refl (subst (λ (x : WatchState). Holds x i due n) (sym step.1) holds)
 step_holds old new (Known j end renewable) output i n due step well alone within holds =
-    quiet new i n due output _ step.0 refl (subst (λ (x : State). Holds x i due n) (sym step.1) (known_holds old j end i n renewable due holds))
+    quiet new i n due output _ step.0 refl (subst (λ (x : WatchState). Holds x i due n) (sym step.1) (known_holds old j end i n renewable due holds))
 
 turn_holds :
-    (old new : State) (event : Event) (result : Result Output WatchFault) (i n : ℕ) (due : Bool) → Turn old event result new → GoesWellAt i new event result → IsAlone old → i < length old.tracks →
+    (old new : WatchState) (event : Event) (result : Result Output WatchFault) (i n : ℕ) (due : Bool) → Turn old event result new → GoesWellAt i new event result → IsAlone old → i < length old.tracks →
     Holds old i due n → Holds new i due (n + length (filter (is_lookup i) (requests_of result)))
 turn_holds old new event (Ok output) i n due turn well alone within holds = step_holds old new event output i n due turn.1 well alone within holds
 turn_holds old new event (Err fault) i n due turn well alone within holds =
-    subst (Holds new i due) (let e : n ≡ n + 0 = omega arith in e) (subst (λ (x : State). Holds x i due n) (sym (refused_stays old new event fault turn)) holds)
+    subst (Holds new i due) (let e : n ≡ n + 0 = omega arith in e) (subst (λ (x : WatchState). Holds x i due n) (sym (refused_stays old new event fault turn)) holds)
 
-ran : (turns : List Turned) (old : State) (i n : ℕ) (due : Bool) → History old turns → GoWell i turns → IsAlone old → i < length old.tracks → Holds old i due n → Holds (after_all old turns) i due (n + lookups i turns)
+ran : (turns : List Turned) (old : WatchState) (i n : ℕ) (due : Bool) → History old turns → GoWell i turns → IsAlone old → i < length old.tracks → Holds old i due n → Holds (after_all old turns) i due (n + lookups i turns)
 ran [] old i n due history well alone within holds = subst (Holds old i due) (let e : n ≡ n + 0 = omega arith in e) holds
 ran (turn ∷ turns) old i n due history well alone within holds =
     let here = turn_holds old turn.state turn.event turn.result i n due history.0 well.0 alone within holds in
@@ -564,12 +563,12 @@ ran (turn ∷ turns) old i n due history well alone within holds =
 -- ---- the law
 
 -- what holds after a beginning
-record Started (old new : State) (result : Result Output WatchFault) (i : ℕ) : Type 0 where
+record Started (old new : WatchState) (result : Result Output WatchFault) (i : ℕ) : Type 0 where
   holds : Holds new i (track_at new i).owes (looks i old.out + length (filter (is_lookup i) (requests_of result)))
   owes : is_needed new i ≡ true → is_open (second new) (track_at new i) ≡ true → (track_at new i).owes ≡ true
   free : is_needed new i ≡ false → is_alive (second new) (track_at new i) ≡ true → (track_at old i).owes ≡ false → Holds new i false 1 × (length (filter (is_lookup i) (requests_of result)) ≡ 0)
 
-clock_started : (old new : State) (wall elapsed : ℕ) (output : Output) (i : ℕ) → StepClock old wall elapsed output new → is_some output.notes.began ≡ true → IsAlone old → i < length old.tracks → Started old new (Ok output) i
+clock_started : (old new : WatchState) (wall elapsed : ℕ) (output : Output) (i : ℕ) → StepClock old wall elapsed output new → is_some output.notes.began ≡ true → IsAlone old → i < length old.tracks → Started old new (Ok output) i
 clock_started old new wall elapsed output i step begins alone within =
     let h = ticks old new wall elapsed output step in
     let go = goes_of old new wall elapsed output i h in
@@ -606,7 +605,7 @@ clock_started old new wall elapsed output i step begins alone within =
 none_begins : (output out : Output) → output ≡ out → out.notes.began ≡ None → is_some output.notes.began ≡ true → ⊥
 none_begins output out is none begins = not_both (sym (ap (λ (x : Output). is_some x.notes.began) is) ∙ begins) (ap is_some none)
 
-started : (old new : State) (event : Event) (result : Result Output WatchFault) (i : ℕ) → Turn old event result new → is_some (why_of result) ≡ true → IsAlone old → i < length old.tracks → Started old new result i
+started : (old new : WatchState) (event : Event) (result : Result Output WatchFault) (i : ℕ) → Turn old event result new → is_some (why_begun result) ≡ true → IsAlone old → i < length old.tracks → Started old new result i
 started old new (Clock wall elapsed) (Ok output) i turn begins alone within = clock_started old new wall elapsed output i turn.1 begins alone within
 started old new (Looked j reply terms) (Ok output) i turn begins alone within = absurd (by (request_out old.out j Look) turn.1) where
   by : (found : Option Out) → StepLooked old found reply terms output new → ⊥
@@ -622,11 +621,11 @@ started old new (Known j end renewable) (Ok output) i turn begins alone within =
 started old new event (Err fault) i turn begins alone within = absurd cc
 
 -- what holds at last
-once : (last : State) (i n : ℕ) (due : Bool) → Holds last i due n → (n ≤ 1) × (due ≡ true → (track_at last i).owes ≡ false → n ≡ 1)
+once : (last : WatchState) (i n : ℕ) (due : Bool) → Holds last i due n → (n ≤ 1) × (due ≡ true → (track_at last i).owes ≡ false → n ≡ 1)
 once last i n due (inl not_yet) = ((let z = not_yet.0 in omega (arith, z)), λ owed free. absurd (not_both (not_yet.1.1 owed) free))
 once last i n due (inr was) = ((let z = was.0 in omega (arith, z)), λ owed free. was.0)
 
-pub looked_once : LookupLaw
+pub looked_once : OneLookupLaw
 looked_once g width before turn after i run within begins well =
     let n = length g.entries in
     let old = after_all (opened g width) before in

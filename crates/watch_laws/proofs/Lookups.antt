@@ -13,19 +13,19 @@ use Rattle.watch_machine.specs.declared.lanes.Presence.{Presence}
 use Rattle.watch_machine.specs.declared.track.End.TheVariants.{At, Never}
 use Rattle.watch_machine.specs.declared.track.Track.{Track}
 use Rattle.watch_machine.specs.declared.track.Try.{Try}
-use Rattle.watch_machine.specs.Answers.{answers_all, back_track, back_try, failing, heard, lane_freed, replied, silent, without}
+use Rattle.watch_machine.specs.Answers.{answers_all, back_track, back_try, failing, heard, lane_freed, replied, silent, without_request}
 use Rattle.watch_machine.specs.Beginning.{hastened, owed}
 use Rattle.watch_machine.specs.Clocks.{sec}
 use Rattle.watch_machine.specs.Lines.{rested}
 use Rattle.watch_machine.specs.Looked.{at_once, told_track, told_try}
 use Rattle.watch_machine.specs.Margins.{has_come}
 use Rattle.watch_machine.specs.Pauses.{pause}
-use Rattle.watch_machine.specs.Press.{asked_in, asked_track, dropped, is_fresh, let_go, press, pressed, pressed_alone, pressed_track}
+use Rattle.watch_machine.specs.Press.{asked_track, dropped, is_fresh, let_go, press, pressed, pressed_alone, pressed_track, track_asked_in}
 use Rattle.watch_machine.specs.Refusal.{is_same, request_out}
 use Rattle.watch_machine.specs.Renewed.{granted_from, granted_try}
 use Rattle.watch_machine.specs.Sending.{out_at, sent, sent_in, sent_track}
 use Rattle.watch_machine.specs.Settling.{is_real, settled_track, settled_try}
-use Rattle.watch_machine.specs.State.{State, each, entry_of, second, track_at, track_in}
+use Rattle.watch_machine.specs.State.{WatchState, each, entry_of, second, track_at, track_in}
 use Rattle.watch_machine.specs.Wanted.{is_alive, is_unknown, need_of, wanted_need, wants}
 use Rattle.watch_machine.proofs.Cases.{if_both, if_cases}
 use Rattle.watch_machine.proofs.Seeing.{each_read}
@@ -56,8 +56,8 @@ looks_few i [] = omega arith
 looks_few i (q ∷ out) = few_by (q.entry == i) (is_same q.operation Look) q (filter (is_look i) out) (filter (λ (o : Out). o.entry == i) out) (looks_few i out)
 
 -- its own answer leaves none, and that of another all
-looks_none : (i : ℕ) (out : List Out) → looks i (without i out) ≡ 0
-unfolding without
+looks_none : (i : ℕ) (out : List Out) → looks i (without_request i out) ≡ 0
+unfolding without_request
 looks_none i [] = refl
 looks_none i (q ∷ out) =
     let rest = filter (λ (o : Out). not (o.entry == i)) out in
@@ -68,8 +68,8 @@ looks_none i (q ∷ out) =
           ∙ ap (λ b. length (cond (b && is_same q.operation Look) (q ∷ filter (is_look i) rest) (filter (is_look i) rest))) other ∙ looks_none i out
     ]
 
-looks_other : (i e : ℕ) (out : List Out) → e ≢ i → looks i (without e out) ≡ looks i out
-unfolding without
+looks_other : (i e : ℕ) (out : List Out) → e ≢ i → looks i (without_request e out) ≡ looks i out
+unfolding without_request
 looks_other i e [] apart = refl
 looks_other i e (q ∷ out) apart =
     let rest = filter (λ (o : Out). not (o.entry == e)) out in
@@ -93,18 +93,18 @@ looks_heard : (i : ℕ) (out : List Out) → looks i (map heard out) ≡ looks i
 looks_heard i [] = refl
 looks_heard i (q ∷ out) = heard_by (is_look i q) q (filter (is_look i) (map heard out)) (filter (is_look i) out) (looks_heard i out)
 
-replied_looks : (s : State) (q : Out) (reply : Reply) (i : ℕ) → looks i (replied s q reply).out ≡ looks i (without q.entry s.out)
+replied_looks : (s : WatchState) (q : Out) (reply : Reply) (i : ℕ) → looks i (replied s q reply).out ≡ looks i (without_request q.entry s.out)
 replied_looks s q reply i =
     let free = lane_freed s q in
-    let P : State → Type 0 = λ t. looks i t.out ≡ looks i (without q.entry s.out) in
+    let P : WatchState → Type 0 = λ t. looks i t.out ≡ looks i (without_request q.entry s.out) in
     if_both P (is_real reply) (answers_all free) (if q.heard then free else silent free)
-    (if_both P s.presence.away _ _ (looks_heard i (without q.entry s.out)) (looks_heard i (without q.entry s.out)))
+    (if_both P s.presence.away _ _ (looks_heard i (without_request q.entry s.out)) (looks_heard i (without_request q.entry s.out)))
     (if_both P q.heard free (silent free) refl (if_both P s.presence.away _ _ refl refl))
 
-pub own_looks : (s : State) (q : Out) (reply : Reply) → looks q.entry (replied s q reply).out ≡ 0
+pub own_looks : (s : WatchState) (q : Out) (reply : Reply) → looks q.entry (replied s q reply).out ≡ 0
 own_looks s q reply = replied_looks s q reply q.entry ∙ looks_none q.entry s.out
 
-pub other_looks : (s : State) (q : Out) (reply : Reply) (i : ℕ) → q.entry ≢ i → looks i (replied s q reply).out ≡ looks i s.out
+pub other_looks : (s : WatchState) (q : Out) (reply : Reply) (i : ℕ) → q.entry ≢ i → looks i (replied s q reply).out ≡ looks i s.out
 other_looks s q reply i apart = replied_looks s q reply i ∙ looks_other i q.entry s.out apart
 
 -- the request that is answered is out
@@ -250,7 +250,7 @@ pressed_told margin e need at x owes known alive h =
     (if_cases (Ahead (sec at)) (wants x need || x.out) x (record x { attempt = dropped x x.attempt }) (λ yes'. (record { owes = owes; known = known; asks = h yes' }, alive))
     (λ no'. (record { owes = owes; known = known; asks = λ free. dropped_asks x x.attempt owes }, alive)))
 
-asked_told : (margin : ℕ) (e : Entry) (at : ℕ) (round : List ℕ) (i : ℕ) (x : Track) → Ahead (sec at) x → Ahead (sec at) (asked_in margin e at round i x)
+asked_told : (margin : ℕ) (e : Entry) (at : ℕ) (round : List ℕ) (i : ℕ) (x : Track) → Ahead (sec at) x → Ahead (sec at) (track_asked_in margin e at round i x)
 unfolding asked_track
 asked_told margin e at round i x h =
     if_both (Ahead (sec at)) (list_any (λ j. j == i) round) (asked_track margin e at x) x
@@ -261,18 +261,18 @@ each_in : (P : Track → Type 0) (f : ℕ → Track → Track) (xs : List Track)
 each_in P f xs i within made = subst P (sym (each_read f xs i within)) made
 
 pub mid_told :
-    (s : State) (round : List ℕ) (i : ℕ) → i < length s.tracks → Ahead (second s) (pressed_track s.forest.margin (entry_of s i) (wanted_need s i) s.clocks.at (track_at s i)) →
+    (s : WatchState) (round : List ℕ) (i : ℕ) → i < length s.tracks → Ahead (second s) (pressed_track s.forest.margin (entry_of s i) (wanted_need s i) s.clocks.at (track_at s i)) →
     Ahead (second s) (track_at (pressed s round) i)
 mid_told s round i within told =
     let c = s.clocks in
     let g = s.forest in
     let alone = pressed_alone g c s.tracks in
     let count = each_length (λ j. pressed_track g.margin (entry_at g.entries j) (need_of g.entries s.tracks c j) c.at) s.tracks in
-    each_in (Ahead (sec c.at)) (λ j. asked_in g.margin (entry_at g.entries j) c.at round j) alone i (omega (arith, count, within))
+    each_in (Ahead (sec c.at)) (λ j. track_asked_in g.margin (entry_at g.entries j) c.at round j) alone i (omega (arith, count, within))
     (asked_told g.margin (entry_at g.entries i) c.at round i (track_in alone i)
     (each_in (Ahead (sec c.at)) (λ j. pressed_track g.margin (entry_at g.entries j) (need_of g.entries s.tracks c j) c.at) s.tracks i within told))
 
-pub sent_told : (s : State) (requests : List Request) (i : ℕ) → Still (track_at (sent s requests) i) (track_at s i)
+pub sent_told : (s : WatchState) (requests : List Request) (i : ℕ) → Still (track_at (sent s requests) i) (track_at s i)
 sent_told s requests i h =
     each_kept Still (λ k. k) (sent_in s.clocks.at requests) s.tracks
     (λ j x k. if_both IsTold (list_any (λ (r : Request). r.entry == j) requests) (sent_track s.clocks.at x) x (record { owes = k.owes; known = k.known; asks = λ free. absurd (true≢false free) }) k) i h

@@ -27,15 +27,16 @@ use Rattle.watch_machine.specs.Clocks.{ms, sec}
 use Rattle.watch_machine.specs.History.{History, Turn, Turned}
 use Rattle.watch_machine.specs.Lines.{is_due, is_due_try, ready}
 use Rattle.watch_machine.specs.Margins.{has_come, time}
-use Rattle.watch_machine.specs.Press.{asked_in, asked_track, dropped, is_fresh, press, pressed, pressed_alone, pressed_track}
+use Rattle.watch_machine.specs.Press.{asked_track, dropped, is_fresh, press, pressed, pressed_alone, pressed_track, track_asked_in}
 use Rattle.watch_machine.specs.Refusal.{request_out}
-use Rattle.watch_machine.specs.Round.{asked_by as round_of}
+use Rattle.watch_machine.specs.Round.{asked_by_round as round_of}
 use Rattle.watch_machine.specs.Sending.{out_at, sent, sent_in, sent_track}
-use Rattle.watch_machine.specs.State.{State, attempt_at, each, entry_of, no_track, opened, second, track_at, track_in}
+use Rattle.watch_machine.specs.State.{WatchState, attempt_at, each, entry_of, no_track, opened, second, track_at, track_in}
 use Rattle.watch_machine.specs.Step.{Step, StepCommand, StepLooked, StepRenewed, readied}
 use Rattle.watch_machine.specs.Wait.{latest, next_of, time_at, try_at, wait}
 use Rattle.watch_machine.specs.Wanted.{is_wanted, least, need_of, wanted_need, wants}
 use Rattle.watch_machine.proofs.Cases.{if_both, if_cases, not_both}
+use Rattle.watch_machine.proofs.Leasts.{least_each}
 use Rattle.watch_machine.proofs.Seeing.{SameSeen, both_seen, need_same}
 use Rattle.watch_machine.proofs.Unseen.{pressed_seen, sent_seen}
 use Rattle.watch_machine.proofs.Written.{each_length}
@@ -45,22 +46,6 @@ use Rattle.watch_laws.proofs.Spacing.{passed_over, went}
 use Rattle.watch_laws.proofs.Tracking.{each_holds}
 
 -- the wait is no later than the latest, nor than what each entry has to be done
-pub least_start : (n : ℕ) (xs : List ℕ) → least n xs ≤ n
-least_start n [] = omega arith
-least_start n (x ∷ xs) = let rest = least_start (min n x) xs in omega (arith, rest)
-
-least_each : (f : ℕ → ℕ) (m a n i : ℕ) → a ≤ i → i < a + n → least m (map f (range_with_len a n)) ≤ f i
-least_each f m a zero i from below = absurd (omega (arith, from, below))
-least_each f m a (suc n) i from below =
-    elim (cases_lt a i) [
-      | inl later ↦ least_each f (min m (f a)) (a + 1) n i (omega (arith, later)) (omega (arith, below))
-      | inr here ↦
-          let is : a ≡ i = omega (arith, from, here) in
-          let start = least_start (min m (f a)) (map f (range_with_len (a + 1) n)) in
-          let same = ap f is in
-          omega (arith, start, same)
-    ]
-
 least_over : (f : ℕ → ℕ) (at m a n : ℕ) → at < m → ((i : ℕ) → at < f i) → at < least m (map f (range_with_len a n))
 least_over f at m a zero h each' = h
 least_over f at m a (suc n) h each' = let here = each' a in least_over f at (min m (f a)) (a + 1) n (omega (arith, h, here)) each'
@@ -69,10 +54,10 @@ latest_after : (margin at : ℕ) → at < latest margin at
 unfolding latest
 latest_after margin at = let m = le-max_left 1000 (min 30000 (margin * 250)) in omega (arith, m)
 
-abbrev next_at : State → ℕ → ℕ
+abbrev next_at : WatchState → ℕ → ℕ
 next_at s i = next_of s.forest.margin (entry_of s i) (wanted_need s i) s.presence s.clocks.at (track_at s i)
 
-wait_each : (s : State) (i : ℕ) → i < length s.forest.entries → wait s ≤ next_at s i
+wait_each : (s : WatchState) (i : ℕ) → i < length s.forest.entries → wait s ≤ next_at s i
 unfolding wait
 wait_each s i within = least_each (next_at s) (latest s.forest.margin s.clocks.at) 0 (length s.forest.entries) i (omega arith) (omega (arith, within))
 
@@ -122,7 +107,7 @@ fresh_stands margin e need at x =
       or_left' true b h = refl
       or_left' false b h = absurd cc
 
-asked_stands : (margin : ℕ) (e : Entry) (need at : ℕ) (round : List ℕ) (i : ℕ) (x : Track) → Stands margin e need (sec at) x → Stands margin e need (sec at) (asked_in margin e at round i x)
+asked_stands : (margin : ℕ) (e : Entry) (need at : ℕ) (round : List ℕ) (i : ℕ) (x : Track) → Stands margin e need (sec at) x → Stands margin e need (sec at) (track_asked_in margin e at round i x)
 unfolding asked_track press
 asked_stands margin e need at round i x h =
     if_both (Stands margin e need (sec at)) (list_any (λ j. j == i) round) (asked_track margin e at x) x
@@ -132,14 +117,14 @@ none_stands : (margin : ℕ) (e : Entry) (need now : ℕ) → Stands margin e ne
 unfolding wants
 none_stands margin e need now wanted free = absurd cc
 
-mid_stands : (s : State) (round : List ℕ) (i : ℕ) → Stands s.forest.margin (entry_of s i) (need_of s.forest.entries s.tracks s.clocks i) (second s) (track_at (pressed s round) i)
+mid_stands : (s : WatchState) (round : List ℕ) (i : ℕ) → Stands s.forest.margin (entry_of s i) (need_of s.forest.entries s.tracks s.clocks i) (second s) (track_at (pressed s round) i)
 mid_stands s round i =
     let c = s.clocks in
     let g = s.forest in
     let e = entry_at g.entries i in
     let need = need_of g.entries s.tracks c i in
     let alone = pressed_alone g c s.tracks in
-    each_holds (Stands g.margin e need (sec c.at)) (none_stands g.margin e need (sec c.at)) (λ j. asked_in g.margin (entry_at g.entries j) c.at round j) alone i
+    each_holds (Stands g.margin e need (sec c.at)) (none_stands g.margin e need (sec c.at)) (λ j. track_asked_in g.margin (entry_at g.entries j) c.at round j) alone i
     (asked_stands g.margin e need c.at round i (track_in alone i)
     (each_holds (Stands g.margin e need (sec c.at)) (none_stands g.margin e need (sec c.at)) (λ j. pressed_track g.margin (entry_at g.entries j) (need_of g.entries s.tracks c j) c.at) s.tracks i
     (fresh_stands g.margin e need c.at (track_at s i))))
@@ -157,8 +142,8 @@ due_so p at x t free is now =
     and_from (not x.out) (is_due_try p at x x.attempt) (ap not free) (ap (is_due_try p at x) is ∙ (let test : nat_le (ready p x t) at ≡ true = grind (arith, nat_tests) in test))
 
 -- a due try whose request does not go out finds all lanes taken
-module _ (s : State) (requests : List Request) (i : ℕ) where
-  abbrev gone : State
+module _ (s : WatchState) (requests : List Request) (i : ℕ) where
+  abbrev gone : WatchState
   gone = sent s requests
 
   -- an entry that is not out after it was not named
@@ -203,11 +188,11 @@ some_within xs i t is =
     ]
 
 -- a clock: the requests go out of a state in which all are pressed
-module _ (s : State) (round : List ℕ) (requests : List Request) (i : ℕ) where
-  abbrev mid : State
+module _ (s : WatchState) (round : List ℕ) (requests : List Request) (i : ℕ) where
+  abbrev mid : WatchState
   mid = pressed s round
 
-  abbrev end : State
+  abbrev end : WatchState
   end = sent mid requests
 
   pub has_try : (t : Try) → Goes s.presence s.clocks.at mid.tracks (s.width - length s.out) requests → i < length s.forest.entries → (track_at end i).out ≡ false → attempt_at end i ≡ Some t → HasTry end (wait end) i
@@ -276,7 +261,7 @@ second_later : (at t : ℕ) → sec at < t → at < ms t
 unfolding sec
 second_later at t h = omega (arith, h)
 
-end_later : (s : State) (round : List ℕ) (requests : List Request) → s.clocks.at < wait (sent (pressed s round) requests)
+end_later : (s : WatchState) (round : List ℕ) (requests : List Request) → s.clocks.at < wait (sent (pressed s round) requests)
 unfolding wait next_of
 end_later s round requests =
     let n = sent (pressed s round) requests in
@@ -307,25 +292,25 @@ end_later s round requests =
     omega (arith, first, second')))
 
 -- a clock, a step, a turn
-commanded : (s new : State) (round : List ℕ) (command : Command) → StepCommand (pressed s round) command new → WaitsRight command new
+commanded : (s new : WatchState) (round : List ℕ) (command : Command) → StepCommand (pressed s round) command new → WaitsRight command new
 commanded s new round (Go requests until) h =
     let going = goes s.presence s.clocks.at (pressed s round).tracks (s.width - length s.out) requests h.0.0 in
     subst (λ n. WaitsRight (Go requests n) new) (sym h.1)
-    (subst (λ (x : State). WaitsRight (Go requests (wait x)) x) (sym h.0.1) (end_later s round requests, (λ i within wanted. end_minded s round requests i going within wanted)))
+    (subst (λ (x : WatchState). WaitsRight (Go requests (wait x)) x) (sym h.0.1) (end_later s round requests, (λ i within wanted. end_minded s round requests i going within wanted)))
 commanded s new round Taken h = tt
 
-taken_right : (output out : Output) (s : State) → output ≡ out → out.command ≡ Taken → WaitsRight output.command s
+taken_right : (output out : Output) (s : WatchState) → output ≡ out → out.command ≡ Taken → WaitsRight output.command s
 taken_right output out s is taken' = subst (λ c. WaitsRight c s) (sym (ap (λ (x : Output). x.command) is ∙ taken')) tt
 
-looked_right : (old new : State) (found : Option Out) (reply : Reply) (terms : Terms) (output : Output) → StepLooked old found reply terms output new → WaitsRight output.command new
+looked_right : (old new : WatchState) (found : Option Out) (reply : Reply) (terms : Terms) (output : Output) → StepLooked old found reply terms output new → WaitsRight output.command new
 looked_right old new None reply terms output step = absurd step
 looked_right old new (Some q) reply terms output step = taken_right output _ new step.0 refl
 
-renewed_right : (old new : State) (found : Option Out) (reply : Reply) (output : Output) → StepRenewed old found reply output new → WaitsRight output.command new
+renewed_right : (old new : WatchState) (found : Option Out) (reply : Reply) (output : Output) → StepRenewed old found reply output new → WaitsRight output.command new
 renewed_right old new None reply output step = absurd step
 renewed_right old new (Some q) reply output step = taken_right output _ new step.0 refl
 
-step_right : (old new : State) (event : Event) (output : Output) → Step old event output new → WaitsRight output.command new
+step_right : (old new : WatchState) (event : Event) (output : Output) → Step old event output new → WaitsRight output.command new
 step_right old new (Clock wall elapsed) output step = commanded (readied old wall elapsed) new (round_of step.round) output.command step.command
 step_right old new (Looked j reply terms) output step = looked_right old new (request_out old.out j Look) reply terms output step
 step_right old new (Renewed j reply) output step = renewed_right old new (request_out old.out j Renew) reply output step
@@ -333,11 +318,11 @@ step_right old new (Need j until) output step = taken_right output _ new step.0 
 step_right old new Begin output step = taken_right output _ new step.0 refl
 step_right old new (Known j end' renewable) output step = taken_right output _ new step.0 refl
 
-turn_right : (old new : State) (event : Event) (result : Result Output WatchFault) → Turn old event result new → EndsRight result new
+turn_right : (old new : WatchState) (event : Event) (result : Result Output WatchFault) → Turn old event result new → EndsRight result new
 turn_right old new event (Ok output) turn = step_right old new event output turn.1
 turn_right old new event (Err fault) turn = tt
 
-ran : (turns : List Turned) (old : State) → History old turns → AllMinded turns
+ran : (turns : List Turned) (old : WatchState) → History old turns → AllMinded turns
 ran [] old h = tt
 ran (turn ∷ turns) old h = (turn_right old turn.state turn.event turn.result h.0, ran turns turn.state h.1)
 

@@ -16,11 +16,11 @@ use Rattle.watch_machine.specs.declared.track.End.{End}
 use Rattle.watch_machine.specs.declared.track.End.TheVariants.{Unknown, At, Never}
 use Rattle.watch_machine.specs.declared.track.Track.{Track}
 use Rattle.watch_machine.specs.Clocks.{sec}
-use Rattle.watch_machine.specs.State.{State, entry_of, second, track_at, track_in}
-use Rattle.watch_machine.specs.Wanted.{believed, fixed_ends, is_fixed, is_never, is_unknown, least, least_over, limit, need_here, need_of, seen, view, wants}
+use Rattle.watch_machine.specs.State.{WatchState, entry_of, second, track_at, track_in}
+use Rattle.watch_machine.specs.Wanted.{believed, fixed_ends, is_fixed, is_never, is_unknown, least, least_over, limit, need_here, need_of, seen_entry, view, wants}
 use Rattle.watch_machine.proofs.Cases.{if_cases}
 use Rattle.watch_machine.proofs.Opening.{seen_at}
-use Rattle.watch_laws.specs.Needs.{NeededLaw, need_at}
+use Rattle.watch_laws.specs.Needs.{NeededLaw, need_on_clock}
 
 -- the chain above an entry, by its parent
 abbrev up : ℕ → List Entry → Option ℕ → List ℕ
@@ -42,8 +42,8 @@ module _ (es fs : List Entry) (same : (i : ℕ) → (entry_at fs i).parent ≡ (
   over_same a i = ap (list_any (λ b. b == a)) (chain_of_same (suc i) i)
 
 -- and entries as they are seen have the same parents
-seen_parent : (es : List Entry) (xs : List Track) (c : Clocks) (i : ℕ) → (seen es xs c i).parent ≡ (entry_at es i).parent
-unfolding seen
+seen_parent : (es : List Entry) (xs : List Track) (c : Clocks) (i : ℕ) → (seen_entry es xs c i).parent ≡ (entry_at es i).parent
+unfolding seen_entry
 seen_parent es xs c i = refl
 
 view_parent : (es : List Entry) (xs : List Track) (c : Clocks) (i : ℕ) → (entry_at (view es xs c) i).parent ≡ (entry_at es i).parent
@@ -51,7 +51,7 @@ view_parent es xs c i =
     elim (cases_lt i (length es)) [
       | inl within ↦ ap (λ (e : Entry). e.parent) (seen_at es xs c i within) ∙ seen_parent es xs c i
       | inr past ↦
-          let count = length-map-range_with_len (seen es xs c) 0 (length es) in
+          let count = length-map-range_with_len (seen_entry es xs c) 0 (length es) in
           ap (λ (e : Entry). e.parent) (entry_at_past (view es xs c) i (omega (arith, count, past)) ∙ sym (entry_at_past es i past))
     ]
 
@@ -84,7 +84,7 @@ need_none : (c : Clocks) → need_here c 0 ≡ 0
 unfolding need_here
 need_none c = refl
 
-need_inside : (s : State) (j until : ℕ) → until ≤ need_at s j → second s < until → j < length s.forest.entries
+need_inside : (s : WatchState) (j until : ℕ) → until ≤ need_on_clock s j → second s < until → j < length s.forest.entries
 need_inside s j until low ahead =
     elim (cases_lt j (length s.forest.entries)) [
       | inl within ↦ within
@@ -93,8 +93,8 @@ need_inside s j until low ahead =
           absurd (omega (arith, none, low, ahead))
     ]
 
-seen_need : (es : List Entry) (xs : List Track) (c : Clocks) (j : ℕ) → (seen es xs c j).need ≡ min (need_here c (entry_at es j).need) (limit es xs j)
-unfolding seen
+seen_need : (es : List Entry) (xs : List Track) (c : Clocks) (j : ℕ) → (seen_entry es xs c j).need ≡ min (need_here c (entry_at es j).need) (limit es xs j)
+unfolding seen_entry
 seen_need es xs c j = refl
 
 -- so much is carried

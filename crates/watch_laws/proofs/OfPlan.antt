@@ -16,9 +16,9 @@ use Rattle.keep_tree.proofs.Carrying.{and_left, and_right, carried_up, or_parts}
 use Rattle.keep_tree.proofs.Chains.{ParentsFirst}
 use Rattle.keep_tree.proofs.Entries.{entry_at_past}
 use Rattle.keep_tree.proofs.Placed.{parents_first}
-use Rattle.keep_rule.specs.Asks.{asks, first_of, is_due, is_wanted as is_asked_now}
+use Rattle.keep_rule.specs.Asks.{asks, first_of, is_end_due, is_to_be_asked as is_asked_now}
 use Rattle.keep_rule.specs.Forced.{bound, latest_end}
-use Rattle.keep_rule.specs.Schedule.{IsNext, IsSchedule}
+use Rattle.keep_rule.specs.Schedule.{IsNextMoment, IsSchedule}
 use Rattle.keep_rule.proofs.Asking.{short_over}
 use Rattle.keep_rule.proofs.Keeping.{end_below_bound}
 use Rattle.watch_machine.specs.declared.command.Output.{Output}
@@ -30,10 +30,10 @@ use Rattle.watch_machine.specs.History.{History, Turn, Turned}
 use Rattle.watch_machine.specs.Margins.{has_come}
 use Rattle.watch_machine.specs.Press.{is_fresh}
 use Rattle.watch_machine.specs.Outlook.{time_of}
-use Rattle.watch_machine.specs.Round.{IsRound, IsSecond, is_hoped, opens, opens_some, plan_view, planned, planned_by, step_in_plan}
-use Rattle.watch_machine.specs.State.{State, entry_of, opened, second, track_at}
+use Rattle.watch_machine.specs.Round.{IsRound, IsSecond, entry_planned, is_hoped, opens, opens_some, plan_view, planned_by, step_in_plan}
+use Rattle.watch_machine.specs.State.{WatchState, entry_of, opened, second, track_at}
 use Rattle.watch_machine.specs.Step.{StepClock, readied}
-use Rattle.watch_machine.specs.Wanted.{believed, is_alive, is_unknown, is_wanted, seen, wanted_need}
+use Rattle.watch_machine.specs.Wanted.{believed, is_alive, is_unknown, is_wanted, seen_entry, wanted_need}
 use Rattle.watch_machine.proofs.Cases.{if_cases}
 use Rattle.watch_laws.specs.Calm.{AllRight, IsCalm, IsOfPlan, IsPlanNow, RoundOfPlanLaw, RoundsRight, asks_now, believed_forest, ends, in_plan_at, lead_at, terms}
 use Rattle.watch_laws.proofs.Believed.{AreSameNeeds, believed_at, believed_count, believed_is_forest, believed_margin, carried_believed, carried_within, same_carried, same_chain, written_at, written_count, written_same}
@@ -41,30 +41,30 @@ use Rattle.watch_laws.proofs.Foreseen.{IsScheduled, short_led, there_is_plan, ti
 use Rattle.watch_laws.proofs.Forested.{readied_forest, turned_forest}
 
 -- the words of a state of which the machine's parts speak by their values
-abbrev pub planned_at : State → ℕ → Entry
-planned_at s i = planned s.forest s.tracks s.clocks i
+abbrev pub planned_at : WatchState → ℕ → Entry
+planned_at s i = entry_planned s.forest s.tracks s.clocks i
 
-abbrev pub hoped_at : State → ℕ → Bool
+abbrev pub hoped_at : WatchState → ℕ → Bool
 hoped_at s i = is_hoped s.forest.margin (entry_of s i) (track_at s i) (wanted_need s i)
 
-abbrev pub opens_at : State → ℕ → Bool
+abbrev pub opens_at : WatchState → ℕ → Bool
 opens_at s i = opens s.forest.margin (entry_of s i) (track_at s i) (wanted_need s i) (second s)
 
-abbrev pub come_at : State → ℕ → Bool
+abbrev pub come_at : WatchState → ℕ → Bool
 come_at s i = has_come s.forest.margin (entry_of s i) (track_at s i) (second s)
 
-abbrev seen_at : State → ℕ → Entry
-seen_at s i = seen s.forest.entries s.tracks s.clocks i
+abbrev seen_at : WatchState → ℕ → Entry
+seen_at s i = seen_entry s.forest.entries s.tracks s.clocks i
 
 -- an entry that counts as renewed, and one that does not
-abbrev hoped_entry : State → ℕ → Entry
+abbrev hoped_entry : WatchState → ℕ → Entry
 hoped_entry s i = record (seen_at s i) { end = capped (seen_at s i).ceiling (second s + lead_at s i); renewable = false }
 
-abbrev own_entry : State → ℕ → Entry
+abbrev own_entry : WatchState → ℕ → Entry
 own_entry s i = record (seen_at s i) { renewable = (track_at s i).renewable && not (track_at s i).top; step = step_in_plan s.forest.margin (entry_of s i) (track_at s i) (seen_at s i).step }
 
-planned_is : (s : State) (i : ℕ) → planned_at s i ≡ (if hoped_at s i then hoped_entry s i else own_entry s i)
-unfolding planned planned_by
+planned_is : (s : WatchState) (i : ℕ) → planned_at s i ≡ (if hoped_at s i then hoped_entry s i else own_entry s i)
+unfolding entry_planned planned_by
 planned_is s i = refl
 
 -- an entry in the plan, of a known end, not pressed and not out is taken as it is believed
@@ -77,8 +77,8 @@ no_hope true true true pressed out p u q o = absurd cc
 no_hope true false unknown pressed out p u q o = absurd cc
 
 -- the Asks take an entry that is not wanted as it is believed
-pub unwanted_end : (s : State) (i : ℕ) → is_wanted s i ≡ false → (planned_at s i).end ≡ ends s i
-unfolding seen ends is_hoped
+pub unwanted_end : (s : WatchState) (i : ℕ) → is_wanted s i ≡ false → (planned_at s i).end ≡ ends s i
+unfolding seen_entry ends is_hoped
 unwanted_end s i not_wanted =
     let x = track_at s i in
     ap (λ (e : Entry). e.end) (planned_is s i)
@@ -88,14 +88,14 @@ unwanted_end s i not_wanted =
       by_test false c y z h = refl
 
 -- the Asks take an entry as it is believed
-record IsTaken (s : State) (i : ℕ) : Type 0 where
+record IsTaken (s : WatchState) (i : ℕ) : Type 0 where
   pub renewable : (planned_at s i).renewable ≡ (terms s i).renewable
   pub ceiling : (planned_at s i).ceiling ≡ (terms s i).ceiling
   pub step : (planned_at s i).step ≡ (terms s i).step
   pub end : (planned_at s i).end ≡ ends s i
 
-wanted_taken : (s : State) → IsForest s.forest → IsCalm s → (i : ℕ) → i < length s.forest.entries → is_wanted s i ≡ true → IsTaken s i
-unfolding terms seen ends is_hoped
+wanted_taken : (s : WatchState) → IsForest s.forest → IsCalm s → (i : ℕ) → i < length s.forest.entries → is_wanted s i ≡ true → IsTaken s i
+unfolding terms seen_entry ends is_hoped
 wanted_taken s forest calm i within wanted =
     let led = short_led s forest calm.keepable i (wanted_short s i wanted) in
     let x = track_at s i in
@@ -110,7 +110,7 @@ wanted_taken s forest calm i within wanted =
       end = ap (λ (e : Entry). e.end) is;
     }
 
-planned_same : (s : State) (i : ℕ) → ((planned_at s i).parent ≡ (terms s i).parent) × ((planned_at s i).need ≡ (terms s i).need)
+planned_same : (s : WatchState) (i : ℕ) → ((planned_at s i).parent ≡ (terms s i).parent) × ((planned_at s i).need ≡ (terms s i).need)
 unfolding terms
 planned_same s i = (
   ap (λ (e : Entry). e.parent) (planned_is s i) ∙ if_cases (λ (e : Entry). e.parent ≡ (terms s i).parent) (hoped_at s i) (hoped_entry s i) (own_entry s i) (λ e. refl) (λ e. refl),
@@ -126,7 +126,7 @@ some_of p (suc n) a h =
     (λ there. (let rest = some_of p n (a + 1) there in let w = rest.1.0 in (rest.0, (omega (arith, w), rest.1.1))))
 
 -- somebody opens the round
-pub some_opens : (s : State) → opens_some s.forest s.tracks s.clocks ≡ true → (i : ℕ) × ((i < 0 + length s.forest.entries) × (opens_at s i ≡ true))
+pub some_opens : (s : WatchState) → opens_some s.forest s.tracks s.clocks ≡ true → (i : ℕ) × ((i < 0 + length s.forest.entries) × (opens_at s i ≡ true))
 unfolding opens_some
 some_opens s some = some_of (opens_at s) (length s.forest.entries) 0 some
 
@@ -143,7 +143,7 @@ one : (a b : Bool) → a ≡ false → a && b ≡ false
 one true b e = absurd cc
 one false b e = refl
 
-module _ (s : State) (forest : IsForest s.forest) (calm : IsCalm s) where
+module _ (s : WatchState) (forest : IsForest s.forest) (calm : IsCalm s) where
   abbrev es : List Entry
   es = (believed_forest s).entries
 
@@ -224,7 +224,7 @@ module _ (s : State) (forest : IsForest s.forest) (calm : IsCalm s) where
         | inr not_wanted ↦ absurd (let l = (lasts i not_wanted).1 in omega arith)
       ]
 
-  next_taken : (margin t u : ℕ) → IsNext fs margin now (end_of fs) (Some t) u → IsNext es margin now (ends s) (Some t) u
+  next_taken : (margin t u : ℕ) → IsNextMoment fs margin now (end_of fs) (Some t) u → IsNextMoment es margin now (ends s) (Some t) u
   next_taken margin t u next =
       let e = next.entry in
       let h = next.short in
@@ -243,7 +243,7 @@ module _ (s : State) (forest : IsForest s.forest) (calm : IsCalm s) where
         moment = next.moment ∙ ap (λ n. n - margin) b;
       }
 
-  next_once : (margin t u v : ℕ) → IsNext es margin now (ends s) (Some t) u → IsNext es margin now (ends s) (Some t) v → u ≡ v
+  next_once : (margin t u v : ℕ) → IsNextMoment es margin now (ends s) (Some t) u → IsNextMoment es margin now (ends s) (Some t) v → u ≡ v
   next_once margin t u v x y =
       let a = x.earliest y.entry y.short in
       let b = y.earliest x.entry x.short in
@@ -251,7 +251,7 @@ module _ (s : State) (forest : IsForest s.forest) (calm : IsCalm s) where
       let n = y.moment in
       omega arith
 
-  none_short : (t u margin : ℕ) → IsNext es margin now (ends s) (Some t) u → ((i : ℕ) → carried fs now i ≤ bound fs (end_of fs) (Some t) i) → ⊥
+  none_short : (t u margin : ℕ) → IsNextMoment es margin now (ends s) (Some t) u → ((i : ℕ) → carried fs now i ≤ bound fs (end_of fs) (Some t) i) → ⊥
   none_short t u margin next none =
       let e = next.entry in
       let h = next.short in
@@ -395,7 +395,7 @@ module _ (s : State) (forest : IsForest s.forest) (calm : IsCalm s) where
       let alive : nat_lt now (believed x.end) ≡ true = (let l : now < believed x.end = omega arith in grind (arith, nat_tests)) in
       all_six (is_wanted s i) (come_at s i) (is_pressed x) x.out (in_plan_at s i) (is_alive now x) wanted now' (calm.unpressed i within) (calm.unasked i within) (calm.in_plan i within wanted) alive
 
-  later_due : (next : Option ℕ) → ((u : ℕ) → next ≡ Some u → now < u) → is_due s.forest.margin next (now + s.forest.margin) ≡ true
+  later_due : (next : Option ℕ) → ((u : ℕ) → next ≡ Some u → now < u) → is_end_due s.forest.margin next (now + s.forest.margin) ≡ true
   later_due None later = refl
   later_due (Some u) later = let l : now < u = later u refl in grind (arith, nat_tests)
 
@@ -429,7 +429,7 @@ module _ (s : State) (forest : IsForest s.forest) (calm : IsCalm s) where
       let gain = gains_over (entry_at es i).ceiling (entry_at es i).step (wanted_need s i) step (omega arith) high in
       let A : nat_lt (ends s i) (carried es now i) ≡ true = (let l : ends s i < carried es now i = omega arith in grind (arith, nat_tests)) in
       let B : nat_lt (ends s i) (renewed es margin (ends s) now i) ≡ true = (let l : ends s i < renewed es margin (ends s) now i = omega arith in grind (arith, nat_tests)) in
-      let C : is_due margin next (ends s i) ≡ true = ap (is_due margin next) end ∙ later_due next later in
+      let C : is_end_due margin next (ends s i) ≡ true = ap (is_end_due margin next) end ∙ later_due next later in
       all_true (entry_at es i).renewable (all_last es (ends s) (now + 1) i) _ _ _ r alive A B C
 
   pub none_opens : opens_some s.forest s.tracks s.clocks ≡ false → (i : ℕ) → i < length s.forest.entries → opens_at s i ≡ true → ⊥
@@ -476,18 +476,18 @@ module _ (s : State) (forest : IsForest s.forest) (calm : IsCalm s) where
               | inr come ↦ absurd (none_opens round e least.0.1.0 (opens_now e least.0.1.0 least.0.1.1.0 (omega arith)))
             ]
 
-clock_of_plan : (old new : State) (wall elapsed : ℕ) (output : Output) → IsForest old.forest → StepClock old wall elapsed output new → IsCalm (readied old wall elapsed) → IsOfPlan (readied old wall elapsed) output.notes.round
+clock_of_plan : (old new : WatchState) (wall elapsed : ℕ) (output : Output) → IsForest old.forest → StepClock old wall elapsed output new → IsCalm (readied old wall elapsed) → IsOfPlan (readied old wall elapsed) output.notes.round
 clock_of_plan old new wall elapsed output forest step calm =
     let r = readied old wall elapsed in
     subst (IsOfPlan r) (sym (ap (λ (x : Notes). x.round) step.notes)) (of_plan r (subst IsForest (sym (readied_forest old wall elapsed)) forest) calm step.round step.is_round)
 
-turn_of_plan : (old : State) (turn : Turned) → IsForest old.forest → Turn old turn.event turn.result turn.state → RoundsRight old turn
+turn_of_plan : (old : WatchState) (turn : Turned) → IsForest old.forest → Turn old turn.event turn.result turn.state → RoundsRight old turn
 turn_of_plan old turn forest h wall elapsed output event result calm =
     let at_clock : Turn old (Clock wall elapsed) turn.result turn.state = subst (λ (e : Event). Turn old e turn.result turn.state) event h in
     let taken : Turn old (Clock wall elapsed) (Ok output) turn.state = subst (λ x. Turn old (Clock wall elapsed) x turn.state) result at_clock in
     clock_of_plan old turn.state wall elapsed output forest taken.1 calm
 
-ran : (turns : List Turned) (old : State) → History old turns → IsForest old.forest → AllRight old turns
+ran : (turns : List Turned) (old : WatchState) → History old turns → IsForest old.forest → AllRight old turns
 ran [] old h forest = tt
 ran (turn ∷ turns) old h forest = (turn_of_plan old turn forest h.0, ran turns turn.state h.1 (turned_forest old turn.state turn.event turn.result h.0 forest))
 

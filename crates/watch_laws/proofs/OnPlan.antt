@@ -30,17 +30,17 @@ use Rattle.watch_machine.specs.declared.track.Try.{Try}
 use Rattle.watch_machine.specs.Beginning.{begun}
 use Rattle.watch_machine.specs.Clocks.{sec}
 use Rattle.watch_machine.specs.Lines.{is_due, is_due_try}
-use Rattle.watch_machine.specs.Press.{asked_in, asked_track, dropped, is_fresh, press, pressed, pressed_alone, pressed_track}
+use Rattle.watch_machine.specs.Press.{asked_track, dropped, is_fresh, press, pressed, pressed_alone, pressed_track, track_asked_in}
 use Rattle.watch_machine.specs.Margins.{has_come}
-use Rattle.watch_machine.specs.Sending.{IsSent as IsSending, out_at, sent, sent_in, sent_track}
+use Rattle.watch_machine.specs.Sending.{RequestsAreSent as IsSending, out_at, sent, sent_in, sent_track}
 use Rattle.watch_machine.specs.Settling.{held_back, presence_after, settled, settled_track, settled_try, timed}
-use Rattle.watch_machine.specs.State.{State, attempt_at, each, entry_of, no_track, second, track_at, track_in}
+use Rattle.watch_machine.specs.State.{WatchState, attempt_at, each, entry_of, no_track, second, track_at, track_in}
 use Rattle.watch_machine.specs.Step.{readied}
 use Rattle.watch_machine.specs.Wanted.{believed, is_fixed, is_wanted, need_of, wanted_need, wants}
 use Rattle.watch_machine.proofs.Cases.{if_both, value_is}
 use Rattle.watch_machine.proofs.Seeing.{each_past, each_read}
 use Rattle.watch_machine.proofs.Written.{each_length}
-use Rattle.watch_laws.specs.Calm.{IsCalmClock, NonePassed, Opens, began_at, began_by, began_in, believed_forest, ends, in_plan_at, lead_at, leads_to, left_by, terms}
+use Rattle.watch_laws.specs.Calm.{IsCalmClock, NonePassed, OpensNextWakeUp, began_at, began_by, began_in, believed_forest, ends, ends_left_by, in_plan_at, lead_at, leads_to, terms}
 use Rattle.watch_laws.proofs.Believed.{carried_believed}
 use Rattle.watch_laws.proofs.Calming.{AreAlike, IsIdle, IsKept, ends_alike, entry_step, forest_alike, lead_alike, need_kept, plan_alike, terms_alike}
 use Rattle.watch_laws.proofs.Clocking.{clock_rises}
@@ -78,7 +78,7 @@ rise_later t [] rises u is = absurd cc
 rise_later t (v ∷ ts) rises u is = let l : t + 1 ≤ v = rises.0 in let e : v ≡ u = value_is v u is in omega arith
 
 -- none of its wake-ups is before its start
-pub none_passed : (es : List Entry) (margin s0 : ℕ) (e d : ℕ → ℕ) (s : State) (ts : List ℕ) → RisesStrictly (second s) ts → NonePassed s (with_asks es margin s0 d ts)
+pub none_passed : (es : List Entry) (margin s0 : ℕ) (e d : ℕ → ℕ) (s : WatchState) (ts : List ℕ) → RisesStrictly (second s) ts → NonePassed s (with_asks es margin s0 d ts)
 unfolding with_asks
 none_passed es margin s0 e d s [] rises = tt
 none_passed es margin s0 e d s (t ∷ ts) rises = rises.0
@@ -90,7 +90,7 @@ unfolding sec
 sec_rises a b h = omega arith
 
 -- time alone has passed
-pub record IsTimed (new old : State) : Type 0 where
+pub record IsTimed (new old : WatchState) : Type 0 where
   pub forest : new.forest ≡ old.forest
   pub count : length new.tracks ≡ length old.tracks
   pub tracks : (i : ℕ) → track_at new i ≡ track_at old i
@@ -101,7 +101,7 @@ pub record IsTimed (new old : State) : Type 0 where
   pub out : new.out ≡ old.out
 
 -- as much is believed where no more of the tracks has changed than tries
-pub bears_alike : (new old : State) → new.forest ≡ old.forest → new.clocks.broker ≡ old.clocks.broker → new.clocks.wall ≡ old.clocks.wall → ((i : ℕ) → bearing (track_at new i) ≡ bearing (track_at old i)) → AreAlike new old
+pub bears_alike : (new old : WatchState) → new.forest ≡ old.forest → new.clocks.broker ≡ old.clocks.broker → new.clocks.wall ≡ old.clocks.wall → ((i : ℕ) → bearing (track_at new i) ≡ bearing (track_at old i)) → AreAlike new old
 bears_alike new old forest broker wall bears = record {
   forest = forest;
   broker = broker;
@@ -112,7 +112,7 @@ bears_alike new old forest broker wall bears = record {
   held = λ i _. ap (λ (x : Track). believed x.end) (bears i);
 }
 
-pub timed_alike : (new old : State) → IsTimed new old → AreAlike new old
+pub timed_alike : (new old : WatchState) → IsTimed new old → AreAlike new old
 timed_alike new old h = bears_alike new old h.forest h.broker h.wall (λ i. ap bearing (h.tracks i))
 
 settled_same : (margin at : ℕ) (x : Track) (o : Option Try) → IfSome o (λ t. t.failed ≡ false) → settled_try margin at x o ≡ o
@@ -127,7 +127,7 @@ pub presence_away : (margin at : ℕ) (xs : List Track) (answers : List Answer) 
 unfolding presence_after held_back
 presence_away margin at xs answers p = if_both (λ (q : Presence). q.away ≡ p.away) _ _ p refl refl
 
-pub readied_timed : (s : State) (wall elapsed : ℕ) → is_none s.begun ≡ false → IsCalmClock s wall elapsed → ((i : ℕ) → IfSome (attempt_at s i) (λ t. t.failed ≡ false)) → IsTimed (readied s wall elapsed) s
+pub readied_timed : (s : WatchState) (wall elapsed : ℕ) → is_none s.begun ≡ false → IsCalmClock s wall elapsed → ((i : ℕ) → IfSome (attempt_at s i) (λ t. t.failed ≡ false)) → IsTimed (readied s wall elapsed) s
 unfolding readied
 readied_timed s wall elapsed begun' clock whole =
     let t = timed s wall elapsed in
@@ -154,7 +154,7 @@ readied_timed s wall elapsed begun' clock whole =
 -- ---- what a watch holds
 
 -- an entry that is being renewed: by the rule it comes to end as it should
-pub record IsTried (s : State) (e : ℕ → ℕ) (last : Wake) (ts : List ℕ) (i : ℕ) : Type 0 where
+pub record IsTried (s : WatchState) (e : ℕ → ℕ) (last : Wake) (ts : List ℕ) (i : ℕ) : Type 0 where
   pub within : i < length s.forest.entries
   pub try : Try
   pub is : attempt_at s i ≡ Some try
@@ -178,13 +178,13 @@ pub record IsTried (s : State) (e : ℕ → ℕ) (last : Wake) (ts : List ℕ) (
   pub owes : (track_at s i).owes ≡ false
 
 -- its renewal counts from the second of the round, and leads as far as it should
-pub began_is : (s : State) (e : ℕ → ℕ) (last : Wake) (ts : List ℕ) (i : ℕ) → IsTried s e last ts i → began_at s i ≡ last.at
+pub began_is : (s : WatchState) (e : ℕ → ℕ) (last : Wake) (ts : List ℕ) (i : ℕ) → IsTried s e last ts i → began_at s i ≡ last.at
 began_is s e last ts i h = ap began_by h.is ∙ ap began_in h.base_is ∙ h.base_now
 
-pub leads_is : (s : State) (e : ℕ → ℕ) (last : Wake) (ts : List ℕ) (i : ℕ) → IsTried s e last ts i → leads_to s i ≡ e i
+pub leads_is : (s : WatchState) (e : ℕ → ℕ) (last : Wake) (ts : List ℕ) (i : ℕ) → IsTried s e last ts i → leads_to s i ≡ e i
 leads_is s e last ts i h = ap (λ t. renewal (terms s i) t) (began_is s e last ts i h) ∙ sym h.gains
 
-pub need_alike : (new old : State) → IsForest new.forest → IsForest old.forest → AreAlike new old → second new ≡ second old → (i : ℕ) → wanted_need new i ≡ wanted_need old i
+pub need_alike : (new old : WatchState) → IsForest new.forest → IsForest old.forest → AreAlike new old → second new ≡ second old → (i : ℕ) → wanted_need new i ≡ wanted_need old i
 need_alike new old forest forest' a now i =
     sym (carried_believed new forest i) ∙ ap₂ (λ (g : Forest) (t : ℕ). carried g.entries t i) (forest_alike new old a) now ∙ carried_believed old forest' i
 
@@ -192,12 +192,12 @@ bears_wants : (x : Track) (n : ℕ) → wants (bearing x) n ≡ wants x n
 unfolding wants
 bears_wants x n = refl
 
-pub wanted_alike : (new old : State) (i : ℕ) → bearing (track_at new i) ≡ bearing (track_at old i) → wanted_need new i ≡ wanted_need old i → is_wanted new i ≡ is_wanted old i
+pub wanted_alike : (new old : WatchState) (i : ℕ) → bearing (track_at new i) ≡ bearing (track_at old i) → wanted_need new i ≡ wanted_need old i → is_wanted new i ≡ is_wanted old i
 wanted_alike new old i same need =
     sym (bears_wants (track_at new i) (wanted_need new i)) ∙ ap₂ (λ (x : Track) (n : ℕ). wants x n) same need ∙ bears_wants (track_at old i) (wanted_need old i)
 
 pub tried_on :
-    (new old : State) (e : ℕ → ℕ) (last : Wake) (ts : List ℕ) → IsForest new.forest → IsForest old.forest → AreAlike new old → second old ≤ second new →
+    (new old : WatchState) (e : ℕ → ℕ) (last : Wake) (ts : List ℕ) → IsForest new.forest → IsForest old.forest → AreAlike new old → second old ≤ second new →
     (i : ℕ) → IsKept (track_at new i) (track_at old i) → second new < ends old i → IsTried old e last ts i → IsTried new e last ts i
 tried_on new old e last ts forest forest' a later i same alive h =
     let short = wanted_short old i h.wanted in
@@ -233,7 +233,7 @@ tried_on new old e last ts forest forest' a later i same alive h =
 
 -- a watch that goes by its plan: what it believes but for ends is g, it is to end up with the ends e, and from then on the moments to
 -- come are ts. Whoever is out is being renewed
-pub record Goes (s : State) (g : Forest) (e : ℕ → ℕ) (last : Wake) (ts : List ℕ) : Type 0 where
+pub record Goes (s : WatchState) (g : Forest) (e : ℕ → ℕ) (last : Wake) (ts : List ℕ) : Type 0 where
   pub forest : IsForest s.forest
   pub count : length s.tracks ≡ length s.forest.entries
   pub begun : is_none s.begun ≡ false
@@ -244,21 +244,21 @@ pub record Goes (s : State) (g : Forest) (e : ℕ → ℕ) (last : Wake) (ts : L
   pub waits : (i : ℕ) → list_any (λ (r : Out). r.entry == i) s.out ≡ true → attempt_at s i ≡ None → ⊥
 
 -- what goes out are renewals that a wake-up asks, from its second on
-abbrev pub IsSent : Wake → State → Request → Type 0
+abbrev pub IsSent : Wake → WatchState → Request → Type 0
 IsSent now s r = (r.operation ≡ Renew) × ((is_asked now r.entry ≡ true) × (now.at ≤ second s))
 
 -- a turn goes by the wake-ups to come
-pub record IsOn (new : State) (g : Forest) (s0 : ℕ) (was : ℕ → ℕ) (last : Wake) (wakes : List Wake) (round : Option (List ℕ)) (requests : List Request) : Type 0 where
+pub record IsOn (new : WatchState) (g : Forest) (s0 : ℕ) (was : ℕ → ℕ) (last : Wake) (wakes : List Wake) (round : Option (List ℕ)) (requests : List Request) : Type 0 where
   pub now : Wake
   pub next : List Wake
   pub e : ℕ → ℕ
   pub ts : List ℕ
-  pub opens : Opens new round last wakes now next
+  pub opens : OpensNextWakeUp new round last wakes now next
   pub sends : All (IsSent now new) requests
   pub goes : Goes new g e now ts
   pub to_come : next ≡ with_asks g.entries g.margin s0 e ts
   pub from : s0 ≤ second new
-  pub so : e ≡ left_by g was round now
+  pub so : e ≡ ends_left_by g was round now
 
 -- ---- what a clock leaves of the state that it has readied
 
@@ -276,7 +276,7 @@ owes_pressed margin e need at x =
     if_both (λ (y : Track). y.owes ≡ x.owes) (is_fresh margin e x need (sec at)) (record x { attempt = Some (press at false x) }) (if wants x need || x.out then x else record x { attempt = dropped x x.attempt }) refl
     (if_both (λ (y : Track). y.owes ≡ x.owes) (wants x need || x.out) x (record x { attempt = dropped x x.attempt }) refl refl)
 
-owes_asked : (margin : ℕ) (e : Entry) (at : ℕ) (round : List ℕ) (i : ℕ) (x : Track) → (asked_in margin e at round i x).owes ≡ x.owes
+owes_asked : (margin : ℕ) (e : Entry) (at : ℕ) (round : List ℕ) (i : ℕ) (x : Track) → (track_asked_in margin e at round i x).owes ≡ x.owes
 unfolding asked_track
 owes_asked margin e at round i x =
     if_both (λ (y : Track). y.owes ≡ x.owes) (list_any (λ j. j == i) round) (asked_track margin e at x) x
@@ -294,17 +294,17 @@ end_pressed margin e need at x =
     if_both (λ (y : Track). y.end ≡ x.end) (is_fresh margin e x need (sec at)) (record x { attempt = Some (press at false x) }) (if wants x need || x.out then x else record x { attempt = dropped x x.attempt }) refl
     (if_both (λ (y : Track). y.end ≡ x.end) (wants x need || x.out) x (record x { attempt = dropped x x.attempt }) refl refl)
 
-out_asked : (margin : ℕ) (e : Entry) (at : ℕ) (round : List ℕ) (i : ℕ) (x : Track) → (asked_in margin e at round i x).out ≡ x.out
+out_asked : (margin : ℕ) (e : Entry) (at : ℕ) (round : List ℕ) (i : ℕ) (x : Track) → (track_asked_in margin e at round i x).out ≡ x.out
 unfolding asked_track
 out_asked margin e at round i x =
     if_both (λ (y : Track). y.out ≡ x.out) (list_any (λ j. j == i) round) (asked_track margin e at x) x
     (if_both (λ (y : Track). y.out ≡ x.out) x.out x (record x { attempt = Some (press at (not (has_come margin e x (sec at))) x) }) refl refl) refl
 
-module _ (r : State) (round : List ℕ) (requests : List Request) where
-  abbrev pub mid : State
+module _ (r : WatchState) (round : List ℕ) (requests : List Request) where
+  abbrev pub mid : WatchState
   mid = pressed r round
 
-  abbrev pub new : State
+  abbrev pub new : WatchState
   new = sent mid requests
 
   abbrev alone : List Track
@@ -316,7 +316,7 @@ module _ (r : State) (round : List ℕ) (requests : List Request) where
       let g = r.forest in
       let R : Track → Track → Type 0 = λ y x. y.owes ≡ x.owes in
       each_kept R refl (sent_in c.at requests) mid.tracks (λ j x. if_both (λ y. R y x) (list_any (λ (q : Request). q.entry == j) requests) (sent_track c.at x) x refl refl) i
-      ∙ each_kept R refl (λ j. asked_in g.margin (entry_at g.entries j) c.at round j) alone (λ j x. owes_asked g.margin (entry_at g.entries j) c.at round j x) i
+      ∙ each_kept R refl (λ j. track_asked_in g.margin (entry_at g.entries j) c.at round j) alone (λ j x. owes_asked g.margin (entry_at g.entries j) c.at round j x) i
       ∙ each_kept R refl (λ j. pressed_track g.margin (entry_at g.entries j) (need_of g.entries r.tracks c j) c.at) r.tracks
       (λ j x. owes_pressed g.margin (entry_at g.entries j) (need_of g.entries r.tracks c j) c.at x) i
 
@@ -327,19 +327,19 @@ module _ (r : State) (round : List ℕ) (requests : List Request) where
       (λ j x. if_both (λ (y : Track). y.attempt ≡ x.attempt) (list_any (λ (q : Request). q.entry == j) requests) (sent_track r.clocks.at x) x refl refl) i
 
   -- the track that is pressed and asked by a round
-  pub mid_read : (i : ℕ) → i < length r.tracks → track_at mid i ≡ asked_in r.forest.margin (entry_of r i) r.clocks.at round i (pressed_track r.forest.margin (entry_of r i) (wanted_need r i) r.clocks.at (track_at r i))
+  pub mid_read : (i : ℕ) → i < length r.tracks → track_at mid i ≡ track_asked_in r.forest.margin (entry_of r i) r.clocks.at round i (pressed_track r.forest.margin (entry_of r i) (wanted_need r i) r.clocks.at (track_at r i))
   mid_read i within =
       let c = r.clocks in
       let g = r.forest in
       let count = each_length (λ j. pressed_track g.margin (entry_at g.entries j) (need_of g.entries r.tracks c j) c.at) r.tracks in
-      each_read (λ j. asked_in g.margin (entry_at g.entries j) c.at round j) alone i (omega (arith, count, within))
-      ∙ ap (asked_in g.margin (entry_at g.entries i) c.at round i) (each_read (λ j. pressed_track g.margin (entry_at g.entries j) (need_of g.entries r.tracks c j) c.at) r.tracks i within)
+      each_read (λ j. track_asked_in g.margin (entry_at g.entries j) c.at round j) alone i (omega (arith, count, within))
+      ∙ ap (track_asked_in g.margin (entry_at g.entries i) c.at round i) (each_read (λ j. pressed_track g.margin (entry_at g.entries j) (need_of g.entries r.tracks c j) c.at) r.tracks i within)
 
   pub new_count : length new.tracks ≡ length r.tracks
   new_count =
       let c = r.clocks in
       let g = r.forest in
-      each_length (sent_in c.at requests) mid.tracks ∙ each_length (λ j. asked_in g.margin (entry_at g.entries j) c.at round j) alone
+      each_length (sent_in c.at requests) mid.tracks ∙ each_length (λ j. track_asked_in g.margin (entry_at g.entries j) c.at round j) alone
       ∙ each_length (λ j. pressed_track g.margin (entry_at g.entries j) (need_of g.entries r.tracks c j) c.at) r.tracks
 
   pub out_mid : (i : ℕ) → (track_at mid i).out ≡ (track_at r i).out
@@ -347,7 +347,7 @@ module _ (r : State) (round : List ℕ) (requests : List Request) where
       let c = r.clocks in
       let g = r.forest in
       let R : Track → Track → Type 0 = λ y x. y.out ≡ x.out in
-      each_kept R refl (λ j. asked_in g.margin (entry_at g.entries j) c.at round j) alone (λ j x. out_asked g.margin (entry_at g.entries j) c.at round j x) i
+      each_kept R refl (λ j. track_asked_in g.margin (entry_at g.entries j) c.at round j) alone (λ j x. out_asked g.margin (entry_at g.entries j) c.at round j x) i
       ∙ each_kept R refl (λ j. pressed_track g.margin (entry_at g.entries j) (need_of g.entries r.tracks c j) c.at) r.tracks
       (λ j x. out_pressed g.margin (entry_at g.entries j) (need_of g.entries r.tracks c j) c.at x) i
 
@@ -357,7 +357,7 @@ module _ (r : State) (round : List ℕ) (requests : List Request) where
       let c = r.clocks in
       let g = r.forest in
       let count = each_length (λ j. pressed_track g.margin (entry_at g.entries j) (need_of g.entries r.tracks c j) c.at) r.tracks in
-      ap (λ (x : Track). x.attempt) (each_past (λ j. asked_in g.margin (entry_at g.entries j) c.at round j) alone i (omega (arith, count, past)))
+      ap (λ (x : Track). x.attempt) (each_past (λ j. track_asked_in g.margin (entry_at g.entries j) c.at round j) alone i (omega (arith, count, past)))
       ∙ sym (ap (λ (x : Track). x.attempt) (get_or_past r.tracks i no_track past))
 
   -- a try that stays

@@ -8,7 +8,7 @@ use Rattle.std.specs.List.{list_any, range_with_len}
 use Rattle.keep_tree.specs.declared.entry.Entry.{Entry}
 use Rattle.keep_tree.specs.Forest.{Forest, end_of, entry_at}
 use Rattle.keep_tree.specs.Renewal.{capped}
-use Rattle.keep_rule.specs.Asks.{asks, is_wanted as is_asked_for}
+use Rattle.keep_rule.specs.Asks.{asks, is_to_be_asked as is_asked_for}
 use Rattle.watch_machine.specs.declared.clocks.Clocks.{Clocks}
 use Rattle.watch_machine.specs.declared.command.Command.{Command}
 use Rattle.watch_machine.specs.declared.command.Command.TheVariants.{Go, Taken}
@@ -28,29 +28,28 @@ use Rattle.watch_machine.specs.declared.track.End.{End}
 use Rattle.watch_machine.specs.declared.track.Track.{Track}
 use Rattle.watch_machine.specs.declared.track.Try.{Try}
 use Rattle.watch_machine.specs.Answers.{answers_all, failing, lane_freed, noted, replied, silent}
-use Rattle.watch_machine.specs.Beginning.{begun, is_called, is_pressed, is_pressed_try, owing, owing_lookup, soon, sooner, untopped, untopped_track}
+use Rattle.watch_machine.specs.Beginning.{begun, is_called, is_pressed, is_pressed_try, owing, owing_lookup, soon, sooner_try, untopped, untopped_track}
 use Rattle.watch_machine.specs.Clocks.{sec}
-use Rattle.watch_machine.specs.History.{History, Turn, Turned}
+use Rattle.watch_machine.specs.History.{History, Turn, Turned, after_all}
 use Rattle.watch_machine.specs.Lines.{is_first}
 use Rattle.watch_machine.specs.Looked.{after_look, looked, untold, untold_track}
 use Rattle.watch_machine.specs.Margins.{has_come, is_in_plan, lead}
-use Rattle.watch_machine.specs.Press.{asked_in, asked_track, dropped, is_fresh, press, pressed, pressed_alone, pressed_track}
+use Rattle.watch_machine.specs.Press.{asked_track, dropped, is_fresh, press, pressed, pressed_alone, pressed_track, track_asked_in}
 use Rattle.watch_machine.specs.Refusal.{request_out}
-use Rattle.watch_machine.specs.Renewed.{after_renewal, renewed, renewed_track, ungranted, ungranted_track}
-use Rattle.watch_machine.specs.Round.{IsRound, asked_by as round_of, is_hoped, plan_view, planned, planned_by, step_in_plan}
+use Rattle.watch_machine.specs.Renewed.{after_renewal, renewed_track, state_renewed, ungranted, ungranted_track}
+use Rattle.watch_machine.specs.Round.{IsRound, asked_by_round as round_of, entry_planned, is_hoped, plan_view, planned_by, step_in_plan}
 use Rattle.watch_machine.specs.Sending.{sent, sent_in, sent_track}
 use Rattle.watch_machine.specs.Settling.{is_real, settled, settled_track, settled_try, timed}
-use Rattle.watch_machine.specs.State.{State, each, no_track, opened, second, track_at, track_in}
-use Rattle.watch_machine.specs.Step.{Step, StepClock, StepCommand, StepLooked, StepRenewed, known, needed, readied, why}
-use Rattle.watch_machine.specs.Wanted.{believed, is_alive, is_open, is_unknown, is_wanted, need_of, seen, wants}
+use Rattle.watch_machine.specs.State.{WatchState, each, no_track, opened, second, track_at, track_in}
+use Rattle.watch_machine.specs.Step.{Step, StepClock, StepCommand, StepLooked, StepRenewed, known, readied, why, with_need_until}
+use Rattle.watch_machine.specs.Wanted.{believed, is_alive, is_open, is_unknown, is_wanted, need_of, seen_entry, wants}
 use Rattle.watch_machine.proofs.Cases.{if_both, if_cases, not_both}
 use Rattle.watch_machine.proofs.Seeing.{SameSeen, both_seen, each_past, each_read, need_same}
 use Rattle.watch_machine.proofs.Unseen.{pressed_seen, sent_seen}
 use Rattle.watch_machine.proofs.Within.{out_entry}
-use Rattle.watch_laws.specs.Absence.{is_taken}
+use Rattle.watch_laws.specs.Absence.{is_event_taken}
 use Rattle.watch_laws.specs.Outage.{one_if}
-use Rattle.watch_laws.specs.Partial.{AreHung, IsUnanswered, OnceLaw, comes_before, is_own_first, is_own_try, often_before, stands_before, waits_before}
-use Rattle.watch_laws.specs.Turns.{after_all}
+use Rattle.watch_laws.specs.Partial.{AreHung, IsUnanswered, OnceInFrontLaw, comes_before, is_own_first, is_own_try, often_before, stands_before, waits_before}
 use Rattle.watch_laws.proofs.Answering.{looked_leaves, renewed_leaves, rest_of}
 use Rattle.watch_laws.proofs.Believed.{written_at, written_count}
 use Rattle.watch_laws.proofs.Clocking.{readied_clocks, refused_stays}
@@ -93,17 +92,17 @@ owing_alike : (at : ℕ) (called : Bool) (x : Track) → Alike (owing at called 
 unfolding owing
 owing_alike at called x =
     if_both (λ y. Alike y x) (called && is_open (sec at) x) (owing_lookup at x) x
-    (if_both (λ y. Alike y x) x.out (record x { owes = true }) (record x { owes = true; attempt = Some (sooner (soon at x) x.attempt) }) (record { own = refl; pressed' = refl; out = refl; end = refl })
+    (if_both (λ y. Alike y x) x.out (record x { owes = true }) (record x { owes = true; attempt = Some (sooner_try (soon at x) x.attempt) }) (record { own = refl; pressed' = refl; out = refl; end = refl })
     (record { own = own' x.attempt; pressed' = pressed'' x.attempt; out = refl; end = refl })) (same_alike x) where
-      own' : (o : Option Try) → is_own_try (Some (sooner (soon at x) o)) ≡ is_own_try o
+      own' : (o : Option Try) → is_own_try (Some (sooner_try (soon at x) o)) ≡ is_own_try o
       own' None = refl
       own' (Some t) = refl
 
-      pressed'' : (o : Option Try) → is_pressed_try (Some (sooner (soon at x) o)) ≡ is_pressed_try o
+      pressed'' : (o : Option Try) → is_pressed_try (Some (sooner_try (soon at x) o)) ≡ is_pressed_try o
       pressed'' None = refl
       pressed'' (Some t) = refl
 
-begun_alike : (s : State) (w : Option Why) (j : ℕ) → Alike (track_at (begun s w) j) (track_at s j)
+begun_alike : (s : WatchState) (w : Option Why) (j : ℕ) → Alike (track_at (begun s w) j) (track_at s j)
 begun_alike s None j = same_alike (track_at s j)
 begun_alike s (Some w) j =
     let xs = untopped s.tracks in
@@ -111,7 +110,7 @@ begun_alike s (Some w) j =
     (each_kept Alike (same_alike no_track) (λ k. owing s.clocks.at (is_called s.forest xs s.clocks k)) xs (λ k x. owing_alike s.clocks.at (is_called s.forest xs s.clocks k) x) j)
     (each_kept Alike (same_alike no_track) (λ k. untopped_track) s.tracks (λ k x. record { own = refl; pressed' = refl; out = refl; end = refl }) j)
 
-readied_alike : (s : State) (wall elapsed j : ℕ) → Alike (track_at (readied s wall elapsed) j) (track_at s j)
+readied_alike : (s : WatchState) (wall elapsed j : ℕ) → Alike (track_at (readied s wall elapsed) j) (track_at s j)
 unfolding readied
 readied_alike s wall elapsed j =
     let t = timed s wall elapsed in
@@ -159,12 +158,12 @@ hope true true false true o e f = refl
 hope true true false false o e f = absurd cc
 hope false p u b o e f = absurd cc
 
-hoped_for : (g : Forest) (xs : List Track) (c : Clocks) (j : ℕ) → is_pressed (track_in xs j) ≡ true → wants (track_in xs j) (need_of g.entries xs c j) ≡ true → (planned g xs c j).renewable ≡ false
-unfolding planned planned_by is_hoped
+hoped_for : (g : Forest) (xs : List Track) (c : Clocks) (j : ℕ) → is_pressed (track_in xs j) ≡ true → wants (track_in xs j) (need_of g.entries xs c j) ≡ true → (entry_planned g xs c j).renewable ≡ false
+unfolding entry_planned planned_by is_hoped
 hoped_for g xs c j is wanted =
     let e = entry_at g.entries j in
     let x = track_in xs j in
-    let y = seen g.entries xs c j in
+    let y = seen_entry g.entries xs c j in
     let need = need_of g.entries xs c j in
     let hoped = wants x need && (not (is_in_plan g.margin e x) || (is_unknown x.end || (is_pressed x || x.out))) in
     if_cases (λ (z : Entry). z.renewable ≡ false) hoped (record y { end = capped y.ceiling (sec c.at + lead e.step x.grant); renewable = false })
@@ -179,18 +178,18 @@ names_none g xs c (Some asked) j h is wanted =
       | inl named ↦
           let es = plan_view g xs c in
           let there = renewable_of es g.margin (sec c.at) (end_of es) (sec c.at) h.1.0 j (sym (ap (list_any (λ k. k == j)) h.1.1.1) ∙ named) in
-          let count = written_count (planned g xs c) (length g.entries) in
+          let count = written_count (entry_planned g xs c) (length g.entries) in
           let low = there.0 in
-          absurd (not_both there.1 (ap (λ (e : Entry). e.renewable) (written_at (planned g xs c) (length g.entries) j (omega (arith, low, count))) ∙ hoped_for g xs c j is wanted))
+          absurd (not_both there.1 (ap (λ (e : Entry). e.renewable) (written_at (entry_planned g xs c) (length g.entries) j (omega (arith, low, count))) ∙ hoped_for g xs c j is wanted))
       | inr none ↦ none
     ]
 
 -- a clock
-sent_made : (mid new : State) (command : Command) → StepCommand mid command new → (requests : List Request) × (new ≡ sent mid requests)
+sent_made : (mid new : WatchState) (command : Command) → StepCommand mid command new → (requests : List Request) × (new ≡ sent mid requests)
 sent_made mid new (Go requests until) h = (requests, h.0.1)
 sent_made mid new Taken h = absurd h
 
-mid_alike : (s : State) (round : Option (List ℕ)) (j : ℕ) → IsRound s.forest s.tracks s.clocks round → is_pressed (track_at s j) ≡ true → is_wanted s j ≡ true → Alike (track_at (pressed s (round_of round)) j) (track_at s j)
+mid_alike : (s : WatchState) (round : Option (List ℕ)) (j : ℕ) → IsRound s.forest s.tracks s.clocks round → is_pressed (track_at s j) ≡ true → is_wanted s j ≡ true → Alike (track_at (pressed s (round_of round)) j) (track_at s j)
 mid_alike s round j h is wanted =
     let c = s.clocks in
     let g = s.forest in
@@ -200,7 +199,7 @@ mid_alike s round j h is wanted =
     let need = need_of g.entries s.tracks c j in
     let none = names_none g s.tracks c round j h is wanted in
     let same : track_at (pressed s asked) j ≡ track_in alone j =
-    each_at (λ k. asked_in g.margin (entry_at g.entries k) c.at asked k) alone j (λ x. cond-false (list_any (λ k. k == j) asked) (asked_track g.margin e c.at x) x none) in
+    each_at (λ k. track_asked_in g.margin (entry_at g.entries k) c.at asked k) alone j (λ x. cond-false (list_any (λ k. k == j) asked) (asked_track g.margin e c.at x) x none) in
     subst (λ y. Alike y (track_at s j)) (sym same)
     (each_kept_at (λ k. pressed_track g.margin (entry_at g.entries k) (need_of g.entries s.tracks c k) c.at) s.tracks j (pressed_kept g.margin e need c.at (track_at s j) is wanted)) where
       each_kept_at : (f : ℕ → Track → Track) (xs : List Track) (i : ℕ) → Alike (f i (track_in xs i)) (track_in xs i) → Alike (track_in (each f xs) i) (track_in xs i)
@@ -216,14 +215,14 @@ record Sends (y x : Track) : Type 0 where
   end : y.end ≡ x.end
   out : x.out ≡ true → y.out ≡ true
 
-sent_sends : (s : State) (rs : List Request) (j : ℕ) → Sends (track_at (sent s rs) j) (track_at s j)
+sent_sends : (s : WatchState) (rs : List Request) (j : ℕ) → Sends (track_at (sent s rs) j) (track_at s j)
 sent_sends s rs j =
     each_kept Sends (record { attempt = refl; end = refl; out = λ h. h }) (sent_in s.clocks.at rs) s.tracks
     (λ k x. if_both (λ y. Sends y x) (list_any (λ (r : Request). r.entry == k) rs) (sent_track s.clocks.at x) x (record { attempt = refl; end = refl; out = λ h. refl }) (record { attempt = refl; end = refl; out = λ h. h })) j
 
 -- what a turn leaves of an entry that is pressed: it stays pressed, and has no first try that is its own but where it had one, with the
 -- same end, and where its request is out still if it was
-record Stays (old new : State) (j : ℕ) : Type 0 where
+record Stays (old new : WatchState) (j : ℕ) : Type 0 where
   pressed' : is_pressed (track_at new j) ≡ true
   end : is_own_first new j ≡ true → (track_at new j).end ≡ (track_at old j).end
   own : is_own_first new j ≡ true → is_own_first old j ≡ true
@@ -233,7 +232,7 @@ later_alive : (a b : ℕ) (e : End) → a ≤ b → nat_lt (sec b) (believed e) 
 later_alive a b e up h = let less = sec_rises a b up in grind (arith, nat_tests)
 
 clock_stays :
-    (old new : State) (wall elapsed : ℕ) (output : Output) (j : ℕ) → StepClock old wall elapsed output new → IsPast old → is_pressed (track_at old j) ≡ true → is_wanted new j ≡ true → Stays old new j
+    (old new : WatchState) (wall elapsed : ℕ) (output : Output) (j : ℕ) → StepClock old wall elapsed output new → IsPast old → is_pressed (track_at old j) ≡ true → is_wanted new j ≡ true → Stays old new j
 unfolding wants
 clock_stays old new wall elapsed output j step past is wanted =
     let s = readied old wall elapsed in
@@ -247,7 +246,7 @@ clock_stays old new wall elapsed output j step past is wanted =
     let ready = readied_alike old wall elapsed j in
     let seen : SameSeen end'.tracks s.tracks = both_seen end'.tracks mid.tracks s.tracks (sent_seen c.at rs mid.tracks) (pressed_seen g c (round_of round) s.tracks) in
     let needs = need_same end'.tracks s.tracks seen g.entries c j in
-    let wanted' : wants (track_at end' j) (need_of g.entries end'.tracks c j) ≡ true = subst (λ (x : State). is_wanted x j ≡ true) made.1 wanted in
+    let wanted' : wants (track_at end' j) (need_of g.entries end'.tracks c j) ≡ true = subst (λ (x : WatchState). is_wanted x j ≡ true) made.1 wanted in
     let bears = mid_bears s (round_of round) rs j in
     let wanted_before : is_wanted s j ≡ true = sym (ap (λ (x : Track). wants x (need_of g.entries s.tracks c j)) bears) ∙ sym (ap (λ k. wants (track_at end' j) k) needs) ∙ wanted' in
     let pressed_there : is_pressed (track_at s j) ≡ true = ready.pressed' ∙ is in
@@ -256,7 +255,7 @@ clock_stays old new wall elapsed output j step past is wanted =
     let up = rises old wall elapsed past.start in
     let clock : end'.clocks.at ≡ (timed old wall elapsed).clocks.at = ap (λ x. x.at) (readied_clocks old wall elapsed) in
     let end_same : (track_at end' j).end ≡ (track_at old j).end = sends.end ∙ alike.end in
-    subst (λ (x : State). Stays old x j) (sym made.1)
+    subst (λ (x : WatchState). Stays old x j) (sym made.1)
     (record {
       pressed' = ap is_pressed_try sends.attempt ∙ alike.pressed' ∙ is;
       end = λ own. end_same;
@@ -268,7 +267,7 @@ clock_stays old new wall elapsed output j step past is wanted =
     })
 
 -- a track that is as it was, at the same clock
-same_stays : (old new : State) (j : ℕ) → track_at new j ≡ track_at old j → new.clocks.at ≡ old.clocks.at → is_pressed (track_at old j) ≡ true → Stays old new j
+same_stays : (old new : WatchState) (j : ℕ) → track_at new j ≡ track_at old j → new.clocks.at ≡ old.clocks.at → is_pressed (track_at old j) ≡ true → Stays old new j
 same_stays old new j same clock is =
     let own : is_own_first new j ≡ is_own_first old j =
     ap (λ (x : Track). is_own_try x.attempt && nat_lt (sec new.clocks.at) (believed x.end)) same ∙ ap (λ n. is_own_try (track_at old j).attempt && nat_lt (sec n) (believed (track_at old j).end)) clock in
@@ -305,14 +304,14 @@ ungranted_later : (at : ℕ) (heard' : Bool) (x : Track) (o : Option Try) → is
 ungranted_later at heard' x None is = absurd cc
 ungranted_later at heard' x (Some t) is = failing_later t (after_renewal (sec at) x) true heard' is
 
-looked_later : (s : State) (q : Out) (terms : Terms) → is_pressed (track_at s q.entry) ≡ true → IsLater (track_at (looked s q Lost terms) q.entry).attempt
+looked_later : (s : WatchState) (q : Out) (terms : Terms) → is_pressed (track_at s q.entry) ≡ true → IsLater (track_at (looked s q Lost terms) q.entry).attempt
 unfolding untold_track
 looked_later s q terms is =
     let x = track_at s q.entry in
     let within = pressed_within s.tracks q.entry is in
     subst (λ (y : Track). IsLater y.attempt) (sym (get_or-set_same s.tracks q.entry (untold_track s.clocks.at q.heard Lost x) no_track within)) (untold_later s.clocks.at q.heard x x.attempt is)
 
-renewed_later : (s : State) (q : Out) → is_pressed (track_at s q.entry) ≡ true → IsLater (track_at (renewed s q Lost) q.entry).attempt
+renewed_later : (s : WatchState) (q : Out) → is_pressed (track_at s q.entry) ≡ true → IsLater (track_at (state_renewed s q Lost) q.entry).attempt
 unfolding renewed_track ungranted_track
 renewed_later s q is =
     let x = track_at s q.entry in
@@ -320,18 +319,18 @@ renewed_later s q is =
     subst (λ (y : Track). IsLater y.attempt) (sym (get_or-set_same s.tracks q.entry (ungranted_track s.clocks.at q.heard Lost x) no_track within)) (ungranted_later s.clocks.at q.heard x x.attempt is)
 
 -- an answer leaves the tracks but for its own, while the broker is there
-tracks_left : (s : State) (q : Out) (reply : Reply) → s.presence.away ≡ false → (replied s q reply).tracks ≡ s.tracks
+tracks_left : (s : WatchState) (q : Out) (reply : Reply) → s.presence.away ≡ false → (replied s q reply).tracks ≡ s.tracks
 tracks_left s q reply there =
     let free = lane_freed s q in
-    let P : State → Type 0 = λ t. t.tracks ≡ s.tracks in
+    let P : WatchState → Type 0 = λ t. t.tracks ≡ s.tracks in
     if_both P (is_real reply) (answers_all free) (if q.heard then free else silent free) (if_cases P s.presence.away _ _ (λ yes'. absurd (not_both yes' there)) (λ no'. refl))
     (if_both P q.heard free (silent free) refl (if_both P s.presence.away _ _ refl refl))
 
 answer_stays :
-    (old mid new : State) (q : Out) (reply : Reply) (j : ℕ) → new ≡ replied mid q reply → mid.presence.away ≡ false → new.clocks ≡ old.clocks → is_pressed (track_at old j) ≡ true →
+    (old mid new : WatchState) (q : Out) (reply : Reply) (j : ℕ) → new ≡ replied mid q reply → mid.presence.away ≡ false → new.clocks ≡ old.clocks → is_pressed (track_at old j) ≡ true →
     (track_at mid j ≡ track_at old j) ⊎ IsLater (track_at mid j).attempt → Stays old new j
 answer_stays old mid new q reply j made there clocks is what =
-    let left : track_at new j ≡ track_at mid j = ap (λ (x : State). track_at x j) made ∙ ap (λ xs. track_in xs j) (tracks_left mid q reply there) in
+    let left : track_at new j ≡ track_at mid j = ap (λ (x : WatchState). track_at x j) made ∙ ap (λ xs. track_in xs j) (tracks_left mid q reply there) in
     elim what as (λ _. Stays old new j) [
       | inl same ↦ same_stays old new j (left ∙ same) (ap (λ c. c.at) clocks) is
       | inr later ↦
@@ -346,14 +345,14 @@ answer_stays old mid new q reply j made there clocks is what =
     ]
 
 looked_stays :
-    (old new : State) (k j : ℕ) (found : Option Out) (reply : Reply) (terms : Terms) (output : Output) → request_out old.out k Look ≡ found → StepLooked old found reply terms output new → (k ≡ j → reply ≡ Lost) →
+    (old new : WatchState) (k j : ℕ) (found : Option Out) (reply : Reply) (terms : Terms) (output : Output) → request_out old.out k Look ≡ found → StepLooked old found reply terms output new → (k ≡ j → reply ≡ Lost) →
     old.presence.away ≡ false → is_pressed (track_at old j) ≡ true → Stays old new j
 looked_stays old new k j None reply terms output is_found step lost there is = absurd step
 looked_stays old new k j (Some q) reply terms output is_found step lost there is =
     let s = noted old q reply in
     let mid = looked s q reply terms in
     let entry = out_entry old.out k Look q is_found in
-    answer_stays old mid new q reply j step.1 (ap (λ p. p.away) (looked_presence s q reply terms) ∙ there) (ap (λ (x : State). x.clocks) (ap rest_of step.1 ∙ looked_leaves old q reply terms)) is
+    answer_stays old mid new q reply j step.1 (ap (λ p. p.away) (looked_presence s q reply terms) ∙ there) (ap (λ (x : WatchState). x.clocks) (ap rest_of step.1 ∙ looked_leaves old q reply terms)) is
     (elim (cases_Bool (q.entry == j)) as (λ _. (track_at mid j ≡ track_at old j) ⊎ IsLater (track_at mid j).attempt) [
       | inl same ↦
           let e = eqb-true q.entry j same in
@@ -365,44 +364,44 @@ looked_stays old new k j (Some q) reply terms output is_found step lost there is
       same_index a b e = grind (arith, nat_tests)
 
 renewed_stays :
-    (old new : State) (k j : ℕ) (found : Option Out) (reply : Reply) (output : Output) → request_out old.out k Renew ≡ found → StepRenewed old found reply output new → (k ≡ j → reply ≡ Lost) →
+    (old new : WatchState) (k j : ℕ) (found : Option Out) (reply : Reply) (output : Output) → request_out old.out k Renew ≡ found → StepRenewed old found reply output new → (k ≡ j → reply ≡ Lost) →
     old.presence.away ≡ false → is_pressed (track_at old j) ≡ true → Stays old new j
 renewed_stays old new k j None reply output is_found step lost there is = absurd step
 renewed_stays old new k j (Some q) reply output is_found step lost there is =
     let s = noted old q reply in
-    let mid = renewed s q reply in
+    let mid = state_renewed s q reply in
     let entry = out_entry old.out k Renew q is_found in
-    answer_stays old mid new q reply j step.1 there (ap (λ (x : State). x.clocks) (ap rest_of step.1 ∙ renewed_leaves old q reply)) is
+    answer_stays old mid new q reply j step.1 there (ap (λ (x : WatchState). x.clocks) (ap rest_of step.1 ∙ renewed_leaves old q reply)) is
     (elim (cases_Bool (q.entry == j)) as (λ _. (track_at mid j ≡ track_at old j) ⊎ IsLater (track_at mid j).attempt) [
       | inl same ↦
           let e = eqb-true q.entry j same in
           let is' = lost (sym entry ∙ e) in
-          inr (subst (λ m. IsLater (track_at mid m).attempt) e (subst (λ r. IsLater (track_at (renewed (noted old q r) q r) q.entry).attempt) (sym is') (renewed_later (noted old q Lost) q (ap (λ m. is_pressed (track_at old m)) e ∙ is))))
+          inr (subst (λ m. IsLater (track_at mid m).attempt) e (subst (λ r. IsLater (track_at (state_renewed (noted old q r) q r) q.entry).attempt) (sym is') (renewed_later (noted old q Lost) q (ap (λ m. is_pressed (track_at old m)) e ∙ is))))
       | inr other ↦ inl (get_or-set_other s.tracks q.entry j _ no_track (λ e. not_both (same_index q.entry j (sym e)) other))
     ]) where
       same_index : (a b : ℕ) → a ≡ b → (a == b) ≡ true
       same_index a b e = grind (arith, nat_tests)
 
 step_stays :
-    (old new : State) (event : Event) (output : Output) (j : ℕ) → Step old event output new → IsUnanswered j event → IsPast old → old.presence.away ≡ false → is_pressed (track_at old j) ≡ true → is_wanted new j ≡ true →
+    (old new : WatchState) (event : Event) (output : Output) (j : ℕ) → Step old event output new → IsUnanswered j event → IsPast old → old.presence.away ≡ false → is_pressed (track_at old j) ≡ true → is_wanted new j ≡ true →
     Stays old new j
 step_stays old new (Clock wall elapsed) output j step quiet past there is wanted = clock_stays old new wall elapsed output j step past is wanted
 step_stays old new (Looked k reply terms) output j step quiet past there is wanted = looked_stays old new k j (request_out old.out k Look) reply terms output refl step quiet there is
 step_stays old new (Renewed k reply) output j step quiet past there is wanted = renewed_stays old new k j (request_out old.out k Renew) reply output refl step quiet there is
-step_stays old new (Need k until) output j step quiet past there is wanted = subst (λ (x : State). Stays old x j) (sym step.1) (same_stays old (needed old k until) j refl refl is)
-step_stays old new Begin output j step quiet past there is wanted = subst (λ (x : State). Stays old x j) (sym step.1) (same_stays old (record old { asked = true }) j refl refl is)
+step_stays old new (Need k until) output j step quiet past there is wanted = subst (λ (x : WatchState). Stays old x j) (sym step.1) (same_stays old (with_need_until old k until) j refl refl is)
+step_stays old new Begin output j step quiet past there is wanted = subst (λ (x : WatchState). Stays old x j) (sym step.1) (same_stays old (record old { asked = true }) j refl refl is)
 step_stays old new (Known k told renewable) output j step quiet past there is wanted =
-    subst (λ (x : State). Stays old x j) (sym step.1) (same_stays old (known old k told renewable) j (get_or-set_other old.tracks k j _ no_track (λ e. quiet (sym e))) refl is)
+    subst (λ (x : WatchState). Stays old x j) (sym step.1) (same_stays old (known old k told renewable) j (get_or-set_other old.tracks k j _ no_track (λ e. quiet (sym e))) refl is)
 
 turn_stays :
-    (old new : State) (event : Event) (result : Result Output WatchFault) (j : ℕ) → Turn old event result new → (is_taken result ≡ true → IsUnanswered j event) → IsPast old → old.presence.away ≡ false →
+    (old new : WatchState) (event : Event) (result : Result Output WatchFault) (j : ℕ) → Turn old event result new → (is_event_taken result ≡ true → IsUnanswered j event) → IsPast old → old.presence.away ≡ false →
     is_pressed (track_at old j) ≡ true → is_wanted new j ≡ true → Stays old new j
 turn_stays old new event (Ok output) j turn quiet past there is wanted = step_stays old new event output j turn.1 (quiet refl) past there is wanted
 turn_stays old new event (Err fault) j turn quiet past there is wanted =
-    subst (λ (x : State). Stays old x j) (sym (refused_stays old new event fault turn)) (same_stays old old j refl refl is)
+    subst (λ (x : WatchState). Stays old x j) (sym (refused_stays old new event fault turn)) (same_stays old old j refl refl is)
 
 -- so it does not come to stand before another
-no_coming : (i j : ℕ) (old new : State) → Stays old new j → (track_at new i).end ≡ (track_at old i).end → comes_before i old new j ≡ false
+no_coming : (i j : ℕ) (old new : WatchState) → Stays old new j → (track_at new i).end ≡ (track_at old i).end → comes_before i old new j ≡ false
 no_coming i j old new stays same =
     elim (cases_Bool (comes_before i old new j)) as (λ _. comes_before i old new j ≡ false) [
       | inl comes ↦
@@ -424,12 +423,12 @@ own_pressed : (o : Option Try) → is_own_try o ≡ true → is_pressed_try o �
 own_pressed None h = absurd cc
 own_pressed (Some t) h = (and_parts t.pressed (t.fails == 0) (and_parts (is_first t) (not t.along) h).0).0
 
-stands_pressed : (i j : ℕ) (s : State) → stands_before i s j ≡ true → is_pressed (track_at s j) ≡ true
+stands_pressed : (i j : ℕ) (s : WatchState) → stands_before i s j ≡ true → is_pressed (track_at s j) ≡ true
 stands_pressed i j s h =
     own_pressed (track_at s j).attempt (and_parts (is_own_try (track_at s j).attempt) (is_alive (second s) (track_at s j)) (and_parts (is_own_first s j) _ h).0).0
 
 counts_once :
-    (width n i j : ℕ) (turns : List Turned) (s : State) → History s turns → AreHung i j s turns → IsBase width n s → s.presence.away ≡ false →
+    (width n i j : ℕ) (turns : List Turned) (s : WatchState) → History s turns → AreHung i j s turns → IsBase width n s → s.presence.away ≡ false →
     (is_pressed (track_at s j) ≡ true → often_before i j s turns ≡ 0) × (often_before i j s turns ≤ 1)
 counts_once width n i j [] s history hung base there = ((λ is. refl), omega arith)
 counts_once width n i j (turn ∷ turns) s history hung base there =
@@ -453,7 +452,7 @@ counts_once width n i j (turn ∷ turns) s history hung base there =
     )
 
 pub waits_once :
-    (width n i j : ℕ) (turns : List Turned) (s : State) → History s turns → AreHung i j s turns → IsBase width n s → s.presence.away ≡ false → one_if (waits_before i s j) + often_before i j s turns ≤ 1
+    (width n i j : ℕ) (turns : List Turned) (s : WatchState) → History s turns → AreHung i j s turns → IsBase width n s → s.presence.away ≡ false → one_if (waits_before i s j) + often_before i j s turns ≤ 1
 waits_once width n i j turns s history hung base there =
     let count = counts_once width n i j turns s history hung base there in
     let pressed' = count.0 in
@@ -466,7 +465,7 @@ waits_once width n i j turns s history hung base there =
       | inr no' ↦ (let none = ap one_if no' in omega (arith, none, few))
     ]
 
-pub stands_once : OnceLaw
+pub stands_once : OnceInFrontLaw
 stands_once g width before turns i j run there hung =
     let n = length g.entries in
     let s = after_all (opened g width) before in

@@ -21,12 +21,12 @@ use Rattle.watch_machine.specs.Answers.{noted}
 use Rattle.watch_machine.specs.Clocks.{sec}
 use Rattle.watch_machine.specs.History.{History, Turn, Turned}
 use Rattle.watch_machine.specs.Margins.{has_come, is_in_plan, own_margin, time}
-use Rattle.watch_machine.specs.Press.{asked_in, asked_track, dropped, is_fresh, press, pressed, pressed_alone, pressed_track}
+use Rattle.watch_machine.specs.Press.{asked_track, dropped, is_fresh, press, pressed, pressed_alone, pressed_track, track_asked_in}
 use Rattle.watch_machine.specs.Refusal.{request_out}
-use Rattle.watch_machine.specs.Round.{IsRound, asked_by, opens, opens_some}
+use Rattle.watch_machine.specs.Round.{IsRound, asked_by_round, opens, opens_some}
 use Rattle.watch_machine.specs.Sending.{sent, sent_in, sent_track}
 use Rattle.watch_machine.specs.Beginning.{is_pressed}
-use Rattle.watch_machine.specs.State.{State, no_track, opened, track_at}
+use Rattle.watch_machine.specs.State.{WatchState, no_track, opened, track_at}
 use Rattle.watch_machine.specs.Step.{Step, StepClock, StepLooked, StepRenewed, notes_looked, readied}
 use Rattle.watch_machine.specs.Wanted.{is_alive, need_of, wants}
 use Rattle.watch_machine.proofs.Cases.{if_both}
@@ -49,21 +49,21 @@ pressed_bears margin e need at x =
     if_both (λ y. Bears y x) (is_fresh margin e x need (sec at)) (record x { attempt = Some (press at false x) }) (if wants x need || x.out then x else record x { attempt = dropped x x.attempt }) refl
     (if_both (λ y. Bears y x) (wants x need || x.out) x (record x { attempt = dropped x x.attempt }) refl refl)
 
-asked_bears : (margin : ℕ) (e : Entry) (at : ℕ) (round : List ℕ) (i : ℕ) (x : Track) → Bears (asked_in margin e at round i x) x
+asked_bears : (margin : ℕ) (e : Entry) (at : ℕ) (round : List ℕ) (i : ℕ) (x : Track) → Bears (track_asked_in margin e at round i x) x
 unfolding asked_track
 asked_bears margin e at round i x =
     if_both (λ y. Bears y x) (list_any (λ j. j == i) round) (asked_track margin e at x) x
     (if_both (λ y. Bears y x) x.out x (record x { attempt = Some (press at (not (has_come margin e x (sec at))) x) }) refl refl) refl
 
 -- pressing and sending leave it
-pub mid_bears : (s : State) (round : List ℕ) (requests : List Request) (i : ℕ) → bearing (track_at (sent (pressed s round) requests) i) ≡ bearing (track_at s i)
+pub mid_bears : (s : WatchState) (round : List ℕ) (requests : List Request) (i : ℕ) → bearing (track_at (sent (pressed s round) requests) i) ≡ bearing (track_at s i)
 mid_bears s round requests i =
     let c = s.clocks in
     let g = s.forest in
     let alone = pressed_alone g c s.tracks in
     let mid = pressed s round in
     each_kept Bears refl (sent_in c.at requests) mid.tracks (λ j x. if_both (λ y. Bears y x) (list_any (λ (r : Request). r.entry == j) requests) (sent_track c.at x) x refl refl) i
-    ∙ each_kept Bears refl (λ j. asked_in g.margin (entry_at g.entries j) c.at round j) alone (λ j x. asked_bears g.margin (entry_at g.entries j) c.at round j x) i
+    ∙ each_kept Bears refl (λ j. track_asked_in g.margin (entry_at g.entries j) c.at round j) alone (λ j x. asked_bears g.margin (entry_at g.entries j) c.at round j x) i
     ∙ each_kept Bears refl (λ j. pressed_track g.margin (entry_at g.entries j) (need_of g.entries s.tracks c j) c.at) s.tracks
     (λ j x. pressed_bears g.margin (entry_at g.entries j) (need_of g.entries s.tracks c j) c.at x) i
 
@@ -97,7 +97,7 @@ some_of p (suc n) a h =
     (λ here. (a, (omega arith, here)))
     (λ there. (let rest = some_of p n (a + 1) there in let w = rest.1.0 in (rest.0, (omega (arith, w), rest.1.1))))
 
-opener : (s : State) (asked : List ℕ) (requests : List Request) → opens_some s.forest s.tracks s.clocks ≡ true → (i : ℕ) × IsOpener (sent (pressed s asked) requests) i
+opener : (s : WatchState) (asked : List ℕ) (requests : List Request) → opens_some s.forest s.tracks s.clocks ≡ true → (i : ℕ) × IsOpener (sent (pressed s asked) requests) i
 unfolding opens_some opens is_fresh
 opener s asked requests some' =
     let g = s.forest in
@@ -127,34 +127,34 @@ opener s asked requests some' =
     )
 
 round_opener :
-    (s : State) (round : Option (List ℕ)) (requests : List Request) (asked : List ℕ) → IsRound s.forest s.tracks s.clocks round → round ≡ Some asked → (i : ℕ) × IsOpener (sent (pressed s (asked_by round)) requests) i
+    (s : WatchState) (round : Option (List ℕ)) (requests : List Request) (asked : List ℕ) → IsRound s.forest s.tracks s.clocks round → round ≡ Some asked → (i : ℕ) × IsOpener (sent (pressed s (asked_by_round round)) requests) i
 round_opener s None requests asked h is = absurd cc
 round_opener s (Some these) requests asked h is = opener s these requests h.0
 
-clock_opener : (old new : State) (wall elapsed : ℕ) (output : Output) (asked : List ℕ) → StepClock old wall elapsed output new → output.notes.round ≡ Some asked → (i : ℕ) × IsOpener new i
+clock_opener : (old new : WatchState) (wall elapsed : ℕ) (output : Output) (asked : List ℕ) → StepClock old wall elapsed output new → output.notes.round ≡ Some asked → (i : ℕ) × IsOpener new i
 clock_opener old new wall elapsed output asked step is =
     let ready = readied old wall elapsed in
-    let go = sent_by (pressed ready (asked_by step.round)) new output.command step.command in
-    subst (λ (x : State). (i : ℕ) × IsOpener x i) (sym go.1) (round_opener ready step.round go.0 asked step.is_round (sym (ap (λ (x : Notes). x.round) step.notes) ∙ is))
+    let go = sent_by (pressed ready (asked_by_round step.round)) new output.command step.command in
+    subst (λ (x : WatchState). (i : ℕ) × IsOpener x i) (sym go.1) (round_opener ready step.round go.0 asked step.is_round (sym (ap (λ (x : Notes). x.round) step.notes) ∙ is))
 
 no_round : {X : Type 0} (output o : Output) (asked : List ℕ) → output ≡ o → o.notes.round ≡ None → output.notes.round ≡ Some asked → X
 no_round output o asked is none some = absurd (let e : Some asked ≡ None = sym some ∙ ap (λ (x : Output). x.notes.round) is ∙ none in cc)
 
-looked_none : (s : State) (q : Out) (reply : Reply) (terms : Terms) → (notes_looked s q reply terms).round ≡ None
+looked_none : (s : WatchState) (q : Out) (reply : Reply) (terms : Terms) → (notes_looked s q reply terms).round ≡ None
 looked_none s q (Told seconds renewable date) terms = refl
 looked_none s q (Refused status date) terms = refl
 looked_none s q Busy terms = refl
 looked_none s q Lost terms = refl
 
-looked_no : {X : Type 0} (old new : State) (found : Option Out) (reply : Reply) (terms : Terms) (output : Output) (asked : List ℕ) → StepLooked old found reply terms output new → output.notes.round ≡ Some asked → X
+looked_no : {X : Type 0} (old new : WatchState) (found : Option Out) (reply : Reply) (terms : Terms) (output : Output) (asked : List ℕ) → StepLooked old found reply terms output new → output.notes.round ≡ Some asked → X
 looked_no old new None reply terms output asked step is = absurd step
 looked_no old new (Some q) reply terms output asked step is = no_round output _ asked step.0 (looked_none (noted old q reply) q reply terms) is
 
-renewed_no : {X : Type 0} (old new : State) (found : Option Out) (reply : Reply) (output : Output) (asked : List ℕ) → StepRenewed old found reply output new → output.notes.round ≡ Some asked → X
+renewed_no : {X : Type 0} (old new : WatchState) (found : Option Out) (reply : Reply) (output : Output) (asked : List ℕ) → StepRenewed old found reply output new → output.notes.round ≡ Some asked → X
 renewed_no old new None reply output asked step is = absurd step
 renewed_no old new (Some q) reply output asked step is = no_round output _ asked step.0 refl is
 
-step_opener : (old new : State) (event : Event) (output : Output) (asked : List ℕ) → Step old event output new → output.notes.round ≡ Some asked → (i : ℕ) × IsOpener new i
+step_opener : (old new : WatchState) (event : Event) (output : Output) (asked : List ℕ) → Step old event output new → output.notes.round ≡ Some asked → (i : ℕ) × IsOpener new i
 step_opener old new (Clock wall elapsed) output asked step is = clock_opener old new wall elapsed output asked step is
 step_opener old new (Looked j reply terms) output asked step is = looked_no old new (request_out old.out j Look) reply terms output asked step is
 step_opener old new (Renewed j reply) output asked step is = renewed_no old new (request_out old.out j Renew) reply output asked step is
@@ -162,11 +162,11 @@ step_opener old new (Need j until) output asked step is = no_round output _ aske
 step_opener old new Begin output asked step is = no_round output _ asked step.0 refl is
 step_opener old new (Known j end renewable) output asked step is = no_round output _ asked step.0 refl is
 
-turn_opener : (old new : State) (event : Event) (result : Result Output WatchFault) (asked : List ℕ) → Turn old event result new → round_of result ≡ Some asked → (i : ℕ) × IsOpener new i
+turn_opener : (old new : WatchState) (event : Event) (result : Result Output WatchFault) (asked : List ℕ) → Turn old event result new → round_of result ≡ Some asked → (i : ℕ) × IsOpener new i
 turn_opener old new event (Ok output) asked turn is = step_opener old new event output asked turn.1 is
 turn_opener old new event (Err fault) asked turn is = absurd cc
 
-ran : (turns : List Turned) (old : State) → History old turns → RoundsOpened turns
+ran : (turns : List Turned) (old : WatchState) → History old turns → RoundsOpened turns
 ran [] old h = tt
 ran (turn ∷ turns) old h = ((λ asked is. turn_opener old turn.state turn.event turn.result asked h.0 is), ran turns turn.state h.1)
 

@@ -21,24 +21,24 @@ use Rattle.watch_machine.specs.declared.track.End.TheVariants.{Unknown, At, Neve
 use Rattle.watch_machine.specs.declared.track.Track.{Track}
 use Rattle.watch_machine.specs.Answers.{noted, replied}
 use Rattle.watch_machine.specs.Clocks.{ms}
-use Rattle.watch_machine.specs.History.{History, IsRun, Turn, Turned}
+use Rattle.watch_machine.specs.History.{History, IsWatchRun, Turn, Turned, after_all}
 use Rattle.watch_machine.specs.Lines.{rested}
 use Rattle.watch_machine.specs.Looked.{looked}
 use Rattle.watch_machine.specs.Margins.{is_in_plan, own_margin, time, time_before}
 use Rattle.watch_machine.specs.Press.{pressed}
 use Rattle.watch_machine.specs.Outlook.{time_of}
 use Rattle.watch_machine.specs.Refusal.{request_out}
-use Rattle.watch_machine.specs.Renewed.{renewed}
+use Rattle.watch_machine.specs.Renewed.{state_renewed}
 use Rattle.watch_machine.specs.Sending.{sent}
 use Rattle.watch_machine.specs.Settling.{is_busy, is_silent}
-use Rattle.watch_machine.specs.State.{State, attempt_at, entry_of, opened, second, track_at}
-use Rattle.watch_machine.specs.Step.{Step, StepLooked, StepRenewed, needed, readied}
+use Rattle.watch_machine.specs.State.{WatchState, attempt_at, entry_of, opened, second, track_at}
+use Rattle.watch_machine.specs.Step.{Step, StepLooked, StepRenewed, readied, with_need_until}
 use Rattle.watch_machine.specs.Wait.{wait}
 use Rattle.watch_machine.specs.Wanted.{believed, is_never, is_unknown, is_wanted, wanted_need, wants}
 use Rattle.watch_machine.proofs.Cases.{not_both}
-use Rattle.watch_laws.specs.Absence.{is_clock, is_taken}
-use Rattle.watch_laws.specs.Outage.{AllInTime, AreLived, GrantLaw, IsBefore, IsIncident, IsInTime, IsLived, IsReply, IsShort, Outage, OutageLaw, again, asked_at, coming, comes, granted_at, granted_by, granted_next, how_many, is_served, is_whole, next_after, next_after_command, next_by, settled_by, waiting}
-use Rattle.watch_laws.specs.Turns.{after_all}
+use Rattle.watch_machine.proofs.Leasts.{least_start}
+use Rattle.watch_laws.specs.Absence.{is_clock, is_event_taken}
+use Rattle.watch_laws.specs.Outage.{AllInTime, AreLived, GrantLaw, IsBefore, IsIncident, EndIsInTime, IsLived, IsReplyInOutage, IsShortOutage, Outage, OutageLaw, again, clock_asked_at, coming, comes, granted_at, granted_by, granted_next, how_many, is_request_served, is_request_whole, outage_next_after, outage_next_after_command, outage_next_by, outage_settled_by, waiting}
 use Rattle.watch_laws.proofs.Alone.{IsAlone}
 use Rattle.watch_laws.proofs.Answered.{IsReplied, goes_on_after, looked_replied, renewed_replied, replied_through}
 use Rattle.watch_laws.proofs.Clocking.{refused_stays}
@@ -48,28 +48,28 @@ use Rattle.watch_laws.proofs.Grounds.{opened_base, ran_base, turn_base}
 use Rattle.watch_laws.proofs.Lanes.{Sends, Ticks, served_marked, ticks, turn_sends}
 use Rattle.watch_laws.proofs.Lasting.{Asks, Same, clock_forest, same_time, turn_same}
 use Rattle.watch_laws.proofs.Retrying.{rises}
-use Rattle.watch_laws.proofs.Minding.{end_minded, least_start}
+use Rattle.watch_laws.proofs.Minding.{end_minded}
 use Rattle.watch_laws.proofs.Sparing.{readied_answers}
 use Rattle.watch_laws.proofs.Stages.{Facts, IsBase, IsGoing, IsPlanned, IsThrough, due_ahead, free_from, margin_holds, quick_if, turn_of}
 use Rattle.watch_laws.proofs.Ticking.{IsTick, any_gives, anew_none, before_time, clock_goes, early_cut, free_lanes, none_of, none_passes, not_so, not_whole, so_whole, ticks_through}
 use Rattle.watch_laws.proofs.Tracking.{replied_forest}
 
 -- what holds after a turn
-pub record Stays (f : Facts) (due k : ℕ) (s : State) : Type 0 where
+pub record Stays (f : Facts) (due k : ℕ) (s : WatchState) : Type 0 where
   pub going : IsGoing f due s
   pub through : IsThrough f due k s
 
 -- those that wait after a turn, where rest come to wait later
-abbrev After : Facts → State → ℕ → ℕ
+abbrev After : Facts → WatchState → ℕ → ℕ
 After f new rest = waiting f.o f.n new + rest
 
-abbrev Until : Facts → State → State → ℕ → ℕ
+abbrev Until : Facts → WatchState → WatchState → ℕ → ℕ
 Until f old new rest = waiting f.o f.n old + (how_many f.n (comes f.o old new) + rest)
 
 -- a clock
 clock_stays :
-    (f : Facts) (due rest : ℕ) (old new : State) (wall elapsed : ℕ) (output : Output) → IsPlanned f → Step old (Clock wall elapsed) output new → IsIncident f.o f.i due old (Clock wall elapsed) →
-    is_wanted new f.i ≡ true → IsBase f.width f.n new → Sends old new f.n → Same f.i old new → Stays f due (Until f old new rest) old → Stays f (next_after_command f.o output.command new due) (After f new rest) new
+    (f : Facts) (due rest : ℕ) (old new : WatchState) (wall elapsed : ℕ) (output : Output) → IsPlanned f → Step old (Clock wall elapsed) output new → IsIncident f.o f.i due old (Clock wall elapsed) →
+    is_wanted new f.i ≡ true → IsBase f.width f.n new → Sends old new f.n → Same f.i old new → Stays f due (Until f old new rest) old → Stays f (outage_next_after_command f.o output.command new due) (After f new rest) new
 clock_stays f due rest old new wall elapsed output planned step lived wanted base sends same h =
     let go = ticks old new wall elapsed output step in
     let ahead = due_ahead f due (Until f old new rest) old planned h.through in
@@ -86,37 +86,37 @@ clock_stays f due rest old new wall elapsed output planned step lived wanted bas
       ahead = ahead.0;
       by = ahead.1;
     } in
-    subst (λ c. Stays f (next_after_command f.o c new due) (After f new rest) new) (sym go.command)
+    subst (λ c. Stays f (outage_next_after_command f.o c new due) (After f new rest) new) (sym go.command)
     (record { going = clock_goes f due old new wall elapsed output t sends rest h.through; through = ticks_through f due old new wall elapsed output t sends rest h.through })
 
 -- an answer
-taken_due : (o : Outage) (new : State) (due : ℕ) (output out : Output) → output ≡ out → out.command ≡ Taken → next_after_command o output.command new due ≡ due
-taken_due o new due output out is taken' = ap (λ c. next_after_command o c new due) (ap (λ (x : Output). x.command) is ∙ taken')
+taken_due : (o : Outage) (new : WatchState) (due : ℕ) (output out : Output) → output ≡ out → out.command ≡ Taken → outage_next_after_command o output.command new due ≡ due
+taken_due o new due output out is taken' = ap (λ c. outage_next_after_command o c new due) (ap (λ (x : Output). x.command) is ∙ taken')
 
 replied_stays :
-    (f : Facts) (due rest : ℕ) (old mid new : State) (q : Out) (reply : Reply) → IsReplied f due old mid new q reply → Sends old new f.n → Stays f due (Until f old new rest) old → Stays f due (After f new rest) new
+    (f : Facts) (due rest : ℕ) (old mid new : WatchState) (q : Out) (reply : Reply) → IsReplied f due old mid new q reply → Sends old new f.n → Stays f due (Until f old new rest) old → Stays f due (After f new rest) new
 replied_stays f due rest old mid new q reply t sends h = record { going = goes_on_after f due old mid new q reply t; through = replied_through f due old mid new q reply t rest sends h.through }
 
 looked_stays :
-    (f : Facts) (due rest : ℕ) (old new : State) (j : ℕ) (found : Option Out) (reply : Reply) (terms : Terms) (output : Output) → request_out old.out j Look ≡ found → StepLooked old found reply terms output new →
-    IfSome found (IsReply f.o reply) → IsBase f.width f.n new → Sends old new f.n → Same f.i old new → Stays f due (Until f old new rest) old →
-    Stays f (next_after_command f.o output.command new due) (After f new rest) new
+    (f : Facts) (due rest : ℕ) (old new : WatchState) (j : ℕ) (found : Option Out) (reply : Reply) (terms : Terms) (output : Output) → request_out old.out j Look ≡ found → StepLooked old found reply terms output new →
+    IfSome found (IsReplyInOutage f.o reply) → IsBase f.width f.n new → Sends old new f.n → Same f.i old new → Stays f due (Until f old new rest) old →
+    Stays f (outage_next_after_command f.o output.command new due) (After f new rest) new
 looked_stays f due rest old new j None reply terms output is step lived base sends same h = absurd step
 looked_stays f due rest old new j (Some q) reply terms output is step lived base sends same h =
     subst (λ n. Stays f n (After f new rest) new) (sym (taken_due f.o new due output _ step.0 refl))
     (replied_stays f due rest old (looked (noted old q reply) q reply terms) new q reply (looked_replied f due old new j q reply terms output is step lived h.going base same) sends h)
 
 renewed_stays :
-    (f : Facts) (due rest : ℕ) (old new : State) (j : ℕ) (found : Option Out) (reply : Reply) (output : Output) → f.i < f.n → request_out old.out j Renew ≡ found → StepRenewed old found reply output new →
-    IfSome found (IsReply f.o reply) → (j ≡ f.i → reply ≡ Lost) → IsBase f.width f.n new → Sends old new f.n → Same f.i old new → Stays f due (Until f old new rest) old →
-    Stays f (next_after_command f.o output.command new due) (After f new rest) new
+    (f : Facts) (due rest : ℕ) (old new : WatchState) (j : ℕ) (found : Option Out) (reply : Reply) (output : Output) → f.i < f.n → request_out old.out j Renew ≡ found → StepRenewed old found reply output new →
+    IfSome found (IsReplyInOutage f.o reply) → (j ≡ f.i → reply ≡ Lost) → IsBase f.width f.n new → Sends old new f.n → Same f.i old new → Stays f due (Until f old new rest) old →
+    Stays f (outage_next_after_command f.o output.command new due) (After f new rest) new
 renewed_stays f due rest old new j None reply output low is step lived lost base sends same h = absurd step
 renewed_stays f due rest old new j (Some q) reply output low is step lived lost base sends same h =
     subst (λ n. Stays f n (After f new rest) new) (sym (taken_due f.o new due output _ step.0 refl))
-    (replied_stays f due rest old (renewed (noted old q reply) q reply) new q reply (renewed_replied f due old new j q reply output low is step lived lost h.going base same) sends h)
+    (replied_stays f due rest old (state_renewed (noted old q reply) q reply) new q reply (renewed_replied f due old new j q reply output low is step lived lost h.going base same) sends h)
 
 -- a forest that is written anew leaves all of it
-forest_endures : (o : Outage) (i end bound due : ℕ) (miss : Type 0) (s : State) (g : Forest) → Endures o i end bound due miss s → Endures o i end bound due miss (record s { forest = g })
+forest_endures : (o : Outage) (i end bound due : ℕ) (miss : Type 0) (s : WatchState) (g : Forest) → Endures o i end bound due miss s → Endures o i end bound due miss (record s { forest = g })
 unfolding Kept Missed
 forest_endures o i end bound due miss s g h = record {
   end_is = h.end_is;
@@ -129,7 +129,7 @@ forest_endures o i end bound due miss s g h = record {
 }
 
 -- and fewer may wait
-forest_through : (f : Facts) (due k m : ℕ) (s : State) (g : Forest) → m ≤ k → IsThrough f due k s → IsThrough f due m (record s { forest = g })
+forest_through : (f : Facts) (due k m : ℕ) (s : WatchState) (g : Forest) → m ≤ k → IsThrough f due k s → IsThrough f due m (record s { forest = g })
 forest_through f due k m s g less (inl (inl h)) = let count = h.count in inl (inl (record {
   endures = forest_endures f.o f.i f.end (ms f.time) due ⊥ s g h.endures;
   idle = h.idle;
@@ -188,11 +188,11 @@ forest_through f due k m s g less (inr (inr (inr h))) =
 
 -- a need
 forest_stays :
-    (f : Facts) (due rest : ℕ) (old new : State) (g : Forest) → new ≡ record old { forest = g } → IsBase f.width f.n new → Same f.i old new →
+    (f : Facts) (due rest : ℕ) (old new : WatchState) (g : Forest) → new ≡ record old { forest = g } → IsBase f.width f.n new → Same f.i old new →
     Stays f due (Until f old new rest) old → Stays f due (After f new rest) new
 forest_stays f due rest old new g is base same h =
     let go = h.going in
-    let clock = ap (λ (x : State). x.clocks.at) is in
+    let clock = ap (λ (x : WatchState). x.clocks.at) is in
     let ahead = go.ahead in
     let by = go.by in
     let waits' = ap (waiting f.o f.n) is in
@@ -204,9 +204,9 @@ forest_stays f due rest old new g is base same h =
         margin = same.margin ∙ go.margin;
         end_is = same.bears.0 ∙ go.end_is;
         asks = subst (Asks f.i) (sym is) go.asks;
-        timely = subst (λ (x : State). All (λ (q : Out). due ≤ settled_by f.o q.since + f.o.late) x.out) (sym is) go.timely;
-        calm = subst (λ (x : State). list_any (λ (a : Answer). is_busy a.reply) x.answers ≡ false) (sym is) go.calm;
-        free = subst (λ (x : State). x.presence.free ≤ ms f.time) (sym is) go.free;
+        timely = subst (λ (x : WatchState). All (λ (q : Out). due ≤ outage_settled_by f.o q.since + f.o.late) x.out) (sym is) go.timely;
+        calm = subst (λ (x : WatchState). list_any (λ (a : Answer). is_busy a.reply) x.answers ≡ false) (sym is) go.calm;
+        free = subst (λ (x : WatchState). x.presence.free ≤ ms f.time) (sym is) go.free;
         ahead = omega (arith, clock, ahead);
         by = omega (arith, clock, by);
       };
@@ -215,27 +215,27 @@ forest_stays f due rest old new g is base same h =
 
 -- a turn
 step_stays :
-    (f : Facts) (due rest : ℕ) (old new : State) (event : Event) (output : Output) → IsPlanned f → Step old event output new → IsIncident f.o f.i due old event → is_wanted new f.i ≡ true →
-    IsBase f.width f.n new → Sends old new f.n → Same f.i old new → Stays f due (Until f old new rest) old → Stays f (next_after_command f.o output.command new due) (After f new rest) new
+    (f : Facts) (due rest : ℕ) (old new : WatchState) (event : Event) (output : Output) → IsPlanned f → Step old event output new → IsIncident f.o f.i due old event → is_wanted new f.i ≡ true →
+    IsBase f.width f.n new → Sends old new f.n → Same f.i old new → Stays f due (Until f old new rest) old → Stays f (outage_next_after_command f.o output.command new due) (After f new rest) new
 step_stays f due rest old new (Clock wall elapsed) output planned step lived wanted base sends same h = clock_stays f due rest old new wall elapsed output planned step lived wanted base sends same h
 step_stays f due rest old new (Looked j reply terms) output planned step lived wanted base sends same h =
     looked_stays f due rest old new j (request_out old.out j Look) reply terms output refl step lived base sends same h
 step_stays f due rest old new (Renewed j reply) output planned step lived wanted base sends same h =
     renewed_stays f due rest old new j (request_out old.out j Renew) reply output planned.within refl step lived.0 lived.1 base sends same h
 step_stays f due rest old new (Need j until) output planned step lived wanted base sends same h =
-    subst (λ n. Stays f n (After f new rest) new) (sym (taken_due f.o new due output _ step.0 refl)) (forest_stays f due rest old new (needed old j until).forest step.1 base same h)
+    subst (λ n. Stays f n (After f new rest) new) (sym (taken_due f.o new due output _ step.0 refl)) (forest_stays f due rest old new (with_need_until old j until).forest step.1 base same h)
 step_stays f due rest old new Begin output planned step lived wanted base sends same h = absurd lived
 step_stays f due rest old new (Known j end renewable) output planned step lived wanted base sends same h = absurd lived
 
 turn_stays :
-    (f : Facts) (due rest : ℕ) (old new : State) (event : Event) (result : Result Output WatchFault) → IsPlanned f → Turn old event result new → IsLived f.o f.i due old event result → is_wanted new f.i ≡ true →
-    IsBase f.width f.n new → Sends old new f.n → Same f.i old new → Stays f due (Until f old new rest) old → Stays f (next_after f.o result new due) (After f new rest) new
+    (f : Facts) (due rest : ℕ) (old new : WatchState) (event : Event) (result : Result Output WatchFault) → IsPlanned f → Turn old event result new → IsLived f.o f.i due old event result → is_wanted new f.i ≡ true →
+    IsBase f.width f.n new → Sends old new f.n → Same f.i old new → Stays f due (Until f old new rest) old → Stays f (outage_next_after f.o result new due) (After f new rest) new
 turn_stays f due rest old new event (Ok output) planned turn lived wanted base sends same h = step_stays f due rest old new event output planned turn.1 lived wanted base sends same h
 turn_stays f due rest old new event (Err fault) planned turn lived wanted base sends same h =
     forest_stays f due rest old new old.forest (refused_stays old new event fault turn) base same h
 
 -- every turn is in time
-in_time : (f : Facts) (due k : ℕ) (s : State) → Stays f due k s → IsInTime f.o f.i s
+in_time : (f : Facts) (due k : ℕ) (s : WatchState) → Stays f due k s → EndIsInTime f.o f.i s
 in_time f due k s h =
     let end = ap believed h.going.end_is in
     let time = h.going.time in
@@ -246,7 +246,7 @@ in_time f due k s h =
     )
 
 along :
-    (f : Facts) → IsPlanned f → (turns : List Turned) (due : ℕ) (old : State) → History old turns → AreLived f.o f.i due old turns → Stays f due (waiting f.o f.n old + coming f.o f.n old turns) old →
+    (f : Facts) → IsPlanned f → (turns : List Turned) (due : ℕ) (old : WatchState) → History old turns → AreLived f.o f.i due old turns → Stays f due (waiting f.o f.n old + coming f.o f.n old turns) old →
     AllInTime f.o f.i turns
 along f planned [] due old history lived h = tt
 along f planned (turn ∷ turns) due old history lived h =
@@ -255,47 +255,47 @@ along f planned (turn ∷ turns) due old history lived h =
     let sends = turn_sends old turn.state turn.event turn.result f.n (omega (arith, count)) history.0 in
     let same = turn_same f.o f.i due old turn.state turn.event turn.result history.0 lived.0 h.going.asks in
     let here = turn_stays f due (coming f.o f.n turn.state turns) old turn.state turn.event turn.result planned history.0 lived.0 lived.1.0 base sends same h in (
-      in_time f (next_after f.o turn.result turn.state due) (After f turn.state (coming f.o f.n turn.state turns)) turn.state here,
-      along f planned turns (next_after f.o turn.result turn.state due) turn.state history.1 lived.1.1 here,
+      in_time f (outage_next_after f.o turn.result turn.state due) (After f turn.state (coming f.o f.n turn.state turns)) turn.state here,
+      along f planned turns (outage_next_after f.o turn.result turn.state due) turn.state history.1 lived.1.1 here,
     )
 
 -- no turn changes how many entries there are, nor the margin
-abbrev Shape : State → State → Type 0
+abbrev Shape : WatchState → WatchState → Type 0
 Shape new old = (length new.forest.entries ≡ length old.forest.entries) × (new.forest.margin ≡ old.forest.margin)
 
-looked_shape : (s : State) (q : Out) (reply : Reply) (terms : Terms) → Shape (looked s q reply terms) s
+looked_shape : (s : WatchState) (q : Out) (reply : Reply) (terms : Terms) → Shape (looked s q reply terms) s
 looked_shape s q (Told seconds renewable date) terms = (length-set s.forest.entries q.entry _, refl)
 looked_shape s q (Refused status date) terms = (refl, refl)
 looked_shape s q Busy terms = (refl, refl)
 looked_shape s q Lost terms = (refl, refl)
 
-forest_shape : (new mid old : State) → new.forest ≡ mid.forest → Shape mid old → Shape new old
+forest_shape : (new mid old : WatchState) → new.forest ≡ mid.forest → Shape mid old → Shape new old
 forest_shape new mid old is h = (ap (λ (g : Forest). length g.entries) is ∙ h.0, ap (λ (g : Forest). g.margin) is ∙ h.1)
 
-answer_shape : (old mid new : State) (q : Out) (reply : Reply) → new ≡ replied mid q reply → Shape mid old → Shape new old
-answer_shape old mid new q reply is h = forest_shape new mid old (ap (λ (x : State). x.forest) is ∙ replied_forest mid q reply) h
+answer_shape : (old mid new : WatchState) (q : Out) (reply : Reply) → new ≡ replied mid q reply → Shape mid old → Shape new old
+answer_shape old mid new q reply is h = forest_shape new mid old (ap (λ (x : WatchState). x.forest) is ∙ replied_forest mid q reply) h
 
-looked_shapes : (old new : State) (found : Option Out) (reply : Reply) (terms : Terms) (output : Output) → StepLooked old found reply terms output new → Shape new old
+looked_shapes : (old new : WatchState) (found : Option Out) (reply : Reply) (terms : Terms) (output : Output) → StepLooked old found reply terms output new → Shape new old
 looked_shapes old new None reply terms output step = absurd step
 looked_shapes old new (Some q) reply terms output step = answer_shape old (looked (noted old q reply) q reply terms) new q reply step.1 (looked_shape (noted old q reply) q reply terms)
 
-renewed_shapes : (old new : State) (found : Option Out) (reply : Reply) (output : Output) → StepRenewed old found reply output new → Shape new old
+renewed_shapes : (old new : WatchState) (found : Option Out) (reply : Reply) (output : Output) → StepRenewed old found reply output new → Shape new old
 renewed_shapes old new None reply output step = absurd step
-renewed_shapes old new (Some q) reply output step = answer_shape old (renewed (noted old q reply) q reply) new q reply step.1 (refl, refl)
+renewed_shapes old new (Some q) reply output step = answer_shape old (state_renewed (noted old q reply) q reply) new q reply step.1 (refl, refl)
 
-step_shape : (old new : State) (event : Event) (output : Output) → Step old event output new → Shape new old
+step_shape : (old new : WatchState) (event : Event) (output : Output) → Step old event output new → Shape new old
 step_shape old new (Clock wall elapsed) output step = forest_shape new old old (clock_forest old new wall elapsed output (ticks old new wall elapsed output step)) (refl, refl)
 step_shape old new (Looked j reply terms) output step = looked_shapes old new (request_out old.out j Look) reply terms output step
 step_shape old new (Renewed j reply) output step = renewed_shapes old new (request_out old.out j Renew) reply output step
-step_shape old new (Need j until) output step = forest_shape new (needed old j until) old (ap (λ (x : State). x.forest) step.1) (length-set old.forest.entries j _, refl)
-step_shape old new Begin output step = forest_shape new old old (ap (λ (x : State). x.forest) step.1) (refl, refl)
-step_shape old new (Known j end renewable) output step = forest_shape new old old (ap (λ (x : State). x.forest) step.1) (refl, refl)
+step_shape old new (Need j until) output step = forest_shape new (with_need_until old j until) old (ap (λ (x : WatchState). x.forest) step.1) (length-set old.forest.entries j _, refl)
+step_shape old new Begin output step = forest_shape new old old (ap (λ (x : WatchState). x.forest) step.1) (refl, refl)
+step_shape old new (Known j end renewable) output step = forest_shape new old old (ap (λ (x : WatchState). x.forest) step.1) (refl, refl)
 
-turn_shape : (old new : State) (event : Event) (result : Result Output WatchFault) → Turn old event result new → Shape new old
+turn_shape : (old new : WatchState) (event : Event) (result : Result Output WatchFault) → Turn old event result new → Shape new old
 turn_shape old new event (Ok output) turn = step_shape old new event output turn.1
-turn_shape old new event (Err fault) turn = forest_shape new old old (ap (λ (x : State). x.forest) (refused_stays old new event fault turn)) (refl, refl)
+turn_shape old new event (Err fault) turn = forest_shape new old old (ap (λ (x : WatchState). x.forest) (refused_stays old new event fault turn)) (refl, refl)
 
-ran_shape : (turns : List Turned) (old : State) → History old turns → Shape (after_all old turns) old
+ran_shape : (turns : List Turned) (old : WatchState) → History old turns → Shape (after_all old turns) old
 ran_shape [] old h = (refl, refl)
 ran_shape (turn ∷ turns) old h =
     let here = turn_shape old turn.state turn.event turn.result h.0 in
@@ -303,23 +303,23 @@ ran_shape (turn ∷ turns) old h =
     (rest.0 ∙ here.0, rest.1 ∙ here.1)
 
 -- the first turns, and the others
-pub first_turns : (xs ys : List Turned) (old : State) → History old (xs ++ ys) → History old xs
+pub first_turns : (xs ys : List Turned) (old : WatchState) → History old (xs ++ ys) → History old xs
 first_turns [] ys old h = tt
 first_turns (x ∷ xs) ys old h = (h.0, first_turns xs ys x.state h.1)
 
-pub last_turns : (xs ys : List Turned) (old : State) → History old (xs ++ ys) → History (after_all old xs) ys
+pub last_turns : (xs ys : List Turned) (old : WatchState) → History old (xs ++ ys) → History (after_all old xs) ys
 last_turns [] ys old h = h
 last_turns (x ∷ xs) ys old h = last_turns xs ys x.state h.1
 
 -- the clock from which on it is lived
-pub record Starts (o : Outage) (old : State) (last : Turned) : Type 0 where
+pub record Starts (o : Outage) (old : WatchState) (last : Turned) : Type 0 where
   pub wall : ℕ
   pub elapsed : ℕ
   pub output : Output
   pub ticks' : Ticks old last.state wall elapsed output
-  pub due : next_after o last.result last.state 0 ≡ next_by o (wait last.state) last.state.out
+  pub due : outage_next_after o last.result last.state 0 ≡ outage_next_by o (wait last.state) last.state.out
 
-pub starts : (o : Outage) (old : State) (last : Turned) (event : Event) (result : Result Output WatchFault) → last.result ≡ result → Turn old event result last.state → is_clock event ≡ true → is_taken result ≡ true → Starts o old last
+pub starts : (o : Outage) (old : WatchState) (last : Turned) (event : Event) (result : Result Output WatchFault) → last.result ≡ result → Turn old event result last.state → is_clock event ≡ true → is_event_taken result ≡ true → Starts o old last
 starts o old last (Clock wall elapsed) (Ok output) same turn clock taken' =
     let go = ticks old last.state wall elapsed output turn.1 in
     record {
@@ -327,7 +327,7 @@ starts o old last (Clock wall elapsed) (Ok output) same turn clock taken' =
       elapsed = elapsed;
       output = output;
       ticks' = go;
-      due = ap (λ r. next_after o r last.state 0) same ∙ ap (λ c. next_after_command o c last.state 0) go.command;
+      due = ap (λ r. outage_next_after o r last.state 0) same ∙ ap (λ c. outage_next_after_command o c last.state 0) go.command;
     }
 starts o old last (Looked j reply terms) (Ok output) same turn clock taken' = absurd (true≢false (sym clock))
 starts o old last (Renewed j reply) (Ok output) same turn clock taken' = absurd (true≢false (sym clock))
@@ -347,21 +347,21 @@ end_known Never margin n x need is wanted h =
     let lasts = (and_parts (not (is_never x.end)) (nat_lt (believed x.end) need) ends).0 in
     absurd (not_both lasts (ap (λ e. not (is_never e)) is))
 
-plan_margin : (s : State) (i : ℕ) → is_in_plan s.forest.margin (entry_of s i) (track_at s i) ≡ true → own_margin s.forest.margin (entry_of s i) (track_at s i) ≡ s.forest.margin
+plan_margin : (s : WatchState) (i : ℕ) → is_in_plan s.forest.margin (entry_of s i) (track_at s i) ≡ true → own_margin s.forest.margin (entry_of s i) (track_at s i) ≡ s.forest.margin
 unfolding is_in_plan
 plan_margin s i h = eqb-true (own_margin s.forest.margin (entry_of s i) (track_at s i)) s.forest.margin h
 
-time_is : (s : State) (i : ℕ) → is_in_plan s.forest.margin (entry_of s i) (track_at s i) ≡ true → time_of s i ≡ time_before (track_at s i).end s.forest.margin
+time_is : (s : WatchState) (i : ℕ) → is_in_plan s.forest.margin (entry_of s i) (track_at s i) ≡ true → time_of s i ≡ time_before (track_at s i).end s.forest.margin
 unfolding time
 time_is s i h = ap (time_before (track_at s i).end) (plan_margin s i h)
 
 -- all facts, and the first stage
-record First (o : Outage) (n width margin : ℕ) (s : State) (i : ℕ) : Type 0 where
+record First (o : Outage) (n width margin : ℕ) (s : WatchState) (i : ℕ) : Type 0 where
   end : ℕ
   end_is : (track_at s i).end ≡ At end
   sum : end ≡ time_of s i + margin
 
-first_end : (o : Outage) (n width margin : ℕ) (s : State) (i : ℕ) → IsBefore s i → s.forest.margin ≡ margin → First o n width margin s i
+first_end : (o : Outage) (n width margin : ℕ) (s : WatchState) (i : ℕ) → IsBefore s i → s.forest.margin ≡ margin → First o n width margin s i
 first_end o n width margin s i b same =
     let t = time_is s i b.in_plan in
     let ahead = b.ahead in
@@ -370,7 +370,7 @@ first_end o n width margin s i b same =
     record { end = k.0; end_is = k.1.0; sum = omega (arith, sum, t, same) }
 
 first_endures :
-    (o : Outage) (i end bound due : ℕ) (miss : Type 0) (s : State) → (track_at s i).end ≡ At end → (track_at s i).owes ≡ false → rested (track_at s i).last ≤ bound → attempt_at s i ≡ None → (track_at s i).out ≡ false →
+    (o : Outage) (i end bound due : ℕ) (miss : Type 0) (s : WatchState) → (track_at s i).end ≡ At end → (track_at s i).owes ≡ false → rested (track_at s i).last ≤ bound → attempt_at s i ≡ None → (track_at s i).out ≡ false →
     IsAlone s → (list_any is_silent s.answers ≡ true → s.presence.away ≡ true → ⊥) → Endures o i end bound due miss s
 first_endures o i end bound due miss s end_is owes last idle free alone quiet = record {
   end_is = end_is;
@@ -383,7 +383,7 @@ first_endures o i end bound due miss s end_is owes last idle free alone quiet = 
 }
 
 -- who is idle is not out
-idle_free : (width n : ℕ) (s : State) (i : ℕ) → IsBase width n s → attempt_at s i ≡ None → (track_at s i).out ≡ false
+idle_free : (width n : ℕ) (s : WatchState) (i : ℕ) → IsBase width n s → attempt_at s i ≡ None → (track_at s i).out ≡ false
 idle_free width n s i base idle =
     elim (cases_Bool (track_at s i).out) as (λ _. (track_at s i).out ≡ false) [
       | inl out ↦ absurd (true≢false (sym ((base.tries i).out out) ∙ ap is_some idle))
@@ -391,17 +391,17 @@ idle_free width n s i base idle =
     ]
 
 -- all that is out is whole, and the next clock comes soon; or the outage has begun; or it is over, and what it cut is settled soon
-abbrev Begins : Facts → ℕ → State → Type 0
+abbrev Begins : Facts → ℕ → WatchState → Type 0
 Begins f due s =
-    (All (λ (q : Out). is_whole f.o q.since ≡ true) s.out × (due ≤ ms f.time + turn_of f.o))
+    (All (λ (q : Out). is_request_whole f.o q.since ≡ true) s.out × (due ≤ ms f.time + turn_of f.o))
     ⊎ (((s.clocks.at < f.o.until) × ((f.o.from < s.clocks.at + f.o.quick) × (due ≤ free_from f + f.o.late))) ⊎ ((f.o.until ≤ s.clocks.at) × (due ≤ cut f.o)))
 
-abbrev facts_of : Outage → ℕ → ℕ → ℕ → ℕ → State → Facts
+abbrev facts_of : Outage → ℕ → ℕ → ℕ → ℕ → WatchState → Facts
 facts_of o i n width end s = record { o = o; i = i; n = n; width = width; margin = s.forest.margin; time = time_of s i; end = end }
 
 first_stays :
-    (o : Outage) (width n : ℕ) (s : State) (i due k end : ℕ) → IsPlanned (facts_of o i n width end s) → IsBase width n s → length s.forest.entries ≡ n → IsBefore s i → (track_at s i).end ≡ At end →
-    list_any (λ (a : Answer). is_busy a.reply) s.answers ≡ false → (list_any is_silent s.answers ≡ true → s.presence.away ≡ true → ⊥) → All (λ (q : Out). due ≤ settled_by o q.since + o.late) s.out →
+    (o : Outage) (width n : ℕ) (s : WatchState) (i due k end : ℕ) → IsPlanned (facts_of o i n width end s) → IsBase width n s → length s.forest.entries ≡ n → IsBefore s i → (track_at s i).end ≡ At end →
+    list_any (λ (a : Answer). is_busy a.reply) s.answers ≡ false → (list_any is_silent s.answers ≡ true → s.presence.away ≡ true → ⊥) → All (λ (q : Out). due ≤ outage_settled_by o q.since + o.late) s.out →
     k ≤ width * o.rounds → Begins (facts_of o i n width end s) due s → Stays (facts_of o i n width end s) due k s
 first_stays o width n s i due k end planned base entries b end_is calm quiet timely few begins =
     let f : Facts = facts_of o i n width end s in
@@ -467,7 +467,7 @@ first_stays o width n s i due k end planned base entries b end_is calm quiet tim
                   let zero' = anew_none o o.until n s now early in
                   inl (inr (record {
                     endures = first_endures o i end (free_from f) due Unit s end_is b.owes (omega (arith, rest, reach)) b.idle free base.alone quiet;
-                    unserved = elim (cases_Bool (is_served o s i)) as (λ _. is_served o s i ≡ false) [
+                    unserved = elim (cases_Bool (is_request_served o s i)) as (λ _. is_request_served o s i ≡ false) [
                       | inl served ↦ absurd (not_both (served_marked o s i base.alone served) free)
                       | inr no' ↦ no'
                     ];
@@ -483,33 +483,33 @@ first_stays o width n s i due k end planned base entries b end_is calm quiet tim
 
 -- all that is out is whole, or the outage has begun; and where it is over, what it cut is settled soon
 whole_or_broke :
-    (o : Outage) (s : State) (due : ℕ) → All (λ (q : Out). q.since ≤ s.clocks.at) s.out → All (λ (q : Out). due ≤ settled_by o q.since + o.late) s.out →
-    All (λ (q : Out). is_whole o q.since ≡ true) s.out ⊎ (((s.clocks.at < o.until) × (o.from < s.clocks.at + o.quick)) ⊎ ((o.until ≤ s.clocks.at) × (due ≤ cut o)))
+    (o : Outage) (s : WatchState) (due : ℕ) → All (λ (q : Out). q.since ≤ s.clocks.at) s.out → All (λ (q : Out). due ≤ outage_settled_by o q.since + o.late) s.out →
+    All (λ (q : Out). is_request_whole o q.since ≡ true) s.out ⊎ (((s.clocks.at < o.until) × (o.from < s.clocks.at + o.quick)) ⊎ ((o.until ≤ s.clocks.at) × (due ≤ cut o)))
 whole_or_broke o s due now timely =
     let at = s.clocks.at in
-    elim (cases_Bool (list_any (λ (q : Out). not (is_whole o q.since)) s.out))
-    as (λ _. All (λ (q : Out). is_whole o q.since ≡ true) s.out ⊎ (((at < o.until) × (o.from < at + o.quick)) ⊎ ((o.until ≤ at) × (due ≤ cut o)))) [
+    elim (cases_Bool (list_any (λ (q : Out). not (is_request_whole o q.since)) s.out))
+    as (λ _. All (λ (q : Out). is_request_whole o q.since ≡ true) s.out ⊎ (((at < o.until) × (o.from < at + o.quick)) ⊎ ((o.until ≤ at) × (due ≤ cut o)))) [
       | inr all_whole ↦
-          inl (All-weaker (λ (q : Out). not (is_whole o q.since) ≡ false) (λ (q : Out). is_whole o q.since ≡ true) (λ q h. so_whole (is_whole o q.since) h) s.out
-          (none_passes (λ (q : Out). not (is_whole o q.since)) s.out all_whole))
+          inl (All-weaker (λ (q : Out). not (is_request_whole o q.since) ≡ false) (λ (q : Out). is_request_whole o q.since ≡ true) (λ q h. so_whole (is_request_whole o q.since) h) s.out
+          (none_passes (λ (q : Out). not (is_request_whole o q.since)) s.out all_whole))
       | inl broke ↦
-          elim (cases_lt at o.until) as (λ _. All (λ (q : Out). is_whole o q.since ≡ true) s.out ⊎ (((at < o.until) × (o.from < at + o.quick)) ⊎ ((o.until ≤ at) × (due ≤ cut o)))) [
+          elim (cases_lt at o.until) as (λ _. All (λ (q : Out). is_request_whole o q.since ≡ true) s.out ⊎ (((at < o.until) × (o.from < at + o.quick)) ⊎ ((o.until ≤ at) × (due ≤ cut o)))) [
             | inl early ↦
                 let late : o.from < at + o.quick =
-                any_gives (o.from < at + o.quick) (λ (q : Out). not (is_whole o q.since)) s.out broke
+                any_gives (o.from < at + o.quick) (λ (q : Out). not (is_request_whole o q.since)) s.out broke
                 (λ j d below no'.
                 let q = get_or s.out j d in
-                let h = not_whole o q.since (not_so (is_whole o q.since) no') in
+                let h = not_whole o q.since (not_so (is_request_whole o q.since) no') in
                 let l = h.0 in
                 let le = now j d below in
                 omega (arith, l, le)) in
                 inr (inl (early, late))
             | inr over ↦
                 let soon : due ≤ cut o =
-                any_gives (due ≤ cut o) (λ (q : Out). not (is_whole o q.since)) s.out broke
+                any_gives (due ≤ cut o) (λ (q : Out). not (is_request_whole o q.since)) s.out broke
                 (λ j d below no'.
                 let q = get_or s.out j d in
-                let c = cut_off o q.since (not_so (is_whole o q.since) no') in
+                let c = cut_off o q.since (not_so (is_request_whole o q.since) no') in
                 let l = timely j d below in
                 omega (arith, c, l)) in
                 inr (inr (over, soon))
@@ -517,27 +517,27 @@ whole_or_broke o s due now timely =
     ]
 
 -- until then is waited at most
-waits_for : (old s : State) (wall elapsed : ℕ) (output : Output) (i : ℕ) → Ticks old s wall elapsed output → i < length s.forest.entries → is_wanted s i ≡ true → attempt_at s i ≡ None → (track_at s i).out ≡ false → wait s ≤ ms (time_of s i)
+waits_for : (old s : WatchState) (wall elapsed : ℕ) (output : Output) (i : ℕ) → Ticks old s wall elapsed output → i < length s.forest.entries → is_wanted s i ≡ true → attempt_at s i ≡ None → (track_at s i).out ≡ false → wait s ≤ ms (time_of s i)
 waits_for old s wall elapsed output i h within wanted idle free =
     let ready' = readied old wall elapsed in
     let end = sent (pressed ready' h.round) h.requests in
     let is = h.new_is in
-    subst (λ (x : State). wait x ≤ ms (time_of x i)) (sym is)
-    (elim (end_minded ready' h.round h.requests i h.going (subst (λ (x : State). i < length x.forest.entries) is within) (subst (λ (x : State). is_wanted x i ≡ true) is wanted)) as (λ _. wait end ≤ ms (time_of end i)) [
-      | inl out ↦ absurd (not_both out (subst (λ (x : State). (track_at x i).out ≡ false) is free))
+    subst (λ (x : WatchState). wait x ≤ ms (time_of x i)) (sym is)
+    (elim (end_minded ready' h.round h.requests i h.going (subst (λ (x : WatchState). i < length x.forest.entries) is within) (subst (λ (x : WatchState). is_wanted x i ≡ true) is wanted)) as (λ _. wait end ≤ ms (time_of end i)) [
+      | inl out ↦ absurd (not_both out (subst (λ (x : WatchState). (track_at x i).out ≡ false) is free))
       | inr minded ↦
           elim minded as (λ _. wait end ≤ ms (time_of end i)) [
-            | inl pressed' ↦ absurd (let bad : None ≡ Some pressed'.has.attempt = sym (subst (λ (x : State). attempt_at x i ≡ None) is idle) ∙ pressed'.has.attempt_is in cc)
+            | inl pressed' ↦ absurd (let bad : None ≡ Some pressed'.has.attempt = sym (subst (λ (x : WatchState). attempt_at x i ≡ None) is idle) ∙ pressed'.has.attempt_is in cc)
             | inr ahead ↦ ahead.heeded
           ]
     ])
 
 -- what follows whatever the turn is from which on it is lived
 from_there :
-    (o : Outage) (g : Forest) (width : ℕ) (before : List Turned) (last : Turned) (turns : List Turned) (i due : ℕ) → 0 < width → IsRun g width (before ++ last ∷ turns) → IsBefore last.state i →
-    AreLived o i due last.state turns → waiting o (length g.entries) last.state + coming o (length g.entries) last.state turns ≤ width * o.rounds → o.from ≤ o.until → IsShort o g.margin →
+    (o : Outage) (g : Forest) (width : ℕ) (before : List Turned) (last : Turned) (turns : List Turned) (i due : ℕ) → 0 < width → IsWatchRun g width (before ++ last ∷ turns) → IsBefore last.state i →
+    AreLived o i due last.state turns → waiting o (length g.entries) last.state + coming o (length g.entries) last.state turns ≤ width * o.rounds → o.from ≤ o.until → IsShortOutage o g.margin →
     list_any (λ (a : Answer). is_busy a.reply) last.state.answers ≡ false → (list_any is_silent last.state.answers ≡ true → last.state.presence.away ≡ true → ⊥) →
-    All (λ (q : Out). due ≤ settled_by o q.since + o.late) last.state.out → ((f : Facts) → f.o ≡ o → f.time ≡ time_of last.state i → IsBase width (length g.entries) last.state → Begins f due last.state) → AllInTime o i turns
+    All (λ (q : Out). due ≤ outage_settled_by o q.since + o.late) last.state.out → ((f : Facts) → f.o ≡ o → f.time ≡ time_of last.state i → IsBase width (length g.entries) last.state → Begins f due last.state) → AllInTime o i turns
 from_there o g width before last turns i due wide run b lived few order short calm quiet timely begins =
     let n = length g.entries in
     let old = after_all (opened g width) before in
@@ -552,7 +552,7 @@ from_there o g width before last turns i due wide run b lived few order short ca
     let e = first_end o n width s.forest.margin s i b refl in
     let f : Facts = facts_of o i n width e.end s in
     let low = b.within in
-    let planned : IsPlanned f = record { wide = wide; within = omega (arith, low, entries); order = order; short = subst (IsShort o) (sym margin) short; end_is = e.sum } in
+    let planned : IsPlanned f = record { wide = wide; within = omega (arith, low, entries); order = order; short = subst (IsShortOutage o) (sym margin) short; end_is = e.sum } in
     let stays = first_stays o width n s i due (waiting o n s + coming o n s turns) e.end planned base entries b e.end_is calm quiet timely few (begins f refl refl base) in
     along f planned turns due s history.1 lived stays
 
@@ -562,15 +562,15 @@ outlives o g width before last turns i wide run clock taken' b lived few order s
     let history = last_turns before (last ∷ turns) (opened g width) run in
     let s = last.state in
     let start = starts o old last last.event last.result refl history.0 clock taken' in
-    let answers : s.answers ≡ [] = ap (λ (x : State). x.answers) start.ticks'.new_is ∙ readied_answers old start.wall start.elapsed in
-    let due = next_by o (wait s) s.out in
-    let timely = least_all (λ (q : Out). settled_by o q.since + o.late) (wait s + o.late) s.out in
+    let answers : s.answers ≡ [] = ap (λ (x : WatchState). x.answers) start.ticks'.new_is ∙ readied_answers old start.wall start.elapsed in
+    let due = outage_next_by o (wait s) s.out in
+    let timely = least_all (λ (q : Out). outage_settled_by o q.since + o.late) (wait s + o.late) s.out in
     from_there o g width before last turns i due wide run b (subst (λ d. AreLived o i d s turns) start.due lived) few order short (ap (list_any (λ (a : Answer). is_busy a.reply)) answers)
     (λ any away. absurd (not_both any (ap (list_any is_silent) answers))) timely
     (λ f same time base.
     let free = idle_free width (length g.entries) s i base b.idle in
     let until = waits_for old s start.wall start.elapsed start.output i start.ticks' b.within b.wanted b.idle free in
-    let least' = least_start (wait s + o.late) (map (λ (q : Out). settled_by o q.since + o.late) s.out) in
+    let least' = least_start (wait s + o.late) (map (λ (q : Out). outage_settled_by o q.since + o.late) s.out) in
     let late = ap (λ (x : Outage). x.late) same in
     let quick = ap (λ (x : Outage). x.quick) same in
     let soon : due ≤ ms f.time + f.o.late = omega (arith, until, least', late, time) in
@@ -578,7 +578,7 @@ outlives o g width before last turns i wide run clock taken' b lived few order s
     let until' = ap (λ (x : Outage). x.until) same in
     let ends : cut f.o ≡ cut o = ap cut same in
     elim (whole_or_broke o s due base.since timely) as (λ _. Begins f due s) [
-      | inl whole ↦ inl (subst (λ (x : Outage). All (λ (q : Out). is_whole x q.since ≡ true) s.out) (sym same) whole, omega (arith, soon))
+      | inl whole ↦ inl (subst (λ (x : Outage). All (λ (q : Out). is_request_whole x q.since ≡ true) s.out) (sym same) whole, omega (arith, soon))
       | inr begun' ↦
           elim begun' as (λ _. Begins f due s) [
             | inl broke ↦
@@ -593,14 +593,14 @@ outlives o g width before last turns i wide run clock taken' b lived few order s
     ])
 
 -- a grant shows that the broker is there
-grant_there : (old new : State) (event : Event) (result : Result Output WatchFault) (i seconds : ℕ) (renewable : Bool) (date : Option ℕ) → Turn old event result new → is_taken result ≡ true → event ≡ Renewed i (Told seconds renewable date) → new.presence.away ≡ false
+grant_there : (old new : WatchState) (event : Event) (result : Result Output WatchFault) (i seconds : ℕ) (renewable : Bool) (date : Option ℕ) → Turn old event result new → is_event_taken result ≡ true → event ≡ Renewed i (Told seconds renewable date) → new.presence.away ≡ false
 grant_there old new event (Ok output) i seconds renewable date turn taken' told = by (request_out old.out i Renew) (subst (λ e. Step old e output new) told turn.1) where
   by : (found : Option Out) → StepRenewed old found (Told seconds renewable date) output new → new.presence.away ≡ false
   by None step = absurd step
-  by (Some q) step = ap (λ (x : State). x.presence.away) step.1 ∙ real_away (renewed (noted old q (Told seconds renewable date)) q (Told seconds renewable date)) q (Told seconds renewable date) refl
+  by (Some q) step = ap (λ (x : WatchState). x.presence.away) step.1 ∙ real_away (state_renewed (noted old q (Told seconds renewable date)) q (Told seconds renewable date)) q (Told seconds renewable date) refl
 grant_there old new event (Err fault) i seconds renewable date turn taken' told = absurd (true≢false (sym taken'))
 
-asked_before : (last : Option ℕ) (at : ℕ) → rested last ≤ at + 1000 → asked_at last ≤ at
+asked_before : (last : Option ℕ) (at : ℕ) → rested last ≤ at + 1000 → clock_asked_at last ≤ at
 asked_before None at h = omega arith
 asked_before (Some n) at h = omega (arith, h)
 
@@ -613,10 +613,10 @@ outlives_again o g width before grant turns i wide run b lived few order short =
     let there = grant_there old s grant.event grant.result i b.seconds b.renewable b.date history.0 b.taken b.told in
     let asked = granted_at s i in
     let due = granted_next o s i in
-    let timely = least_all (λ (q : Out). settled_by o q.since + o.late) (settled_by o asked + o.late) s.out in
+    let timely = least_all (λ (q : Out). outage_settled_by o q.since + o.late) (outage_settled_by o asked + o.late) s.out in
     from_there o g width before grant turns i due wide run b.before lived few order short b.calm (λ any away. absurd (not_both away there)) timely
     (λ f same time base.
-    let least' = least_start (settled_by o asked + o.late) (map (λ (q : Out). settled_by o q.since + o.late) s.out) in
+    let least' = least_start (outage_settled_by o asked + o.late) (map (λ (q : Out). outage_settled_by o q.since + o.late) s.out) in
     let early = asked_before (track_at s i).last at (base.past.last i) in
     let ahead = before_time s i (time_of s i) refl b.before.ahead in
     let late = ap (λ (x : Outage). x.late) same in
@@ -625,12 +625,12 @@ outlives_again o g width before grant turns i wide run b lived few order short =
     let until' = ap (λ (x : Outage). x.until) same in
     let reach : again f.end (cut f.o) ≤ free_from f = omega arith in
     let ends : cut f.o ≡ cut o = ap cut same in
-    elim (cases_Bool (is_whole o asked)) as (λ _. Begins f due s) [
+    elim (cases_Bool (is_request_whole o asked)) as (λ _. Begins f due s) [
       | inl whole ↦
           let e = quick_if o asked whole in
           let soon : due ≤ at + turn_of o = omega (arith, least', e, early) in
           elim (whole_or_broke o s due base.since timely) as (λ _. Begins f due s) [
-            | inl all ↦ inl (subst (λ (x : Outage). All (λ (q : Out). is_whole x q.since ≡ true) s.out) (sym same) all, omega (arith, soon, ahead, late, quick, time))
+            | inl all ↦ inl (subst (λ (x : Outage). All (λ (q : Out). is_request_whole x q.since ≡ true) s.out) (sym same) all, omega (arith, soon, ahead, late, quick, time))
             | inr begun' ↦
                 elim begun' as (λ _. Begins f due s) [
                   | inl broke ↦

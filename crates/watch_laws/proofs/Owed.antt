@@ -21,25 +21,25 @@ use Rattle.watch_machine.specs.declared.notes.Why.{Why}
 use Rattle.watch_machine.specs.declared.track.Track.{Track}
 use Rattle.watch_machine.specs.declared.track.Try.{Try}
 use Rattle.watch_machine.specs.Answers.{back_track, back_try, failing, noted}
-use Rattle.watch_machine.specs.Beginning.{begun, hastened, is_called, owed, owing, owing_lookup, soon, sooner, untopped, untopped_track}
+use Rattle.watch_machine.specs.Beginning.{begun, hastened, is_called, owed, owing, owing_lookup, soon, sooner_try, untopped, untopped_track}
 use Rattle.watch_machine.specs.Clocks.{sec}
 use Rattle.watch_machine.specs.History.{History, Turn, Turned}
 use Rattle.watch_machine.specs.Lines.{is_due, is_due_try, rested}
 use Rattle.watch_machine.specs.Looked.{looked, status_of, told_state, told_track, untold, untold_track}
 use Rattle.watch_machine.specs.Margins.{has_come}
 use Rattle.watch_machine.specs.Pauses.{pause}
-use Rattle.watch_machine.specs.Press.{asked_in, asked_track, dropped, is_fresh, let_go, press, pressed, pressed_alone, pressed_track}
+use Rattle.watch_machine.specs.Press.{asked_track, dropped, is_fresh, let_go, press, pressed, pressed_alone, pressed_track, track_asked_in}
 use Rattle.watch_machine.specs.Refusal.{request_out}
-use Rattle.watch_machine.specs.Renewed.{from_try, granted_from, granted_try, renewed, renewed_track, ungranted, ungranted_track}
-use Rattle.watch_machine.specs.Round.{asked_by as round_of}
+use Rattle.watch_machine.specs.Renewed.{from_try, granted_from, granted_try, renewed_track, state_renewed, ungranted, ungranted_track}
+use Rattle.watch_machine.specs.Round.{asked_by_round as round_of}
 use Rattle.watch_machine.specs.Sending.{sent, sent_in, sent_track}
 use Rattle.watch_machine.specs.Settling.{settled, settled_track, settled_try, timed}
-use Rattle.watch_machine.specs.State.{State, attempt_at, entry_of, fresh_track, no_track, opened, track_at, track_in}
+use Rattle.watch_machine.specs.State.{WatchState, attempt_at, entry_of, fresh_track, no_track, opened, track_at, track_in}
 use Rattle.watch_machine.specs.Step.{Step, StepClock, StepCommand, StepLooked, StepRenewed, readied, why}
 use Rattle.watch_machine.specs.Wait.{wait}
 use Rattle.watch_machine.specs.Wanted.{is_open, need_of, wants}
 use Rattle.watch_machine.proofs.Cases.{if_both, if_cases, not_both}
-use Rattle.watch_laws.specs.Waiting.{AllOwed, HasTry, IsOut, OwedLaw, OwedRight, OwesRight}
+use Rattle.watch_laws.specs.Waiting.{AllOwed, HasTry, OwedLaw, OwedRight, OwesRight, RequestIsOut}
 use Rattle.watch_laws.proofs.Clocking.{refused_stays}
 use Rattle.watch_laws.proofs.Going.{Goes, goes, named_of, one_sent}
 use Rattle.watch_laws.proofs.Minding.{has_try}
@@ -67,7 +67,7 @@ owing_tries : (at : ℕ) (called : Bool) (x : Track) → Still (owing at called 
 unfolding owing
 owing_tries at called x h =
     if_both Tries (called && is_open (sec at) x) (owing_lookup at x) x
-    (if_cases Tries x.out (record x { owes = true }) (record x { owes = true; attempt = Some (sooner (soon at x) x.attempt) })
+    (if_cases Tries x.out (record x { owes = true }) (record x { owes = true; attempt = Some (sooner_try (soon at x) x.attempt) })
     (λ out. record { owed = λ o. h.out out; out = h.out }) (λ free. record { owed = λ o. refl; out = λ o. refl })) h
 
 dropped_some : (x : Track) (o : Option Try) → x.owes ≡ true → is_some o ≡ true → is_some (dropped x o) ≡ true
@@ -85,32 +85,32 @@ pressed_tries margin e need at x h =
     (if_cases Tries (wants x need || x.out) x (record x { attempt = dropped x x.attempt }) (λ e'. h)
     (λ let_go'. record { owed = λ o. dropped_some x x.attempt o (h.owed o); out = λ o. absurd (not_both o (or_parts (wants x need) x.out let_go').1) }))
 
-asked_tries : (margin : ℕ) (e : Entry) (at : ℕ) (round : List ℕ) (i : ℕ) (x : Track) → Still (asked_in margin e at round i x) x
+asked_tries : (margin : ℕ) (e : Entry) (at : ℕ) (round : List ℕ) (i : ℕ) (x : Track) → Still (track_asked_in margin e at round i x) x
 unfolding asked_track
 asked_tries margin e at round i x h =
     if_both Tries (list_any (λ j. j == i) round) (asked_track margin e at x) x
     (if_both Tries x.out x (record x { attempt = Some (press at (not (has_come margin e x (sec at))) x) }) h (record { owed = λ o. refl; out = λ o. refl })) h
 
-begun_tries : (s : State) (w : Option Why) (i : ℕ) → Still (track_at (begun s w) i) (track_at s i)
+begun_tries : (s : WatchState) (w : Option Why) (i : ℕ) → Still (track_at (begun s w) i) (track_at s i)
 begun_tries s None i h = h
 begun_tries s (Some w) i h =
     let xs = untopped s.tracks in
     each_kept Still (λ k. k) (λ j. owing s.clocks.at (is_called s.forest xs s.clocks j)) xs (λ j x. owing_tries s.clocks.at (is_called s.forest xs s.clocks j) x) i
     (each_kept Still (λ k. k) (λ j. untopped_track) s.tracks (λ j x k. record { owed = k.owed; out = k.out }) i h)
 
-readied_tries : (s : State) (wall elapsed i : ℕ) → Still (track_at (readied s wall elapsed) i) (track_at s i)
+readied_tries : (s : WatchState) (wall elapsed i : ℕ) → Still (track_at (readied s wall elapsed) i) (track_at s i)
 unfolding readied
 readied_tries s wall elapsed i h =
     let t = timed s wall elapsed in
     begun_tries (settled t) (why s wall elapsed) i
     (each_kept Still (λ k. k) (λ j. settled_track t.forest.margin t.clocks.at) s.tracks (λ j x. settled_tries t.forest.margin t.clocks.at x) i h)
 
-mid_tries : (s : State) (round : List ℕ) (i : ℕ) → Still (track_at (pressed s round) i) (track_at s i)
+mid_tries : (s : WatchState) (round : List ℕ) (i : ℕ) → Still (track_at (pressed s round) i) (track_at s i)
 mid_tries s round i h =
     let c = s.clocks in
     let g = s.forest in
     let alone = pressed_alone g c s.tracks in
-    each_kept Still (λ k. k) (λ j. asked_in g.margin (entry_at g.entries j) c.at round j) alone (λ j x. asked_tries g.margin (entry_at g.entries j) c.at round j x) i
+    each_kept Still (λ k. k) (λ j. track_asked_in g.margin (entry_at g.entries j) c.at round j) alone (λ j x. asked_tries g.margin (entry_at g.entries j) c.at round j x) i
     (each_kept Still (λ k. k) (λ j. pressed_track g.margin (entry_at g.entries j) (need_of g.entries s.tracks c j) c.at) s.tracks
     (λ j x. pressed_tries g.margin (entry_at g.entries j) (need_of g.entries s.tracks c j) c.at x) i h)
 
@@ -125,7 +125,7 @@ due_some p at x due = by x.attempt (and_parts (not x.out) (is_due_try p at x x.a
 none_tries : Tries no_track
 none_tries = record { owed = λ o. absurd cc; out = λ o. absurd cc }
 
-sent_tries : (s : State) (requests : List Request) (lanes i : ℕ) → Goes s.presence s.clocks.at s.tracks lanes requests → Still (track_at (sent s requests) i) (track_at s i)
+sent_tries : (s : WatchState) (requests : List Request) (lanes i : ℕ) → Goes s.presence s.clocks.at s.tracks lanes requests → Still (track_at (sent s requests) i) (track_at s i)
 sent_tries s requests lanes i h k =
     let p = s.presence in
     let at = s.clocks.at in
@@ -171,7 +171,7 @@ nothing_owed x owes free = record { owed = λ o. absurd (not_both o owes); out =
 abbrev Rid : Track → Type 0
 Rid x = (x.owes ≡ false) × (x.out ≡ false)
 
-looked_tries : (s : State) (q : Out) (reply : Reply) (terms : Terms) (i : ℕ) → Still (track_at (looked s q reply terms) i) (track_at s i)
+looked_tries : (s : WatchState) (q : Out) (reply : Reply) (terms : Terms) (i : ℕ) → Still (track_at (looked s q reply terms) i) (track_at s i)
 looked_tries s q (Told seconds renewable date) terms i h =
     let j = q.entry in
     let mid = told_state s j q.since seconds renewable terms in
@@ -203,7 +203,7 @@ ungranted_tries : (at : ℕ) (heard : Bool) (reply : Reply) (x : Track) → Stil
 unfolding ungranted_track
 ungranted_tries at heard reply x h = record { owed = λ o. ungranted_some at heard reply x x.attempt (h.owed o); out = λ o. absurd (true≢false (sym o)) }
 
-renewed_tries : (s : State) (q : Out) (reply : Reply) (i : ℕ) → Still (track_at (renewed s q reply) i) (track_at s i)
+renewed_tries : (s : WatchState) (q : Out) (reply : Reply) (i : ℕ) → Still (track_at (state_renewed s q reply) i) (track_at s i)
 unfolding renewed_track
 renewed_tries s q (Told seconds renewable date) i h =
     let j = q.entry in
@@ -215,56 +215,56 @@ renewed_tries s q Busy i h = set_kept Still (λ y k. k) s.tracks q.entry _ (ungr
 renewed_tries s q Lost i h = set_kept Still (λ y k. k) s.tracks q.entry _ (ungranted_tries s.clocks.at q.heard Lost (track_at s q.entry)) i h
 
 -- what every turn keeps, and what the command of a clock heeds
-abbrev pub AllTry : State → Type 0
+abbrev pub AllTry : WatchState → Type 0
 AllTry s = (i : ℕ) → Tries (track_at s i)
 
-abbrev pub Outcome : Command → State → Type 0
+abbrev pub Outcome : Command → WatchState → Type 0
 Outcome command new = AllTry new × OwesRight command new
 
 some_try : (o : Option Try) → is_some o ≡ true → (t : Try) × (o ≡ Some t)
 some_try None h = absurd cc
 some_try (Some t) h = (t, refl)
 
-commanded : (s new : State) (round : List ℕ) (command : Command) → AllTry (pressed s round) → StepCommand (pressed s round) command new → Outcome command new
+commanded : (s new : WatchState) (round : List ℕ) (command : Command) → AllTry (pressed s round) → StepCommand (pressed s round) command new → Outcome command new
 commanded s new round (Go requests until) all h =
     let mid = pressed s round in
     let going = goes s.presence s.clocks.at mid.tracks (s.width - length s.out) requests h.0.0 in
     subst (λ n. Outcome (Go requests n) new) (sym h.1)
-    (subst (λ (x : State). Outcome (Go requests (wait x)) x) (sym h.0.1)
+    (subst (λ (x : WatchState). Outcome (Go requests (wait x)) x) (sym h.0.1)
     (let tries : AllTry (sent mid requests) = λ i. sent_tries mid requests (s.width - length s.out) i going (all i) in (
       tries,
       λ i within owes.
           let end = sent mid requests in
-          elim (cases_Bool (track_at end i).out) as (λ _. IsOut end i ⊎ HasTry end (wait end) i) [
+          elim (cases_Bool (track_at end i).out) as (λ _. RequestIsOut end i ⊎ HasTry end (wait end) i) [
             | inl out ↦ inl out
             | inr free ↦ (let t = some_try (attempt_at end i) ((tries i).owed owes) in inr (has_try s round requests i t.0 going within free t.1))
           ],
     )))
 commanded s new round Taken all h = absurd h
 
-clock_outcome : (old new : State) (wall elapsed : ℕ) (output : Output) → StepClock old wall elapsed output new → AllTry old → Outcome output.command new
+clock_outcome : (old new : WatchState) (wall elapsed : ℕ) (output : Output) → StepClock old wall elapsed output new → AllTry old → Outcome output.command new
 clock_outcome old new wall elapsed output step all =
     let ready = readied old wall elapsed in
     commanded ready new (round_of step.round) output.command (λ i. mid_tries ready (round_of step.round) i (readied_tries old wall elapsed i (all i))) step.command
 
-taken_right : (output out : Output) (new : State) → output ≡ out → out.command ≡ Taken → AllTry new → Outcome output.command new
+taken_right : (output out : Output) (new : WatchState) → output ≡ out → out.command ≡ Taken → AllTry new → Outcome output.command new
 taken_right output out new is taken' all = (all, subst (λ c. OwesRight c new) (sym (ap (λ (x : Output). x.command) is ∙ taken')) tt)
 
-looked_outcome : (old new : State) (found : Option Out) (reply : Reply) (terms : Terms) (output : Output) → StepLooked old found reply terms output new → AllTry old → Outcome output.command new
+looked_outcome : (old new : WatchState) (found : Option Out) (reply : Reply) (terms : Terms) (output : Output) → StepLooked old found reply terms output new → AllTry old → Outcome output.command new
 looked_outcome old new None reply terms output step all = absurd step
 looked_outcome old new (Some q) reply terms output step all =
     let s = noted old q reply in
     taken_right output _ new step.0 refl
     (subst AllTry (sym step.1) (λ i. back_kept Still (λ x k. k) (λ x. back_tries x) (looked s q reply terms) q reply i (looked_tries s q reply terms i (all i))))
 
-renewed_outcome : (old new : State) (found : Option Out) (reply : Reply) (output : Output) → StepRenewed old found reply output new → AllTry old → Outcome output.command new
+renewed_outcome : (old new : WatchState) (found : Option Out) (reply : Reply) (output : Output) → StepRenewed old found reply output new → AllTry old → Outcome output.command new
 renewed_outcome old new None reply output step all = absurd step
 renewed_outcome old new (Some q) reply output step all =
     let s = noted old q reply in
     taken_right output _ new step.0 refl
-    (subst AllTry (sym step.1) (λ i. back_kept Still (λ x k. k) (λ x. back_tries x) (renewed s q reply) q reply i (renewed_tries s q reply i (all i))))
+    (subst AllTry (sym step.1) (λ i. back_kept Still (λ x k. k) (λ x. back_tries x) (state_renewed s q reply) q reply i (renewed_tries s q reply i (all i))))
 
-step_outcome : (old new : State) (event : Event) (output : Output) → Step old event output new → AllTry old → Outcome output.command new
+step_outcome : (old new : WatchState) (event : Event) (output : Output) → Step old event output new → AllTry old → Outcome output.command new
 step_outcome old new (Clock wall elapsed) output step all = clock_outcome old new wall elapsed output step all
 step_outcome old new (Looked j reply terms) output step all = looked_outcome old new (request_out old.out j Look) reply terms output step all
 step_outcome old new (Renewed j reply) output step all = renewed_outcome old new (request_out old.out j Renew) reply output step all
@@ -273,11 +273,11 @@ step_outcome old new Begin output step all = taken_right output _ new step.0 ref
 step_outcome old new (Known j end renewable) output step all =
     taken_right output _ new step.0 refl (subst AllTry (sym step.1) (λ i. set_kept Still (λ x k. k) old.tracks j _ (λ k. record { owed = k.owed; out = k.out }) i (all i)))
 
-pub turn_outcome : (old new : State) (event : Event) (result : Result Output WatchFault) → Turn old event result new → AllTry old → AllTry new × OwedRight result new
+pub turn_outcome : (old new : WatchState) (event : Event) (result : Result Output WatchFault) → Turn old event result new → AllTry old → AllTry new × OwedRight result new
 turn_outcome old new event (Ok output) turn all = step_outcome old new event output turn.1 all
 turn_outcome old new event (Err fault) turn all = (subst AllTry (sym (refused_stays old new event fault turn)) all, tt)
 
-ran : (turns : List Turned) (old : State) → History old turns → AllTry old → AllOwed turns
+ran : (turns : List Turned) (old : WatchState) → History old turns → AllTry old → AllOwed turns
 ran [] old h all = tt
 ran (turn ∷ turns) old h all = let here = turn_outcome old turn.state turn.event turn.result h.0 all in (here.1, ran turns turn.state h.1 here.0)
 

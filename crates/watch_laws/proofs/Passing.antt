@@ -2,11 +2,10 @@
 use Rattle.std.proofs.Common.{◌≡◌, ◌∙◌, ℕ, zero, suc, ◌+◌, ◌*◌, ◌<◌, ◌≤◌, Bool, true, false, not, ◌&&◌, if◌then◌else◌, List, [], ◌∷◌, ◌++◌, length, refl, ap, arith, inl, inr}
 use Rattle.std.proofs.Math.Nat.{mul-add, mul-le-mul_left}
 use Rattle.std.proofs.lemmas.Bool.{cases_Bool}
-use Rattle.watch_machine.specs.History.{Turned}
-use Rattle.watch_machine.specs.State.{State, opened}
+use Rattle.watch_machine.specs.History.{Turned, after_all}
+use Rattle.watch_machine.specs.State.{WatchState, opened}
 use Rattle.watch_laws.specs.Outage.{how_many, one_if}
 use Rattle.watch_laws.specs.Partial.{HungLaw, Partial, answered_before, answered_coming, comes_before, coming_before, keeps_lane, often_before, total, waits_before}
-use Rattle.watch_laws.specs.Turns.{after_all}
 use Rattle.watch_laws.proofs.Grounds.{opened_base, ran_base, turn_base}
 use Rattle.watch_laws.proofs.Held.{held_up}
 use Rattle.watch_laws.proofs.Once.{waits_once}
@@ -41,11 +40,11 @@ kept_is : (o : Partial) (n : ℕ) (p : ℕ → Bool) → total n (keeps_lane o) 
 kept_is o n p = total_late n o.hung p o.patience o.quick o.late ∙ split n o.hung p (o.patience + o.late) (o.quick + o.late)
 
 -- how often hung entries come to stand before i
-unfoldable hung_coming : Partial → ℕ → ℕ → State → List Turned → ℕ
+unfoldable hung_coming : Partial → ℕ → ℕ → WatchState → List Turned → ℕ
 hung_coming o n i old [] = 0
 hung_coming o n i old (turn ∷ turns) = how_many n (λ j. o.hung j && comes_before i old turn.state j) + hung_coming o n i turn.state turns
 
-coming_is : (o : Partial) (n i : ℕ) (turns : List Turned) (s : State) → coming_before o n i s turns ≡ (o.patience + o.late) * hung_coming o n i s turns + (o.quick + o.late) * answered_coming o n i s turns
+coming_is : (o : Partial) (n i : ℕ) (turns : List Turned) (s : WatchState) → coming_before o n i s turns ≡ (o.patience + o.late) * hung_coming o n i s turns + (o.quick + o.late) * answered_coming o n i s turns
 unfolding hung_coming
 coming_is o n i [] s = omega arith
 coming_is o n i (turn ∷ turns) s =
@@ -56,16 +55,16 @@ coming_is o n i (turn ∷ turns) s =
     omega (arith, rest, here, x, y)
 
 -- of one entry, and of those before it
-unfoldable one_coming : Partial → ℕ → ℕ → State → List Turned → ℕ
+unfoldable one_coming : Partial → ℕ → ℕ → WatchState → List Turned → ℕ
 one_coming o j i old [] = 0
 one_coming o j i old (turn ∷ turns) = one_if (o.hung j && comes_before i old turn.state j) + one_coming o j i turn.state turns
 
-more_coming : (o : Partial) (n i : ℕ) (turns : List Turned) (s : State) → hung_coming o (suc n) i s turns ≡ one_coming o n i s turns + hung_coming o n i s turns
+more_coming : (o : Partial) (n i : ℕ) (turns : List Turned) (s : WatchState) → hung_coming o (suc n) i s turns ≡ one_coming o n i s turns + hung_coming o n i s turns
 unfolding hung_coming one_coming
 more_coming o n i [] s = omega arith
 more_coming o n i (turn ∷ turns) s = let rest = more_coming o n i turns turn.state in omega (arith, rest)
 
-hung_often : (o : Partial) (j i : ℕ) (turns : List Turned) (s : State) → o.hung j ≡ true → one_coming o j i s turns ≡ often_before i j s turns
+hung_often : (o : Partial) (j i : ℕ) (turns : List Turned) (s : WatchState) → o.hung j ≡ true → one_coming o j i s turns ≡ often_before i j s turns
 unfolding one_coming
 hung_often o j i [] s hung = refl
 hung_often o j i (turn ∷ turns) s hung =
@@ -73,7 +72,7 @@ hung_often o j i (turn ∷ turns) s hung =
     let here = ap (λ b. one_if (b && comes_before i s turn.state j)) hung in
     omega (arith, rest, here)
 
-other_never : (o : Partial) (j i : ℕ) (turns : List Turned) (s : State) → o.hung j ≡ false → one_coming o j i s turns ≡ 0
+other_never : (o : Partial) (j i : ℕ) (turns : List Turned) (s : WatchState) → o.hung j ≡ false → one_coming o j i s turns ≡ 0
 unfolding one_coming
 other_never o j i [] s other = refl
 other_never o j i (turn ∷ turns) s other =
@@ -81,14 +80,14 @@ other_never o j i (turn ∷ turns) s other =
     let here = ap (λ b. one_if (b && comes_before i s turn.state j)) other in
     omega (arith, rest, here)
 
-nobody_comes : (o : Partial) (i : ℕ) (turns : List Turned) (s : State) → hung_coming o zero i s turns ≡ 0
+nobody_comes : (o : Partial) (i : ℕ) (turns : List Turned) (s : WatchState) → hung_coming o zero i s turns ≡ 0
 unfolding hung_coming
 nobody_comes o i [] s = refl
 nobody_comes o i (turn ∷ turns) s = let rest = nobody_comes o i turns turn.state in omega (arith, rest)
 
 -- each hung entry once
 each_once :
-    (o : Partial) (n i : ℕ) (turns : List Turned) (s : State) → ((j : ℕ) → j < n → o.hung j ≡ true → one_if (waits_before i s j) + often_before i j s turns ≤ 1) →
+    (o : Partial) (n i : ℕ) (turns : List Turned) (s : WatchState) → ((j : ℕ) → j < n → o.hung j ≡ true → one_if (waits_before i s j) + often_before i j s turns ≤ 1) →
     how_many n (λ j. o.hung j && waits_before i s j) + hung_coming o n i s turns ≤ how_many n o.hung
 each_once o zero i turns s once = let none = nobody_comes o i turns s in omega (arith, none)
 each_once o (suc n) i turns s once =

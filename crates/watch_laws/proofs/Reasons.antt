@@ -24,26 +24,26 @@ use Rattle.watch_machine.specs.declared.notes.Why.{Why}
 use Rattle.watch_machine.specs.declared.track.Track.{Track}
 use Rattle.watch_machine.specs.declared.track.Try.{Try}
 use Rattle.watch_machine.specs.Answers.{back_track, back_try, failing, noted, replied}
-use Rattle.watch_machine.specs.Beginning.{begun, hastened, is_called, is_pressed, owed, owing, owing_lookup, soon, sooner, untopped, untopped_track}
+use Rattle.watch_machine.specs.Beginning.{begun, hastened, is_called, is_pressed, owed, owing, owing_lookup, soon, sooner_try, untopped, untopped_track}
 use Rattle.watch_machine.specs.Clocks.{sec}
 use Rattle.watch_machine.specs.History.{History, Turn, Turned}
 use Rattle.watch_machine.specs.Lines.{rested}
-use Rattle.watch_machine.specs.Looked.{at_once, is_called_for, looked, told_by, told_state, told_try}
+use Rattle.watch_machine.specs.Looked.{at_once, is_called_for, looked, told_state, told_try, with_told_try}
 use Rattle.watch_machine.specs.Margins.{has_come}
 use Rattle.watch_machine.specs.Pauses.{pause}
-use Rattle.watch_machine.specs.Press.{asked_in, asked_track, dropped, is_fresh, let_go, press, pressed, pressed_alone, pressed_track}
+use Rattle.watch_machine.specs.Press.{asked_track, dropped, is_fresh, let_go, press, pressed, pressed_alone, pressed_track, track_asked_in}
 use Rattle.watch_machine.specs.Refusal.{is_same, request_out}
-use Rattle.watch_machine.specs.Renewed.{from_try, granted_from, granted_try, renewed, renewed_track}
-use Rattle.watch_machine.specs.Round.{asked_by as round_asked}
+use Rattle.watch_machine.specs.Renewed.{from_try, granted_from, granted_try, renewed_track, state_renewed}
+use Rattle.watch_machine.specs.Round.{asked_by_round as round_asked}
 use Rattle.watch_machine.specs.Sending.{sent, sent_in, sent_track}
 use Rattle.watch_machine.specs.Settling.{settled, settled_track, settled_try, timed}
-use Rattle.watch_machine.specs.State.{State, entry_of, fresh_track, no_track, opened, second, track_at, track_in}
+use Rattle.watch_machine.specs.State.{WatchState, entry_of, fresh_track, no_track, opened, second, track_at, track_in}
 use Rattle.watch_machine.specs.Step.{Step, StepClock, StepCommand, StepLooked, StepRenewed, readied, why}
 use Rattle.watch_machine.specs.Wanted.{is_alive, is_open, is_wanted, need_of, wants}
 use Rattle.watch_machine.proofs.Cases.{if_both, if_cases, not_both}
 use Rattle.watch_machine.proofs.Within.{out_entry}
-use Rattle.watch_laws.specs.Load.{asked_by, requests_of}
-use Rattle.watch_laws.specs.Time.{AllReasoned, EarlyLaw, is_come, is_named, reason, reason_answered, reason_taken, renews}
+use Rattle.watch_laws.specs.Load.{requests_asked_by, requests_of}
+use Rattle.watch_laws.specs.Time.{AllReasoned, EarlyLaw, is_come, is_named_in_round, reason, reason_answered, reason_taken, renewal_goes_out}
 use Rattle.watch_laws.proofs.Answering.{replied_rest}
 use Rattle.watch_laws.proofs.Clocking.{refused_stays}
 use Rattle.watch_laws.proofs.Going.{asks_by, entry_by, goes, operation_of, request_at}
@@ -77,7 +77,7 @@ settled_still : (b : Bool) (margin at : ℕ) (x : Track) → Still b (settled_tr
 unfolding settled_track
 settled_still b margin at x h = settled_reasoned b margin at x x.attempt h
 
-sooner_reasoned : (b : Bool) (at : ℕ) (o : Option Try) → Reasoned b o → Reasoned b (Some (sooner at o))
+sooner_reasoned : (b : Bool) (at : ℕ) (o : Option Try) → Reasoned b o → Reasoned b (Some (sooner_try at o))
 sooner_reasoned b at None h = look_reasoned b (owed at) refl
 sooner_reasoned b at (Some t) h = h
 
@@ -85,7 +85,7 @@ owing_still : (b : Bool) (at : ℕ) (called : Bool) (x : Track) → Still b (owi
 unfolding owing
 owing_still b at called x h =
     if_both (λ (y : Track). Reasoned b y.attempt) (called && is_open (sec at) x) (owing_lookup at x) x
-    (if_both (λ (y : Track). Reasoned b y.attempt) x.out (record x { owes = true }) (record x { owes = true; attempt = Some (sooner (soon at x) x.attempt) }) h (sooner_reasoned b (soon at x) x.attempt h)) h
+    (if_both (λ (y : Track). Reasoned b y.attempt) x.out (record x { owes = true }) (record x { owes = true; attempt = Some (sooner_try (soon at x) x.attempt) }) h (sooner_reasoned b (soon at x) x.attempt h)) h
 
 let_go_reasoned : (b : Bool) (x : Track) (t : Try) → Reasoned b (let_go x t)
 let_go_reasoned b x t =
@@ -110,18 +110,18 @@ pressed_reasoned b more margin e need at x before come h =
 
 asked_reasoned :
     (more : Bool) (margin : ℕ) (e : Entry) (at : ℕ) (round : List ℕ) (i : ℕ) (x : Track) → (list_any (λ j. j == i) round ≡ true → more ≡ true) → Reasoned more x.attempt →
-    Reasoned more (asked_in margin e at round i x).attempt
+    Reasoned more (track_asked_in margin e at round i x).attempt
 asked_reasoned more margin e at round i x named h =
     if_cases (λ (y : Track). Reasoned more y.attempt) (list_any (λ j. j == i) round) (asked_track margin e at x) x (λ yes' renew. named yes') (λ no'. h)
 
-begun_still : (b : Bool) (s : State) (w : Option Why) (i : ℕ) → Still b (track_at (begun s w) i) (track_at s i)
+begun_still : (b : Bool) (s : WatchState) (w : Option Why) (i : ℕ) → Still b (track_at (begun s w) i) (track_at s i)
 begun_still b s None i h = h
 begun_still b s (Some w) i h =
     let xs = untopped s.tracks in
     each_kept (Still b) (λ k. k) (λ j. owing s.clocks.at (is_called s.forest xs s.clocks j)) xs (λ j x. owing_still b s.clocks.at (is_called s.forest xs s.clocks j) x) i
     (each_kept (Still b) (λ k. k) (λ j. untopped_track) s.tracks (λ j x k. k) i h)
 
-readied_still : (b : Bool) (s : State) (wall elapsed i : ℕ) → Still b (track_at (readied s wall elapsed) i) (track_at s i)
+readied_still : (b : Bool) (s : WatchState) (wall elapsed i : ℕ) → Still b (track_at (readied s wall elapsed) i) (track_at s i)
 unfolding readied
 readied_still b s wall elapsed i h =
     let t = timed s wall elapsed in
@@ -129,69 +129,69 @@ readied_still b s wall elapsed i h =
     (each_kept (Still b) (λ k. k) (λ j. settled_track t.forest.margin t.clocks.at) s.tracks (λ j x. settled_still b t.forest.margin t.clocks.at x) i h)
 
 mid_reasoned :
-    (b more : Bool) (s : State) (round : List ℕ) (i : ℕ) → (b ≡ true → more ≡ true) → (is_come s i ≡ true → more ≡ true) → (list_any (λ j. j == i) round ≡ true → more ≡ true) →
+    (b more : Bool) (s : WatchState) (round : List ℕ) (i : ℕ) → (b ≡ true → more ≡ true) → (is_come s i ≡ true → more ≡ true) → (list_any (λ j. j == i) round ≡ true → more ≡ true) →
     Reasoned b (track_at s i).attempt → Reasoned more (track_at (pressed s round) i).attempt
 mid_reasoned b more s round i before come named h =
     let c = s.clocks in
     let g = s.forest in
     let alone = pressed_alone g c s.tracks in
-    each_holds (λ (y : Track). Reasoned more y.attempt) (none_reasoned more) (λ j. asked_in g.margin (entry_at g.entries j) c.at round j) alone i
+    each_holds (λ (y : Track). Reasoned more y.attempt) (none_reasoned more) (λ j. track_asked_in g.margin (entry_at g.entries j) c.at round j) alone i
     (asked_reasoned more g.margin (entry_at g.entries i) c.at round i (track_in alone i) named
     (each_holds (λ (y : Track). Reasoned more y.attempt) (none_reasoned more) (λ j. pressed_track g.margin (entry_at g.entries j) (need_of g.entries s.tracks c j) c.at) s.tracks i
     (pressed_reasoned b more g.margin (entry_at g.entries i) (need_of g.entries s.tracks c i) c.at (track_at s i) before come h)))
 
-sent_still : (b : Bool) (s : State) (requests : List Request) (i : ℕ) → Still b (track_at (sent s requests) i) (track_at s i)
+sent_still : (b : Bool) (s : WatchState) (requests : List Request) (i : ℕ) → Still b (track_at (sent s requests) i) (track_at s i)
 sent_still b s requests i h =
     each_kept (Still b) (λ k. k) (sent_in s.clocks.at requests) s.tracks
     (λ j x k. if_both (λ (y : Track). Reasoned b y.attempt) (list_any (λ (r : Request). r.entry == j) requests) (sent_track s.clocks.at x) x k k) i h
 
 -- a renewal of i that goes out is asked by its try
-renews_by : (p : Presence) (now : ℕ) (xs : List Track) (i : ℕ) (is : List ℕ) → renews i (map (request_at p now xs) is) ≡ true → operation_of (track_in xs i).attempt ≡ Renew
+renews_by : (p : Presence) (now : ℕ) (xs : List Track) (i : ℕ) (is : List ℕ) → renewal_goes_out i (map (request_at p now xs) is) ≡ true → operation_of (track_in xs i).attempt ≡ Renew
 renews_by p now xs i [] h = absurd cc
 renews_by p now xs i (j ∷ js) h =
     let r = request_at p now xs j in
-    or_parts (r.entry == i && is_same r.operation Renew) (renews i (map (request_at p now xs) js)) (operation_of (track_in xs i).attempt ≡ Renew) h
+    or_parts (r.entry == i && is_same r.operation Renew) (renewal_goes_out i (map (request_at p now xs) js)) (operation_of (track_in xs i).attempt ≡ Renew) h
     (λ here.
     let both = and_parts (r.entry == i) (is_same r.operation Renew) here in
     let is : j ≡ i = sym (entry_by p now xs j) ∙ eqb-true r.entry i both.0 in
     ap (λ k. operation_of (track_in xs k).attempt) (sym is) ∙ sym (asks_by p now xs j) ∙ same_is r.operation Renew both.1)
     (λ there. renews_by p now xs i js there)
 
-goes_reasoned : (b : Bool) (s new : State) (command : Command) (i : ℕ) → StepCommand s command new → Reasoned b (track_at s i).attempt → renews i (asked_by command) ≡ true → b ≡ true
+goes_reasoned : (b : Bool) (s new : WatchState) (command : Command) (i : ℕ) → StepCommand s command new → Reasoned b (track_at s i).attempt → renewal_goes_out i (requests_asked_by command) ≡ true → b ≡ true
 goes_reasoned b s new (Go requests until) i h reasoned renew =
     let going = goes s.presence s.clocks.at s.tracks (s.width - length s.out) requests h.0.0 in
-    reasoned (renews_by s.presence (sec s.clocks.at) s.tracks i going.entries (sym (ap (renews i) going.requests_are) ∙ renew))
+    reasoned (renews_by s.presence (sec s.clocks.at) s.tracks i going.entries (sym (ap (renewal_goes_out i) going.requests_are) ∙ renew))
 goes_reasoned b s new Taken i h reasoned renew = absurd h
 
-new_still : (b : Bool) (s new : State) (command : Command) (i : ℕ) → StepCommand s command new → Reasoned b (track_at s i).attempt → Reasoned b (track_at new i).attempt
-new_still b s new (Go requests until) i h reasoned = subst (λ (x : State). Reasoned b (track_at x i).attempt) (sym h.0.1) (sent_still b s requests i reasoned)
+new_still : (b : Bool) (s new : WatchState) (command : Command) (i : ℕ) → StepCommand s command new → Reasoned b (track_at s i).attempt → Reasoned b (track_at new i).attempt
+new_still b s new (Go requests until) i h reasoned = subst (λ (x : WatchState). Reasoned b (track_at x i).attempt) (sym h.0.1) (sent_still b s requests i reasoned)
 new_still b s new Taken i h reasoned = absurd h
 
 -- what every turn keeps, and what goes out at it
-abbrev Outcome : ℕ → Bool → Command → State → Type 0
-Outcome i b command new = (renews i (asked_by command) ≡ true → b ≡ true) × Reasoned b (track_at new i).attempt
+abbrev Outcome : ℕ → Bool → Command → WatchState → Type 0
+Outcome i b command new = (renewal_goes_out i (requests_asked_by command) ≡ true → b ≡ true) × Reasoned b (track_at new i).attempt
 
-come_at : (s new : State) (round : List ℕ) (command : Command) (i : ℕ) → StepCommand (pressed s round) command new → is_come new i ≡ is_come s i
+come_at : (s new : WatchState) (round : List ℕ) (command : Command) (i : ℕ) → StepCommand (pressed s round) command new → is_come new i ≡ is_come s i
 come_at s new round (Go requests until) i h =
-    ap (λ (x : State). is_come x i) h.0.1 ∙ come_same s.forest.margin (entry_of s i) (track_at (sent (pressed s round) requests) i) (track_at s i) (second s) (mid_bears s round requests i)
+    ap (λ (x : WatchState). is_come x i) h.0.1 ∙ come_same s.forest.margin (entry_of s i) (track_at (sent (pressed s round) requests) i) (track_at s i) (second s) (mid_bears s round requests i)
 come_at s new round Taken i h = absurd h
 
-named_by : (round : Option (List ℕ)) (i : ℕ) → list_any (λ j. j == i) (round_asked round) ≡ is_named round i
+named_by : (round : Option (List ℕ)) (i : ℕ) → list_any (λ j. j == i) (round_asked round) ≡ is_named_in_round round i
 named_by None i = refl
 named_by (Some asked) i = refl
 
 clock_outcome :
-    (old new : State) (wall elapsed : ℕ) (output : Output) (i : ℕ) (b : Bool) → StepClock old wall elapsed output new → Reasoned b (track_at old i).attempt →
-    Outcome i (b || (is_come new i || is_named output.notes.round i)) output.command new
+    (old new : WatchState) (wall elapsed : ℕ) (output : Output) (i : ℕ) (b : Bool) → StepClock old wall elapsed output new → Reasoned b (track_at old i).attempt →
+    Outcome i (b || (is_come new i || is_named_in_round output.notes.round i)) output.command new
 clock_outcome old new wall elapsed output i b step h =
     let ready = readied old wall elapsed in
     let round = round_asked step.round in
-    let more = b || (is_come new i || is_named output.notes.round i) in
+    let more = b || (is_come new i || is_named_in_round output.notes.round i) in
     let come = come_at ready new round output.command i step.command in
-    let named : list_any (λ j. j == i) round ≡ is_named output.notes.round i = named_by step.round i ∙ sym (ap (λ (x : Notes). is_named x.round i) step.notes) in
-    let mid = mid_reasoned b more ready round i (λ yes'. or_left b (is_come new i || is_named output.notes.round i) yes')
-    (λ yes'. or_right b (is_come new i || is_named output.notes.round i) (or_left (is_come new i) (is_named output.notes.round i) (come ∙ yes')))
-    (λ yes'. or_right b (is_come new i || is_named output.notes.round i) (or_right (is_come new i) (is_named output.notes.round i) (sym named ∙ yes'))) (readied_still b old wall elapsed i h) in
+    let named : list_any (λ j. j == i) round ≡ is_named_in_round output.notes.round i = named_by step.round i ∙ sym (ap (λ (x : Notes). is_named_in_round x.round i) step.notes) in
+    let mid = mid_reasoned b more ready round i (λ yes'. or_left b (is_come new i || is_named_in_round output.notes.round i) yes')
+    (λ yes'. or_right b (is_come new i || is_named_in_round output.notes.round i) (or_left (is_come new i) (is_named_in_round output.notes.round i) (come ∙ yes')))
+    (λ yes'. or_right b (is_come new i || is_named_in_round output.notes.round i) (or_right (is_come new i) (is_named_in_round output.notes.round i) (sym named ∙ yes'))) (readied_still b old wall elapsed i h) in
     (goes_reasoned more (pressed ready round) new output.command i step.command mid, new_still more (pressed ready round) new output.command i step.command mid)
 
 -- the broker's return leaves what is asked
@@ -205,7 +205,7 @@ back_still : (b : Bool) (x : Track) → Still b (back_track x) x
 unfolding back_track
 back_still b x h = back_reasoned b x x.attempt h
 
-after_still : (b : Bool) (mid : State) (q : Out) (reply : Reply) (i : ℕ) → Still b (track_at (replied mid q reply) i) (track_at mid i)
+after_still : (b : Bool) (mid : WatchState) (q : Out) (reply : Reply) (i : ℕ) → Still b (track_at (replied mid q reply) i) (track_at mid i)
 after_still b mid q reply i = back_kept (Still b) (λ x h. h) (λ x. back_still b x) mid q reply i
 
 -- the answer to a lookup of the entry itself
@@ -219,23 +219,23 @@ back_bears : (x : Track) → bearing (back_track x) ≡ bearing x
 unfolding back_track
 back_bears x = refl
 
-told_come : (mid : State) (q : Out) (reply : Reply) (i : ℕ) → is_come (replied (told_by mid i) q reply) i ≡ is_come mid i
+told_come : (mid : WatchState) (q : Out) (reply : Reply) (i : ℕ) → is_come (replied (with_told_try mid i) q reply) i ≡ is_come mid i
 told_come mid q reply i =
-    let by = told_by mid i in
+    let by = with_told_try mid i in
     let new = replied by q reply in
     let forest = replied_forest by q reply in
-    let clocks = ap (λ (x : State). x.clocks) (replied_rest by q reply) in
+    let clocks = ap (λ (x : WatchState). x.clocks) (replied_rest by q reply) in
     let bears : bearing (track_at new i) ≡ bearing (track_at mid i) =
     back_kept (λ y x. bearing y ≡ bearing x) (λ x. refl) (λ x. back_bears x) by q reply i ∙ set_kept (λ y x. bearing y ≡ bearing x) (λ x. refl) mid.tracks i _ refl i in
     ap (λ (g : Forest). has_come g.margin (entry_at g.entries i) (track_at new i) (second new)) forest
     ∙ ap (λ c. has_come mid.forest.margin (entry_of mid i) (track_at new i) (sec c.at)) clocks
     ∙ come_same mid.forest.margin (entry_of mid i) (track_at new i) (track_at mid i) (second mid) bears
 
-looked_own : (s : State) (q : Out) (reply : Reply) (terms : Terms) → Reasoned (reason_answered (replied (looked s q reply terms) q reply) q.entry reply) (track_at (looked s q reply terms) q.entry).attempt
+looked_own : (s : WatchState) (q : Out) (reply : Reply) (terms : Terms) → Reasoned (reason_answered (replied (looked s q reply terms) q reply) q.entry reply) (track_at (looked s q reply terms) q.entry).attempt
 looked_own s q (Told seconds renewable date) terms =
     let i = q.entry in
     let mid = told_state s i q.since seconds renewable terms in
-    let b = is_come (replied (told_by mid i) q (Told seconds renewable date)) i in
+    let b = is_come (replied (with_told_try mid i) q (Told seconds renewable date)) i in
     set_holds (λ (y : Track). Reasoned b y.attempt) (none_reasoned b) mid.tracks i _
     (told_reasoned b mid.clocks.at (is_called_for mid i) (track_at mid i) (track_at mid i).attempt
     (λ called. told_come mid q (Told seconds renewable date) i ∙ (and_parts (is_wanted mid i) (is_come mid i) called).1))
@@ -254,7 +254,7 @@ granted_own : (b : Bool) (step at seconds : ℕ) (renewable : Bool) (from : ℕ)
 unfolding granted_from
 granted_own b step at seconds renewable from x = granted_reasoned b at x.owes (sec from + seconds) x.attempt
 
-renewed_own : (s new : State) (q : Out) (reply : Reply) → Reasoned (reason_answered new q.entry reply) (track_at (renewed s q reply) q.entry).attempt
+renewed_own : (s new : WatchState) (q : Out) (reply : Reply) → Reasoned (reason_answered new q.entry reply) (track_at (state_renewed s q reply) q.entry).attempt
 unfolding renewed_track
 renewed_own s new q (Told seconds renewable date) =
     let i = q.entry in
@@ -268,12 +268,12 @@ renewed_own s new q Busy = λ renew. refl
 renewed_own s new q Lost = λ renew. refl
 
 -- nothing goes out but at a clock
-quiet : (i : ℕ) (output out : Output) (b : Bool) → output ≡ out → asked_by out.command ≡ [] → renews i (asked_by output.command) ≡ true → b ≡ true
-quiet i output out b is none renew = absurd (let bad : true ≡ false = sym renew ∙ ap (λ (x : Output). renews i (asked_by x.command)) is ∙ ap (renews i) none in cc)
+quiet : (i : ℕ) (output out : Output) (b : Bool) → output ≡ out → requests_asked_by out.command ≡ [] → renewal_goes_out i (requests_asked_by output.command) ≡ true → b ≡ true
+quiet i output out b is none renew = absurd (let bad : true ≡ false = sym renew ∙ ap (λ (x : Output). renewal_goes_out i (requests_asked_by x.command)) is ∙ ap (renewal_goes_out i) none in cc)
 
 -- an answer, of i or of another
 answered :
-    (old mid new : State) (q : Out) (reply : Reply) (j i : ℕ) (b : Bool) → new ≡ replied mid q reply → q.entry ≡ j → (q.entry ≢ i → track_at mid i ≡ track_at old i) →
+    (old mid new : WatchState) (q : Out) (reply : Reply) (j i : ℕ) (b : Bool) → new ≡ replied mid q reply → q.entry ≡ j → (q.entry ≢ i → track_at mid i ≡ track_at old i) →
     Reasoned (reason_answered (replied mid q reply) q.entry reply) (track_at mid q.entry).attempt → Reasoned b (track_at old i).attempt →
     Reasoned (if j == i then reason_answered new i reply else b) (track_at new i).attempt
 answered old mid new q reply j i b is entry other own h =
@@ -283,15 +283,15 @@ answered old mid new q reply j i b is entry other own h =
           let there = after_still (reason_answered (replied mid q reply) q.entry reply) mid q reply q.entry own in
           let all = subst (λ k. Reasoned (reason_answered (replied mid q reply) k reply) (track_at (replied mid q reply) k).attempt) here there in
           subst (λ c. Reasoned c (track_at new i).attempt) (sym (cond-true (j == i) (reason_answered new i reply) b same))
-          (subst (λ (x : State). Reasoned (reason_answered x i reply) (track_at x i).attempt) (sym is) all)
+          (subst (λ (x : WatchState). Reasoned (reason_answered x i reply) (track_at x i).attempt) (sym is) all)
       | inr different ↦
           let apart : q.entry ≢ i = λ e. not_both (subst (λ n. (n == i) ≡ true) (sym e ∙ entry) (same_index i)) different in
           subst (λ c. Reasoned c (track_at new i).attempt) (sym (cond-false (j == i) (reason_answered new i reply) b different))
-          (subst (λ (x : State). Reasoned b (track_at x i).attempt) (sym is) (after_still b mid q reply i (subst (λ (x : Track). Reasoned b x.attempt) (sym (other apart)) h)))
+          (subst (λ (x : WatchState). Reasoned b (track_at x i).attempt) (sym is) (after_still b mid q reply i (subst (λ (x : Track). Reasoned b x.attempt) (sym (other apart)) h)))
     ]
 
 looked_outcome :
-    (old new : State) (found : Option Out) (j i : ℕ) (reply : Reply) (terms : Terms) (output : Output) (b : Bool) → request_out old.out j Look ≡ found →
+    (old new : WatchState) (found : Option Out) (j i : ℕ) (reply : Reply) (terms : Terms) (output : Output) (b : Bool) → request_out old.out j Look ≡ found →
     StepLooked old found reply terms output new → Reasoned b (track_at old i).attempt → Outcome i (if j == i then reason_answered new i reply else b) output.command new
 looked_outcome old new None j i reply terms output b is step h = absurd step
 looked_outcome old new (Some q) j i reply terms output b is step h =
@@ -301,12 +301,12 @@ looked_outcome old new (Some q) j i reply terms output b is step h =
     )
 
 renewed_outcome :
-    (old new : State) (found : Option Out) (j i : ℕ) (reply : Reply) (output : Output) (b : Bool) → request_out old.out j Renew ≡ found → StepRenewed old found reply output new →
+    (old new : WatchState) (found : Option Out) (j i : ℕ) (reply : Reply) (output : Output) (b : Bool) → request_out old.out j Renew ≡ found → StepRenewed old found reply output new →
     Reasoned b (track_at old i).attempt → Outcome i (if j == i then reason_answered new i reply else b) output.command new
 renewed_outcome old new None j i reply output b is step h = absurd step
 renewed_outcome old new (Some q) j i reply output b is step h =
     let s = noted old q reply in
-    let mid = renewed s q reply in (
+    let mid = state_renewed s q reply in (
       quiet i output _ (if j == i then reason_answered new i reply else b) step.0 refl,
       answered old mid new q reply j i b step.1 (out_entry old.out j Renew q is) (λ apart. get_or-set_other s.tracks q.entry i _ no_track (λ e. apart (sym e)))
           (renewed_own s (replied mid q reply) q reply) h,
@@ -314,22 +314,22 @@ renewed_outcome old new (Some q) j i reply output b is step h =
 
 -- a step, and a turn
 step_outcome :
-    (old new : State) (event : Event) (output : Output) (i : ℕ) (b : Bool) → Step old event output new → Reasoned b (track_at old i).attempt → Outcome i (reason_taken i b event output new) output.command new
+    (old new : WatchState) (event : Event) (output : Output) (i : ℕ) (b : Bool) → Step old event output new → Reasoned b (track_at old i).attempt → Outcome i (reason_taken i b event output new) output.command new
 step_outcome old new (Clock wall elapsed) output i b step h = clock_outcome old new wall elapsed output i b step h
 step_outcome old new (Looked j reply terms) output i b step h = looked_outcome old new (request_out old.out j Look) j i reply terms output b refl step h
 step_outcome old new (Renewed j reply) output i b step h = renewed_outcome old new (request_out old.out j Renew) j i reply output b refl step h
-step_outcome old new (Need j until) output i b step h = (quiet i output _ b step.0 refl, subst (λ (x : State). Reasoned b (track_at x i).attempt) (sym step.1) h)
-step_outcome old new Begin output i b step h = (quiet i output _ b step.0 refl, subst (λ (x : State). Reasoned b (track_at x i).attempt) (sym step.1) h)
+step_outcome old new (Need j until) output i b step h = (quiet i output _ b step.0 refl, subst (λ (x : WatchState). Reasoned b (track_at x i).attempt) (sym step.1) h)
+step_outcome old new Begin output i b step h = (quiet i output _ b step.0 refl, subst (λ (x : WatchState). Reasoned b (track_at x i).attempt) (sym step.1) h)
 step_outcome old new (Known j end renewable) output i b step h =
-    (quiet i output _ b step.0 refl, subst (λ (x : State). Reasoned b (track_at x i).attempt) (sym step.1) (set_kept (Still b) (λ x k. k) old.tracks j _ (λ k. k) i h))
+    (quiet i output _ b step.0 refl, subst (λ (x : WatchState). Reasoned b (track_at x i).attempt) (sym step.1) (set_kept (Still b) (λ x k. k) old.tracks j _ (λ k. k) i h))
 
 turn_outcome :
-    (old new : State) (event : Event) (result : Result Output WatchFault) (i : ℕ) (b : Bool) → Turn old event result new → Reasoned b (track_at old i).attempt →
-    (renews i (requests_of result) ≡ true → reason i b event result new ≡ true) × Reasoned (reason i b event result new) (track_at new i).attempt
+    (old new : WatchState) (event : Event) (result : Result Output WatchFault) (i : ℕ) (b : Bool) → Turn old event result new → Reasoned b (track_at old i).attempt →
+    (renewal_goes_out i (requests_of result) ≡ true → reason i b event result new ≡ true) × Reasoned (reason i b event result new) (track_at new i).attempt
 turn_outcome old new event (Ok output) i b turn h = step_outcome old new event output i b turn.1 h
-turn_outcome old new event (Err fault) i b turn h = ((λ renew. absurd cc), subst (λ (x : State). Reasoned b (track_at x i).attempt) (sym (refused_stays old new event fault turn)) h)
+turn_outcome old new event (Err fault) i b turn h = ((λ renew. absurd cc), subst (λ (x : WatchState). Reasoned b (track_at x i).attempt) (sym (refused_stays old new event fault turn)) h)
 
-ran : (turns : List Turned) (old : State) (i : ℕ) (b : Bool) → History old turns → Reasoned b (track_at old i).attempt → AllReasoned i b turns
+ran : (turns : List Turned) (old : WatchState) (i : ℕ) (b : Bool) → History old turns → Reasoned b (track_at old i).attempt → AllReasoned i b turns
 ran [] old i b h reasoned = tt
 ran (turn ∷ turns) old i b h reasoned =
     let here = turn_outcome old turn.state turn.event turn.result i b h.0 reasoned in

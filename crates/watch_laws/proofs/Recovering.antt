@@ -14,20 +14,19 @@ use Rattle.watch_machine.specs.declared.event.Terms.{Terms}
 use Rattle.watch_machine.specs.declared.fault.WatchFault.{WatchFault}
 use Rattle.watch_machine.specs.declared.lanes.Out.{Out}
 use Rattle.watch_machine.specs.Answers.{noted, replied}
-use Rattle.watch_machine.specs.History.{History, Turn, Turned}
+use Rattle.watch_machine.specs.History.{History, Turn, Turned, after_all}
 use Rattle.watch_machine.specs.Looked.{looked}
 use Rattle.watch_machine.specs.Press.{pressed}
 use Rattle.watch_machine.specs.Refusal.{request_out}
-use Rattle.watch_machine.specs.Renewed.{renewed}
+use Rattle.watch_machine.specs.Renewed.{state_renewed}
 use Rattle.watch_machine.specs.Sending.{sent}
 use Rattle.watch_machine.specs.Settling.{timed}
-use Rattle.watch_machine.specs.State.{State, opened}
+use Rattle.watch_machine.specs.State.{WatchState, opened}
 use Rattle.watch_machine.specs.Step.{Step, StepLooked, StepRenewed, readied}
 use Rattle.watch_machine.specs.Wait.{wait}
 use Rattle.watch_machine.proofs.Cases.{not_both}
-use Rattle.watch_laws.specs.Outage.{coming, comes, how_many, is_served, is_tried, is_whole, next_after, next_after_command, next_by, settled_by, waiting, waits}
+use Rattle.watch_laws.specs.Outage.{coming, comes, how_many, is_request_served, is_tried, is_request_whole, outage_next_after, outage_next_after_command, outage_next_by, outage_settled_by, waiting, waits_to_be_asked}
 use Rattle.watch_laws.specs.Recovery.{AllBy, ArePassing, IsPassed, IsPassing, MayGo, RecoveryLaw, calm}
-use Rattle.watch_laws.specs.Turns.{after_all}
 use Rattle.watch_laws.proofs.Answering.{looked_leaves, renewed_leaves, rest_of}
 use Rattle.watch_laws.proofs.Clocking.{readied_clocks, refused_stays}
 use Rattle.watch_laws.proofs.Counting.{lanes_apart, least_all, some}
@@ -40,17 +39,17 @@ use Rattle.watch_laws.proofs.Stages.{IsBase, one_left, quick_if, take_one, whole
 use Rattle.watch_laws.proofs.Ticking.{any_gives, anew_none, later_than, none_passes, one_lane, some_lane}
 
 -- every request is whole
-pub all_whole : (quick late since : ℕ) → is_whole (calm quick late) since ≡ true
+pub all_whole : (quick late since : ℕ) → is_request_whole (calm quick late) since ≡ true
 all_whole quick late since = whole_after (calm quick late) since (omega arith)
 
-pub settles_so : (quick late since : ℕ) → settled_by (calm quick late) since ≡ since + quick
+pub settles_so : (quick late since : ℕ) → outage_settled_by (calm quick late) since ≡ since + quick
 settles_so quick late since = quick_if (calm quick late) since (all_whole quick late since)
 
 abbrev pub Timely : ℕ → ℕ → ℕ → Out → Type 0
-Timely quick late due q = due ≤ settled_by (calm quick late) q.since + late
+Timely quick late due q = due ≤ outage_settled_by (calm quick late) q.since + late
 
 -- after a turn: r rounds hold those that wait, but for those that went out after from; and by is the last moment
-pub record Passes (quick late width n i by due k : ℕ) (s : State) : Type 0 where
+pub record Passes (quick late width n i by due k : ℕ) (s : WatchState) : Type 0 where
   pub base : IsBase width n s
   pub timely : All (Timely quick late due) s.out
   pub r : ℕ
@@ -61,15 +60,15 @@ pub record Passes (quick late width n i by due k : ℕ) (s : State) : Type 0 whe
   pub now : s.clocks.at ≤ by
 
 -- who may go out and has not finds all lanes taken
-pub full_lanes : (old new : State) (wall elapsed : ℕ) (output : Output) (i width : ℕ) → Ticks old new wall elapsed output → MayGo new i → new.width ≡ width → width ≤ length new.out
+pub full_lanes : (old new : WatchState) (wall elapsed : ℕ) (output : Output) (i width : ℕ) → Ticks old new wall elapsed output → MayGo new i → new.width ≡ width → width ≤ length new.out
 full_lanes old new wall elapsed output i width h m wide =
     let ready' = readied old wall elapsed in
     let end = sent (pressed ready' h.round) h.requests in
     let is = h.new_is in
     let u = m.attempt in
-    let go : MayGo end i = subst (λ (x : State). MayGo x i) is m in
-    let w : end.width ≡ width = ap (λ (x : State). x.width) (sym is) ∙ wide in
-    let all = ap (λ (x : State). length x.out) is in
+    let go : MayGo end i = subst (λ (x : WatchState). MayGo x i) is m in
+    let w : end.width ≡ width = ap (λ (x : WatchState). x.width) (sym is) ∙ wide in
+    let all = ap (λ (x : WatchState). length x.out) is in
     elim (tended ready' h.round h.requests i go.attempt h.going go.within go.free go.attempt_is) as (λ _. width ≤ length new.out) [
       | inl later ↦ (let due = go.due in let ahead = later.0 in absurd (omega (arith, due, ahead)))
       | inr full ↦ omega (arith, full, w, all)
@@ -77,7 +76,7 @@ full_lanes old new wall elapsed output i width h m wide =
 
 -- so the next clock comes soon
 pub soon_next :
-    (quick late width n i by due : ℕ) (s : State) → 0 < width → IsBase width n s → All (Timely quick late due) s.out → width ≤ length s.out → due ≤ s.clocks.at + (quick + late)
+    (quick late width n i by due : ℕ) (s : WatchState) → 0 < width → IsBase width n s → All (Timely quick late due) s.out → width ≤ length s.out → due ≤ s.clocks.at + (quick + late)
 soon_next quick late width n i by due s wide base timely full =
     let now = base.since in
     any_gives (due ≤ s.clocks.at + (quick + late)) (λ q. true) s.out (some_lane s.out (omega (arith, wide, full)))
@@ -90,33 +89,33 @@ soon_next quick late width n i by due s wide base timely full =
 
 -- a clock
 pub clock_passes :
-    (quick late width n i by due rest : ℕ) (old new : State) (wall elapsed : ℕ) (output : Output) → 0 < width → i < n → Step old (Clock wall elapsed) output new → (timed old wall elapsed).clocks.at ≤ due → MayGo new i →
+    (quick late width n i by due rest : ℕ) (old new : WatchState) (wall elapsed : ℕ) (output : Output) → 0 < width → i < n → Step old (Clock wall elapsed) output new → (timed old wall elapsed).clocks.at ≤ due → MayGo new i →
     IsBase width n new → Sends old new n → Passes quick late width n i by due (waiting (calm quick late) n old + (how_many n (comes (calm quick late) old new) + rest)) old →
-    Passes quick late width n i by (next_after_command (calm quick late) output.command new due) (waiting (calm quick late) n new + rest) new
+    Passes quick late width n i by (outage_next_after_command (calm quick late) output.command new due) (waiting (calm quick late) n new + rest) new
 clock_passes quick late width n i by due rest old new wall elapsed output wide low step in_time m base sends p =
     let o = calm quick late in
     let h = ticks old new wall elapsed output step in
     let at = new.clocks.at in
-    let c = ap (λ (x : State). x.clocks.at) h.new_is ∙ ap (λ x. x.at) (readied_clocks old wall elapsed) in
+    let c = ap (λ (x : WatchState). x.clocks.at) h.new_is ∙ ap (λ x. x.at) (readied_clocks old wall elapsed) in
     let k = waiting o n new + rest in
     let full = full_lanes old new wall elapsed output i width h m base.fits.0 in
-    let due' = next_by o (wait new) new.out in
-    let timely : All (Timely quick late due') new.out = least_all (λ (q : Out). settled_by o q.since + late) (wait new + late) new.out in
+    let due' = outage_next_by o (wait new) new.out in
+    let timely : All (Timely quick late due') new.out = least_all (λ (q : Out). outage_settled_by o q.since + late) (wait new + late) new.out in
     let less = fewer_wait o (suc p.from) n old new p.base.alone base.alone base.tries sends in
     let count = p.count in
     let start = p.start in
     let next = p.next in
     let tried : is_tried new i ≡ true = ap is_some m.attempt_is in
-    let unserved : is_served o new i ≡ false =
-    elim (cases_Bool (is_served o new i)) as (λ _. is_served o new i ≡ false) [
+    let unserved : is_request_served o new i ≡ false =
+    elim (cases_Bool (is_request_served o new i)) as (λ _. is_request_served o new i ≡ false) [
       | inl served ↦ absurd (not_both (served_marked o new i base.alone served) m.free)
       | inr no' ↦ no'
     ] in
-    let one = some n i (waits o new) low (and_from (is_tried new i) (not (is_served o new i)) tried (ap not unserved)) in
+    let one = some n i (waits_to_be_asked o new) low (and_from (is_tried new i) (not (is_request_served o new i)) tried (ap not unserved)) in
     let r = one_left width p.r k (omega (arith, less, count)) (omega (arith, one)) in
     let g = ap (λ x. (quick + late) * x) r.1 ∙ mul-suc (quick + late) r.0 in
     let soon = soon_next quick late width n i by due' new wide base timely full in
-    subst (λ x. Passes quick late width n i by (next_after_command o x new due) k new) (sym h.command)
+    subst (λ x. Passes quick late width n i by (outage_next_after_command o x new due) k new) (sym h.command)
     (elim (cases_Bool (list_any (λ (q : Out). nat_le q.since p.from) new.out)) as (λ _. Passes quick late width n i by due' k new) [
       | inl some' ↦
           let before : due' ≤ p.from + (quick + late) =
@@ -131,12 +130,12 @@ clock_passes quick late width n i by due rest old new wall elapsed output wide l
       | inr none' ↦
           let late' = none_passes (λ (q : Out). nat_le q.since p.from) new.out none' in
           let within = base.within in
-          let anew = lanes_apart n (λ (q : Out). is_whole o q.since && nat_le (suc p.from) q.since) new.out (λ j. one_lane new j base.alone)
+          let anew = lanes_apart n (λ (q : Out). is_request_whole o q.since && nat_le (suc p.from) q.since) new.out (λ j. one_lane new j base.alone)
           (λ j d below.
           let q = get_or new.out j d in
           let l = later_than p.from q.since (late' j d below) in
           let test : nat_le (suc p.from) q.since ≡ true = grind (arith, nat_tests) in
-          (within j d below, and_from (is_whole o q.since) (nat_le (suc p.from) q.since) (all_whole quick late q.since) test)) in
+          (within j d below, and_from (is_request_whole o q.since) (nat_le (suc p.from) q.since) (all_whole quick late q.since) test)) in
           let q = take_one width p.r (k + how_many n (is_anew o (suc p.from) new)) k wide (omega (arith, full, anew)) (omega (arith, less, count)) in
           let e = ap (λ x. (quick + late) * x) q.1.0 ∙ mul-suc (quick + late) q.0 in
           let zero' = anew_none o (suc at) n new base.since (omega arith) in
@@ -154,43 +153,43 @@ clock_passes quick late width n i by due rest old new wall elapsed output wide l
     ])
 
 -- any other event leaves the clock, and what is out
-abbrev pub Quiet : ℕ → ℕ → ℕ → State → State → Output → Type 0
+abbrev pub Quiet : ℕ → ℕ → ℕ → WatchState → WatchState → Output → Type 0
 Quiet quick late due old new output =
-    (new.clocks.at ≡ old.clocks.at) × ((All (Timely quick late due) old.out → All (Timely quick late due) new.out) × (next_after_command (calm quick late) output.command new due ≡ due))
+    (new.clocks.at ≡ old.clocks.at) × ((All (Timely quick late due) old.out → All (Timely quick late due) new.out) × (outage_next_after_command (calm quick late) output.command new due ≡ due))
 
-answer_quiet : (quick late due : ℕ) (old mid new : State) (q : Out) (reply : Reply) (output out : Output) → new ≡ replied mid q reply → mid.out ≡ old.out → new.clocks ≡ old.clocks → output ≡ out → out.command ≡ Taken → Quiet quick late due old new output
+answer_quiet : (quick late due : ℕ) (old mid new : WatchState) (q : Out) (reply : Reply) (output out : Output) → new ≡ replied mid q reply → mid.out ≡ old.out → new.clocks ≡ old.clocks → output ≡ out → out.command ≡ Taken → Quiet quick late due old new output
 answer_quiet quick late due old mid new q reply output out is outs clocks made taken' = (
   ap (λ c. c.at) clocks,
   (
-    (λ all. subst (λ (x : State). All (Timely quick late due) x.out) (sym is) (all_left (Timely quick late due) (λ r h. h) mid q reply (subst (All (Timely quick late due)) (sym outs) all))),
-    ap (λ c. next_after_command (calm quick late) c new due) (ap (λ (x : Output). x.command) made ∙ taken'),
+    (λ all. subst (λ (x : WatchState). All (Timely quick late due) x.out) (sym is) (all_left (Timely quick late due) (λ r h. h) mid q reply (subst (All (Timely quick late due)) (sym outs) all))),
+    ap (λ c. outage_next_after_command (calm quick late) c new due) (ap (λ (x : Output). x.command) made ∙ taken'),
   ),
 )
 
-pub looked_quiet : (quick late due : ℕ) (old new : State) (found : Option Out) (reply : Reply) (terms : Terms) (output : Output) → StepLooked old found reply terms output new → Quiet quick late due old new output
+pub looked_quiet : (quick late due : ℕ) (old new : WatchState) (found : Option Out) (reply : Reply) (terms : Terms) (output : Output) → StepLooked old found reply terms output new → Quiet quick late due old new output
 looked_quiet quick late due old new None reply terms output step = absurd step
 looked_quiet quick late due old new (Some q) reply terms output step =
     let s = noted old q reply in
-    answer_quiet quick late due old (looked s q reply terms) new q reply output _ step.1 (looked_out s q reply terms) (ap (λ (x : State). x.clocks) (ap rest_of step.1 ∙ looked_leaves old q reply terms)) step.0 refl
+    answer_quiet quick late due old (looked s q reply terms) new q reply output _ step.1 (looked_out s q reply terms) (ap (λ (x : WatchState). x.clocks) (ap rest_of step.1 ∙ looked_leaves old q reply terms)) step.0 refl
 
-pub renewed_quiet : (quick late due : ℕ) (old new : State) (found : Option Out) (reply : Reply) (output : Output) → StepRenewed old found reply output new → Quiet quick late due old new output
+pub renewed_quiet : (quick late due : ℕ) (old new : WatchState) (found : Option Out) (reply : Reply) (output : Output) → StepRenewed old found reply output new → Quiet quick late due old new output
 renewed_quiet quick late due old new None reply output step = absurd step
 renewed_quiet quick late due old new (Some q) reply output step =
-    answer_quiet quick late due old (renewed (noted old q reply) q reply) new q reply output _ step.1 refl (ap (λ (x : State). x.clocks) (ap rest_of step.1 ∙ renewed_leaves old q reply)) step.0 refl
+    answer_quiet quick late due old (state_renewed (noted old q reply) q reply) new q reply output _ step.1 refl (ap (λ (x : WatchState). x.clocks) (ap rest_of step.1 ∙ renewed_leaves old q reply)) step.0 refl
 
-pub same_quiet : (quick late due : ℕ) (old mid new : State) (output out : Output) → new ≡ mid → mid.clocks ≡ old.clocks → mid.out ≡ old.out → output ≡ out → out.command ≡ Taken → Quiet quick late due old new output
+pub same_quiet : (quick late due : ℕ) (old mid new : WatchState) (output out : Output) → new ≡ mid → mid.clocks ≡ old.clocks → mid.out ≡ old.out → output ≡ out → out.command ≡ Taken → Quiet quick late due old new output
 same_quiet quick late due old mid new output out is clocks outs made taken' = (
-  ap (λ (x : State). x.clocks.at) is ∙ ap (λ c. c.at) clocks,
+  ap (λ (x : WatchState). x.clocks.at) is ∙ ap (λ c. c.at) clocks,
   (
-    (λ all. subst (All (Timely quick late due)) (sym (ap (λ (x : State). x.out) is ∙ outs)) all),
-    ap (λ c. next_after_command (calm quick late) c new due) (ap (λ (x : Output). x.command) made ∙ taken'),
+    (λ all. subst (All (Timely quick late due)) (sym (ap (λ (x : WatchState). x.out) is ∙ outs)) all),
+    ap (λ c. outage_next_after_command (calm quick late) c new due) (ap (λ (x : Output). x.command) made ∙ taken'),
   ),
 )
 
 pub quiet_passes :
-    (quick late width n i by due rest : ℕ) (old new : State) (output : Output) → Quiet quick late due old new output → IsBase width n new → Sends old new n →
+    (quick late width n i by due rest : ℕ) (old new : WatchState) (output : Output) → Quiet quick late due old new output → IsBase width n new → Sends old new n →
     Passes quick late width n i by due (waiting (calm quick late) n old + (how_many n (comes (calm quick late) old new) + rest)) old →
-    Passes quick late width n i by (next_after_command (calm quick late) output.command new due) (waiting (calm quick late) n new + rest) new
+    Passes quick late width n i by (outage_next_after_command (calm quick late) output.command new due) (waiting (calm quick late) n new + rest) new
 quiet_passes quick late width n i by due rest old new output quiet base sends p =
     let o = calm quick late in
     let less = fewer_wait o (suc p.from) n old new p.base.alone base.alone base.tries sends in
@@ -201,9 +200,9 @@ quiet_passes quick late width n i by due rest old new output quiet base sends p 
     (record { base = base; timely = quiet.1.0 p.timely; r = p.r; from = p.from; count = omega (arith, less, count); start = p.start; next = p.next; now = omega (arith, c, now) })
 
 step_passes :
-    (quick late width n i by due rest : ℕ) (old new : State) (event : Event) (output : Output) → 0 < width → i < n → Step old event output new → IsPassing i due old event new → IsBase width n new → Sends old new n →
+    (quick late width n i by due rest : ℕ) (old new : WatchState) (event : Event) (output : Output) → 0 < width → i < n → Step old event output new → IsPassing i due old event new → IsBase width n new → Sends old new n →
     Passes quick late width n i by due (waiting (calm quick late) n old + (how_many n (comes (calm quick late) old new) + rest)) old →
-    Passes quick late width n i by (next_after_command (calm quick late) output.command new due) (waiting (calm quick late) n new + rest) new
+    Passes quick late width n i by (outage_next_after_command (calm quick late) output.command new due) (waiting (calm quick late) n new + rest) new
 step_passes quick late width n i by due rest old new (Clock wall elapsed) output wide low step passing base sends p =
     clock_passes quick late width n i by due rest old new wall elapsed output wide low step passing.0 passing.1 base sends p
 step_passes quick late width n i by due rest old new (Looked j reply terms) output wide low step passing base sends p =
@@ -218,9 +217,9 @@ step_passes quick late width n i by due rest old new (Known j end renewable) out
     quiet_passes quick late width n i by due rest old new output (same_quiet quick late due old _ new output _ step.1 refl refl step.0 refl) base sends p
 
 turn_passes :
-    (quick late width n i by due rest : ℕ) (old new : State) (event : Event) (result : Result Output WatchFault) → 0 < width → i < n → Turn old event result new → IsPassed i due old event result new → IsBase width n new →
+    (quick late width n i by due rest : ℕ) (old new : WatchState) (event : Event) (result : Result Output WatchFault) → 0 < width → i < n → Turn old event result new → IsPassed i due old event result new → IsBase width n new →
     Sends old new n → Passes quick late width n i by due (waiting (calm quick late) n old + (how_many n (comes (calm quick late) old new) + rest)) old →
-    Passes quick late width n i by (next_after (calm quick late) result new due) (waiting (calm quick late) n new + rest) new
+    Passes quick late width n i by (outage_next_after (calm quick late) result new due) (waiting (calm quick late) n new + rest) new
 turn_passes quick late width n i by due rest old new event (Ok output) wide low turn passing base sends p = step_passes quick late width n i by due rest old new event output wide low turn.1 passing base sends p
 turn_passes quick late width n i by due rest old new event (Err fault) wide low turn passing base sends p =
     let o = calm quick late in
@@ -228,10 +227,10 @@ turn_passes quick late width n i by due rest old new event (Err fault) wide low 
     let less = fewer_wait o (suc p.from) n old new p.base.alone base.alone base.tries sends in
     let count = p.count in
     let now = p.now in
-    let c = ap (λ (x : State). x.clocks.at) is in
+    let c = ap (λ (x : WatchState). x.clocks.at) is in
     record {
       base = base;
-      timely = subst (λ (x : State). All (Timely quick late due) x.out) (sym is) p.timely;
+      timely = subst (λ (x : WatchState). All (Timely quick late due) x.out) (sym is) p.timely;
       r = p.r;
       from = p.from;
       count = omega (arith, less, count);
@@ -241,7 +240,7 @@ turn_passes quick late width n i by due rest old new event (Err fault) wide low 
     }
 
 along :
-    (quick late width n i by : ℕ) → 0 < width → i < n → (turns : List Turned) (due : ℕ) (old : State) → History old turns → ArePassing (calm quick late) i due old turns →
+    (quick late width n i by : ℕ) → 0 < width → i < n → (turns : List Turned) (due : ℕ) (old : WatchState) → History old turns → ArePassing (calm quick late) i due old turns →
     Passes quick late width n i by due (waiting (calm quick late) n old + coming (calm quick late) n old turns) old → AllBy by turns
 along quick late width n i by wide low [] due old history passing p = tt
 along quick late width n i by wide low (turn ∷ turns) due old history passing p =
@@ -249,7 +248,7 @@ along quick late width n i by wide low (turn ∷ turns) due old history passing 
     let count = base.count in
     let sends = turn_sends old turn.state turn.event turn.result n (omega (arith, count)) history.0 in
     let here = turn_passes quick late width n i by due (coming (calm quick late) n turn.state turns) old turn.state turn.event turn.result wide low history.0 passing.0 base sends p in
-    (here.now, along quick late width n i by wide low turns (next_after (calm quick late) turn.result turn.state due) turn.state history.1 passing.1 here)
+    (here.now, along quick late width n i by wide low turns (outage_next_after (calm quick late) turn.result turn.state due) turn.state history.1 passing.1 here)
 
 pub recovers : RecoveryLaw
 recovers quick late rounds g width before last turns i wide run clock taken' m passing few =
@@ -261,8 +260,8 @@ recovers quick late rounds g width before last turns i wide run clock taken' m p
     let s = last.state in
     let start = starts o old last last.event last.result refl history.0 clock taken' in
     let base = turn_base width n old s last.event last.result history.0 (ran_base width n before (opened g width) first (opened_base g width)) in
-    let due = next_by o (wait s) s.out in
-    let timely : All (Timely quick late due) s.out = least_all (λ (q : Out). settled_by o q.since + late) (wait s + late) s.out in
+    let due = outage_next_by o (wait s) s.out in
+    let timely : All (Timely quick late due) s.out = least_all (λ (q : Out). outage_settled_by o q.since + late) (wait s + late) s.out in
     let full = full_lanes old s start.wall start.elapsed start.output i width start.ticks' m base.fits.0 in
     let at = s.clocks.at in
     let by = at + (quick + late) * rounds in

@@ -11,13 +11,13 @@ use Rattle.watch_machine.specs.declared.event.Reply.TheVariants.{Told, Refused, 
 use Rattle.watch_machine.specs.declared.track.Track.{Track}
 use Rattle.watch_machine.specs.declared.track.Try.{Try}
 use Rattle.watch_machine.specs.Answers.{back_track, back_try, failing}
-use Rattle.watch_machine.specs.Beginning.{hastened, owed, owing, owing_lookup, soon, sooner, untopped_track}
+use Rattle.watch_machine.specs.Beginning.{hastened, owed, owing, owing_lookup, soon, sooner_try, untopped_track}
 use Rattle.watch_machine.specs.Clocks.{ms, sec}
 use Rattle.watch_machine.specs.Lines.{rested}
 use Rattle.watch_machine.specs.Looked.{at_once, refused_try, told_try, untold, untold_track, untold_try}
 use Rattle.watch_machine.specs.Margins.{has_come}
 use Rattle.watch_machine.specs.Pauses.{cap, cap_of, doubled, left_to, pause}
-use Rattle.watch_machine.specs.Press.{asked_in, asked_track, dropped, is_fresh, let_go, press, pressed_track}
+use Rattle.watch_machine.specs.Press.{asked_track, dropped, is_fresh, let_go, press, pressed_track, track_asked_in}
 use Rattle.watch_machine.specs.Renewed.{granted_from, granted_try, ungranted, ungranted_track}
 use Rattle.watch_machine.specs.Settling.{settled_track, settled_try}
 use Rattle.watch_machine.specs.Wanted.{is_alive, is_open, wants}
@@ -95,7 +95,7 @@ module _ (r : Sent) where
   soon_rests : (at : ℕ) (x : Track) → x.last ≡ Some r.at → r.at + 1000 ≤ soon at x
   soon_rests at x last = let is = rested_is r x.last last in let m = le-max_right at (rested x.last) in omega (arith, is, m)
 
-  sooner_follows : (at : ℕ) (o : Option Try) → r.at + 1000 ≤ at → IfSome o (Follows r) → Follows r (sooner at o)
+  sooner_follows : (at : ℕ) (o : Option Try) → r.at + 1000 ≤ at → IfSome o (Follows r) → Follows r (sooner_try at o)
   sooner_follows at None later h = inl later
   sooner_follows at (Some t) later h = elim h as (λ _. Follows r (hastened t at)) [ inl after ↦ inl (omega (arith, after, later)) | inr renewal ↦ inr renewal ]
 
@@ -106,7 +106,7 @@ module _ (r : Sent) where
   unfolding owing
   owing_ready at called x h =
       if_cases (IsReady r) (called && is_open (sec at) x) (owing_lookup at x) x
-      (λ e. if_cases (IsReady r) x.out (record x { owes = true }) (record x { owes = true; attempt = Some (sooner (soon at x) x.attempt) })
+      (λ e. if_cases (IsReady r) x.out (record x { owes = true }) (record x { owes = true; attempt = Some (sooner_try (soon at x) x.attempt) })
       (λ out. record { last = h.last; attempt = h.attempt })
       (λ free. record { last = h.last; attempt = λ f. sooner_follows (soon at x) x.attempt (soon_rests at x h.last) (h.attempt free) }))
       (λ e. h)
@@ -134,7 +134,7 @@ module _ (r : Sent) where
       (λ other. if_cases (IsReady r) (wants x need || x.out) x (record x { attempt = dropped x x.attempt }) (λ e. h)
       (λ e. record { last = h.last; attempt = λ free. dropped_follows x x.attempt h.last (h.attempt free) }))
 
-  pub asked_ready : (margin : ℕ) (e : Entry) (at : ℕ) (round : List ℕ) (i : ℕ) (x : Track) → IsReady r x → IsReady r (asked_in margin e at round i x)
+  pub asked_ready : (margin : ℕ) (e : Entry) (at : ℕ) (round : List ℕ) (i : ℕ) (x : Track) → IsReady r x → IsReady r (track_asked_in margin e at round i x)
   unfolding asked_track
   asked_ready margin e at round i x h =
       if_cases (IsReady r) (list_any (λ j. j == i) round) (asked_track margin e at x) x

@@ -20,40 +20,41 @@ use Rattle.watch_machine.specs.declared.notes.Why.{Why}
 use Rattle.watch_machine.specs.declared.track.Track.{Track}
 use Rattle.watch_machine.specs.declared.track.Try.{Try}
 use Rattle.watch_machine.specs.Answers.{answers_all, back_track, lane_freed, noted, replied, silent}
-use Rattle.watch_machine.specs.Beginning.{begun, hastened, is_called, owed, owing, owing_lookup, soon, sooner, untopped, untopped_track}
+use Rattle.watch_machine.specs.Beginning.{begun, hastened, is_called, owed, owing, owing_lookup, soon, sooner_try, untopped, untopped_track}
 use Rattle.watch_machine.specs.Clocks.{ms, sec}
 use Rattle.watch_machine.specs.History.{History, Turn, Turned}
 use Rattle.watch_machine.specs.Lines.{is_first, later_at, ready, rested}
-use Rattle.watch_machine.specs.Looked.{looked, told_by, told_state, told_track, untold_track}
+use Rattle.watch_machine.specs.Looked.{looked, told_state, told_track, untold_track, with_told_try}
 use Rattle.watch_machine.specs.Margins.{has_come}
 use Rattle.watch_machine.specs.Pauses.{cap, cap_of, doubled, left_to, pause}
-use Rattle.watch_machine.specs.Press.{asked_in, asked_track, dropped, is_fresh, let_go, press, pressed, pressed_alone, pressed_track}
+use Rattle.watch_machine.specs.Press.{asked_track, dropped, is_fresh, let_go, press, pressed, pressed_alone, pressed_track, track_asked_in}
 use Rattle.watch_machine.specs.Refusal.{request_out}
-use Rattle.watch_machine.specs.Renewed.{granted_from, renewed, renewed_track, ungranted_track}
-use Rattle.watch_machine.specs.Round.{asked_by as round_of}
+use Rattle.watch_machine.specs.Renewed.{granted_from, renewed_track, state_renewed, ungranted_track}
+use Rattle.watch_machine.specs.Round.{asked_by_round as round_of}
 use Rattle.watch_machine.specs.Sending.{sent, sent_in, sent_track}
 use Rattle.watch_machine.specs.Settling.{count_after, held, held_back, held_by, held_try, hold_after, is_busy, is_real, is_silent, presence_after, settled, settled_track, settled_try, timed}
-use Rattle.watch_machine.specs.State.{State, attempt_at, fresh_track, no_track, opened, track_at, track_in}
+use Rattle.watch_machine.specs.State.{WatchState, attempt_at, fresh_track, no_track, opened, track_at, track_in}
 use Rattle.watch_machine.specs.Step.{Step, StepClock, StepLooked, StepRenewed, known, readied, why}
 use Rattle.watch_machine.specs.Wanted.{is_open, least, need_of, wants}
 use Rattle.watch_machine.proofs.Cases.{if_both, not_both}
-use Rattle.watch_laws.specs.Waiting.{AllRetried, Fails, IsHeldBack, IsSoon, RetryLaw}
+use Rattle.watch_machine.proofs.Leasts.{least_start}
+use Rattle.watch_laws.specs.Waiting.{AllRetried, IsHeldBack, IsSoon, RetryLaw, TryFails}
 use Rattle.watch_laws.proofs.Answering.{looked_leaves, renewed_leaves, rest_of}
 use Rattle.watch_laws.proofs.Clocking.{begun_some, clock_rises, readied_clocks, refused_stays, sent_by}
 use Rattle.watch_laws.proofs.Holding.{looked_presence, ready_presence}
-use Rattle.watch_laws.proofs.Minding.{least_start, some_within}
+use Rattle.watch_laws.proofs.Minding.{some_within}
 use Rattle.watch_laws.proofs.Resting.{cap_above}
 use Rattle.watch_laws.proofs.Tracking.{back_kept, each_holds, each_kept, set_kept}
 
 -- the bounds that every turn keeps: the broker is spared for a second at most, nothing was asked later than now, and nothing is held back
 -- while the broker is there
-pub record IsPast (s : State) : Type 0 where
+pub record IsPast (s : WatchState) : Type 0 where
   pub start : is_none s.begun ≡ true → s.clocks.at ≡ 0
   pub free : s.presence.free ≤ s.clocks.at + 1000
   pub hold : s.presence.away ≡ false → s.presence.hold ≡ 0
   pub last : (i : ℕ) → rested (track_at s i).last ≤ s.clocks.at + 1000
 
-pub rises : (s : State) (wall elapsed : ℕ) → (is_none s.begun ≡ true → s.clocks.at ≡ 0) → s.clocks.at ≤ (timed s wall elapsed).clocks.at
+pub rises : (s : WatchState) (wall elapsed : ℕ) → (is_none s.begun ≡ true → s.clocks.at ≡ 0) → s.clocks.at ≤ (timed s wall elapsed).clocks.at
 rises s wall elapsed start =
     elim (cases_Bool (is_none s.begun)) [
       | inl none ↦ (let z = start none in omega (arith, z))
@@ -130,7 +131,7 @@ module _ (at pause' : ℕ) (t : Try) where
   pressed_now : (along : Bool) (x : Track) → Retried x → Retried (record x { attempt = Some (press at along x) })
   pressed_now along x h = record { last = h.last; comes = λ u is pressed'. subst Comes (same_try (press at along x) u is) (soon_comes along x h.last) }
 
-  sooner_comes : (from : ℕ) (o : Option Try) → ((u : Try) → o ≡ Some u → u.pressed ≡ true → Comes u) → (u : Try) → Some (sooner from o) ≡ Some u → u.pressed ≡ true → Comes u
+  sooner_comes : (from : ℕ) (o : Option Try) → ((u : Try) → o ≡ Some u → u.pressed ≡ true → Comes u) → (u : Try) → Some (sooner_try from o) ≡ Some u → u.pressed ≡ true → Comes u
   sooner_comes from None h u is pressed' = absurd (true≢false (sym pressed' ∙ ap (λ (v : Try). v.pressed) (sym (same_try (owed from) u is))))
   sooner_comes from (Some v) h u is pressed' =
       let same = same_try (hastened v from) u is in
@@ -144,7 +145,7 @@ module _ (at pause' : ℕ) (t : Try) where
   unfolding owing
   owing_retried called x h =
       if_both Retried (called && is_open (sec at) x) (owing_lookup at x) x
-      (if_both Retried x.out (record x { owes = true }) (record x { owes = true; attempt = Some (sooner (soon at x) x.attempt) }) (record { last = h.last; comes = h.comes })
+      (if_both Retried x.out (record x { owes = true }) (record x { owes = true; attempt = Some (sooner_try (soon at x) x.attempt) }) (record { last = h.last; comes = h.comes })
       (record { last = h.last; comes = sooner_comes (soon at x) x.attempt h.comes })) h
 
   let_go_comes : (x : Track) (v u : Try) → let_go x v ≡ Some u → u.pressed ≡ true → Comes u
@@ -164,7 +165,7 @@ module _ (at pause' : ℕ) (t : Try) where
       if_both Retried (is_fresh margin e x need (sec at)) (record x { attempt = Some (press at false x) }) (if wants x need || x.out then x else record x { attempt = dropped x x.attempt }) (pressed_now false x h)
       (if_both Retried (wants x need || x.out) x (record x { attempt = dropped x x.attempt }) h (record { last = h.last; comes = dropped_comes x x.attempt h.comes }))
 
-  asked_retried : (margin : ℕ) (e : Entry) (round : List ℕ) (i : ℕ) (x : Track) → Still (asked_in margin e at round i x) x
+  asked_retried : (margin : ℕ) (e : Entry) (round : List ℕ) (i : ℕ) (x : Track) → Still (track_asked_in margin e at round i x) x
   unfolding asked_track
   asked_retried margin e round i x h =
       if_both Retried (list_any (λ j. j == i) round) (asked_track margin e at x) x
@@ -173,9 +174,9 @@ module _ (at pause' : ℕ) (t : Try) where
   sent_retried : (requests : List Request) (i : ℕ) (x : Track) → Still (sent_in at requests i x) x
   sent_retried requests i x h = if_both Retried (list_any (λ (r : Request). r.entry == i) requests) (sent_track at x) x (record { last = omega arith; comes = h.comes }) h
 
-  end_retried : (s : State) (w : Option Why) (round : List ℕ) (requests : List Request) (i : ℕ) → s.clocks.at ≡ at → Retried (track_at s i) → Retried (track_at (sent (pressed (begun s w) round) requests) i)
+  end_retried : (s : WatchState) (w : Option Why) (round : List ℕ) (requests : List Request) (i : ℕ) → s.clocks.at ≡ at → Retried (track_at s i) → Retried (track_at (sent (pressed (begun s w) round) requests) i)
   end_retried s w round requests i is h = all w where
-    later : (b : State) → b.clocks.at ≡ at → Retried (track_at b i) → Retried (track_at (sent (pressed b round) requests) i)
+    later : (b : WatchState) → b.clocks.at ≡ at → Retried (track_at b i) → Retried (track_at (sent (pressed b round) requests) i)
     later b same k =
         let g = b.forest in
         let c = b.clocks in
@@ -184,8 +185,8 @@ module _ (at pause' : ℕ) (t : Try) where
         let two = each_holds Retried none_retried (λ j. pressed_track g.margin (entry_at g.entries j) (need_of g.entries b.tracks c j) c.at) b.tracks i
         (subst (λ n. Retried (pressed_track g.margin (entry_at g.entries i) (need_of g.entries b.tracks c i) n (track_at b i))) (sym same)
         (pressed_retried g.margin (entry_at g.entries i) (need_of g.entries b.tracks c i) (track_at b i) k)) in
-        let three = each_holds Retried none_retried (λ j. asked_in g.margin (entry_at g.entries j) c.at round j) alone i
-        (subst (λ n. Retried (asked_in g.margin (entry_at g.entries i) n round i (track_in alone i))) (sym same) (asked_retried g.margin (entry_at g.entries i) round i (track_in alone i) two)) in
+        let three = each_holds Retried none_retried (λ j. track_asked_in g.margin (entry_at g.entries j) c.at round j) alone i
+        (subst (λ n. Retried (track_asked_in g.margin (entry_at g.entries i) n round i (track_in alone i))) (sym same) (asked_retried g.margin (entry_at g.entries i) round i (track_in alone i) two)) in
         each_holds Retried none_retried (sent_in c.at requests) mid.tracks i
         (subst (λ n. Retried (sent_in n requests i (track_at mid i))) (sym same) (sent_retried requests i (track_at mid i) three))
 
@@ -220,7 +221,7 @@ owing_ends : (at : ℕ) (called : Bool) (x : Track) → Ends (owing at called x)
 unfolding owing
 owing_ends at called x =
     if_both (λ y. Ends y x) (called && is_open (sec at) x) (owing_lookup at x) x
-    (if_both (λ y. Ends y x) x.out (record x { owes = true }) (record x { owes = true; attempt = Some (sooner (soon at x) x.attempt) }) refl refl) refl
+    (if_both (λ y. Ends y x) x.out (record x { owes = true }) (record x { owes = true; attempt = Some (sooner_try (soon at x) x.attempt) }) refl refl) refl
 
 pressed_ends : (margin : ℕ) (e : Entry) (need at : ℕ) (x : Track) → Ends (pressed_track margin e need at x) x
 unfolding pressed_track
@@ -228,7 +229,7 @@ pressed_ends margin e need at x =
     if_both (λ y. Ends y x) (is_fresh margin e x need (sec at)) (record x { attempt = Some (press at false x) }) (if wants x need || x.out then x else record x { attempt = dropped x x.attempt }) refl
     (if_both (λ y. Ends y x) (wants x need || x.out) x (record x { attempt = dropped x x.attempt }) refl refl)
 
-asked_ends : (margin : ℕ) (e : Entry) (at : ℕ) (round : List ℕ) (i : ℕ) (x : Track) → Ends (asked_in margin e at round i x) x
+asked_ends : (margin : ℕ) (e : Entry) (at : ℕ) (round : List ℕ) (i : ℕ) (x : Track) → Ends (track_asked_in margin e at round i x) x
 unfolding asked_track
 asked_ends margin e at round i x =
     if_both (λ y. Ends y x) (list_any (λ j. j == i) round) (asked_track margin e at x) x
@@ -238,14 +239,14 @@ settled_ends : (margin at : ℕ) (x : Track) → Ends (settled_track margin at x
 unfolding settled_track
 settled_ends margin at x = refl
 
-begun_ends : (s : State) (w : Option Why) (i : ℕ) → Ends (track_at (begun s w) i) (track_at s i)
+begun_ends : (s : WatchState) (w : Option Why) (i : ℕ) → Ends (track_at (begun s w) i) (track_at s i)
 begun_ends s None i = refl
 begun_ends s (Some w) i =
     let xs = untopped s.tracks in
     each_kept Ends refl (λ j. owing s.clocks.at (is_called s.forest xs s.clocks j)) xs (λ j x. owing_ends s.clocks.at (is_called s.forest xs s.clocks j) x) i
     ∙ each_kept Ends refl (λ j. untopped_track) s.tracks (λ j x. refl) i
 
-end_ends : (s : State) (w : Option Why) (round : List ℕ) (requests : List Request) (i : ℕ) → Ends (track_at (sent (pressed (begun s w) round) requests) i) (track_at s i)
+end_ends : (s : WatchState) (w : Option Why) (round : List ℕ) (requests : List Request) (i : ℕ) → Ends (track_at (sent (pressed (begun s w) round) requests) i) (track_at s i)
 end_ends s w round requests i =
     let b = begun s w in
     let g = b.forest in
@@ -253,7 +254,7 @@ end_ends s w round requests i =
     let alone = pressed_alone g c b.tracks in
     let mid = pressed b round in
     each_kept Ends refl (sent_in c.at requests) mid.tracks (λ j x. if_both (λ y. Ends y x) (list_any (λ (r : Request). r.entry == j) requests) (sent_track c.at x) x refl refl) i
-    ∙ each_kept Ends refl (λ j. asked_in g.margin (entry_at g.entries j) c.at round j) alone (λ j x. asked_ends g.margin (entry_at g.entries j) c.at round j x) i
+    ∙ each_kept Ends refl (λ j. track_asked_in g.margin (entry_at g.entries j) c.at round j) alone (λ j x. asked_ends g.margin (entry_at g.entries j) c.at round j x) i
     ∙ each_kept Ends refl (λ j. pressed_track g.margin (entry_at g.entries j) (need_of g.entries b.tracks c j) c.at) b.tracks
     (λ j x. pressed_ends g.margin (entry_at g.entries j) (need_of g.entries b.tracks c j) c.at x) i ∙ begun_ends s w i
 
@@ -323,12 +324,12 @@ soon_or_held margin at xs answers p i y t u within is end pressed' comes free ho
           ]
     ]
 
-begun_forest : (s : State) (w : Option Why) → (begun s w).forest ≡ s.forest
+begun_forest : (s : WatchState) (w : Option Why) → (begun s w).forest ≡ s.forest
 begun_forest s None = refl
 begun_forest s (Some w) = refl
 
 readied_retried :
-    (old : State) (wall elapsed : ℕ) (round : List ℕ) (requests : List Request) (i : ℕ) (t : Try) → attempt_at old i ≡ Some t → t.failed ≡ true → IsPast old →
+    (old : WatchState) (wall elapsed : ℕ) (round : List ℕ) (requests : List Request) (i : ℕ) (t : Try) → attempt_at old i ≡ Some t → t.failed ≡ true → IsPast old →
     Retried (timed old wall elapsed).clocks.at (pause old.forest.margin (timed old wall elapsed).clocks.at (track_at old i) t) t (track_at (sent (pressed (readied old wall elapsed) round) requests) i)
     × (Ends (track_at (sent (pressed (readied old wall elapsed) round) requests) i) (track_at old i) × ((readied old wall elapsed).forest ≡ old.forest))
 unfolding readied
@@ -348,7 +349,7 @@ readied_retried old wall elapsed round requests i t is failed past =
     )
 
 clock_retries :
-    (old new : State) (wall elapsed : ℕ) (output : Output) (i : ℕ) (t u : Try) → StepClock old wall elapsed output new → IsPast old → attempt_at old i ≡ Some t → t.failed ≡ true →
+    (old new : WatchState) (wall elapsed : ℕ) (output : Output) (i : ℕ) (t u : Try) → StepClock old wall elapsed output new → IsPast old → attempt_at old i ≡ Some t → t.failed ≡ true →
     attempt_at new i ≡ Some u → u.pressed ≡ true → IsSoon new i u ⊎ IsHeldBack old new i u
 clock_retries old new wall elapsed output i t u step past is failed after pressed' =
     let ready' = readied old wall elapsed in
@@ -358,16 +359,16 @@ clock_retries old new wall elapsed output i t u step past is failed after presse
     let three = readied_retried old wall elapsed (round_of step.round) go.0 i t is failed past in
     let up = rises old wall elapsed past.start in
     let free = past.free in
-    let there : attempt_at n i ≡ Some u = ap (λ (x : State). attempt_at x i) (sym go.1) ∙ after in
+    let there : attempt_at n i ≡ Some u = ap (λ (x : WatchState). attempt_at x i) (sym go.1) ∙ after in
     let all = soon_or_held old.forest.margin at old.tracks old.answers old.presence i (track_at n i) t u (some_within old.tracks i t is) is three.1.0 pressed' (three.0.comes u there pressed')
     (omega (arith, up, free)) past.hold in
-    subst (λ (x : State). IsSoon x i u ⊎ IsHeldBack old x i u) (sym go.1)
+    subst (λ (x : WatchState). IsSoon x i u ⊎ IsHeldBack old x i u) (sym go.1)
     (subst (λ (g : Forest). (ready n.presence (track_at n i) u ≤ n.clocks.at + cap g.margin n.clocks.at (track_at n i) u) ⊎ IsHeldBack old n i u) (sym three.1.1)
     (subst (λ c. (ready n.presence (track_at n i) u ≤ c.at + cap old.forest.margin c.at (track_at n i) u) ⊎ IsHeldBack old n i u) (sym (readied_clocks old wall elapsed))
     (subst (λ p. (ready p (track_at n i) u ≤ at + cap old.forest.margin at (track_at n i) u) ⊎ ((list_any is_silent old.answers ≡ false) × (ready p (track_at n i) u ≤ old.presence.hold)))
     (sym (ready_presence old wall elapsed)) all)))
 
-turn_retries : (old new : State) (event : Event) (result : Result Output WatchFault) (i : ℕ) (t u : Try) → Turn old event result new → IsPast old → Fails old (record { event = event; result = result; state = new }) i t u → IsSoon new i u ⊎ IsHeldBack old new i u
+turn_retries : (old new : WatchState) (event : Event) (result : Result Output WatchFault) (i : ℕ) (t u : Try) → Turn old event result new → IsPast old → TryFails old (record { event = event; result = result; state = new }) i t u → IsSoon new i u ⊎ IsHeldBack old new i u
 turn_retries old new (Clock wall elapsed) (Ok output) i t u turn past h = clock_retries old new wall elapsed output i t u turn.1 past h.before h.failed h.after h.pressed
 turn_retries old new (Looked j reply terms) (Ok output) i t u turn past h = absurd (let e = h.clock in cc)
 turn_retries old new (Renewed j reply) (Ok output) i t u turn past h = absurd (let e = h.clock in cc)
@@ -385,7 +386,7 @@ module _ (most : ℕ) where
   unfolding owing
   owing_asked at called x h =
       if_both (λ (y : Track). rested y.last ≤ most) (called && is_open (sec at) x) (owing_lookup at x) x
-      (if_both (λ (y : Track). rested y.last ≤ most) x.out (record x { owes = true }) (record x { owes = true; attempt = Some (sooner (soon at x) x.attempt) }) h h) h
+      (if_both (λ (y : Track). rested y.last ≤ most) x.out (record x { owes = true }) (record x { owes = true; attempt = Some (sooner_try (soon at x) x.attempt) }) h h) h
 
   pressed_asked : (margin : ℕ) (e : Entry) (need at : ℕ) (x : Track) → Asked (pressed_track margin e need at x) x
   unfolding pressed_track
@@ -393,7 +394,7 @@ module _ (most : ℕ) where
       if_both (λ (y : Track). rested y.last ≤ most) (is_fresh margin e x need (sec at)) (record x { attempt = Some (press at false x) }) (if wants x need || x.out then x else record x { attempt = dropped x x.attempt }) h
       (if_both (λ (y : Track). rested y.last ≤ most) (wants x need || x.out) x (record x { attempt = dropped x x.attempt }) h h)
 
-  asked_asked : (margin : ℕ) (e : Entry) (at : ℕ) (round : List ℕ) (i : ℕ) (x : Track) → Asked (asked_in margin e at round i x) x
+  asked_asked : (margin : ℕ) (e : Entry) (at : ℕ) (round : List ℕ) (i : ℕ) (x : Track) → Asked (track_asked_in margin e at round i x) x
   unfolding asked_track
   asked_asked margin e at round i x h =
       if_both (λ (y : Track). rested y.last ≤ most) (list_any (λ j. j == i) round) (asked_track margin e at x) x
@@ -403,20 +404,20 @@ module _ (most : ℕ) where
   unfolding settled_track
   settled_asked margin at x h = h
 
-  begun_asked : (s : State) (w : Option Why) (i : ℕ) → Asked (track_at (begun s w) i) (track_at s i)
+  begun_asked : (s : WatchState) (w : Option Why) (i : ℕ) → Asked (track_at (begun s w) i) (track_at s i)
   begun_asked s None i h = h
   begun_asked s (Some w) i h =
       let xs = untopped s.tracks in
       each_kept Asked (λ k. k) (λ j. owing s.clocks.at (is_called s.forest xs s.clocks j)) xs (λ j x. owing_asked s.clocks.at (is_called s.forest xs s.clocks j) x) i
       (each_kept Asked (λ k. k) (λ j. untopped_track) s.tracks (λ j x k. k) i h)
 
-  readied_asked : (s : State) (wall elapsed i : ℕ) → Asked (track_at (readied s wall elapsed) i) (track_at s i)
+  readied_asked : (s : WatchState) (wall elapsed i : ℕ) → Asked (track_at (readied s wall elapsed) i) (track_at s i)
   unfolding readied
   readied_asked s wall elapsed i h =
       let t = timed s wall elapsed in
       begun_asked (settled t) (why s wall elapsed) i (each_kept Asked (λ k. k) (λ j. settled_track t.forest.margin t.clocks.at) s.tracks (λ j x. settled_asked t.forest.margin t.clocks.at x) i h)
 
-  end_asked : (s : State) (round : List ℕ) (requests : List Request) (i : ℕ) → s.clocks.at + 1000 ≤ most → Asked (track_at (sent (pressed s round) requests) i) (track_at s i)
+  end_asked : (s : WatchState) (round : List ℕ) (requests : List Request) (i : ℕ) → s.clocks.at + 1000 ≤ most → Asked (track_at (sent (pressed s round) requests) i) (track_at s i)
   end_asked s round requests i now h =
       let c = s.clocks in
       let g = s.forest in
@@ -424,7 +425,7 @@ module _ (most : ℕ) where
       let mid = pressed s round in
       each_kept Asked (λ k. k) (sent_in c.at requests) mid.tracks
       (λ j x k. if_both (λ (y : Track). rested y.last ≤ most) (list_any (λ (r : Request). r.entry == j) requests) (sent_track c.at x) x now k) i
-      (each_kept Asked (λ k. k) (λ j. asked_in g.margin (entry_at g.entries j) c.at round j) alone (λ j x. asked_asked g.margin (entry_at g.entries j) c.at round j x) i
+      (each_kept Asked (λ k. k) (λ j. track_asked_in g.margin (entry_at g.entries j) c.at round j) alone (λ j x. asked_asked g.margin (entry_at g.entries j) c.at round j x) i
       (each_kept Asked (λ k. k) (λ j. pressed_track g.margin (entry_at g.entries j) (need_of g.entries s.tracks c j) c.at) s.tracks
       (λ j x. pressed_asked g.margin (entry_at g.entries j) (need_of g.entries s.tracks c j) c.at x) i h))
 
@@ -437,24 +438,24 @@ held_none margin at xs answers p h there =
       | inr stays ↦ stays.1 ∙ h away
     ]
 
-clock_past : (old new : State) (wall elapsed : ℕ) (output : Output) → StepClock old wall elapsed output new → IsPast old → IsPast new
+clock_past : (old new : WatchState) (wall elapsed : ℕ) (output : Output) → StepClock old wall elapsed output new → IsPast old → IsPast new
 clock_past old new wall elapsed output step past =
     let ready' = readied old wall elapsed in
     let go = sent_by (pressed ready' (round_of step.round)) new output.command step.command in
     let at = (timed old wall elapsed).clocks.at in
     let up = rises old wall elapsed past.start in
-    let clock : new.clocks.at ≡ at = ap (λ (x : State). x.clocks.at) go.1 ∙ ap (λ c. c.at) (readied_clocks old wall elapsed) in
-    let presence : new.presence ≡ presence_after old.forest.margin at old.tracks old.answers old.presence = ap (λ (x : State). x.presence) go.1 ∙ ready_presence old wall elapsed in
+    let clock : new.clocks.at ≡ at = ap (λ (x : WatchState). x.clocks.at) go.1 ∙ ap (λ c. c.at) (readied_clocks old wall elapsed) in
+    let presence : new.presence ≡ presence_after old.forest.margin at old.tracks old.answers old.presence = ap (λ (x : WatchState). x.presence) go.1 ∙ ready_presence old wall elapsed in
     let low = past.free in
     record {
-      start = λ none. absurd (not_both none (ap (λ (x : State). is_none x.begun) go.1 ∙ begun_some old wall elapsed));
+      start = λ none. absurd (not_both none (ap (λ (x : WatchState). is_none x.begun) go.1 ∙ begun_some old wall elapsed));
       free = let f = freed old.forest.margin at old.tracks old.answers old.presence (omega (arith, up, low)) in let e = ap (λ (p : Presence). p.free) presence in omega (arith, f, e, clock);
       hold = λ there. ap (λ (p : Presence). p.hold) presence ∙ held_none old.forest.margin at old.tracks old.answers old.presence past.hold (sym (ap (λ (p : Presence). p.away) presence) ∙ there);
       last = λ i.
           let l = past.last i in
           let same = ap (λ c. c.at) (readied_clocks old wall elapsed) in
           let all = end_asked (at + 1000) ready' (round_of step.round) go.0 i (omega (arith, same)) (readied_asked (at + 1000) old wall elapsed i (omega (arith, up, l))) in
-          let is = ap (λ (x : State). rested (track_at x i).last) go.1 in
+          let is = ap (λ (x : WatchState). rested (track_at x i).last) go.1 in
           omega (arith, all, is, clock);
     }
 
@@ -466,25 +467,25 @@ back_last : (x : Track) → SameLast (back_track x) x
 unfolding back_track
 back_last x = refl
 
-pub replied_free : (s : State) (q : Out) (reply : Reply) → (replied s q reply).presence.free ≡ s.presence.free
+pub replied_free : (s : WatchState) (q : Out) (reply : Reply) → (replied s q reply).presence.free ≡ s.presence.free
 replied_free s q reply =
     let free = lane_freed s q in
-    if_both (λ (t : State). t.presence.free ≡ s.presence.free) (is_real reply) (answers_all free) (if q.heard then free else silent free)
-    (if_both (λ (t : State). t.presence.free ≡ s.presence.free) s.presence.away _ _ refl refl)
-    (if_both (λ (t : State). t.presence.free ≡ s.presence.free) q.heard free (silent free) refl (if_both (λ (t : State). t.presence.free ≡ s.presence.free) s.presence.away _ _ refl refl))
+    if_both (λ (t : WatchState). t.presence.free ≡ s.presence.free) (is_real reply) (answers_all free) (if q.heard then free else silent free)
+    (if_both (λ (t : WatchState). t.presence.free ≡ s.presence.free) s.presence.away _ _ refl refl)
+    (if_both (λ (t : WatchState). t.presence.free ≡ s.presence.free) q.heard free (silent free) refl (if_both (λ (t : WatchState). t.presence.free ≡ s.presence.free) s.presence.away _ _ refl refl))
 
-replied_hold : (s : State) (q : Out) (reply : Reply) → (s.presence.away ≡ false → s.presence.hold ≡ 0) → (replied s q reply).presence.away ≡ false → (replied s q reply).presence.hold ≡ 0
+replied_hold : (s : WatchState) (q : Out) (reply : Reply) → (s.presence.away ≡ false → s.presence.hold ≡ 0) → (replied s q reply).presence.away ≡ false → (replied s q reply).presence.hold ≡ 0
 replied_hold s q reply h =
     let free = lane_freed s q in
-    if_both (λ (t : State). t.presence.away ≡ false → t.presence.hold ≡ 0) (is_real reply) (answers_all free) (if q.heard then free else silent free)
-    (if_both (λ (t : State). t.presence.away ≡ false → t.presence.hold ≡ 0) s.presence.away _ _ (λ there. refl) h)
-    (if_both (λ (t : State). t.presence.away ≡ false → t.presence.hold ≡ 0) q.heard free (silent free) h
-    (if_both (λ (t : State). t.presence.away ≡ false → t.presence.hold ≡ 0) s.presence.away _ _ h (λ there. refl)))
+    if_both (λ (t : WatchState). t.presence.away ≡ false → t.presence.hold ≡ 0) (is_real reply) (answers_all free) (if q.heard then free else silent free)
+    (if_both (λ (t : WatchState). t.presence.away ≡ false → t.presence.hold ≡ 0) s.presence.away _ _ (λ there. refl) h)
+    (if_both (λ (t : WatchState). t.presence.away ≡ false → t.presence.hold ≡ 0) q.heard free (silent free) h
+    (if_both (λ (t : WatchState). t.presence.away ≡ false → t.presence.hold ≡ 0) s.presence.away _ _ h (λ there. refl)))
 
-left_past : (old new : State) → rest_of new ≡ rest_of old → new.presence.free ≡ old.presence.free → (new.presence.away ≡ false → new.presence.hold ≡ 0) → ((i : ℕ) → SameLast (track_at new i) (track_at old i)) → IsPast old → IsPast new
+left_past : (old new : WatchState) → rest_of new ≡ rest_of old → new.presence.free ≡ old.presence.free → (new.presence.away ≡ false → new.presence.hold ≡ 0) → ((i : ℕ) → SameLast (track_at new i) (track_at old i)) → IsPast old → IsPast new
 left_past old new rest free hold last past =
-    let clock = ap (λ (x : State). x.clocks.at) rest in record {
-      start = λ none. clock ∙ past.start (sym (ap (λ (x : State). is_none x.begun) rest) ∙ none);
+    let clock = ap (λ (x : WatchState). x.clocks.at) rest in record {
+      start = λ none. clock ∙ past.start (sym (ap (λ (x : WatchState). is_none x.begun) rest) ∙ none);
       free = let f = past.free in omega (arith, f, free, clock);
       hold = hold;
       last = λ i. let l = past.last i in let e = ap rested (last i) in omega (arith, l, e, clock);
@@ -498,49 +499,49 @@ untold_last : (at : ℕ) (heard : Bool) (reply : Reply) (x : Track) → SameLast
 unfolding untold_track
 untold_last at heard reply x = refl
 
-state_last : (s : State) (i since seconds : ℕ) (renewable : Bool) (terms : Terms) (j : ℕ) → SameLast (track_at (told_state s i since seconds renewable terms) j) (track_at s j)
+state_last : (s : WatchState) (i since seconds : ℕ) (renewable : Bool) (terms : Terms) (j : ℕ) → SameLast (track_at (told_state s i since seconds renewable terms) j) (track_at s j)
 state_last s i since seconds renewable terms j = set_kept SameLast (λ x. refl) s.tracks i _ (told_last since seconds renewable terms.endless (track_at s i)) j
 
-by_last : (s : State) (i j : ℕ) → SameLast (track_at (told_by s i) j) (track_at s j)
+by_last : (s : WatchState) (i j : ℕ) → SameLast (track_at (with_told_try s i) j) (track_at s j)
 by_last s i j = set_kept SameLast (λ x. refl) s.tracks i _ refl j
 
-looked_last : (s : State) (q : Out) (reply : Reply) (terms : Terms) (i : ℕ) → SameLast (track_at (looked s q reply terms) i) (track_at s i)
+looked_last : (s : WatchState) (q : Out) (reply : Reply) (terms : Terms) (i : ℕ) → SameLast (track_at (looked s q reply terms) i) (track_at s i)
 looked_last s q (Told seconds renewable date) terms i =
     by_last (told_state s q.entry q.since seconds renewable terms) q.entry i ∙ state_last s q.entry q.since seconds renewable terms i
 looked_last s q (Refused status date) terms i = set_kept SameLast (λ x. refl) s.tracks q.entry _ (untold_last s.clocks.at q.heard (Refused status date) (track_at s q.entry)) i
 looked_last s q Busy terms i = set_kept SameLast (λ x. refl) s.tracks q.entry _ (untold_last s.clocks.at q.heard Busy (track_at s q.entry)) i
 looked_last s q Lost terms i = set_kept SameLast (λ x. refl) s.tracks q.entry _ (untold_last s.clocks.at q.heard Lost (track_at s q.entry)) i
 
-renewed_last : (s : State) (q : Out) (reply : Reply) (i : ℕ) → SameLast (track_at (renewed s q reply) i) (track_at s i)
+renewed_last : (s : WatchState) (q : Out) (reply : Reply) (i : ℕ) → SameLast (track_at (state_renewed s q reply) i) (track_at s i)
 unfolding renewed_track granted_from ungranted_track
 renewed_last s q (Told seconds renewable date) i = set_kept SameLast (λ x. refl) s.tracks q.entry _ refl i
 renewed_last s q (Refused status date) i = set_kept SameLast (λ x. refl) s.tracks q.entry _ refl i
 renewed_last s q Busy i = set_kept SameLast (λ x. refl) s.tracks q.entry _ refl i
 renewed_last s q Lost i = set_kept SameLast (λ x. refl) s.tracks q.entry _ refl i
 
-answer_past : (old mid new : State) (q : Out) (reply : Reply) → new ≡ replied mid q reply → rest_of new ≡ rest_of old → mid.presence ≡ old.presence → ((i : ℕ) → SameLast (track_at mid i) (track_at old i)) → IsPast old → IsPast new
+answer_past : (old mid new : WatchState) (q : Out) (reply : Reply) → new ≡ replied mid q reply → rest_of new ≡ rest_of old → mid.presence ≡ old.presence → ((i : ℕ) → SameLast (track_at mid i) (track_at old i)) → IsPast old → IsPast new
 answer_past old mid new q reply is rest presence last past =
-    left_past old new rest (ap (λ (x : State). x.presence.free) is ∙ replied_free mid q reply ∙ ap (λ (p : Presence). p.free) presence)
-    (subst (λ (x : State). x.presence.away ≡ false → x.presence.hold ≡ 0) (sym is)
+    left_past old new rest (ap (λ (x : WatchState). x.presence.free) is ∙ replied_free mid q reply ∙ ap (λ (p : Presence). p.free) presence)
+    (subst (λ (x : WatchState). x.presence.away ≡ false → x.presence.hold ≡ 0) (sym is)
     (replied_hold mid q reply (subst (λ (p : Presence). p.away ≡ false → p.hold ≡ 0) (sym presence) past.hold)))
-    (λ i. subst (λ (x : State). SameLast (track_at x i) (track_at mid i)) (sym is) (back_kept SameLast (λ x. refl) (λ x. back_last x) mid q reply i) ∙ last i) past
+    (λ i. subst (λ (x : WatchState). SameLast (track_at x i) (track_at mid i)) (sym is) (back_kept SameLast (λ x. refl) (λ x. back_last x) mid q reply i) ∙ last i) past
 
-looked_past : (old new : State) (found : Option Out) (reply : Reply) (terms : Terms) (output : Output) → StepLooked old found reply terms output new → IsPast old → IsPast new
+looked_past : (old new : WatchState) (found : Option Out) (reply : Reply) (terms : Terms) (output : Output) → StepLooked old found reply terms output new → IsPast old → IsPast new
 looked_past old new None reply terms output step past = absurd step
 looked_past old new (Some q) reply terms output step past =
     let s = noted old q reply in
     answer_past old (looked s q reply terms) new q reply step.1 (ap rest_of step.1 ∙ looked_leaves old q reply terms) (looked_presence s q reply terms) (λ i. looked_last s q reply terms i) past
 
-renewed_past : (old new : State) (found : Option Out) (reply : Reply) (output : Output) → StepRenewed old found reply output new → IsPast old → IsPast new
+renewed_past : (old new : WatchState) (found : Option Out) (reply : Reply) (output : Output) → StepRenewed old found reply output new → IsPast old → IsPast new
 renewed_past old new None reply output step past = absurd step
 renewed_past old new (Some q) reply output step past =
     let s = noted old q reply in
-    answer_past old (renewed s q reply) new q reply step.1 (ap rest_of step.1 ∙ renewed_leaves old q reply) refl (λ i. renewed_last s q reply i) past
+    answer_past old (state_renewed s q reply) new q reply step.1 (ap rest_of step.1 ∙ renewed_leaves old q reply) refl (λ i. renewed_last s q reply i) past
 
-known_last : (s : State) (j end : ℕ) (renewable : Bool) (i : ℕ) → SameLast (track_at (known s j end renewable) i) (track_at s i)
+known_last : (s : WatchState) (j end : ℕ) (renewable : Bool) (i : ℕ) → SameLast (track_at (known s j end renewable) i) (track_at s i)
 known_last s j end renewable i = set_kept SameLast (λ x. refl) s.tracks j _ refl i
 
-step_past : (old new : State) (event : Event) (output : Output) → Step old event output new → IsPast old → IsPast new
+step_past : (old new : WatchState) (event : Event) (output : Output) → Step old event output new → IsPast old → IsPast new
 step_past old new (Clock wall elapsed) output step past = clock_past old new wall elapsed output step past
 step_past old new (Looked j reply terms) output step past = looked_past old new (request_out old.out j Look) reply terms output step past
 step_past old new (Renewed j reply) output step past = renewed_past old new (request_out old.out j Renew) reply output step past
@@ -554,11 +555,11 @@ step_past old new (Known j end renewable) output step past =
       last = λ i. let l = past.last i in let e = ap rested (known_last old j end renewable i) in omega (arith, l, e);
     })
 
-pub turn_past : (old new : State) (event : Event) (result : Result Output WatchFault) → Turn old event result new → IsPast old → IsPast new
+pub turn_past : (old new : WatchState) (event : Event) (result : Result Output WatchFault) → Turn old event result new → IsPast old → IsPast new
 turn_past old new event (Ok output) turn past = step_past old new event output turn.1 past
 turn_past old new event (Err fault) turn past = subst IsPast (sym (refused_stays old new event fault turn)) past
 
-ran : (turns : List Turned) (old : State) → History old turns → IsPast old → AllRetried old turns
+ran : (turns : List Turned) (old : WatchState) → History old turns → IsPast old → AllRetried old turns
 ran [] old h past = tt
 ran (turn ∷ turns) old h past = (
   (λ i t u fails. turn_retries old turn.state turn.event turn.result i t u h.0 past fails),

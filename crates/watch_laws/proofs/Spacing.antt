@@ -26,26 +26,26 @@ use Rattle.watch_machine.specs.declared.lanes.Presence.{Presence}
 use Rattle.watch_machine.specs.declared.notes.Why.{Why}
 use Rattle.watch_machine.specs.declared.track.Track.{Track}
 use Rattle.watch_machine.specs.declared.track.Try.{Try}
-use Rattle.watch_machine.specs.Answers.{answers_all, back_track, heard, lane_freed, noted, replied, silent, without}
-use Rattle.watch_machine.specs.Beginning.{begun, is_called, owing, owing_lookup, soon, sooner, untopped, untopped_track}
+use Rattle.watch_machine.specs.Answers.{answers_all, back_track, heard, lane_freed, noted, replied, silent, without_request}
+use Rattle.watch_machine.specs.Beginning.{begun, is_called, owing, owing_lookup, soon, sooner_try, untopped, untopped_track}
 use Rattle.watch_machine.specs.Clocks.{sec}
 use Rattle.watch_machine.specs.History.{History, Turn, Turned}
 use Rattle.watch_machine.specs.Lines.{is_due, is_due_try, is_first, later_at, ready, rested}
 use Rattle.watch_machine.specs.Looked.{is_called_for, looked, told_state, told_track, told_try}
 use Rattle.watch_machine.specs.Margins.{has_come}
-use Rattle.watch_machine.specs.Press.{asked_in, asked_track, dropped, is_fresh, press, pressed, pressed_alone, pressed_track}
+use Rattle.watch_machine.specs.Press.{asked_track, dropped, is_fresh, press, pressed, pressed_alone, pressed_track, track_asked_in}
 use Rattle.watch_machine.specs.Refusal.{is_same, request_out}
-use Rattle.watch_machine.specs.Renewed.{from_try, renewed, renewed_track}
-use Rattle.watch_machine.specs.Round.{asked_by as round_of}
+use Rattle.watch_machine.specs.Renewed.{from_try, renewed_track, state_renewed}
+use Rattle.watch_machine.specs.Round.{asked_by_round as round_of}
 use Rattle.watch_machine.specs.Sending.{out_at, sent as sent_state, sent_in, sent_track}
 use Rattle.watch_machine.specs.Settling.{is_real, settled, settled_track, timed}
-use Rattle.watch_machine.specs.State.{State, entry_of, no_track, opened, track_at, track_in}
-use Rattle.watch_machine.specs.Step.{Step, StepClock, StepCommand, StepLooked, StepRenewed, known, needed, readied, why}
+use Rattle.watch_machine.specs.State.{WatchState, entry_of, no_track, opened, track_at, track_in}
+use Rattle.watch_machine.specs.Step.{Step, StepClock, StepCommand, StepLooked, StepRenewed, known, readied, why, with_need_until}
 use Rattle.watch_machine.specs.Wanted.{is_open, need_of, wants}
 use Rattle.watch_machine.proofs.Cases.{if_both, if_cases, not_both, value_is}
 use Rattle.watch_machine.proofs.Seeing.{each_read}
 use Rattle.watch_machine.proofs.Within.{out_all}
-use Rattle.watch_laws.specs.Load.{AreApart, AreApartFrom, IsApart, Sent, SpacedLaw, asked_by, requests_of, sent, sent_at}
+use Rattle.watch_laws.specs.Load.{AreApartFrom, IsApart, Sent, SentAreApart, SpacedLaw, requests_asked_by, requests_of, sent_at, sent_in_turns}
 use Rattle.watch_laws.proofs.Answering.{looked_leaves, renewed_leaves, rest_of}
 use Rattle.watch_laws.proofs.Clocking.{begun_some, clock_rises, readied_clocks, refused_stays}
 use Rattle.watch_laws.proofs.Going.{Goes, asks_by, entry_by, goes, named_of, one_sent, operation_of, request_at, sent_of}
@@ -84,11 +84,11 @@ due_is_apart : (p : Presence) (at : ℕ) (x : Track) (r : Sent) → r.at ≤ at 
 due_is_apart p at x r past h due = let free = free_of p at x due in due_apart p at x r x.attempt past h.last (h.attempt free.0) free.1
 
 -- a request that is out of i says so in its track, and asks what r did
-abbrev IsOf : State → ℕ → (Operation → Type 0) → Out → Type 0
+abbrev IsOf : WatchState → ℕ → (Operation → Type 0) → Out → Type 0
 IsOf s i P q = q.entry ≡ i → ((track_at s i).out ≡ true) × P q.operation
 
 -- what every turn keeps, where r is the last request of i
-record IsSpaced (s : State) (i : ℕ) (r : Sent) : Type 0 where
+record IsSpaced (s : WatchState) (i : ℕ) (r : Sent) : Type 0 where
   begun : is_none s.begun ≡ false
   past : r.at ≤ s.clocks.at
   out : All (IsOf s i (λ o. r.operation ≡ o)) s.out
@@ -97,29 +97,29 @@ record IsSpaced (s : State) (i : ℕ) (r : Sent) : Type 0 where
 abbrev Any : Operation → Type 0
 Any o = Unit {0}
 
-abbrev Keeps : State → ℕ → Option Sent → Type 0
+abbrev Keeps : WatchState → ℕ → Option Sent → Type 0
 Keeps s i None = All (IsOf s i Any) s.out
 Keeps s i (Some r) = IsSpaced s i r
 
 -- the requests that are out after an answer
 module _ (P : Out → Type 0) (hears : (q : Out) → P q → P (heard q)) where
-  pub replied_out : (s : State) (r : Out) (reply : Reply) → All P (without r.entry s.out) → All P (replied s r reply).out
+  pub replied_out : (s : WatchState) (r : Out) (reply : Reply) → All P (without_request r.entry s.out) → All P (replied s r reply).out
   replied_out s r reply all =
       let free = lane_freed s r in
-      if_both (λ (t : State). All P t.out) (is_real reply) (answers_all free) (if r.heard then free else silent free)
-      (if_both (λ (t : State). All P t.out) s.presence.away _ _ (All-map P heard (without r.entry s.out) (All-weaker P (λ q. P (heard q)) hears (without r.entry s.out) all))
-      (All-map P heard (without r.entry s.out) (All-weaker P (λ q. P (heard q)) hears (without r.entry s.out) all)))
-      (if_both (λ (t : State). All P t.out) r.heard free (silent free) all (if_both (λ (t : State). All P t.out) s.presence.away _ _ all all))
+      if_both (λ (t : WatchState). All P t.out) (is_real reply) (answers_all free) (if r.heard then free else silent free)
+      (if_both (λ (t : WatchState). All P t.out) s.presence.away _ _ (All-map P heard (without_request r.entry s.out) (All-weaker P (λ q. P (heard q)) hears (without_request r.entry s.out) all))
+      (All-map P heard (without_request r.entry s.out) (All-weaker P (λ q. P (heard q)) hears (without_request r.entry s.out) all)))
+      (if_both (λ (t : WatchState). All P t.out) r.heard free (silent free) all (if_both (λ (t : WatchState). All P t.out) s.presence.away _ _ all all))
 
-without_of : (P : Out → Type 0) (i : ℕ) (out : List Out) → All P out → All P (without i out)
-unfolding without
+without_of : (P : Out → Type 0) (i : ℕ) (out : List Out) → All P out → All P (without_request i out)
+unfolding without_request
 without_of P i out all = All-filter (λ q. not (q.entry == i)) P out all
 
 pub same_index : (i : ℕ) → (i == i) ≡ true
 same_index i = grind (arith, nat_tests)
 
-without_none : (P : Operation → Type 0) (s : State) (i : ℕ) (out : List Out) → All (IsOf s i P) (without i out)
-unfolding without
+without_none : (P : Operation → Type 0) (s : WatchState) (i : ℕ) (out : List Out) → All (IsOf s i P) (without_request i out)
+unfolding without_request
 without_none P s i out =
     All-weaker (λ (q : Out). not (q.entry == i) ≡ true) (IsOf s i P) (λ q other is. absurd (true≢false (sym other ∙ ap (λ n. not (n == i)) is ∙ ap not (same_index i))))
     (filter (λ (q : Out). not (q.entry == i)) out) (filter_passes (λ (q : Out). not (q.entry == i)) out)
@@ -140,14 +140,14 @@ module _ (r : Sent) where
   none_rests : Rests r no_track → IsReady r no_track
   none_rests h = absurd (let e = h.last in cc)
 
-  begun_ready : (s : State) (w : Option Why) (i : ℕ) → IsReady r (track_at s i) → IsReady r (track_at (begun s w) i)
+  begun_ready : (s : WatchState) (w : Option Why) (i : ℕ) → IsReady r (track_at s i) → IsReady r (track_at (begun s w) i)
   begun_ready s None i h = h
   begun_ready s (Some w) i h =
       let xs = untopped s.tracks in
       each_kept StillReady (λ k. k) (λ j. owing s.clocks.at (is_called s.forest xs s.clocks j)) xs (λ j x. owing_ready r s.clocks.at (is_called s.forest xs s.clocks j) x) i
       (each_kept StillReady (λ k. k) (λ j. untopped_track) s.tracks (λ j x. untopped_ready r x) i h)
 
-  pub readied_ready : (s : State) (wall elapsed i : ℕ) → is_none s.begun ≡ false → r.at ≤ s.clocks.at → Rests r (track_at s i) → IsReady r (track_at (readied s wall elapsed) i)
+  pub readied_ready : (s : WatchState) (wall elapsed i : ℕ) → is_none s.begun ≡ false → r.at ≤ s.clocks.at → Rests r (track_at s i) → IsReady r (track_at (readied s wall elapsed) i)
   unfolding readied
   readied_ready s wall elapsed i begun' past h =
       let t = timed s wall elapsed in
@@ -155,12 +155,12 @@ module _ (r : Sent) where
       let now : r.at ≤ t.clocks.at = omega (arith, rises, past) in
       begun_ready (settled t) (why s wall elapsed) i (each_kept Readies none_rests (λ j. settled_track t.forest.margin t.clocks.at) s.tracks (λ j x. settled_ready r t.forest.margin t.clocks.at x now) i h)
 
-  pub mid_ready : (s : State) (round : List ℕ) (i : ℕ) → IsReady r (track_at s i) → IsReady r (track_at (pressed s round) i)
+  pub mid_ready : (s : WatchState) (round : List ℕ) (i : ℕ) → IsReady r (track_at s i) → IsReady r (track_at (pressed s round) i)
   mid_ready s round i h =
       let c = s.clocks in
       let g = s.forest in
       let alone = pressed_alone g c s.tracks in
-      each_kept StillReady (λ k. k) (λ j. asked_in g.margin (entry_at g.entries j) c.at round j) alone (λ j x. asked_ready r g.margin (entry_at g.entries j) c.at round j x) i
+      each_kept StillReady (λ k. k) (λ j. track_asked_in g.margin (entry_at g.entries j) c.at round j) alone (λ j x. asked_ready r g.margin (entry_at g.entries j) c.at round j x) i
       (each_kept StillReady (λ k. k) (λ j. pressed_track g.margin (entry_at g.entries j) (need_of g.entries s.tracks c j) c.at) s.tracks
       (λ j x. pressed_ready r g.margin (entry_at g.entries j) (need_of g.entries s.tracks c j) c.at x) i h)
 
@@ -168,7 +168,7 @@ owing_flag : (at : ℕ) (called : Bool) (x : Track) → Flag (owing at called x)
 unfolding owing
 owing_flag at called x =
     if_both (λ y. Flag y x) (called && is_open (sec at) x) (owing_lookup at x) x
-    (if_both (λ y. Flag y x) x.out (record x { owes = true }) (record x { owes = true; attempt = Some (sooner (soon at x) x.attempt) }) refl refl) refl
+    (if_both (λ y. Flag y x) x.out (record x { owes = true }) (record x { owes = true; attempt = Some (sooner_try (soon at x) x.attempt) }) refl refl) refl
 
 pressed_flag : (margin : ℕ) (e : Entry) (need at : ℕ) (x : Track) → Flag (pressed_track margin e need at x) x
 unfolding pressed_track
@@ -176,7 +176,7 @@ pressed_flag margin e need at x =
     if_both (λ y. Flag y x) (is_fresh margin e x need (sec at)) (record x { attempt = Some (press at false x) }) (if wants x need || x.out then x else record x { attempt = dropped x x.attempt }) refl
     (if_both (λ y. Flag y x) (wants x need || x.out) x (record x { attempt = dropped x x.attempt }) refl refl)
 
-asked_flag : (margin : ℕ) (e : Entry) (at : ℕ) (round : List ℕ) (i : ℕ) (x : Track) → Flag (asked_in margin e at round i x) x
+asked_flag : (margin : ℕ) (e : Entry) (at : ℕ) (round : List ℕ) (i : ℕ) (x : Track) → Flag (track_asked_in margin e at round i x) x
 unfolding asked_track
 asked_flag margin e at round i x =
     if_both (λ y. Flag y x) (list_any (λ j. j == i) round) (asked_track margin e at x) x
@@ -186,14 +186,14 @@ settled_flag : (margin at : ℕ) (x : Track) → Flag (settled_track margin at x
 unfolding settled_track
 settled_flag margin at x = refl
 
-begun_flag : (s : State) (w : Option Why) (i : ℕ) → Flag (track_at (begun s w) i) (track_at s i)
+begun_flag : (s : WatchState) (w : Option Why) (i : ℕ) → Flag (track_at (begun s w) i) (track_at s i)
 begun_flag s None i = refl
 begun_flag s (Some w) i =
     let xs = untopped s.tracks in
     each_kept Flag refl (λ j. owing s.clocks.at (is_called s.forest xs s.clocks j)) xs (λ j x. owing_flag s.clocks.at (is_called s.forest xs s.clocks j) x) i
     ∙ each_kept Flag refl (λ j. untopped_track) s.tracks (λ j x. refl) i
 
-pub mid_flag : (s : State) (wall elapsed : ℕ) (round : List ℕ) (i : ℕ) → Flag (track_at (pressed (readied s wall elapsed) round) i) (track_at s i)
+pub mid_flag : (s : WatchState) (wall elapsed : ℕ) (round : List ℕ) (i : ℕ) → Flag (track_at (pressed (readied s wall elapsed) round) i) (track_at s i)
 unfolding readied
 mid_flag s wall elapsed round i =
     let t = timed s wall elapsed in
@@ -201,34 +201,34 @@ mid_flag s wall elapsed round i =
     let c = u.clocks in
     let g = u.forest in
     let alone = pressed_alone g c u.tracks in
-    each_kept Flag refl (λ j. asked_in g.margin (entry_at g.entries j) c.at round j) alone (λ j x. asked_flag g.margin (entry_at g.entries j) c.at round j x) i
+    each_kept Flag refl (λ j. track_asked_in g.margin (entry_at g.entries j) c.at round j) alone (λ j x. asked_flag g.margin (entry_at g.entries j) c.at round j x) i
     ∙ each_kept Flag refl (λ j. pressed_track g.margin (entry_at g.entries j) (need_of g.entries u.tracks c j) c.at) u.tracks
     (λ j x. pressed_flag g.margin (entry_at g.entries j) (need_of g.entries u.tracks c j) c.at x) i
     ∙ begun_flag (settled t) (why s wall elapsed) i ∙ each_kept Flag refl (λ j. settled_track t.forest.margin t.clocks.at) s.tracks (λ j x. settled_flag t.forest.margin t.clocks.at x) i
 
 -- what a request says of the entry that it is of
 asks_so :
-    (p : Presence) (now at : ℕ) (xs : List Track) (i : ℕ) (new : State) → (track_at new i).out ≡ true → (j : ℕ) →
+    (p : Presence) (now at : ℕ) (xs : List Track) (i : ℕ) (new : WatchState) → (track_at new i).out ≡ true → (j : ℕ) →
     IsOf new i (λ y. operation_of (track_in xs i).attempt ≡ y) (out_at at (request_at p now xs j))
 asks_so p now at xs i new is_out j is =
     let same : j ≡ i = sym (entry_by p now xs j) ∙ is in
     (is_out, ap (λ k. operation_of (track_in xs k).attempt) (sym same) ∙ sym (asks_by p now xs j))
 
 -- what goes out at a clock
-Outcome : State → ℕ → Option Sent → List Sent → Type 0
+Outcome : WatchState → ℕ → Option Sent → List Sent → Type 0
 Outcome new i o xs = ((xs ≡ []) × Keeps new i o) ⊎ ((x : Sent) × ((xs ≡ x ∷ []) × (IfSome o (λ r. IsApart r x) × IsSpaced new i x)))
 
 -- before it does
-abbrev IsMid : State → ℕ → Option Sent → Type 0
+abbrev IsMid : WatchState → ℕ → Option Sent → Type 0
 IsMid s i None = All (IsOf s i Any) s.out
 IsMid s i (Some r) = (r.at ≤ s.clocks.at) × (All (IsOf s i (λ o. r.operation ≡ o)) s.out × IsReady r (track_at s i))
 
-mid_any : (s : State) (i : ℕ) (o : Option Sent) → IsMid s i o → All (IsOf s i Any) s.out
+mid_any : (s : WatchState) (i : ℕ) (o : Option Sent) → IsMid s i o → All (IsOf s i Any) s.out
 mid_any s i None h = h
 mid_any s i (Some r) h = All-weaker (IsOf s i (λ o. r.operation ≡ o)) (IsOf s i Any) (λ q of is. ((of is).0, tt)) s.out h.1.0
 
-module _ (s : State) (requests : List Request) (i : ℕ) where
-  abbrev gone : State
+module _ (s : WatchState) (requests : List Request) (i : ℕ) where
+  abbrev gone : WatchState
   gone = sent_state s requests
 
   pub passed_over : list_any (λ (q : Request). q.entry == i) requests ≡ false → track_at gone i ≡ track_at s i
@@ -251,7 +251,7 @@ not_of X at i (r ∷ rs) none =
       neither false b h = (refl, h)
 
 kept_over :
-    (s : State) (requests : List Request) (i : ℕ) (o : Option Sent) → is_none s.begun ≡ false → IsMid s i o → list_any (λ (q : Request). q.entry == i) requests ≡ false →
+    (s : WatchState) (requests : List Request) (i : ℕ) (o : Option Sent) → is_none s.begun ≡ false → IsMid s i o → list_any (λ (q : Request). q.entry == i) requests ≡ false →
     Keeps (sent_state s requests) i o
 kept_over s requests i None begun' mid none =
     let new = sent_state s requests in
@@ -275,7 +275,7 @@ kept_over s requests i (Some r) begun' mid none =
       may (Some t) h = inr h
 
 goes_out :
-    (s : State) (requests : List Request) (i : ℕ) (o : Option Sent) (lanes : ℕ) → is_none s.begun ≡ false → IsMid s i o → Goes s.presence s.clocks.at s.tracks lanes requests →
+    (s : WatchState) (requests : List Request) (i : ℕ) (o : Option Sent) (lanes : ℕ) → is_none s.begun ≡ false → IsMid s i o → Goes s.presence s.clocks.at s.tracks lanes requests →
     Outcome (sent_state s requests) i o (sent_at i s.clocks.at requests)
 unfolding Outcome
 goes_out s requests i o lanes begun' mid h =
@@ -321,18 +321,18 @@ goes_out s requests i o lanes begun' mid h =
       apart (Some r) h' free due = due_is_apart s.presence s.clocks.at (track_at s i) r h'.0 h'.1.1 due
 
 -- a clock
-begun_out : (s : State) (w : Option Why) → (begun s w).out ≡ s.out
+begun_out : (s : WatchState) (w : Option Why) → (begun s w).out ≡ s.out
 begun_out s None = refl
 begun_out s (Some w) = refl
 
-pub readied_out : (s : State) (wall elapsed : ℕ) → (readied s wall elapsed).out ≡ s.out
+pub readied_out : (s : WatchState) (wall elapsed : ℕ) → (readied s wall elapsed).out ≡ s.out
 unfolding readied
 readied_out s wall elapsed = begun_out (settled (timed s wall elapsed)) (why s wall elapsed)
 
-same_out : (P : Operation → Type 0) (s t : State) (i : ℕ) → t.out ≡ s.out → Flag (track_at t i) (track_at s i) → All (IsOf s i P) s.out → All (IsOf t i P) t.out
+same_out : (P : Operation → Type 0) (s t : WatchState) (i : ℕ) → t.out ≡ s.out → Flag (track_at t i) (track_at s i) → All (IsOf s i P) s.out → All (IsOf t i P) t.out
 same_out P s t i out flag all = subst (All (IsOf t i P)) (sym out) (All-weaker (IsOf s i P) (IsOf t i P) (λ q of is. (flag ∙ (of is).0, (of is).1)) s.out all)
 
-mid_of : (old : State) (wall elapsed : ℕ) (round : List ℕ) (i : ℕ) (o : Option Sent) → Keeps old i o → IsMid (pressed (readied old wall elapsed) round) i o
+mid_of : (old : WatchState) (wall elapsed : ℕ) (round : List ℕ) (i : ℕ) (o : Option Sent) → Keeps old i o → IsMid (pressed (readied old wall elapsed) round) i o
 mid_of old wall elapsed round i None h = same_out Any old (pressed (readied old wall elapsed) round) i (readied_out old wall elapsed) (mid_flag old wall elapsed round i) h
 mid_of old wall elapsed round i (Some r) h =
     let ready = readied old wall elapsed in
@@ -346,13 +346,13 @@ mid_of old wall elapsed round i (Some r) h =
       ),
     )
 
-commanded : (s new : State) (command : Command) (i : ℕ) (o : Option Sent) → is_none s.begun ≡ false → IsMid s i o → StepCommand s command new → Outcome new i o (sent_at i new.clocks.at (asked_by command))
+commanded : (s new : WatchState) (command : Command) (i : ℕ) (o : Option Sent) → is_none s.begun ≡ false → IsMid s i o → StepCommand s command new → Outcome new i o (sent_at i new.clocks.at (requests_asked_by command))
 commanded s new (Go requests until) i o begun' mid h =
-    subst (λ (x : State). Outcome x i o (sent_at i x.clocks.at requests)) (sym h.0.1)
+    subst (λ (x : WatchState). Outcome x i o (sent_at i x.clocks.at requests)) (sym h.0.1)
     (goes_out s requests i o (s.width - length s.out) begun' mid (goes s.presence s.clocks.at s.tracks (s.width - length s.out) requests h.0.0))
 commanded s new Taken i o begun' mid h = absurd h
 
-clocked : (old new : State) (wall elapsed : ℕ) (output : Output) (i : ℕ) (o : Option Sent) → StepClock old wall elapsed output new → Keeps old i o → Outcome new i o (sent_at i new.clocks.at (asked_by output.command))
+clocked : (old new : WatchState) (wall elapsed : ℕ) (output : Output) (i : ℕ) (o : Option Sent) → StepClock old wall elapsed output new → Keeps old i o → Outcome new i o (sent_at i new.clocks.at (requests_asked_by output.command))
 clocked old new wall elapsed output i o step kept =
     commanded (pressed (readied old wall elapsed) (round_of step.round)) new output.command i o (begun_some old wall elapsed) (mid_of old wall elapsed (round_of step.round) i o kept) step.command
 
@@ -361,17 +361,17 @@ unfolding back_track
 back_flag x = refl
 
 -- an answer: mid is the state before what it says of the broker
-module _ (old mid new : State) (q : Out) (reply : Reply) (i : ℕ) (is : new ≡ replied mid q reply) (out : mid.out ≡ old.out) (other : q.entry ≢ i → track_at mid i ≡ track_at old i) where
+module _ (old mid new : WatchState) (q : Out) (reply : Reply) (i : ℕ) (is : new ≡ replied mid q reply) (out : mid.out ≡ old.out) (other : q.entry ≢ i → track_at mid i ≡ track_at old i) where
   pub after_flag : q.entry ≢ i → Flag (track_at new i) (track_at old i)
   after_flag apart =
-      subst (λ (x : State). Flag (track_at x i) (track_at mid i)) (sym is) (back_kept Flag (λ x. refl) (λ x. back_flag x) mid q reply i) ∙ ap (λ (x : Track). x.out) (other apart)
+      subst (λ (x : WatchState). Flag (track_at x i) (track_at mid i)) (sym is) (back_kept Flag (λ x. refl) (λ x. back_flag x) mid q reply i) ∙ ap (λ (x : Track). x.out) (other apart)
 
   after_out : (P : Operation → Type 0) → All (IsOf old i P) old.out → All (IsOf new i P) new.out
   after_out P all =
-      subst (λ (x : State). All (IsOf new i P) x.out) (sym is)
+      subst (λ (x : WatchState). All (IsOf new i P) x.out) (sym is)
       (replied_out (IsOf new i P) (λ r of. of) mid q reply
       (elim (cases_Bool (q.entry == i)) [
-        | inl same ↦ subst (λ n. All (IsOf new i P) (without n mid.out)) (sym (eqb-true q.entry i same)) (without_none P new i mid.out)
+        | inl same ↦ subst (λ n. All (IsOf new i P) (without_request n mid.out)) (sym (eqb-true q.entry i same)) (without_none P new i mid.out)
         | inr different ↦
             let apart : q.entry ≢ i = λ e. not_both (subst (λ n. (n == i) ≡ true) (sym e) (same_index i)) different in
             let flag = after_flag apart in
@@ -379,13 +379,13 @@ module _ (old mid new : State) (q : Out) (reply : Reply) (i : ℕ) (is : new ≡
       ]))
 
   after_rests : (r : Sent) → Rests r (track_at mid i) → Rests r (track_at new i)
-  after_rests r h = subst (λ (x : State). Rests r (track_at x i)) (sym is) (back_kept (λ y x. Rests r x → Rests r y) (λ x k. k) (λ x. back_rests r x) mid q reply i h)
+  after_rests r h = subst (λ (x : WatchState). Rests r (track_at x i)) (sym is) (back_kept (λ y x. Rests r x → Rests r y) (λ x k. k) (λ x. back_rests r x) mid q reply i h)
 
   answered : (o : Option Sent) → rest_of new ≡ rest_of old → ((r : Sent) → IsSpaced old i r → q.entry ≡ i → Rests r (track_at mid i)) → Keeps old i o → Keeps new i o
   answered None rest own kept = after_out Any kept
   answered (Some r) rest own kept = record {
-    begun = ap (λ (x : State). is_none x.begun) rest ∙ kept.begun;
-    past = let e = ap (λ (x : State). x.clocks.at) rest in let p = kept.past in omega (arith, e, p);
+    begun = ap (λ (x : WatchState). is_none x.begun) rest ∙ kept.begun;
+    past = let e = ap (λ (x : WatchState). x.clocks.at) rest in let p = kept.past in omega (arith, e, p);
     out = after_out (λ y. r.operation ≡ y) kept.out;
     rests = after_rests r (elim (cases_Bool (q.entry == i)) [
       | inl same ↦ own r kept (eqb-true q.entry i same)
@@ -420,13 +420,13 @@ of_request : (P : Out → Type 0) (o : Option Out) (q : Out) → IfSome o P → 
 of_request P None q h same = absurd cc
 of_request P (Some r) q h same = subst (λ x. IfSome x P) same h
 
-asked_is : (s : State) (i j : ℕ) (r : Sent) (operation : Operation) (q : Out) → request_out s.out j operation ≡ Some q → IsSpaced s i r → q.entry ≡ i → r.operation ≡ operation
+asked_is : (s : WatchState) (i j : ℕ) (r : Sent) (operation : Operation) (q : Out) → request_out s.out j operation ≡ Some q → IsSpaced s i r → q.entry ≡ i → r.operation ≡ operation
 asked_is s i j r operation q found kept is =
     let of = of_request (IsOf s i (λ y. r.operation ≡ y)) (request_out s.out j operation) q (out_all (IsOf s i (λ y. r.operation ≡ y)) s.out j operation kept.out) found in
     (of is).1 ∙ out_operation s.out j operation q found
 
 -- who was asked is an entry
-spaced_within : (s : State) (i : ℕ) (r : Sent) → Rests r (track_at s i) → i < length s.tracks
+spaced_within : (s : WatchState) (i : ℕ) (r : Sent) → Rests r (track_at s i) → i < length s.tracks
 spaced_within s i r h =
     elim (cases_lt i (length s.tracks)) [
       | inl within ↦ within
@@ -434,7 +434,7 @@ spaced_within s i r h =
     ]
 
 -- the answer to a lookup
-pub looked_other : (s : State) (q : Out) (reply : Reply) (terms : Terms) (i : ℕ) → q.entry ≢ i → track_at (looked s q reply terms) i ≡ track_at s i
+pub looked_other : (s : WatchState) (q : Out) (reply : Reply) (terms : Terms) (i : ℕ) → q.entry ≢ i → track_at (looked s q reply terms) i ≡ track_at s i
 looked_other s q (Told seconds renewable date) terms i apart =
     get_or-set_other (told_state s q.entry q.since seconds renewable terms).tracks q.entry i _ no_track (λ e. apart (sym e))
     ∙ get_or-set_other s.tracks q.entry i _ no_track (λ e. apart (sym e))
@@ -442,7 +442,7 @@ looked_other s q (Refused status date) terms i apart = get_or-set_other s.tracks
 looked_other s q Busy terms i apart = get_or-set_other s.tracks q.entry i _ no_track (λ e. apart (sym e))
 looked_other s q Lost terms i apart = get_or-set_other s.tracks q.entry i _ no_track (λ e. apart (sym e))
 
-pub looked_out : (s : State) (q : Out) (reply : Reply) (terms : Terms) → (looked s q reply terms).out ≡ s.out
+pub looked_out : (s : WatchState) (q : Out) (reply : Reply) (terms : Terms) → (looked s q reply terms).out ≡ s.out
 looked_out s q (Told seconds renewable date) terms = refl
 looked_out s q (Refused status date) terms = refl
 looked_out s q Busy terms = refl
@@ -452,7 +452,7 @@ told_last : (since seconds : ℕ) (renewable endless : Bool) (x : Track) → (to
 unfolding told_track
 told_last since seconds renewable endless x = refl
 
-looked_rests : (s : State) (q : Out) (reply : Reply) (terms : Terms) (r : Sent) → q.entry < length s.tracks → r.operation ≡ Look → (track_at s q.entry).last ≡ Some r.at → Rests r (track_at (looked s q reply terms) q.entry)
+looked_rests : (s : WatchState) (q : Out) (reply : Reply) (terms : Terms) (r : Sent) → q.entry < length s.tracks → r.operation ≡ Look → (track_at s q.entry).last ≡ Some r.at → Rests r (track_at (looked s q reply terms) q.entry)
 looked_rests s q (Told seconds renewable date) terms r within look last =
     let i = q.entry in
     let mid = told_state s i q.since seconds renewable terms in
@@ -469,7 +469,7 @@ looked_rests s q Busy terms r within look last = subst (Rests r) (sym (get_or-se
 looked_rests s q Lost terms r within look last = subst (Rests r) (sym (get_or-set_same s.tracks q.entry _ no_track within)) (untold_rests r s.clocks.at q.heard Lost (track_at s q.entry) look tt last)
 
 looked_keeps :
-    (old new : State) (found : Option Out) (j i : ℕ) (reply : Reply) (terms : Terms) (output : Output) (o : Option Sent) → request_out old.out j Look ≡ found →
+    (old new : WatchState) (found : Option Out) (j i : ℕ) (reply : Reply) (terms : Terms) (output : Output) (o : Option Sent) → request_out old.out j Look ≡ found →
     StepLooked old found reply terms output new → Keeps old i o → Keeps new i o
 looked_keeps old new None j i reply terms output o is step kept = absurd step
 looked_keeps old new (Some q) j i reply terms output o is step kept =
@@ -483,7 +483,7 @@ looked_keeps old new (Some q) j i reply terms output o is step kept =
 
 -- the answer to a renewal
 renewed_rests :
-    (s : State) (q : Out) (reply : Reply) (r : Sent) → q.entry < length s.tracks → r.at ≤ s.clocks.at → (track_at s q.entry).last ≡ Some r.at → Rests r (track_at (renewed s q reply) q.entry)
+    (s : WatchState) (q : Out) (reply : Reply) (r : Sent) → q.entry < length s.tracks → r.at ≤ s.clocks.at → (track_at s q.entry).last ≡ Some r.at → Rests r (track_at (state_renewed s q reply) q.entry)
 unfolding renewed_track
 renewed_rests s q (Told seconds renewable date) r within past last =
     let i = q.entry in
@@ -498,11 +498,11 @@ renewed_rests s q Busy r within past last = subst (Rests r) (sym (get_or-set_sam
 renewed_rests s q Lost r within past last = subst (Rests r) (sym (get_or-set_same s.tracks q.entry _ no_track within)) (ungranted_rests r s.clocks.at q.heard Lost (track_at s q.entry) tt last)
 
 renewed_keeps :
-    (old new : State) (found : Option Out) (j i : ℕ) (reply : Reply) (output : Output) (o : Option Sent) → StepRenewed old found reply output new → Keeps old i o → Keeps new i o
+    (old new : WatchState) (found : Option Out) (j i : ℕ) (reply : Reply) (output : Output) (o : Option Sent) → StepRenewed old found reply output new → Keeps old i o → Keeps new i o
 renewed_keeps old new None j i reply output o step kept = absurd step
 renewed_keeps old new (Some q) j i reply output o step kept =
     let s = noted old q reply in
-    let mid = renewed s q reply in
+    let mid = state_renewed s q reply in
     answered old mid new q reply i step.1 refl (λ apart. get_or-set_other s.tracks q.entry i _ no_track (λ e. apart (sym e))) o (ap rest_of step.1 ∙ renewed_leaves old q reply)
     (λ r before own.
     subst (λ k. Rests r (track_at mid k)) own
@@ -510,17 +510,17 @@ renewed_keeps old new (Some q) j i reply output o step kept =
     (subst (λ k. (track_at old k).last ≡ Some r.at) (sym own) before.rests.last))) kept
 
 -- what leaves the tracks, and what is out
-left_keeps : (old new : State) (i : ℕ) (o : Option Sent) → rest_of new ≡ rest_of old → new.out ≡ old.out → Flag (track_at new i) (track_at old i) → ((r : Sent) → Rests r (track_at old i) → Rests r (track_at new i)) → Keeps old i o → Keeps new i o
+left_keeps : (old new : WatchState) (i : ℕ) (o : Option Sent) → rest_of new ≡ rest_of old → new.out ≡ old.out → Flag (track_at new i) (track_at old i) → ((r : Sent) → Rests r (track_at old i) → Rests r (track_at new i)) → Keeps old i o → Keeps new i o
 left_keeps old new i None rest out flag rests kept = same_out Any old new i out flag kept
 left_keeps old new i (Some r) rest out flag rests kept = record {
-  begun = ap (λ (x : State). is_none x.begun) rest ∙ kept.begun;
-  past = let e = ap (λ (x : State). x.clocks.at) rest in let p = kept.past in omega (arith, e, p);
+  begun = ap (λ (x : WatchState). is_none x.begun) rest ∙ kept.begun;
+  past = let e = ap (λ (x : WatchState). x.clocks.at) rest in let p = kept.past in omega (arith, e, p);
   out = same_out (λ y. r.operation ≡ y) old new i out flag kept.out;
   rests = rests r kept.rests;
 }
 
 -- a beginning that is asked for leaves both
-begin_keeps : (old : State) (i : ℕ) (o : Option Sent) → Keeps old i o → Keeps (record old { asked = true }) i o
+begin_keeps : (old : WatchState) (i : ℕ) (o : Option Sent) → Keeps old i o → Keeps (record old { asked = true }) i o
 begin_keeps old i None kept = same_out Any old (record old { asked = true }) i refl refl kept
 begin_keeps old i (Some r) kept = record {
   begun = kept.begun;
@@ -529,23 +529,23 @@ begin_keeps old i (Some r) kept = record {
   rests = kept.rests;
 }
 
-moved : (old new mid : State) (i : ℕ) (o : Option Sent) → new ≡ mid → (Keeps old i o → Keeps mid i o) → Keeps old i o → Keeps new i o
-moved old new mid i o is keeps kept = subst (λ (x : State). Keeps x i o) (sym is) (keeps kept)
+moved : (old new mid : WatchState) (i : ℕ) (o : Option Sent) → new ≡ mid → (Keeps old i o → Keeps mid i o) → Keeps old i o → Keeps new i o
+moved old new mid i o is keeps kept = subst (λ (x : WatchState). Keeps x i o) (sym is) (keeps kept)
 
 -- nothing goes out but at a clock
-none_goes : (i at : ℕ) (output out : Output) → output ≡ out → asked_by out.command ≡ [] → sent_at i at (asked_by output.command) ≡ []
-none_goes i at output out is none = ap (λ (x : Output). sent_at i at (asked_by x.command)) is ∙ ap (sent_at i at) none
+none_goes : (i at : ℕ) (output out : Output) → output ≡ out → requests_asked_by out.command ≡ [] → sent_at i at (requests_asked_by output.command) ≡ []
+none_goes i at output out is none = ap (λ (x : Output). sent_at i at (requests_asked_by x.command)) is ∙ ap (sent_at i at) none
 
-looked_quiet : (old new : State) (found : Option Out) (i at : ℕ) (reply : Reply) (terms : Terms) (output : Output) → StepLooked old found reply terms output new → sent_at i at (asked_by output.command) ≡ []
+looked_quiet : (old new : WatchState) (found : Option Out) (i at : ℕ) (reply : Reply) (terms : Terms) (output : Output) → StepLooked old found reply terms output new → sent_at i at (requests_asked_by output.command) ≡ []
 looked_quiet old new None i at reply terms output step = absurd step
 looked_quiet old new (Some q) i at reply terms output step = none_goes i at output _ step.0 refl
 
-renewed_quiet : (old new : State) (found : Option Out) (i at : ℕ) (reply : Reply) (output : Output) → StepRenewed old found reply output new → sent_at i at (asked_by output.command) ≡ []
+renewed_quiet : (old new : WatchState) (found : Option Out) (i at : ℕ) (reply : Reply) (output : Output) → StepRenewed old found reply output new → sent_at i at (requests_asked_by output.command) ≡ []
 renewed_quiet old new None i at reply output step = absurd step
 renewed_quiet old new (Some q) i at reply output step = none_goes i at output _ step.0 refl
 
 -- a step, and a turn
-stepped : (old new : State) (event : Event) (output : Output) (i : ℕ) (o : Option Sent) → Step old event output new → Keeps old i o → Outcome new i o (sent_at i new.clocks.at (asked_by output.command))
+stepped : (old new : WatchState) (event : Event) (output : Output) (i : ℕ) (o : Option Sent) → Step old event output new → Keeps old i o → Outcome new i o (sent_at i new.clocks.at (requests_asked_by output.command))
 unfolding Outcome
 stepped old new (Clock wall elapsed) output i o step kept = clocked old new wall elapsed output i o step kept
 stepped old new (Looked j reply terms) output i o step kept =
@@ -553,7 +553,7 @@ stepped old new (Looked j reply terms) output i o step kept =
 stepped old new (Renewed j reply) output i o step kept =
     inl (renewed_quiet old new (request_out old.out j Renew) i new.clocks.at reply output step, renewed_keeps old new (request_out old.out j Renew) j i reply output o step kept)
 stepped old new (Need j until) output i o step kept =
-    inl (none_goes i new.clocks.at output _ step.0 refl, moved old new (needed old j until) i o step.1 (left_keeps old (needed old j until) i o refl refl refl (λ r h. h)) kept)
+    inl (none_goes i new.clocks.at output _ step.0 refl, moved old new (with_need_until old j until) i o step.1 (left_keeps old (with_need_until old j until) i o refl refl refl (λ r h. h)) kept)
 stepped old new Begin output i o step kept =
     inl (none_goes i new.clocks.at output _ step.0 refl, moved old new (record old { asked = true }) i o step.1 (begin_keeps old i o) kept)
 stepped old new (Known j end renewable) output i o step kept =
@@ -565,14 +565,14 @@ stepped old new (Known j end renewable) output i o step kept =
           (λ r. set_kept (λ y x. Rests r x → Rests r y) (λ x k. k) old.tracks j _ (λ h. record { last = h.last; attempt = h.attempt }) i)) kept,
     )
 
-turned : (old new : State) (event : Event) (result : Result Output WatchFault) (i : ℕ) (o : Option Sent) → Turn old event result new → Keeps old i o → Outcome new i o (sent_at i new.clocks.at (requests_of result))
+turned : (old new : WatchState) (event : Event) (result : Result Output WatchFault) (i : ℕ) (o : Option Sent) → Turn old event result new → Keeps old i o → Outcome new i o (sent_at i new.clocks.at (requests_of result))
 unfolding Outcome
 turned old new event (Ok output) i o turn kept = stepped old new event output i o turn.1 kept
-turned old new event (Err fault) i o turn kept = inl (refl, subst (λ (x : State). Keeps x i o) (sym (refused_stays old new event fault turn)) kept)
+turned old new event (Err fault) i o turn kept = inl (refl, subst (λ (x : WatchState). Keeps x i o) (sym (refused_stays old new event fault turn)) kept)
 
 -- all of them
 abbrev AreApartAfter : Option Sent → List Sent → Type 0
-AreApartAfter None xs = AreApart xs
+AreApartAfter None xs = SentAreApart xs
 AreApartAfter (Some r) xs = AreApartFrom r xs
 
 one_more : (o : Option Sent) (x : Sent) (xs : List Sent) → IfSome o (λ r. IsApart r x) → AreApartFrom x xs → AreApartAfter o (x ∷ xs)
@@ -583,13 +583,13 @@ none_after : (o : Option Sent) → AreApartAfter o []
 none_after None = tt
 none_after (Some r) = tt
 
-ran : (turns : List Turned) (old : State) (i : ℕ) (o : Option Sent) → History old turns → Keeps old i o → AreApartAfter o (sent i turns)
+ran : (turns : List Turned) (old : WatchState) (i : ℕ) (o : Option Sent) → History old turns → Keeps old i o → AreApartAfter o (sent_in_turns i turns)
 unfolding Outcome
 ran [] old i o h kept = none_after o
 ran (turn ∷ turns) old i o h kept =
-    elim (turned old turn.state turn.event turn.result i o h.0 kept) as (λ _. AreApartAfter o (sent i (turn ∷ turns))) [
-      | inl quiet ↦ subst (λ xs. AreApartAfter o (xs ++ sent i turns)) (sym quiet.0) (ran turns turn.state i o h.1 quiet.1)
-      | inr goes' ↦ subst (λ xs. AreApartAfter o (xs ++ sent i turns)) (sym goes'.1.0) (one_more o goes'.0 (sent i turns) goes'.1.1.0 (ran turns turn.state i (Some goes'.0) h.1 goes'.1.1.1))
+    elim (turned old turn.state turn.event turn.result i o h.0 kept) as (λ _. AreApartAfter o (sent_in_turns i (turn ∷ turns))) [
+      | inl quiet ↦ subst (λ xs. AreApartAfter o (xs ++ sent_in_turns i turns)) (sym quiet.0) (ran turns turn.state i o h.1 quiet.1)
+      | inr goes' ↦ subst (λ xs. AreApartAfter o (xs ++ sent_in_turns i turns)) (sym goes'.1.0) (one_more o goes'.0 (sent_in_turns i turns) goes'.1.1.0 (ran turns turn.state i (Some goes'.0) h.1 goes'.1.1.1))
     ]
 
 pub spaced : SpacedLaw

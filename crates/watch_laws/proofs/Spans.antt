@@ -8,13 +8,13 @@ use Rattle.std.specs.List.{list_any}
 use Rattle.watch_machine.specs.declared.command.Request.{Request}
 use Rattle.watch_machine.specs.declared.event.Reply.{Reply}
 use Rattle.watch_machine.specs.declared.lanes.Out.{Out}
-use Rattle.watch_machine.specs.Answers.{answers_all, heard, lane_freed, replied, silent, without}
+use Rattle.watch_machine.specs.Answers.{answers_all, heard, lane_freed, replied, silent, without_request}
 use Rattle.watch_machine.specs.Sending.{out_at}
 use Rattle.watch_machine.specs.Settling.{is_real}
-use Rattle.watch_machine.specs.State.{State}
+use Rattle.watch_machine.specs.State.{WatchState}
 use Rattle.watch_machine.proofs.Cases.{if_both}
 use Rattle.watch_laws.specs.Outage.{one_if}
-use Rattle.watch_laws.specs.Partial.{Partial, settled_by, total}
+use Rattle.watch_laws.specs.Partial.{Partial, partial_settled_by, total}
 use Rattle.watch_laws.proofs.Going.{counts, skips, times}
 
 -- what passes one test adds to what passes another
@@ -121,7 +121,7 @@ adds_most n f p is once below all =
 -- from a moment on, until each request that is out is settled, and the clock after it
 abbrev pub span : Partial → ℕ → List Out → ℕ
 span o at [] = 0
-span o at (q ∷ out) = ((settled_by o q + o.late) - at) + span o at out
+span o at (q ∷ out) = ((partial_settled_by o q + o.late) - at) + span o at out
 
 pub span_append : (o : Partial) (at : ℕ) (xs ys : List Out) → span o at (xs ++ ys) ≡ span o at xs + span o at ys
 span_append o at [] ys = omega arith
@@ -129,25 +129,25 @@ span_append o at (q ∷ xs) ys = let rest = span_append o at xs ys in omega (ari
 
 -- some time later each is so much less
 pub span_later :
-    (o : Partial) (at d : ℕ) (out : List Out) → All (λ (q : Out). at + d ≤ settled_by o q + o.late) out → span o at out ≡ span o (at + d) out + d * length out
+    (o : Partial) (at d : ℕ) (out : List Out) → All (λ (q : Out). at + d ≤ partial_settled_by o q + o.late) out → span o at out ≡ span o (at + d) out + d * length out
 span_later o at d [] all = let z = mul-zero d in omega (arith, z)
 span_later o at d (q ∷ out) all =
-    let rest = span_later o at d out (All-tail (λ (r : Out). at + d ≤ settled_by o r + o.late) q out all) in
-    let here = All-head (λ (r : Out). at + d ≤ settled_by o r + o.late) q out all in
+    let rest = span_later o at d out (All-tail (λ (r : Out). at + d ≤ partial_settled_by o r + o.late) q out all) in
+    let here = All-head (λ (r : Out). at + d ≤ partial_settled_by o r + o.late) q out all in
     let m : d * length (q ∷ out) ≡ d * length out + d = mul-suc d (length out) in
     omega (arith, rest, here, m)
 
-pub span_most : (o : Partial) (at most : ℕ) (out : List Out) → All (λ (q : Out). settled_by o q + o.late ≤ at + most) out → span o at out ≤ most * length out
+pub span_most : (o : Partial) (at most : ℕ) (out : List Out) → All (λ (q : Out). partial_settled_by o q + o.late ≤ at + most) out → span o at out ≤ most * length out
 span_most o at most [] all = omega arith
 span_most o at most (q ∷ out) all =
-    let rest = span_most o at most out (All-tail (λ (r : Out). settled_by o r + o.late ≤ at + most) q out all) in
-    let here = All-head (λ (r : Out). settled_by o r + o.late ≤ at + most) q out all in
+    let rest = span_most o at most out (All-tail (λ (r : Out). partial_settled_by o r + o.late ≤ at + most) q out all) in
+    let here = All-head (λ (r : Out). partial_settled_by o r + o.late ≤ at + most) q out all in
     let m : most * length (q ∷ out) ≡ most * length out + most = mul-suc most (length out) in
     omega (arith, rest, here, m)
 
 -- an answer takes some away
-span_without : (o : Partial) (at i : ℕ) (out : List Out) → span o at (without i out) ≤ span o at out
-unfolding without
+span_without : (o : Partial) (at i : ℕ) (out : List Out) → span o at (without_request i out) ≤ span o at out
+unfolding without_request
 span_without o at i [] = omega arith
 span_without o at i (q ∷ out) =
     let left = filter (λ (r : Out). not (r.entry == i)) out in
@@ -156,15 +156,15 @@ span_without o at i (q ∷ out) =
 
 span_heard : (o : Partial) (at : ℕ) (out : List Out) → span o at (map heard out) ≡ span o at out
 span_heard o at [] = refl
-span_heard o at (q ∷ out) = ap (λ n. ((settled_by o q + o.late) - at) + n) (span_heard o at out)
+span_heard o at (q ∷ out) = ap (λ n. ((partial_settled_by o q + o.late) - at) + n) (span_heard o at out)
 
-pub span_replied : (o : Partial) (at : ℕ) (s : State) (q : Out) (reply : Reply) → span o at (replied s q reply).out ≤ span o at s.out
+pub span_replied : (o : Partial) (at : ℕ) (s : WatchState) (q : Out) (reply : Reply) → span o at (replied s q reply).out ≤ span o at s.out
 span_replied o at s q reply =
     let free = lane_freed s q in
-    let P : State → Type 0 = λ t. span o at t.out ≤ span o at s.out in
+    let P : WatchState → Type 0 = λ t. span o at t.out ≤ span o at s.out in
     let left = span_without o at q.entry s.out in
-    let same = span_heard o at (without q.entry s.out) in
-    let hears : span o at (map heard (without q.entry s.out)) ≤ span o at s.out = omega (arith, left, same) in
+    let same = span_heard o at (without_request q.entry s.out) in
+    let hears : span o at (map heard (without_request q.entry s.out)) ≤ span o at s.out = omega (arith, left, same) in
     if_both P (is_real reply) (answers_all free) (if q.heard then free else silent free)
     (if_both P s.presence.away _ _ hears hears) (if_both P q.heard free (silent free) left (if_both P s.presence.away _ _ left left))
 

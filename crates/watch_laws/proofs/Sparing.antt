@@ -25,25 +25,24 @@ use Rattle.watch_machine.specs.declared.lanes.Presence.{Presence}
 use Rattle.watch_machine.specs.declared.notes.Why.{Why}
 use Rattle.watch_machine.specs.declared.track.Track.{Track}
 use Rattle.watch_machine.specs.declared.track.Try.{Try}
-use Rattle.watch_machine.specs.Answers.{answers_all, back_track, heard, is_back, is_gone, lane_freed, noted, replied, silent, without}
+use Rattle.watch_machine.specs.Answers.{answers_all, back_track, heard, is_back, lane_freed, noted, presence_gone, replied, silent, without_request}
 use Rattle.watch_machine.specs.Beginning.{begun}
 use Rattle.watch_machine.specs.Clocks.{sec}
-use Rattle.watch_machine.specs.History.{History, Turn, Turned}
+use Rattle.watch_machine.specs.History.{History, Turn, Turned, after_all}
 use Rattle.watch_machine.specs.Lines.{is_due, is_due_try, is_first, later_at, ready}
 use Rattle.watch_machine.specs.Looked.{looked}
 use Rattle.watch_machine.specs.Press.{pressed}
 use Rattle.watch_machine.specs.Refusal.{is_same, request_out}
-use Rattle.watch_machine.specs.Renewed.{renewed}
-use Rattle.watch_machine.specs.Round.{asked_by as round_of}
+use Rattle.watch_machine.specs.Renewed.{state_renewed}
+use Rattle.watch_machine.specs.Round.{asked_by_round as round_of}
 use Rattle.watch_machine.specs.Sending.{out_at, sent, sent_in, sent_track}
 use Rattle.watch_machine.specs.Settling.{count_after, held_back, hold_after, is_real, is_silent, presence_after, settled, timed}
-use Rattle.watch_machine.specs.State.{State, attempt_at, each, opened, track_at, track_in}
-use Rattle.watch_machine.specs.Step.{Step, StepClock, StepCommand, StepLooked, StepRenewed, known, needed, readied, why}
+use Rattle.watch_machine.specs.State.{WatchState, attempt_at, each, opened, track_at, track_in}
+use Rattle.watch_machine.specs.Step.{Step, StepClock, StepCommand, StepLooked, StepRenewed, known, readied, why, with_need_until}
 use Rattle.watch_machine.proofs.Cases.{if_both, not_both, value_is}
 use Rattle.watch_machine.proofs.Within.{out_entry}
 use Rattle.watch_laws.specs.Absence.{AllAway, NoneSets, Sets, SparedLaw, is_later, is_later_try, laters}
-use Rattle.watch_laws.specs.Load.{asked_by, requests_of}
-use Rattle.watch_laws.specs.Turns.{after_all}
+use Rattle.watch_laws.specs.Load.{requests_asked_by, requests_of}
 use Rattle.watch_laws.proofs.Answering.{looked_rest}
 use Rattle.watch_laws.proofs.Alone.{IsAlone, flag, lanes_of, turn_alone}
 use Rattle.watch_laws.proofs.Clocking.{begun_some, clock_rises, readied_clocks, readied_width, refused_stays}
@@ -58,8 +57,8 @@ abbrev unheard : List Out → ℕ
 unheard out = length (filter (λ q. not q.heard) out)
 
 -- what is not there is not taken away
-none_gone : (i : ℕ) (out : List Out) → lanes_of i out ≡ 0 → without i out ≡ out
-unfolding without
+none_gone : (i : ℕ) (out : List Out) → lanes_of i out ≡ 0 → without_request i out ≡ out
+unfolding without_request
 none_gone i [] none = refl
 none_gone i (q ∷ out) none =
     let rest = filter (λ (o : Out). o.entry == i) out in
@@ -86,8 +85,8 @@ found_lane i operation (o ∷ out) q found =
 
 -- an answer to a request that has heard leaves those that have not
 rid_heard :
-    (i : ℕ) (operation : Operation) (out : List Out) (q : Out) → request_out out i operation ≡ Some q → q.heard ≡ true → lanes_of i out ≤ 1 → unheard (without i out) ≡ unheard out
-unfolding request_out without
+    (i : ℕ) (operation : Operation) (out : List Out) (q : Out) → request_out out i operation ≡ Some q → q.heard ≡ true → lanes_of i out ≤ 1 → unheard (without_request i out) ≡ unheard out
+unfolding request_out without_request
 rid_heard i operation [] q found hears once = absurd cc
 rid_heard i operation (o ∷ out) q found hears once =
     let rest = filter (λ (p : Out). p.entry == i) out in
@@ -126,13 +125,13 @@ new_unheard at [] = refl
 new_unheard at (r ∷ rs) = ap (λ n. suc n) (new_unheard at rs)
 
 -- n later tries have gone out: the hold is over, and either a request had no answer since the last clock or they are all out
-record IsOver (n : ℕ) (s : State) : Type 0 where
+record IsOver (n : ℕ) (s : WatchState) : Type 0 where
   begun : is_none s.begun ≡ false
   over : s.presence.hold ≤ s.clocks.at
   rest : (list_any is_silent s.answers ≡ true) ⊎ (n ≤ unheard s.out)
 
 -- or none has
-record Spares (width n : ℕ) (s : State) : Type 0 where
+record Spares (width n : ℕ) (s : WatchState) : Type 0 where
   few : n ≤ width
   all : (n ≡ 0) ⊎ IsOver n s
 
@@ -154,7 +153,7 @@ due_over p at x due later = by x.attempt (and_parts (not x.out) (is_due_try p at
       let now : max p.free (if is_first t then t.at else max p.hold (later_at p.away x t)) ≤ at = grind (arith, nat_tests) in
       omega (arith, held, free, is, now)
 
-some_later : (p : Presence) (at : ℕ) (xs : List Track) (s : State) (is : List ℕ) → ((j : ℕ) → attempt_at s j ≡ (track_in xs j).attempt) → All (λ i. (i < length xs) × (is_due p at (track_in xs i) ≡ true)) is →
+some_later : (p : Presence) (at : ℕ) (xs : List Track) (s : WatchState) (is : List ℕ) → ((j : ℕ) → attempt_at s j ≡ (track_in xs j).attempt) → All (λ i. (i < length xs) × (is_due p at (track_in xs i) ≡ true)) is →
     (length (filter (is_later s) (map (request_at p (sec at) xs) is)) ≡ 0) ⊎ (p.hold ≤ at)
 some_later p at xs s [] same all = inl refl
 some_later p at xs s (j ∷ js) same all =
@@ -173,7 +172,7 @@ some_later p at xs s (j ∷ js) same all =
 
 -- the requests that go out at a clock
 goes_spares :
-    (width n : ℕ) (s : State) (requests : List Request) (lanes : ℕ) → is_none s.begun ≡ false → s.answers ≡ [] → s.width ≡ width → lanes ≡ s.width - length s.out → length s.out ≤ width →
+    (width n : ℕ) (s : WatchState) (requests : List Request) (lanes : ℕ) → is_none s.begun ≡ false → s.answers ≡ [] → s.width ≡ width → lanes ≡ s.width - length s.out → length s.out ≤ width →
     ((n ≡ 0) ⊎ ((s.presence.hold ≤ s.clocks.at) × (n ≤ unheard s.out))) → Goes s.presence s.clocks.at s.tracks lanes requests →
     Spares width (length (filter (is_later (sent s requests)) requests) + n) (sent s requests)
 goes_spares width n s requests lanes begun' answers wide free fits so h =
@@ -220,33 +219,33 @@ kept_hold margin at xs answers p quiet =
       right true b h = h
       right false b h = refl
 
-begun_answers : (s : State) (w : Option Why) → (begun s w).answers ≡ s.answers
+begun_answers : (s : WatchState) (w : Option Why) → (begun s w).answers ≡ s.answers
 begun_answers s None = refl
 begun_answers s (Some w) = refl
 
-pub readied_answers : (s : State) (wall elapsed : ℕ) → (readied s wall elapsed).answers ≡ []
+pub readied_answers : (s : WatchState) (wall elapsed : ℕ) → (readied s wall elapsed).answers ≡ []
 unfolding readied
 readied_answers s wall elapsed = begun_answers (settled (timed s wall elapsed)) (why s wall elapsed)
 
 commanded :
-    (width n : ℕ) (s new : State) (command : Command) → is_none s.begun ≡ false → s.answers ≡ [] → Fits width s →
+    (width n : ℕ) (s new : WatchState) (command : Command) → is_none s.begun ≡ false → s.answers ≡ [] → Fits width s →
     ((n ≡ 0) ⊎ ((s.presence.hold ≤ s.clocks.at) × (n ≤ unheard s.out))) → StepCommand s command new →
-    Spares width (length (filter (is_later new) (asked_by command)) + n) new
+    Spares width (length (filter (is_later new) (requests_asked_by command)) + n) new
 commanded width n s new (Go requests until) begun' answers fits so h =
     let going = goes s.presence s.clocks.at s.tracks (s.width - length s.out) requests h.0.0 in
-    subst (λ (x : State). Spares width (length (filter (is_later x) requests) + n) x) (sym h.0.1)
+    subst (λ (x : WatchState). Spares width (length (filter (is_later x) requests) + n) x) (sym h.0.1)
     (goes_spares width n s requests (s.width - length s.out) begun' answers fits.0 refl fits.1 so going)
 commanded width n s new Taken begun' answers fits so h = absurd h
 
 -- the clock of a command is that of its state
-same_clock : (s new : State) (command : Command) → StepCommand s command new → new.clocks ≡ s.clocks
-same_clock s new (Go requests until) h = ap (λ (x : State). x.clocks) h.0.1
+same_clock : (s new : WatchState) (command : Command) → StepCommand s command new → new.clocks ≡ s.clocks
+same_clock s new (Go requests until) h = ap (λ (x : WatchState). x.clocks) h.0.1
 same_clock s new Taken h = absurd h
 
 clock_spares :
-    (width n : ℕ) (old new : State) (wall elapsed : ℕ) (output : Output) → StepClock old wall elapsed output new → Fits width old → old.presence.away ≡ true →
+    (width n : ℕ) (old new : WatchState) (wall elapsed : ℕ) (output : Output) → StepClock old wall elapsed output new → Fits width old → old.presence.away ≡ true →
     (Sets old (record { event = Clock wall elapsed; result = Ok output; state = new }) → ⊥) → Spares width n old →
-    Spares width (length (filter (is_later new) (asked_by output.command)) + n) new
+    Spares width (length (filter (is_later new) (requests_asked_by output.command)) + n) new
 clock_spares width n old new wall elapsed output step fits away never h =
     let ready = readied old wall elapsed in
     let mid = pressed ready (round_of step.round) in
@@ -286,41 +285,41 @@ any_last : (p : Answer → Bool) (xs : List Answer) (a : Answer) → p a ≡ tru
 any_last p [] a h = ap (λ b. b || false) h
 any_last p (x ∷ xs) a h = or_right (p x) (list_any p (xs ++ a ∷ [])) (any_last p xs a h)
 
-real_back : (s : State) (q : Out) (reply : Reply) → s.presence.away ≡ true → is_real reply ≡ true → (replied s q reply).presence.away ≡ false
+real_back : (s : WatchState) (q : Out) (reply : Reply) → s.presence.away ≡ true → is_real reply ≡ true → (replied s q reply).presence.away ≡ false
 real_back s q reply away real =
     let free = lane_freed s q in
-    ap (λ (t : State). t.presence.away) (cond-true (is_real reply) (answers_all free) (if q.heard then free else silent free) real)
-    ∙ ap (λ (t : State). t.presence.away) (cond-true s.presence.away (record free { out = map heard free.out; tracks = each (λ i. back_track) s.tracks; presence = is_back s.presence }) (record free { out = map heard free.out }) away)
+    ap (λ (t : WatchState). t.presence.away) (cond-true (is_real reply) (answers_all free) (if q.heard then free else silent free) real)
+    ∙ ap (λ (t : WatchState). t.presence.away) (cond-true s.presence.away (record free { out = map heard free.out; tracks = each (λ i. back_track) s.tracks; presence = is_back s.presence }) (record free { out = map heard free.out }) away)
 
-lost_frees : (s : State) (q : Out) (reply : Reply) → s.presence.away ≡ true → is_real reply ≡ false → replied s q reply ≡ lane_freed s q
+lost_frees : (s : WatchState) (q : Out) (reply : Reply) → s.presence.away ≡ true → is_real reply ≡ false → replied s q reply ≡ lane_freed s q
 lost_frees s q reply away lost =
     let free = lane_freed s q in
     cond-false (is_real reply) (answers_all free) (if q.heard then free else silent free) lost
-    ∙ if_both (λ (t : State). t ≡ free) q.heard free (silent free) refl (cond-true s.presence.away free (record free { presence = is_gone s.presence }) away)
+    ∙ if_both (λ (t : WatchState). t ≡ free) q.heard free (silent free) refl (cond-true s.presence.away free (record free { presence = presence_gone s.presence }) away)
 
 -- it leaves all that have gone out, or it tells of none
 answer_spares :
-    (width n : ℕ) (old mid new : State) (q : Out) (reply : Reply) (i : ℕ) (operation : Operation) → request_out old.out i operation ≡ Some q → q.entry ≡ i → new ≡ replied mid q reply →
+    (width n : ℕ) (old mid new : WatchState) (q : Out) (reply : Reply) (i : ℕ) (operation : Operation) → request_out old.out i operation ≡ Some q → q.entry ≡ i → new ≡ replied mid q reply →
     mid.out ≡ old.out → mid.answers ≡ (noted old q reply).answers → mid.presence ≡ old.presence → mid.clocks ≡ old.clocks → mid.begun ≡ old.begun → old.presence.away ≡ true →
     new.presence.away ≡ true → IsAlone old → Spares width n old → Spares width n new
 answer_spares width n old mid new q reply i operation found entry is out answers presence clocks begun' away still alone h =
     elim (cases_Bool (is_real reply)) as (λ _. Spares width n new) [
-      | inl real ↦ absurd (not_both still (ap (λ (x : State). x.presence.away) is ∙ real_back mid q reply (ap (λ (p : Presence). p.away) presence ∙ away) real))
+      | inl real ↦ absurd (not_both still (ap (λ (x : WatchState). x.presence.away) is ∙ real_back mid q reply (ap (λ (p : Presence). p.away) presence ∙ away) real))
       | inr lost ↦
           let freed : new ≡ lane_freed mid q = is ∙ lost_frees mid q reply (ap (λ (p : Presence). p.away) presence ∙ away) lost in
           let a : Answer = record { since = q.since; heard = q.heard; reply = reply } in
-          let these : new.answers ≡ old.answers ++ a ∷ [] = ap (λ (x : State). x.answers) freed ∙ answers in
-          let left : new.out ≡ without i old.out = ap (λ (x : State). x.out) freed ∙ ap (λ k. without k mid.out) entry ∙ ap (without i) out in
+          let these : new.answers ≡ old.answers ++ a ∷ [] = ap (λ (x : WatchState). x.answers) freed ∙ answers in
+          let left : new.out ≡ without_request i old.out = ap (λ (x : WatchState). x.out) freed ∙ ap (λ k. without_request k mid.out) entry ∙ ap (without_request i) out in
           record {
             few = h.few;
             all = elim h.all as (λ _. (n ≡ 0) ⊎ IsOver n new) [
               | inl none ↦ inl none
               | inr over ↦
                   let past = over.over in
-                  let hold = ap (λ (x : State). x.presence.hold) freed ∙ ap (λ (p : Presence). p.hold) presence in
-                  let clock = ap (λ (x : State). x.clocks.at) freed ∙ ap (λ c. c.at) clocks in
+                  let hold = ap (λ (x : WatchState). x.presence.hold) freed ∙ ap (λ (p : Presence). p.hold) presence in
+                  let clock = ap (λ (x : WatchState). x.clocks.at) freed ∙ ap (λ c. c.at) clocks in
                   inr (record {
-                    begun = ap (λ (x : State). is_none x.begun) freed ∙ ap is_none begun' ∙ over.begun;
+                    begun = ap (λ (x : WatchState). is_none x.begun) freed ∙ ap is_none begun' ∙ over.begun;
                     over = omega (arith, past, hold, clock);
                     rest = elim over.rest as (λ _. (list_any is_silent new.answers ≡ true) ⊎ (n ≤ unheard new.out)) [
                       | inl silent' ↦ inl (ap (list_any is_silent) these ∙ any_left is_silent old.answers (a ∷ []) silent')
@@ -342,44 +341,44 @@ answer_spares width n old mid new q reply i operation found entry is out answers
       one_at_most true = omega arith
       one_at_most false = omega arith
 
-pub looked_answers : (s : State) (q : Out) (reply : Reply) (terms : Terms) → (looked s q reply terms).answers ≡ s.answers
+pub looked_answers : (s : WatchState) (q : Out) (reply : Reply) (terms : Terms) → (looked s q reply terms).answers ≡ s.answers
 looked_answers s q (Told seconds renewable date) terms = refl
 looked_answers s q (Refused status date) terms = refl
 looked_answers s q Busy terms = refl
 looked_answers s q Lost terms = refl
 
 looked_spares :
-    (width n : ℕ) (old new : State) (found : Option Out) (j : ℕ) (reply : Reply) (terms : Terms) (output : Output) → request_out old.out j Look ≡ found → StepLooked old found reply terms output new →
+    (width n : ℕ) (old new : WatchState) (found : Option Out) (j : ℕ) (reply : Reply) (terms : Terms) (output : Output) → request_out old.out j Look ≡ found → StepLooked old found reply terms output new →
     old.presence.away ≡ true → new.presence.away ≡ true → IsAlone old → Spares width n old → Spares width n new
 looked_spares width n old new None j reply terms output is step away still alone h = absurd step
 looked_spares width n old new (Some q) j reply terms output is step away still alone h =
     let s = noted old q reply in
     let rest = looked_rest s q reply terms in
     answer_spares width n old (looked s q reply terms) new q reply j Look is (out_entry old.out j Look q is) step.1 (looked_out s q reply terms) (looked_answers s q reply terms)
-    (looked_presence s q reply terms) (ap (λ (x : State). x.clocks) rest) (ap (λ (x : State). x.begun) rest) away still alone h
+    (looked_presence s q reply terms) (ap (λ (x : WatchState). x.clocks) rest) (ap (λ (x : WatchState). x.begun) rest) away still alone h
 
 renewed_spares :
-    (width n : ℕ) (old new : State) (found : Option Out) (j : ℕ) (reply : Reply) (output : Output) → request_out old.out j Renew ≡ found → StepRenewed old found reply output new →
+    (width n : ℕ) (old new : WatchState) (found : Option Out) (j : ℕ) (reply : Reply) (output : Output) → request_out old.out j Renew ≡ found → StepRenewed old found reply output new →
     old.presence.away ≡ true → new.presence.away ≡ true → IsAlone old → Spares width n old → Spares width n new
 renewed_spares width n old new None j reply output is step away still alone h = absurd step
 renewed_spares width n old new (Some q) j reply output is step away still alone h =
-    answer_spares width n old (renewed (noted old q reply) q reply) new q reply j Renew is (out_entry old.out j Renew q is) step.1 refl refl refl refl refl away still alone h
+    answer_spares width n old (state_renewed (noted old q reply) q reply) new q reply j Renew is (out_entry old.out j Renew q is) step.1 refl refl refl refl refl away still alone h
 
 -- nothing goes out but at a clock
-quiet : (width n : ℕ) (output out : Output) (new : State) → output ≡ out → asked_by out.command ≡ [] → Spares width n new → Spares width (length (filter (is_later new) (asked_by output.command)) + n) new
+quiet : (width n : ℕ) (output out : Output) (new : WatchState) → output ≡ out → requests_asked_by out.command ≡ [] → Spares width n new → Spares width (length (filter (is_later new) (requests_asked_by output.command)) + n) new
 quiet width n output out new is none h =
-    let zero' : length (filter (is_later new) (asked_by output.command)) ≡ 0 = ap (λ (x : Output). length (filter (is_later new) (asked_by x.command))) is ∙ ap (λ rs. length (filter (is_later new) rs)) none in
-    subst (λ m. Spares width m new) (let e : n ≡ length (filter (is_later new) (asked_by output.command)) + n = omega (arith, zero') in e) h
+    let zero' : length (filter (is_later new) (requests_asked_by output.command)) ≡ 0 = ap (λ (x : Output). length (filter (is_later new) (requests_asked_by x.command))) is ∙ ap (λ rs. length (filter (is_later new) rs)) none in
+    subst (λ m. Spares width m new) (let e : n ≡ length (filter (is_later new) (requests_asked_by output.command)) + n = omega (arith, zero') in e) h
 
-looked_quiet : (output : Output) (old new : State) (found : Option Out) (reply : Reply) (terms : Terms) (width n : ℕ) → StepLooked old found reply terms output new → Spares width n new → Spares width (length (filter (is_later new) (asked_by output.command)) + n) new
+looked_quiet : (output : Output) (old new : WatchState) (found : Option Out) (reply : Reply) (terms : Terms) (width n : ℕ) → StepLooked old found reply terms output new → Spares width n new → Spares width (length (filter (is_later new) (requests_asked_by output.command)) + n) new
 looked_quiet output old new None reply terms width n step h = absurd step
 looked_quiet output old new (Some q) reply terms width n step h = quiet width n output _ new step.0 refl h
 
-renewed_quiet : (output : Output) (old new : State) (found : Option Out) (reply : Reply) (width n : ℕ) → StepRenewed old found reply output new → Spares width n new → Spares width (length (filter (is_later new) (asked_by output.command)) + n) new
+renewed_quiet : (output : Output) (old new : WatchState) (found : Option Out) (reply : Reply) (width n : ℕ) → StepRenewed old found reply output new → Spares width n new → Spares width (length (filter (is_later new) (requests_asked_by output.command)) + n) new
 renewed_quiet output old new None reply width n step h = absurd step
 renewed_quiet output old new (Some q) reply width n step h = quiet width n output _ new step.0 refl h
 
-left_spares : (width n : ℕ) (old new : State) → new.out ≡ old.out → new.answers ≡ old.answers → new.presence ≡ old.presence → new.clocks ≡ old.clocks → new.begun ≡ old.begun → Spares width n old → Spares width n new
+left_spares : (width n : ℕ) (old new : WatchState) → new.out ≡ old.out → new.answers ≡ old.answers → new.presence ≡ old.presence → new.clocks ≡ old.clocks → new.begun ≡ old.begun → Spares width n old → Spares width n new
 left_spares width n old new out answers presence clocks begun' h = record {
   few = h.few;
   all = elim h.all as (λ _. (n ≡ 0) ⊎ IsOver n new) [
@@ -400,29 +399,29 @@ left_spares width n old new out answers presence clocks begun' h = record {
 }
 
 step_spares :
-    (width n : ℕ) (old new : State) (event : Event) (output : Output) → Step old event output new → Fits width old → IsAlone old → old.presence.away ≡ true → new.presence.away ≡ true →
-    (Sets old (record { event = event; result = Ok output; state = new }) → ⊥) → Spares width n old → Spares width (length (filter (is_later new) (asked_by output.command)) + n) new
+    (width n : ℕ) (old new : WatchState) (event : Event) (output : Output) → Step old event output new → Fits width old → IsAlone old → old.presence.away ≡ true → new.presence.away ≡ true →
+    (Sets old (record { event = event; result = Ok output; state = new }) → ⊥) → Spares width n old → Spares width (length (filter (is_later new) (requests_asked_by output.command)) + n) new
 step_spares width n old new (Clock wall elapsed) output step fits alone away still never h = clock_spares width n old new wall elapsed output step fits away never h
 step_spares width n old new (Looked j reply terms) output step fits alone away still never h =
     looked_quiet output old new (request_out old.out j Look) reply terms width n step (looked_spares width n old new (request_out old.out j Look) j reply terms output refl step away still alone h)
 step_spares width n old new (Renewed j reply) output step fits alone away still never h =
     renewed_quiet output old new (request_out old.out j Renew) reply width n step (renewed_spares width n old new (request_out old.out j Renew) j reply output refl step away still alone h)
 step_spares width n old new (Need j until) output step fits alone away still never h =
-    quiet width n output _ new step.0 refl (subst (Spares width n) (sym step.1) (left_spares width n old (needed old j until) refl refl refl refl refl h))
+    quiet width n output _ new step.0 refl (subst (Spares width n) (sym step.1) (left_spares width n old (with_need_until old j until) refl refl refl refl refl h))
 step_spares width n old new Begin output step fits alone away still never h =
     quiet width n output _ new step.0 refl (subst (Spares width n) (sym step.1) (left_spares width n old (record old { asked = true }) refl refl refl refl refl h))
 step_spares width n old new (Known j end renewable) output step fits alone away still never h =
     quiet width n output _ new step.0 refl (subst (Spares width n) (sym step.1) (left_spares width n old (known old j end renewable) refl refl refl refl refl h))
 
 turn_spares :
-    (width n : ℕ) (old new : State) (event : Event) (result : Result Output WatchFault) → Turn old event result new → Fits width old → IsAlone old → old.presence.away ≡ true → new.presence.away ≡ true →
+    (width n : ℕ) (old new : WatchState) (event : Event) (result : Result Output WatchFault) → Turn old event result new → Fits width old → IsAlone old → old.presence.away ≡ true → new.presence.away ≡ true →
     (Sets old (record { event = event; result = result; state = new }) → ⊥) → Spares width n old → Spares width (length (filter (is_later new) (requests_of result)) + n) new
 turn_spares width n old new event (Ok output) turn fits alone away still never h = step_spares width n old new event output turn.1 fits alone away still never h
 turn_spares width n old new event (Err fault) turn fits alone away still never h =
     subst (λ m. Spares width m new) (let e : n ≡ 0 + n = omega arith in e) (subst (Spares width n) (sym (refused_stays old new event fault turn)) h)
 
 ran :
-    (turns : List Turned) (width n : ℕ) (old : State) → History old turns → Fits width old → IsAlone old → old.presence.away ≡ true → AllAway turns → NoneSets old turns → Spares width n old →
+    (turns : List Turned) (width n : ℕ) (old : WatchState) → History old turns → Fits width old → IsAlone old → old.presence.away ≡ true → AllAway turns → NoneSets old turns → Spares width n old →
     laters turns + n ≤ width
 ran [] width n old h fits alone away all none spares = let few = spares.few in omega (arith, few)
 ran (turn ∷ turns) width n old h fits alone away all none spares =
@@ -434,7 +433,7 @@ ran (turn ∷ turns) width n old h fits alone away all none spares =
 
 -- what holds after the turns before
 reached :
-    (before turns : List Turned) (width : ℕ) (old : State) → History old (before ++ turns) → Fits width old → IsAlone old →
+    (before turns : List Turned) (width : ℕ) (old : WatchState) → History old (before ++ turns) → Fits width old → IsAlone old →
     Fits width (after_all old before) × (IsAlone (after_all old before) × History (after_all old before) turns)
 reached [] turns width old h fits alone = (fits, (alone, h))
 reached (turn ∷ before) turns width old h fits alone =

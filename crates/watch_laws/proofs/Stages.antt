@@ -9,8 +9,8 @@ use Rattle.watch_machine.specs.declared.track.End.TheVariants.{At}
 use Rattle.watch_machine.specs.Clocks.{ms}
 use Rattle.watch_machine.specs.Outlook.{time_of}
 use Rattle.watch_machine.specs.Settling.{is_busy}
-use Rattle.watch_machine.specs.State.{State, track_at}
-use Rattle.watch_laws.specs.Outage.{IsShort, Outage, again, granted_by, how_many, is_served, is_whole, settled_by}
+use Rattle.watch_machine.specs.State.{WatchState, track_at}
+use Rattle.watch_laws.specs.Outage.{IsShortOutage, Outage, again, granted_by, how_many, is_request_served, is_request_whole, outage_settled_by}
 use Rattle.watch_laws.proofs.Alone.{IsAlone}
 use Rattle.watch_laws.proofs.Enduring.{Endures, cut}
 use Rattle.watch_laws.proofs.Lanes.{is_anew}
@@ -40,11 +40,11 @@ pub record IsPlanned (f : Facts) : Type 0 where
   pub wide : 0 < f.width
   pub within : f.i < f.n
   pub order : f.o.from ≤ f.o.until
-  pub short : IsShort f.o f.margin
+  pub short : IsShortOutage f.o f.margin
   pub end_is : f.end ≡ f.time + f.margin
 
 -- what holds of every state of a history
-pub record IsBase (width n : ℕ) (s : State) : Type 0 where
+pub record IsBase (width n : ℕ) (s : WatchState) : Type 0 where
   pub fits : Fits width s
   pub alone : IsAlone s
   pub tries : AllTry s
@@ -54,24 +54,24 @@ pub record IsBase (width n : ℕ) (s : State) : Type 0 where
   pub since : All (λ (q : Out). q.since ≤ s.clocks.at) s.out
 
 -- and after a turn that was lived, where due is by when the next clock comes
-pub record IsGoing (f : Facts) (due : ℕ) (s : State) : Type 0 where
+pub record IsGoing (f : Facts) (due : ℕ) (s : WatchState) : Type 0 where
   pub base : IsBase f.width f.n s
   pub entries : length s.forest.entries ≡ f.n
   pub time : time_of s f.i ≡ f.time
   pub margin : s.forest.margin ≡ f.margin
   pub end_is : (track_at s f.i).end ≡ At f.end
   pub asks : Asks f.i s
-  pub timely : All (λ (q : Out). due ≤ settled_by f.o q.since + f.o.late) s.out
+  pub timely : All (λ (q : Out). due ≤ outage_settled_by f.o q.since + f.o.late) s.out
   pub calm : list_any (λ a. is_busy a.reply) s.answers ≡ false
   pub free : s.presence.free ≤ ms f.time
   pub ahead : s.clocks.at < ms f.end
   pub by : s.clocks.at ≤ granted_by f.o f.time f.end
 
 -- before the outage, or after it: r rounds from base on hold those that wait, but for those that went out after from
-pub record IsEarly (f : Facts) (due k : ℕ) (s : State) : Type 0 where
+pub record IsEarly (f : Facts) (due k : ℕ) (s : WatchState) : Type 0 where
   pub endures : Endures f.o f.i f.end (ms f.time) due ⊥ s
   pub idle : (track_at s f.i).out ≡ false
-  pub whole : All (λ (q : Out). is_whole f.o q.since ≡ true) s.out
+  pub whole : All (λ (q : Out). is_request_whole f.o q.since ≡ true) s.out
   pub r : ℕ
   pub from : ℕ
   pub count : k + how_many f.n (is_anew f.o (suc from) s) ≤ f.width * r
@@ -85,9 +85,9 @@ pub record IsEarly (f : Facts) (due k : ℕ) (s : State) : Type 0 where
   pub next : due + turn_of f.o * r ≤ base + turn_of f.o + turn_of f.o * f.o.rounds
 
 -- from the outage on, until all requests that it cut are settled
-pub record IsCut (f : Facts) (due k : ℕ) (s : State) : Type 0 where
+pub record IsCut (f : Facts) (due k : ℕ) (s : WatchState) : Type 0 where
   pub endures : Endures f.o f.i f.end (free_from f) due Unit s
-  pub unserved : is_served f.o s f.i ≡ false
+  pub unserved : is_request_served f.o s f.i ≡ false
   pub r : ℕ
   pub count : k + how_many f.n (is_anew f.o f.o.until s) ≤ f.width * r
   pub fewer : turn_of f.o * r ≤ turn_of f.o * f.o.rounds
@@ -95,9 +95,9 @@ pub record IsCut (f : Facts) (due k : ℕ) (s : State) : Type 0 where
   pub next : due ≤ free_from f + f.o.late
 
 -- after it, while all lanes are taken by requests that went out since
-pub record IsBack (f : Facts) (due k : ℕ) (s : State) : Type 0 where
+pub record IsBack (f : Facts) (due k : ℕ) (s : WatchState) : Type 0 where
   pub endures : Endures f.o f.i f.end (free_from f) due Unit s
-  pub unserved : is_served f.o s f.i ≡ false
+  pub unserved : is_request_served f.o s f.i ≡ false
   pub back : All (λ (q : Out). f.o.until ≤ q.since) s.out
   pub r : ℕ
   pub from : ℕ
@@ -113,16 +113,16 @@ pub record IsBack (f : Facts) (due k : ℕ) (s : State) : Type 0 where
   pub next : due ≤ from + turn_of f.o
 
 -- and while a request of the entry is out that is whole
-pub record IsServed (f : Facts) (due : ℕ) (s : State) : Type 0 where
-  pub served : is_served f.o s f.i ≡ true
+pub record IsServed (f : Facts) (due : ℕ) (s : WatchState) : Type 0 where
+  pub served : is_request_served f.o s f.i ≡ true
   pub sent : ℕ
-  pub whole : All (λ (q : Out). q.entry ≡ f.i → (is_whole f.o q.since ≡ true) × (q.since ≤ sent)) s.out
+  pub whole : All (λ (q : Out). q.entry ≡ f.i → (is_request_whole f.o q.since ≡ true) × (q.since ≤ sent)) s.out
   pub next : due ≤ sent + turn_of f.o
   pub last_ahead : sent + turn_of f.o < ms f.end
   pub last_by : sent + turn_of f.o ≤ granted_by f.o f.time f.end
 
 -- and where the outage was over first, until all requests that it cut are settled
-pub record IsLate (f : Facts) (due k : ℕ) (s : State) : Type 0 where
+pub record IsLate (f : Facts) (due k : ℕ) (s : WatchState) : Type 0 where
   pub endures : Endures f.o f.i f.end (ms f.time) due ⊥ s
   pub idle : (track_at s f.i).out ≡ false
   pub over : f.o.until ≤ s.clocks.at
@@ -131,7 +131,7 @@ pub record IsLate (f : Facts) (due k : ℕ) (s : State) : Type 0 where
   pub count : k + how_many f.n (is_anew f.o (suc from) s) ≤ f.width * f.o.rounds
   pub next : due ≤ cut f.o
 
-abbrev pub IsThrough : Facts → ℕ → ℕ → State → Type 0
+abbrev pub IsThrough : Facts → ℕ → ℕ → WatchState → Type 0
 IsThrough f due k s = (IsEarly f due k s ⊎ IsCut f due k s) ⊎ (IsBack f due k s ⊎ (IsServed f due s ⊎ IsLate f due k s))
 
 -- sums: what is left after the last pause
@@ -181,7 +181,7 @@ one_left w zero k fits some = absurd (let z = mul-zero w in omega (arith, z, fit
 one_left w (suc q) k fits some = (q, refl)
 
 -- the next clock comes in time, whatever the stage
-pub due_ahead : (f : Facts) (due k : ℕ) (s : State) → IsPlanned f → IsThrough f due k s → (due < ms f.end) × (due ≤ granted_by f.o f.time f.end)
+pub due_ahead : (f : Facts) (due k : ℕ) (s : WatchState) → IsPlanned f → IsThrough f due k s → (due < ms f.end) × (due ≤ granted_by f.o f.time f.end)
 due_ahead f due k s planned (inl (inl h)) =
     let holds = h.base_ahead in
     let by = h.base_by in
@@ -209,13 +209,13 @@ due_ahead f due k s planned (inr (inr (inr h))) =
     (omega (arith, next, holds), omega (arith, next))
 
 -- requests by when they went out
-pub whole_after : (o : Outage) (at : ℕ) → o.until ≤ at → is_whole o at ≡ true
-unfolding is_whole
+pub whole_after : (o : Outage) (at : ℕ) → o.until ≤ at → is_request_whole o at ≡ true
+unfolding is_request_whole
 whole_after o at h = let e : nat_le o.until at ≡ true = grind (arith, nat_tests) in ap (λ b. nat_le (at + o.quick) o.from || b) e ∙ or_true (nat_le (at + o.quick) o.from) where
   or_true : (b : Bool) → b || true ≡ true
   or_true true = refl
   or_true false = refl
 
-pub quick_if : (o : Outage) (at : ℕ) → is_whole o at ≡ true → settled_by o at ≡ at + o.quick
-unfolding settled_by
-quick_if o at whole = ap (λ n. at + n) (cond-true (is_whole o at) o.quick o.slow whole)
+pub quick_if : (o : Outage) (at : ℕ) → is_request_whole o at ≡ true → outage_settled_by o at ≡ at + o.quick
+unfolding outage_settled_by
+quick_if o at whole = ap (λ n. at + n) (cond-true (is_request_whole o at) o.quick o.slow whole)

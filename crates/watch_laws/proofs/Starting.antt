@@ -3,12 +3,12 @@ use Rattle.std.proofs.Common.{◌≡◌, ◌∙◌, ℕ, suc, ◌+◌, ◌*◌, 
 use Rattle.std.proofs.Math.Nat.{mul-suc}
 use Rattle.std.proofs.lemmas.Bool.{cases_Bool}
 use Rattle.watch_machine.specs.declared.lanes.Out.{Out}
-use Rattle.watch_machine.specs.State.{State, opened}
+use Rattle.watch_machine.specs.State.{WatchState, opened}
 use Rattle.watch_machine.specs.Wait.{wait}
-use Rattle.watch_laws.specs.Outage.{Outage, coming, how_many, is_served, is_tried, is_whole, next_by, one_if, settled_by, waiting, waits}
+use Rattle.watch_machine.specs.History.{after_all}
+use Rattle.watch_laws.specs.Outage.{Outage, coming, how_many, is_request_served, is_request_whole, is_tried, one_if, outage_next_by, outage_settled_by, waiting, waits_to_be_asked}
 use Rattle.watch_laws.specs.Recovery.{calm}
 use Rattle.watch_laws.specs.Starts.{AllSoon, AreWorked, StartLaw}
-use Rattle.watch_laws.specs.Turns.{after_all}
 use Rattle.watch_laws.proofs.Counting.{lanes_apart, least_all, more, none, some, sums}
 use Rattle.watch_laws.proofs.Grounds.{opened_base, ran_base, turn_base}
 use Rattle.watch_laws.proofs.Lanes.{anew_served, is_anew, served_tried}
@@ -25,17 +25,17 @@ both_tried true false h = omega arith
 both_tried false false h = omega arith
 both_tried false true h = absurd (let bad = h refl in cc)
 
-all_tried : (o : Outage) (width n : ℕ) (s : State) → IsBase width n s → waiting o n s + how_many n (is_served o s) ≤ how_many n (is_tried s)
+all_tried : (o : Outage) (width n : ℕ) (s : WatchState) → IsBase width n s → waiting o n s + how_many n (is_request_served o s) ≤ how_many n (is_tried s)
 all_tried o width n s base =
-    let sum = sums n (waits o s) (is_served o s) (is_tried s) (λ j. false) (λ j. false) (λ j. both_tried (is_tried s j) (is_served o s j) (served_tried o s j base.alone base.tries)) in
+    let sum = sums n (waits_to_be_asked o s) (is_request_served o s) (is_tried s) (λ j. false) (λ j. false) (λ j. both_tried (is_tried s j) (is_request_served o s j) (served_tried o s j base.alone base.tries)) in
     let zero' = none n (λ j. false) (λ j. refl) in
     omega (arith, sum, zero')
 
 -- every lane that is taken holds a request of another entry
-lanes_tried : (quick late width n : ℕ) (s : State) → IsBase width n s → length s.out ≤ how_many n (is_served (calm quick late) s)
+lanes_tried : (quick late width n : ℕ) (s : WatchState) → IsBase width n s → length s.out ≤ how_many n (is_request_served (calm quick late) s)
 lanes_tried quick late width n s base =
     let within = base.within in
-    lanes_apart n (λ (q : Out). is_whole (calm quick late) q.since) s.out (λ j. one_lane s j base.alone)
+    lanes_apart n (λ (q : Out). is_request_whole (calm quick late) q.since) s.out (λ j. one_lane s j base.alone)
     (λ k d below. (within k d below, all_whole quick late (get_or s.out k d).since))
 
 pub starts_soon : StartLaw
@@ -48,8 +48,8 @@ starts_soon quick late rounds g width before last turns i wide run clock taken' 
     let s = last.state in
     let start = starts o old last last.event last.result refl history.0 clock taken' in
     let base = turn_base width n old s last.event last.result history.0 (ran_base width n before (opened g width) first (opened_base g width)) in
-    let due = next_by o (wait s) s.out in
-    let timely : All (Timely quick late due) s.out = least_all (λ (q : Out). settled_by o q.since + late) (wait s + late) s.out in
+    let due = outage_next_by o (wait s) s.out in
+    let timely : All (Timely quick late due) s.out = least_all (λ (q : Out). outage_settled_by o q.since + late) (wait s + late) s.out in
     let at = s.clocks.at in
     let waits' = waiting o n s in
     let k = waits' + coming o n s turns in
@@ -63,10 +63,10 @@ starts_soon quick late rounds g width before last turns i wide run clock taken' 
     let q = one_left width rounds (how_many n (is_tried s) + coming o n s turns) few (omega (arith, one)) in
     let by = at + (quick + late) * q.0 in
     let g' = ap (λ x. (quick + late) * x) q.1 ∙ mul-suc (quick + late) q.0 in
-    let served : is_served o s i ≡ true → Stage quick late width n i by due k s =
+    let served : is_request_served o s i ≡ true → Stage quick late width n i by due k s =
     λ any.
     let here = served_now o i at s.out base.since any in
-    let fewer = more n (is_anew o 0 s) (is_served o s) (λ j. anew_served o 0 s j) in
+    let fewer = more n (is_anew o 0 s) (is_request_served o s) (λ j. anew_served o 0 s j) in
     inr (record {
       base = base;
       timely = timely;
@@ -85,7 +85,7 @@ starts_soon quick late rounds g width before last turns i wide run clock taken' 
     }) in
     let stage : Stage quick late width n i by due k s = elim work as (λ _. Stage quick late width n i by due k s) [
       | inl any ↦ served any
-      | inr m ↦ elim (cases_Bool (is_served o s i)) as (λ _. Stage quick late width n i by due k s) [
+      | inr m ↦ elim (cases_Bool (is_request_served o s i)) as (λ _. Stage quick late width n i by due k s) [
         | inl any ↦ served any
         | inr none' ↦
             let full = full_lanes old s start.wall start.elapsed start.output i width start.ticks' m base.fits.0 in

@@ -19,12 +19,13 @@ use Rattle.watch_machine.specs.Press.{pressed}
 use Rattle.watch_machine.specs.Outlook.{time_of}
 use Rattle.watch_machine.specs.Sending.{sent, sent_in, sent_track}
 use Rattle.watch_machine.specs.Settling.{is_busy, is_silent, presence_after, timed}
-use Rattle.watch_machine.specs.State.{State, attempt_at, second, track_at, track_in}
+use Rattle.watch_machine.specs.State.{WatchState, attempt_at, second, track_at, track_in}
 use Rattle.watch_machine.specs.Step.{readied, why}
 use Rattle.watch_machine.specs.Wait.{wait}
 use Rattle.watch_machine.specs.Wanted.{is_wanted}
 use Rattle.watch_machine.proofs.Cases.{if_both, if_cases, not_both}
-use Rattle.watch_laws.specs.Outage.{Outage, again, comes, granted_by, how_many, is_served, is_tried, is_whole, next_by, settled_by, waiting, waits}
+use Rattle.watch_machine.proofs.Leasts.{least_start}
+use Rattle.watch_laws.specs.Outage.{Outage, again, comes, granted_by, how_many, is_request_served, is_request_whole, is_tried, outage_next_by, outage_settled_by, waiting, waits_to_be_asked}
 use Rattle.watch_laws.proofs.Alone.{IsAlone, flag, lanes_of}
 use Rattle.watch_laws.proofs.Clocking.{readied_clocks}
 use Rattle.watch_laws.proofs.Counting.{lanes_apart, lanes_most, least_all, no_lane, none, some}
@@ -33,7 +34,7 @@ use Rattle.watch_laws.proofs.Going.{asks_by, entry_by, named_of, one_sent, opera
 use Rattle.watch_laws.proofs.Holding.{ready_presence}
 use Rattle.watch_laws.proofs.Lanes.{Sends, Ticks, all_sent, fewer_wait, goes_out_now, is_anew, is_of, pressed_count, served_marked, served_tried, stays_free, still_out}
 use Rattle.watch_laws.proofs.Lasting.{Asks, Same, same_time}
-use Rattle.watch_laws.proofs.Minding.{end_minded, least_start, tended}
+use Rattle.watch_laws.proofs.Minding.{end_minded, tended}
 use Rattle.watch_laws.proofs.Owed.{due_some}
 use Rattle.watch_laws.proofs.Retrying.{ready_first, ready_later}
 use Rattle.watch_laws.proofs.Sparing.{readied_answers}
@@ -63,16 +64,16 @@ none_of i out h =
     (λ q other is. not_both (and_from (q.entry == i) true (ap (λ k. k == i) is ∙ same_index i) refl) other) out
     (none_passes (λ (q : Out). q.entry == i && true) out (no_lane i (λ q. true) out h))
 
-pub free_lanes : (i : ℕ) (s : State) → IsAlone s → (track_at s i).out ≡ false → lanes_of i s.out ≡ 0
+pub free_lanes : (i : ℕ) (s : WatchState) → IsAlone s → (track_at s i).out ≡ false → lanes_of i s.out ≡ 0
 free_lanes i s alone free = let once = alone.once i in let e = ap flag free in omega (arith, once, e)
 
-none_late : (o : Outage) (from at j : ℕ) (out : List Out) → at < from → All (λ (q : Out). q.since ≤ at) out → list_any (λ (q : Out). q.entry == j && (is_whole o q.since && nat_le from q.since)) out ≡ false
+none_late : (o : Outage) (from at j : ℕ) (out : List Out) → at < from → All (λ (q : Out). q.since ≤ at) out → list_any (λ (q : Out). q.entry == j && (is_request_whole o q.since && nat_le from q.since)) out ≡ false
 none_late o from at j [] late all = refl
 none_late o from at j (q ∷ out) late all =
     let le = All-head (λ (r : Out). r.since ≤ at) q out all in
     let test : nat_le from q.since ≡ false = grind (arith, nat_tests) in
-    ap (λ b. (q.entry == j && (is_whole o q.since && b)) || list_any (λ (r : Out). r.entry == j && (is_whole o r.since && nat_le from r.since)) out) test
-    ∙ both_no (q.entry == j) (is_whole o q.since) (list_any (λ (r : Out). r.entry == j && (is_whole o r.since && nat_le from r.since)) out)
+    ap (λ b. (q.entry == j && (is_request_whole o q.since && b)) || list_any (λ (r : Out). r.entry == j && (is_request_whole o r.since && nat_le from r.since)) out) test
+    ∙ both_no (q.entry == j) (is_request_whole o q.since) (list_any (λ (r : Out). r.entry == j && (is_request_whole o r.since && nat_le from r.since)) out)
     ∙ none_late o from at j out late (All-tail (λ (r : Out). r.since ≤ at) q out all) where
       both_no : (a b c : Bool) → (a && (b && false)) || c ≡ c
       both_no true true c = refl
@@ -80,14 +81,14 @@ none_late o from at j (q ∷ out) late all =
       both_no false b c = refl
 
 -- no request that is out went out later than now
-pub anew_none : (o : Outage) (from n : ℕ) (s : State) → All (λ (q : Out). q.since ≤ s.clocks.at) s.out → s.clocks.at < from → how_many n (is_anew o from s) ≡ 0
+pub anew_none : (o : Outage) (from n : ℕ) (s : WatchState) → All (λ (q : Out). q.since ≤ s.clocks.at) s.out → s.clocks.at < from → how_many n (is_anew o from s) ≡ 0
 anew_none o from n s now late = none n (is_anew o from s) (λ j. none_late o from s.clocks.at j s.out late now)
 
-pub before_time : (s : State) (i n : ℕ) → time_of s i ≡ n → second s < time_of s i → s.clocks.at < ms n
+pub before_time : (s : WatchState) (i n : ℕ) → time_of s i ≡ n → second s < time_of s i → s.clocks.at < ms n
 unfolding sec
 before_time s i n same h = omega (arith, same, h)
 
-pub one_lane : (s : State) (j : ℕ) → IsAlone s → lanes_of j s.out ≤ 1
+pub one_lane : (s : WatchState) (j : ℕ) → IsAlone s → lanes_of j s.out ≤ 1
 one_lane s j alone = let a = alone.once j in let b = flag_most (track_at s j).out in omega (arith, a, b) where
   flag_most : (b : Bool) → flag b ≤ 1
   flag_most true = omega arith
@@ -107,8 +108,8 @@ some_lane [] h = absurd (omega (arith, h))
 some_lane (q ∷ out) h = refl
 
 -- requests that went out before the broker was back
-pub early_cut : (o : Outage) (since : ℕ) → o.from ≤ o.until → since < o.until → settled_by o since + o.late ≤ cut o
-unfolding settled_by is_whole
+pub early_cut : (o : Outage) (since : ℕ) → o.from ≤ o.until → since < o.until → outage_settled_by o since + o.late ≤ cut o
+unfolding outage_settled_by is_request_whole
 early_cut o since order early =
     if_cases (λ n. since + n + o.late ≤ cut o) (nat_le (since + o.quick) o.from || nat_le o.until since) o.quick o.slow
     (λ whole.
@@ -121,8 +122,8 @@ early_cut o since order early =
       or_first true b e h = refl
       or_first false b e h = absurd (not_both h e)
 
-pub not_whole : (o : Outage) (at : ℕ) → is_whole o at ≡ false → (o.from < at + o.quick) × (at < o.until)
-unfolding is_whole
+pub not_whole : (o : Outage) (at : ℕ) → is_request_whole o at ≡ false → (o.from < at + o.quick) × (at < o.until)
+unfolding is_request_whole
 not_whole o at h =
     let both = or_parts (nat_le (at + o.quick) o.from) (nat_le o.until at) h in
     let a = both.0 in
@@ -137,7 +138,7 @@ pub later_than : (from since : ℕ) → nat_le since from ≡ false → suc from
 later_than from since h = grind (arith, nat_tests)
 
 -- a clock that was lived
-pub record IsTick (f : Facts) (due : ℕ) (old new : State) (wall elapsed : ℕ) (output : Output) : Type 0 where
+pub record IsTick (f : Facts) (due : ℕ) (old new : WatchState) (wall elapsed : ℕ) (output : Output) : Type 0 where
   pub ticks : Ticks old new wall elapsed output
   pub none : why old wall elapsed ≡ None
   pub soon : (timed old wall elapsed).clocks.at ≤ due
@@ -150,30 +151,30 @@ pub record IsTick (f : Facts) (due : ℕ) (old new : State) (wall elapsed : ℕ)
   pub ahead : due < ms f.end
   pub by : due ≤ granted_by f.o f.time f.end
 
-module _ (f : Facts) (due : ℕ) (old new : State) (wall elapsed : ℕ) (output : Output) (t : IsTick f due old new wall elapsed output) where
+module _ (f : Facts) (due : ℕ) (old new : WatchState) (wall elapsed : ℕ) (output : Output) (t : IsTick f due old new wall elapsed output) where
   abbrev o : Outage
   o = f.o
 
   abbrev i : ℕ
   i = f.i
 
-  abbrev mid : State
+  abbrev mid : WatchState
   mid = pressed (readied old wall elapsed) t.ticks.round
 
   abbrev at : ℕ
   at = new.clocks.at
 
   abbrev due' : ℕ
-  due' = next_by o (wait new) new.out
+  due' = outage_next_by o (wait new) new.out
 
   clock : at ≡ (timed old wall elapsed).clocks.at
-  clock = ap (λ (x : State). x.clocks.at) t.ticks.new_is ∙ ap (λ c. c.at) (readied_clocks old wall elapsed)
+  clock = ap (λ (x : WatchState). x.clocks.at) t.ticks.new_is ∙ ap (λ c. c.at) (readied_clocks old wall elapsed)
 
   mid_clock : mid.clocks.at ≡ at
-  mid_clock = ap (λ (x : State). x.clocks.at) (sym t.ticks.new_is)
+  mid_clock = ap (λ (x : WatchState). x.clocks.at) (sym t.ticks.new_is)
 
   presence : new.presence ≡ presence_after old.forest.margin (timed old wall elapsed).clocks.at old.tracks old.answers old.presence
-  presence = ap (λ (x : State). x.presence) t.ticks.new_is ∙ ready_presence old wall elapsed
+  presence = ap (λ (x : WatchState). x.presence) t.ticks.new_is ∙ ready_presence old wall elapsed
 
   in_time : at ≤ due
   in_time = let c = clock in let s = t.soon in omega (arith, c, s)
@@ -220,11 +221,11 @@ module _ (f : Facts) (due : ℕ) (old new : State) (wall elapsed : ℕ) (output 
       ]
 
   named_marked : list_any (λ (r : Request). r.entry == i) t.ticks.requests ≡ true → i < length mid.tracks → (track_at new i).out ≡ true
-  named_marked named low = ap (λ (x : State). (track_at x i).out) t.ticks.new_is ∙ ap (λ (x : Track). x.out) (went mid t.ticks.requests i named low)
+  named_marked named low = ap (λ (x : WatchState). (track_at x i).out) t.ticks.new_is ∙ ap (λ (x : Track). x.out) (went mid t.ticks.requests i named low)
 
   attempt_kept : attempt_at new i ≡ attempt_at mid i
   attempt_kept =
-      ap (λ (x : State). attempt_at x i) t.ticks.new_is
+      ap (λ (x : WatchState). attempt_at x i) t.ticks.new_is
       ∙ each_kept (λ (y x : Track). y.attempt ≡ x.attempt) refl (sent_in mid.clocks.at t.ticks.requests) mid.tracks
       (λ j x. if_both (λ (y : Track). y.attempt ≡ x.attempt) (list_any (λ (r : Request). r.entry == j) t.ticks.requests) (sent_track mid.clocks.at x) x refl refl) i
 
@@ -250,13 +251,13 @@ module _ (f : Facts) (due : ℕ) (old new : State) (wall elapsed : ℕ) (output 
             let few = mid_count in
             let low' = within in
             let below : i < length mid.tracks = omega (arith, few, low') in
-            let there = ap (λ (x : State). rested (track_at x i).last) t.ticks.new_is ∙ ap (λ (x : Track). rested x.last) (went mid t.ticks.requests i named below) in
+            let there = ap (λ (x : WatchState). rested (track_at x i).last) t.ticks.new_is ∙ ap (λ (x : Track). rested x.last) (went mid t.ticks.requests i named below) in
             let free = (named_free named) in
             let late = newly free (named_marked named below) in
             let c = mid_clock in
             omega (arith, there, late, c)
         | inr none' ↦
-            let there = ap (λ (x : State). rested (track_at x i).last) t.ticks.new_is ∙ ap (λ (x : Track). rested x.last) (passed_over mid t.ticks.requests i none') in
+            let there = ap (λ (x : WatchState). rested (track_at x i).last) t.ticks.new_is ∙ ap (λ (x : Track). rested x.last) (passed_over mid t.ticks.requests i none') in
             omega (arith, there, low)
       ]
 
@@ -285,7 +286,7 @@ module _ (f : Facts) (due : ℕ) (old new : State) (wall elapsed : ℕ) (output 
       omega (arith, e, calm, low)
 
   no_answers : new.answers ≡ []
-  no_answers = ap (λ (x : State). x.answers) t.ticks.new_is ∙ readied_answers old wall elapsed
+  no_answers = ap (λ (x : WatchState). x.answers) t.ticks.new_is ∙ readied_answers old wall elapsed
 
   pub goes_on : (list_any (λ (r : Request). r.entry == i) t.ticks.requests ≡ true → (u : Try) → attempt_at mid i ≡ Some u → u.operation ≡ Renew) → IsGoing f due' new
   goes_on all = record {
@@ -295,7 +296,7 @@ module _ (f : Facts) (due : ℕ) (old new : State) (wall elapsed : ℕ) (output 
     margin = t.same.margin ∙ t.going.margin;
     end_is = t.same.bears.0 ∙ t.going.end_is;
     asks = kept_asks all;
-    timely = least_all (λ (q : Out). settled_by o q.since + o.late) (wait new + o.late) new.out;
+    timely = least_all (λ (q : Out). outage_settled_by o q.since + o.late) (wait new + o.late) new.out;
     calm = ap (list_any (λ (a : Answer). is_busy a.reply)) no_answers;
     free = spared;
     ahead = at_ahead;
@@ -318,11 +319,11 @@ module _ (f : Facts) (due : ℕ) (old new : State) (wall elapsed : ℕ) (output 
 
   -- what it endures after the clock
   endures : (bound : ℕ) (miss : Type 0) → Endures o i f.end bound due miss old → (miss → again f.end (cut o) ≤ bound) →
-      ((track_at old i).out ≡ false → (track_at new i).out ≡ true → miss × ((is_whole o at ≡ false) × (at + 1000 ≤ bound))) → Endures o i f.end bound due' miss new
+      ((track_at old i).out ≡ false → (track_at new i).out ≡ true → miss × ((is_request_whole o at ≡ false) × (at + 1000 ≤ bound))) → Endures o i f.end bound due' miss new
   unfolding Kept Missed
   endures bound miss h far newly =
       let s = steady bound miss h far in
-      let all_due = least_all (λ (q : Out). settled_by o q.since + o.late) (wait new + o.late) new.out in
+      let all_due = least_all (λ (q : Out). outage_settled_by o q.since + o.late) (wait new + o.late) new.out in
       record {
         end_is = t.same.bears.0 ∙ h.end_is;
         owes = t.same.bears.1.1 ∙ h.owes;
@@ -359,7 +360,7 @@ module _ (f : Facts) (due : ℕ) (old new : State) (wall elapsed : ℕ) (output 
             let named' = subst (λ j. list_any (λ (r : Request). r.entry == j) t.ticks.requests ≡ true) same named in
             let below = subst (λ j. j < length mid.tracks) same low in
             let goes' = newly (named_free named') (named_marked named' below) in
-            (goes'.0, (subst (λ n. is_whole o n ≡ false) (sym mid_clock) goes'.1.0, λ heard'. absurd cc)));
+            (goes'.0, (subst (λ n. is_request_whole o n ≡ false) (sym mid_clock) goes'.1.0, λ heard'. absurd cc)));
         silent' = λ any away. absurd (not_both any (ap (list_any is_silent) no_answers));
       }
 
@@ -377,12 +378,12 @@ module _ (f : Facts) (due : ℕ) (old new : State) (wall elapsed : ℕ) (output 
       let entries : length new.forest.entries ≡ f.n = t.same.count ∙ t.going.entries in
       let low = t.planned.within in
       let below : i < length new.forest.entries = omega (arith, entries, low) in
-      let there : i < length ready'.forest.entries = subst (λ (x : State). i < length x.forest.entries) is below in
-      let free' : (track_at end i).out ≡ false = subst (λ (x : State). (track_at x i).out ≡ false) is free in
+      let there : i < length ready'.forest.entries = subst (λ (x : WatchState). i < length x.forest.entries) is below in
+      let free' : (track_at end i).out ≡ false = subst (λ (x : WatchState). (track_at x i).out ≡ false) is free in
       let time : time_of new i ≡ f.time = same_time i old new t.same ∙ t.going.time in
-      subst (λ (x : State). ((u : Try) × ((attempt_at x i ≡ Some u) × ((x.clocks.at < ready x.presence (track_at x i) u) × (wait x ≤ ready x.presence (track_at x i) u))))
+      subst (λ (x : WatchState). ((u : Try) × ((attempt_at x i ≡ Some u) × ((x.clocks.at < ready x.presence (track_at x i) u) × (wait x ≤ ready x.presence (track_at x i) u))))
       ⊎ ((f.width ≤ length x.out) ⊎ ((x.clocks.at < ms f.time) × (wait x ≤ ms f.time)))) (sym is)
-      (elim (end_minded ready' t.ticks.round t.ticks.requests i t.ticks.going there (subst (λ (x : State). is_wanted x i ≡ true) is t.wanted))
+      (elim (end_minded ready' t.ticks.round t.ticks.requests i t.ticks.going there (subst (λ (x : WatchState). is_wanted x i ≡ true) is t.wanted))
       as (λ _. ((u : Try) × ((attempt_at end i ≡ Some u) × ((end.clocks.at < ready end.presence (track_at end i) u) × (wait end ≤ ready end.presence (track_at end i) u))))
       ⊎ ((f.width ≤ length end.out) ⊎ ((end.clocks.at < ms f.time) × (wait end ≤ ms f.time)))) [
         | inl out ↦ absurd (not_both out free')
@@ -395,10 +396,10 @@ module _ (f : Facts) (due : ℕ) (old new : State) (wall elapsed : ℕ) (output 
                   as (λ _. ((u : Try) × ((attempt_at end i ≡ Some u) × ((end.clocks.at < ready end.presence (track_at end i) u) × (wait end ≤ ready end.presence (track_at end i) u))))
                   ⊎ ((f.width ≤ length end.out) ⊎ ((end.clocks.at < ms f.time) × (wait end ≤ ms f.time)))) [
                     | inl later ↦ inl (u, (pressed'.has.attempt_is, later))
-                    | inr full ↦ (let w = ap (λ (x : State). x.width) (sym is) ∙ t.base.fits.0 in inr (inl (omega (arith, full, w))))
+                    | inr full ↦ (let w = ap (λ (x : WatchState). x.width) (sym is) ∙ t.base.fits.0 in inr (inl (omega (arith, full, w))))
                   ]
               | inr ahead ↦
-                  let same : time_of end i ≡ f.time = subst (λ (x : State). time_of x i ≡ f.time) is time in
+                  let same : time_of end i ≡ f.time = subst (λ (x : WatchState). time_of x i ≡ f.time) is time in
                   inr (inr (before_time end i f.time same ahead.ahead, (let h = ahead.heeded in omega (arith, h, same))))
             ]
       ])
@@ -424,7 +425,7 @@ module _ (f : Facts) (due : ℕ) (old new : State) (wall elapsed : ℕ) (output 
   Heeds bound = (due' ≤ bound + o.late) ⊎ (f.width ≤ length new.out)
 
   waits_by : (n : ℕ) → wait new ≤ n → due' ≤ n + o.late
-  waits_by n le = let start = least_start (wait new + o.late) (map (λ (q : Out). settled_by o q.since + o.late) new.out) in omega (arith, start, le)
+  waits_by n le = let start = least_start (wait new + o.late) (map (λ (q : Out). outage_settled_by o q.since + o.late) new.out) in omega (arith, start, le)
 
   heeds : (bound : ℕ) (miss : Type 0) → ms f.time ≤ bound → Steady f.end at bound (Spares bound miss) (track_at mid i) → (track_at new i).out ≡ false → Heeds bound
   heeds bound miss reach s free =
@@ -457,10 +458,10 @@ module _ (f : Facts) (due : ℕ) (old new : State) (wall elapsed : ℕ) (output 
       ]
 
   -- requests that are out, and the next clock
-  all_timely : All (λ (q : Out). due' ≤ settled_by o q.since + o.late) new.out
-  all_timely = least_all (λ (q : Out). settled_by o q.since + o.late) (wait new + o.late) new.out
+  all_timely : All (λ (q : Out). due' ≤ outage_settled_by o q.since + o.late) new.out
+  all_timely = least_all (λ (q : Out). outage_settled_by o q.since + o.late) (wait new + o.late) new.out
 
-  settles : (test : Out → Bool) (bound : ℕ) → list_any test new.out ≡ true → All (λ (q : Out). test q ≡ true → settled_by o q.since + o.late ≤ bound) new.out → due' ≤ bound
+  settles : (test : Out → Bool) (bound : ℕ) → list_any test new.out ≡ true → All (λ (q : Out). test q ≡ true → outage_settled_by o q.since + o.late ≤ bound) new.out → due' ≤ bound
   settles test bound any all =
       let timely = all_timely in
       any_gives (due' ≤ bound) test new.out any
@@ -469,37 +470,37 @@ module _ (f : Facts) (due : ℕ) (old new : State) (wall elapsed : ℕ) (output 
   all_now : All (λ (q : Out). q.since ≤ at) new.out
   all_now = t.base.since
 
-  quick_by : (n : ℕ) (q : Out) → is_whole o q.since ≡ true → q.since ≤ n → settled_by o q.since + o.late ≤ n + turn_of o
+  quick_by : (n : ℕ) (q : Out) → is_request_whole o q.since ≡ true → q.since ≤ n → outage_settled_by o q.since + o.late ≤ n + turn_of o
   quick_by n q whole le = let e = quick_if o q.since whole in omega (arith, e, le)
 
   -- all lanes are taken by requests that are whole
-  full_quick : f.width ≤ length new.out → All (λ (q : Out). is_whole o q.since ≡ true) new.out → due' ≤ at + turn_of o
+  full_quick : f.width ≤ length new.out → All (λ (q : Out). is_request_whole o q.since ≡ true) new.out → due' ≤ at + turn_of o
   full_quick full whole =
       let wide = t.planned.wide in
       let now = all_now in
       settles (λ q. true) (at + turn_of o) (some_lane new.out (omega (arith, full, wide))) (λ k d below yes'. quick_by at (get_or new.out k d) (whole k d below) (now k d below))
 
-  some_old : (from : ℕ) → list_any (λ (q : Out). nat_le q.since from) new.out ≡ true → All (λ (q : Out). is_whole o q.since ≡ true) new.out → due' ≤ from + turn_of o
+  some_old : (from : ℕ) → list_any (λ (q : Out). nat_le q.since from) new.out ≡ true → All (λ (q : Out). is_request_whole o q.since ≡ true) new.out → due' ≤ from + turn_of o
   some_old from any whole =
       settles (λ q. nat_le q.since from) (from + turn_of o) any
       (λ k d below yes'. let q = get_or new.out k d in let le : q.since ≤ from = grind (arith, nat_tests) in quick_by from q (whole k d below) le)
 
   -- no more lanes than the width are anew, and as many where all are
-  all_anew : (from : ℕ) → All (λ (q : Out). is_whole o q.since ≡ true) new.out → All (λ (q : Out). from ≤ q.since) new.out → length new.out ≤ how_many f.n (is_anew o from new)
+  all_anew : (from : ℕ) → All (λ (q : Out). is_request_whole o q.since ≡ true) new.out → All (λ (q : Out). from ≤ q.since) new.out → length new.out ≤ how_many f.n (is_anew o from new)
   all_anew from whole late =
       let low = t.base.within in
-      lanes_apart f.n (λ (q : Out). is_whole o q.since && nat_le from q.since) new.out (λ j. one_lane new j t.base.alone)
+      lanes_apart f.n (λ (q : Out). is_request_whole o q.since && nat_le from q.since) new.out (λ j. one_lane new j t.base.alone)
       (λ k d below.
       let q = get_or new.out k d in
       let l = late k d below in
       let test : nat_le from q.since ≡ true = grind (arith, nat_tests) in
-      (low k d below, and_from (is_whole o q.since) (nat_le from q.since) (whole k d below) test))
+      (low k d below, and_from (is_request_whole o q.since) (nat_le from q.since) (whole k d below) test))
 
   none_anew : (from : ℕ) → at < from → how_many f.n (is_anew o from new) ≡ 0
   none_anew from late = anew_none o from f.n new all_now late
 
 -- those that wait, from before a clock to after it
-module _ (f : Facts) (due : ℕ) (old new : State) (wall elapsed : ℕ) (output : Output) (t : IsTick f due old new wall elapsed output) (sends : Sends old new f.n) (rest : ℕ) where
+module _ (f : Facts) (due : ℕ) (old new : WatchState) (wall elapsed : ℕ) (output : Output) (t : IsTick f due old new wall elapsed output) (sends : Sends old new f.n) (rest : ℕ) where
   abbrev before : ℕ
   before = waiting f.o f.n old + (how_many f.n (comes f.o old new) + rest)
 
@@ -513,66 +514,66 @@ module _ (f : Facts) (due : ℕ) (old new : State) (wall elapsed : ℕ) (output 
   fewer from = let all = fewer_wait f.o from f.n old new t.going.base.alone t.base.alone t.base.tries sends in omega (arith, all)
 
   -- the entry is one of them, where it was not served
-  tried_some : is_tried new f.i ≡ true → is_served f.o old f.i ≡ false → 1 ≤ before
+  tried_some : is_tried new f.i ≡ true → is_request_served f.o old f.i ≡ false → 1 ≤ before
   tried_some tried unserved =
       elim (cases_Bool (is_tried old f.i)) as (λ _. 1 ≤ before) [
         | inl was ↦
-            let one = some f.n f.i (waits f.o old) t.planned.within (and_from (is_tried old f.i) (not (is_served f.o old f.i)) was (ap not unserved)) in
+            let one = some f.n f.i (waits_to_be_asked f.o old) t.planned.within (and_from (is_tried old f.i) (not (is_request_served f.o old f.i)) was (ap not unserved)) in
             omega (arith, one)
         | inr not_before ↦
             let one = some f.n f.i (comes f.o old new) t.planned.within
-            (and_from (is_tried new f.i) (not (is_tried old f.i) || (is_served f.o old f.i && not (is_served f.o new f.i))) tried (ap (λ b. not b || (is_served f.o old f.i && not (is_served f.o new f.i))) not_before)) in
+            (and_from (is_tried new f.i) (not (is_tried old f.i) || (is_request_served f.o old f.i && not (is_request_served f.o new f.i))) tried (ap (λ b. not b || (is_request_served f.o old f.i && not (is_request_served f.o new f.i))) not_before)) in
             omega (arith, one)
       ]
 
   -- where it is served now it goes out now
-  goes_whole : is_served f.o old f.i ≡ false → is_served f.o new f.i ≡ true → (is_whole f.o new.clocks.at ≡ true) × ((track_at old f.i).out ≡ false)
+  goes_whole : is_request_served f.o old f.i ≡ false → is_request_served f.o new f.i ≡ true → (is_request_whole f.o new.clocks.at ≡ true) × ((track_at old f.i).out ≡ false)
   goes_whole unserved served =
-      elim (sends (λ k since. k == f.i && is_whole f.o since) served) as (λ _. (is_whole f.o new.clocks.at ≡ true) × ((track_at old f.i).out ≡ false)) [
+      elim (sends (λ k since. k == f.i && is_request_whole f.o since) served) as (λ _. (is_request_whole f.o new.clocks.at ≡ true) × ((track_at old f.i).out ≡ false)) [
         | inl before' ↦ absurd (not_both before' unserved)
         | inr goes' ↦
-            let both = and_parts (goes'.0 == f.i) (is_whole f.o new.clocks.at) goes'.1.0 in
+            let both = and_parts (goes'.0 == f.i) (is_request_whole f.o new.clocks.at) goes'.1.0 in
             (both.1, subst (λ k. (track_at old k).out ≡ false) (eqb-true goes'.0 f.i both.0) goes'.1.1.1)
       ]
 
   -- and from then on it is served
-  serves : is_served f.o old f.i ≡ false → is_served f.o new f.i ≡ true → new.clocks.at + turn_of f.o < ms f.end → new.clocks.at + turn_of f.o ≤ granted_by f.o f.time f.end → IsServed f next new
+  serves : is_request_served f.o old f.i ≡ false → is_request_served f.o new f.i ≡ true → new.clocks.at + turn_of f.o < ms f.end → new.clocks.at + turn_of f.o ≤ granted_by f.o f.time f.end → IsServed f next new
   serves unserved served ahead by =
       let goes' = goes_whole unserved served in
       let o = f.o in
       let at = new.clocks.at in
       let now' = t.base.since in
-      let P : Out → Type 0 = λ q. q.entry ≡ f.i → (is_whole o q.since ≡ true) × (q.since ≤ at) in
+      let P : Out → Type 0 = λ q. q.entry ≡ f.i → (is_request_whole o q.since ≡ true) × (q.since ≤ at) in
       let clock = mid_clock f due old new wall elapsed output t in
       let whole : All P new.out =
       all_sent P old new wall elapsed output t.ticks (All-weaker (λ (q : Out). q.entry ≡ f.i → ⊥) P (λ q no' is. absurd (no' is)) old.out (none_of f.i old.out (free_lanes f.i old t.going.base.alone goes'.1)))
-      (λ k low due'' named is. (subst (λ n. is_whole o n ≡ true) (sym clock) goes'.0, omega (arith, clock))) in
+      (λ k low due'' named is. (subst (λ n. is_request_whole o n ≡ true) (sym clock) goes'.0, omega (arith, clock))) in
       record {
         served = served;
         sent = at;
         whole = whole;
         next =
-            settles f due old new wall elapsed output t (λ q. q.entry == f.i && is_whole o q.since) (at + turn_of o) served
+            settles f due old new wall elapsed output t (λ q. q.entry == f.i && is_request_whole o q.since) (at + turn_of o) served
             (λ k d below yes'.
             let q = get_or new.out k d in
-            let both = and_parts (q.entry == f.i) (is_whole o q.since) yes' in
+            let both = and_parts (q.entry == f.i) (is_request_whole o q.since) yes' in
             quick_by f due old new wall elapsed output t at q both.1 (now' k d below));
         last_ahead = ahead;
         last_by = by;
       }
 
   -- all are whole where those that go out are
-  all_whole : All (λ (q : Out). is_whole f.o q.since ≡ true) old.out → is_whole f.o new.clocks.at ≡ true → All (λ (q : Out). is_whole f.o q.since ≡ true) new.out
+  all_whole : All (λ (q : Out). is_request_whole f.o q.since ≡ true) old.out → is_request_whole f.o new.clocks.at ≡ true → All (λ (q : Out). is_request_whole f.o q.since ≡ true) new.out
   all_whole there whole =
       let clock = mid_clock f due old new wall elapsed output t in
-      all_sent (λ (q : Out). is_whole f.o q.since ≡ true) old new wall elapsed output t.ticks there (λ k low due'' named. subst (λ n. is_whole f.o n ≡ true) (sym clock) whole)
+      all_sent (λ (q : Out). is_request_whole f.o q.since ≡ true) old new wall elapsed output t.ticks there (λ k low due'' named. subst (λ n. is_request_whole f.o n ≡ true) (sym clock) whole)
 
   still_over : (base : ℕ) → (base ≡ ms f.time) ⊎ (f.o.until ≤ old.clocks.at) → (base ≡ ms f.time) ⊎ (f.o.until ≤ new.clocks.at)
   still_over base (inl is) = inl is
   still_over base (inr before') = let up = t.rises in let c = clock f due old new wall elapsed output t in inr (omega (arith, before', up, c))
 
   -- before the outage: the entry goes out and is served
-  early_served : (h : IsEarly f due before old) → is_served f.o old f.i ≡ false → is_served f.o new f.i ≡ true → IsServed f next new
+  early_served : (h : IsEarly f due before old) → is_request_served f.o old f.i ≡ false → is_request_served f.o new f.i ≡ true → IsServed f next new
   early_served h unserved served =
       let tried = served_tried f.o new f.i t.base.alone t.base.tries served in
       let one = tried_some tried unserved in
@@ -586,7 +587,7 @@ module _ (f : Facts) (due : ℕ) (old new : State) (wall elapsed : ℕ) (output 
       serves unserved served (omega (arith, holds, soon, due'', m)) (omega (arith, soon, due'', m, far))
 
   -- the time is ahead
-  early_ahead : (h : IsEarly f due before old) → All (λ (q : Out). is_whole f.o q.since ≡ true) new.out → (track_at new f.i).out ≡ false → new.clocks.at < ms f.time → IsEarly f next now new
+  early_ahead : (h : IsEarly f due before old) → All (λ (q : Out). is_request_whole f.o q.since ≡ true) new.out → (track_at new f.i).out ≡ false → new.clocks.at < ms f.time → IsEarly f next now new
   early_ahead h whole free ahead =
       let at = new.clocks.at in
       let s = steady f due old new wall elapsed output t (ms f.time) ⊥ h.endures (λ bad. absurd bad) in
@@ -618,7 +619,7 @@ module _ (f : Facts) (due : ℕ) (old new : State) (wall elapsed : ℕ) (output 
       }
 
   -- it has come, and all lanes are taken
-  early_full : (h : IsEarly f due before old) → All (λ (q : Out). is_whole f.o q.since ≡ true) new.out → (track_at new f.i).out ≡ false → ms f.time ≤ new.clocks.at → IsEarly f next now new
+  early_full : (h : IsEarly f due before old) → All (λ (q : Out). is_request_whole f.o q.since ≡ true) new.out → (track_at new f.i).out ≡ false → ms f.time ≤ new.clocks.at → IsEarly f next now new
   early_full h whole free come =
       let at = new.clocks.at in
       let o = f.o in
@@ -678,9 +679,9 @@ module _ (f : Facts) (due : ℕ) (old new : State) (wall elapsed : ℕ) (output 
       ]
 
   -- who was not served is not where what goes out is not whole
-  stays_unserved : is_served f.o old f.i ≡ false → is_whole f.o new.clocks.at ≡ false → is_served f.o new f.i ≡ false
+  stays_unserved : is_request_served f.o old f.i ≡ false → is_request_whole f.o new.clocks.at ≡ false → is_request_served f.o new f.i ≡ false
   stays_unserved unserved broke =
-      elim (cases_Bool (is_served f.o new f.i)) as (λ _. is_served f.o new f.i ≡ false) [
+      elim (cases_Bool (is_request_served f.o new f.i)) as (λ _. is_request_served f.o new f.i ≡ false) [
         | inl served ↦ absurd (not_both (goes_whole unserved served).0 broke)
         | inr no' ↦ no'
       ]
@@ -691,7 +692,7 @@ module _ (f : Facts) (due : ℕ) (old new : State) (wall elapsed : ℕ) (output 
       let order = t.planned.order in
       settles f due old new wall elapsed output t (λ q. true) (cut f.o) any (λ k d below yes'. early_cut f.o (get_or new.out k d).since order (early k d below))
 
-  early_cut_off : (h : IsEarly f due before old) → is_served f.o old f.i ≡ false → is_whole f.o new.clocks.at ≡ false → IsCut f next now new
+  early_cut_off : (h : IsEarly f due before old) → is_request_served f.o old f.i ≡ false → is_request_whole f.o new.clocks.at ≡ false → IsCut f next now new
   early_cut_off h unserved broke =
       let at = new.clocks.at in
       let o = f.o in
@@ -738,23 +739,23 @@ module _ (f : Facts) (due : ℕ) (old new : State) (wall elapsed : ℕ) (output 
   pub early_ticks : IsEarly f due before old → IsThrough f next now new
   early_ticks h =
       let o = f.o in
-      let unserved : is_served o old f.i ≡ false =
-      elim (cases_Bool (is_served o old f.i)) as (λ _. is_served o old f.i ≡ false) [
+      let unserved : is_request_served o old f.i ≡ false =
+      elim (cases_Bool (is_request_served o old f.i)) as (λ _. is_request_served o old f.i ≡ false) [
         | inl served ↦ absurd (not_both (served_marked o old f.i t.going.base.alone served) h.idle)
         | inr no' ↦ no'
       ] in
-      elim (cases_Bool (is_whole o new.clocks.at)) as (λ _. IsThrough f next now new) [
+      elim (cases_Bool (is_request_whole o new.clocks.at)) as (λ _. IsThrough f next now new) [
         | inr broke ↦ inl (inr (early_cut_off h unserved broke))
         | inl whole ↦
             let all = all_whole h.whole whole in
-            elim (cases_Bool (is_served o new f.i)) as (λ _. IsThrough f next now new) [
+            elim (cases_Bool (is_request_served o new f.i)) as (λ _. IsThrough f next now new) [
               | inl served ↦ inr (inr (inl (early_served h unserved served)))
               | inr not_served ↦
                   let free : (track_at new f.i).out ≡ false =
                   elim (cases_Bool (track_at new f.i).out) as (λ _. (track_at new f.i).out ≡ false) [
                     | inl out ↦
                         let clock = mid_clock f due old new wall elapsed output t in
-                        absurd (not_both (goes_out_now old new wall elapsed output f.i (is_whole o) t.ticks h.idle out (subst (λ n. is_whole o n ≡ true) (sym clock) whole)) not_served)
+                        absurd (not_both (goes_out_now old new wall elapsed output f.i (is_request_whole o) t.ticks h.idle out (subst (λ n. is_request_whole o n ≡ true) (sym clock) whole)) not_served)
                     | inr no' ↦ no'
                   ] in
                   elim (cases_lt new.clocks.at (ms f.time)) as (λ _. IsThrough f next now new) [
@@ -766,20 +767,20 @@ module _ (f : Facts) (due : ℕ) (old new : State) (wall elapsed : ℕ) (output 
 
   -- the outage: nothing waits for longer than until the entry may go
   still_cut : (r : ℕ) → now + how_many f.n (is_anew f.o f.o.until new) ≤ f.width * r → turn_of f.o * r ≤ turn_of f.o * f.o.rounds →
-      f.o.from + 1 + turn_of f.o * r ≤ ms f.time + turn_of f.o + f.o.quick + turn_of f.o * f.o.rounds → Endures f.o f.i f.end (free_from f) next Unit new → is_served f.o new f.i ≡ false → next ≤ free_from f + f.o.late →
+      f.o.from + 1 + turn_of f.o * r ≤ ms f.time + turn_of f.o + f.o.quick + turn_of f.o * f.o.rounds → Endures f.o f.i f.end (free_from f) next Unit new → is_request_served f.o new f.i ≡ false → next ≤ free_from f + f.o.late →
       IsCut f next now new
   still_cut r count few room lasts unserved by' = record { endures = lasts; unserved = unserved; r = r; count = count; fewer = few; room = room; next = by' }
 
   -- all lanes are taken since the broker is back, by r rounds of which the first is out
   back_from :
       (r : ℕ) (last : ℕ) → now ≤ f.width * r → turn_of f.o * suc r ≤ turn_of f.o * f.o.rounds → f.o.from + 1 + turn_of f.o * suc r ≤ ms f.time + turn_of f.o + f.o.quick + turn_of f.o * f.o.rounds →
-      Endures f.o f.i f.end (free_from f) next Unit new → is_served f.o new f.i ≡ false → All (λ (q : Out). f.o.until ≤ q.since) new.out → f.width ≤ length new.out →
+      Endures f.o f.i f.end (free_from f) next Unit new → is_request_served f.o new f.i ≡ false → All (λ (q : Out). f.o.until ≤ q.since) new.out → f.width ≤ length new.out →
       new.clocks.at + turn_of f.o * suc r ≤ last → last < ms f.end → last ≤ granted_by f.o f.time f.end → IsBack f next now new
   back_from r last count few room lasts unserved back full start ahead by =
       let at = new.clocks.at in
       let o = f.o in
       let wide = t.planned.wide in
-      let whole = All-weaker (λ (q : Out). o.until ≤ q.since) (λ (q : Out). is_whole o q.since ≡ true) (λ q le. whole_after o q.since le) new.out back in
+      let whole = All-weaker (λ (q : Out). o.until ≤ q.since) (λ (q : Out). is_request_whole o q.since ≡ true) (λ q le. whole_after o q.since le) new.out back in
       let zero' = none_anew f due old new wall elapsed output t (suc at) (omega arith) in
       let now' = t.base.since in
       record {
@@ -806,22 +807,22 @@ module _ (f : Facts) (due : ℕ) (old new : State) (wall elapsed : ℕ) (output 
   all_late none' = All-weaker (λ (q : Out). nat_lt q.since f.o.until ≡ false) (λ (q : Out). f.o.until ≤ q.since) (λ q no'. grind (arith, nat_tests)) new.out (none_passes (λ (q : Out). nat_lt q.since f.o.until) new.out none')
 
   -- who is not served is not out where all are whole
-  not_out : Endures f.o f.i f.end (free_from f) next Unit new → is_served f.o new f.i ≡ false → All (λ (q : Out). is_whole f.o q.since ≡ true) new.out → (track_at new f.i).out ≡ false
+  not_out : Endures f.o f.i f.end (free_from f) next Unit new → is_request_served f.o new f.i ≡ false → All (λ (q : Out). is_request_whole f.o q.since ≡ true) new.out → (track_at new f.i).out ≡ false
   not_out lasts unserved whole =
       elim (cases_Bool (track_at new f.i).out) as (λ _. (track_at new f.i).out ≡ false) [
         | inl out ↦ absurd (not_both (lane_served new.out (lasts.lane out) whole) unserved)
         | inr free ↦ free
       ] where
-        lane_served : (out : List Out) → list_any (is_of f.i any_time) out ≡ true → All (λ (q : Out). is_whole f.o q.since ≡ true) out → list_any (λ (q : Out). q.entry == f.i && is_whole f.o q.since) out ≡ true
+        lane_served : (out : List Out) → list_any (is_of f.i any_time) out ≡ true → All (λ (q : Out). is_request_whole f.o q.since ≡ true) out → list_any (λ (q : Out). q.entry == f.i && is_request_whole f.o q.since) out ≡ true
         lane_served [] any all = absurd cc
         lane_served (q ∷ out) any all =
-            elim (cases_Bool (q.entry == f.i)) as (λ _. (q.entry == f.i && is_whole f.o q.since) || list_any (λ (r : Out). r.entry == f.i && is_whole f.o r.since) out ≡ true) [
+            elim (cases_Bool (q.entry == f.i)) as (λ _. (q.entry == f.i && is_request_whole f.o q.since) || list_any (λ (r : Out). r.entry == f.i && is_request_whole f.o r.since) out ≡ true) [
               | inl here ↦
-                  let w = All-head (λ (r : Out). is_whole f.o r.since ≡ true) q out all in
-                  ap (λ b. b || list_any (λ (r : Out). r.entry == f.i && is_whole f.o r.since) out) (and_from (q.entry == f.i) (is_whole f.o q.since) here w)
+                  let w = All-head (λ (r : Out). is_request_whole f.o r.since ≡ true) q out all in
+                  ap (λ b. b || list_any (λ (r : Out). r.entry == f.i && is_request_whole f.o r.since) out) (and_from (q.entry == f.i) (is_request_whole f.o q.since) here w)
               | inr there ↦
-                  ap (λ b. (b && is_whole f.o q.since) || list_any (λ (r : Out). r.entry == f.i && is_whole f.o r.since) out) there
-                  ∙ lane_served out (sym (ap (λ b. (b && true) || list_any (is_of f.i any_time) out) there) ∙ any) (All-tail (λ (r : Out). is_whole f.o r.since ≡ true) q out all)
+                  ap (λ b. (b && is_request_whole f.o q.since) || list_any (λ (r : Out). r.entry == f.i && is_request_whole f.o r.since) out) there
+                  ∙ lane_served out (sym (ap (λ b. (b && true) || list_any (is_of f.i any_time) out) there) ∙ any) (All-tail (λ (r : Out). is_request_whole f.o r.since ≡ true) q out all)
             ]
 
   pub cut_ticks : IsCut f due before old → IsThrough f next now new
@@ -836,7 +837,7 @@ module _ (f : Facts) (due : ℕ) (old new : State) (wall elapsed : ℕ) (output 
       let in' = in_time f due old new wall elapsed output t in
       let due'' = h.next in
       let room' = room_back f h.r t.planned h.fewer h.room in
-      elim (cases_Bool (is_served o new f.i)) as (λ _. IsThrough f next now new) [
+      elim (cases_Bool (is_request_served o new f.i)) as (λ _. IsThrough f next now new) [
         | inl served ↦
             let tried = served_tried o new f.i t.base.alone t.base.tries served in
             let one = tried_some tried h.unserved in
@@ -847,7 +848,7 @@ module _ (f : Facts) (due : ℕ) (old new : State) (wall elapsed : ℕ) (output 
         | inr unserved ↦
             let lasts = endures f due old new wall elapsed output t (free_from f) Unit h.endures (λ u. far)
             (λ was out.
-            let broke = unserved_broke (is_whole o at) refl was out unserved in
+            let broke = unserved_broke (is_request_whole o at) refl was out unserved in
             let soon'' = (not_whole o at broke).1 in
             (tt, (broke, omega (arith, soon'')))) in
             elim (cases_Bool (list_any (λ (q : Out). nat_lt q.since o.until) new.out)) as (λ _. IsThrough f next now new) [
@@ -859,7 +860,7 @@ module _ (f : Facts) (due : ℕ) (old new : State) (wall elapsed : ℕ) (output 
                   inl (inr (still_cut h.r (omega (arith, less, count)) h.fewer h.room lasts unserved (omega (arith, by', far))))
               | inr none' ↦
                   let back = all_late none' in
-                  let whole = All-weaker (λ (q : Out). o.until ≤ q.since) (λ (q : Out). is_whole o q.since ≡ true) (λ q le. whole_after o q.since le) new.out back in
+                  let whole = All-weaker (λ (q : Out). o.until ≤ q.since) (λ (q : Out). is_request_whole o q.since ≡ true) (λ q le. whole_after o q.since le) new.out back in
                   let free = not_out lasts unserved whole in
                   let s = steady f due old new wall elapsed output t (free_from f) Unit h.endures (λ u. far) in
                   elim (heeds f due old new wall elapsed output t (free_from f) Unit reach s free) as (λ _. IsThrough f next now new) [
@@ -874,11 +875,11 @@ module _ (f : Facts) (due : ℕ) (old new : State) (wall elapsed : ℕ) (output 
                   ]
             ]
       ] where
-        unserved_broke : (b : Bool) → is_whole f.o new.clocks.at ≡ b → (track_at old f.i).out ≡ false → (track_at new f.i).out ≡ true → is_served f.o new f.i ≡ false → is_whole f.o new.clocks.at ≡ false
+        unserved_broke : (b : Bool) → is_request_whole f.o new.clocks.at ≡ b → (track_at old f.i).out ≡ false → (track_at new f.i).out ≡ true → is_request_served f.o new f.i ≡ false → is_request_whole f.o new.clocks.at ≡ false
         unserved_broke false is was out unserved = is
         unserved_broke true is was out unserved =
             let clock = mid_clock f due old new wall elapsed output t in
-            absurd (not_both (goes_out_now old new wall elapsed output f.i (is_whole f.o) t.ticks was out (subst (λ n. is_whole f.o n ≡ true) (sym clock) is)) unserved)
+            absurd (not_both (goes_out_now old new wall elapsed output f.i (is_request_whole f.o) t.ticks was out (subst (λ n. is_request_whole f.o n ≡ true) (sym clock) is)) unserved)
 
   pub back_ticks : IsBack f due before old → IsThrough f next now new
   back_ticks h =
@@ -900,12 +901,12 @@ module _ (f : Facts) (due : ℕ) (old new : State) (wall elapsed : ℕ) (output 
       let mc = mid_clock f due old new wall elapsed output t in
       let back : All (λ (q : Out). o.until ≤ q.since) new.out =
       all_sent (λ (q : Out). o.until ≤ q.since) old new wall elapsed output t.ticks h.back (λ k low due0 named. omega (arith, mc, here)) in
-      let whole = All-weaker (λ (q : Out). o.until ≤ q.since) (λ (q : Out). is_whole o q.since ≡ true) (λ q le. whole_after o q.since le) new.out back in
+      let whole = All-weaker (λ (q : Out). o.until ≤ q.since) (λ (q : Out). is_request_whole o q.since ≡ true) (λ q le. whole_after o q.since le) new.out back in
       let m = mul-suc (turn_of o) h.r in
       let start = h.start in
       let last_ahead = h.last_ahead in
       let last_by = h.last_by in
-      elim (cases_Bool (is_served o new f.i)) as (λ _. IsThrough f next now new) [
+      elim (cases_Bool (is_request_served o new f.i)) as (λ _. IsThrough f next now new) [
         | inl served ↦
             let tried = served_tried o new f.i t.base.alone t.base.tries served in
             let one = tried_some tried h.unserved in
@@ -914,12 +915,12 @@ module _ (f : Facts) (due : ℕ) (old new : State) (wall elapsed : ℕ) (output 
             inr (inr (inl (serves h.unserved served (omega (arith, in', due'', start, m, n, last_ahead)) (omega (arith, in', due'', start, m, n, last_by)))))
         | inr unserved ↦
             let lasts = endures f due old new wall elapsed output t (free_from f) Unit h.endures (λ u. far)
-            (λ was out. absurd (not_both (goes_out_now old new wall elapsed output f.i (is_whole o) t.ticks was out (subst (λ n. is_whole o n ≡ true) (sym mc) is_back)) unserved)) in
+            (λ was out. absurd (not_both (goes_out_now old new wall elapsed output f.i (is_request_whole o) t.ticks was out (subst (λ n. is_request_whole o n ≡ true) (sym mc) is_back)) unserved)) in
             let free = not_out lasts unserved whole in
             let s = steady f due old new wall elapsed output t (free_from f) Unit h.endures (λ u. far) in
             elim (heeds f due old new wall elapsed output t (free_from f) Unit reach s free) as (λ _. IsThrough f next now new) [
               | inl by' ↦
-                  let lanes = lanes_most f.n (λ (q : Out). is_whole o q.since && nat_le o.until q.since) new.out in
+                  let lanes = lanes_most f.n (λ (q : Out). is_request_whole o q.since && nat_le o.until q.since) new.out in
                   let fits = t.base.fits.1 in
                   let w = mul-suc f.width h.r in
                   inl (inr (still_cut (suc h.r) (omega (arith, less, count, lanes, fits, w)) h.fewer h.room lasts unserved by'))
@@ -962,22 +963,22 @@ module _ (f : Facts) (due : ℕ) (old new : State) (wall elapsed : ℕ) (output 
   served_ticks h =
       let o = f.o in
       let marked = served_marked o old f.i t.going.base.alone h.served in
-      let P : Out → Type 0 = λ q. q.entry ≡ f.i → (is_whole o q.since ≡ true) × (q.since ≤ h.sent) in
+      let P : Out → Type 0 = λ q. q.entry ≡ f.i → (is_request_whole o q.since ≡ true) × (q.since ≤ h.sent) in
       let whole : All P new.out =
       all_sent P old new wall elapsed output t.ticks h.whole
       (λ k low due'' named is.
       let same : k ≡ f.i = sym (entry_by (mid f due old new wall elapsed output t).presence (sec (mid f due old new wall elapsed output t).clocks.at) (mid f due old new wall elapsed output t).tracks k) ∙ is in
       absurd (not_both marked (named_free f due old new wall elapsed output t (subst (λ j. list_any (λ (r : Request). r.entry == j) t.ticks.requests ≡ true) same named)))) in
-      let served = still_out old new wall elapsed output (λ (q : Out). q.entry == f.i && is_whole o q.since) t.ticks h.served in
+      let served = still_out old new wall elapsed output (λ (q : Out). q.entry == f.i && is_request_whole o q.since) t.ticks h.served in
       inr (inr (inl (record {
         served = served;
         sent = h.sent;
         whole = whole;
         next =
-            settles f due old new wall elapsed output t (λ q. q.entry == f.i && is_whole o q.since) (h.sent + turn_of o) served
+            settles f due old new wall elapsed output t (λ q. q.entry == f.i && is_request_whole o q.since) (h.sent + turn_of o) served
             (λ k d below yes'.
             let q = get_or new.out k d in
-            let both = and_parts (q.entry == f.i) (is_whole o q.since) yes' in
+            let both = and_parts (q.entry == f.i) (is_request_whole o q.since) yes' in
             let w = whole k d below (eqb-true q.entry f.i both.0) in
             quick_by f due old new wall elapsed output t h.sent q w.0 w.1);
         last_ahead = h.last_ahead;
@@ -1016,30 +1017,30 @@ module _ (f : Facts) (due : ℕ) (old new : State) (wall elapsed : ℕ) (output 
       let less = fewer (suc h.from) in
       let count = h.count in
       let holds = late_holds f t.planned h.soon in
-      let unserved : is_served o old f.i ≡ false =
-      elim (cases_Bool (is_served o old f.i)) as (λ _. is_served o old f.i ≡ false) [
+      let unserved : is_request_served o old f.i ≡ false =
+      elim (cases_Bool (is_request_served o old f.i)) as (λ _. is_request_served o old f.i ≡ false) [
         | inl served ↦ absurd (not_both (served_marked o old f.i t.going.base.alone served) h.idle)
         | inr no' ↦ no'
       ] in
-      elim (cases_Bool (is_served o new f.i)) as (λ _. IsThrough f next now new) [
+      elim (cases_Bool (is_request_served o new f.i)) as (λ _. IsThrough f next now new) [
         | inl served ↦ inr (inr (inl (serves unserved served (omega (arith, in', due'', holds)) (omega (arith, in', due'')))))
         | inr not_served ↦
             let free : (track_at new f.i).out ≡ false =
             elim (cases_Bool (track_at new f.i).out) as (λ _. (track_at new f.i).out ≡ false) [
-              | inl out ↦ absurd (not_both (goes_out_now old new wall elapsed output f.i (is_whole o) t.ticks h.idle out (subst (λ n. is_whole o n ≡ true) (sym mc) is_back)) not_served)
+              | inl out ↦ absurd (not_both (goes_out_now old new wall elapsed output f.i (is_request_whole o) t.ticks h.idle out (subst (λ n. is_request_whole o n ≡ true) (sym mc) is_back)) not_served)
               | inr no' ↦ no'
             ] in
             let lasts = endures f due old new wall elapsed output t (ms f.time) ⊥ h.endures (λ bad. absurd bad) (λ was out. absurd (not_both out free)) in
-            elim (cases_Bool (list_any (λ (q : Out). not (is_whole o q.since)) new.out)) as (λ _. IsThrough f next now new) [
+            elim (cases_Bool (list_any (λ (q : Out). not (is_request_whole o q.since)) new.out)) as (λ _. IsThrough f next now new) [
               | inl some' ↦
                   let by' : next ≤ cut o =
-                  settles f due old new wall elapsed output t (λ q. not (is_whole o q.since)) (cut o) some'
-                  (λ k d below yes'. cut_off o (get_or new.out k d).since (not_so (is_whole o (get_or new.out k d).since) yes')) in
+                  settles f due old new wall elapsed output t (λ q. not (is_request_whole o q.since)) (cut o) some'
+                  (λ k d below yes'. cut_off o (get_or new.out k d).since (not_so (is_request_whole o (get_or new.out k d).since) yes')) in
                   inr (inr (inr (record { endures = lasts; idle = free; over = here; soon = h.soon; from = h.from; count = omega (arith, less, count); next = by' })))
               | inr none' ↦
-                  let whole : All (λ (q : Out). is_whole o q.since ≡ true) new.out =
-                  All-weaker (λ (q : Out). not (is_whole o q.since) ≡ false) (λ (q : Out). is_whole o q.since ≡ true) (λ q e. so_whole (is_whole o q.since) e) new.out
-                  (none_passes (λ (q : Out). not (is_whole o q.since)) new.out none') in
+                  let whole : All (λ (q : Out). is_request_whole o q.since ≡ true) new.out =
+                  All-weaker (λ (q : Out). not (is_request_whole o q.since) ≡ false) (λ (q : Out). is_request_whole o q.since ≡ true) (λ q e. so_whole (is_request_whole o q.since) e) new.out
+                  (none_passes (λ (q : Out). not (is_request_whole o q.since)) new.out none') in
                   let s = steady f due old new wall elapsed output t (ms f.time) ⊥ h.endures (λ bad. absurd bad) in
                   let zero' = anew_none o (suc at) f.n new t.base.since (omega arith) in
                   let soon : next ≤ late_base f + turn_of o =

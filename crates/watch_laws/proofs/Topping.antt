@@ -22,25 +22,24 @@ use Rattle.watch_machine.specs.declared.track.End.TheVariants.{Unknown, At, Neve
 use Rattle.watch_machine.specs.declared.track.Grant.{Grant}
 use Rattle.watch_machine.specs.declared.track.Track.{Track}
 use Rattle.watch_machine.specs.Answers.{back_track, noted, replied}
-use Rattle.watch_machine.specs.Beginning.{begun, is_called, owing, owing_lookup, soon, sooner, untopped, untopped_track}
+use Rattle.watch_machine.specs.Beginning.{begun, is_called, owing, owing_lookup, soon, sooner_try, untopped, untopped_track}
 use Rattle.watch_machine.specs.Clocks.{sec}
-use Rattle.watch_machine.specs.History.{History, Turn, Turned}
+use Rattle.watch_machine.specs.History.{History, Turn, Turned, after_all}
 use Rattle.watch_machine.specs.Looked.{looked, told_state, told_track, untold_track}
-use Rattle.watch_machine.specs.Press.{asked_in, asked_track, dropped, is_fresh, press, pressed, pressed_alone, pressed_track}
+use Rattle.watch_machine.specs.Press.{asked_track, dropped, is_fresh, press, pressed, pressed_alone, pressed_track, track_asked_in}
 use Rattle.watch_machine.specs.Margins.{has_come}
 use Rattle.watch_machine.specs.Refusal.{request_out}
-use Rattle.watch_machine.specs.Renewed.{from_try, granted_from, is_no_further, renewed, renewed_track, track_renewed, ungranted_track}
-use Rattle.watch_machine.specs.Round.{asked_by}
+use Rattle.watch_machine.specs.Renewed.{from_try, granted_from, is_no_further, renewed_track, state_renewed, track_renewed, ungranted_track}
+use Rattle.watch_machine.specs.Round.{asked_by_round}
 use Rattle.watch_machine.specs.Sending.{sent, sent_in, sent_track}
 use Rattle.watch_machine.specs.Settling.{settled, settled_track, timed}
-use Rattle.watch_machine.specs.State.{State, entry_of, fresh_track, no_track, opened, track_at, track_in}
+use Rattle.watch_machine.specs.State.{WatchState, entry_of, fresh_track, no_track, opened, track_at, track_in}
 use Rattle.watch_machine.specs.Step.{Step, StepClock, StepLooked, StepRenewed, readied, why}
 use Rattle.watch_machine.specs.Wanted.{believed, is_open, need_of, wants}
 use Rattle.watch_machine.proofs.Cases.{if_both, not_both}
 use Rattle.watch_machine.proofs.Within.{out_entry}
 use Rattle.watch_machine.proofs.Written.{each_length}
 use Rattle.watch_laws.specs.Tops.{EndNoFurther, Granted, ToppedLaw, grant_by, grant_of, grant_told, grants}
-use Rattle.watch_laws.specs.Turns.{after_all}
 use Rattle.watch_laws.proofs.Clocking.{refused_stays, sent_by}
 use Rattle.watch_laws.proofs.Tracking.{back_kept, each_kept, looked_count, renewed_count, set_count, set_kept}
 
@@ -66,7 +65,7 @@ owing_lower : (at : ℕ) (called : Bool) (x : Track) → Lower (owing at called 
 unfolding owing
 owing_lower at called x =
     if_both (λ y. Lower y x) (called && is_open (sec at) x) (owing_lookup at x) x
-    (if_both (λ y. Lower y x) x.out (record x { owes = true }) (record x { owes = true; attempt = Some (sooner (soon at x) x.attempt) }) (refl, λ top. top) (refl, λ top. top)) (lower_same x)
+    (if_both (λ y. Lower y x) x.out (record x { owes = true }) (record x { owes = true; attempt = Some (sooner_try (soon at x) x.attempt) }) (refl, λ top. top) (refl, λ top. top)) (lower_same x)
 
 pressed_lower : (margin : ℕ) (e : Entry) (need at : ℕ) (x : Track) → Lower (pressed_track margin e need at x) x
 unfolding pressed_track
@@ -74,7 +73,7 @@ pressed_lower margin e need at x =
     if_both (λ y. Lower y x) (is_fresh margin e x need (sec at)) (record x { attempt = Some (press at false x) }) (if wants x need || x.out then x else record x { attempt = dropped x x.attempt })
     (refl, λ top. top) (if_both (λ y. Lower y x) (wants x need || x.out) x (record x { attempt = dropped x x.attempt }) (lower_same x) (refl, λ top. top))
 
-asked_lower : (margin : ℕ) (e : Entry) (at : ℕ) (round : List ℕ) (i : ℕ) (x : Track) → Lower (asked_in margin e at round i x) x
+asked_lower : (margin : ℕ) (e : Entry) (at : ℕ) (round : List ℕ) (i : ℕ) (x : Track) → Lower (track_asked_in margin e at round i x) x
 unfolding asked_track
 asked_lower margin e at round i x =
     if_both (λ y. Lower y x) (list_any (λ j. j == i) round) (asked_track margin e at x) x
@@ -83,7 +82,7 @@ asked_lower margin e at round i x =
 sent_lower : (at : ℕ) (requests : List Request) (i : ℕ) (x : Track) → Lower (sent_in at requests i x) x
 sent_lower at requests i x = if_both (λ y. Lower y x) (list_any (λ (r : Request). r.entry == i) requests) (sent_track at x) x (refl, λ top. top) (lower_same x)
 
-begun_lower : (s : State) (w : Option Why) (i : ℕ) → Lower (track_at (begun s w) i) (track_at s i)
+begun_lower : (s : WatchState) (w : Option Why) (i : ℕ) → Lower (track_at (begun s w) i) (track_at s i)
 begun_lower s None i = lower_same (track_at s i)
 begun_lower s (Some w) i =
     let xs = untopped s.tracks in
@@ -91,14 +90,14 @@ begun_lower s (Some w) i =
     (each_kept Lower (lower_same no_track) (λ j. owing s.clocks.at (is_called s.forest xs s.clocks j)) xs (λ j x. owing_lower s.clocks.at (is_called s.forest xs s.clocks j) x) i)
     (each_kept Lower (lower_same no_track) (λ j. untopped_track) s.tracks (λ j x. untopped_lower x) i)
 
-readied_lower : (s : State) (wall elapsed i : ℕ) → Lower (track_at (readied s wall elapsed) i) (track_at s i)
+readied_lower : (s : WatchState) (wall elapsed i : ℕ) → Lower (track_at (readied s wall elapsed) i) (track_at s i)
 unfolding readied
 readied_lower s wall elapsed i =
     let t = timed s wall elapsed in
     lower_both (track_at (begun (settled t) (why s wall elapsed)) i) (track_at (settled t) i) (track_at s i) (begun_lower (settled t) (why s wall elapsed) i)
     (each_kept Lower (lower_same no_track) (λ j. settled_track t.forest.margin t.clocks.at) s.tracks (λ j x. settled_lower t.forest.margin t.clocks.at x) i)
 
-mid_lower : (s : State) (round : List ℕ) (requests : List Request) (i : ℕ) → Lower (track_at (sent (pressed s round) requests) i) (track_at s i)
+mid_lower : (s : WatchState) (round : List ℕ) (requests : List Request) (i : ℕ) → Lower (track_at (sent (pressed s round) requests) i) (track_at s i)
 mid_lower s round requests i =
     let c = s.clocks in
     let g = s.forest in
@@ -106,31 +105,31 @@ mid_lower s round requests i =
     let mid = pressed s round in
     lower_both (track_at (sent mid requests) i) (track_at mid i) (track_at s i) (each_kept Lower (lower_same no_track) (sent_in c.at requests) mid.tracks (λ j x. sent_lower c.at requests j x) i)
     (lower_both (track_at mid i) (track_in alone i) (track_at s i)
-    (each_kept Lower (lower_same no_track) (λ j. asked_in g.margin (entry_at g.entries j) c.at round j) alone (λ j x. asked_lower g.margin (entry_at g.entries j) c.at round j x) i)
+    (each_kept Lower (lower_same no_track) (λ j. track_asked_in g.margin (entry_at g.entries j) c.at round j) alone (λ j x. asked_lower g.margin (entry_at g.entries j) c.at round j x) i)
     (each_kept Lower (lower_same no_track) (λ j. pressed_track g.margin (entry_at g.entries j) (need_of g.entries s.tracks c j) c.at) s.tracks (λ j x. pressed_lower g.margin (entry_at g.entries j) (need_of g.entries s.tracks c j) c.at x) i))
 
-clock_lower : (old new : State) (wall elapsed : ℕ) (output : Output) (i : ℕ) → StepClock old wall elapsed output new → Lower (track_at new i) (track_at old i)
+clock_lower : (old new : WatchState) (wall elapsed : ℕ) (output : Output) (i : ℕ) → StepClock old wall elapsed output new → Lower (track_at new i) (track_at old i)
 clock_lower old new wall elapsed output i step =
     let ready = readied old wall elapsed in
-    let is = sent_by (pressed ready (asked_by step.round)) new output.command step.command in
-    subst (λ (x : State). Lower (track_at x i) (track_at old i)) (sym is.1)
-    (lower_both (track_at (sent (pressed ready (asked_by step.round)) is.0) i) (track_at ready i) (track_at old i) (mid_lower ready (asked_by step.round) is.0 i) (readied_lower old wall elapsed i))
+    let is = sent_by (pressed ready (asked_by_round step.round)) new output.command step.command in
+    subst (λ (x : WatchState). Lower (track_at x i) (track_at old i)) (sym is.1)
+    (lower_both (track_at (sent (pressed ready (asked_by_round step.round)) is.0) i) (track_at ready i) (track_at old i) (mid_lower ready (asked_by_round step.round) is.0 i) (readied_lower old wall elapsed i))
 
 -- as many tracks
-begun_count : (s : State) (w : Option Why) → length (begun s w).tracks ≡ length s.tracks
+begun_count : (s : WatchState) (w : Option Why) → length (begun s w).tracks ≡ length s.tracks
 begun_count s None = refl
 begun_count s (Some w) = each_length _ (untopped s.tracks) ∙ each_length (λ j. untopped_track) s.tracks
 
-pub readied_count : (s : State) (wall elapsed : ℕ) → length (readied s wall elapsed).tracks ≡ length s.tracks
+pub readied_count : (s : WatchState) (wall elapsed : ℕ) → length (readied s wall elapsed).tracks ≡ length s.tracks
 unfolding readied
 readied_count s wall elapsed = begun_count (settled (timed s wall elapsed)) (why s wall elapsed) ∙ each_length _ s.tracks
 
-clock_count : (old new : State) (wall elapsed : ℕ) (output : Output) → StepClock old wall elapsed output new → length new.tracks ≡ length old.tracks
+clock_count : (old new : WatchState) (wall elapsed : ℕ) (output : Output) → StepClock old wall elapsed output new → length new.tracks ≡ length old.tracks
 clock_count old new wall elapsed output step =
     let ready = readied old wall elapsed in
-    let mid = pressed ready (asked_by step.round) in
+    let mid = pressed ready (asked_by_round step.round) in
     let is = sent_by mid new output.command step.command in
-    ap (λ (x : State). length x.tracks) is.1 ∙ each_length (sent_in mid.clocks.at is.0) mid.tracks ∙ each_length _ (pressed_alone ready.forest ready.clocks ready.tracks) ∙ each_length _ ready.tracks
+    ap (λ (x : WatchState). length x.tracks) is.1 ∙ each_length (sent_in mid.clocks.at is.0) mid.tracks ∙ each_length _ (pressed_alone ready.forest ready.clocks ready.tracks) ∙ each_length _ ready.tracks
     ∙ readied_count old wall elapsed
 
 -- the answer to a lookup
@@ -142,7 +141,7 @@ untold_lower : (at : ℕ) (heard : Bool) (reply : Reply) (x : Track) → Lower (
 unfolding untold_track
 untold_lower at heard reply x = (refl, λ top. top)
 
-looked_lower : (s : State) (r : Out) (reply : Reply) (terms : Terms) (i : ℕ) → Lower (track_at (looked s r reply terms) i) (track_at s i)
+looked_lower : (s : WatchState) (r : Out) (reply : Reply) (terms : Terms) (i : ℕ) → Lower (track_at (looked s r reply terms) i) (track_at s i)
 looked_lower s r (Told seconds renewable date) terms i =
     let mid = told_state s r.entry r.since seconds renewable terms in
     lower_both (track_at (looked s r (Told seconds renewable date) terms) i) (track_at mid i) (track_at s i) (set_kept Lower lower_same mid.tracks r.entry _ (refl, λ top. top) i)
@@ -155,7 +154,7 @@ looked_lower s r Lost terms i = set_kept Lower lower_same s.tracks r.entry _ (un
 abbrev Alike : Track → Track → Type 0
 Alike y x = Lower y x × (y.end ≡ x.end)
 
-after_alike : (s : State) (r : Out) (reply : Reply) (i : ℕ) → Alike (track_at (replied s r reply) i) (track_at s i)
+after_alike : (s : WatchState) (r : Out) (reply : Reply) (i : ℕ) → Alike (track_at (replied s r reply) i) (track_at s i)
 unfolding back_track
 after_alike s r reply i = back_kept Alike (λ x. (lower_same x, refl)) (λ x. ((refl, λ top. top), refl)) s r reply i
 
@@ -220,7 +219,7 @@ none_more : (gs : List Granted) (x : Track) → Kept gs x → Kept (gs ++ []) x
 none_more gs x k = subst (λ ys. Kept ys x) (sym (append-nil gs)) k
 
 own_renewed :
-    (s new : State) (r : Out) (reply : Reply) (i : ℕ) (gs : List Granted) → i < length s.tracks → r.entry ≡ i → Alike (track_at new i) (track_at (renewed s r reply) i) → Kept gs (track_at s i) →
+    (s new : WatchState) (r : Out) (reply : Reply) (i : ℕ) (gs : List Granted) → i < length s.tracks → r.entry ≡ i → Alike (track_at new i) (track_at (state_renewed s r reply) i) → Kept gs (track_at s i) →
     Kept (gs ++ grant_told i new reply) (track_at new i)
 unfolding renewed_track
 own_renewed s new r (Told seconds renewable date) i gs within own alike k =
@@ -229,8 +228,8 @@ own_renewed s new r (Told seconds renewable date) i gs within own alike k =
     let x = track_at s r.entry in
     let from' = from_try g.margin step seconds s.clocks.at r.since x.attempt in
     let made = granted_from step s.clocks.at seconds renewable from' x in
-    let there : track_at (renewed s r (Told seconds renewable date)) i ≡ made =
-    subst (λ j. track_at (renewed s r (Told seconds renewable date)) j ≡ made) own (get_or-set_same s.tracks r.entry made no_track (omega (arith, own, within))) in
+    let there : track_at (state_renewed s r (Told seconds renewable date)) i ≡ made =
+    subst (λ j. track_at (state_renewed s r (Told seconds renewable date)) j ≡ made) own (get_or-set_same s.tracks r.entry made no_track (omega (arith, own, within))) in
     let this = told_grant (record { seconds = seconds; from = from' }) in
     let here = granted_kept step s.clocks.at seconds renewable from' x gs (subst (λ j. Kept gs (track_at s j)) (sym own) k) in
     let kept = lower_kept (gs ++ this ∷ []) (track_at new i) made (subst (λ y. Lower (track_at new i) y) there alike.0) here in
@@ -238,13 +237,13 @@ own_renewed s new r (Told seconds renewable date) i gs within own alike k =
     let counts : believed (track_at new i).end - seconds ≡ sec from' = omega (arith, end) in
     subst (λ n. Kept (gs ++ record { seconds = seconds; from = n } ∷ []) (track_at new i)) (sym counts) kept
 own_renewed s new r (Refused status date) i gs within own alike k =
-    none_more gs (track_at new i) (lower_kept gs (track_at new i) (track_at s i) (lower_both (track_at new i) (track_at (renewed s r (Refused status date)) i) (track_at s i) alike.0
+    none_more gs (track_at new i) (lower_kept gs (track_at new i) (track_at s i) (lower_both (track_at new i) (track_at (state_renewed s r (Refused status date)) i) (track_at s i) alike.0
     (set_kept Lower lower_same s.tracks r.entry _ (ungranted_lower s.clocks.at r.heard (Refused status date) (track_at s r.entry)) i)) k)
 own_renewed s new r Busy i gs within own alike k =
-    none_more gs (track_at new i) (lower_kept gs (track_at new i) (track_at s i) (lower_both (track_at new i) (track_at (renewed s r Busy) i) (track_at s i) alike.0
+    none_more gs (track_at new i) (lower_kept gs (track_at new i) (track_at s i) (lower_both (track_at new i) (track_at (state_renewed s r Busy) i) (track_at s i) alike.0
     (set_kept Lower lower_same s.tracks r.entry _ (ungranted_lower s.clocks.at r.heard Busy (track_at s r.entry)) i)) k)
 own_renewed s new r Lost i gs within own alike k =
-    none_more gs (track_at new i) (lower_kept gs (track_at new i) (track_at s i) (lower_both (track_at new i) (track_at (renewed s r Lost) i) (track_at s i) alike.0
+    none_more gs (track_at new i) (lower_kept gs (track_at new i) (track_at s i) (lower_both (track_at new i) (track_at (state_renewed s r Lost) i) (track_at s i) alike.0
     (set_kept Lower lower_same s.tracks r.entry _ (ungranted_lower s.clocks.at r.heard Lost (track_at s r.entry)) i)) k)
 
 same_index : (i : ℕ) → (i == i) ≡ true
@@ -252,14 +251,14 @@ same_index i = grind (arith, nat_tests)
 
 -- or of another
 renewed_kept :
-    (old new : State) (o : Option Out) (j i : ℕ) (reply : Reply) (output : Output) (gs : List Granted) → request_out old.out j Renew ≡ o → StepRenewed old o reply output new →
+    (old new : WatchState) (o : Option Out) (j i : ℕ) (reply : Reply) (output : Output) (gs : List Granted) → request_out old.out j Renew ≡ o → StepRenewed old o reply output new →
     i < length old.tracks → Kept gs (track_at old i) → Kept (gs ++ grant_by i new (Renewed j reply)) (track_at new i)
 renewed_kept old new None j i reply output gs is step within k = absurd step
 renewed_kept old new (Some r) j i reply output gs is step within k =
     let s = noted old r reply in
-    let mid = renewed s r reply in
+    let mid = state_renewed s r reply in
     let entry = out_entry old.out j Renew r is in
-    let alike = subst (λ (x : State). Alike (track_at x i) (track_at mid i)) (sym step.1) (after_alike mid r reply i) in
+    let alike = subst (λ (x : WatchState). Alike (track_at x i) (track_at mid i)) (sym step.1) (after_alike mid r reply i) in
     elim (cases_Bool (j == i)) [
       | inl same ↦
           subst (λ ys. Kept (gs ++ ys) (track_at new i)) (sym (cond-true (j == i) (grant_told i new reply) [] same))
@@ -272,63 +271,63 @@ renewed_kept old new (Some r) j i reply output gs is step within k =
     ]
 
 looked_kept :
-    (old new : State) (o : Option Out) (i : ℕ) (reply : Reply) (terms : Terms) (output : Output) → StepLooked old o reply terms output new → Lower (track_at new i) (track_at old i)
+    (old new : WatchState) (o : Option Out) (i : ℕ) (reply : Reply) (terms : Terms) (output : Output) → StepLooked old o reply terms output new → Lower (track_at new i) (track_at old i)
 looked_kept old new None i reply terms output step = absurd step
 looked_kept old new (Some r) i reply terms output step =
     let s = noted old r reply in
     let mid = looked s r reply terms in
-    subst (λ (x : State). Lower (track_at x i) (track_at old i)) (sym step.1)
+    subst (λ (x : WatchState). Lower (track_at x i) (track_at old i)) (sym step.1)
     (lower_both (track_at (replied mid r reply) i) (track_at mid i) (track_at old i) (after_alike mid r reply i).0 (looked_lower s r reply terms i))
 
 -- a step, and a turn
-quiet_kept : (old new : State) (i : ℕ) (gs : List Granted) → Lower (track_at new i) (track_at old i) → Kept gs (track_at old i) → Kept (gs ++ []) (track_at new i)
+quiet_kept : (old new : WatchState) (i : ℕ) (gs : List Granted) → Lower (track_at new i) (track_at old i) → Kept gs (track_at old i) → Kept (gs ++ []) (track_at new i)
 quiet_kept old new i gs low k = none_more gs (track_at new i) (lower_kept gs (track_at new i) (track_at old i) low k)
 
 step_kept :
-    (old new : State) (event : Event) (output : Output) (i : ℕ) (gs : List Granted) → Step old event output new → i < length old.tracks → Kept gs (track_at old i) →
+    (old new : WatchState) (event : Event) (output : Output) (i : ℕ) (gs : List Granted) → Step old event output new → i < length old.tracks → Kept gs (track_at old i) →
     Kept (gs ++ grant_by i new event) (track_at new i)
 step_kept old new (Clock wall elapsed) output i gs step within k = quiet_kept old new i gs (clock_lower old new wall elapsed output i step) k
 step_kept old new (Looked j reply terms) output i gs step within k = quiet_kept old new i gs (looked_kept old new (request_out old.out j Look) i reply terms output step) k
 step_kept old new (Renewed j reply) output i gs step within k = renewed_kept old new (request_out old.out j Renew) j i reply output gs refl step within k
 step_kept old new (Need j until) output i gs step within k =
-    quiet_kept old new i gs (subst (λ (x : State). Lower (track_at x i) (track_at old i)) (sym step.1) (lower_same (track_at old i))) k
-step_kept old new Begin output i gs step within k = quiet_kept old new i gs (subst (λ (x : State). Lower (track_at x i) (track_at old i)) (sym step.1) (lower_same (track_at old i))) k
+    quiet_kept old new i gs (subst (λ (x : WatchState). Lower (track_at x i) (track_at old i)) (sym step.1) (lower_same (track_at old i))) k
+step_kept old new Begin output i gs step within k = quiet_kept old new i gs (subst (λ (x : WatchState). Lower (track_at x i) (track_at old i)) (sym step.1) (lower_same (track_at old i))) k
 step_kept old new (Known j end renewable) output i gs step within k =
-    quiet_kept old new i gs (subst (λ (x : State). Lower (track_at x i) (track_at old i)) (sym step.1) (set_kept Lower lower_same old.tracks j _ (refl, λ top. top) i)) k
+    quiet_kept old new i gs (subst (λ (x : WatchState). Lower (track_at x i) (track_at old i)) (sym step.1) (set_kept Lower lower_same old.tracks j _ (refl, λ top. top) i)) k
 
-looked_many : (old new : State) (o : Option Out) (reply : Reply) (terms : Terms) (output : Output) → StepLooked old o reply terms output new → length new.tracks ≡ length old.tracks
+looked_many : (old new : WatchState) (o : Option Out) (reply : Reply) (terms : Terms) (output : Output) → StepLooked old o reply terms output new → length new.tracks ≡ length old.tracks
 looked_many old new None reply terms output step = absurd step
-looked_many old new (Some r) reply terms output step = ap (λ (x : State). length x.tracks) step.1 ∙ looked_count old r reply terms
+looked_many old new (Some r) reply terms output step = ap (λ (x : WatchState). length x.tracks) step.1 ∙ looked_count old r reply terms
 
-renewed_many : (old new : State) (o : Option Out) (reply : Reply) (output : Output) → StepRenewed old o reply output new → length new.tracks ≡ length old.tracks
+renewed_many : (old new : WatchState) (o : Option Out) (reply : Reply) (output : Output) → StepRenewed old o reply output new → length new.tracks ≡ length old.tracks
 renewed_many old new None reply output step = absurd step
-renewed_many old new (Some r) reply output step = ap (λ (x : State). length x.tracks) step.1 ∙ renewed_count old r reply
+renewed_many old new (Some r) reply output step = ap (λ (x : WatchState). length x.tracks) step.1 ∙ renewed_count old r reply
 
-step_count : (old new : State) (event : Event) (output : Output) → Step old event output new → length new.tracks ≡ length old.tracks
+step_count : (old new : WatchState) (event : Event) (output : Output) → Step old event output new → length new.tracks ≡ length old.tracks
 step_count old new (Clock wall elapsed) output step = clock_count old new wall elapsed output step
 step_count old new (Looked j reply terms) output step = looked_many old new (request_out old.out j Look) reply terms output step
 step_count old new (Renewed j reply) output step = renewed_many old new (request_out old.out j Renew) reply output step
-step_count old new (Need j until) output step = ap (λ (x : State). length x.tracks) step.1
-step_count old new Begin output step = ap (λ (x : State). length x.tracks) step.1
-step_count old new (Known j end renewable) output step = ap (λ (x : State). length x.tracks) step.1 ∙ set_count old j _
+step_count old new (Need j until) output step = ap (λ (x : WatchState). length x.tracks) step.1
+step_count old new Begin output step = ap (λ (x : WatchState). length x.tracks) step.1
+step_count old new (Known j end renewable) output step = ap (λ (x : WatchState). length x.tracks) step.1 ∙ set_count old j _
 
-pub turn_count : (old new : State) (event : Event) (result : Result Output WatchFault) → Turn old event result new → length new.tracks ≡ length old.tracks
+pub turn_count : (old new : WatchState) (event : Event) (result : Result Output WatchFault) → Turn old event result new → length new.tracks ≡ length old.tracks
 turn_count old new event (Ok output) turn = step_count old new event output turn.1
-turn_count old new event (Err fault) turn = ap (λ (x : State). length x.tracks) (refused_stays old new event fault turn)
+turn_count old new event (Err fault) turn = ap (λ (x : WatchState). length x.tracks) (refused_stays old new event fault turn)
 
 turn_kept :
-    (old new : State) (event : Event) (result : Result Output WatchFault) (i : ℕ) (gs : List Granted) → Turn old event result new → i < length old.tracks → Kept gs (track_at old i) →
+    (old new : WatchState) (event : Event) (result : Result Output WatchFault) (i : ℕ) (gs : List Granted) → Turn old event result new → i < length old.tracks → Kept gs (track_at old i) →
     Kept (gs ++ grant_of i new event result) (track_at new i)
 turn_kept old new event (Ok output) i gs turn within k = step_kept old new event output i gs turn.1 within k
 turn_kept old new event (Err fault) i gs turn within k =
-    none_more gs (track_at new i) (subst (λ (x : State). Kept gs (track_at x i)) (sym (refused_stays old new event fault turn)) k)
+    none_more gs (track_at new i) (subst (λ (x : WatchState). Kept gs (track_at x i)) (sym (refused_stays old new event fault turn)) k)
 
 append_three : (xs ys zs : List Granted) → (xs ++ ys) ++ zs ≡ xs ++ (ys ++ zs)
 append_three [] ys zs = refl
 append_three (x ∷ xs) ys zs = ap (λ rest. x ∷ rest) (append_three xs ys zs)
 
 ran :
-    (turns : List Turned) (old : State) (i : ℕ) (gs : List Granted) → History old turns → i < length old.tracks → Kept gs (track_at old i) →
+    (turns : List Turned) (old : WatchState) (i : ℕ) (gs : List Granted) → History old turns → i < length old.tracks → Kept gs (track_at old i) →
     Kept (gs ++ grants i turns) (track_at (after_all old turns) i)
 ran [] old i gs h within k = none_more gs (track_at old i) k
 ran (turn ∷ turns) old i gs h within k =

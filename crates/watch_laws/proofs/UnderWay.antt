@@ -25,29 +25,28 @@ use Rattle.watch_machine.specs.declared.notes.Why.{Why}
 use Rattle.watch_machine.specs.declared.track.End.TheVariants.{At}
 use Rattle.watch_machine.specs.declared.track.Track.{Track}
 use Rattle.watch_machine.specs.declared.track.Try.{Try}
-use Rattle.watch_machine.specs.Answers.{failing, heard, lane_freed, noted, replied, without}
-use Rattle.watch_machine.specs.Beginning.{begun, hastened, is_called, is_pressed, is_pressed_try, owed, owing, owing_lookup, soon, sooner, untopped, untopped_track}
+use Rattle.watch_machine.specs.Answers.{failing, heard, lane_freed, noted, replied, without_request}
+use Rattle.watch_machine.specs.Beginning.{begun, hastened, is_called, is_pressed, is_pressed_try, owed, owing, owing_lookup, soon, sooner_try, untopped, untopped_track}
 use Rattle.watch_machine.specs.Clocks.{sec}
-use Rattle.watch_machine.specs.History.{History, Turn, Turned}
+use Rattle.watch_machine.specs.History.{History, Turn, Turned, after_all}
 use Rattle.watch_machine.specs.Lines.{is_first, later_at, ready}
 use Rattle.watch_machine.specs.Looked.{at_once, by_terms, is_called_for, looked, refused_try, told_state, told_track, told_try, untold, untold_track}
 use Rattle.watch_machine.specs.Margins.{has_come}
 use Rattle.watch_machine.specs.Press.{is_fresh, pressed}
 use Rattle.watch_machine.specs.Refusal.{request_out}
-use Rattle.watch_machine.specs.Renewed.{from_try, granted_from, granted_try, renewed, renewed_track, track_renewed, ungranted, ungranted_track}
-use Rattle.watch_machine.specs.Round.{asked_by as round_of}
+use Rattle.watch_machine.specs.Renewed.{from_try, granted_from, granted_try, renewed_track, state_renewed, track_renewed, ungranted, ungranted_track}
+use Rattle.watch_machine.specs.Round.{asked_by_round as round_of}
 use Rattle.watch_machine.specs.Sending.{sent}
 use Rattle.watch_machine.specs.Settling.{is_busy, is_real, presence_after, settled, settled_track, settled_try, timed}
-use Rattle.watch_machine.specs.State.{State, attempt_at, entry_of, no_track, opened, second, track_at}
-use Rattle.watch_machine.specs.Step.{Step, StepClock, StepLooked, StepRenewed, known, needed, readied, why}
+use Rattle.watch_machine.specs.State.{WatchState, attempt_at, entry_of, no_track, opened, second, track_at}
+use Rattle.watch_machine.specs.Step.{Step, StepClock, StepLooked, StepRenewed, known, readied, why, with_need_until}
 use Rattle.watch_machine.specs.Wanted.{is_alive, is_open, is_wanted, need_of, wanted_need, wants}
 use Rattle.watch_machine.proofs.Cases.{if_both, not_both}
 use Rattle.watch_machine.proofs.Seeing.{SameSeen, both_seen, need_same}
 use Rattle.watch_machine.proofs.Unseen.{pressed_seen, sent_seen}
-use Rattle.watch_laws.specs.Outage.{IsReply, Outage, is_served, is_whole, next_after}
+use Rattle.watch_laws.specs.Outage.{IsReplyInOutage, Outage, is_request_served, is_request_whole, outage_next_after}
 use Rattle.watch_laws.specs.Recovery.{calm}
-use Rattle.watch_laws.specs.Starts.{AreUnderWay, AreWorked, IsAtWork, IsThere, IsThereAt, IsUnderWay, IsWorked, IsWorking, SoonLaw, is_first_try}
-use Rattle.watch_laws.specs.Turns.{after_all}
+use Rattle.watch_laws.specs.Starts.{AreUnderWay, AreWorked, BrokerIsThere, FirstTryIsUnderWay, IsAtWork, IsThereAt, IsWorked, IsWorking, SoonLaw, is_first_try}
 use Rattle.watch_laws.proofs.Answering.{looked_rest}
 use Rattle.watch_laws.proofs.Clocking.{readied_clocks, refused_stays, sent_by}
 use Rattle.watch_laws.proofs.Enduring.{any_more}
@@ -133,11 +132,11 @@ told_runs at due x t first settled'' =
 -- ---- a state
 
 to_way :
-    (o : Outage) (s : State) (i : ℕ) → Runs s.clocks.at (attempt_at s i) → ((track_at s i).out ≡ true → is_served o s i ≡ true) → s.presence.away ≡ false → s.presence.free ≤ s.clocks.at →
-    list_any (λ a. is_busy a.reply) s.answers ≡ false → IsUnderWay o s i
+    (o : Outage) (s : WatchState) (i : ℕ) → Runs s.clocks.at (attempt_at s i) → ((track_at s i).out ≡ true → is_request_served o s i ≡ true) → s.presence.away ≡ false → s.presence.free ≤ s.clocks.at →
+    list_any (λ a. is_busy a.reply) s.answers ≡ false → FirstTryIsUnderWay o s i
 to_way o s i r lane there free unbusy = record { attempt = r.try; attempt_is = r.is; first = r.first; settled = r.settled'; soon = r.soon'; lane = lane; there = there; free = free; unbusy = unbusy }
 
-of_way : (o : Outage) (s : State) (i : ℕ) → IsUnderWay o s i → Runs s.clocks.at (attempt_at s i)
+of_way : (o : Outage) (s : WatchState) (i : ℕ) → FirstTryIsUnderWay o s i → Runs s.clocks.at (attempt_at s i)
 of_way o s i way = record { try = way.attempt; is = way.attempt_is; first = way.first; settled' = way.settled; soon' = way.soon }
 
 -- it is being asked, or may go out
@@ -145,7 +144,7 @@ ready_now : (p : Presence) (at : ℕ) (x : Track) (t : Try) → is_first t ≡ t
 unfolding ready
 ready_now p at x t first soon'' free = let e = cond-true (is_first t) t.at (max p.hold (later_at p.away x t)) first in omega (arith, e, soon'', free)
 
-at_work : (o : Outage) (s : State) (i : ℕ) → i < length s.forest.entries → IsUnderWay o s i → IsAtWork o s i
+at_work : (o : Outage) (s : WatchState) (i : ℕ) → i < length s.forest.entries → FirstTryIsUnderWay o s i → IsAtWork o s i
 at_work o s i within way =
     elim (cases_Bool (track_at s i).out) as (λ _. IsAtWork o s i) [
       | inl out ↦ inl (way.lane out)
@@ -153,8 +152,8 @@ at_work o s i within way =
     ]
 
 same_way :
-    (o : Outage) (i : ℕ) (old new : State) → attempt_at new i ≡ attempt_at old i → (track_at new i).out ≡ (track_at old i).out → new.out ≡ old.out → new.presence ≡ old.presence → new.answers ≡ old.answers →
-    new.clocks ≡ old.clocks → IsUnderWay o old i → IsUnderWay o new i
+    (o : Outage) (i : ℕ) (old new : WatchState) → attempt_at new i ≡ attempt_at old i → (track_at new i).out ≡ (track_at old i).out → new.out ≡ old.out → new.presence ≡ old.presence → new.answers ≡ old.answers →
+    new.clocks ≡ old.clocks → FirstTryIsUnderWay o old i → FirstTryIsUnderWay o new i
 same_way o i old new tried flag outs presence answers clocks way =
     let at = ap (λ c. c.at) clocks in
     let f = ap (λ (p : Presence). p.free) presence in
@@ -166,7 +165,7 @@ same_way o i old new tried flag outs presence answers clocks way =
       first = way.first;
       settled = way.settled;
       soon = omega (arith, at, soon'');
-      lane = λ out. ap (list_any (λ (q : Out). q.entry == i && is_whole o q.since)) outs ∙ way.lane (sym flag ∙ out);
+      lane = λ out. ap (list_any (λ (q : Out). q.entry == i && is_request_whole o q.since)) outs ∙ way.lane (sym flag ∙ out);
       there = ap (λ (p : Presence). p.away) presence ∙ way.there;
       free = omega (arith, at, f, free);
       unbusy = ap (list_any (λ (a : Answer). is_busy a.reply)) answers ∙ way.unbusy;
@@ -174,20 +173,20 @@ same_way o i old new tried flag outs presence answers clocks way =
 
 -- ---- an answer
 
-there_replied : (s : State) (q : Out) (reply : Reply) → is_real reply ≡ true → s.presence.away ≡ false → replied s q reply ≡ record s { out = map heard (without q.entry s.out) }
-there_replied s q (Told seconds renewable date) real there = let free = lane_freed s q in let all : State = record free { out = map heard free.out } in cond-false s.presence.away _ all there
-there_replied s q (Refused status date) real there = let free = lane_freed s q in let all : State = record free { out = map heard free.out } in cond-false s.presence.away _ all there
-there_replied s q Busy real there = let free = lane_freed s q in let all : State = record free { out = map heard free.out } in cond-false s.presence.away _ all there
+there_replied : (s : WatchState) (q : Out) (reply : Reply) → is_real reply ≡ true → s.presence.away ≡ false → replied s q reply ≡ record s { out = map heard (without_request q.entry s.out) }
+there_replied s q (Told seconds renewable date) real there = let free = lane_freed s q in let all : WatchState = record free { out = map heard free.out } in cond-false s.presence.away _ all there
+there_replied s q (Refused status date) real there = let free = lane_freed s q in let all : WatchState = record free { out = map heard free.out } in cond-false s.presence.away _ all there
+there_replied s q Busy real there = let free = lane_freed s q in let all : WatchState = record free { out = map heard free.out } in cond-false s.presence.away _ all there
 there_replied s q Lost real there = absurd cc
 
-real_of : (quick late : ℕ) (q : Out) (reply : Reply) → IsReply (calm quick late) reply q → (is_real reply ≡ true) × (is_busy reply ≡ false)
+real_of : (quick late : ℕ) (q : Out) (reply : Reply) → IsReplyInOutage (calm quick late) reply q → (is_real reply ≡ true) × (is_busy reply ≡ false)
 real_of quick late q (Told seconds renewable date) h = (refl, refl)
 real_of quick late q (Refused status date) h = (refl, refl)
 real_of quick late q Busy h = absurd h
 real_of quick late q Lost h = absurd (not_both (all_whole quick late q.since) h)
 
 -- what an answer leaves before what it says of the broker
-record Leaves (i : ℕ) (old mid : State) (q : Out) (reply : Reply) : Type 0 where
+record Leaves (i : ℕ) (old mid : WatchState) (q : Out) (reply : Reply) : Type 0 where
   outs : mid.out ≡ old.out
   presence : mid.presence ≡ old.presence
   clocks : mid.clocks ≡ old.clocks
@@ -196,13 +195,13 @@ record Leaves (i : ℕ) (old mid : State) (q : Out) (reply : Reply) : Type 0 whe
   other : q.entry ≢ i → track_at mid i ≡ track_at old i
 
 answer_way :
-    (quick late i : ℕ) (old mid new : State) (q : Out) (reply : Reply) → new ≡ replied mid q reply → IsReply (calm quick late) reply q → Leaves i old mid q reply → is_first_try (attempt_at new i) ≡ true →
-    IsUnderWay (calm quick late) old i → IsUnderWay (calm quick late) new i
+    (quick late i : ℕ) (old mid new : WatchState) (q : Out) (reply : Reply) → new ≡ replied mid q reply → IsReplyInOutage (calm quick late) reply q → Leaves i old mid q reply → is_first_try (attempt_at new i) ≡ true →
+    FirstTryIsUnderWay (calm quick late) old i → FirstTryIsUnderWay (calm quick late) new i
 answer_way quick late i old mid new q reply made is_reply h first way =
     let o = calm quick late in
     let real = real_of quick late q reply is_reply in
     let a : Answer = record { since = q.since; heard = q.heard; reply = reply } in
-    let left : State = record mid { out = map heard (without q.entry mid.out) } in
+    let left : WatchState = record mid { out = map heard (without_request q.entry mid.out) } in
     let away : mid.presence.away ≡ false = ap (λ (p : Presence). p.away) h.presence ∙ way.there in
     let to = there_replied mid q reply real.0 away in
     let is : new ≡ left = made ∙ to in
@@ -218,25 +217,25 @@ answer_way quick late i old mid new q reply made is_reply h first way =
       ]
       | inr none ↦ none
     ] in
-    subst (λ (x : State). IsUnderWay o x i) (sym is)
-    (elim (cases_Bool (q.entry == i)) as (λ _. IsUnderWay o left i) [
+    subst (λ (x : WatchState). FirstTryIsUnderWay o x i) (sym is)
+    (elim (cases_Bool (q.entry == i)) as (λ _. FirstTryIsUnderWay o left i) [
       | inl same ↦
-          let own = h.own (eqb-true q.entry i same) (sym (ap (λ (x : State). is_first_try (attempt_at x i)) is) ∙ first) in
+          let own = h.own (eqb-true q.entry i same) (sym (ap (λ (x : WatchState). is_first_try (attempt_at x i)) is) ∙ first) in
           to_way o left i own.0 (λ out. absurd (not_both out own.1)) away free unbusy
       | inr different ↦
           let apart : q.entry ≢ i = λ e. not_both (subst (λ n. (n == i) ≡ true) (sym e) (same_index i)) different in
           let track = h.other apart in
           let runs : Runs left.clocks.at (attempt_at left i) =
           later_runs old.clocks.at left.clocks.at (attempt_at left i) (omega (arith, at)) (subst (Runs old.clocks.at) (sym (ap (λ (x : Track). x.attempt) track)) (of_way o old i way)) in
-          let lane : (track_at left i).out ≡ true → is_served o left i ≡ true =
+          let lane : (track_at left i).out ≡ true → is_request_served o left i ≡ true =
           λ out.
           let before = way.lane (sym (ap (λ (x : Track). x.out) track) ∙ out) in
-          let there = ap (list_any (λ (r : Out). r.entry == i && is_whole o r.since)) h.outs ∙ before in
-          sym (ap (λ (x : State). is_served o x i) to) ∙ replied_lane i (is_whole o) mid q reply apart there in
+          let there = ap (list_any (λ (r : Out). r.entry == i && is_request_whole o r.since)) h.outs ∙ before in
+          sym (ap (λ (x : WatchState). is_request_served o x i) to) ∙ replied_lane i (is_request_whole o) mid q reply apart there in
           to_way o left i runs lane away free unbusy
     ])
 
-looked_answers : (s : State) (q : Out) (reply : Reply) (terms : Terms) → (looked s q reply terms).answers ≡ s.answers
+looked_answers : (s : WatchState) (q : Out) (reply : Reply) (terms : Terms) → (looked s q reply terms).answers ≡ s.answers
 looked_answers s q (Told seconds renewable date) terms = refl
 looked_answers s q (Refused status date) terms = refl
 looked_answers s q Busy terms = refl
@@ -244,7 +243,7 @@ looked_answers s q Lost terms = refl
 
 -- the answer to a lookup of the entry, where it leaves a first try
 looked_runs :
-    (quick late : ℕ) (s : State) (q : Out) (reply : Reply) (terms : Terms) (t : Try) → IsReply (calm quick late) reply q → attempt_at s q.entry ≡ Some t → is_first t ≡ true → t.failed ≡ false →
+    (quick late : ℕ) (s : WatchState) (q : Out) (reply : Reply) (terms : Terms) (t : Try) → IsReplyInOutage (calm quick late) reply q → attempt_at s q.entry ≡ Some t → is_first t ≡ true → t.failed ≡ false →
     is_first_try (attempt_at (looked s q reply terms) q.entry) ≡ true →
     Runs s.clocks.at (attempt_at (looked s q reply terms) q.entry) × ((track_at (looked s q reply terms) q.entry).out ≡ false)
 unfolding told_track untold_track
@@ -274,7 +273,7 @@ looked_runs quick late s q Busy terms t is_reply is first settled'' given = absu
 looked_runs quick late s q Lost terms t is_reply is first settled'' given = absurd (not_both (all_whole quick late q.since) is_reply)
 
 -- and that to a renewal leaves none
-renewed_first : (quick late : ℕ) (s : State) (q : Out) (reply : Reply) → IsReply (calm quick late) reply q → q.entry < length s.tracks → is_first_try (attempt_at (renewed s q reply) q.entry) ≡ false
+renewed_first : (quick late : ℕ) (s : WatchState) (q : Out) (reply : Reply) → IsReplyInOutage (calm quick late) reply q → q.entry < length s.tracks → is_first_try (attempt_at (state_renewed s q reply) q.entry) ≡ false
 unfolding renewed_track granted_from ungranted_track
 renewed_first quick late s q (Told seconds renewable date) is_reply within =
     let x = track_at s q.entry in
@@ -288,8 +287,8 @@ renewed_first quick late s q Busy is_reply within = absurd is_reply
 renewed_first quick late s q Lost is_reply within = absurd (not_both (all_whole quick late q.since) is_reply)
 
 looked_way :
-    (quick late i j : ℕ) (old new : State) (found : Option Out) (reply : Reply) (terms : Terms) (output : Output) → StepLooked old found reply terms output new → IfSome found (IsReply (calm quick late) reply) →
-    is_first_try (attempt_at new i) ≡ true → IsUnderWay (calm quick late) old i → IsUnderWay (calm quick late) new i
+    (quick late i j : ℕ) (old new : WatchState) (found : Option Out) (reply : Reply) (terms : Terms) (output : Output) → StepLooked old found reply terms output new → IfSome found (IsReplyInOutage (calm quick late) reply) →
+    is_first_try (attempt_at new i) ≡ true → FirstTryIsUnderWay (calm quick late) old i → FirstTryIsUnderWay (calm quick late) new i
 looked_way quick late i j old new None reply terms output step is_reply first way = absurd step
 looked_way quick late i j old new (Some q) reply terms output step is_reply first way =
     let s = noted old q reply in
@@ -298,10 +297,10 @@ looked_way quick late i j old new (Some q) reply terms output step is_reply firs
     (record {
       outs = looked_out s q reply terms;
       presence = looked_presence s q reply terms;
-      clocks = ap (λ (x : State). x.clocks) (looked_rest s q reply terms);
+      clocks = ap (λ (x : WatchState). x.clocks) (looked_rest s q reply terms);
       answers = looked_answers s q reply terms;
       own = λ same left.
-          let at = ap (λ (x : State). x.clocks.at) (looked_rest s q reply terms) in
+          let at = ap (λ (x : WatchState). x.clocks.at) (looked_rest s q reply terms) in
           let runs = looked_runs quick late s q reply terms way.attempt is_reply (subst (λ k. attempt_at old k ≡ Some way.attempt) (sym same) way.attempt_is) way.first way.settled (subst (λ k. is_first_try (attempt_at mid k) ≡ true) (sym same) left) in (
             later_runs s.clocks.at mid.clocks.at (attempt_at mid i) (omega (arith, at)) (subst (λ k. Runs s.clocks.at (attempt_at mid k)) same runs.0),
             subst (λ k. (track_at mid k).out ≡ false) same runs.1,
@@ -311,12 +310,12 @@ looked_way quick late i j old new (Some q) reply terms output step is_reply firs
     first way
 
 renewed_way :
-    (quick late i : ℕ) (old new : State) (found : Option Out) (reply : Reply) (output : Output) → StepRenewed old found reply output new → IfSome found (IsReply (calm quick late) reply) →
-    is_first_try (attempt_at new i) ≡ true → IsUnderWay (calm quick late) old i → IsUnderWay (calm quick late) new i
+    (quick late i : ℕ) (old new : WatchState) (found : Option Out) (reply : Reply) (output : Output) → StepRenewed old found reply output new → IfSome found (IsReplyInOutage (calm quick late) reply) →
+    is_first_try (attempt_at new i) ≡ true → FirstTryIsUnderWay (calm quick late) old i → FirstTryIsUnderWay (calm quick late) new i
 renewed_way quick late i old new None reply output step is_reply first way = absurd step
 renewed_way quick late i old new (Some q) reply output step is_reply first way =
     let s = noted old q reply in
-    let mid = renewed s q reply in
+    let mid = state_renewed s q reply in
     answer_way quick late i old mid new q reply step.1 is_reply
     (record {
       outs = refl;
@@ -342,23 +341,23 @@ settled_runs margin at b x r = record {
   soon' = r.soon';
 }
 
-sooner_runs : (from b : ℕ) (o : Option Try) → Runs b o → Runs b (Some (sooner from o))
-sooner_runs from b o r = let s = r.soon' in record { try = hastened r.try from; is = ap (λ p. Some (sooner from p)) r.is; first = r.first; settled' = r.settled'; soon' = omega (arith, s) }
+sooner_runs : (from b : ℕ) (o : Option Try) → Runs b o → Runs b (Some (sooner_try from o))
+sooner_runs from b o r = let s = r.soon' in record { try = hastened r.try from; is = ap (λ p. Some (sooner_try from p)) r.is; first = r.first; settled' = r.settled'; soon' = omega (arith, s) }
 
 owing_runs : (at b : ℕ) (called : Bool) (x : Track) → Runs b x.attempt → Runs b (owing at called x).attempt
 unfolding owing
 owing_runs at b called x r =
     let P : Track → Type 0 = λ y. Runs b y.attempt in
-    if_both P (called && is_open (sec at) x) (owing_lookup at x) x (if_both P x.out (record x { owes = true }) (record x { owes = true; attempt = Some (sooner (soon at x) x.attempt) }) r (sooner_runs (soon at x) b x.attempt r)) r
+    if_both P (called && is_open (sec at) x) (owing_lookup at x) x (if_both P x.out (record x { owes = true }) (record x { owes = true; attempt = Some (sooner_try (soon at x) x.attempt) }) r (sooner_runs (soon at x) b x.attempt r)) r
 
-begun_runs : (s : State) (w : Option Why) (b i : ℕ) → Runs b (attempt_at s i) → Runs b (attempt_at (begun s w) i)
+begun_runs : (s : WatchState) (w : Option Why) (b i : ℕ) → Runs b (attempt_at s i) → Runs b (attempt_at (begun s w) i)
 begun_runs s None b i r = r
 begun_runs s (Some w) b i r =
     let R : Track → Track → Type 0 = λ y x. Runs b x.attempt → Runs b y.attempt in
     let xs = untopped s.tracks in
     each_kept R (λ k. k) (λ k. owing s.clocks.at (is_called s.forest xs s.clocks k)) xs (λ k x. owing_runs s.clocks.at b (is_called s.forest xs s.clocks k) x) i (each_kept R (λ k. k) (λ k. untopped_track) s.tracks (λ k x h. h) i r)
 
-ready_runs : (s : State) (wall elapsed b i : ℕ) → Runs b (attempt_at s i) → Runs b (attempt_at (readied s wall elapsed) i)
+ready_runs : (s : WatchState) (wall elapsed b i : ℕ) → Runs b (attempt_at s i) → Runs b (attempt_at (readied s wall elapsed) i)
 unfolding readied
 ready_runs s wall elapsed b i r =
     let R : Track → Track → Type 0 = λ y x. Runs b x.attempt → Runs b y.attempt in
@@ -380,8 +379,8 @@ unfolding presence_after
 presence_free margin at xs answers p none = cond-false (list_any (λ (a : Answer). is_busy a.reply) answers) (at + 1000) p.free none
 
 clock_way :
-    (quick late width n i : ℕ) (old new : State) (wall elapsed : ℕ) (output : Output) → StepClock old wall elapsed output new → IsBase width n old → is_wanted new i ≡ true → IsUnderWay (calm quick late) old i →
-    IsUnderWay (calm quick late) new i
+    (quick late width n i : ℕ) (old new : WatchState) (wall elapsed : ℕ) (output : Output) → StepClock old wall elapsed output new → IsBase width n old → is_wanted new i ≡ true → FirstTryIsUnderWay (calm quick late) old i →
+    FirstTryIsUnderWay (calm quick late) new i
 unfolding wants
 clock_way quick late width n i old new wall elapsed output step base wanted way =
     let o = calm quick late in
@@ -398,7 +397,7 @@ clock_way quick late width n i old new wall elapsed output step base wanted way 
     let up = rises old wall elapsed base.past.start in
     let seen : SameSeen end'.tracks s.tracks = both_seen end'.tracks mid.tracks s.tracks (sent_seen c.at rs mid.tracks) (pressed_seen g c (round_of round) s.tracks) in
     let needs = need_same end'.tracks s.tracks seen g.entries c i in
-    let wanted' : wants (track_at end' i) (need_of g.entries end'.tracks c i) ≡ true = subst (λ (x : State). is_wanted x i ≡ true) made.1 wanted in
+    let wanted' : wants (track_at end' i) (need_of g.entries end'.tracks c i) ≡ true = subst (λ (x : WatchState). is_wanted x i ≡ true) made.1 wanted in
     let bears = mid_bears s (round_of round) rs i in
     let before : is_wanted s i ≡ true = sym (ap (λ (x : Track). wants x (need_of g.entries s.tracks c i)) bears) ∙ sym (ap (λ k. wants (track_at end' i) k) needs) ∙ wanted' in
     let le : old.clocks.at ≤ end'.clocks.at = omega (arith, up, clock) in
@@ -407,79 +406,79 @@ clock_way quick late width n i old new wall elapsed output step base wanted way 
     let apart = names_none g s.tracks c round i step.is_round is_pressed' before in
     let same : attempt_at mid i ≡ attempt_at s i = stays s (round_of round) rs i (not_fresh g.margin (entry_of s i) (track_at s i) (wanted_need s i) (second s) is_pressed') apart (inr before) in
     let tried : Runs end'.clocks.at (attempt_at end' i) = subst (Runs end'.clocks.at) (sym (attempt_sent s (round_of round) rs i)) (subst (Runs end'.clocks.at) (sym same) runs) in
-    let presence = ap (λ (x : State). x.presence) made.1 ∙ ready_presence old wall elapsed in
+    let presence = ap (λ (x : WatchState). x.presence) made.1 ∙ ready_presence old wall elapsed in
     let away : new.presence.away ≡ false = ap (λ (p : Presence). p.away) presence ∙ presence_away old.forest.margin (timed old wall elapsed).clocks.at old.tracks old.answers old.presence ∙ way.there in
-    let at = ap (λ (x : State). x.clocks.at) made.1 in
+    let at = ap (λ (x : WatchState). x.clocks.at) made.1 in
     let f = ap (λ (p : Presence). p.free) presence ∙ presence_free old.forest.margin (timed old wall elapsed).clocks.at old.tracks old.answers old.presence way.unbusy in
     let low = way.free in
-    to_way o new i (subst (λ (x : State). Runs x.clocks.at (attempt_at x i)) (sym made.1) tried)
-    (λ out. elim (cases_Bool (track_at old i).out) as (λ _. is_served o new i ≡ true) [
-      | inl was ↦ still_out old new wall elapsed output (λ (q : Out). q.entry == i && is_whole o q.since) h (way.lane was)
-      | inr free ↦ goes_out_now old new wall elapsed output i (is_whole o) h free out (all_whole quick late (pressed (readied old wall elapsed) h.round).clocks.at)
+    to_way o new i (subst (λ (x : WatchState). Runs x.clocks.at (attempt_at x i)) (sym made.1) tried)
+    (λ out. elim (cases_Bool (track_at old i).out) as (λ _. is_request_served o new i ≡ true) [
+      | inl was ↦ still_out old new wall elapsed output (λ (q : Out). q.entry == i && is_request_whole o q.since) h (way.lane was)
+      | inr free ↦ goes_out_now old new wall elapsed output i (is_request_whole o) h free out (all_whole quick late (pressed (readied old wall elapsed) h.round).clocks.at)
     ])
-    away (omega (arith, at, f, low, le)) (ap (list_any (λ (a : Answer). is_busy a.reply)) (ap (λ (x : State). x.answers) made.1 ∙ readied_answers old wall elapsed))
+    away (omega (arith, at, f, low, le)) (ap (list_any (λ (a : Answer). is_busy a.reply)) (ap (λ (x : WatchState). x.answers) made.1 ∙ readied_answers old wall elapsed))
 
 -- ---- a step, a turn
 
 step_way :
-    (quick late width n i due : ℕ) (old new : State) (event : Event) (output : Output) → Step old event output new → IsThere (calm quick late) due old event → IsBase width n old → is_wanted new i ≡ true →
-    is_first_try (attempt_at new i) ≡ true → IsUnderWay (calm quick late) old i → IsUnderWay (calm quick late) new i
+    (quick late width n i due : ℕ) (old new : WatchState) (event : Event) (output : Output) → Step old event output new → BrokerIsThere (calm quick late) due old event → IsBase width n old → is_wanted new i ≡ true →
+    is_first_try (attempt_at new i) ≡ true → FirstTryIsUnderWay (calm quick late) old i → FirstTryIsUnderWay (calm quick late) new i
 step_way quick late width n i due old new (Clock wall elapsed) output step there base wanted first way = clock_way quick late width n i old new wall elapsed output step base wanted way
 step_way quick late width n i due old new (Looked j reply terms) output step there base wanted first way = looked_way quick late i j old new (request_out old.out j Look) reply terms output step there first way
 step_way quick late width n i due old new (Renewed j reply) output step there base wanted first way = renewed_way quick late i old new (request_out old.out j Renew) reply output step there first way
 step_way quick late width n i due old new (Need j until) output step there base wanted first way =
-    subst (λ (x : State). IsUnderWay (calm quick late) x i) (sym step.1) (same_way (calm quick late) i old (needed old j until) refl refl refl refl refl refl way)
+    subst (λ (x : WatchState). FirstTryIsUnderWay (calm quick late) x i) (sym step.1) (same_way (calm quick late) i old (with_need_until old j until) refl refl refl refl refl refl way)
 step_way quick late width n i due old new Begin output step there base wanted first way =
-    subst (λ (x : State). IsUnderWay (calm quick late) x i) (sym step.1) (same_way (calm quick late) i old (record old { asked = true }) refl refl refl refl refl refl way)
+    subst (λ (x : WatchState). FirstTryIsUnderWay (calm quick late) x i) (sym step.1) (same_way (calm quick late) i old (record old { asked = true }) refl refl refl refl refl refl way)
 step_way quick late width n i due old new (Known j end renewable) output step there base wanted first way =
     let R : Track → Track → Type 0 = λ y x. (y.attempt ≡ x.attempt) × (y.out ≡ x.out) in
     let kept = set_kept R (λ x. (refl, refl)) old.tracks j (record (track_at old j) { end = At (min END_MAX end); renewable = renewable }) (refl, refl) i in
-    subst (λ (x : State). IsUnderWay (calm quick late) x i) (sym step.1) (same_way (calm quick late) i old (known old j end renewable) kept.0 kept.1 refl refl refl refl way)
+    subst (λ (x : WatchState). FirstTryIsUnderWay (calm quick late) x i) (sym step.1) (same_way (calm quick late) i old (known old j end renewable) kept.0 kept.1 refl refl refl refl way)
 
 turn_way :
-    (quick late width n i due : ℕ) (old new : State) (event : Event) (result : Result Output WatchFault) → Turn old event result new → IsThereAt (calm quick late) due old event result → IsBase width n old →
-    is_wanted new i ≡ true → is_first_try (attempt_at new i) ≡ true → IsUnderWay (calm quick late) old i → IsUnderWay (calm quick late) new i
+    (quick late width n i due : ℕ) (old new : WatchState) (event : Event) (result : Result Output WatchFault) → Turn old event result new → IsThereAt (calm quick late) due old event result → IsBase width n old →
+    is_wanted new i ≡ true → is_first_try (attempt_at new i) ≡ true → FirstTryIsUnderWay (calm quick late) old i → FirstTryIsUnderWay (calm quick late) new i
 turn_way quick late width n i due old new event (Ok output) turn there base wanted first way = step_way quick late width n i due old new event output turn.1 there base wanted first way
-turn_way quick late width n i due old new event (Err fault) turn there base wanted first way = subst (λ (x : State). IsUnderWay (calm quick late) x i) (sym (refused_stays old new event fault turn)) way
+turn_way quick late width n i due old new event (Err fault) turn there base wanted first way = subst (λ (x : WatchState). FirstTryIsUnderWay (calm quick late) x i) (sym (refused_stays old new event fault turn)) way
 
 -- there are as many entries as before
-looked_count : (s : State) (q : Out) (reply : Reply) (terms : Terms) → length (looked s q reply terms).forest.entries ≡ length s.forest.entries
+looked_count : (s : WatchState) (q : Out) (reply : Reply) (terms : Terms) → length (looked s q reply terms).forest.entries ≡ length s.forest.entries
 looked_count s q (Told seconds renewable date) terms = length-set s.forest.entries q.entry (by_terms s.forest.margin terms (entry_of s q.entry))
 looked_count s q (Refused status date) terms = refl
 looked_count s q Busy terms = refl
 looked_count s q Lost terms = refl
 
-looked_many : (old new : State) (found : Option Out) (reply : Reply) (terms : Terms) (output : Output) → StepLooked old found reply terms output new → length new.forest.entries ≡ length old.forest.entries
+looked_many : (old new : WatchState) (found : Option Out) (reply : Reply) (terms : Terms) (output : Output) → StepLooked old found reply terms output new → length new.forest.entries ≡ length old.forest.entries
 looked_many old new None reply terms output step = absurd step
 looked_many old new (Some q) reply terms output step =
     let s = noted old q reply in
-    ap (λ (x : State). length x.forest.entries) step.1 ∙ ap (λ (g : Forest). length g.entries) (replied_forest (looked s q reply terms) q reply) ∙ looked_count s q reply terms
+    ap (λ (x : WatchState). length x.forest.entries) step.1 ∙ ap (λ (g : Forest). length g.entries) (replied_forest (looked s q reply terms) q reply) ∙ looked_count s q reply terms
 
-renewed_many : (old new : State) (found : Option Out) (reply : Reply) (output : Output) → StepRenewed old found reply output new → length new.forest.entries ≡ length old.forest.entries
+renewed_many : (old new : WatchState) (found : Option Out) (reply : Reply) (output : Output) → StepRenewed old found reply output new → length new.forest.entries ≡ length old.forest.entries
 renewed_many old new None reply output step = absurd step
 renewed_many old new (Some q) reply output step =
     let s = noted old q reply in
-    ap (λ (x : State). length x.forest.entries) step.1 ∙ ap (λ (g : Forest). length g.entries) (replied_forest (renewed s q reply) q reply)
+    ap (λ (x : WatchState). length x.forest.entries) step.1 ∙ ap (λ (g : Forest). length g.entries) (replied_forest (state_renewed s q reply) q reply)
 
-step_many : (old new : State) (event : Event) (output : Output) → Step old event output new → length new.forest.entries ≡ length old.forest.entries
+step_many : (old new : WatchState) (event : Event) (output : Output) → Step old event output new → length new.forest.entries ≡ length old.forest.entries
 step_many old new (Clock wall elapsed) output step = ap (λ (g : Forest). length g.entries) (clock_forest old new wall elapsed output (ticks old new wall elapsed output step))
 step_many old new (Looked j reply terms) output step = looked_many old new (request_out old.out j Look) reply terms output step
 step_many old new (Renewed j reply) output step = renewed_many old new (request_out old.out j Renew) reply output step
-step_many old new (Need j until) output step = ap (λ (x : State). length x.forest.entries) step.1 ∙ length-set old.forest.entries j (record (entry_of old j) { need = min LAST until })
-step_many old new Begin output step = ap (λ (x : State). length x.forest.entries) step.1
-step_many old new (Known j end renewable) output step = ap (λ (x : State). length x.forest.entries) step.1
+step_many old new (Need j until) output step = ap (λ (x : WatchState). length x.forest.entries) step.1 ∙ length-set old.forest.entries j (record (entry_of old j) { need = min LAST until })
+step_many old new Begin output step = ap (λ (x : WatchState). length x.forest.entries) step.1
+step_many old new (Known j end renewable) output step = ap (λ (x : WatchState). length x.forest.entries) step.1
 
-turn_many : (old new : State) (event : Event) (result : Result Output WatchFault) → Turn old event result new → length new.forest.entries ≡ length old.forest.entries
+turn_many : (old new : WatchState) (event : Event) (result : Result Output WatchFault) → Turn old event result new → length new.forest.entries ≡ length old.forest.entries
 turn_many old new event (Ok output) turn = step_many old new event output turn.1
-turn_many old new event (Err fault) turn = ap (λ (x : State). length x.forest.entries) (refused_stays old new event fault turn)
+turn_many old new event (Err fault) turn = ap (λ (x : WatchState). length x.forest.entries) (refused_stays old new event fault turn)
 
-all_many : (turns : List Turned) (old : State) → History old turns → length (after_all old turns).forest.entries ≡ length old.forest.entries
+all_many : (turns : List Turned) (old : WatchState) → History old turns → length (after_all old turns).forest.entries ≡ length old.forest.entries
 all_many [] old h = refl
 all_many (turn ∷ turns) old h = all_many turns turn.state h.1 ∙ turn_many old turn.state turn.event turn.result h.0
 
 -- ---- so it is at work at each clock
 
-works : (o : Outage) (i due : ℕ) (old new : State) (event : Event) → IsThere o due old event → IsAtWork o new i → IsWorking o i due old event new
+works : (o : Outage) (i due : ℕ) (old new : WatchState) (event : Event) → BrokerIsThere o due old event → IsAtWork o new i → IsWorking o i due old event new
 works o i due old new (Clock wall elapsed) there work = (there, work)
 works o i due old new (Looked j reply terms) there work = tt
 works o i due old new (Renewed j reply) there work = tt
@@ -487,12 +486,12 @@ works o i due old new (Need j until) there work = tt
 works o i due old new Begin there work = tt
 works o i due old new (Known j end renewable) there work = tt
 
-works_at : (o : Outage) (i due : ℕ) (old new : State) (event : Event) (result : Result Output WatchFault) → IsThereAt o due old event result → IsAtWork o new i → IsWorked o i due old event result new
+works_at : (o : Outage) (i due : ℕ) (old new : WatchState) (event : Event) (result : Result Output WatchFault) → IsThereAt o due old event result → IsAtWork o new i → IsWorked o i due old event result new
 works_at o i due old new event (Ok output) there work = works o i due old new event there work
 works_at o i due old new event (Err fault) there work = tt
 
 all_work :
-    (quick late width n i : ℕ) → i < n → (turns : List Turned) (due : ℕ) (old : State) → History old turns → IsBase width n old → length old.forest.entries ≡ n → IsUnderWay (calm quick late) old i →
+    (quick late width n i : ℕ) → i < n → (turns : List Turned) (due : ℕ) (old : WatchState) → History old turns → IsBase width n old → length old.forest.entries ≡ n → FirstTryIsUnderWay (calm quick late) old i →
     AreUnderWay (calm quick late) i due old turns → AreWorked (calm quick late) i due old turns
 all_work quick late width n i low [] due old history base count way under = tt
 all_work quick late width n i low (turn ∷ turns) due old history base count way under =
@@ -502,7 +501,7 @@ all_work quick late width n i low (turn ∷ turns) due old history base count wa
     let many : length new.forest.entries ≡ n = turn_many old new turn.event turn.result history.0 ∙ count in
     let on = turn_way quick late width n i due old new turn.event turn.result history.0 under.0 base under.1.0 under.1.1.0 way in (
       works_at o i due old new turn.event turn.result under.0 (at_work o new i (omega (arith, low, many)) on),
-      all_work quick late width n i low turns (next_after o turn.result new due) new history.1 next many on under.1.1.1,
+      all_work quick late width n i low turns (outage_next_after o turn.result new due) new history.1 next many on under.1.1.1,
     )
 
 pub wanted_soon : SoonLaw
@@ -519,4 +518,4 @@ wanted_soon quick late rounds g width before last turns i wide run clock taken' 
     let count = base.count in
     let low : i < n = omega (arith, inside, count) in
     starts_soon quick late rounds g width before last turns i wide run clock taken' low (at_work o s i (omega (arith, low, many)) way)
-    (all_work quick late width n i low turns (next_after o last.result s 0) s history.1 base many way under) few
+    (all_work quick late width n i low turns (outage_next_after o last.result s 0) s history.1 base many way under) few

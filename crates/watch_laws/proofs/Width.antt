@@ -12,16 +12,16 @@ use Rattle.watch_machine.specs.declared.event.Reply.{Reply}
 use Rattle.watch_machine.specs.declared.event.Terms.{Terms}
 use Rattle.watch_machine.specs.declared.fault.WatchFault.{WatchFault}
 use Rattle.watch_machine.specs.declared.lanes.Out.{Out}
-use Rattle.watch_machine.specs.Answers.{answers_all, heard, lane_freed, noted, replied, silent, without}
+use Rattle.watch_machine.specs.Answers.{answers_all, heard, lane_freed, noted, replied, silent, without_request}
 use Rattle.watch_machine.specs.History.{History, Turn, Turned}
 use Rattle.watch_machine.specs.Looked.{looked}
 use Rattle.watch_machine.specs.Press.{pressed}
 use Rattle.watch_machine.specs.Refusal.{request_out}
-use Rattle.watch_machine.specs.Renewed.{renewed}
-use Rattle.watch_machine.specs.Round.{asked_by as round_of}
+use Rattle.watch_machine.specs.Renewed.{state_renewed}
+use Rattle.watch_machine.specs.Round.{asked_by_round as round_of}
 use Rattle.watch_machine.specs.Sending.{out_at}
 use Rattle.watch_machine.specs.Settling.{is_real}
-use Rattle.watch_machine.specs.State.{State, opened}
+use Rattle.watch_machine.specs.State.{WatchState, opened}
 use Rattle.watch_machine.specs.Step.{Step, StepCommand, StepLooked, StepRenewed, readied}
 use Rattle.watch_machine.proofs.Cases.{if_both}
 use Rattle.watch_laws.specs.Load.{AllWithin, WidthLaw}
@@ -30,54 +30,54 @@ use Rattle.watch_laws.proofs.Clocking.{readied_width, refused_stays}
 use Rattle.watch_laws.proofs.Going.{goes}
 use Rattle.watch_laws.proofs.Spacing.{looked_out, readied_out}
 
-abbrev pub Fits : ℕ → State → Type 0
+abbrev pub Fits : ℕ → WatchState → Type 0
 Fits n s = (s.width ≡ n) × (length s.out ≤ n)
 
-fewer : (i : ℕ) (out : List Out) → length (without i out) ≤ length out
-unfolding without
+fewer : (i : ℕ) (out : List Out) → length (without_request i out) ≤ length out
+unfolding without_request
 fewer i out = let is = length-filter (λ q. not (q.entry == i)) out in let most = count_by-le-length (λ q. not (q.entry == i)) out in omega (arith, is, most)
 
-replied_fewer : (s : State) (r : Out) (reply : Reply) → length (replied s r reply).out ≤ length s.out
+replied_fewer : (s : WatchState) (r : Out) (reply : Reply) → length (replied s r reply).out ≤ length s.out
 replied_fewer s r reply =
     let free = lane_freed s r in
     let few = fewer r.entry s.out in
-    let many = length-map (without r.entry s.out) heard in
-    if_both (λ (t : State). length t.out ≤ length s.out) (is_real reply) (answers_all free) (if r.heard then free else silent free)
-    (if_both (λ (t : State). length t.out ≤ length s.out) s.presence.away _ _ (omega (arith, few, many)) (omega (arith, few, many)))
-    (if_both (λ (t : State). length t.out ≤ length s.out) r.heard free (silent free) few (if_both (λ (t : State). length t.out ≤ length s.out) s.presence.away _ _ few few))
+    let many = length-map (without_request r.entry s.out) heard in
+    if_both (λ (t : WatchState). length t.out ≤ length s.out) (is_real reply) (answers_all free) (if r.heard then free else silent free)
+    (if_both (λ (t : WatchState). length t.out ≤ length s.out) s.presence.away _ _ (omega (arith, few, many)) (omega (arith, few, many)))
+    (if_both (λ (t : WatchState). length t.out ≤ length s.out) r.heard free (silent free) few (if_both (λ (t : WatchState). length t.out ≤ length s.out) s.presence.away _ _ few few))
 
-answer_fits : (n : ℕ) (old mid new : State) (q : Out) (reply : Reply) → new ≡ replied mid q reply → mid.out ≡ old.out → rest_of new ≡ rest_of old → Fits n old → Fits n new
+answer_fits : (n : ℕ) (old mid new : WatchState) (q : Out) (reply : Reply) → new ≡ replied mid q reply → mid.out ≡ old.out → rest_of new ≡ rest_of old → Fits n old → Fits n new
 answer_fits n old mid new q reply is out rest h =
     let few = replied_fewer mid q reply in
-    let a = ap (λ (x : State). length x.out) is in
+    let a = ap (λ (x : WatchState). length x.out) is in
     let b = ap length out in
     let c = h.1 in
-    (ap (λ (x : State). x.width) rest ∙ h.0, omega (arith, few, a, b, c))
+    (ap (λ (x : WatchState). x.width) rest ∙ h.0, omega (arith, few, a, b, c))
 
-commanded : (n : ℕ) (s new : State) (command : Command) → Fits n s → StepCommand s command new → Fits n new
+commanded : (n : ℕ) (s new : WatchState) (command : Command) → Fits n s → StepCommand s command new → Fits n new
 commanded n s new (Go requests until) h step =
     let going = goes s.presence s.clocks.at s.tracks (s.width - length s.out) requests step.0.0 in
     let few = going.few in
     let many = ap length going.requests_are ∙ length-map going.entries _ in
     let sent = length-map requests (out_at s.clocks.at) in
-    let both = ap (λ (x : State). length x.out) step.0.1 ∙ length-append s.out (map (out_at s.clocks.at) requests) in
+    let both = ap (λ (x : WatchState). length x.out) step.0.1 ∙ length-append s.out (map (out_at s.clocks.at) requests) in
     let w = h.0 in
     let l = h.1 in
-    (ap (λ (x : State). x.width) step.0.1 ∙ h.0, omega (arith, few, many, sent, both, w, l))
+    (ap (λ (x : WatchState). x.width) step.0.1 ∙ h.0, omega (arith, few, many, sent, both, w, l))
 commanded n s new Taken h step = absurd step
 
-looked_fits : (n : ℕ) (old new : State) (found : Option Out) (reply : Reply) (terms : Terms) (output : Output) → StepLooked old found reply terms output new → Fits n old → Fits n new
+looked_fits : (n : ℕ) (old new : WatchState) (found : Option Out) (reply : Reply) (terms : Terms) (output : Output) → StepLooked old found reply terms output new → Fits n old → Fits n new
 looked_fits n old new None reply terms output step h = absurd step
 looked_fits n old new (Some q) reply terms output step h =
     let s = noted old q reply in
     answer_fits n old (looked s q reply terms) new q reply step.1 (looked_out s q reply terms) (ap rest_of step.1 ∙ looked_leaves old q reply terms) h
 
-renewed_fits : (n : ℕ) (old new : State) (found : Option Out) (reply : Reply) (output : Output) → StepRenewed old found reply output new → Fits n old → Fits n new
+renewed_fits : (n : ℕ) (old new : WatchState) (found : Option Out) (reply : Reply) (output : Output) → StepRenewed old found reply output new → Fits n old → Fits n new
 renewed_fits n old new None reply output step h = absurd step
 renewed_fits n old new (Some q) reply output step h =
-    answer_fits n old (renewed (noted old q reply) q reply) new q reply step.1 refl (ap rest_of step.1 ∙ renewed_leaves old q reply) h
+    answer_fits n old (state_renewed (noted old q reply) q reply) new q reply step.1 refl (ap rest_of step.1 ∙ renewed_leaves old q reply) h
 
-step_fits : (n : ℕ) (old new : State) (event : Event) (output : Output) → Step old event output new → Fits n old → Fits n new
+step_fits : (n : ℕ) (old new : WatchState) (event : Event) (output : Output) → Step old event output new → Fits n old → Fits n new
 step_fits n old new (Clock wall elapsed) output step h =
     let out = ap length (readied_out old wall elapsed) in
     let l = h.1 in
@@ -88,11 +88,11 @@ step_fits n old new (Need j until) output step h = subst (Fits n) (sym step.1) h
 step_fits n old new Begin output step h = subst (Fits n) (sym step.1) h
 step_fits n old new (Known j end renewable) output step h = subst (Fits n) (sym step.1) h
 
-pub turn_fits : (n : ℕ) (old new : State) (event : Event) (result : Result Output WatchFault) → Turn old event result new → Fits n old → Fits n new
+pub turn_fits : (n : ℕ) (old new : WatchState) (event : Event) (result : Result Output WatchFault) → Turn old event result new → Fits n old → Fits n new
 turn_fits n old new event (Ok output) turn h = step_fits n old new event output turn.1 h
 turn_fits n old new event (Err fault) turn h = subst (Fits n) (sym (refused_stays old new event fault turn)) h
 
-ran : (turns : List Turned) (n : ℕ) (old : State) → History old turns → Fits n old → AllWithin n turns
+ran : (turns : List Turned) (n : ℕ) (old : WatchState) → History old turns → Fits n old → AllWithin n turns
 ran [] n old run h = tt
 ran (turn ∷ turns) n old run h = let here = turn_fits n old turn.state turn.event turn.result run.0 h in (here.1, ran turns n turn.state run.1 here)
 

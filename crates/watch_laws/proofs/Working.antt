@@ -12,19 +12,19 @@ use Rattle.watch_machine.specs.declared.event.Operation.TheVariants.{Look, Renew
 use Rattle.watch_machine.specs.declared.event.Reply.{Reply}
 use Rattle.watch_machine.specs.declared.fault.WatchFault.{WatchFault}
 use Rattle.watch_machine.specs.declared.lanes.Out.{Out}
-use Rattle.watch_machine.specs.Answers.{noted, replied, without}
+use Rattle.watch_machine.specs.Answers.{noted, replied, without_request}
 use Rattle.watch_machine.specs.History.{History, Turn, Turned}
 use Rattle.watch_machine.specs.Looked.{looked}
 use Rattle.watch_machine.specs.Refusal.{request_out}
-use Rattle.watch_machine.specs.Renewed.{renewed}
+use Rattle.watch_machine.specs.Renewed.{state_renewed}
 use Rattle.watch_machine.specs.Settling.{timed}
-use Rattle.watch_machine.specs.State.{State}
+use Rattle.watch_machine.specs.State.{WatchState}
 use Rattle.watch_machine.specs.Step.{Step, StepLooked, StepRenewed}
 use Rattle.watch_machine.specs.Wait.{wait}
 use Rattle.watch_machine.proofs.Cases.{not_both}
 use Rattle.watch_machine.proofs.Within.{out_entry}
-use Rattle.watch_laws.specs.Absence.{is_taken}
-use Rattle.watch_laws.specs.Outage.{Outage, coming, comes, how_many, is_served, is_tried, is_whole, next_after, next_after_command, next_by, settled_by, waiting, waits}
+use Rattle.watch_laws.specs.Absence.{is_event_taken}
+use Rattle.watch_laws.specs.Outage.{Outage, coming, comes, how_many, is_request_served, is_tried, is_request_whole, outage_next_after, outage_next_after_command, outage_next_by, outage_settled_by, waiting, waits_to_be_asked}
 use Rattle.watch_laws.specs.Recovery.{calm}
 use Rattle.watch_laws.specs.Starts.{AllSoon, AreWorked, IsAtWork, IsWorked, IsWorking, is_answer, later_by}
 use Rattle.watch_laws.proofs.Alone.{lanes_of, none_left, replied_lanes}
@@ -42,12 +42,12 @@ abbrev pub since_by : ℕ → ℕ → List Out → Bool
 since_by i sent out = list_any (is_of i (λ since. nat_le since sent)) out
 
 -- after a turn, where k may still go out: i waits, and r rounds hold them, but for those that went out after from
-pub record Waits (quick late width n i by due k : ℕ) (s : State) : Type 0 where
+pub record Waits (quick late width n i by due k : ℕ) (s : WatchState) : Type 0 where
   pub passing : Passes quick late width n i by due k s
-  pub unserved : is_served (calm quick late) s i ≡ false
+  pub unserved : is_request_served (calm quick late) s i ≡ false
 
 -- or it is being asked: r rounds hold those that wait, but for those that went out at anew or later; and after its answer they begin at turn
-pub record Serves (quick late width n i by due k : ℕ) (s : State) : Type 0 where
+pub record Serves (quick late width n i by due k : ℕ) (s : WatchState) : Type 0 where
   pub base : IsBase width n s
   pub timely : All (Timely quick late due) s.out
   pub r : ℕ
@@ -63,22 +63,22 @@ pub record Serves (quick late width n i by due k : ℕ) (s : State) : Type 0 whe
   pub next : due ≤ sent + (quick + late)
   pub now : s.clocks.at ≤ by + (quick + late)
 
-abbrev pub Stage : ℕ → ℕ → ℕ → ℕ → ℕ → ℕ → ℕ → ℕ → State → Type 0
+abbrev pub Stage : ℕ → ℕ → ℕ → ℕ → ℕ → ℕ → ℕ → ℕ → WatchState → Type 0
 Stage quick late width n i by due k s = Waits quick late width n i by due k s ⊎ Serves quick late width n i by due k s
 
 -- in either no clock comes later than that
-stage_now : (quick late width n i by due k : ℕ) (s : State) → Stage quick late width n i by due k s → s.clocks.at ≤ by + (quick + late)
+stage_now : (quick late width n i by due k : ℕ) (s : WatchState) → Stage quick late width n i by due k s → s.clocks.at ≤ by + (quick + late)
 stage_now quick late width n i by due k s (inl w) = let now = w.passing.now in omega (arith, now)
 stage_now quick late width n i by due k s (inr v) = v.now
 
 -- a later moment serves as well
-later_passes : (quick late width n i by more due k : ℕ) (s : State) → by ≤ more → Passes quick late width n i by due k s → Passes quick late width n i more due k s
+later_passes : (quick late width n i by more due k : ℕ) (s : WatchState) → by ≤ more → Passes quick late width n i by due k s → Passes quick late width n i more due k s
 later_passes quick late width n i by more due k s le p =
     let start = p.start in
     let now = p.now in
     record { base = p.base; timely = p.timely; r = p.r; from = p.from; count = p.count; start = omega (arith, start, le); next = p.next; now = omega (arith, now, le) }
 
-later_serves : (quick late width n i by more due k : ℕ) (s : State) → by ≤ more → Serves quick late width n i by due k s → Serves quick late width n i more due k s
+later_serves : (quick late width n i by more due k : ℕ) (s : WatchState) → by ≤ more → Serves quick late width n i by due k s → Serves quick late width n i more due k s
 later_serves quick late width n i by more due k s le v =
     let start = v.start in
     let sent_by = v.sent_by in
@@ -100,12 +100,12 @@ later_serves quick late width n i by more due k s le v =
       now = omega (arith, now, le);
     }
 
-later_stage : (quick late width n i by more due k : ℕ) (s : State) → by ≤ more → Stage quick late width n i by due k s → Stage quick late width n i more due k s
+later_stage : (quick late width n i by more due k : ℕ) (s : WatchState) → by ≤ more → Stage quick late width n i by due k s → Stage quick late width n i more due k s
 later_stage quick late width n i by more due k s le (inl w) = inl (record { passing = later_passes quick late width n i by more due k s le w.passing; unserved = w.unserved })
 later_stage quick late width n i by more due k s le (inr v) = inr (later_serves quick late width n i by more due k s le v)
 
 -- and so do fewer that may go out
-fewer_stage : (quick late width n i by due k more : ℕ) (s : State) → k ≤ more → Stage quick late width n i by due more s → Stage quick late width n i by due k s
+fewer_stage : (quick late width n i by due k more : ℕ) (s : WatchState) → k ≤ more → Stage quick late width n i by due more s → Stage quick late width n i by due k s
 fewer_stage quick late width n i by due k more s le (inl w) =
     let p = w.passing in
     let count = p.count in
@@ -130,22 +130,22 @@ fewer_stage quick late width n i by due k more s le (inr v) =
     })
 
 -- fewer are out anew after a later moment
-fewer_anew : (o : Outage) (from more n : ℕ) (s : State) → from ≤ more → how_many n (is_anew o more s) ≤ how_many n (is_anew o from s)
+fewer_anew : (o : Outage) (from more n : ℕ) (s : WatchState) → from ≤ more → how_many n (is_anew o more s) ≤ how_many n (is_anew o from s)
 fewer_anew o from more n s le = more_pass n (is_anew o more s) (is_anew o from s) (λ j h. weaker j s.out h) where
-  weaker : (j : ℕ) (out : List Out) → list_any (λ (q : Out). q.entry == j && (is_whole o q.since && nat_le more q.since)) out ≡ true →
-      list_any (λ (q : Out). q.entry == j && (is_whole o q.since && nat_le from q.since)) out ≡ true
+  weaker : (j : ℕ) (out : List Out) → list_any (λ (q : Out). q.entry == j && (is_request_whole o q.since && nat_le more q.since)) out ≡ true →
+      list_any (λ (q : Out). q.entry == j && (is_request_whole o q.since && nat_le from q.since)) out ≡ true
   weaker j [] h = absurd cc
   weaker j (q ∷ out) h =
-      let rest = list_any (λ (p : Out). p.entry == j && (is_whole o p.since && nat_le from p.since)) out in
-      elim (cases_Bool (q.entry == j && (is_whole o q.since && nat_le more q.since))) as (λ _. (q.entry == j && (is_whole o q.since && nat_le from q.since)) || rest ≡ true) [
+      let rest = list_any (λ (p : Out). p.entry == j && (is_request_whole o p.since && nat_le from p.since)) out in
+      elim (cases_Bool (q.entry == j && (is_request_whole o q.since && nat_le more q.since))) as (λ _. (q.entry == j && (is_request_whole o q.since && nat_le from q.since)) || rest ≡ true) [
         | inl here ↦
-            let one = and_parts (q.entry == j) (is_whole o q.since && nat_le more q.since) here in
-            let two = and_parts (is_whole o q.since) (nat_le more q.since) one.1 in
+            let one = and_parts (q.entry == j) (is_request_whole o q.since && nat_le more q.since) here in
+            let two = and_parts (is_request_whole o q.since) (nat_le more q.since) one.1 in
             let late : nat_le from q.since ≡ true = (let a = two.1 in grind (arith, nat_tests)) in
-            first (q.entry == j && (is_whole o q.since && nat_le from q.since)) rest (and_from (q.entry == j) (is_whole o q.since && nat_le from q.since) one.0 (and_from (is_whole o q.since) (nat_le from q.since) two.0 late))
+            first (q.entry == j && (is_request_whole o q.since && nat_le from q.since)) rest (and_from (q.entry == j) (is_request_whole o q.since && nat_le from q.since) one.0 (and_from (is_request_whole o q.since) (nat_le from q.since) two.0 late))
         | inr there ↦
-            last (q.entry == j && (is_whole o q.since && nat_le from q.since)) rest
-            (weaker j out (sym (ap (λ b. b || list_any (λ (p : Out). p.entry == j && (is_whole o p.since && nat_le more p.since)) out) there) ∙ h))
+            last (q.entry == j && (is_request_whole o q.since && nat_le from q.since)) rest
+            (weaker j out (sym (ap (λ b. b || list_any (λ (p : Out). p.entry == j && (is_request_whole o p.since && nat_le more p.since)) out) there) ∙ h))
       ] where
         first : (a b : Bool) → a ≡ true → a || b ≡ true
         first true b e = refl
@@ -156,18 +156,18 @@ fewer_anew o from more n s le = more_pass n (is_anew o more s) (is_anew o from s
         last false b e = e
 
 -- a request that is out went out by now
-pub served_now : (o : Outage) (i at : ℕ) (out : List Out) → All (λ (q : Out). q.since ≤ at) out → list_any (λ (q : Out). q.entry == i && is_whole o q.since) out ≡ true → since_by i at out ≡ true
+pub served_now : (o : Outage) (i at : ℕ) (out : List Out) → All (λ (q : Out). q.since ≤ at) out → list_any (λ (q : Out). q.entry == i && is_request_whole o q.since) out ≡ true → since_by i at out ≡ true
 served_now o i at [] all h = absurd cc
 served_now o i at (q ∷ out) all h =
     let rest = since_by i at out in
-    elim (cases_Bool (q.entry == i && is_whole o q.since)) as (λ _. (q.entry == i && nat_le q.since at) || rest ≡ true) [
+    elim (cases_Bool (q.entry == i && is_request_whole o q.since)) as (λ _. (q.entry == i && nat_le q.since at) || rest ≡ true) [
       | inl here ↦
           let before = All-head (λ (p : Out). p.since ≤ at) q out all in
           let test : nat_le q.since at ≡ true = grind (arith, nat_tests) in
-          first (q.entry == i && nat_le q.since at) rest (and_from (q.entry == i) (nat_le q.since at) (and_parts (q.entry == i) (is_whole o q.since) here).0 test)
+          first (q.entry == i && nat_le q.since at) rest (and_from (q.entry == i) (nat_le q.since at) (and_parts (q.entry == i) (is_request_whole o q.since) here).0 test)
       | inr there ↦
           last (q.entry == i && nat_le q.since at) rest
-          (served_now o i at out (All-tail (λ (p : Out). p.since ≤ at) q out all) (sym (ap (λ b. b || list_any (λ (p : Out). p.entry == i && is_whole o p.since) out) there) ∙ h))
+          (served_now o i at out (All-tail (λ (p : Out). p.since ≤ at) q out all) (sym (ap (λ b. b || list_any (λ (p : Out). p.entry == i && is_request_whole o p.since) out) there) ∙ h))
     ] where
       first : (a b : Bool) → a ≡ true → a || b ≡ true
       first true b e = refl
@@ -190,12 +190,12 @@ soon_after quick late i due sent out timely served =
     omega (arith, t, e, le))
 
 -- who is not asked and may go out counts among those that wait, or come to wait
-one_waits : (o : Outage) (n i : ℕ) (old new : State) → i < n → is_served o old i ≡ false → is_tried new i ≡ true → 1 ≤ waiting o n old + how_many n (comes o old new)
+one_waits : (o : Outage) (n i : ℕ) (old new : WatchState) → i < n → is_request_served o old i ≡ false → is_tried new i ≡ true → 1 ≤ waiting o n old + how_many n (comes o old new)
 one_waits o n i old new low unserved tried =
     elim (cases_Bool (is_tried old i)) as (λ _. 1 ≤ waiting o n old + how_many n (comes o old new)) [
-      | inl before ↦ (let one = some n i (waits o old) low (and_from (is_tried old i) (not (is_served o old i)) before (ap not unserved)) in omega (arith, one))
+      | inl before ↦ (let one = some n i (waits_to_be_asked o old) low (and_from (is_tried old i) (not (is_request_served o old i)) before (ap not unserved)) in omega (arith, one))
       | inr none ↦
-          let one = some n i (comes o old new) low (and_from (is_tried new i) (not (is_tried old i) || (is_served o old i && not (is_served o new i))) tried (first (not (is_tried old i)) (is_served o old i && not (is_served o new i)) (ap not none))) in
+          let one = some n i (comes o old new) low (and_from (is_tried new i) (not (is_tried old i) || (is_request_served o old i && not (is_request_served o new i))) tried (first (not (is_tried old i)) (is_request_served o old i && not (is_request_served o new i)) (ap not none))) in
           omega (arith, one)
     ] where
       first : (a b : Bool) → a ≡ true → a || b ≡ true
@@ -204,7 +204,7 @@ one_waits o n i old new low unserved tried =
 
 -- ---- a clock
 
-module _ (quick late width n i by due rest : ℕ) (old new : State) (wall elapsed : ℕ) (output : Output) (wide : 0 < width) (low : i < n) (step : Step old (Clock wall elapsed) output new) (in_time : (timed old wall elapsed).clocks.at ≤ due) (base : IsBase width n new) (sends : Sends old new n) where
+module _ (quick late width n i by due rest : ℕ) (old new : WatchState) (wall elapsed : ℕ) (output : Output) (wide : 0 < width) (low : i < n) (step : Step old (Clock wall elapsed) output new) (in_time : (timed old wall elapsed).clocks.at ≤ due) (base : IsBase width n new) (sends : Sends old new n) where
   abbrev o : Outage
   o = calm quick late
 
@@ -215,13 +215,13 @@ module _ (quick late width n i by due rest : ℕ) (old new : State) (wall elapse
   h = ticks old new wall elapsed output step
 
   at_is : new.clocks.at ≡ (timed old wall elapsed).clocks.at
-  at_is = ap (λ (x : State). x.clocks.at) h.new_is ∙ ap (λ x. x.at) (readied_clocks old wall elapsed)
+  at_is = ap (λ (x : WatchState). x.clocks.at) h.new_is ∙ ap (λ x. x.at) (readied_clocks old wall elapsed)
 
-  timely_now : All (Timely quick late (next_by o (wait new) new.out)) new.out
-  timely_now = least_all (λ (q : Out). settled_by o q.since + late) (wait new + late) new.out
+  timely_now : All (Timely quick late (outage_next_by o (wait new) new.out)) new.out
+  timely_now = least_all (λ (q : Out). outage_settled_by o q.since + late) (wait new + late) new.out
 
   -- it goes out
-  goes : Waits quick late width n i by due more old → is_served o new i ≡ true → Stage quick late width n i by (next_after_command o output.command new due) (waiting o n new + rest) new
+  goes : Waits quick late width n i by due more old → is_request_served o new i ≡ true → Stage quick late width n i by (outage_next_after_command o output.command new due) (waiting o n new + rest) new
   goes w served =
       let p = w.passing in
       let less = fewer_wait o (suc p.from) n old new p.base.alone base.alone base.tries sends in
@@ -235,7 +235,7 @@ module _ (quick late width n i by due rest : ℕ) (old new : State) (wall elapse
       let here = served_now o i new.clocks.at new.out base.since served in
       let is = at_is in
       let late' = in_time in
-      inr (subst (λ x. Serves quick late width n i by (next_after_command o x new due) (waiting o n new + rest) new) (sym h.command)
+      inr (subst (λ x. Serves quick late width n i by (outage_next_after_command o x new due) (waiting o n new + rest) new) (sym h.command)
       (record {
         base = base;
         timely = timely_now;
@@ -249,19 +249,19 @@ module _ (quick late width n i by due rest : ℕ) (old new : State) (wall elapse
         start = omega (arith, start);
         sent_turn = omega (arith, is, late', next);
         sent_by = omega (arith, is, late', next, start, g);
-        next = soon_after quick late i (next_by o (wait new) new.out) new.clocks.at new.out timely_now here;
+        next = soon_after quick late i (outage_next_by o (wait new) new.out) new.clocks.at new.out timely_now here;
         now = omega (arith, is, late', next, start, g);
       }))
 
-  clock_waits : Waits quick late width n i by due more old → IsAtWork o new i → Stage quick late width n i by (next_after_command o output.command new due) (waiting o n new + rest) new
+  clock_waits : Waits quick late width n i by due more old → IsAtWork o new i → Stage quick late width n i by (outage_next_after_command o output.command new due) (waiting o n new + rest) new
   clock_waits w (inr m) =
-      elim (cases_Bool (is_served o new i)) as (λ _. Stage quick late width n i by (next_after_command o output.command new due) (waiting o n new + rest) new) [
+      elim (cases_Bool (is_request_served o new i)) as (λ _. Stage quick late width n i by (outage_next_after_command o output.command new due) (waiting o n new + rest) new) [
         | inl served ↦ goes w served
         | inr unserved ↦ inl (record { passing = clock_passes quick late width n i by due rest old new wall elapsed output wide low step in_time m base sends w.passing; unserved = unserved })
       ]
   clock_waits w (inl served) = goes w served
 
-  clock_serves : Serves quick late width n i by due more old → Stage quick late width n i by (next_after_command o output.command new due) (waiting o n new + rest) new
+  clock_serves : Serves quick late width n i by due more old → Stage quick late width n i by (outage_next_after_command o output.command new due) (waiting o n new + rest) new
   clock_serves v =
       let less = fewer_wait o v.anew n old new v.base.alone base.alone base.tries sends in
       let count = v.count in
@@ -270,7 +270,7 @@ module _ (quick late width n i by due rest : ℕ) (old new : State) (wall elapse
       let here = still_out old new wall elapsed output (is_of i (λ since. nat_le since v.sent)) h v.served in
       let is = at_is in
       let late' = in_time in
-      inr (subst (λ x. Serves quick late width n i by (next_after_command o x new due) (waiting o n new + rest) new) (sym h.command)
+      inr (subst (λ x. Serves quick late width n i by (outage_next_after_command o x new due) (waiting o n new + rest) new) (sym h.command)
       (record {
         base = base;
         timely = timely_now;
@@ -284,21 +284,21 @@ module _ (quick late width n i by due rest : ℕ) (old new : State) (wall elapse
         start = v.start;
         sent_turn = v.sent_turn;
         sent_by = v.sent_by;
-        next = soon_after quick late i (next_by o (wait new) new.out) v.sent new.out timely_now here;
+        next = soon_after quick late i (outage_next_by o (wait new) new.out) v.sent new.out timely_now here;
         now = omega (arith, is, late', next, sent_by);
       }))
 
 -- ---- any other event
 
 -- what is out of i stays out, and nothing of it goes out
-record Leaves (o : Outage) (i : ℕ) (old new : State) : Type 0 where
+record Leaves (o : Outage) (i : ℕ) (old new : WatchState) : Type 0 where
   served : (sent : ℕ) → since_by i sent old.out ≡ true → since_by i sent new.out ≡ true
-  unserved : is_served o old i ≡ false → is_served o new i ≡ false
+  unserved : is_request_served o old i ≡ false → is_request_served o new i ≡ false
 
 quiet_stage :
-    (quick late width n i by due rest : ℕ) (old new : State) (output : Output) → Quiet quick late due old new output → IsBase width n new → Sends old new n → Leaves (calm quick late) i old new →
+    (quick late width n i by due rest : ℕ) (old new : WatchState) (output : Output) → Quiet quick late due old new output → IsBase width n new → Sends old new n → Leaves (calm quick late) i old new →
     Stage quick late width n i by due (waiting (calm quick late) n old + (how_many n (comes (calm quick late) old new) + rest)) old →
-    Stage quick late width n i by (next_after_command (calm quick late) output.command new due) (waiting (calm quick late) n new + rest) new
+    Stage quick late width n i by (outage_next_after_command (calm quick late) output.command new due) (waiting (calm quick late) n new + rest) new
 quiet_stage quick late width n i by due rest old new output quiet base sends leaves (inl w) =
     inl (record { passing = quiet_passes quick late width n i by due rest old new output quiet base sends w.passing; unserved = leaves.unserved w.unserved })
 quiet_stage quick late width n i by due rest old new output quiet base sends leaves (inr v) =
@@ -325,17 +325,17 @@ quiet_stage quick late width n i by due rest old new output quiet base sends lea
       now = omega (arith, c, now);
     }))
 
-same_leaves : (o : Outage) (i : ℕ) (old new : State) → new.out ≡ old.out → Leaves o i old new
+same_leaves : (o : Outage) (i : ℕ) (old new : WatchState) → new.out ≡ old.out → Leaves o i old new
 same_leaves o i old new is = record {
   served = λ sent any. ap (since_by i sent) is ∙ any;
-  unserved = λ none'. ap (list_any (λ (q : Out). q.entry == i && is_whole o q.since)) is ∙ none';
+  unserved = λ none'. ap (list_any (λ (q : Out). q.entry == i && is_request_whole o q.since)) is ∙ none';
 }
 
 -- its own answer: it may wait anew, one round later
 own_stage :
-    (quick late width n i by due rest : ℕ) (old new : State) (output : Output) → Quiet quick late due old new output → IsBase width n new → Sends old new n → is_served (calm quick late) new i ≡ false →
+    (quick late width n i by due rest : ℕ) (old new : WatchState) (output : Output) → Quiet quick late due old new output → IsBase width n new → Sends old new n → is_request_served (calm quick late) new i ≡ false →
     Stage quick late width n i by due (waiting (calm quick late) n old + (how_many n (comes (calm quick late) old new) + rest)) old →
-    Stage quick late width n i (by + (quick + late)) (next_after_command (calm quick late) output.command new due) (waiting (calm quick late) n new + rest) new
+    Stage quick late width n i (by + (quick + late)) (outage_next_after_command (calm quick late) output.command new due) (waiting (calm quick late) n new + rest) new
 own_stage quick late width n i by due rest old new output quiet base sends unserved (inl w) =
     inl (record {
       passing = later_passes quick late width n i by (by + (quick + late)) _ (waiting (calm quick late) n new + rest) new (omega arith) (quiet_passes quick late width n i by due rest old new output quiet base sends w.passing);
@@ -366,38 +366,38 @@ own_stage quick late width n i by due rest old new output quiet base sends unser
     })
 
 -- an answer, where mid is the state before what it says of the broker
-module _ (o : Outage) (i : ℕ) (old mid new : State) (q : Out) (reply : Reply) (is : new ≡ replied mid q reply) (outs : mid.out ≡ old.out) where
-  shrinks : is_served o old i ≡ false → is_served o new i ≡ false
+module _ (o : Outage) (i : ℕ) (old mid new : WatchState) (q : Out) (reply : Reply) (is : new ≡ replied mid q reply) (outs : mid.out ≡ old.out) where
+  shrinks : is_request_served o old i ≡ false → is_request_served o new i ≡ false
   shrinks unserved =
-      let p : ℕ → ℕ → Bool = λ k since. k == i && is_whole o since in
-      elim (cases_Bool (is_served o new i)) as (λ _. is_served o new i ≡ false) [
-        | inl served ↦ absurd (not_both (sym (ap (list_any (passes p)) outs) ∙ replied_any p mid q reply (sym (ap (λ (x : State). list_any (passes p) x.out) is) ∙ served)) unserved)
+      let p : ℕ → ℕ → Bool = λ k since. k == i && is_request_whole o since in
+      elim (cases_Bool (is_request_served o new i)) as (λ _. is_request_served o new i ≡ false) [
+        | inl served ↦ absurd (not_both (sym (ap (list_any (passes p)) outs) ∙ replied_any p mid q reply (sym (ap (λ (x : WatchState). list_any (passes p) x.out) is) ∙ served)) unserved)
         | inr no' ↦ no'
       ]
 
   other_leaves : q.entry ≢ i → Leaves o i old new
   other_leaves apart = record {
     served = λ sent any.
-        ap (λ (x : State). since_by i sent x.out) is ∙ replied_lane i (λ since. nat_le since sent) mid q reply apart (ap (since_by i sent) outs ∙ any);
+        ap (λ (x : WatchState). since_by i sent x.out) is ∙ replied_lane i (λ since. nat_le since sent) mid q reply apart (ap (since_by i sent) outs ∙ any);
     unserved = shrinks;
   }
 
-  own_unserved : q.entry ≡ i → is_served o new i ≡ false
+  own_unserved : q.entry ≡ i → is_request_served o new i ≡ false
   own_unserved same =
       let less = replied_lanes mid q reply i in
       let none' = none_left i mid.out in
-      let e = ap (λ k. lanes_of i (without k mid.out)) same in
+      let e = ap (λ k. lanes_of i (without_request k mid.out)) same in
       let here : lanes_of i (replied mid q reply).out ≡ 0 = omega (arith, less, none', e) in
-      ap (λ (x : State). is_served o x i) is ∙ no_lane i (λ q'. is_whole o q'.since) (replied mid q reply).out here
+      ap (λ (x : WatchState). is_request_served o x i) is ∙ no_lane i (λ q'. is_request_whole o q'.since) (replied mid q reply).out here
 
 answer_stage :
-    (quick late width n i by more due rest j : ℕ) (old mid new : State) (q : Out) (reply : Reply) (output : Output) → by ≤ more → (j == i ≡ true → by + (quick + late) ≤ more) → new ≡ replied mid q reply → mid.out ≡ old.out →
+    (quick late width n i by more due rest j : ℕ) (old mid new : WatchState) (q : Out) (reply : Reply) (output : Output) → by ≤ more → (j == i ≡ true → by + (quick + late) ≤ more) → new ≡ replied mid q reply → mid.out ≡ old.out →
     q.entry ≡ j → Quiet quick late due old new output → IsBase width n new → Sends old new n →
     Stage quick late width n i by due (waiting (calm quick late) n old + (how_many n (comes (calm quick late) old new) + rest)) old →
-    Stage quick late width n i more (next_after_command (calm quick late) output.command new due) (waiting (calm quick late) n new + rest) new
+    Stage quick late width n i more (outage_next_after_command (calm quick late) output.command new due) (waiting (calm quick late) n new + rest) new
 answer_stage quick late width n i by more due rest j old mid new q reply output le own is outs entry quiet base sends stage =
     let o = calm quick late in
-    let d = next_after_command o output.command new due in
+    let d = outage_next_after_command o output.command new due in
     let k = waiting o n new + rest in
     elim (cases_Bool (j == i)) as (λ _. Stage quick late width n i more d k new) [
       | inl same ↦
@@ -409,69 +409,69 @@ answer_stage quick late width n i by more due rest j old mid new q reply output 
     ]
 
 step_stage :
-    (quick late width n i by more due rest : ℕ) (old new : State) (event : Event) (output : Output) → 0 < width → i < n → by ≤ more → (is_answer i event ≡ true → by + (quick + late) ≤ more) → Step old event output new →
+    (quick late width n i by more due rest : ℕ) (old new : WatchState) (event : Event) (output : Output) → 0 < width → i < n → by ≤ more → (is_answer i event ≡ true → by + (quick + late) ≤ more) → Step old event output new →
     IsWorking (calm quick late) i due old event new → IsBase width n new → Sends old new n →
     Stage quick late width n i by due (waiting (calm quick late) n old + (how_many n (comes (calm quick late) old new) + rest)) old →
-    Stage quick late width n i more (next_after_command (calm quick late) output.command new due) (waiting (calm quick late) n new + rest) new
+    Stage quick late width n i more (outage_next_after_command (calm quick late) output.command new due) (waiting (calm quick late) n new + rest) new
 step_stage quick late width n i by more due rest old new (Clock wall elapsed) output wide low le own step working base sends (inl w) =
     later_stage quick late width n i by more _ (waiting (calm quick late) n new + rest) new le (clock_waits quick late width n i by due rest old new wall elapsed output wide low step working.0 base sends w working.1)
 step_stage quick late width n i by more due rest old new (Clock wall elapsed) output wide low le own step working base sends (inr v) =
     later_stage quick late width n i by more _ (waiting (calm quick late) n new + rest) new le (clock_serves quick late width n i by due rest old new wall elapsed output wide low step working.0 base sends v)
 step_stage quick late width n i by more due rest old new (Looked j reply terms) output wide low le own step working base sends stage = turned (request_out old.out j Look) refl step where
-  turned : (found : Option Out) → request_out old.out j Look ≡ found → StepLooked old found reply terms output new → Stage quick late width n i more (next_after_command (calm quick late) output.command new due) (waiting (calm quick late) n new + rest) new
+  turned : (found : Option Out) → request_out old.out j Look ≡ found → StepLooked old found reply terms output new → Stage quick late width n i more (outage_next_after_command (calm quick late) output.command new due) (waiting (calm quick late) n new + rest) new
   turned None is step' = absurd step'
   turned (Some q) is step' =
       let s = noted old q reply in
       answer_stage quick late width n i by more due rest j old (looked s q reply terms) new q reply output le own step'.1 (looked_out s q reply terms) (out_entry old.out j Look q is)
       (looked_quiet quick late due old new (Some q) reply terms output step') base sends stage
 step_stage quick late width n i by more due rest old new (Renewed j reply) output wide low le own step working base sends stage = turned (request_out old.out j Renew) refl step where
-  turned : (found : Option Out) → request_out old.out j Renew ≡ found → StepRenewed old found reply output new → Stage quick late width n i more (next_after_command (calm quick late) output.command new due) (waiting (calm quick late) n new + rest) new
+  turned : (found : Option Out) → request_out old.out j Renew ≡ found → StepRenewed old found reply output new → Stage quick late width n i more (outage_next_after_command (calm quick late) output.command new due) (waiting (calm quick late) n new + rest) new
   turned None is step' = absurd step'
   turned (Some q) is step' =
       let s = noted old q reply in
-      answer_stage quick late width n i by more due rest j old (renewed s q reply) new q reply output le own step'.1 refl (out_entry old.out j Renew q is)
+      answer_stage quick late width n i by more due rest j old (state_renewed s q reply) new q reply output le own step'.1 refl (out_entry old.out j Renew q is)
       (renewed_quiet quick late due old new (Some q) reply output step') base sends stage
 step_stage quick late width n i by more due rest old new (Need j until) output wide low le own step working base sends stage =
     later_stage quick late width n i by more _ (waiting (calm quick late) n new + rest) new le
-    (quiet_stage quick late width n i by due rest old new output (same_quiet quick late due old _ new output _ step.1 refl refl step.0 refl) base sends (same_leaves (calm quick late) i old new (ap (λ (x : State). x.out) step.1)) stage)
+    (quiet_stage quick late width n i by due rest old new output (same_quiet quick late due old _ new output _ step.1 refl refl step.0 refl) base sends (same_leaves (calm quick late) i old new (ap (λ (x : WatchState). x.out) step.1)) stage)
 step_stage quick late width n i by more due rest old new Begin output wide low le own step working base sends stage =
     later_stage quick late width n i by more _ (waiting (calm quick late) n new + rest) new le
-    (quiet_stage quick late width n i by due rest old new output (same_quiet quick late due old _ new output _ step.1 refl refl step.0 refl) base sends (same_leaves (calm quick late) i old new (ap (λ (x : State). x.out) step.1)) stage)
+    (quiet_stage quick late width n i by due rest old new output (same_quiet quick late due old _ new output _ step.1 refl refl step.0 refl) base sends (same_leaves (calm quick late) i old new (ap (λ (x : WatchState). x.out) step.1)) stage)
 step_stage quick late width n i by more due rest old new (Known j end renewable) output wide low le own step working base sends stage =
     later_stage quick late width n i by more _ (waiting (calm quick late) n new + rest) new le
-    (quiet_stage quick late width n i by due rest old new output (same_quiet quick late due old _ new output _ step.1 refl refl step.0 refl) base sends (same_leaves (calm quick late) i old new (ap (λ (x : State). x.out) step.1)) stage)
+    (quiet_stage quick late width n i by due rest old new output (same_quiet quick late due old _ new output _ step.1 refl refl step.0 refl) base sends (same_leaves (calm quick late) i old new (ap (λ (x : WatchState). x.out) step.1)) stage)
 
 -- what is refused leaves everything
 same_stage :
-    (quick late width n i by due k more : ℕ) (old new : State) → new ≡ old → IsBase width n new → waiting (calm quick late) n new + k ≤ more → Stage quick late width n i by due more old → Stage quick late width n i by due (waiting (calm quick late) n new + k) new
+    (quick late width n i by due k more : ℕ) (old new : WatchState) → new ≡ old → IsBase width n new → waiting (calm quick late) n new + k ≤ more → Stage quick late width n i by due more old → Stage quick late width n i by due (waiting (calm quick late) n new + k) new
 same_stage quick late width n i by due k more old new is base le stage =
-    subst (λ (x : State). Stage quick late width n i by due (waiting (calm quick late) n new + k) x) (sym is) (fewer_stage quick late width n i by due (waiting (calm quick late) n new + k) more old le stage)
+    subst (λ (x : WatchState). Stage quick late width n i by due (waiting (calm quick late) n new + k) x) (sym is) (fewer_stage quick late width n i by due (waiting (calm quick late) n new + k) more old le stage)
 
 turn_stage :
-    (quick late width n i by due rest : ℕ) (old : State) (turn : Turned) → 0 < width → i < n → Turn old turn.event turn.result turn.state → IsWorked (calm quick late) i due old turn.event turn.result turn.state →
+    (quick late width n i by due rest : ℕ) (old : WatchState) (turn : Turned) → 0 < width → i < n → Turn old turn.event turn.result turn.state → IsWorked (calm quick late) i due old turn.event turn.result turn.state →
     IsBase width n turn.state → Sends old turn.state n → IsBase width n old →
     Stage quick late width n i by due (waiting (calm quick late) n old + (how_many n (comes (calm quick late) old turn.state) + rest)) old →
-    Stage quick late width n i (by + later_by i (quick + late) turn) (next_after (calm quick late) turn.result turn.state due) (waiting (calm quick late) n turn.state + rest) turn.state
+    Stage quick late width n i (by + later_by i (quick + late) turn) (outage_next_after (calm quick late) turn.result turn.state due) (waiting (calm quick late) n turn.state + rest) turn.state
 turn_stage quick late width n i by due rest old turn wide low step working base sends old_base stage = by_result turn.result refl step working where
   by_result :
       (result : Result Output WatchFault) → turn.result ≡ result → Turn old turn.event result turn.state → IsWorked (calm quick late) i due old turn.event result turn.state →
-      Stage quick late width n i (by + later_by i (quick + late) turn) (next_after (calm quick late) turn.result turn.state due) (waiting (calm quick late) n turn.state + rest) turn.state
+      Stage quick late width n i (by + later_by i (quick + late) turn) (outage_next_after (calm quick late) turn.result turn.state due) (waiting (calm quick late) n turn.state + rest) turn.state
   by_result (Ok output) is step' working' =
-      let taken' : is_taken turn.result ≡ true = ap is_taken is in
-      subst (λ r. Stage quick late width n i (by + later_by i (quick + late) turn) (next_after (calm quick late) r turn.state due) (waiting (calm quick late) n turn.state + rest) turn.state) (sym is)
+      let taken' : is_event_taken turn.result ≡ true = ap is_event_taken is in
+      subst (λ r. Stage quick late width n i (by + later_by i (quick + late) turn) (outage_next_after (calm quick late) r turn.state due) (waiting (calm quick late) n turn.state + rest) turn.state) (sym is)
       (step_stage quick late width n i by (by + later_by i (quick + late) turn) due rest old turn.state turn.event output wide low (omega arith)
-      (λ answer. (let e : later_by i (quick + late) turn ≡ quick + late = ap (λ b. if b then quick + late else 0) (and_from (is_taken turn.result) (is_answer i turn.event) taken' answer) in omega (arith, e)))
+      (λ answer. (let e : later_by i (quick + late) turn ≡ quick + late = ap (λ b. if b then quick + late else 0) (and_from (is_event_taken turn.result) (is_answer i turn.event) taken' answer) in omega (arith, e)))
       step'.1 working' base sends stage)
   by_result (Err fault) is step' working' =
       let same = refused_stays old turn.state turn.event fault step' in
       let less = fewer_wait (calm quick late) 0 n old turn.state old_base.alone base.alone base.tries sends in
-      let anew = ap (λ (x : State). how_many n (is_anew (calm quick late) 0 x)) same in
-      subst (λ r. Stage quick late width n i (by + later_by i (quick + late) turn) (next_after (calm quick late) r turn.state due) (waiting (calm quick late) n turn.state + rest) turn.state) (sym is)
+      let anew = ap (λ (x : WatchState). how_many n (is_anew (calm quick late) 0 x)) same in
+      subst (λ r. Stage quick late width n i (by + later_by i (quick + late) turn) (outage_next_after (calm quick late) r turn.state due) (waiting (calm quick late) n turn.state + rest) turn.state) (sym is)
       (later_stage quick late width n i by (by + later_by i (quick + late) turn) due (waiting (calm quick late) n turn.state + rest) turn.state (omega arith)
       (same_stage quick late width n i by due rest (waiting (calm quick late) n old + (how_many n (comes (calm quick late) old turn.state) + rest)) old turn.state same base (omega (arith, less, anew)) stage))
 
 pub along :
-    (quick late width n i : ℕ) → 0 < width → i < n → (turns : List Turned) (by due : ℕ) (old : State) → History old turns → AreWorked (calm quick late) i due old turns →
+    (quick late width n i : ℕ) → 0 < width → i < n → (turns : List Turned) (by due : ℕ) (old : WatchState) → History old turns → AreWorked (calm quick late) i due old turns →
     Stage quick late width n i by due (waiting (calm quick late) n old + coming (calm quick late) n old turns) old → IsBase width n old → AllSoon i (quick + late) (by + (quick + late)) turns
 along quick late width n i wide low [] by due old history working stage base = tt
 along quick late width n i wide low (turn ∷ turns) by due old history working stage base =
@@ -482,6 +482,6 @@ along quick late width n i wide low (turn ∷ turns) by due old history working 
     let count = next.count in
     let sends = turn_sends old new turn.event turn.result n (omega (arith, count)) history.0 in
     let here = turn_stage quick late width n i by due (coming o n new turns) old turn wide low history.0 working.0 next sends base stage in
-    let now = stage_now quick late width n i (by + later_by i span turn) (next_after o turn.result new due) (waiting o n new + coming o n new turns) new here in
-    let rest = along quick late width n i wide low turns (by + later_by i span turn) (next_after o turn.result new due) new history.1 working.1 here next in
+    let now = stage_now quick late width n i (by + later_by i span turn) (outage_next_after o turn.result new due) (waiting o n new + coming o n new turns) new here in
+    let rest = along quick late width n i wide low turns (by + later_by i span turn) (outage_next_after o turn.result new due) new history.1 working.1 here next in
     (omega (arith, now), subst (λ b. AllSoon i span b turns) (let e : by + later_by i span turn + span ≡ by + span + later_by i span turn = omega arith in e) rest)

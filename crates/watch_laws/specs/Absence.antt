@@ -9,12 +9,11 @@ use Rattle.watch_machine.specs.declared.event.Event.{Event}
 use Rattle.watch_machine.specs.declared.event.Event.TheVariants.{Clock, Looked, Renewed, Need, Begin, Known}
 use Rattle.watch_machine.specs.declared.fault.WatchFault.{WatchFault}
 use Rattle.watch_machine.specs.declared.track.Try.{Try}
-use Rattle.watch_machine.specs.History.{History, IsRun, Turned}
+use Rattle.watch_machine.specs.History.{History, IsWatchRun, Turned, after_all}
 use Rattle.watch_machine.specs.Lines.{is_first}
 use Rattle.watch_machine.specs.Settling.{is_silent}
-use Rattle.watch_machine.specs.State.{State, attempt_at, opened}
+use Rattle.watch_machine.specs.State.{WatchState, attempt_at, opened}
 use Rattle.watch_laws.specs.Load.{requests_of}
-use Rattle.watch_laws.specs.Turns.{after_all}
 
 -- the broker is away after each turn
 abbrev pub AllAway : List Turned → Type 0
@@ -30,14 +29,14 @@ is_clock (Need i until) = false
 is_clock Begin = false
 is_clock (Known i end renewable) = false
 
-abbrev pub is_taken : Result Output WatchFault → Bool
-is_taken (Ok output) = true
-is_taken (Err fault) = false
+abbrev pub is_event_taken : Result Output WatchFault → Bool
+is_event_taken (Ok output) = true
+is_event_taken (Err fault) = false
 
 -- a clock sets the hold anew: the broker is away, a request had no answer since the last clock, and the hold so far is over
-pub record Sets (old : State) (turn : Turned) : Type 0 where
+pub record Sets (old : WatchState) (turn : Turned) : Type 0 where
   pub clock : is_clock turn.event ≡ true
-  pub taken : is_taken turn.result ≡ true
+  pub taken : is_event_taken turn.result ≡ true
   pub away : old.presence.away ≡ true
   pub silent : list_any is_silent old.answers ≡ true
   pub over : old.presence.hold ≤ turn.state.clocks.at
@@ -45,7 +44,7 @@ pub record Sets (old : State) (turn : Turned) : Type 0 where
 -- while the broker is away, two settings of the hold are a second apart or more
 abbrev pub HeldLaw : Type 0
 HeldLaw =
-    (old : State) (first next : Turned) (between : List Turned) → History old (first ∷ (between ++ next ∷ [])) → AllAway (first ∷ between) → Sets old first →
+    (old : WatchState) (first next : Turned) (between : List Turned) → History old (first ∷ (between ++ next ∷ [])) → AllAway (first ∷ between) → Sets old first →
     Sets (after_all first.state between) next → first.state.clocks.at + 1000 ≤ next.state.clocks.at
 
 -- a request is a later try: one that failed before, or that only owes a lookup
@@ -53,7 +52,7 @@ abbrev pub is_later_try : Option Try → Bool
 is_later_try None = false
 is_later_try (Some t) = not (is_first t)
 
-abbrev pub is_later : State → Request → Bool
+abbrev pub is_later : WatchState → Request → Bool
 is_later s r = is_later_try (attempt_at s r.entry)
 
 -- how many later tries go out
@@ -62,12 +61,12 @@ laters [] = 0
 laters (turn ∷ turns) = length (filter (is_later turn.state) (requests_of turn.result)) + laters turns
 
 -- no turn sets the hold
-abbrev pub NoneSets : State → List Turned → Type 0
+abbrev pub NoneSets : WatchState → List Turned → Type 0
 NoneSets old [] = Unit {0}
 NoneSets old (turn ∷ turns) = (Sets old turn → ⊥) × NoneSets turn.state turns
 
 -- while the broker is away, no more later tries than the width go out until the hold is set anew
 abbrev pub SparedLaw : Type 0
 SparedLaw =
-    (g : Forest) (width : ℕ) (before turns : List Turned) → IsRun g width (before ++ turns) → (after_all (opened g width) before).presence.away ≡ true → AllAway turns →
+    (g : Forest) (width : ℕ) (before turns : List Turned) → IsWatchRun g width (before ++ turns) → (after_all (opened g width) before).presence.away ≡ true → AllAway turns →
     NoneSets (after_all (opened g width) before) turns → laters turns ≤ width

@@ -15,23 +15,22 @@ use Rattle.watch_machine.specs.declared.fault.WatchFault.{WatchFault}
 use Rattle.watch_machine.specs.declared.lanes.Out.{Out}
 use Rattle.watch_machine.specs.declared.notes.Why.{Why}
 use Rattle.watch_machine.specs.Beginning.{is_called}
-use Rattle.watch_machine.specs.History.{History, IsRun, Turned}
+use Rattle.watch_machine.specs.History.{History, IsWatchRun, Turned, after_all}
 use Rattle.watch_machine.specs.Refusal.{is_same}
 use Rattle.watch_machine.specs.Settling.{has_jumped}
-use Rattle.watch_machine.specs.State.{State, opened, second, track_at}
+use Rattle.watch_machine.specs.State.{WatchState, opened, second, track_at}
 use Rattle.watch_machine.specs.Wanted.{is_alive, is_open, is_wanted}
 use Rattle.watch_laws.specs.Load.{requests_of}
 use Rattle.watch_laws.specs.Outage.{is_tried}
-use Rattle.watch_laws.specs.Turns.{after_all}
 
 -- why everything is looked up anew at a turn, None where it is not
-abbrev pub why_of : Result Output WatchFault → Option Why
-why_of (Ok output) = output.notes.began
-why_of (Err fault) = None
+abbrev pub why_begun : Result Output WatchFault → Option Why
+why_begun (Ok output) = output.notes.began
+why_begun (Err fault) = None
 
 -- a turn is a beginning
-abbrev pub Begins : Turned → Type 0
-Begins turn = is_some (why_of turn.result) ≡ true
+abbrev pub IsBeginning : Turned → Type 0
+IsBeginning turn = is_some (why_begun turn.result) ≡ true
 
 -- a turn asks for one
 abbrev pub is_begin : Event → Bool
@@ -42,19 +41,19 @@ is_begin (Need i until) = false
 is_begin Begin = true
 is_begin (Known i end renewable) = false
 
-abbrev pub asks : Turned → Bool
-asks turn = is_begin turn.event
+abbrev pub asks_beginning : Turned → Bool
+asks_beginning turn = is_begin turn.event
 
 -- the wall has jumped at a clock: it parted by more than two seconds from what it was expected to show
-abbrev pub Jumps : State → Event → Type 0
+abbrev pub Jumps : WatchState → Event → Type 0
 Jumps s (Clock wall elapsed) = has_jumped s wall elapsed ≡ true
 Jumps s event = ⊥
 
 -- between two beginnings lies a jump of the wall, a Begin, or ten minutes (a day is longer)
 abbrev pub FewLaw : Type 0
 FewLaw =
-    (old : State) (first second : Turned) (between : List Turned) → History old (first ∷ (between ++ second ∷ [])) → Begins first → Begins second →
-    Jumps (after_all first.state between) second.event ⊎ ((list_any asks between ≡ true) ⊎ (first.state.clocks.at + 600000 ≤ second.state.clocks.at))
+    (old : WatchState) (first second : Turned) (between : List Turned) → History old (first ∷ (between ++ second ∷ [])) → IsBeginning first → IsBeginning second →
+    Jumps (after_all first.state between) second.event ⊎ ((list_any asks_beginning between ≡ true) ⊎ (first.state.clocks.at + 600000 ≤ second.state.clocks.at))
 
 -- how many lookups of i go out
 abbrev pub is_lookup : ℕ → Request → Bool
@@ -69,7 +68,7 @@ abbrev pub looks : ℕ → List Out → ℕ
 looks i out = length (filter (λ (q : Out). q.entry == i && is_same q.operation Look) out)
 
 -- an answer of i tells an end that is ahead: s is the state after it
-abbrev pub TellsAhead : State → ℕ → Reply → Type 0
+abbrev pub TellsAhead : WatchState → ℕ → Reply → Type 0
 TellsAhead s i (Told seconds renewable date) = is_alive (second s) (track_at s i) ≡ true
 TellsAhead s i (Refused status date) = ⊥
 TellsAhead s i Busy = ⊥
@@ -77,7 +76,7 @@ TellsAhead s i Lost = ⊥
 
 -- all goes well with i: a clock does not begin anew, and finds i with an end that is ahead or unknown if it is to be asked; and an answer
 -- of i tells an end that is ahead. What others are answered is no matter
-abbrev pub GoesWell : ℕ → State → Event → Output → Type 0
+abbrev pub GoesWell : ℕ → WatchState → Event → Output → Type 0
 GoesWell i s (Clock wall elapsed) output = (output.notes.began ≡ None) × (is_tried s i ≡ true → is_open (second s) (track_at s i) ≡ true)
 GoesWell i s (Looked j reply terms) output = j ≡ i → TellsAhead s i reply
 GoesWell i s (Renewed j reply) output = j ≡ i → TellsAhead s i reply
@@ -85,7 +84,7 @@ GoesWell i s (Need j until) output = Unit {0}
 GoesWell i s Begin output = Unit {0}
 GoesWell i s (Known j end renewable) output = Unit {0}
 
-abbrev pub GoesWellAt : ℕ → State → Event → Result Output WatchFault → Type 0
+abbrev pub GoesWellAt : ℕ → WatchState → Event → Result Output WatchFault → Type 0
 GoesWellAt i s event (Ok output) = GoesWell i s event output
 GoesWellAt i s event (Err fault) = Unit {0}
 
@@ -94,20 +93,20 @@ GoWell i [] = Unit {0}
 GoWell i (turn ∷ turns) = GoesWellAt i turn.state turn.event turn.result × GoWell i turns
 
 -- i is needed, as whoever owes a lookup at a beginning
-abbrev pub is_needed : State → ℕ → Bool
+abbrev pub is_needed : WatchState → ℕ → Bool
 is_needed s i = is_called s.forest s.tracks s.clocks i
 
 -- how often i is looked up from a beginning on: before and begun are the states before and after its clock, last is that after all, and n
 -- is how many lookups go out. With one that was out before it is never two; and one where i is needed, as whoever is wanted is, and its end
 -- is unknown or ahead, by the time that no lookup is owed. None goes out where it is not needed, its end is ahead, and it owed none before
-pub record IsLookedUp (before begun last : State) (i n : ℕ) : Type 0 where
+pub record IsLookedUpOnce (before begun last : WatchState) (i n : ℕ) : Type 0 where
   pub at_most : looks i before.out + n ≤ 1
   pub wanted : is_wanted begun i ≡ true → is_needed begun i ≡ true
   pub once : is_needed begun i ≡ true → is_open (second begun) (track_at begun i) ≡ true → (track_at last i).owes ≡ false → looks i before.out + n ≡ 1
   pub never : is_needed begun i ≡ false → is_alive (second begun) (track_at begun i) ≡ true → (track_at before i).owes ≡ false → n ≡ 0
 
 -- from a beginning on, while all goes well with it, an entry that is needed is looked up once, and no other is
-abbrev pub LookupLaw : Type 0
-LookupLaw =
-    (g : Forest) (width : ℕ) (before : List Turned) (turn : Turned) (after : List Turned) (i : ℕ) → IsRun g width (before ++ turn ∷ after) → i < length g.entries → Begins turn →
-    GoWell i after → IsLookedUp (after_all (opened g width) before) turn.state (after_all turn.state after) i (lookups i (turn ∷ after))
+abbrev pub OneLookupLaw : Type 0
+OneLookupLaw =
+    (g : Forest) (width : ℕ) (before : List Turned) (turn : Turned) (after : List Turned) (i : ℕ) → IsWatchRun g width (before ++ turn ∷ after) → i < length g.entries → IsBeginning turn →
+    GoWell i after → IsLookedUpOnce (after_all (opened g width) before) turn.state (after_all turn.state after) i (lookups i (turn ∷ after))

@@ -8,7 +8,7 @@ use Rattle.keep_tree.specs.Push.{IsForest}
 use Rattle.keep_tree.specs.Renewal.{renewal}
 use Rattle.keep_rule.specs.declared.wake.Wake.{Wake}
 use Rattle.keep_rule.specs.Asks.{asks, first_of, with_asks}
-use Rattle.keep_rule.specs.Ends.{after, is_asked}
+use Rattle.keep_rule.specs.Ends.{ends_after_wake_up, is_asked}
 use Rattle.keep_rule.specs.Least.{IsLeastAndLatest}
 use Rattle.keep_rule.specs.Unkeepable.{AllKeepable}
 use Rattle.watch_machine.specs.declared.command.Output.{Output}
@@ -21,57 +21,57 @@ use Rattle.watch_machine.specs.declared.lanes.Out.{Out}
 use Rattle.watch_machine.specs.declared.track.Try.{Try}
 use Rattle.watch_machine.specs.Beginning.{is_pressed}
 use Rattle.watch_machine.specs.Clocks.{sec}
-use Rattle.watch_machine.specs.History.{History, IsRun, Turned}
+use Rattle.watch_machine.specs.History.{History, IsWatchRun, Turned}
 use Rattle.watch_machine.specs.Margins.{is_in_plan, lead}
 use Rattle.watch_machine.specs.Outlook.{time_of}
 use Rattle.watch_machine.specs.Refusal.{request_out}
 use Rattle.watch_machine.specs.Renewed.{from_try}
 use Rattle.watch_machine.specs.Settling.{timed}
-use Rattle.watch_machine.specs.State.{State, attempt_at, entry_of, opened, second, track_at}
+use Rattle.watch_machine.specs.State.{WatchState, attempt_at, entry_of, opened, second, track_at}
 use Rattle.watch_machine.specs.Step.{readied, why}
-use Rattle.watch_machine.specs.Wanted.{believed, is_wanted, seen, wanted_need}
+use Rattle.watch_machine.specs.Wanted.{believed, is_wanted, seen_entry, wanted_need}
 use Rattle.watch_laws.specs.Load.{requests_of}
 use Rattle.watch_laws.specs.Time.{round_of}
 
 -- the believed ends
-unfoldable pub ends : State → ℕ → ℕ
+unfoldable pub ends : WatchState → ℕ → ℕ
 ends s i = believed (track_at s i).end
 
 -- an entry as it is believed, but for its end: at its top it is renewed no more
-unfoldable pub terms : State → ℕ → Entry
-terms s i = record (seen s.forest.entries s.tracks s.clocks i) { end = 0; renewable = (track_at s i).renewable && not (track_at s i).top }
+unfoldable pub terms : WatchState → ℕ → Entry
+terms s i = record (seen_entry s.forest.entries s.tracks s.clocks i) { end = 0; renewable = (track_at s i).renewable && not (track_at s i).top }
 
 -- the forest as it is believed. Its ends are the believed ends
-unfoldable pub believed_forest : State → Forest
+unfoldable pub believed_forest : WatchState → Forest
 believed_forest s = record { entries = map (terms s) (range_with_len 0 (length s.forest.entries)); margin = s.forest.margin }
 
 -- these are the moments of the least and latest plan from now on, by what is believed
-abbrev pub IsPlanNow : State → List ℕ → Type 0
+abbrev pub IsPlanNow : WatchState → List ℕ → Type 0
 IsPlanNow s ts = IsLeastAndLatest (believed_forest s).entries s.forest.margin (second s) (ends s) ts
 
 -- by what is believed, no pair is Unkeepable
-abbrev pub IsKeepable : State → Type 0
+abbrev pub IsKeepable : WatchState → Type 0
 IsKeepable s = AllKeepable (believed_forest s) (second s) (ends s)
 
 -- an entry is in the plan, and how far a renewal of it is taken to lead
-abbrev pub in_plan_at : State → ℕ → Bool
+abbrev pub in_plan_at : WatchState → ℕ → Bool
 in_plan_at s i = is_in_plan s.forest.margin (entry_of s i) (track_at s i)
 
-abbrev pub lead_at : State → ℕ → ℕ
+abbrev pub lead_at : WatchState → ℕ → ℕ
 lead_at s i = lead (entry_of s i).step (track_at s i).grant
 
 -- each entry that is wanted is in the plan
-abbrev pub AllInPlan : State → Type 0
+abbrev pub AllInPlan : WatchState → Type 0
 AllInPlan s = (i : ℕ) → i < length s.forest.entries → is_wanted s i ≡ true → in_plan_at s i ≡ true
 
 -- the least time of an entry that is wanted, None where nobody is
-abbrev pub IsLeastTime : State → Option ℕ → Type 0
+abbrev pub IsLeastTime : WatchState → Option ℕ → Type 0
 IsLeastTime s None = (i : ℕ) → i < length s.forest.entries → is_wanted s i ≡ false
 IsLeastTime s (Some t) =
     ((i : ℕ) × ((i < length s.forest.entries) × ((is_wanted s i ≡ true) × (time_of s i ≡ t)))) × ((i : ℕ) → i < length s.forest.entries → is_wanted s i ≡ true → t ≤ time_of s i)
 
 -- the least time is the first moment of the least and latest plan
-abbrev pub IsForeseen : State → Type 0
+abbrev pub IsForeseen : WatchState → Type 0
 IsForeseen s = IsKeepable s → AllInPlan s → (ts : List ℕ) × (IsPlanNow s ts × IsLeastTime s (first_of ts))
 
 abbrev pub AllForeseen : List Turned → Type 0
@@ -81,10 +81,10 @@ AllForeseen (turn ∷ turns) = IsForeseen turn.state × AllForeseen turns
 -- in every state of every history, where no pair is Unkeepable and each entry that is wanted is in the plan, the least time of
 -- these is the first moment of the least and latest plan by what is believed; and where nobody is wanted that plan is empty
 abbrev pub NextMomentLaw : Type 0
-NextMomentLaw = (g : Forest) (width : ℕ) (turns : List Turned) → IsForest g → IsRun g width turns → AllForeseen turns
+NextMomentLaw = (g : Forest) (width : ℕ) (turns : List Turned) → IsForest g → IsWatchRun g width turns → AllForeseen turns
 
 -- a state in which nobody is being asked, and a renewal leads each entry that is wanted as far as its step
-pub record IsCalm (s : State) : Type 0 where
+pub record IsCalm (s : WatchState) : Type 0 where
   pub keepable : IsKeepable s
   pub in_plan : AllInPlan s
   pub led : (i : ℕ) → i < length s.forest.entries → is_wanted s i ≡ true → lead_at s i ≡ (entry_of s i).step
@@ -92,31 +92,31 @@ pub record IsCalm (s : State) : Type 0 where
   pub unasked : (i : ℕ) → i < length s.forest.entries → (track_at s i).out ≡ false
 
 -- the Asks of now by what is believed, where the next moment is `next`
-abbrev pub asks_now : State → Option ℕ → List ℕ
+abbrev pub asks_now : WatchState → Option ℕ → List ℕ
 asks_now s next = asks (believed_forest s).entries s.forest.margin (second s) (ends s) (second s) next
 
 -- what a clock opens is the round of the plan: one where its first moment is now, of the Asks; and none before
-abbrev pub IsOfPlan : State → Option (List ℕ) → Type 0
+abbrev pub IsOfPlan : WatchState → Option (List ℕ) → Type 0
 IsOfPlan s (Some asked) = (ts : List ℕ) × (IsPlanNow s (second s ∷ ts) × (asked ≡ asks_now s (first_of ts)))
 IsOfPlan s None = (ts : List ℕ) × (IsPlanNow s ts × ((t : ℕ) → first_of ts ≡ Some t → second s < t))
 
 -- a clock that was taken in calm
-abbrev pub RoundsRight : State → Turned → Type 0
+abbrev pub RoundsRight : WatchState → Turned → Type 0
 RoundsRight old turn =
     (wall elapsed : ℕ) (output : Output) → turn.event ≡ Clock wall elapsed → turn.result ≡ Ok output → IsCalm (readied old wall elapsed) →
     IsOfPlan (readied old wall elapsed) output.notes.round
 
-abbrev pub AllRight : State → List Turned → Type 0
+abbrev pub AllRight : WatchState → List Turned → Type 0
 AllRight old [] = Unit {0}
 AllRight old (turn ∷ turns) = RoundsRight old turn × AllRight turn.state turns
 
 -- at every clock of every history that finds the state calm, a round opens where the first moment of the least and latest plan has
 -- come, and only there; and it asks the Asks
 abbrev pub RoundOfPlanLaw : Type 0
-RoundOfPlanLaw = (g : Forest) (width : ℕ) (turns : List Turned) → IsForest g → IsRun g width turns → AllRight (opened g width) turns
+RoundOfPlanLaw = (g : Forest) (width : ℕ) (turns : List Turned) → IsForest g → IsWatchRun g width turns → AllRight (opened g width) turns
 
 -- a state at rest: it is calm, nobody has a try, is marked as out or owes a lookup, nothing is out, and the broker is there
-pub record IsAtRest (s : State) : Type 0 where
+pub record StateIsAtRest (s : WatchState) : Type 0 where
   pub forest : IsForest s.forest
   pub count : length s.tracks ≡ length s.forest.entries
   pub begun : is_none s.begun ≡ false
@@ -136,78 +136,78 @@ abbrev pub began_by : Option Try → ℕ
 began_by None = 0
 began_by (Some t) = began_in t.base
 
-abbrev pub began_at : State → ℕ → ℕ
+abbrev pub began_at : WatchState → ℕ → ℕ
 began_at s i = began_by (attempt_at s i)
 
 -- the end to which a renewal by the rule leads that counts from there
-abbrev pub leads_to : State → ℕ → ℕ
+abbrev pub leads_to : WatchState → ℕ → ℕ
 leads_to s i = renewal (terms s i) (began_at s i)
 
 -- a second in which no round can open: it comes before the time of each entry that is wanted and not pressed yet; and before the end of
 -- each that has a try, and before the time to which its renewal leads, where that end is before its need
-pub record IsBetween (s : State) (now : ℕ) : Type 0 where
+pub record IsCalmSecond (s : WatchState) (now : ℕ) : Type 0 where
   pub others : (i : ℕ) → i < length s.forest.entries → is_wanted s i ≡ true → is_pressed (track_at s i) ≡ false → now < time_of s i
   pub alive : (i : ℕ) → i < length s.forest.entries → is_none (attempt_at s i) ≡ false → now < ends s i
   pub own : (i : ℕ) → i < length s.forest.entries → is_none (attempt_at s i) ≡ false → leads_to s i < wanted_need s i → now < leads_to s i - s.forest.margin
 
 -- a clock at which nothing begins anew and no clock is set: it comes in the second of the least time of an entry that is not pressed
 -- yet, or before; and before any round could open while anybody has a try
-pub record IsCalmClock (s : State) (wall elapsed : ℕ) : Type 0 where
+pub record IsCalmClock (s : WatchState) (wall elapsed : ℕ) : Type 0 where
   pub goes_on : why s wall elapsed ≡ None
   pub broker_stays : (timed s wall elapsed).clocks.broker ≡ s.clocks.broker
   pub wall_stays : (timed s wall elapsed).clocks.wall ≡ s.clocks.wall
   pub in_time : (i : ℕ) → i < length s.forest.entries → is_wanted s i ≡ true → is_pressed (track_at s i) ≡ false → second (timed s wall elapsed) ≤ time_of s i
-  pub answered : (i : ℕ) → i < length s.forest.entries → is_none (attempt_at s i) ≡ false → IsBetween s (second (timed s wall elapsed))
+  pub answered : (i : ℕ) → i < length s.forest.entries → is_none (attempt_at s i) ≡ false → IsCalmSecond s (second (timed s wall elapsed))
 
 -- the second from which a grant of so many seconds to this request counts, and the end to which it leads
-abbrev pub counts_from : State → Out → ℕ → ℕ
+abbrev pub counts_from : WatchState → Out → ℕ → ℕ
 counts_from s r seconds = sec (from_try s.forest.margin (entry_of s r.entry).step seconds s.clocks.at r.since (attempt_at s r.entry))
 
-abbrev pub end_granted : State → Out → ℕ → ℕ
+abbrev pub end_granted : WatchState → Out → ℕ → ℕ
 end_granted s r seconds = counts_from s r seconds + seconds
 
 -- a grant by the rule: it counts from the second of the round, and leads as far as a renewal in that second
-abbrev pub IsByRule : State → ℕ → ℕ → Out → Type 0
-IsByRule s i seconds r = (counts_from s r seconds ≡ began_at s i) × (end_granted s r seconds ≡ leads_to s i)
+abbrev pub GrantIsByRule : WatchState → ℕ → ℕ → Out → Type 0
+GrantIsByRule s i seconds r = (counts_from s r seconds ≡ began_at s i) × (end_granted s r seconds ≡ leads_to s i)
 
 -- such a clock, or the answer to a renewal by the rule
-abbrev pub IsCalmEvent : State → Event → Type 0
+abbrev pub IsCalmEvent : WatchState → Event → Type 0
 IsCalmEvent s (Clock wall elapsed) = IsCalmClock s wall elapsed
-IsCalmEvent s (Renewed i (Told seconds renewable date)) = (renewable ≡ true) × IfSome (request_out s.out i Renew) (IsByRule s i seconds)
+IsCalmEvent s (Renewed i (Told seconds renewable date)) = (renewable ≡ true) × IfSome (request_out s.out i Renew) (GrantIsByRule s i seconds)
 IsCalmEvent s (Renewed i reply) = ⊥
 IsCalmEvent s event = ⊥
 
-abbrev pub IsCalmTurn : State → Event → Result Output WatchFault → Type 0
+abbrev pub IsCalmTurn : WatchState → Event → Result Output WatchFault → Type 0
 IsCalmTurn s event (Ok output) = IsCalmEvent s event
 IsCalmTurn s event (Err fault) = Unit {0}
 
 -- each event that is taken is such a one
-abbrev pub AreCalm : State → List Turned → Type 0
+abbrev pub AreCalm : WatchState → List Turned → Type 0
 AreCalm s [] = Unit {0}
 AreCalm s (turn ∷ turns) = IsCalmTurn s turn.event turn.result × AreCalm turn.state turns
 
 -- no wake-up of a list has passed
-abbrev pub NonePassed : State → List Wake → Type 0
+abbrev pub NonePassed : WatchState → List Wake → Type 0
 NonePassed s [] = Unit {0}
 NonePassed s (w ∷ ws) = second s ≤ w.at
 
 -- what opens at a turn is the next of these wake-ups, or nothing: last is the wake-up before, now the one after which the turn leaves
 -- the watch, and next are those to come
-abbrev pub Opens : State → Option (List ℕ) → Wake → List Wake → Wake → List Wake → Type 0
-Opens s None last wakes now next = (now ≡ last) × ((next ≡ wakes) × NonePassed s wakes)
-Opens s (Some asked) last wakes now next = (now ≡ record { at = second s; asked = asked }) × (wakes ≡ now ∷ next)
+abbrev pub OpensNextWakeUp : WatchState → Option (List ℕ) → Wake → List Wake → Wake → List Wake → Type 0
+OpensNextWakeUp s None last wakes now next = (now ≡ last) × ((next ≡ wakes) × NonePassed s wakes)
+OpensNextWakeUp s (Some asked) last wakes now next = (now ≡ record { at = second s; asked = asked }) × (wakes ≡ now ∷ next)
 
 -- what goes out at a turn are renewals of those whom a wake-up asks, from its second on
 abbrev pub SendsOnly : Wake → Turned → Type 0
 SendsOnly now turn = All (λ r. (r.operation ≡ Renew) × ((is_asked now r.entry ≡ true) × (now.at ≤ second turn.state))) (requests_of turn.result)
 
 -- the ends after a turn as the wake-ups leave them that have opened so far: e before it
-abbrev pub left_by : Forest → (ℕ → ℕ) → Option (List ℕ) → Wake → ℕ → ℕ
-left_by g e None now = e
-left_by g e (Some asked) now = after g.entries g.margin e now
+abbrev pub ends_left_by : Forest → (ℕ → ℕ) → Option (List ℕ) → Wake → ℕ → ℕ
+ends_left_by g e None now = e
+ends_left_by g e (Some asked) now = ends_after_wake_up g.entries g.margin e now
 
 -- whoever has no try is believed to end so
-abbrev pub EndAs : (ℕ → ℕ) → State → Type 0
+abbrev pub EndAs : (ℕ → ℕ) → WatchState → Type 0
 EndAs e s = (i : ℕ) → attempt_at s i ≡ None → ends s i ≡ e i
 
 -- turns that go by a list of wake-ups, as far as they have gone, where last is the wake-up before and e are the ends that it left: a
@@ -215,13 +215,13 @@ EndAs e s = (i : ℕ) → attempt_at s i ≡ None → ends s i ≡ e i
 abbrev pub GoBy : Forest → (ℕ → ℕ) → Wake → List Wake → List Turned → Type 0
 GoBy g e last wakes [] = Unit {0}
 GoBy g e last wakes (turn ∷ turns) =
-    (now : Wake) × ((next : List Wake) × (Opens turn.state (round_of turn.result) last wakes now next × (SendsOnly now turn
-    × (EndAs (left_by g e (round_of turn.result) now) turn.state × GoBy g (left_by g e (round_of turn.result) now) now next turns))))
+    (now : Wake) × ((next : List Wake) × (OpensNextWakeUp turn.state (round_of turn.result) last wakes now next × (SendsOnly now turn
+    × (EndAs (ends_left_by g e (round_of turn.result) now) turn.state × GoBy g (ends_left_by g e (round_of turn.result) now) now next turns))))
 
 -- from a state at rest on, while each clock comes in time, every reply comes before the next round and each renewal is granted by the rule
 -- from the second of its round, the rounds are exactly the wake-ups of the least and latest plan with its Asks; they lead the ends as the
 -- plan does, and nothing else is asked
 abbrev pub CalmLaw : Type 0
 CalmLaw =
-    (s : State) (turns : List Turned) → IsAtRest s → History s turns → AreCalm s turns →
+    (s : WatchState) (turns : List Turned) → StateIsAtRest s → History s turns → AreCalm s turns →
     (ts : List ℕ) × (IsPlanNow s ts × GoBy (believed_forest s) (ends s) (record { at = second s; asked = [] }) (with_asks (believed_forest s).entries s.forest.margin (second s) (ends s) ts) turns)

@@ -11,18 +11,18 @@ use Rattle.watch_machine.specs.declared.event.Reply.TheVariants.{Told, Refused, 
 use Rattle.watch_machine.specs.declared.track.End.TheVariants.{At}
 use Rattle.watch_machine.specs.Clocks.{ms}
 use Rattle.watch_machine.specs.History.{Turn, Turned}
-use Rattle.watch_machine.specs.State.{State, opened, track_at}
-use Rattle.watch_laws.specs.Absence.{is_taken}
+use Rattle.watch_machine.specs.State.{WatchState, opened, track_at}
+use Rattle.watch_laws.specs.Absence.{is_event_taken}
 use Rattle.watch_laws.specs.Load.{requests_of}
 
 -- the world beside a watch. Moments of it are milliseconds of real time: what the clock that never steps shows at each, and by
 -- how much it may have fallen behind between two
-pub record World : Type 0 where
+pub record TimedWorld : Type 0 where
   pub reading : ℕ → ℕ
   pub lag : ℕ → ℕ → ℕ
 
 -- an honest clock: its readings never fall, as much passes by them as passes, but for the lag, and a lag is not made good
-pub record IsHonest (w : World) : Type 0 where
+pub record IsHonest (w : TimedWorld) : Type 0 where
   pub rises : (a b : ℕ) → a ≤ b → w.reading a ≤ w.reading b
   pub counts : (a n : ℕ) → w.reading a + n ≤ w.reading (a + n) + w.lag a (a + n)
   pub adds : (a b c : ℕ) → a ≤ b → b ≤ c → w.lag a b ≤ w.lag a c
@@ -42,7 +42,7 @@ pub record Lived : Type 0 where
 
 -- an end, a second of the watch's clock, comes no later than a real one, but for what the clock has lagged since the end was told,
 -- and what was told too much
-pub record IsNoLater (w : World) (phase end real : ℕ) (o : Origin) : Type 0 where
+pub record IsNoLater (w : TimedWorld) (phase end real : ℕ) (o : Origin) : Type 0 where
   pub before : o.since ≤ real
   pub no_later : ms end ≤ w.reading real + phase + w.lag o.since real + o.over
 
@@ -56,7 +56,7 @@ IsTrueReply asked real o Lost = Unit {0}
 
 -- an event was true of i, whose last request went out at asked: a reading was taken before it was handed in, a reply was true, and an
 -- end that is known was told by an earlier watch
-abbrev pub IsTrueEvent : World → ℕ → ℕ → State → Lived → Event → Type 0
+abbrev pub IsTrueEvent : TimedWorld → ℕ → ℕ → WatchState → Lived → Event → Type 0
 IsTrueEvent w i asked s l (Clock wall elapsed) = elapsed ≤ w.reading l.at
 IsTrueEvent w i asked s l (Looked j reply terms) = j ≡ i → IsTrueReply asked l.real l.origin reply
 IsTrueEvent w i asked s l (Renewed j reply) = j ≡ i → IsTrueReply asked l.real l.origin reply
@@ -70,41 +70,41 @@ asked_after i asked l = if list_any (λ r. r.entry == i) (requests_of l.turn.res
 
 -- turns that were lived one after another from a state on, by events that were true of i: the moment of the last turn, that at which
 -- the last request of i went out, and the real end before. The real end does not come to be earlier
-abbrev pub AreLivedFrom : World → ℕ → State → ℕ → ℕ → ℕ → List Lived → Type 0
+abbrev pub AreLivedFrom : TimedWorld → ℕ → WatchState → ℕ → ℕ → ℕ → List Lived → Type 0
 AreLivedFrom w i s last asked real [] = Unit {0}
 AreLivedFrom w i s last asked real (l ∷ ls) =
     Turn s l.turn.event l.turn.result l.turn.state × ((last ≤ l.at) × (IsTrueEvent w i asked s l l.turn.event × ((real ≤ l.real)
     × AreLivedFrom w i l.turn.state l.at (asked_after i asked l) l.real ls)))
 
 -- an event tells the end of i
-abbrev pub is_told : Reply → Bool
-is_told (Told seconds renewable date) = true
-is_told (Refused status date) = false
-is_told Busy = false
-is_told Lost = false
+abbrev pub tells_an_end : Reply → Bool
+tells_an_end (Told seconds renewable date) = true
+tells_an_end (Refused status date) = false
+tells_an_end Busy = false
+tells_an_end Lost = false
 
 abbrev pub tells : ℕ → Event → Bool
 tells i (Clock wall elapsed) = false
-tells i (Looked j reply terms) = is_told reply && j == i
-tells i (Renewed j reply) = is_told reply && j == i
+tells i (Looked j reply terms) = tells_an_end reply && j == i
+tells i (Renewed j reply) = tells_an_end reply && j == i
 tells i (Need j until) = false
 tells i Begin = false
 tells i (Known j end renewable) = j == i
 
 -- how the end of i was told last
 abbrev pub told_after : ℕ → Origin → Lived → Origin
-told_after i o l = if is_taken l.turn.result && tells i l.turn.event then l.origin else o
+told_after i o l = if is_event_taken l.turn.result && tells i l.turn.event then l.origin else o
 
-abbrev pub AllNoLater : World → ℕ → Origin → List Lived → Type 0
+abbrev pub AllNoLater : TimedWorld → ℕ → Origin → List Lived → Type 0
 AllNoLater w i o [] = Unit {0}
 AllNoLater w i o (l ∷ ls) =
     ((end : ℕ) → (track_at l.turn.state i).end ≡ At end → IsNoLater w l.turn.state.clocks.phase end l.real (told_after i o l)) × AllNoLater w i (told_after i o l) ls
 
 -- before the first request, and the first end
-abbrev pub never : Origin
-never = record { since = 0; over = 0 }
+abbrev pub no_origin : Origin
+no_origin = record { since = 0; over = 0 }
 
 -- with an honest clock, and replies that are true of an entry, no end of it that a watch believes in comes later than the real one,
 -- but for what the clock has lagged since the broker read the request whose reply told that end
 abbrev pub NeverPastLaw : Type 0
-NeverPastLaw = (w : World) → IsHonest w → (g : Forest) (width i real : ℕ) (ls : List Lived) → AreLivedFrom w i (opened g width) 0 0 real ls → AllNoLater w i never ls
+NeverPastLaw = (w : TimedWorld) → IsHonest w → (g : Forest) (width i real : ℕ) (ls : List Lived) → AreLivedFrom w i (opened g width) 0 0 real ls → AllNoLater w i no_origin ls

@@ -1,4 +1,3 @@
-pub mod Turns
 pub mod Beginnings
 pub mod Needs
 pub mod Tops

@@ -14,16 +14,16 @@ use Rattle.watch_machine.specs.declared.event.Reply.TheVariants.{Told, Refused, 
 use Rattle.watch_machine.specs.declared.fault.WatchFault.{WatchFault}
 use Rattle.watch_machine.specs.declared.lanes.Out.{Out}
 use Rattle.watch_machine.specs.Clocks.{ms}
-use Rattle.watch_machine.specs.History.{IsRun, Turned}
+use Rattle.watch_machine.specs.History.{IsWatchRun, Turned}
 use Rattle.watch_machine.specs.Lines.{rested}
 use Rattle.watch_machine.specs.Margins.{is_in_plan}
 use Rattle.watch_machine.specs.Outlook.{time_of}
 use Rattle.watch_machine.specs.Refusal.{request_out}
 use Rattle.watch_machine.specs.Settling.{is_busy, timed}
-use Rattle.watch_machine.specs.State.{State, attempt_at, entry_of, second, track_at}
+use Rattle.watch_machine.specs.State.{WatchState, attempt_at, entry_of, second, track_at}
 use Rattle.watch_machine.specs.Step.{why}
 use Rattle.watch_machine.specs.Wanted.{believed, is_wanted, least}
-use Rattle.watch_laws.specs.Absence.{is_clock, is_taken}
+use Rattle.watch_laws.specs.Absence.{is_clock, is_event_taken}
 
 -- an outage, in milliseconds of the watch's clock: when it begins and ends; by when a request is settled while the broker is there,
 -- and by when at all; how late a clock is handed in at most; and how many rounds of all lanes hold those that wait and come to wait
@@ -36,52 +36,52 @@ pub record Outage : Type 0 where
   pub rounds : ℕ
 
 -- a request that goes out at a moment is whole: it is answered before the broker goes, or goes out when it is back
-unfoldable pub is_whole : Outage → ℕ → Bool
-is_whole o since = nat_le (since + o.quick) o.from || nat_le o.until since
+unfoldable pub is_request_whole : Outage → ℕ → Bool
+is_request_whole o since = nat_le (since + o.quick) o.from || nat_le o.until since
 
 -- by when a request that went out at a moment is settled
-unfoldable pub settled_by : Outage → ℕ → ℕ
-settled_by o since = since + (if is_whole o since then o.quick else o.slow)
+unfoldable pub outage_settled_by : Outage → ℕ → ℕ
+outage_settled_by o since = since + (if is_request_whole o since then o.quick else o.slow)
 
 -- the shell: by when the next clock is handed in. It is no later than the moment until which was to be waited, nor than any answer, but
 -- for so much
-abbrev pub next_by : Outage → ℕ → List Out → ℕ
-next_by o until out = least (until + o.late) (map (λ (q : Out). settled_by o q.since + o.late) out)
+abbrev pub outage_next_by : Outage → ℕ → List Out → ℕ
+outage_next_by o until out = least (until + o.late) (map (λ (q : Out). outage_settled_by o q.since + o.late) out)
 
-abbrev pub next_after_command : Outage → Command → State → ℕ → ℕ
-next_after_command o (Go requests until) s due = next_by o until s.out
-next_after_command o Taken s due = due
+abbrev pub outage_next_after_command : Outage → Command → WatchState → ℕ → ℕ
+outage_next_after_command o (Go requests until) s due = outage_next_by o until s.out
+outage_next_after_command o Taken s due = due
 
-abbrev pub next_after : Outage → Result Output WatchFault → State → ℕ → ℕ
-next_after o (Ok output) s due = next_after_command o output.command s due
-next_after o (Err fault) s due = due
+abbrev pub outage_next_after : Outage → Result Output WatchFault → WatchState → ℕ → ℕ
+outage_next_after o (Ok output) s due = outage_next_after_command o output.command s due
+outage_next_after o (Err fault) s due = due
 
 -- the broker: no request that is whole is lost
-abbrev pub IsReply : Outage → Reply → Out → Type 0
-IsReply o (Told seconds renewable date) q = Unit {0}
-IsReply o (Refused status date) q = Unit {0}
-IsReply o Busy q = ⊥
-IsReply o Lost q = is_whole o q.since ≡ false
+abbrev pub IsReplyInOutage : Outage → Reply → Out → Type 0
+IsReplyInOutage o (Told seconds renewable date) q = Unit {0}
+IsReplyInOutage o (Refused status date) q = Unit {0}
+IsReplyInOutage o Busy q = ⊥
+IsReplyInOutage o Lost q = is_request_whole o q.since ≡ false
 
 -- what happens until i is granted: a clock in time, at which nothing begins anew; replies, of which those to renewals of i are lost; and
 -- needs
-abbrev pub IsIncident : Outage → ℕ → ℕ → State → Event → Type 0
+abbrev pub IsIncident : Outage → ℕ → ℕ → WatchState → Event → Type 0
 IsIncident o i due s (Clock wall elapsed) = ((timed s wall elapsed).clocks.at ≤ due) × (why s wall elapsed ≡ None)
-IsIncident o i due s (Looked j reply terms) = IfSome (request_out s.out j Look) (IsReply o reply)
-IsIncident o i due s (Renewed j reply) = IfSome (request_out s.out j Renew) (IsReply o reply) × (j ≡ i → reply ≡ Lost)
+IsIncident o i due s (Looked j reply terms) = IfSome (request_out s.out j Look) (IsReplyInOutage o reply)
+IsIncident o i due s (Renewed j reply) = IfSome (request_out s.out j Renew) (IsReplyInOutage o reply) × (j ≡ i → reply ≡ Lost)
 IsIncident o i due s (Need j until) = Unit {0}
 IsIncident o i due s Begin = ⊥
 IsIncident o i due s (Known j end renewable) = ⊥
 
-abbrev pub IsLived : Outage → ℕ → ℕ → State → Event → Result Output WatchFault → Type 0
+abbrev pub IsLived : Outage → ℕ → ℕ → WatchState → Event → Result Output WatchFault → Type 0
 IsLived o i due s event (Ok output) = IsIncident o i due s event
 IsLived o i due s event (Err fault) = Unit {0}
 
 -- turns that are lived through the outage, until i is granted; i is wanted after each
-abbrev pub AreLived : Outage → ℕ → ℕ → State → List Turned → Type 0
+abbrev pub AreLived : Outage → ℕ → ℕ → WatchState → List Turned → Type 0
 AreLived o i due s [] = Unit {0}
 AreLived o i due s (turn ∷ turns) =
-    IsLived o i due s turn.event turn.result × ((is_wanted turn.state i ≡ true) × AreLived o i (next_after o turn.result turn.state due) turn.state turns)
+    IsLived o i due s turn.event turn.result × ((is_wanted turn.state i ≡ true) × AreLived o i (outage_next_after o turn.result turn.state due) turn.state turns)
 
 -- how many of the first n pass a test
 abbrev pub one_if : Bool → ℕ
@@ -92,27 +92,27 @@ how_many zero p = 0
 how_many (suc n) p = one_if (p n) + how_many n p
 
 -- something is to be asked of j, or asked
-abbrev pub is_tried : State → ℕ → Bool
+abbrev pub is_tried : WatchState → ℕ → Bool
 is_tried s j = is_some (attempt_at s j)
 
 -- a request of j that is whole is out
-abbrev pub is_served : Outage → State → ℕ → Bool
-is_served o s j = list_any (λ (q : Out). q.entry == j && is_whole o q.since) s.out
+abbrev pub is_request_served : Outage → WatchState → ℕ → Bool
+is_request_served o s j = list_any (λ (q : Out). q.entry == j && is_request_whole o q.since) s.out
 
 -- j waits: something is to be asked of it, and no request that is whole is out
-abbrev pub waits : Outage → State → ℕ → Bool
-waits o s j = is_tried s j && not (is_served o s j)
+abbrev pub waits_to_be_asked : Outage → WatchState → ℕ → Bool
+waits_to_be_asked o s j = is_tried s j && not (is_request_served o s j)
 
 -- how many of n entries wait
-abbrev pub waiting : Outage → ℕ → State → ℕ
-waiting o n s = how_many n (waits o s)
+abbrev pub waiting : Outage → ℕ → WatchState → ℕ
+waiting o n s = how_many n (waits_to_be_asked o s)
 
 -- j comes to wait between two states: something is to be asked of it, and nothing was before, or a request that is whole was answered
-abbrev pub comes : Outage → State → State → ℕ → Bool
-comes o old new j = is_tried new j && (not (is_tried old j) || (is_served o old j && not (is_served o new j)))
+abbrev pub comes : Outage → WatchState → WatchState → ℕ → Bool
+comes o old new j = is_tried new j && (not (is_tried old j) || (is_request_served o old j && not (is_request_served o new j)))
 
 -- how often one of n entries comes to wait in a list of turns
-abbrev pub coming : Outage → ℕ → State → List Turned → ℕ
+abbrev pub coming : Outage → ℕ → WatchState → List Turned → ℕ
 coming o n old [] = 0
 coming o n old (turn ∷ turns) = how_many n (comes o old turn.state) + coming o n turn.state turns
 
@@ -133,11 +133,11 @@ granted_by o time end = max (ms time) (again end (o.until + o.slow + o.late)) + 
 
 -- an outage that a margin of so many seconds outlasts: beside it there is room for the request that its end cuts, that which its
 -- beginning cuts, the one under way when the time came, all rounds, and one pause
-abbrev pub IsShort : Outage → ℕ → Type 0
-IsShort o margin = (o.until - o.from) + o.slow + 2 * (o.quick + o.late) + sweep o + breath o ≤ ms margin
+abbrev pub IsShortOutage : Outage → ℕ → Type 0
+IsShortOutage o margin = (o.until - o.from) + o.slow + 2 * (o.quick + o.late) + sweep o + breath o ≤ ms margin
 
 -- a state in which the time of i is ahead: i is wanted, in the plan, and not asked, and may be asked when its time comes
-pub record IsBefore (s : State) (i : ℕ) : Type 0 where
+pub record IsBefore (s : WatchState) (i : ℕ) : Type 0 where
   pub within : i < length s.forest.entries
   pub wanted : is_wanted s i ≡ true
   pub in_plan : is_in_plan s.forest.margin (entry_of s i) (track_at s i) ≡ true
@@ -147,12 +147,12 @@ pub record IsBefore (s : State) (i : ℕ) : Type 0 where
   pub rested : max s.presence.free (rested (track_at s i).last) ≤ ms (time_of s i)
 
 -- the clock at which the last request of i went out, the one that was granted
-abbrev pub asked_at : Option ℕ → ℕ
-asked_at None = 0
-asked_at (Some at) = at
+abbrev pub clock_asked_at : Option ℕ → ℕ
+clock_asked_at None = 0
+clock_asked_at (Some at) = at
 
-abbrev pub granted_at : State → ℕ → ℕ
-granted_at s i = asked_at (track_at s i).last
+abbrev pub granted_at : WatchState → ℕ → ℕ
+granted_at s i = clock_asked_at (track_at s i).last
 
 -- a renewal of i is granted, and its time is ahead after it. No answer since the last clock says that the broker is busy
 pub record IsGrant (turn : Turned) (i : ℕ) : Type 0 where
@@ -160,30 +160,30 @@ pub record IsGrant (turn : Turned) (i : ℕ) : Type 0 where
   pub renewable : Bool
   pub date : Option ℕ
   pub told : turn.event ≡ Renewed i (Told seconds renewable date)
-  pub taken : is_taken turn.result ≡ true
+  pub taken : is_event_taken turn.result ≡ true
   pub before : IsBefore turn.state i
   pub calm : list_any (λ a. is_busy a.reply) turn.state.answers ≡ false
 
 -- by when the next clock is handed in after it: no later than after that request, or any that is out, is settled, but for so much
-abbrev pub granted_next : Outage → State → ℕ → ℕ
-granted_next o s i = next_by o (settled_by o (granted_at s i)) s.out
+abbrev pub granted_next : Outage → WatchState → ℕ → ℕ
+granted_next o s i = outage_next_by o (outage_settled_by o (granted_at s i)) s.out
 
 -- after each turn the end of i is ahead, and it is no later than i is granted
-abbrev pub IsInTime : Outage → ℕ → State → Type 0
-IsInTime o i s = (s.clocks.at < ms (believed (track_at s i).end)) × (s.clocks.at ≤ granted_by o (time_of s i) (believed (track_at s i).end))
+abbrev pub EndIsInTime : Outage → ℕ → WatchState → Type 0
+EndIsInTime o i s = (s.clocks.at < ms (believed (track_at s i).end)) × (s.clocks.at ≤ granted_by o (time_of s i) (believed (track_at s i).end))
 
 abbrev pub AllInTime : Outage → ℕ → List Turned → Type 0
 AllInTime o i [] = Unit {0}
-AllInTime o i (turn ∷ turns) = IsInTime o i turn.state × AllInTime o i turns
+AllInTime o i (turn ∷ turns) = EndIsInTime o i turn.state × AllInTime o i turns
 
 -- whatever was before: from a clock on at which the time of an entry is ahead that is wanted and in the plan, until it is granted, its end
 -- is ahead, through any outage that the margin outlasts
 abbrev pub OutageLaw : Type 0
 OutageLaw =
     (o : Outage) (g : Forest) (width : ℕ) (before : List Turned) (last : Turned) (turns : List Turned) (i : ℕ) → 0 < width →
-    IsRun g width (before ++ last ∷ turns) → is_clock last.event ≡ true → is_taken last.result ≡ true → IsBefore last.state i →
-    AreLived o i (next_after o last.result last.state 0) last.state turns →
-    waiting o (length g.entries) last.state + coming o (length g.entries) last.state turns ≤ width * o.rounds → o.from ≤ o.until → IsShort o g.margin →
+    IsWatchRun g width (before ++ last ∷ turns) → is_clock last.event ≡ true → is_event_taken last.result ≡ true → IsBefore last.state i →
+    AreLived o i (outage_next_after o last.result last.state 0) last.state turns →
+    waiting o (length g.entries) last.state + coming o (length g.entries) last.state turns ≤ width * o.rounds → o.from ≤ o.until → IsShortOutage o g.margin →
     AllInTime o i turns
 
 -- and so it is from a grant of the entry on, until the next one. So outages of which no two lie between the same two grants count each
@@ -191,6 +191,6 @@ OutageLaw =
 abbrev pub GrantLaw : Type 0
 GrantLaw =
     (o : Outage) (g : Forest) (width : ℕ) (before : List Turned) (grant : Turned) (turns : List Turned) (i : ℕ) → 0 < width →
-    IsRun g width (before ++ grant ∷ turns) → IsGrant grant i → AreLived o i (granted_next o grant.state i) grant.state turns →
-    waiting o (length g.entries) grant.state + coming o (length g.entries) grant.state turns ≤ width * o.rounds → o.from ≤ o.until → IsShort o g.margin →
+    IsWatchRun g width (before ++ grant ∷ turns) → IsGrant grant i → AreLived o i (granted_next o grant.state i) grant.state turns →
+    waiting o (length g.entries) grant.state + coming o (length g.entries) grant.state turns ≤ width * o.rounds → o.from ≤ o.until → IsShortOutage o g.margin →
     AllInTime o i turns

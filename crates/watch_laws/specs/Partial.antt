@@ -15,16 +15,15 @@ use Rattle.watch_machine.specs.declared.event.Reply.TheVariants.{Lost}
 use Rattle.watch_machine.specs.declared.fault.WatchFault.{WatchFault}
 use Rattle.watch_machine.specs.declared.lanes.Out.{Out}
 use Rattle.watch_machine.specs.declared.track.Try.{Try}
-use Rattle.watch_machine.specs.History.{IsRun, Turned}
+use Rattle.watch_machine.specs.History.{IsWatchRun, Turned, after_all}
 use Rattle.watch_machine.specs.Lines.{is_first}
 use Rattle.watch_machine.specs.Sending.{is_partial}
 use Rattle.watch_machine.specs.Settling.{timed}
-use Rattle.watch_machine.specs.State.{State, attempt_at, opened, second, track_at}
+use Rattle.watch_machine.specs.State.{WatchState, attempt_at, opened, second, track_at}
 use Rattle.watch_machine.specs.Wanted.{believed, is_alive, is_wanted, least}
-use Rattle.watch_laws.specs.Absence.{is_clock, is_taken}
+use Rattle.watch_laws.specs.Absence.{is_clock, is_event_taken}
 use Rattle.watch_laws.specs.Outage.{how_many, one_if}
 use Rattle.watch_laws.specs.Recovery.{MayGo}
-use Rattle.watch_laws.specs.Turns.{after_all}
 
 -- a partial outage, in milliseconds of the watch's clock: which entries are hung, so that each of their requests is silent until its
 -- patience is over; how long the request of an entry takes that goes out at a moment; within what those of the others are answered; the
@@ -38,8 +37,8 @@ pub record Partial : Type 0 where
   pub late : ℕ
 
 -- by when a request that is out is settled
-abbrev pub settled_by : Partial → Out → ℕ
-settled_by o q = q.since + o.takes q.entry q.since
+abbrev pub partial_settled_by : Partial → Out → ℕ
+partial_settled_by o q = q.since + o.takes q.entry q.since
 
 -- how long a request may be silent
 abbrev pub may_take : ℕ → Patience → ℕ
@@ -51,22 +50,22 @@ abbrev pub longest : Partial → Request → ℕ
 longest o r = if o.hung r.entry then may_take o.slow r.patience else o.quick
 
 -- the broker: each request that goes out is settled in that time
-abbrev pub AreSettled : Partial → Command → State → Type 0
+abbrev pub AreSettled : Partial → Command → WatchState → Type 0
 AreSettled o (Go requests until) s = All (λ r. o.takes r.entry s.clocks.at ≤ longest o r) requests
 AreSettled o Taken s = Unit {0}
 
 -- the shell: by when the next clock is handed in. It is no later than the moment until which was to be waited, nor than any answer, but
 -- for so much
-abbrev pub next_by : Partial → ℕ → List Out → ℕ
-next_by o until out = least (until + o.late) (map (λ (q : Out). settled_by o q + o.late) out)
+abbrev pub partial_next_by : Partial → ℕ → List Out → ℕ
+partial_next_by o until out = least (until + o.late) (map (λ (q : Out). partial_settled_by o q + o.late) out)
 
-abbrev pub next_after_command : Partial → Command → State → ℕ → ℕ
-next_after_command o (Go requests until) s due = next_by o until s.out
-next_after_command o Taken s due = due
+abbrev pub partial_next_after_command : Partial → Command → WatchState → ℕ → ℕ
+partial_next_after_command o (Go requests until) s due = partial_next_by o until s.out
+partial_next_after_command o Taken s due = due
 
-abbrev pub next_after : Partial → Result Output WatchFault → State → ℕ → ℕ
-next_after o (Ok output) s due = next_after_command o output.command s due
-next_after o (Err fault) s due = due
+abbrev pub partial_next_after : Partial → Result Output WatchFault → WatchState → ℕ → ℕ
+partial_next_after o (Ok output) s due = partial_next_after_command o output.command s due
+partial_next_after o (Err fault) s due = due
 
 -- a first try that no round asked along
 abbrev pub is_own_try : Option Try → Bool
@@ -74,11 +73,11 @@ is_own_try None = false
 is_own_try (Some t) = is_first t && not t.along
 
 -- j has one, and its end is ahead
-abbrev pub is_own_first : State → ℕ → Bool
+abbrev pub is_own_first : WatchState → ℕ → Bool
 is_own_first s j = is_own_try (attempt_at s j) && is_alive (second s) (track_at s j)
 
 -- i is held up after a clock: it has such a try, which may go out and does not. The broker is there, and somebody is alone
-pub record IsHeldUp (o : Partial) (s : State) (i : ℕ) : Type 0 where
+pub record IsHeldUp (o : Partial) (s : WatchState) (i : ℕ) : Type 0 where
   pub may : MayGo s i
   pub own : is_own_first s i ≡ true
   pub there : s.presence.away ≡ false
@@ -86,42 +85,42 @@ pub record IsHeldUp (o : Partial) (s : State) (i : ℕ) : Type 0 where
   pub patience : max 1000 (2 * s.presence.pace) ≤ o.patience
 
 -- a clock comes in time
-abbrev pub IsInTime : ℕ → State → Event → Type 0
-IsInTime due old (Clock wall elapsed) = (timed old wall elapsed).clocks.at ≤ due
-IsInTime due old event = Unit {0}
+abbrev pub ClockIsInTime : ℕ → WatchState → Event → Type 0
+ClockIsInTime due old (Clock wall elapsed) = (timed old wall elapsed).clocks.at ≤ due
+ClockIsInTime due old event = Unit {0}
 
 -- a clock after which i is still held up
-abbrev pub IsHolding : Partial → ℕ → ℕ → State → Event → Output → State → Type 0
+abbrev pub IsHolding : Partial → ℕ → ℕ → WatchState → Event → Output → WatchState → Type 0
 IsHolding o i due old (Clock wall elapsed) output new = ((timed old wall elapsed).clocks.at ≤ due) × (AreSettled o output.command new × IsHeldUp o new i)
 IsHolding o i due old event output new = Unit {0}
 
-abbrev pub IsHeld : Partial → ℕ → ℕ → State → Event → Result Output WatchFault → State → Type 0
+abbrev pub IsHeld : Partial → ℕ → ℕ → WatchState → Event → Result Output WatchFault → WatchState → Type 0
 IsHeld o i due old event (Ok output) new = IsHolding o i due old event output new
 IsHeld o i due old event (Err fault) new = Unit {0}
 
 -- turns that hold i up
-abbrev pub AreHolding : Partial → ℕ → ℕ → State → List Turned → Type 0
+abbrev pub AreHolding : Partial → ℕ → ℕ → WatchState → List Turned → Type 0
 AreHolding o i due s [] = Unit {0}
-AreHolding o i due s (turn ∷ turns) = IsHeld o i due s turn.event turn.result turn.state × AreHolding o i (next_after o turn.result turn.state due) turn.state turns
+AreHolding o i due s (turn ∷ turns) = IsHeld o i due s turn.event turn.result turn.state × AreHolding o i (partial_next_after o turn.result turn.state due) turn.state turns
 
 -- by when the clock after them is handed in
 abbrev pub due_after : Partial → ℕ → List Turned → ℕ
 due_after o due [] = due
-due_after o due (turn ∷ turns) = due_after o (next_after o turn.result turn.state due) turns
+due_after o due (turn ∷ turns) = due_after o (partial_next_after o turn.result turn.state due) turns
 
 -- j stands before i: its first try is its own, and its end is ahead and earlier, or the same where its index is lower
-abbrev pub stands_before : ℕ → State → ℕ → Bool
+abbrev pub stands_before : ℕ → WatchState → ℕ → Bool
 stands_before i s j =
     let end = believed (track_at s j).end in
     let mine = believed (track_at s i).end in
     is_own_first s j && (nat_lt end mine || (end == mine && nat_lt j i))
 
 -- and is not out
-abbrev pub waits_before : ℕ → State → ℕ → Bool
+abbrev pub waits_before : ℕ → WatchState → ℕ → Bool
 waits_before i s j = stands_before i s j && not (track_at s j).out
 
 -- j comes to stand before i between two states: it did not before, or a request of it was answered
-abbrev pub comes_before : ℕ → State → State → ℕ → Bool
+abbrev pub comes_before : ℕ → WatchState → WatchState → ℕ → Bool
 comes_before i old new j = stands_before i new j && (not (stands_before i old j) || ((track_at old j).out && not (track_at new j).out))
 
 -- what those of the first n add up to that pass a test
@@ -134,10 +133,10 @@ abbrev pub keeps_lane : Partial → ℕ → ℕ
 keeps_lane o j = (if o.hung j then o.patience else o.quick) + o.late
 
 -- how long those keep lanes that wait before i, and those that come to
-abbrev pub waiting_before : Partial → ℕ → ℕ → State → ℕ
+abbrev pub waiting_before : Partial → ℕ → ℕ → WatchState → ℕ
 waiting_before o n i s = total n (keeps_lane o) (waits_before i s)
 
-abbrev pub coming_before : Partial → ℕ → ℕ → State → List Turned → ℕ
+abbrev pub coming_before : Partial → ℕ → ℕ → WatchState → List Turned → ℕ
 coming_before o n i old [] = 0
 coming_before o n i old (turn ∷ turns) = total n (keeps_lane o) (comes_before i old turn.state) + coming_before o n i turn.state turns
 
@@ -146,9 +145,9 @@ coming_before o n i old (turn ∷ turns) = total n (keeps_lane o) (comes_before 
 abbrev pub PartialLaw : Type 0
 PartialLaw =
     (o : Partial) (g : Forest) (width : ℕ) (before : List Turned) (first : Turned) (turns : List Turned) (next : Turned) (i : ℕ) →
-    IsRun g width (before ++ first ∷ (turns ++ next ∷ [])) → is_clock first.event ≡ true → is_taken first.result ≡ true → MayGo first.state i →
-    All (λ q. settled_by o q ≤ first.state.clocks.at + o.slow) first.state.out → AreHolding o i (next_after o first.result first.state 0) first.state turns →
-    is_clock next.event ≡ true → is_taken next.result ≡ true → IsInTime (due_after o (next_after o first.result first.state 0) turns) (after_all first.state turns) next.event →
+    IsWatchRun g width (before ++ first ∷ (turns ++ next ∷ [])) → is_clock first.event ≡ true → is_event_taken first.result ≡ true → MayGo first.state i →
+    All (λ q. partial_settled_by o q ≤ first.state.clocks.at + o.slow) first.state.out → AreHolding o i (partial_next_after o first.result first.state 0) first.state turns →
+    is_clock next.event ≡ true → is_event_taken next.result ≡ true → ClockIsInTime (due_after o (partial_next_after o first.result first.state 0) turns) (after_all first.state turns) next.event →
     width * next.state.clocks.at
     ≤ width * (first.state.clocks.at + o.slow + o.late) + (waiting_before o (length g.entries) i first.state + coming_before o (length g.entries) i first.state turns)
 
@@ -162,37 +161,37 @@ IsUnanswered j Begin = Unit {0}
 IsUnanswered j (Known k end renewable) = k ≢ j
 
 -- a turn at which j is hung: it is wanted after it, the broker is there, and the end of i stays as it is
-pub record IsHung (i j : ℕ) (old : State) (turn : Turned) : Type 0 where
-  pub unanswered : is_taken turn.result ≡ true → IsUnanswered j turn.event
+pub record IsHung (i j : ℕ) (old : WatchState) (turn : Turned) : Type 0 where
+  pub unanswered : is_event_taken turn.result ≡ true → IsUnanswered j turn.event
   pub wanted : is_wanted turn.state j ≡ true
   pub there : turn.state.presence.away ≡ false
   pub same : (track_at turn.state i).end ≡ (track_at old i).end
 
-abbrev pub AreHung : ℕ → ℕ → State → List Turned → Type 0
+abbrev pub AreHung : ℕ → ℕ → WatchState → List Turned → Type 0
 AreHung i j old [] = Unit {0}
 AreHung i j old (turn ∷ turns) = IsHung i j old turn × AreHung i j turn.state turns
 
 -- how often j comes to stand before i
-abbrev pub often_before : ℕ → ℕ → State → List Turned → ℕ
+abbrev pub often_before : ℕ → ℕ → WatchState → List Turned → ℕ
 often_before i j old [] = 0
 often_before i j old (turn ∷ turns) = one_if (comes_before i old turn.state j) + often_before i j turn.state turns
 
 -- an entry that is never answered stands before another one once: at its first try. After that it stands behind it
-abbrev pub OnceLaw : Type 0
-OnceLaw =
-    (g : Forest) (width : ℕ) (before turns : List Turned) (i j : ℕ) → IsRun g width (before ++ turns) → (after_all (opened g width) before).presence.away ≡ false →
+abbrev pub OnceInFrontLaw : Type 0
+OnceInFrontLaw =
+    (g : Forest) (width : ℕ) (before turns : List Turned) (i j : ℕ) → IsWatchRun g width (before ++ turns) → (after_all (opened g width) before).presence.away ≡ false →
     AreHung i j (after_all (opened g width) before) turns →
     one_if (waits_before i (after_all (opened g width) before) j) + often_before i j (after_all (opened g width) before) turns ≤ 1
 
 -- every hung entry is so at each of some turns
-abbrev pub AllHung : Partial → ℕ → ℕ → State → List Turned → Type 0
+abbrev pub AllHung : Partial → ℕ → ℕ → WatchState → List Turned → Type 0
 AllHung o n i s turns = (j : ℕ) → j < n → o.hung j ≡ true → AreHung i j s turns
 
 -- how many that are answered wait before i, and how often one comes to
-abbrev pub answered_before : Partial → ℕ → ℕ → State → ℕ
+abbrev pub answered_before : Partial → ℕ → ℕ → WatchState → ℕ
 answered_before o n i s = how_many n (λ j. not (o.hung j) && waits_before i s j)
 
-abbrev pub answered_coming : Partial → ℕ → ℕ → State → List Turned → ℕ
+abbrev pub answered_coming : Partial → ℕ → ℕ → WatchState → List Turned → ℕ
 answered_coming o n i old [] = 0
 answered_coming o n i old (turn ∷ turns) = how_many n (λ j. not (o.hung j) && comes_before i old turn.state j) + answered_coming o n i turn.state turns
 
@@ -201,10 +200,10 @@ answered_coming o n i old (turn ∷ turns) = how_many n (λ j. not (o.hung j) &&
 abbrev pub HungLaw : Type 0
 HungLaw =
     (o : Partial) (g : Forest) (width : ℕ) (before : List Turned) (first : Turned) (turns : List Turned) (next : Turned) (i : ℕ) →
-    IsRun g width (before ++ first ∷ (turns ++ next ∷ [])) → is_clock first.event ≡ true → is_taken first.result ≡ true → IsHeldUp o first.state i →
-    All (λ q. settled_by o q ≤ first.state.clocks.at + o.slow) first.state.out → AreHolding o i (next_after o first.result first.state 0) first.state turns →
+    IsWatchRun g width (before ++ first ∷ (turns ++ next ∷ [])) → is_clock first.event ≡ true → is_event_taken first.result ≡ true → IsHeldUp o first.state i →
+    All (λ q. partial_settled_by o q ≤ first.state.clocks.at + o.slow) first.state.out → AreHolding o i (partial_next_after o first.result first.state 0) first.state turns →
     AllHung o (length g.entries) i first.state turns →
-    is_clock next.event ≡ true → is_taken next.result ≡ true → IsInTime (due_after o (next_after o first.result first.state 0) turns) (after_all first.state turns) next.event →
+    is_clock next.event ≡ true → is_event_taken next.result ≡ true → ClockIsInTime (due_after o (partial_next_after o first.result first.state 0) turns) (after_all first.state turns) next.event →
     width * next.state.clocks.at
     ≤ width * (first.state.clocks.at + o.slow + o.late) + (o.patience + o.late) * how_many (length g.entries) o.hung
     + (o.quick + o.late) * (answered_before o (length g.entries) i first.state + answered_coming o (length g.entries) i first.state turns)

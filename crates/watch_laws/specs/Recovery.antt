@@ -7,19 +7,19 @@ use Rattle.watch_machine.specs.declared.event.Event.{Event}
 use Rattle.watch_machine.specs.declared.event.Event.TheVariants.{Clock, Looked, Renewed, Need, Begin, Known}
 use Rattle.watch_machine.specs.declared.fault.WatchFault.{WatchFault}
 use Rattle.watch_machine.specs.declared.track.Try.{Try}
-use Rattle.watch_machine.specs.History.{IsRun, Turned}
+use Rattle.watch_machine.specs.History.{IsWatchRun, Turned}
 use Rattle.watch_machine.specs.Lines.{ready}
 use Rattle.watch_machine.specs.Settling.{timed}
-use Rattle.watch_machine.specs.State.{State, attempt_at, track_at}
-use Rattle.watch_laws.specs.Absence.{is_clock, is_taken}
-use Rattle.watch_laws.specs.Outage.{Outage, coming, next_after, waiting}
+use Rattle.watch_machine.specs.State.{WatchState, attempt_at, track_at}
+use Rattle.watch_laws.specs.Absence.{is_clock, is_event_taken}
+use Rattle.watch_laws.specs.Outage.{Outage, coming, outage_next_after, waiting}
 
 -- no outage: every request is settled so soon, and every clock comes in time
 abbrev pub calm : ℕ → ℕ → Outage
 calm quick late = record { from = 0; until = 0; quick = quick; slow = quick; late = late; rounds = 0 }
 
 -- i waits, and may go out by now
-pub record MayGo (s : State) (i : ℕ) : Type 0 where
+pub record MayGo (s : WatchState) (i : ℕ) : Type 0 where
   pub within : i < length s.forest.entries
   pub free : (track_at s i).out ≡ false
   pub attempt : Try
@@ -27,7 +27,7 @@ pub record MayGo (s : State) (i : ℕ) : Type 0 where
   pub due : ready s.presence (track_at s i) attempt ≤ s.clocks.at
 
 -- a clock comes in time, and after each clock i may go out and has not
-abbrev pub IsPassing : ℕ → ℕ → State → Event → State → Type 0
+abbrev pub IsPassing : ℕ → ℕ → WatchState → Event → WatchState → Type 0
 IsPassing i due old (Clock wall elapsed) new = ((timed old wall elapsed).clocks.at ≤ due) × MayGo new i
 IsPassing i due old (Looked j reply terms) new = Unit {0}
 IsPassing i due old (Renewed j reply) new = Unit {0}
@@ -35,14 +35,14 @@ IsPassing i due old (Need j until) new = Unit {0}
 IsPassing i due old Begin new = Unit {0}
 IsPassing i due old (Known j end renewable) new = Unit {0}
 
-abbrev pub IsPassed : ℕ → ℕ → State → Event → Result Output WatchFault → State → Type 0
+abbrev pub IsPassed : ℕ → ℕ → WatchState → Event → Result Output WatchFault → WatchState → Type 0
 IsPassed i due old event (Ok output) new = IsPassing i due old event new
 IsPassed i due old event (Err fault) new = Unit {0}
 
 -- turns that pass over i while the broker is there
-abbrev pub ArePassing : Outage → ℕ → ℕ → State → List Turned → Type 0
+abbrev pub ArePassing : Outage → ℕ → ℕ → WatchState → List Turned → Type 0
 ArePassing o i due s [] = Unit {0}
-ArePassing o i due s (turn ∷ turns) = IsPassed i due s turn.event turn.result turn.state × ArePassing o i (next_after o turn.result turn.state due) turn.state turns
+ArePassing o i due s (turn ∷ turns) = IsPassed i due s turn.event turn.result turn.state × ArePassing o i (outage_next_after o turn.result turn.state due) turn.state turns
 
 abbrev pub AllBy : ℕ → List Turned → Type 0
 AllBy by [] = Unit {0}
@@ -53,7 +53,7 @@ AllBy by (turn ∷ turns) = (turn.state.clocks.at ≤ by) × AllBy by turns
 abbrev pub RecoveryLaw : Type 0
 RecoveryLaw =
     (quick late rounds : ℕ) (g : Forest) (width : ℕ) (before : List Turned) (last : Turned) (turns : List Turned) (i : ℕ) → 0 < width →
-    IsRun g width (before ++ last ∷ turns) → is_clock last.event ≡ true → is_taken last.result ≡ true → MayGo last.state i →
-    ArePassing (calm quick late) i (next_after (calm quick late) last.result last.state 0) last.state turns →
+    IsWatchRun g width (before ++ last ∷ turns) → is_clock last.event ≡ true → is_event_taken last.result ≡ true → MayGo last.state i →
+    ArePassing (calm quick late) i (outage_next_after (calm quick late) last.result last.state 0) last.state turns →
     waiting (calm quick late) (length g.entries) last.state + coming (calm quick late) (length g.entries) last.state turns ≤ width * rounds →
     AllBy (last.state.clocks.at + (quick + late) * rounds) turns

@@ -10,25 +10,25 @@ use Rattle.watch_machine.specs.declared.event.Event.TheVariants.{Clock, Looked, 
 use Rattle.watch_machine.specs.declared.event.Operation.TheVariants.{Look, Renew}
 use Rattle.watch_machine.specs.declared.fault.WatchFault.{WatchFault}
 use Rattle.watch_machine.specs.declared.track.Try.{Try}
-use Rattle.watch_machine.specs.History.{IsRun, Turned}
+use Rattle.watch_machine.specs.History.{IsWatchRun, Turned}
 use Rattle.watch_machine.specs.Lines.{is_first}
 use Rattle.watch_machine.specs.Refusal.{request_out}
 use Rattle.watch_machine.specs.Settling.{is_busy, timed}
-use Rattle.watch_machine.specs.State.{State, attempt_at, second, track_at}
+use Rattle.watch_machine.specs.State.{WatchState, attempt_at, second, track_at}
 use Rattle.watch_machine.specs.Wanted.{is_alive, is_wanted}
-use Rattle.watch_laws.specs.Absence.{is_clock, is_taken}
+use Rattle.watch_laws.specs.Absence.{is_clock, is_event_taken}
 use Rattle.watch_laws.specs.Load.{requests_of}
-use Rattle.watch_laws.specs.Outage.{IsReply, Outage, coming, how_many, is_served, is_tried, next_after}
+use Rattle.watch_laws.specs.Outage.{IsReplyInOutage, Outage, coming, how_many, is_request_served, is_tried, outage_next_after}
 use Rattle.watch_laws.specs.Partial.{stands_before}
 use Rattle.watch_laws.specs.Recovery.{MayGo, calm}
 use Rattle.watch_laws.specs.Time.{is_come}
 
 -- i is being asked, or may go out by now
-abbrev pub IsAtWork : Outage → State → ℕ → Type 0
-IsAtWork o s i = (is_served o s i ≡ true) ⊎ MayGo s i
+abbrev pub IsAtWork : Outage → WatchState → ℕ → Type 0
+IsAtWork o s i = (is_request_served o s i ≡ true) ⊎ MayGo s i
 
 -- a clock comes in time, and after each clock i is at work
-abbrev pub IsWorking : Outage → ℕ → ℕ → State → Event → State → Type 0
+abbrev pub IsWorking : Outage → ℕ → ℕ → WatchState → Event → WatchState → Type 0
 IsWorking o i due old (Clock wall elapsed) new = ((timed old wall elapsed).clocks.at ≤ due) × IsAtWork o new i
 IsWorking o i due old (Looked j reply terms) new = Unit {0}
 IsWorking o i due old (Renewed j reply) new = Unit {0}
@@ -36,14 +36,14 @@ IsWorking o i due old (Need j until) new = Unit {0}
 IsWorking o i due old Begin new = Unit {0}
 IsWorking o i due old (Known j end renewable) new = Unit {0}
 
-abbrev pub IsWorked : Outage → ℕ → ℕ → State → Event → Result Output WatchFault → State → Type 0
+abbrev pub IsWorked : Outage → ℕ → ℕ → WatchState → Event → Result Output WatchFault → WatchState → Type 0
 IsWorked o i due old event (Ok output) new = IsWorking o i due old event new
 IsWorked o i due old event (Err fault) new = Unit {0}
 
 -- turns in which i is at work, while the broker is there
-abbrev pub AreWorked : Outage → ℕ → ℕ → State → List Turned → Type 0
+abbrev pub AreWorked : Outage → ℕ → ℕ → WatchState → List Turned → Type 0
 AreWorked o i due s [] = Unit {0}
-AreWorked o i due s (turn ∷ turns) = IsWorked o i due s turn.event turn.result turn.state × AreWorked o i (next_after o turn.result turn.state due) turn.state turns
+AreWorked o i due s (turn ∷ turns) = IsWorked o i due s turn.event turn.result turn.state × AreWorked o i (outage_next_after o turn.result turn.state due) turn.state turns
 
 -- an answer to i
 abbrev pub is_answer : ℕ → Event → Bool
@@ -56,7 +56,7 @@ is_answer i (Known j end renewable) = false
 
 -- so much later where a turn takes one
 abbrev pub later_by : ℕ → ℕ → Turned → ℕ
-later_by i span turn = if is_taken turn.result && is_answer i turn.event then span else 0
+later_by i span turn = if is_event_taken turn.result && is_answer i turn.event then span else 0
 
 -- no clock comes after that moment, which each answer to i sets so much later
 abbrev pub AllSoon : ℕ → ℕ → ℕ → List Turned → Type 0
@@ -68,8 +68,8 @@ AllSoon i span by (turn ∷ turns) = (turn.state.clocks.at ≤ by + later_by i s
 abbrev pub StartLaw : Type 0
 StartLaw =
     (quick late rounds : ℕ) (g : Forest) (width : ℕ) (before : List Turned) (last : Turned) (turns : List Turned) (i : ℕ) → 0 < width →
-    IsRun g width (before ++ last ∷ turns) → is_clock last.event ≡ true → is_taken last.result ≡ true → i < length g.entries → IsAtWork (calm quick late) last.state i →
-    AreWorked (calm quick late) i (next_after (calm quick late) last.result last.state 0) last.state turns →
+    IsWatchRun g width (before ++ last ∷ turns) → is_clock last.event ≡ true → is_event_taken last.result ≡ true → i < length g.entries → IsAtWork (calm quick late) last.state i →
+    AreWorked (calm quick late) i (outage_next_after (calm quick late) last.result last.state 0) last.state turns →
     how_many (length g.entries) (is_tried last.state) + coming (calm quick late) (length g.entries) last.state turns ≤ width * rounds →
     AllSoon i (quick + late) (last.state.clocks.at + (quick + late) * rounds) turns
 
@@ -79,48 +79,48 @@ is_first_try None = false
 is_first_try (Some t) = is_first t
 
 -- i is on its first try, which may go out by now or is out; the broker is there, and nothing is held back
-pub record IsUnderWay (o : Outage) (s : State) (i : ℕ) : Type 0 where
+pub record FirstTryIsUnderWay (o : Outage) (s : WatchState) (i : ℕ) : Type 0 where
   pub attempt : Try
   pub attempt_is : attempt_at s i ≡ Some attempt
   pub first : is_first attempt ≡ true
   pub settled : attempt.failed ≡ false
   pub soon : attempt.at ≤ s.clocks.at
-  pub lane : (track_at s i).out ≡ true → is_served o s i ≡ true
+  pub lane : (track_at s i).out ≡ true → is_request_served o s i ≡ true
   pub there : s.presence.away ≡ false
   pub free : s.presence.free ≤ s.clocks.at
   pub unbusy : list_any (λ a. is_busy a.reply) s.answers ≡ false
 
 -- the broker is there: a clock comes in time, and no reply is lost or says that the broker is busy
-abbrev pub IsThere : Outage → ℕ → State → Event → Type 0
-IsThere o due s (Clock wall elapsed) = (timed s wall elapsed).clocks.at ≤ due
-IsThere o due s (Looked j reply terms) = IfSome (request_out s.out j Look) (IsReply o reply)
-IsThere o due s (Renewed j reply) = IfSome (request_out s.out j Renew) (IsReply o reply)
-IsThere o due s event = Unit {0}
+abbrev pub BrokerIsThere : Outage → ℕ → WatchState → Event → Type 0
+BrokerIsThere o due s (Clock wall elapsed) = (timed s wall elapsed).clocks.at ≤ due
+BrokerIsThere o due s (Looked j reply terms) = IfSome (request_out s.out j Look) (IsReplyInOutage o reply)
+BrokerIsThere o due s (Renewed j reply) = IfSome (request_out s.out j Renew) (IsReplyInOutage o reply)
+BrokerIsThere o due s event = Unit {0}
 
-abbrev pub IsThereAt : Outage → ℕ → State → Event → Result Output WatchFault → Type 0
-IsThereAt o due s event (Ok output) = IsThere o due s event
+abbrev pub IsThereAt : Outage → ℕ → WatchState → Event → Result Output WatchFault → Type 0
+IsThereAt o due s event (Ok output) = BrokerIsThere o due s event
 IsThereAt o due s event (Err fault) = Unit {0}
 
 -- turns in which the broker is there, after each of which i is wanted and on its first try
-abbrev pub AreUnderWay : Outage → ℕ → ℕ → State → List Turned → Type 0
+abbrev pub AreUnderWay : Outage → ℕ → ℕ → WatchState → List Turned → Type 0
 AreUnderWay o i due s [] = Unit {0}
 AreUnderWay o i due s (turn ∷ turns) =
     IsThereAt o due s turn.event turn.result
-    × ((is_wanted turn.state i ≡ true) × ((is_first_try (attempt_at turn.state i) ≡ true) × AreUnderWay o i (next_after o turn.result turn.state due) turn.state turns))
+    × ((is_wanted turn.state i ≡ true) × ((is_first_try (attempt_at turn.state i) ≡ true) × AreUnderWay o i (outage_next_after o turn.result turn.state due) turn.state turns))
 
 -- so of an entry that is wanted: from a beginning on, while the broker is there, as long as it is on its first try, as one that is looked up
 -- and then renewed, no clock comes later than those rounds, and one round later once it is looked up
 abbrev pub SoonLaw : Type 0
 SoonLaw =
     (quick late rounds : ℕ) (g : Forest) (width : ℕ) (before : List Turned) (last : Turned) (turns : List Turned) (i : ℕ) → 0 < width →
-    IsRun g width (before ++ last ∷ turns) → is_clock last.event ≡ true → is_taken last.result ≡ true → IsUnderWay (calm quick late) last.state i →
-    AreUnderWay (calm quick late) i (next_after (calm quick late) last.result last.state 0) last.state turns →
+    IsWatchRun g width (before ++ last ∷ turns) → is_clock last.event ≡ true → is_event_taken last.result ≡ true → FirstTryIsUnderWay (calm quick late) last.state i →
+    AreUnderWay (calm quick late) i (outage_next_after (calm quick late) last.result last.state 0) last.state turns →
     how_many (length g.entries) (is_tried last.state) + coming (calm quick late) (length g.entries) last.state turns ≤ width * rounds →
     AllSoon i (quick + late) (last.state.clocks.at + (quick + late) * rounds) turns
 
 -- an entry of known end that is to be renewed now: it is wanted, its end is ahead and its own time has come, no round asked it along, it has
 -- not failed since, and it may go out by now
-pub record IsToRenew (s : State) (i : ℕ) : Type 0 where
+pub record IsToRenew (s : WatchState) (i : ℕ) : Type 0 where
   pub may : MayGo s i
   pub wanted : is_wanted s i ≡ true
   pub alive : is_alive (second s) (track_at s i) ≡ true
@@ -139,4 +139,4 @@ AllKnownFirst (turn ∷ turns) = (turn.state.presence.away ≡ false → (i : �
 -- while the broker is there, entries of known end whose time has come are renewed first, by their ends: as long as one of them waits, nothing
 -- else goes out, no lookup of an entry whose end is unknown or that only owes it, and nothing that a round asks along
 abbrev pub KnownFirstLaw : Type 0
-KnownFirstLaw = (g : Forest) (width : ℕ) (turns : List Turned) → IsRun g width turns → AllKnownFirst turns
+KnownFirstLaw = (g : Forest) (width : ℕ) (turns : List Turned) → IsWatchRun g width turns → AllKnownFirst turns

@@ -11,34 +11,33 @@ use Rattle.watch_machine.specs.declared.event.Reply.{Reply}
 use Rattle.watch_machine.specs.declared.event.Reply.TheVariants.{Told, Refused, Busy, Lost}
 use Rattle.watch_machine.specs.declared.fault.WatchFault.{WatchFault}
 use Rattle.watch_machine.specs.Clocks.{sec}
-use Rattle.watch_machine.specs.History.{IsRun, Turned}
+use Rattle.watch_machine.specs.History.{IsWatchRun, Turned, after_all}
 use Rattle.watch_machine.specs.Margins.{has_come, is_in_plan, own_margin}
 use Rattle.watch_machine.specs.Outlook.{time_of}
 use Rattle.watch_machine.specs.Refusal.{is_same, request_out}
-use Rattle.watch_machine.specs.State.{State, entry_of, opened, second, track_at}
+use Rattle.watch_machine.specs.State.{WatchState, entry_of, opened, second, track_at}
 use Rattle.watch_machine.specs.Wanted.{is_alive, is_wanted}
-use Rattle.watch_laws.specs.Absence.{is_taken}
+use Rattle.watch_laws.specs.Absence.{is_event_taken}
 use Rattle.watch_laws.specs.Load.{requests_of}
-use Rattle.watch_laws.specs.Turns.{after_all}
 
 -- the time of i has come
-abbrev pub is_come : State → ℕ → Bool
+abbrev pub is_come : WatchState → ℕ → Bool
 is_come s i = has_come s.forest.margin (entry_of s i) (track_at s i) (second s)
 
 -- a round that opened names i
-abbrev pub is_named : Option (List ℕ) → ℕ → Bool
-is_named None i = false
-is_named (Some asked) i = list_any (λ j. j == i) asked
+abbrev pub is_named_in_round : Option (List ℕ) → ℕ → Bool
+is_named_in_round None i = false
+is_named_in_round (Some asked) i = list_any (λ j. j == i) asked
 
 -- an answer of i leaves a reason to renew it: as told its time has come, or it failed. s is the state after it
-abbrev pub reason_answered : State → ℕ → Reply → Bool
+abbrev pub reason_answered : WatchState → ℕ → Reply → Bool
 reason_answered s i (Told seconds renewable date) = is_come s i
 reason_answered s i (Refused status date) = true
 reason_answered s i Busy = true
 reason_answered s i Lost = true
 
-abbrev pub reason_taken : ℕ → Bool → Event → Output → State → Bool
-reason_taken i before (Clock wall elapsed) output s = before || (is_come s i || is_named output.notes.round i)
+abbrev pub reason_taken : ℕ → Bool → Event → Output → WatchState → Bool
+reason_taken i before (Clock wall elapsed) output s = before || (is_come s i || is_named_in_round output.notes.round i)
 reason_taken i before (Looked j reply terms) output s = if j == i then reason_answered s i reply else before
 reason_taken i before (Renewed j reply) output s = if j == i then reason_answered s i reply else before
 reason_taken i before (Need j until) output s = before
@@ -47,26 +46,26 @@ reason_taken i before (Known j end renewable) output s = before
 
 -- there is a reason to renew i after a turn, where there was one before or not: since the answer that told it last, a clock found
 -- that its time had come, a round named it, or it failed
-abbrev pub reason : ℕ → Bool → Event → Result Output WatchFault → State → Bool
+abbrev pub reason : ℕ → Bool → Event → Result Output WatchFault → WatchState → Bool
 reason i before event (Ok output) s = reason_taken i before event output s
 reason i before event (Err fault) s = before
 
 -- a renewal of i goes out
-abbrev pub renews : ℕ → List Request → Bool
-renews i requests = list_any (λ r. r.entry == i && is_same r.operation Renew) requests
+abbrev pub renewal_goes_out : ℕ → List Request → Bool
+renewal_goes_out i requests = list_any (λ r. r.entry == i && is_same r.operation Renew) requests
 
 -- each renewal of i has a reason
 abbrev pub AllReasoned : ℕ → Bool → List Turned → Type 0
 AllReasoned i before [] = Unit {0}
 AllReasoned i before (turn ∷ turns) =
-    (renews i (requests_of turn.result) ≡ true → reason i before turn.event turn.result turn.state ≡ true) × AllReasoned i (reason i before turn.event turn.result turn.state) turns
+    (renewal_goes_out i (requests_of turn.result) ≡ true → reason i before turn.event turn.result turn.state ≡ true) × AllReasoned i (reason i before turn.event turn.result turn.state) turns
 
 -- no entry is renewed before its time, but in a round, or after a failure
 abbrev pub EarlyLaw : Type 0
-EarlyLaw = (g : Forest) (width : ℕ) (turns : List Turned) → IsRun g width turns → (i : ℕ) → AllReasoned i false turns
+EarlyLaw = (g : Forest) (width : ℕ) (turns : List Turned) → IsWatchRun g width turns → (i : ℕ) → AllReasoned i false turns
 
 -- an entry that opens a round: it is wanted, in the plan, its time has come, and its end is ahead
-pub record IsOpener (s : State) (i : ℕ) : Type 0 where
+pub record IsOpener (s : WatchState) (i : ℕ) : Type 0 where
   pub within : i < length s.forest.entries
   pub wanted : is_wanted s i ≡ true
   pub in_plan : is_in_plan s.forest.margin (entry_of s i) (track_at s i) ≡ true
@@ -83,13 +82,13 @@ RoundsOpened (turn ∷ turns) = ((asked : List ℕ) → round_of turn.result ≡
 
 -- no round opens before the least time of an entry that is wanted and in the plan
 abbrev pub RoundLaw : Type 0
-RoundLaw = (g : Forest) (width : ℕ) (turns : List Turned) → IsRun g width turns → RoundsOpened turns
+RoundLaw = (g : Forest) (width : ℕ) (turns : List Turned) → IsWatchRun g width turns → RoundsOpened turns
 
 -- however long a renewal waited for its turn, a grant of the entry's own margin and two seconds or more leaves its time two seconds or
 -- more after the second in which the request went out
 abbrev pub AheadLaw : Type 0
 AheadLaw =
-    (g : Forest) (width : ℕ) (before : List Turned) (grant : Turned) (i seconds : ℕ) (renewable : Bool) (date : Option ℕ) → IsRun g width (before ++ grant ∷ []) → i < length g.entries →
-    grant.event ≡ Renewed i (Told seconds renewable date) → is_taken grant.result ≡ true →
+    (g : Forest) (width : ℕ) (before : List Turned) (grant : Turned) (i seconds : ℕ) (renewable : Bool) (date : Option ℕ) → IsWatchRun g width (before ++ grant ∷ []) → i < length g.entries →
+    grant.event ≡ Renewed i (Told seconds renewable date) → is_event_taken grant.result ≡ true →
     own_margin grant.state.forest.margin (entry_of grant.state i) (track_at grant.state i) + 2 ≤ seconds →
     IfSome (request_out (after_all (opened g width) before).out i Renew) (λ q. sec q.since + 2 ≤ time_of grant.state i)

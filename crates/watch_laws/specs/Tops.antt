@@ -8,10 +8,9 @@ use Rattle.watch_machine.specs.declared.event.Event.TheVariants.{Clock, Looked, 
 use Rattle.watch_machine.specs.declared.event.Reply.{Reply}
 use Rattle.watch_machine.specs.declared.event.Reply.TheVariants.{Told, Refused, Busy, Lost}
 use Rattle.watch_machine.specs.declared.fault.WatchFault.{WatchFault}
-use Rattle.watch_machine.specs.History.{IsRun, Turned}
-use Rattle.watch_machine.specs.State.{State, opened, track_at}
+use Rattle.watch_machine.specs.History.{IsWatchRun, Turned, after_all}
+use Rattle.watch_machine.specs.State.{WatchState, opened, track_at}
 use Rattle.watch_machine.specs.Wanted.{believed}
-use Rattle.watch_laws.specs.Turns.{after_all}
 
 -- a grant: the seconds that the broker told, and the second from which they count
 pub record Granted : Type 0 where
@@ -23,13 +22,13 @@ abbrev pub end : Granted → ℕ
 end g = g.from + g.seconds
 
 -- the grant of an answer to a renewal of i, where it is one: it led to the end that is believed in the state s after it
-abbrev pub grant_told : ℕ → State → Reply → List Granted
+abbrev pub grant_told : ℕ → WatchState → Reply → List Granted
 grant_told i s (Told seconds renewable date) = record { seconds = seconds; from = believed (track_at s i).end - seconds } ∷ []
 grant_told i s (Refused status date) = []
 grant_told i s Busy = []
 grant_told i s Lost = []
 
-abbrev pub grant_by : ℕ → State → Event → List Granted
+abbrev pub grant_by : ℕ → WatchState → Event → List Granted
 grant_by i s (Clock wall elapsed) = []
 grant_by i s (Looked j reply terms) = []
 grant_by i s (Renewed j reply) = if j == i then grant_told i s reply else []
@@ -37,7 +36,7 @@ grant_by i s (Need j until) = []
 grant_by i s Begin = []
 grant_by i s (Known j end renewable) = []
 
-abbrev pub grant_of : ℕ → State → Event → Result Output WatchFault → List Granted
+abbrev pub grant_of : ℕ → WatchState → Event → Result Output WatchFault → List Granted
 grant_of i s event (Ok output) = grant_by i s event
 grant_of i s event (Err fault) = []
 
@@ -59,7 +58,7 @@ EndNoFurther gs = (earlier : List Granted) × ((first : Granted) × ((second : G
 -- after every history, the last grant of an entry that is called topped led no further than the one before it
 abbrev pub ToppedLaw : Type 0
 ToppedLaw =
-    (g : Forest) (width : ℕ) (turns : List Turned) → IsRun g width turns → (i : ℕ) → i < length g.entries → (track_at (after_all (opened g width) turns) i).top ≡ true →
+    (g : Forest) (width : ℕ) (turns : List Turned) → IsWatchRun g width turns → (i : ℕ) → i < length g.entries → (track_at (after_all (opened g width) turns) i).top ≡ true →
     EndNoFurther (grants i turns)
 
 -- the broker's rule: a grant is the lesser of some seconds and of what is left to a ceiling when it reads the request, which is in the
@@ -77,5 +76,5 @@ EndAtCeiling ceiling gs = (earlier : List Granted) × ((last : Granted) × ((gs 
 -- where all grants of an entry are by that rule, and it is called topped, its last grant led to the ceiling, or to a second before it
 abbrev pub CeilingLaw : Type 0
 CeilingLaw =
-    (g : Forest) (width : ℕ) (turns : List Turned) → IsRun g width turns → (i most ceiling : ℕ) → i < length g.entries → All (IsRuled most ceiling) (grants i turns) →
+    (g : Forest) (width : ℕ) (turns : List Turned) → IsWatchRun g width turns → (i most ceiling : ℕ) → i < length g.entries → All (IsRuled most ceiling) (grants i turns) →
     (track_at (after_all (opened g width) turns) i).top ≡ true → EndAtCeiling ceiling (grants i turns)

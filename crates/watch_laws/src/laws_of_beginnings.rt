@@ -1,4 +1,4 @@
-ghost use Rattle.watch_laws.specs.Beginnings.{FewLaw, LookupLaw};
+ghost use Rattle.watch_laws.specs.Beginnings.{FewLaw, OneLookupLaw};
 
 /// The law of beginnings: between two of them lies a jump of the wall, a `Begin`, or ten minutes. So the dates of many nodes that
 /// differ cost one lookup of each entry in ten minutes.
@@ -9,5 +9,5 @@ pub fn few_law()
 /// The law of lookups: from a beginning on, while all goes well with it, an entry that is needed, as each is that is wanted, is looked
 /// up once; a lookup that was out as the beginning came counts. Of an entry that is not needed and owed no lookup before, none goes out.
 pub fn lookup_law()
-    ensures { LookupLaw }
+    ensures { OneLookupLaw }
 {}

@@ -1,4 +1,4 @@
-ghost use Rattle.watch_laws.specs.Partial.{HungLaw, OnceLaw, PartialLaw};
+ghost use Rattle.watch_laws.specs.Partial.{HungLaw, OnceInFrontLaw, PartialLaw};
 
 /// The law of partial outages: while the broker is there and a request of somebody had no answer while others were answered, an entry
 /// whose own time has come goes out no later than the lanes have served what was out by then, for the time-out at most, and those that
@@ -10,7 +10,7 @@ pub fn partial_law()
 /// The law of one stand: while the broker is there, an entry that is wanted and never answered stands before another one once, at its
 /// first try. After that it is tried again only where nobody's first try may go out.
 pub fn once_law()
-    ensures { OnceLaw }
+    ensures { OnceInFrontLaw }
 {}
 
 /// The law of hung entries: however long the requests of some entries have no answer, while the broker is there an entry whose own

@@ -2,7 +2,7 @@
 //! name its steps. Each law is a statement in `specs/` and the contract of a public function without a body, so the check proves
 //! it.
 //!
-//! `History.IsRun` of `watch_machine` says what a list of events gives. Begin with `specs/Turns`.
+//! `History.IsWatchRun` of `watch_machine` says what a list of events gives. Begin with `specs/Time`.
 #![tactic(auto)]
 
 mod laws_of_absence;

@@ -15,7 +15,7 @@ use Rattle.watch_machine.specs.declared.track.Track.{Track}
 use Rattle.watch_machine.specs.Clocks.{sec}
 use Rattle.watch_machine.specs.Lines.{is_due}
 use Rattle.watch_machine.specs.Sending as Sending
-use Rattle.watch_machine.specs.Sending.{IsGoing, IsLine, due, is_before, place, request}
+use Rattle.watch_machine.specs.Sending.{IsGoing, IsSendingOrder, due, is_before, place, request}
 use Rattle.watch_machine.specs.State.{track_in}
 use Rattle.watch_machine.specs.code.Places.{place_is}
 
@@ -65,7 +65,7 @@ before_is x y = by_tests (nat_lt x.part y.part) (x.part == y.part) (nat_lt x.ran
 -- sorted, they stand in line
 pub line_is :
     (p : Presence) (at : ℕ) (xs : List Track) (ps qs : List Place) → map place_is ps ≡ due p at xs → IsPermutation ps qs →
-    IsSortedBy (λ a b. is_before (place_is a) (place_is b)) qs → IsLine p at xs (map place_is qs)
+    IsSortedBy (λ a b. is_before (place_is a) (place_is b)) qs → IsSendingOrder p at xs (map place_is qs)
 line_is p at xs ps qs are all sorted = record {
   all = subst (λ ys. IsPermutation ys (map place_is qs)) are (IsPermutation-map place_is ps qs all);
   in_order = λ k d from within.

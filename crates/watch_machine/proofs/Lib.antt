@@ -16,3 +16,8 @@ pub mod Taking
 pub mod Owing
 pub mod Opening
 pub mod Rewritten
+pub mod Leasts
+pub mod Carries
+pub mod Quiet
+pub mod Lulls
+pub mod QuietClock

@@ -16,9 +16,9 @@ use Rattle.watch_machine.specs.declared.clocks.Clocks.{Clocks}
 use Rattle.watch_machine.specs.declared.track.Track.{Track}
 use Rattle.watch_machine.specs.Clocks.{sec}
 use Rattle.watch_machine.specs.Margins.{is_in_plan, lead, own_margin}
-use Rattle.watch_machine.specs.Round.{is_hoped, opens, opens_some, plan_view, planned, planned_by, step_in_plan}
+use Rattle.watch_machine.specs.Round.{entry_planned, is_hoped, opens, opens_some, plan_view, planned_by, step_in_plan}
 use Rattle.watch_machine.specs.State.{no_track}
-use Rattle.watch_machine.specs.Wanted.{HasNeeds, need_of, seen, view}
+use Rattle.watch_machine.specs.Wanted.{HasNeeds, need_of, seen_entry, view}
 use Rattle.watch_machine.specs.code.View.{IsView, shape}
 use Rattle.watch_machine.proofs.Cases.{if_both}
 use Rattle.watch_machine.proofs.Shorting.{IsAlike}
@@ -80,44 +80,44 @@ capped_least (Some c) t = omega arith
 
 -- each entry below an index is written for the Asks, the others as they are seen
 abbrev pub halfway : Forest → List Track → Clocks → ℕ → ℕ → Entry
-halfway g xs c n k = if nat_lt k n then planned g xs c k else seen g.entries xs c k
+halfway g xs c n k = if nat_lt k n then entry_planned g xs c k else seen_entry g.entries xs c k
 
-pub halfway_start : (g : Forest) (xs : List Track) (c : Clocks) (k : ℕ) → seen g.entries xs c k ≡ halfway g xs c 0 k
-halfway_start g xs c k = sym (cond-false (nat_lt k 0) (planned g xs c k) (seen g.entries xs c k) (grind (arith, nat_tests)))
+pub halfway_start : (g : Forest) (xs : List Track) (c : Clocks) (k : ℕ) → seen_entry g.entries xs c k ≡ halfway g xs c 0 k
+halfway_start g xs c k = sym (cond-false (nat_lt k 0) (entry_planned g xs c k) (seen_entry g.entries xs c k) (grind (arith, nat_tests)))
 
-pub halfway_end : (g : Forest) (xs : List Track) (c : Clocks) (n k : ℕ) → k < n → halfway g xs c n k ≡ planned g xs c k
-halfway_end g xs c n k below = cond-true (nat_lt k n) (planned g xs c k) (seen g.entries xs c k) (grind (arith, nat_tests))
+pub halfway_end : (g : Forest) (xs : List Track) (c : Clocks) (n k : ℕ) → k < n → halfway g xs c n k ≡ entry_planned g xs c k
+halfway_end g xs c n k below = cond-true (nat_lt k n) (entry_planned g xs c k) (seen_entry g.entries xs c k) (grind (arith, nat_tests))
 
 pub halfway_more :
     (g : Forest) (xs : List Track) (c : Clocks) (es fs : List Entry) (n m : ℕ) (f : Entry → Entry) → n < length es → n < m → fs ≡ set es n (f (entry_at es n)) →
-    f (seen g.entries xs c n) ≡ planned g xs c n → ((k : ℕ) → k < m → entry_at es k ≡ halfway g xs c n k) → (k : ℕ) → k < m → entry_at fs k ≡ halfway g xs c (n + 1) k
+    f (seen_entry g.entries xs c n) ≡ entry_planned g xs c n → ((k : ℕ) → k < m → entry_at es k ≡ halfway g xs c n k) → (k : ℕ) → k < m → entry_at fs k ≡ halfway g xs c (n + 1) k
 halfway_more g xs c es fs n m f there below is writes each k within =
-    let here : entry_at es n ≡ seen g.entries xs c n = each n below ∙ cond-false (nat_lt n n) (planned g xs c n) (seen g.entries xs c n) (grind (arith, nat_tests)) in
+    let here : entry_at es n ≡ seen_entry g.entries xs c n = each n below ∙ cond-false (nat_lt n n) (entry_planned g xs c n) (seen_entry g.entries xs c n) (grind (arith, nat_tests)) in
     ap (λ ys. entry_at ys k) is ∙ elim (cases_eq k n) as (λ _. entry_at (set es n (f (entry_at es n))) k ≡ halfway g xs c (n + 1) k) [
       | inl same ↦
-          ap (entry_at (set es n (f (entry_at es n)))) same ∙ entry_at_set_same es n (f (entry_at es n)) there ∙ ap f here ∙ writes ∙ ap (planned g xs c) (sym same)
+          ap (entry_at (set es n (f (entry_at es n)))) same ∙ entry_at_set_same es n (f (entry_at es n)) there ∙ ap f here ∙ writes ∙ ap (entry_planned g xs c) (sym same)
           ∙ sym (halfway_end g xs c (n + 1) k (omega arith))
       | inr other ↦
           let test : nat_lt k n ≡ nat_lt k (n + 1) = grind (arith, nat_tests) in
-          entry_at_set_other es n k (f (entry_at es n)) other ∙ each k within ∙ ap (λ b. if b then planned g xs c k else seen g.entries xs c k) test
+          entry_at_set_other es n k (f (entry_at es n)) other ∙ each k within ∙ ap (λ b. if b then entry_planned g xs c k else seen_entry g.entries xs c k) test
     ]
 
 pub plan_written :
-    (g : Forest) (xs : List Track) (c : Clocks) (es : List Entry) → length es ≡ length g.entries → ((k : ℕ) → k < length g.entries → entry_at es k ≡ planned g xs c k) → es ≡ plan_view g xs c
+    (g : Forest) (xs : List Track) (c : Clocks) (es : List Entry) → length es ≡ length g.entries → ((k : ℕ) → k < length g.entries → entry_at es k ≡ entry_planned g xs c k) → es ≡ plan_view g xs c
 unfolding entry_at
 plan_written g xs c es count each =
     let n = length g.entries in
-    ext_get_or no_entry es (plan_view g xs c) (count ∙ sym (length-map-range_with_len (planned g xs c) 0 n))
-    (λ i within. each i (omega arith) ∙ sym (get_or-map-range_with_len (planned g xs c) 0 n i i no_entry (omega arith) (omega arith)))
+    ext_get_or no_entry es (plan_view g xs c) (count ∙ sym (length-map-range_with_len (entry_planned g xs c) 0 n))
+    (λ i within. each i (omega arith) ∙ sym (get_or-map-range_with_len (entry_planned g xs c) 0 n i i no_entry (omega arith) (omega arith)))
 
 -- what a view has at an index
-pub seen_at : (es : List Entry) (xs : List Track) (c : Clocks) (k : ℕ) → k < length es → entry_at (view es xs c) k ≡ seen es xs c k
+pub seen_at : (es : List Entry) (xs : List Track) (c : Clocks) (k : ℕ) → k < length es → entry_at (view es xs c) k ≡ seen_entry es xs c k
 unfolding entry_at
-seen_at es xs c k within = get_or-map-range_with_len (seen es xs c) 0 (length es) k k no_entry within (omega arith)
+seen_at es xs c k within = get_or-map-range_with_len (seen_entry es xs c) 0 (length es) k k no_entry within (omega arith)
 
-planned_at : (g : Forest) (xs : List Track) (c : Clocks) (k : ℕ) → k < length g.entries → entry_at (plan_view g xs c) k ≡ planned g xs c k
+planned_at : (g : Forest) (xs : List Track) (c : Clocks) (k : ℕ) → k < length g.entries → entry_at (plan_view g xs c) k ≡ entry_planned g xs c k
 unfolding entry_at
-planned_at g xs c k within = get_or-map-range_with_len (planned g xs c) 0 (length g.entries) k k no_entry within (omega arith)
+planned_at g xs c k within = get_or-map-range_with_len (entry_planned g xs c) 0 (length g.entries) k k no_entry within (omega arith)
 
 -- what is written for the Asks is no part of an entry's shape, nor its need
 pub shape_planned : (margin need now : ℕ) (e f : Entry) (x : Track) → shape (planned_by margin e x need now f) ≡ shape f
@@ -132,9 +132,9 @@ need_by margin need now e f x =
     if_both (λ (y : Entry). y.need ≡ f.need) (is_hoped margin e x need) (record f { end = capped f.ceiling (now + lead e.step x.grant); renewable = false })
     (record f { renewable = x.renewable && not x.top; step = step_in_plan margin e x f.step }) refl refl
 
-need_planned : (g : Forest) (xs : List Track) (c : Clocks) (i : ℕ) → (planned g xs c i).need ≡ (seen g.entries xs c i).need
-unfolding planned
-need_planned g xs c i = need_by g.margin (need_of g.entries xs c i) (sec c.at) (entry_at g.entries i) (seen g.entries xs c i) (get_or xs i no_track)
+need_planned : (g : Forest) (xs : List Track) (c : Clocks) (i : ℕ) → (entry_planned g xs c i).need ≡ (seen_entry g.entries xs c i).need
+unfolding entry_planned
+need_planned g xs c i = need_by g.margin (need_of g.entries xs c i) (sec c.at) (entry_at g.entries i) (seen_entry g.entries xs c i) (get_or xs i no_track)
 
 needs_planned : (g : Forest) (xs : List Track) (c : Clocks) (i : ℕ) → (entry_at (plan_view g xs c) i).need ≡ (entry_at (view g.entries xs c) i).need
 needs_planned g xs c i =
@@ -142,8 +142,8 @@ needs_planned g xs c i =
     elim (cases_lt i n) [
       | inl within ↦ ap (λ (e : Entry). e.need) (planned_at g xs c i within) ∙ need_planned g xs c i ∙ sym (ap (λ (e : Entry). e.need) (seen_at g.entries xs c i within))
       | inr past ↦
-          let few = length-map-range_with_len (planned g xs c) 0 n in
-          let many = length-map-range_with_len (seen g.entries xs c) 0 n in
+          let few = length-map-range_with_len (entry_planned g xs c) 0 n in
+          let many = length-map-range_with_len (seen_entry g.entries xs c) 0 n in
           ap (λ (e : Entry). e.need) (entry_at_past (plan_view g xs c) i (omega arith)) ∙ sym (ap (λ (e : Entry). e.need) (entry_at_past (view g.entries xs c) i (omega arith)))
     ]
 

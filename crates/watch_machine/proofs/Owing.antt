@@ -7,7 +7,7 @@ use Rattle.keep_tree.specs.Forest.{Forest, entry_at}
 use Rattle.watch_machine.specs.declared.clocks.Clocks.{Clocks}
 use Rattle.watch_machine.specs.declared.track.Track.{Track}
 use Rattle.watch_machine.specs.Beginning.{called_by, is_called, owing, owing_all}
-use Rattle.watch_machine.specs.Press.{asked_in, pressed_alone, pressed_track, pressed_tracks}
+use Rattle.watch_machine.specs.Press.{pressed_alone, pressed_track, pressed_tracks, track_asked_in}
 use Rattle.watch_machine.specs.State.{each, track_in}
 use Rattle.watch_machine.specs.Wanted.{HasNeeds, need_of}
 use Rattle.watch_machine.specs.code.View.{Sees}
@@ -44,4 +44,4 @@ module _ (g : Forest) (xs : List Track) (c : Clocks) (needs : List CarriedNeed) 
 
 -- where no round opens nobody is asked by one
 pub none_asked : (g : Forest) (c : Clocks) (xs : List Track) → pressed_tracks g c [] xs ≡ pressed_alone g c xs
-none_asked g c xs = each_id (λ i. asked_in g.margin (entry_at g.entries i) c.at [] i) (pressed_alone g c xs) (λ i x. refl)
+none_asked g c xs = each_id (λ i. track_asked_in g.margin (entry_at g.entries i) c.at [] i) (pressed_alone g c xs) (λ i x. refl)

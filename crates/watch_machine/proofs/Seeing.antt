@@ -16,7 +16,7 @@ use Rattle.watch_machine.specs.declared.clocks.Clocks.{Clocks}
 use Rattle.watch_machine.specs.declared.track.Track.{Track}
 use Rattle.watch_machine.specs.Clocks.{sec}
 use Rattle.watch_machine.specs.State.{each, no_track, track_in}
-use Rattle.watch_machine.specs.Wanted.{HasNeeds, believed, is_fixed, least, least_over, limit, need_of, seen, view}
+use Rattle.watch_machine.specs.Wanted.{HasNeeds, believed, is_fixed, least, least_over, limit, need_of, seen_entry, view}
 use Rattle.watch_machine.specs.code.View.{Sees}
 use Rattle.watch_machine.proofs.Written.{each_length}
 
@@ -41,8 +41,8 @@ module _ (new old : List Track) (h : SameSeen new old) (es : List Entry) (c : Cl
       ap (λ (f : ℕ → ℕ). least END_MAX (map f (filter (λ a. is_fixed (track_in new a)) (chain es i)))) (fun_ext believed_same)
       ∙ ap (λ p. least END_MAX (map (λ a. believed (track_in old a).end) (filter p (chain es i)))) (fun_ext fixed_same)
 
-  seen_same : (i : ℕ) → seen es new c i ≡ seen es old c i
-  unfolding seen
+  seen_same : (i : ℕ) → seen_entry es new c i ≡ seen_entry es old c i
+  unfolding seen_entry
   seen_same i =
       let b = believed_same i in
       let r = ap (λ (x : Track). x.renewable) (h.tracks i) in
@@ -55,10 +55,6 @@ module _ (new old : List Track) (h : SameSeen new old) (es : List Entry) (c : Cl
   pub need_same : (i : ℕ) → need_of es new c i ≡ need_of es old c i
   unfolding need_of
   need_same i = ap (λ vs. carried vs (sec c.at) i) view_same
-
-  -- what is carried is carried as well where the same is seen
-  pub needs_same : (needs : List CarriedNeed) → HasNeeds es old c needs → HasNeeds es new c needs
-  needs_same needs has i below = has i below ∙ sym (need_same i)
 
   pub sees_same : (v g : Forest) (needs : List CarriedNeed) → g.entries ≡ es → Sees v g old c needs → Sees v g new c needs
   sees_same v g needs = λ entries sees. (sees.0 ∙ ap (λ fs. view fs old c) entries ∙ sym view_same ∙ ap (λ fs. view fs new c) (sym entries), sees.1)
@@ -91,5 +87,5 @@ each_id f xs same = ext_get_or no_track (each f xs) xs (each_length f xs) (λ i 
 pub has_needs : (v g : Forest) (xs : List Track) (c : Clocks) (needs : List CarriedNeed) → Sees v g xs c needs → HasNeeds g.entries xs c needs
 unfolding need_of
 has_needs v g xs c needs sees i below =
-    let count : length v.entries ≡ length g.entries = ap length sees.0 ∙ length-map-range_with_len (seen g.entries xs c) 0 (length g.entries) in
+    let count : length v.entries ≡ length g.entries = ap length sees.0 ∙ length-map-range_with_len (seen_entry g.entries xs c) 0 (length g.entries) in
     sees.1.need i (omega (arith, count, below)) ∙ ap (λ es. carried es (sec c.at) i) sees.0

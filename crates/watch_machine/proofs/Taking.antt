@@ -12,25 +12,25 @@ use Rattle.watch_machine.specs.declared.fault.WatchFault.TheVariants.{NotAsked, 
 use Rattle.watch_machine.specs.declared.lanes.Out.{Out}
 use Rattle.watch_machine.specs.History.{Turn}
 use Rattle.watch_machine.specs.Refusal.{refusal, request_out, unless_asked, unless_some, unless_within}
-use Rattle.watch_machine.specs.State.{State}
-use Rattle.watch_machine.specs.Step.{MayWant, Step}
+use Rattle.watch_machine.specs.State.{WatchState}
+use Rattle.watch_machine.specs.Step.{Step, TurnMayWantMemory}
 use Rattle.watch_machine.proofs.Cases.{if_both}
 
 -- no event is refused for lack of memory
 abbrev pub NotMemory : Option WatchFault → Type 0
 NotMemory o = o ≡ Some OutOfMemory → ⊥
 
-within_not : (s : State) (i : ℕ) (other : Option WatchFault) → NotMemory other → NotMemory (unless_within s i other)
+within_not : (s : WatchState) (i : ℕ) (other : Option WatchFault) → NotMemory other → NotMemory (unless_within s i other)
 within_not s i other h = if_both NotMemory _ (Some BadIndex) other (λ e. cc) h
 
 some_not : (o : Option Out) → NotMemory (unless_some o)
 some_not None = λ e. cc
 some_not (Some r) = λ e. cc
 
-asked_not : (s : State) (i : ℕ) (operation : Operation) → NotMemory (unless_asked s i operation)
+asked_not : (s : WatchState) (i : ℕ) (operation : Operation) → NotMemory (unless_asked s i operation)
 asked_not s i operation = within_not s i _ (some_not (request_out s.out i operation))
 
-refusal_not : (s : State) (event : Event) → NotMemory (refusal s event)
+refusal_not : (s : WatchState) (event : Event) → NotMemory (refusal s event)
 unfolding refusal
 refusal_not s (Clock wall elapsed) = λ e. cc
 refusal_not s (Looked i reply terms) = asked_not s i Look
@@ -39,14 +39,14 @@ refusal_not s (Need i until) = within_not s i None (λ e. cc)
 refusal_not s Begin = λ e. cc
 refusal_not s (Known i end renewable) = within_not s i None (λ e. cc)
 
-pub refused_turn : (s : State) (event : Event) (fault : WatchFault) → refusal s event ≡ Some fault → Turn s event (Err fault) s
+pub refused_turn : (s : WatchState) (event : Event) (fault : WatchFault) → refusal s event ≡ Some fault → Turn s event (Err fault) s
 refused_turn s event NotAsked h = (h, refl)
 refused_turn s event BadIndex h = (h, refl)
 refused_turn s event OutOfMemory h = absurd (refusal_not s event h)
 
 -- an event that may want memory, and whose part of the step wants nothing else
 pub taken_turn :
-    (old new : State) (event : Event) (r : Result Output WatchFault) → refusal old event ≡ None → MayWant event → IfOk r (λ output. Step old event output new) →
+    (old new : WatchState) (event : Event) (r : Result Output WatchFault) → refusal old event ≡ None → TurnMayWantMemory event → IfOk r (λ output. Step old event output new) →
     IfErr r (λ fault. fault ≡ OutOfMemory) → OnErr r (new ≡ old) → Turn old event r new
 taken_turn old new event (Ok output) none may is fault same = (none, is)
 taken_turn old new event (Err OutOfMemory) none may is fault same = (none, (may, same))

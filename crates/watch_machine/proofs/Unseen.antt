@@ -6,9 +6,9 @@ use Rattle.keep_tree.specs.Forest.{Forest, entry_at}
 use Rattle.watch_machine.specs.declared.clocks.Clocks.{Clocks}
 use Rattle.watch_machine.specs.declared.command.Request.{Request}
 use Rattle.watch_machine.specs.declared.track.Track.{Track}
-use Rattle.watch_machine.specs.Beginning.{is_called, owing, owing_all, owing_lookup, soon, sooner}
+use Rattle.watch_machine.specs.Beginning.{is_called, owing, owing_all, owing_lookup, soon, sooner_try}
 use Rattle.watch_machine.specs.Clocks.{sec}
-use Rattle.watch_machine.specs.Press.{asked_in, asked_track, dropped, is_fresh, press, pressed_alone, pressed_track, pressed_tracks}
+use Rattle.watch_machine.specs.Press.{asked_track, dropped, is_fresh, press, pressed_alone, pressed_track, pressed_tracks, track_asked_in}
 use Rattle.watch_machine.specs.Margins.{has_come}
 use Rattle.watch_machine.specs.Sending.{sent_in, sent_track}
 use Rattle.watch_machine.specs.State.{each}
@@ -20,7 +20,7 @@ owing_unseen : (at : ℕ) (called : Bool) (x : Track) → sight (owing at called
 unfolding owing
 owing_unseen at called x =
     if_both (λ y. sight y ≡ sight x) (called && is_open (sec at) x) (owing_lookup at x) x
-    (if_both (λ y. sight y ≡ sight x) x.out (record x { owes = true }) (record x { owes = true; attempt = Some (sooner (soon at x) x.attempt) }) refl refl) refl
+    (if_both (λ y. sight y ≡ sight x) x.out (record x { owes = true }) (record x { owes = true; attempt = Some (sooner_try (soon at x) x.attempt) }) refl refl) refl
 
 pub owing_seen : (g : Forest) (c : Clocks) (xs : List Track) → SameSeen (owing_all g c xs) xs
 owing_seen g c xs = each_seen (λ i. owing c.at (is_called g xs c i)) xs (λ i x. owing_unseen c.at (is_called g xs c i) x)
@@ -36,7 +36,7 @@ alone_seen g c xs =
     each_seen (λ i. pressed_track g.margin (entry_at g.entries i) (need_of g.entries xs c i) c.at) xs
     (λ i x. pressed_unseen g.margin (entry_at g.entries i) (need_of g.entries xs c i) c.at x)
 
-asked_unseen : (margin : ℕ) (e : Entry) (at : ℕ) (round : List ℕ) (i : ℕ) (x : Track) → sight (asked_in margin e at round i x) ≡ sight x
+asked_unseen : (margin : ℕ) (e : Entry) (at : ℕ) (round : List ℕ) (i : ℕ) (x : Track) → sight (track_asked_in margin e at round i x) ≡ sight x
 unfolding asked_track
 asked_unseen margin e at round i x =
     if_both (λ y. sight y ≡ sight x) (list_any (λ j. j == i) round) (asked_track margin e at x) x
@@ -46,7 +46,7 @@ pub pressed_seen : (g : Forest) (c : Clocks) (round : List ℕ) (xs : List Track
 pressed_seen g c round xs =
     let mid = pressed_alone g c xs in
     both_seen (pressed_tracks g c round xs) mid xs
-    (each_seen (λ i. asked_in g.margin (entry_at g.entries i) c.at round i) mid (λ i x. asked_unseen g.margin (entry_at g.entries i) c.at round i x)) (alone_seen g c xs)
+    (each_seen (λ i. track_asked_in g.margin (entry_at g.entries i) c.at round i) mid (λ i x. asked_unseen g.margin (entry_at g.entries i) c.at round i x)) (alone_seen g c xs)
 
 pub sent_seen : (at : ℕ) (requests : List Request) (xs : List Track) → SameSeen (each (sent_in at requests) xs) xs
 sent_seen at requests xs =

@@ -24,7 +24,7 @@ use Rattle.watch_machine.specs.declared.track.End.{End}
 use Rattle.watch_machine.specs.declared.track.End.TheVariants.{Unknown, At, Never}
 use Rattle.watch_machine.specs.Looked.{by_terms, orphaned}
 use Rattle.watch_machine.specs.code.Bounds.{IsEnd}
-use Rattle.watch_machine.specs.Wanted.{believed, ceiling_here, fixed_ends, is_fixed, least, least_over, need_here, seen, view}
+use Rattle.watch_machine.specs.Wanted.{believed, ceiling_here, fixed_ends, is_fixed, least, least_over, need_here, seen_entry, view}
 use Rattle.watch_machine.specs.code.View.{IsView, shape}
 
 pub at_shape : (v g : Forest) (i : ℕ) → IsView v g → i < length g.entries → shape (entry_at v.entries i) ≡ shape (entry_at g.entries i)
@@ -115,12 +115,12 @@ carried_more es s i n most need over so_far is needs =
 
 -- where each entry is written as it is seen, the view is that of the definition
 pub view_written :
-    (gs : List Entry) (xs : List Track) (c : Clocks) (es : List Entry) → length es ≡ length gs → ((k : ℕ) → k < length gs → entry_at es k ≡ seen gs xs c k) → es ≡ view gs xs c
+    (gs : List Entry) (xs : List Track) (c : Clocks) (es : List Entry) → length es ≡ length gs → ((k : ℕ) → k < length gs → entry_at es k ≡ seen_entry gs xs c k) → es ≡ view gs xs c
 unfolding entry_at
 view_written gs xs c es count each =
     let n = length gs in
-    ext_get_or no_entry es (view gs xs c) (count ∙ sym (length-map-range_with_len (seen gs xs c) 0 n))
-    (λ i within. each i (omega arith) ∙ sym (get_or-map-range_with_len (seen gs xs c) 0 n i i no_entry (omega arith) (omega arith)))
+    ext_get_or no_entry es (view gs xs c) (count ∙ sym (length-map-range_with_len (seen_entry gs xs c) 0 n))
+    (λ i within. each i (omega arith) ∙ sym (get_or-map-range_with_len (seen_entry gs xs c) 0 n i i no_entry (omega arith) (omega arith)))
 
 -- one entry more that is written
 pub written_more :
@@ -148,8 +148,8 @@ pub seen_is :
     (v g : Forest) (xs : List Track) (c : Clocks) (i : ℕ) (e : Entry) (end need : ℕ) (renewable : Bool) (ceiling : Option ℕ) → IsView v g → i < length g.entries →
     e ≡ entry_at g.entries i → end ≡ believed (get_or xs i no_track).end → renewable ≡ (get_or xs i no_track).renewable → ceiling ≡ ceiling_here c e.ceiling →
     need ≡ min (need_here c e.need) (least_over g.entries xs END_MAX i) →
-    record (entry_at v.entries i) { step = e.step; ceiling = ceiling; end = end; renewable = renewable; need = need } ≡ seen g.entries xs c i
-unfolding seen
+    record (entry_at v.entries i) { step = e.step; ceiling = ceiling; end = end; renewable = renewable; need = need } ≡ seen_entry g.entries xs c i
+unfolding seen_entry
 seen_is v g xs c i e end need renewable ceiling view within is ends renewables ceilings needs =
     let x = get_or xs i no_track in
     let it = entry_at g.entries i in

@@ -8,10 +8,10 @@ use Rattle.watch_machine.specs.declared.fault.WatchFault.{WatchFault}
 use Rattle.watch_machine.specs.declared.fault.WatchFault.TheVariants.{BadIndex, NotAsked}
 use Rattle.watch_machine.specs.declared.lanes.Out.{Out}
 use Rattle.watch_machine.specs.Refusal.{is_same, request_out, unless_asked, unless_some, unless_within}
-use Rattle.watch_machine.specs.State.{State}
+use Rattle.watch_machine.specs.State.{WatchState}
 use Rattle.watch_machine.proofs.Cases.{if_both, if_cases, value_is}
 
-pub within_none : (s : State) (i : ℕ) (other : Option WatchFault) → unless_within s i other ≡ None → i < length s.forest.entries
+pub within_none : (s : WatchState) (i : ℕ) (other : Option WatchFault) → unless_within s i other ≡ None → i < length s.forest.entries
 within_none s i other none =
     elim (cases_lt i (length s.forest.entries)) [
       | inl within ↦ within
@@ -21,10 +21,10 @@ within_none s i other none =
           absurd (let bad : None ≡ Some BadIndex = sym none ∙ refused in cc)
     ]
 
-pub asked_none : (s : State) (i : ℕ) (operation : Operation) → unless_asked s i operation ≡ None → i < length s.forest.entries
+pub asked_none : (s : WatchState) (i : ℕ) (operation : Operation) → unless_asked s i operation ≡ None → i < length s.forest.entries
 asked_none s i operation none = within_none s i (unless_some (request_out s.out i operation)) none
 
-pub asked_some : (s : State) (i : ℕ) (operation : Operation) → unless_asked s i operation ≡ None → request_out s.out i operation ≢ None
+pub asked_some : (s : WatchState) (i : ℕ) (operation : Operation) → unless_asked s i operation ≡ None → request_out s.out i operation ≢ None
 asked_some s i operation none is =
     let bad : unless_within s i (Some NotAsked) ≡ None = ap (λ o. unless_within s i (unless_some o)) (sym is) ∙ none in
     if_both (λ (o : Option WatchFault). o ≡ None → ⊥) (nat_le (length s.forest.entries) i) (Some BadIndex) (Some NotAsked) (λ e. cc) (λ e. cc) bad

@@ -12,7 +12,7 @@ use Rattle.watch_machine.specs.declared.track.Try.{Try}
 use Rattle.watch_machine.specs.Beginning.{hastened}
 use Rattle.watch_machine.specs.Lines.{rested}
 use Rattle.watch_machine.specs.Settling.{is_real}
-use Rattle.watch_machine.specs.State.{State, each}
+use Rattle.watch_machine.specs.State.{WatchState, each}
 
 -- a try that failed: what is asked next, whether no answer came or the broker was busy, and whether others were answered meanwhile
 abbrev pub failing : Try → Operation → Bool → Bool → Try
@@ -23,12 +23,12 @@ abbrev pub busied : Try → Operation → Try
 busied t next = record (failing t next true false) { fails = 1 }
 
 -- the state with another track of i
-abbrev pub with_track : State → ℕ → Track → State
+abbrev pub with_track : WatchState → ℕ → Track → WatchState
 with_track s i x = record s { tracks = slice_set s.tracks i x }
 
 -- the requests that are out but for that of i
-unfoldable pub without : ℕ → List Out → List Out
-without i out = filter (λ r. not (r.entry == i)) out
+unfoldable pub without_request : ℕ → List Out → List Out
+without_request i out = filter (λ r. not (r.entry == i)) out
 
 -- a real answer came to another
 abbrev pub heard : Out → Out
@@ -46,33 +46,33 @@ back_track x = record x { attempt = back_try x x.attempt }
 abbrev pub is_back : Presence → Presence
 is_back p = record p { away = false; count = 0; hold = 0 }
 
-abbrev pub is_gone : Presence → Presence
-is_gone p = record p { away = true; count = 0; hold = 0 }
+abbrev pub presence_gone : Presence → Presence
+presence_gone p = record p { away = true; count = 0; hold = 0 }
 
 -- the broker answers: all that are out hear of it, and it is away no more
-abbrev pub back : State → State
+abbrev pub back : WatchState → WatchState
 back s = if s.presence.away then record s { tracks = each (λ i. back_track) s.tracks; presence = is_back s.presence } else s
 
-abbrev pub answers_all : State → State
+abbrev pub answers_all : WatchState → WatchState
 answers_all s = back (record s { out = map heard s.out })
 
 -- it does not answer a request to which it answered no other meanwhile: it is away
-abbrev pub silent : State → State
-silent s = if s.presence.away then s else record s { presence = is_gone s.presence }
+abbrev pub silent : WatchState → WatchState
+silent s = if s.presence.away then s else record s { presence = presence_gone s.presence }
 
 -- an answer, as it is kept until the next clock
-abbrev pub noted : State → Out → Reply → State
+abbrev pub noted : WatchState → Out → Reply → WatchState
 noted s r reply = record s { answers = s.answers ++ record { since = r.since; heard = r.heard; reply = reply } ∷ [] }
 
 -- the state after a reply to this request, which is taken for its entry already
-abbrev pub lane_freed : State → Out → State
-lane_freed s r = record s { out = without r.entry s.out }
+abbrev pub lane_freed : WatchState → Out → WatchState
+lane_freed s r = record s { out = without_request r.entry s.out }
 
-abbrev pub replied : State → Out → Reply → State
+abbrev pub replied : WatchState → Out → Reply → WatchState
 replied s r reply = if is_real reply then answers_all (lane_freed s r) else (if r.heard then lane_freed s r else silent (lane_freed s r))
 
 -- what is noted of it
-abbrev pub link : State → Out → Reply → Option Link
+abbrev pub link : WatchState → Out → Reply → Option Link
 link s r reply =
     if is_real reply then (if s.presence.away then Some Back else None)
     else (if r.heard || s.presence.away then None else Some Away)

@@ -12,7 +12,7 @@ use Rattle.watch_machine.specs.declared.track.Track.{Track}
 use Rattle.watch_machine.specs.declared.track.Try.{Try}
 use Rattle.watch_machine.specs.Clocks.{sec}
 use Rattle.watch_machine.specs.Lines.{rested}
-use Rattle.watch_machine.specs.State.{State, each}
+use Rattle.watch_machine.specs.State.{WatchState, each}
 use Rattle.watch_machine.specs.Wanted.{is_alive, is_open, need_of}
 
 -- a try of an entry that is to be kept alive
@@ -53,13 +53,13 @@ owed from = record { at = from; operation = Look; pressed = false; along = false
 abbrev pub hastened : Try → ℕ → Try
 hastened t from = record t { at = min t.at from }
 
-abbrev pub sooner : ℕ → Option Try → Try
-sooner from None = owed from
-sooner from (Some t) = hastened t from
+abbrev pub sooner_try : ℕ → Option Try → Try
+sooner_try from None = owed from
+sooner_try from (Some t) = hastened t from
 
 -- an entry owes a lookup, at once; one that is out only owes it
 abbrev pub owing_lookup : ℕ → Track → Track
-owing_lookup at x = if x.out then record x { owes = true } else record x { owes = true; attempt = Some (sooner (soon at x) x.attempt) }
+owing_lookup at x = if x.out then record x { owes = true } else record x { owes = true; attempt = Some (sooner_try (soon at x) x.attempt) }
 
 -- an entry at a beginning, called or not: a lookup is owed of one that is called and has not ended
 unfoldable pub owing : ℕ → Bool → Track → Track
@@ -89,10 +89,10 @@ begun_tracks g c None xs = xs
 begun_tracks g c (Some why) xs = owing_all g c (untopped xs)
 
 -- a state that begins anew
-abbrev pub noted_begun : State → Option Why → State
+abbrev pub noted_begun : WatchState → Option Why → WatchState
 noted_begun s None = s
 noted_begun s (Some why) = record s { begun = Some s.clocks.at; asked = false; stepped = false }
 
 -- the state after step 3 of a clock
-abbrev pub begun : State → Option Why → State
+abbrev pub begun : WatchState → Option Why → WatchState
 begun s why = noted_begun (record s { tracks = begun_tracks s.forest s.clocks why s.tracks }) why

@@ -4,6 +4,7 @@ use Rattle.std.specs.Prelude.{ℕ, ◌+◌, ◌-◌, ◌*◌, ◌/◌, ◌%◌, 
 use Rattle.watch_machine.specs.declared.clocks.BrokerOffset.{BrokerOffset}
 use Rattle.watch_machine.specs.declared.clocks.Clocks.{Clocks}
 use Rattle.watch_machine.specs.declared.clocks.WallOffset.{WallOffset}
+use Rattle.keep_moment.specs.declared.moment.TheConstants.{LAST}
 
 -- the second of a moment in milliseconds
 unfoldable pub sec : ℕ → ℕ
@@ -16,6 +17,10 @@ ms s = s * 1000
 -- a reading, no later than 9999-12-31T23:59:59.999Z
 abbrev pub reading : ℕ → ℕ
 reading ms = min ms 253402300799999
+
+-- the second that a wall clock shows, no later than the last moment
+abbrev pub second_of_wall : ℕ → ℕ
+second_of_wall wall = min (wall / 1000) LAST
 
 -- what this clock shows when the broker's shows t, and the contrary, in seconds. Both are cut off at 0
 unfoldable pub to_here : BrokerOffset → ℕ → ℕ
@@ -50,8 +55,8 @@ first_clocks wall elapsed =
     started (phase_of wall elapsed) at (record { here = at; there = reading wall })
 
 -- the moment of this clock at a later reading; a reading before the last one is taken as that
-unfoldable pub moment : Clocks → ℕ → ℕ
-moment c elapsed = max c.at (reading (elapsed + c.phase))
+unfoldable pub moment_at_reading : Clocks → ℕ → ℕ
+moment_at_reading c elapsed = max c.at (reading (elapsed + c.phase))
 
 -- the wall and what it was expected to show have parted by more than two seconds
 unfoldable pub is_stepped : Clocks → ℕ → Bool

@@ -16,7 +16,7 @@ use Rattle.watch_machine.specs.declared.track.Try.{Try}
 use Rattle.watch_machine.specs.Answers.{busied, failing, with_track}
 use Rattle.watch_machine.specs.Clocks.{sec}
 use Rattle.watch_machine.specs.Margins.{has_come}
-use Rattle.watch_machine.specs.State.{State, entry_of, second, track_at}
+use Rattle.watch_machine.specs.State.{WatchState, entry_of, second, track_at}
 use Rattle.watch_machine.specs.Wanted.{is_alive, is_open, is_wanted}
 
 -- a step that is told counts where it is more than the margin
@@ -39,7 +39,7 @@ by_terms margin terms e = record e {
   parent = parent_told terms e;
 }
 
-abbrev pub with_terms : State → ℕ → Terms → State
+abbrev pub with_terms : WatchState → ℕ → Terms → WatchState
 with_terms s i terms = record s { forest = record s.forest { entries = slice_set s.forest.entries i (by_terms s.forest.margin terms (entry_of s i)) } }
 
 -- a track as a lookup told it that went out at since, but for its try
@@ -63,15 +63,15 @@ abbrev pub told_try : ℕ → Bool → Track → Option Try → Option Try
 told_try at due x None = None
 told_try at due x (Some t) = if due then Some (at_once at t) else (if is_alive (sec at) x then None else Some (failing t Look false false))
 
-abbrev pub told_state : State → ℕ → ℕ → ℕ → Bool → Terms → State
+abbrev pub told_state : WatchState → ℕ → ℕ → ℕ → Bool → Terms → WatchState
 told_state s i since seconds renewable terms = with_track (with_terms s i terms) i (told_track since seconds renewable terms.endless (track_at s i))
 
 -- the entry is wanted, and its time has come
-abbrev pub is_called_for : State → ℕ → Bool
+abbrev pub is_called_for : WatchState → ℕ → Bool
 is_called_for s i = is_wanted s i && has_come s.forest.margin (entry_of s i) (track_at s i) (second s)
 
-abbrev pub told_by : State → ℕ → State
-told_by s i = with_track s i (record (track_at s i) { attempt = told_try s.clocks.at (is_called_for s i) (track_at s i) (track_at s i).attempt })
+abbrev pub with_told_try : WatchState → ℕ → WatchState
+with_told_try s i = with_track s i (record (track_at s i) { attempt = told_try s.clocks.at (is_called_for s i) (track_at s i) (track_at s i).attempt })
 
 -- refused: a renewal is tried while the end is ahead or unknown, at once where the lookup was only owed
 abbrev pub refused_try : ℕ → Track → Try → Try
@@ -106,8 +106,8 @@ unfoldable pub untold_track : ℕ → Bool → Reply → Track → Track
 untold_track at heard reply x = record x { owes = x.owes && is_none (status_of reply); out = false; attempt = untold at heard reply x x.attempt }
 
 -- the state after the answer to this request, but for what it says of the broker
-abbrev pub looked : State → Out → Reply → Terms → State
-looked s r (Told seconds renewable date) terms = told_by (told_state s r.entry r.since seconds renewable terms) r.entry
+abbrev pub looked : WatchState → Out → Reply → Terms → WatchState
+looked s r (Told seconds renewable date) terms = with_told_try (told_state s r.entry r.since seconds renewable terms) r.entry
 looked s r (Refused status date) terms = with_track s r.entry (untold_track s.clocks.at r.heard (Refused status date) (track_at s r.entry))
 looked s r Busy terms = with_track s r.entry (untold_track s.clocks.at r.heard Busy (track_at s r.entry))
 looked s r Lost terms = with_track s r.entry (untold_track s.clocks.at r.heard Lost (track_at s r.entry))

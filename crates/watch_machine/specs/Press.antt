@@ -12,7 +12,7 @@ use Rattle.watch_machine.specs.Beginning.{is_pressed, soon}
 use Rattle.watch_machine.specs.Clocks.{sec}
 use Rattle.watch_machine.specs.Lines.{rested}
 use Rattle.watch_machine.specs.Margins.{has_come}
-use Rattle.watch_machine.specs.State.{State, each}
+use Rattle.watch_machine.specs.State.{WatchState, each}
 use Rattle.watch_machine.specs.Wanted.{is_alive, need_of, wants}
 
 -- an entry with that need is wanted, its time has come, and it is neither pressed nor out
@@ -52,16 +52,16 @@ pressed_track margin e need at x =
 unfoldable pub asked_track : ℕ → Entry → ℕ → Track → Track
 asked_track margin e at x = if x.out then x else record x { attempt = Some (press at (not (has_come margin e x (sec at))) x) }
 
-abbrev pub asked_in : ℕ → Entry → ℕ → List ℕ → ℕ → Track → Track
-asked_in margin e at round i x = if list_any (λ j. j == i) round then asked_track margin e at x else x
+abbrev pub track_asked_in : ℕ → Entry → ℕ → List ℕ → ℕ → Track → Track
+track_asked_in margin e at round i x = if list_any (λ j. j == i) round then asked_track margin e at x else x
 
 -- the tracks after those are pressed whose time has come, and then those whom a round asks
 abbrev pub pressed_alone : Forest → Clocks → List Track → List Track
 pressed_alone g c xs = each (λ i. pressed_track g.margin (entry_at g.entries i) (need_of g.entries xs c i) c.at) xs
 
 abbrev pub pressed_tracks : Forest → Clocks → List ℕ → List Track → List Track
-pressed_tracks g c round xs = each (λ i. asked_in g.margin (entry_at g.entries i) c.at round i) (pressed_alone g c xs)
+pressed_tracks g c round xs = each (λ i. track_asked_in g.margin (entry_at g.entries i) c.at round i) (pressed_alone g c xs)
 
 -- the state after step 4 of a clock, where round are those whom a round asks
-abbrev pub pressed : State → List ℕ → State
+abbrev pub pressed : WatchState → List ℕ → WatchState
 pressed s round = record s { tracks = pressed_tracks s.forest s.clocks round s.tracks }

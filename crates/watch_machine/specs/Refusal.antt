@@ -9,7 +9,7 @@ use Rattle.watch_machine.specs.declared.event.Operation.TheVariants.{Look, Renew
 use Rattle.watch_machine.specs.declared.fault.WatchFault.{WatchFault}
 use Rattle.watch_machine.specs.declared.fault.WatchFault.TheVariants.{NotAsked, BadIndex}
 use Rattle.watch_machine.specs.declared.lanes.Out.{Out}
-use Rattle.watch_machine.specs.State.{State}
+use Rattle.watch_machine.specs.State.{WatchState}
 
 abbrev pub is_same : Operation → Operation → Bool
 is_same Look Look = true
@@ -26,14 +26,14 @@ unless_some None = Some NotAsked
 unless_some (Some r) = None
 
 -- no such entry
-abbrev pub unless_within : State → ℕ → Option WatchFault → Option WatchFault
+abbrev pub unless_within : WatchState → ℕ → Option WatchFault → Option WatchFault
 unless_within s i other = if nat_le (length s.forest.entries) i then Some BadIndex else other
 
-abbrev pub unless_asked : State → ℕ → Operation → Option WatchFault
+abbrev pub unless_asked : WatchState → ℕ → Operation → Option WatchFault
 unless_asked s i operation = unless_within s i (unless_some (request_out s.out i operation))
 
 -- the refusal of an event, None where it has none: there is no such entry, or an answer is to no request that is out
-unfoldable pub refusal : State → Event → Option WatchFault
+unfoldable pub refusal : WatchState → Event → Option WatchFault
 refusal s (Clock wall elapsed) = None
 refusal s (Looked i reply terms) = unless_asked s i Look
 refusal s (Renewed i reply) = unless_asked s i Renew

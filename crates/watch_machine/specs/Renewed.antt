@@ -16,7 +16,7 @@ use Rattle.watch_machine.specs.Answers.{busied, failing, with_track}
 use Rattle.watch_machine.specs.Beginning.{owed}
 use Rattle.watch_machine.specs.Clocks.{sec}
 use Rattle.watch_machine.specs.Margins.{own_by}
-use Rattle.watch_machine.specs.State.{State, entry_of, track_at}
+use Rattle.watch_machine.specs.State.{WatchState, entry_of, track_at}
 use Rattle.watch_machine.specs.Wanted.{is_alive}
 
 -- the time of an entry with that step, after a grant of so many seconds that counts from a second
@@ -84,12 +84,12 @@ renewed_track margin step at r (Refused status date) x = ungranted_track at r.he
 renewed_track margin step at r Busy x = ungranted_track at r.heard Busy x
 renewed_track margin step at r Lost x = ungranted_track at r.heard Lost x
 
-abbrev pub track_renewed : State → Out → Reply → Track
+abbrev pub track_renewed : WatchState → Out → Reply → Track
 track_renewed s r reply = renewed_track s.forest.margin (entry_of s r.entry).step s.clocks.at r reply (track_at s r.entry)
 
 -- the state after it, but for what it says of the broker
-abbrev pub renewed : State → Out → Reply → State
-renewed s r reply = with_track s r.entry (track_renewed s r reply)
+abbrev pub state_renewed : WatchState → Out → Reply → WatchState
+state_renewed s r reply = with_track s r.entry (track_renewed s r reply)
 
 -- the end to which a grant led, where that is the top
 abbrev pub end_at : End → Option ℕ

@@ -8,7 +8,7 @@ use Rattle.keep_tree.specs.Forest.{Forest, end_of, entry_at}
 use Rattle.keep_tree.specs.Renewal.{capped}
 use Rattle.keep_rule.specs.Asks.{asks}
 use Rattle.keep_rule.specs.Forced.{bound}
-use Rattle.keep_rule.specs.Schedule.{IsNext}
+use Rattle.keep_rule.specs.Schedule.{IsNextMoment}
 use Rattle.watch_machine.specs.declared.clocks.Clocks.{Clocks}
 use Rattle.watch_machine.specs.declared.track.Track.{Track}
 use Rattle.watch_machine.specs.Beginning.{is_pressed}
@@ -16,7 +16,7 @@ use Rattle.watch_machine.specs.Clocks.{sec}
 use Rattle.watch_machine.specs.Margins.{is_in_plan, lead}
 use Rattle.watch_machine.specs.Press.{is_fresh}
 use Rattle.watch_machine.specs.State.{track_in}
-use Rattle.watch_machine.specs.Wanted.{is_alive, is_unknown, need_of, seen, wants}
+use Rattle.watch_machine.specs.Wanted.{is_alive, is_unknown, need_of, seen_entry, wants}
 
 -- an entry with that need opens a round: it is pressed now, in the plan, and its end is ahead
 unfoldable pub opens : ℕ → Entry → Track → ℕ → ℕ → Bool
@@ -41,26 +41,26 @@ planned_by margin e x need now seen =
     then record seen { end = capped seen.ceiling (now + lead e.step x.grant); renewable = false }
     else record seen { renewable = x.renewable && not x.top; step = step_in_plan margin e x seen.step }
 
-unfoldable pub planned : Forest → List Track → Clocks → ℕ → Entry
-planned g xs c i = planned_by g.margin (entry_at g.entries i) (track_in xs i) (need_of g.entries xs c i) (sec c.at) (seen g.entries xs c i)
+unfoldable pub entry_planned : Forest → List Track → Clocks → ℕ → Entry
+entry_planned g xs c i = planned_by g.margin (entry_at g.entries i) (track_in xs i) (need_of g.entries xs c i) (sec c.at) (seen_entry g.entries xs c i)
 
 abbrev pub plan_view : Forest → List Track → Clocks → List Entry
-plan_view g xs c = map (planned g xs c) (range_with_len 0 (length g.entries))
+plan_view g xs c = map (entry_planned g xs c) (range_with_len 0 (length g.entries))
 
 -- the moment of the round after this one, None where no bound falls short
 abbrev pub IsSecond : List Entry → ℕ → ℕ → Option ℕ → Type 0
-IsSecond es margin now (Some t) = IsNext es margin now (end_of es) (Some now) t
+IsSecond es margin now (Some t) = IsNextMoment es margin now (end_of es) (Some now) t
 IsSecond es margin now None = (i : ℕ) → carried es now i ≤ bound es (end_of es) (Some now) i
 
 -- these are the Asks of a round that opens now
-abbrev pub IsAsked : List Entry → ℕ → ℕ → List ℕ → Type 0
-IsAsked es margin now asked = (next : Option ℕ) × (IsSecond es margin now next × (asked ≡ asks es margin now (end_of es) now next))
+abbrev pub RoundAsks : List Entry → ℕ → ℕ → List ℕ → Type 0
+RoundAsks es margin now asked = (next : Option ℕ) × (IsSecond es margin now next × (asked ≡ asks es margin now (end_of es) now next))
 
 -- the round that opens, None where none does
 abbrev pub IsRound : Forest → List Track → Clocks → Option (List ℕ) → Type 0
 IsRound g xs c None = opens_some g xs c ≡ false
-IsRound g xs c (Some asked) = (opens_some g xs c ≡ true) × IsAsked (plan_view g xs c) g.margin (sec c.at) asked
+IsRound g xs c (Some asked) = (opens_some g xs c ≡ true) × RoundAsks (plan_view g xs c) g.margin (sec c.at) asked
 
-abbrev pub asked_by : Option (List ℕ) → List ℕ
-asked_by None = []
-asked_by (Some asked) = asked
+abbrev pub asked_by_round : Option (List ℕ) → List ℕ
+asked_by_round None = []
+asked_by_round (Some asked) = asked

@@ -13,7 +13,7 @@ use Rattle.watch_machine.specs.declared.track.Track.{Track}
 use Rattle.watch_machine.specs.declared.track.Try.{Try}
 use Rattle.watch_machine.specs.Clocks.{sec}
 use Rattle.watch_machine.specs.Lines.{is_due, is_first, part, rank}
-use Rattle.watch_machine.specs.State.{State, each, track_in}
+use Rattle.watch_machine.specs.State.{WatchState, each, track_in}
 use Rattle.watch_machine.specs.Wanted.{is_open}
 
 -- where an entry stands in the line
@@ -38,13 +38,13 @@ abbrev pub due : Presence → ℕ → List Track → List Place
 due p at xs = map (place p.away (sec at) xs) (filter (λ i. is_due p at (track_in xs i)) (range_with_len 0 (length xs)))
 
 -- the same, in the order in which they go out
-pub record IsLine (p : Presence) (at : ℕ) (xs : List Track) (line : List Place) : Type 0 where
+pub record IsSendingOrder (p : Presence) (at : ℕ) (xs : List Track) (line : List Place) : Type 0 where
   pub all : IsPermutation (due p at xs) line
   pub in_order : IsSortedBy is_before line
 
 -- those of its front for whom lanes are free
 abbrev pub IsPicked : Presence → ℕ → List Track → ℕ → List Place → Type 0
-IsPicked p at xs lanes picked = (line : List Place) × (IsLine p at xs line × (picked ≡ take lanes line))
+IsPicked p at xs lanes picked = (line : List Place) × (IsSendingOrder p at xs line × (picked ≡ take lanes line))
 
 -- a request of this entry had no answer while others were answered, and its end is ahead or unknown
 abbrev pub is_alone_try : Option Try → Bool
@@ -84,7 +84,7 @@ abbrev pub sent_in : ℕ → List Request → ℕ → Track → Track
 sent_in at requests i x = if list_any (λ (r : Request). r.entry == i) requests then sent_track at x else x
 
 -- the state after these requests have gone out
-abbrev pub sent : State → List Request → State
+abbrev pub sent : WatchState → List Request → WatchState
 sent s requests = record s { tracks = each (sent_in s.clocks.at requests) s.tracks; out = s.out ++ map (out_at s.clocks.at) requests }
 
 -- these requests go out at a clock: of those that are due as many as lanes are free
@@ -94,5 +94,5 @@ pub record IsGoing (p : Presence) (at : ℕ) (xs : List Track) (lanes : ℕ) (re
   pub requests_are : requests ≡ map (request p (sec at) xs) picked
 
 -- step 5 of a clock
-abbrev pub IsSent : State → List Request → State → Type 0
-IsSent s requests new = IsGoing s.presence s.clocks.at s.tracks (s.width - length s.out) requests × (new ≡ sent s requests)
+abbrev pub RequestsAreSent : WatchState → List Request → WatchState → Type 0
+RequestsAreSent s requests new = IsGoing s.presence s.clocks.at s.tracks (s.width - length s.out) requests × (new ≡ sent s requests)

@@ -10,10 +10,10 @@ use Rattle.watch_machine.specs.declared.lanes.Answer.{Answer}
 use Rattle.watch_machine.specs.declared.lanes.Presence.{Presence}
 use Rattle.watch_machine.specs.declared.track.Track.{Track}
 use Rattle.watch_machine.specs.declared.track.Try.{Try}
-use Rattle.watch_machine.specs.Clocks.{dated_by, first_clocks, is_ahead, is_stepped, moment, reading, walled}
+use Rattle.watch_machine.specs.Clocks.{dated_by, first_clocks, is_ahead, is_stepped, moment_at_reading, reading, walled}
 use Rattle.watch_machine.specs.Lines.{rested}
 use Rattle.watch_machine.specs.Pauses.{cap, doubled, pause}
-use Rattle.watch_machine.specs.State.{State, each}
+use Rattle.watch_machine.specs.State.{WatchState, each}
 use Rattle.watch_machine.specs.Wanted.{least}
 
 -- the reply shows that the broker is there; and that it has no time
@@ -65,20 +65,20 @@ steps c (a ∷ rest) = is_step c (date_of a.reply) || steps (dated c a) rest
 
 -- the clocks at later readings, before any date counts
 abbrev pub at_reading : Clocks → ℕ → Clocks
-at_reading c elapsed = record c { at = moment c elapsed }
+at_reading c elapsed = record c { at = moment_at_reading c elapsed }
 
 abbrev pub read : Clocks → ℕ → ℕ → Clocks
 read c wall elapsed = walled (at_reading c elapsed) (reading wall)
 
-unfoldable pub clocks_after : State → ℕ → ℕ → Clocks
+unfoldable pub clocks_after : WatchState → ℕ → ℕ → Clocks
 clocks_after s wall elapsed = if is_none s.begun then first_clocks wall elapsed else dated_by_all (read s.clocks wall elapsed) s.answers
 
 -- the wall has stepped
-unfoldable pub has_jumped : State → ℕ → ℕ → Bool
+unfoldable pub has_jumped : WatchState → ℕ → ℕ → Bool
 has_jumped s wall elapsed = is_stepped (at_reading s.clocks elapsed) (reading wall)
 
 -- the broker's clock was set on since the last beginning
-unfoldable pub has_stepped : State → ℕ → ℕ → Bool
+unfoldable pub has_stepped : WatchState → ℕ → ℕ → Bool
 has_stepped s wall elapsed = s.stepped || steps (read s.clocks wall elapsed) s.answers
 
 -- Pace
@@ -146,11 +146,11 @@ presence_after margin at xs answers p =
     }
 
 -- the state after step 1 of a clock
-abbrev pub timed : State → ℕ → ℕ → State
+abbrev pub timed : WatchState → ℕ → ℕ → WatchState
 timed s wall elapsed = record s { clocks = clocks_after s wall elapsed; stepped = has_stepped s wall elapsed }
 
 -- and after step 2
-abbrev pub settled : State → State
+abbrev pub settled : WatchState → WatchState
 settled s = record s {
   tracks = each (λ i. settled_track s.forest.margin s.clocks.at) s.tracks;
   presence = presence_after s.forest.margin s.clocks.at s.tracks s.answers s.presence;

@@ -17,7 +17,7 @@ use Rattle.watch_machine.specs.Clocks.{sec, unset}
 -- once; for each entry what is known and to be asked of it; the requests that are out, and the answers since the last clock, both
 -- as they came; the clocks; whether the broker is there; the last beginning, None before the first clock; whether one was asked
 -- for; and whether a date has shown the broker's clock set on since the last one
-pub record State : Type 0 where
+pub record WatchState : Type 0 where
   pub forest : Forest
   pub width : ℕ
   pub tracks : List Track
@@ -37,17 +37,17 @@ no_track = record { end = Unknown; renewable = false; top = true; grant = None; 
 abbrev pub track_in : List Track → ℕ → Track
 track_in xs i = slice_index_or xs i no_track
 
-abbrev pub track_at : State → ℕ → Track
+abbrev pub track_at : WatchState → ℕ → Track
 track_at s i = track_in s.tracks i
 
-abbrev pub attempt_at : State → ℕ → Option Try
+abbrev pub attempt_at : WatchState → ℕ → Option Try
 attempt_at s i = (track_at s i).attempt
 
-abbrev pub entry_of : State → ℕ → Entry
+abbrev pub entry_of : WatchState → ℕ → Entry
 entry_of s i = entry_at s.forest.entries i
 
 -- the second it is now
-abbrev pub second : State → ℕ
+abbrev pub second : WatchState → ℕ
 second s = sec s.clocks.at
 
 -- the tracks, each made anew by its index
@@ -59,11 +59,11 @@ abbrev pub fresh_track : Entry → Track
 fresh_track e = record { end = Unknown; renewable = e.renewable; top = false; grant = None; owes = false; attempt = None; last = None; out = false }
 
 -- the broker is there, and nothing is held back
-abbrev pub present : Presence
-present = record { away = false; count = 0; hold = 0; free = 0; pace = 0 }
+abbrev pub broker_present : Presence
+broker_present = record { away = false; count = 0; hold = 0; free = 0; pace = 0 }
 
 -- the state of a new watch
-abbrev pub opened : Forest → ℕ → State
+abbrev pub opened : Forest → ℕ → WatchState
 opened g width = record {
   forest = g;
   width = width;
@@ -71,7 +71,7 @@ opened g width = record {
   out = [];
   answers = [];
   clocks = unset;
-  presence = present;
+  presence = broker_present;
   begun = None;
   asked = false;
   stepped = false;

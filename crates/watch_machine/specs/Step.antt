@@ -22,48 +22,48 @@ use Rattle.watch_machine.specs.Beginning.{begun, beginning}
 use Rattle.watch_machine.specs.Looked.{is_orphaned, looked, status_of}
 use Rattle.watch_machine.specs.Press.{pressed}
 use Rattle.watch_machine.specs.Refusal.{request_out}
-use Rattle.watch_machine.specs.Renewed.{renewed, top_by, track_renewed}
-use Rattle.watch_machine.specs.Round.{IsRound, asked_by}
-use Rattle.watch_machine.specs.Sending.{IsSent}
+use Rattle.watch_machine.specs.Renewed.{state_renewed, top_by, track_renewed}
+use Rattle.watch_machine.specs.Round.{IsRound, asked_by_round}
+use Rattle.watch_machine.specs.Sending.{RequestsAreSent}
 use Rattle.watch_machine.specs.Settling.{has_jumped, settled, timed}
-use Rattle.watch_machine.specs.State.{State, entry_of, track_at}
+use Rattle.watch_machine.specs.State.{WatchState, entry_of, track_at}
 use Rattle.watch_machine.specs.Wait.{wait}
 use Rattle.watch_machine.specs.Wanted.{is_never}
 
 -- nothing is noted
-abbrev pub nothing : Notes
-nothing = record { began = None; round = None; gone = None; top = None; orphan = false; endless = false; link = None }
+abbrev pub nothing_noted : Notes
+nothing_noted = record { began = None; round = None; gone = None; top = None; orphan = false; endless = false; link = None }
 
 -- why a clock begins anew, and the state after its steps 1 to 3
-unfoldable pub why : State → ℕ → ℕ → Option Why
+unfoldable pub why : WatchState → ℕ → ℕ → Option Why
 why s wall elapsed =
     let t = settled (timed s wall elapsed) in
     beginning t.begun t.asked t.stepped (has_jumped s wall elapsed) t.clocks.at t.tracks
 
-unfoldable pub readied : State → ℕ → ℕ → State
+unfoldable pub readied : WatchState → ℕ → ℕ → WatchState
 readied s wall elapsed = begun (settled (timed s wall elapsed)) (why s wall elapsed)
 
 -- what is commanded, and the state in which all are pressed that have to be asked
-abbrev pub StepCommand : State → Command → State → Type 0
-StepCommand mid (Go requests until) new = IsSent mid requests new × (until ≡ wait new)
+abbrev pub StepCommand : WatchState → Command → WatchState → Type 0
+StepCommand mid (Go requests until) new = RequestsAreSent mid requests new × (until ≡ wait new)
 StepCommand mid Taken new = ⊥
 
 -- a clock: the clocks move, failures settle, everything begins anew where it has to; then who has to be asked is pressed, a
 -- round opens, as many requests go out as lanes are free, and the wait is told
-pub record StepClock (old : State) (wall elapsed : ℕ) (output : Output) (new : State) : Type 0 where
+pub record StepClock (old : WatchState) (wall elapsed : ℕ) (output : Output) (new : WatchState) : Type 0 where
   pub round : Option (List ℕ)
   pub is_round : IsRound (readied old wall elapsed).forest (readied old wall elapsed).tracks (readied old wall elapsed).clocks round
-  pub notes : output.notes ≡ record nothing { began = why old wall elapsed; round = round }
-  pub command : StepCommand (pressed (readied old wall elapsed) (asked_by round)) output.command new
+  pub notes : output.notes ≡ record nothing_noted { began = why old wall elapsed; round = round }
+  pub command : StepCommand (pressed (readied old wall elapsed) (asked_by_round round)) output.command new
 
 -- what is noted of an answer to a lookup that told of its entry, of one that told nothing, and of either
-abbrev pub notes_told : State → ℕ → Terms → Notes
-notes_told s i terms = record nothing { orphan = is_orphaned terms (entry_of s i); endless = terms.endless && not (is_never (track_at s i).end) }
+abbrev pub notes_told : WatchState → ℕ → Terms → Notes
+notes_told s i terms = record nothing_noted { orphan = is_orphaned terms (entry_of s i); endless = terms.endless && not (is_never (track_at s i).end) }
 
 abbrev pub notes_untold : Reply → Notes
-notes_untold reply = record nothing { gone = status_of reply }
+notes_untold reply = record nothing_noted { gone = status_of reply }
 
-abbrev pub notes_of : State → Out → Reply → Terms → Notes
+abbrev pub notes_of : WatchState → Out → Reply → Terms → Notes
 notes_of s r (Told seconds renewable date) terms = notes_told s r.entry terms
 notes_of s r (Refused status date) terms = notes_untold (Refused status date)
 notes_of s r Busy terms = notes_untold Busy
@@ -75,49 +75,49 @@ with_link notes link = record notes { link = link }
 
 -- what is noted of an answer to a renewal
 abbrev pub notes_top : Option ℕ → Notes
-notes_top end = record nothing { top = end }
+notes_top end = record nothing_noted { top = end }
 
 -- the state with a new need, no later than the last moment
-abbrev pub needed : State → ℕ → ℕ → State
-needed s i until = record s { forest = record s.forest { entries = slice_set s.forest.entries i (record (entry_of s i) { need = min LAST until }) } }
+abbrev pub with_need_until : WatchState → ℕ → ℕ → WatchState
+with_need_until s i until = record s { forest = record s.forest { entries = slice_set s.forest.entries i (record (entry_of s i) { need = min LAST until }) } }
 
 -- and with an end that an earlier watch told
-abbrev pub known : State → ℕ → ℕ → Bool → State
+abbrev pub known : WatchState → ℕ → ℕ → Bool → WatchState
 known s i end renewable = with_track s i (record (track_at s i) { end = At (min END_MAX end); renewable = renewable })
 
 abbrev pub taken : Notes → Output
 taken notes = record { command = Taken; notes = notes }
 
 -- an answer to a request that is out: it is noted, it is taken for its entry, and then for what it says of the broker
-abbrev pub notes_looked : State → Out → Reply → Terms → Notes
+abbrev pub notes_looked : WatchState → Out → Reply → Terms → Notes
 notes_looked s r reply terms = with_link (notes_of s r reply terms) (link (looked s r reply terms) r reply)
 
-abbrev pub notes_renewed : State → Out → Reply → Notes
-notes_renewed s r reply = with_link (notes_top (top_by reply (track_renewed s r reply))) (link (renewed s r reply) r reply)
+abbrev pub notes_renewed : WatchState → Out → Reply → Notes
+notes_renewed s r reply = with_link (notes_top (top_by reply (track_renewed s r reply))) (link (state_renewed s r reply) r reply)
 
-abbrev pub StepLooked : State → Option Out → Reply → Terms → Output → State → Type 0
+abbrev pub StepLooked : WatchState → Option Out → Reply → Terms → Output → WatchState → Type 0
 StepLooked old None reply terms output new = ⊥
 StepLooked old (Some r) reply terms output new =
     (output ≡ taken (notes_looked (noted old r reply) r reply terms)) × (new ≡ replied (looked (noted old r reply) r reply terms) r reply)
 
-abbrev pub StepRenewed : State → Option Out → Reply → Output → State → Type 0
+abbrev pub StepRenewed : WatchState → Option Out → Reply → Output → WatchState → Type 0
 StepRenewed old None reply output new = ⊥
-StepRenewed old (Some r) reply output new = (output ≡ taken (notes_renewed (noted old r reply) r reply)) × (new ≡ replied (renewed (noted old r reply) r reply) r reply)
+StepRenewed old (Some r) reply output new = (output ≡ taken (notes_renewed (noted old r reply) r reply)) × (new ≡ replied (state_renewed (noted old r reply) r reply) r reply)
 
 -- one step that is not refused
-abbrev pub Step : State → Event → Output → State → Type 0
+abbrev pub Step : WatchState → Event → Output → WatchState → Type 0
 Step old (Clock wall elapsed) output new = StepClock old wall elapsed output new
 Step old (Looked i reply terms) output new = StepLooked old (request_out old.out i Look) reply terms output new
 Step old (Renewed i reply) output new = StepRenewed old (request_out old.out i Renew) reply output new
-Step old (Need i until) output new = (output ≡ taken nothing) × (new ≡ needed old i until)
-Step old Begin output new = (output ≡ taken nothing) × (new ≡ record old { asked = true })
-Step old (Known i end renewable) output new = (output ≡ taken nothing) × (new ≡ known old i end renewable)
+Step old (Need i until) output new = (output ≡ taken nothing_noted) × (new ≡ with_need_until old i until)
+Step old Begin output new = (output ≡ taken nothing_noted) × (new ≡ record old { asked = true })
+Step old (Known i end renewable) output new = (output ≡ taken nothing_noted) × (new ≡ known old i end renewable)
 
 -- what may want memory: a clock, and an answer
-abbrev pub MayWant : Event → Type 0
-MayWant (Clock wall elapsed) = Unit {0}
-MayWant (Looked i reply terms) = Unit {0}
-MayWant (Renewed i reply) = Unit {0}
-MayWant (Need i until) = ⊥
-MayWant Begin = ⊥
-MayWant (Known i end renewable) = ⊥
+abbrev pub TurnMayWantMemory : Event → Type 0
+TurnMayWantMemory (Clock wall elapsed) = Unit {0}
+TurnMayWantMemory (Looked i reply terms) = Unit {0}
+TurnMayWantMemory (Renewed i reply) = Unit {0}
+TurnMayWantMemory (Need i until) = ⊥
+TurnMayWantMemory Begin = ⊥
+TurnMayWantMemory (Known i end renewable) = ⊥

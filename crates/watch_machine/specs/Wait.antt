@@ -10,7 +10,7 @@ use Rattle.watch_machine.specs.Beginning.{is_pressed}
 use Rattle.watch_machine.specs.Clocks.{ms}
 use Rattle.watch_machine.specs.Lines.{ready}
 use Rattle.watch_machine.specs.Margins.{time}
-use Rattle.watch_machine.specs.State.{State, entry_of, track_at}
+use Rattle.watch_machine.specs.State.{WatchState, entry_of, track_at}
 use Rattle.watch_machine.specs.Wanted.{least, wanted_need, wants}
 
 -- the clocks are compared at least so often: every half minute, and four times a margin
@@ -33,7 +33,7 @@ next_of margin e need p at x =
     if x.out then last else min (try_at p at last x x.attempt) (time_at margin e x need last)
 
 -- the least of these, and of the latest
-unfoldable pub wait : State → ℕ
+unfoldable pub wait : WatchState → ℕ
 wait s =
     least (latest s.forest.margin s.clocks.at)
     (map (λ i. next_of s.forest.margin (entry_of s i) (wanted_need s i) s.presence s.clocks.at (track_at s i)) (range_with_len 0 (length s.forest.entries)))

@@ -14,7 +14,7 @@ use Rattle.watch_machine.specs.declared.track.End.{End}
 use Rattle.watch_machine.specs.declared.track.End.TheVariants.{Unknown, At, Never}
 use Rattle.watch_machine.specs.declared.track.Track.{Track}
 use Rattle.watch_machine.specs.Clocks.{of_wall, sec, to_here}
-use Rattle.watch_machine.specs.State.{State, track_at, track_in}
+use Rattle.watch_machine.specs.State.{WatchState, track_at, track_in}
 
 -- an end as a number: 0 where it is unknown, and past every need where there is none
 abbrev pub believed : End → ℕ
@@ -72,8 +72,8 @@ abbrev pub ceiling_here : Clocks → Option ℕ → Option ℕ
 ceiling_here c ceiling = option_map (λ t. min END_MAX (to_here c.broker t)) ceiling
 
 -- an entry on this clock, by its believed end, its need cut to its limit
-unfoldable pub seen : List Entry → List Track → Clocks → ℕ → Entry
-seen es xs c i = record (entry_at es i) {
+unfoldable pub seen_entry : List Entry → List Track → Clocks → ℕ → Entry
+seen_entry es xs c i = record (entry_at es i) {
   end = believed (track_in xs i).end;
   renewable = (track_in xs i).renewable;
   ceiling = ceiling_here c (entry_at es i).ceiling;
@@ -81,7 +81,7 @@ seen es xs c i = record (entry_at es i) {
 }
 
 abbrev pub view : List Entry → List Track → Clocks → List Entry
-view es xs c = map (seen es xs c) (range_with_len 0 (length es))
+view es xs c = map (seen_entry es xs c) (range_with_len 0 (length es))
 
 -- the greatest need after now of an entry that i is over, 0 where there is none
 unfoldable pub need_of : List Entry → List Track → Clocks → ℕ → ℕ
@@ -92,10 +92,10 @@ unfoldable pub wants : Track → ℕ → Bool
 wants x need = (x.renewable || is_unknown x.end) && (not x.top && (not (is_never x.end) && nat_lt (believed x.end) need))
 
 -- these of a state
-abbrev pub wanted_need : State → ℕ → ℕ
+abbrev pub wanted_need : WatchState → ℕ → ℕ
 wanted_need s i = need_of s.forest.entries s.tracks s.clocks i
 
-abbrev pub is_wanted : State → ℕ → Bool
+abbrev pub is_wanted : WatchState → ℕ → Bool
 is_wanted s i = wants (track_at s i) (wanted_need s i)
 
 -- these loads are what the entries carry

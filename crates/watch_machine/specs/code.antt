@@ -3,4 +3,5 @@ pub mod View
 pub mod Rounds
 pub mod Places
 pub mod Outlook
+pub mod Lull
 pub mod Watching

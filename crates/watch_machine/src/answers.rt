@@ -1,7 +1,7 @@
 ghost use Rattle.std.specs.Prelude.{◌≡◌, ℕ, Some, map, min};
-ghost use Rattle.watch_machine.specs.code.Bounds.{IsOut, IsTrack, IsTry};
+ghost use Rattle.watch_machine.specs.code.Bounds.{IsTrack, IsTry, WentOutAtReading};
 ghost use Rattle.std.specs.List.{All};
-ghost use Rattle.watch_machine.specs.Answers.{back_track, back_try, busied, failing, heard, is_back, is_gone, link, without};
+ghost use Rattle.watch_machine.specs.Answers.{back_track, back_try, busied, failing, heard, is_back, link, presence_gone, without_request};
 ghost use Rattle.watch_machine.specs.State.{each};
 
 use crate::beginning::hastened;
@@ -39,19 +39,19 @@ pub(crate) fn busied(attempt: Try, next: Operation) -> Try
 }
 
 /// Takes the request of that entry out of those that are out.
-#[tactic(auto, unfolding(crate::specs::Answers::without))]
+#[tactic(auto, unfolding(crate::specs::Answers::without_request))]
 pub(crate) fn take_out(out: &mut Vec<Out>, entry: u32)
-    requires { All IsOut out.old.items }
-    ensures value { out.new.items ≡ without entry out.old.items }
-    ensures bounds { All IsOut out.new.items }
+    requires { All WentOutAtReading out.old.items }
+    ensures value { out.new.items ≡ without_request entry out.old.items }
+    ensures bounds { All WentOutAtReading out.new.items }
 {
     out.retain(|request| request.entry != entry);
 }
 
 fn heard(request: Out) -> Out
-    requires { IsOut request }
+    requires { WentOutAtReading request }
     ensures value { result ≡ heard request }
-    ensures bounds { IsOut result }
+    ensures bounds { WentOutAtReading result }
 {
     Out {
         heard: true,
@@ -61,9 +61,9 @@ fn heard(request: Out) -> Out
 
 /// A real answer came to another: all that are out hear of it.
 pub(crate) fn hear_all(out: &mut [Out])
-    requires { All IsOut out.old }
+    requires { All WentOutAtReading out.old }
     ensures value { out.new ≡ map heard out.old }
-    ensures bounds { All IsOut out.new }
+    ensures bounds { All WentOutAtReading out.new }
 {
     for index in 0..out.len() {
         out[index] = heard(out[index]);
@@ -128,7 +128,7 @@ pub(crate) fn is_back(presence: Presence) -> Presence
 
 /// The broker is away, and nothing is held back yet.
 pub(crate) fn is_gone(presence: Presence) -> Presence
-    ensures { result ≡ is_gone presence }
+    ensures { result ≡ presence_gone presence }
 {
     Presence {
         away: true,

@@ -1,27 +1,31 @@
-ghost use Rattle.std.specs.Prelude.{◌≡◌, IfErr, IfOk, OnErr, length};
+ghost use Rattle.std.specs.Prelude.{◌≡◌, [], IfErr, IfOk, IfSome, OnErr, length};
 ghost use Rattle.watch_machine.specs.code.Bounds.{IsClocks, IsTrack};
 ghost use Rattle.std.specs.List.{All};
 ghost use Rattle.watch_machine.specs.Settling.{clocks_after, has_jumped, has_stepped};
-ghost use Rattle.watch_machine.specs.Step.{StepClock};
+ghost use Rattle.watch_machine.specs.Step.{StepClock, nothing_noted};
 ghost use Rattle.watch_machine.specs.Beginning.{beginning, begun_tracks, noted_begun, owing_all, untopped};
 ghost use Rattle.watch_machine.specs.Press.{pressed_tracks};
-ghost use Rattle.watch_machine.specs.Round.{IsRound, asked_by};
+ghost use Rattle.watch_machine.specs.Round.{IsRound, asked_by_round};
+ghost use Rattle.watch_machine.specs.code.Lull.{IsQuiet, quieted};
 ghost use Rattle.watch_machine.specs.code.View.{Sees};
 ghost use Rattle.watch_machine.specs.code.View.{IsView};
+ghost use Rattle.watch_machine.specs.declared.command.Command.TheVariants.{Go};
 ghost use Rattle.watch_machine.specs.declared.fault.WatchFault.TheVariants.{OutOfMemory};
 
 use crate::beginning::{clear_tops, is_any_urgent, is_past, owe_all};
-use crate::clocks::Clocks;
+use crate::clocks::{Clocks, goes_on};
 use crate::command::{Command, Output, Requests};
 use crate::fault::WatchFault;
+use crate::lanes::Presence;
+use crate::lull::Lull;
 use crate::notes::{Notes, Why};
 use crate::press::{press_alone, press_round};
-use crate::reading::{moment_at, reading, second};
+use crate::reading::{Millis, moment_at, reading, second};
 use crate::round::round;
 use crate::sending::{going, out_with, send_all};
-use crate::settling::{dated_by_all, presence_after, settled_tracks};
+use crate::settling::{dated_by_all, is_holding, pace_after, presence_after, settled_tracks};
 use crate::track::Track;
-use crate::waiting::wait;
+use crate::waiting::{latest, wait};
 use crate::wanted::write_view;
 use crate::watch::Watch;
 use keep_needs::{Carried, carry};
@@ -90,6 +94,69 @@ impl Watch {
         ensures refused { IfErr result (λ fault. fault ≡ OutOfMemory) }
         ensures unchanged { OnErr result (self.new ≡ self.old) }
     {
+        let timed = self.timed(wall, elapsed);
+        match self.quiet_until(timed) {
+            None => self.whole_clock(alloc, wall, elapsed),
+            Some(until) => Ok(self.quiet_clock(alloc, timed, until)),
+        }
+    }
+
+    /// Until when to wait, where nothing is to be done of any entry and the clocks go on as before; `None` where that is not known.
+    fn quiet_until(&self, timed: Shown) -> Option<Millis>
+        requires { IsClocks timed.clocks }
+        ensures { IfSome result (λ until. IsQuiet self.now timed.clocks timed.stepped timed.jumped until) }
+    {
+        let Some(lull) = self.lull else {
+            return None;
+        };
+        let clocks = timed.clocks;
+        if !lull.lasts(clocks.at) {
+            return None;
+        }
+        if !goes_on(clocks, self.clocks) {
+            return None;
+        }
+        if is_holding(&self.answers, self.presence) {
+            return None;
+        }
+        match self.reason(timed, &self.tracks) {
+            Some(_) => None,
+            None => Some(latest(self.forest.margin(), clocks.at).min(lull.next)),
+        }
+    }
+
+    /// A clock at which nothing is to be done of any entry: none is looked at.
+    fn quiet_clock(&mut self, alloc: Global, timed: Shown, until: Millis) -> Output
+        requires quiet { IsQuiet self.old timed.clocks timed.stepped timed.jumped until }
+        requires clocks { IsClocks timed.clocks }
+        ensures state { self.new ≡ quieted self.old timed.clocks timed.stepped }
+        ensures output { result ≡ record { command = Go [] until; notes = nothing_noted } }
+    {
+        let pace = pace_after(timed.clocks.at, self.presence.pace, &self.answers);
+        self.presence = Presence {
+            pace,
+            ..self.presence
+        };
+        self.answers.clear();
+        self.clocks = timed.clocks;
+        self.stepped = timed.stepped;
+        Output {
+            command: Command::Go {
+                requests: Requests {
+                    items: Vec::new(alloc),
+                },
+                until,
+            },
+            notes: Notes::none(),
+        }
+    }
+
+    /// A clock at which all entries are gone through. Refused, for lack of memory alone, it leaves the watch as it was.
+    fn whole_clock(&mut self, alloc: Global, wall: u64, elapsed: u64) -> Result<Output, WatchFault>
+        ensures step { IfOk result (λ output. StepClock self.old wall elapsed output self.new) }
+        ensures refused { IfErr result (λ fault. fault ≡ OutOfMemory) }
+        ensures unchanged { OnErr result (self.new ≡ self.old) }
+    {
         let margin = self.forest.margin();
         let timed = self.timed(wall, elapsed);
         let clocks = timed.clocks;
@@ -118,12 +185,14 @@ impl Watch {
         let out = out_with(alloc, &self.out, at, &requests)?;
         send_all(&mut tracks, at, &requests);
         let until = wait(&self.forest, &tracks, &needs, presence, at);
+        let lull = Lull::after(&requests, &self.forest, &tracks, &needs, clocks, presence);
         self.tracks = tracks;
         self.out = out;
         self.answers.clear();
         self.clocks = clocks;
         self.presence = presence;
         self.stepped = timed.stepped;
+        self.lull = lull;
         self.note_begun(why);
         Ok(Output {
             command: Command::Go {
@@ -244,7 +313,7 @@ fn press(
     requires bounds { All IsTrack tracks.old }
     requires clocks { IsClocks clocks }
     ensures round { IfOk result (λ round. IsRound forest.now tracks.old clocks round) }
-    ensures tracks { IfOk result (λ round. tracks.new ≡ pressed_tracks forest.now clocks (asked_by round) tracks.old) }
+    ensures tracks { IfOk result (λ round. tracks.new ≡ pressed_tracks forest.now clocks (asked_by_round round) tracks.old) }
     ensures count { length tracks.new ≡ length forest.now.entries }
     ensures view { IsView view.new forest.now }
     ensures refused { IfErr result (λ fault. fault ≡ OutOfMemory) }

@@ -1,10 +1,11 @@
-ghost use Rattle.std.specs.Prelude.{◌≡◌, ◌≤◌, ◌*◌, ◌+◌, IfSome};
+ghost use Rattle.std.specs.Prelude.{◌≡◌, ◌≤◌, ◌*◌, ◌+◌, IfSome, IsTrue};
 ghost use Rattle.keep_moment.specs.declared.moment.TheConstants.{LAST};
 ghost use Rattle.keep_tree.specs.declared.forest.TheConstants.{END_MAX};
 ghost use Rattle.watch_machine.specs.Clocks.{dated_by, first_clocks, is_ahead, is_behind, is_stepped, of_wall, phase_of, to_broker, to_here, to_wall, unset, walled};
 ghost use Rattle.watch_machine.specs.Settling.{at_reading};
 ghost use Rattle.watch_machine.specs.Wanted.{ceiling_here, need_here};
 ghost use Rattle.watch_machine.specs.code.Bounds.{IsClocks};
+ghost use Rattle.watch_machine.specs.code.Lull.{GoesOn};
 ghost use Rattle.watch_machine.specs.declared.reading.TheConstants.{READING_MAX};
 
 use crate::reading::{BrokerSeconds, Millis, WallMillis, reading, second};
@@ -134,7 +135,7 @@ impl Clocks {
     }
 
     /// The clocks at a later reading of this one; a reading before the last one is taken as that.
-    #[tactic(auto, unfolding(crate::specs::Clocks::moment))]
+    #[tactic(auto, unfolding(crate::specs::Clocks::moment_at_reading))]
     pub(crate) fn later(self, elapsed: u64) -> Clocks
         requires { IsClocks self }
         ensures value { result ≡ at_reading self elapsed }
@@ -255,4 +256,15 @@ impl Clocks {
             Some(ceiling) => Some(self.broker.to_here(ceiling).min(END_MAX)),
         }
     }
+}
+
+/// Whether these are later readings, by which the broker's clock and the wall's go beside this one as before.
+pub(crate) fn goes_on(now: Clocks, before: Clocks) -> bool
+    ensures { IsTrue result → GoesOn now before }
+{
+    before.at <= now.at
+        && now.broker.here == before.broker.here
+        && now.broker.there == before.broker.there
+        && now.wall.here == before.wall.here
+        && now.wall.there == before.wall.there
 }

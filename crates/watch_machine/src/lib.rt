@@ -5,6 +5,8 @@
 //! step does is defined in `specs/`: a rule of one entry is a word of the values that it depends on, a state is made anew by such
 //! words entry by entry, and each step of the machine is the turn of the definitions (`History.Turn`).
 //!
+//! While nothing is to be done of any entry (`lull`) a clock goes through no entry.
+//!
 //! Begin with `event` and `command`, then `track` and `lanes`.
 #![tactic(auto)]
 
@@ -18,6 +20,7 @@ mod fault;
 mod lanes;
 mod lines;
 mod looked;
+mod lull;
 mod margins;
 mod new_terms;
 mod notes;

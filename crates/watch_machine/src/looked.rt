@@ -1,9 +1,9 @@
 ghost use Rattle.std.specs.Prelude.{◌≡◌, ◌<◌, ◌&&◌, not, Some, is_some, length, ◌≤◌, IfSome};
-ghost use Rattle.watch_machine.specs.code.Bounds.{IsOut, IsTrack, IsTry};
+ghost use Rattle.watch_machine.specs.code.Bounds.{IsTrack, IsTry, WentOutAtReading};
 ghost use Rattle.watch_machine.specs.declared.reading.TheConstants.{READING_MAX};
 ghost use Rattle.keep_tree.specs.Push.{is_lease};
 ghost use Rattle.watch_machine.specs.Answers.{with_track};
-ghost use Rattle.watch_machine.specs.Looked.{after_look, at_once, is_called_for, looked, refused_try, status_of, told_by, told_state, told_track, told_try, untold_track, untold_try};
+ghost use Rattle.watch_machine.specs.Looked.{after_look, at_once, is_called_for, looked, refused_try, status_of, told_state, told_track, told_try, untold_track, untold_try, with_told_try};
 ghost use Rattle.watch_machine.specs.State.{entry_of, track_at};
 ghost use Rattle.watch_machine.specs.Step.{notes_of, notes_told, notes_untold};
 
@@ -174,7 +174,7 @@ impl Watch {
     /// Takes the answer to a lookup for its entry, and gives what is noted of that.
     pub(crate) fn looked(&mut self, request: Out, reply: Reply, terms: Terms) -> Notes
         requires within { request.entry < length self.old.forest.entries }
-        requires request { IsOut request }
+        requires request { WentOutAtReading request }
         ensures state { self.new ≡ looked self.old request reply terms }
         ensures notes { result ≡ notes_of self.old request reply terms }
     {
@@ -223,12 +223,13 @@ impl Watch {
     /// Takes what a lookup told of an entry, but for its try.
     fn take_told(&mut self, request: Out, seconds: Span, renewable: bool, terms: Terms)
         requires within { request.entry < length self.old.forest.entries }
-        requires request { IsOut request }
+        requires request { WentOutAtReading request }
         ensures { self.new ≡ told_state self.old request.entry request.since seconds renewable terms }
     {
         let entry = request.entry;
         let before = self.track(entry);
         let track = told_track(before, request.since, seconds, renewable, terms.endless);
+        self.lull = None;
         take_terms(&mut self.forest, entry, terms);
         take_orphan(&mut self.view, entry, terms);
         self.tracks[entry as usize] = track;
@@ -237,7 +238,7 @@ impl Watch {
     /// Sets the try after a lookup that told of its entry.
     fn set_after(&mut self, entry: u32)
         requires { entry < length self.old.forest.entries }
-        ensures { self.new ≡ told_by self.old entry }
+        ensures { self.new ≡ with_told_try self.old entry }
     {
         let is_due = self.is_called_for(entry);
         let track = self.track(entry);

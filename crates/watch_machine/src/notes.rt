@@ -1,5 +1,5 @@
 ghost use Rattle.std.specs.Prelude.{◌≡◌};
-ghost use Rattle.watch_machine.specs.Step.{nothing};
+ghost use Rattle.watch_machine.specs.Step.{nothing_noted};
 
 use keep_tree::Indices;
 
@@ -47,7 +47,7 @@ pub struct Notes {
 impl Notes {
     /// Nothing is to be noted.
     pub(crate) fn none() -> Notes
-        ensures { result ≡ nothing }
+        ensures { result ≡ nothing_noted }
     {
         Notes {
             began: None,

@@ -1,10 +1,11 @@
 //! What a watch says of itself between two events.
 ghost use Rattle.std.specs.Prelude.{◌≡◌, ◌<◌, IfErr, IfOk, is_some, length};
 ghost use Rattle.keep_tree.specs.declared.forest.TheConstants.{END_MAX};
-ghost use Rattle.watch_machine.specs.Outlook.{IsNext, broker_moment, is_timed, is_timed_at};
+ghost use Rattle.watch_machine.specs.Outlook.{IsNextTime, broker_moment, is_timed, is_timed_at};
 ghost use Rattle.watch_machine.specs.State.{track_at};
 ghost use Rattle.watch_machine.specs.Wanted.{HasNeeds, is_wanted};
-ghost use Rattle.watch_machine.specs.code.Outlook.{earlier};
+ghost use Rattle.watch_machine.specs.code.Lull.{shown_by};
+ghost use Rattle.watch_machine.specs.code.Outlook.{earlier_next};
 ghost use Rattle.watch_machine.specs.declared.fault.WatchFault.TheVariants.{OutOfMemory};
 
 use crate::clock_step::needs_of;
@@ -16,7 +17,7 @@ use crate::track::{End, Track};
 use crate::wanted::{carried_need, is_alive, wants, write_view};
 use crate::watch::Watch;
 use keep_needs::Carried;
-use keep_tree::END_MAX;
+use keep_tree::{END_MAX, Forest};
 use std::alloc::Global;
 
 /// The next time of an entry that is wanted.
@@ -30,7 +31,7 @@ pub struct Next {
 
 /// The earlier of the first time so far and that of an entry, of which the one so far is of a lower index.
 fn earlier(first: Option<Next>, at: u64, entry: u32) -> Option<Next>
-    ensures { result ≡ earlier first at entry }
+    ensures { result ≡ earlier_next first at entry }
 {
     match first {
         Some(first) if first.at <= at => Some(first),
@@ -44,6 +45,30 @@ fn is_timed(track: Track, need: u64, now: u64) -> bool
     ensures { result ≡ is_timed now track need }
 {
     wants(track, need) && is_alive(track, now)
+}
+
+/// The first time of the entries that are wanted and whose end is ahead, by what they carry.
+pub(crate) fn first_time(
+    forest: &Forest,
+    tracks: &[Track],
+    needs: &Carried,
+    clocks: Clocks,
+) -> Option<Next>
+    requires count { length tracks.now ≡ length forest.now.entries }
+    requires needs { length needs.now ≡ length forest.now.entries }
+    ensures { HasNeeds forest.now.entries tracks.now clocks needs.now → IsNextTime (shown_by forest.now tracks.now clocks) result }
+{
+    let now = second(clocks.at);
+    let margin = forest.margin();
+    let mut first = None;
+    for index in 0..forest.len() {
+        let track = tracks[index as usize];
+        if is_timed(track, needs.need(index), now) {
+            let at = time(margin, forest.get(index), track);
+            first = earlier(first, at, index);
+        }
+    }
+    first
 }
 
 impl Watch {
@@ -91,10 +116,13 @@ impl Watch {
     /// The first time of the entries that are wanted and whose end is ahead, `None` where there is none; of an entry that is
     /// asked and not yet granted it may be past. The only error is lack of memory.
     pub fn next(&mut self, alloc: Global) -> Result<Option<Next>, WatchFault>
-        ensures next { IfOk result (λ next. IsNext self.old next) }
+        ensures next { IfOk result (λ next. IsNextTime self.old next) }
         ensures refused { IfErr result (λ fault. fault ≡ OutOfMemory) }
         ensures unchanged { self.new ≡ self.old }
     {
+        if let Some(lull) = self.lull {
+            return Ok(lull.ahead);
+        }
         let needs = needs_of(
             alloc,
             &mut self.view,
@@ -102,24 +130,7 @@ impl Watch {
             &self.tracks,
             self.clocks,
         )?;
-        Ok(self.next_time(&needs))
-    }
-
-    /// The same, by what the entries carry.
-    fn next_time(&self, needs: &Carried) -> Option<Next>
-        requires needs { length needs.now ≡ length self.now.forest.entries }
-        ensures { HasNeeds self.now.forest.entries self.now.tracks self.now.clocks needs.now → IsNext self.now result }
-    {
-        let now = second(self.clocks.at);
-        let margin = self.forest.margin();
-        let mut first = None;
-        for index in 0..self.forest.len() {
-            let track = self.track(index);
-            if is_timed(track, needs.need(index), now) {
-                let at = time(margin, self.forest.get(index), track);
-                first = earlier(first, at, index);
-            }
-        }
-        first
+        let next = first_time(&self.forest, &self.tracks, &needs, self.clocks);
+        Ok(next)
     }
 }

@@ -4,7 +4,7 @@ ghost use Rattle.watch_machine.specs.declared.reading.TheConstants.{READING_MAX}
 ghost use Rattle.std.specs.List.{All};
 ghost use Rattle.keep_needs.specs.Carried.{load_at};
 ghost use Rattle.keep_tree.specs.Forest.{entry_at};
-ghost use Rattle.watch_machine.specs.Press.{asked_in, asked_track, dropped, is_fresh, press, pressed_track};
+ghost use Rattle.watch_machine.specs.Press.{asked_track, dropped, is_fresh, press, pressed_track, track_asked_in};
 ghost use Rattle.watch_machine.specs.State.{each};
 
 use crate::beginning::{is_pressed, soon};
@@ -137,7 +137,7 @@ pub(crate) fn press_round(tracks: &mut [Track], forest: &Forest, round: &[u32], 
     requires within { length tracks.old ≡ length forest.now.entries }
     requires at { at ≤ READING_MAX }
     requires tracks { All IsTrack tracks.old }
-    ensures value { tracks.new ≡ each (λ i. asked_in forest.now.margin (entry_at forest.now.entries i) at round.now i) tracks.old }
+    ensures value { tracks.new ≡ each (λ i. track_asked_in forest.now.margin (entry_at forest.now.entries i) at round.now i) tracks.old }
     ensures bounds { All IsTrack tracks.new }
 {
     let margin = forest.margin();

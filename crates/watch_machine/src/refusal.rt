@@ -1,5 +1,5 @@
 ghost use Rattle.std.specs.Prelude.{◌≡◌, ◌==◌, ◌&&◌, IfSome};
-ghost use Rattle.watch_machine.specs.code.Bounds.{IsOut};
+ghost use Rattle.watch_machine.specs.code.Bounds.{WentOutAtReading};
 ghost use Rattle.watch_machine.specs.Refusal.{is_same, refusal, request_out, unless_asked};
 
 use crate::event::{Event, Operation};
@@ -60,7 +60,7 @@ impl Watch {
     #[tactic(auto, unfolding(crate::specs::Refusal::request_out))]
     pub(crate) fn request_out(&self, entry: u32, operation: Operation) -> Option<Out>
         ensures value { result ≡ request_out self.now.out entry operation }
-        ensures bounds { IfSome result IsOut }
+        ensures bounds { IfSome result WentOutAtReading }
     {
         self.out
             .iter()

@@ -1,9 +1,9 @@
 ghost use Rattle.std.specs.Prelude.{◌≡◌, ◌<◌, ◌+◌, length, min, ◌≤◌, IfSome};
-ghost use Rattle.watch_machine.specs.code.Bounds.{IsOut, IsTrack, IsTry};
+ghost use Rattle.watch_machine.specs.code.Bounds.{IsTrack, IsTry, WentOutAtReading};
 ghost use Rattle.watch_machine.specs.declared.reading.TheConstants.{READING_MAX};
 ghost use Rattle.keep_tree.specs.declared.forest.TheConstants.{END_MAX};
 ghost use Rattle.watch_machine.specs.Clocks.{sec};
-ghost use Rattle.watch_machine.specs.Renewed.{after_renewal, end_at, from_base, from_try, granted, granted_from, granted_try, is_no_further, renewed, renewed_track, time_from, top_by, track_renewed, ungranted_track, ungranted_try};
+ghost use Rattle.watch_machine.specs.Renewed.{after_renewal, end_at, from_base, from_try, granted, granted_from, granted_try, is_no_further, renewed_track, state_renewed, time_from, top_by, track_renewed, ungranted_track, ungranted_try};
 
 use crate::answers::{busied, failing};
 use crate::beginning::owed;
@@ -220,7 +220,7 @@ fn renewed_track(
     track: Track,
 ) -> Track
     requires at { at ≤ READING_MAX }
-    requires request { IsOut request }
+    requires request { WentOutAtReading request }
     requires track { IsTrack track }
     ensures value { result ≡ renewed_track margin step at request reply track }
     ensures bounds { IsTrack result }
@@ -270,8 +270,8 @@ impl Watch {
     /// Takes the answer to a renewal for its entry, and gives its end where it is led no further.
     pub(crate) fn renewed(&mut self, request: Out, reply: Reply) -> Option<u64>
         requires within { request.entry < length self.old.forest.entries }
-        requires request { IsOut request }
-        ensures state { self.new ≡ renewed self.old request reply }
+        requires request { WentOutAtReading request }
+        ensures state { self.new ≡ state_renewed self.old request reply }
         ensures top { result ≡ top_by reply (track_renewed self.old request reply) }
     {
         let track = renewed_track(

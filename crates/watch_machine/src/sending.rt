@@ -1,5 +1,5 @@
 ghost use Rattle.std.specs.Prelude.{◌≡◌, ◌++◌, ◌-◌, ℕ, Some, IfOk, IsPermutation, IsSortedBy, length, map, take, ◌≤◌};
-ghost use Rattle.watch_machine.specs.code.Bounds.{IsOut, IsTrack};
+ghost use Rattle.watch_machine.specs.code.Bounds.{IsTrack, WentOutAtReading};
 ghost use Rattle.watch_machine.specs.declared.reading.TheConstants.{READING_MAX};
 ghost use Rattle.std.specs.List.{All};
 ghost use Rattle.std.specs.List.{list_any};
@@ -212,7 +212,7 @@ pub(crate) fn send_all(tracks: &mut [Track], at: Millis, requests: &[Request])
 fn out_at(at: Millis, request: Request) -> Out
     requires { at ≤ READING_MAX }
     ensures value { result ≡ out_at at request }
-    ensures bounds { IsOut result }
+    ensures bounds { WentOutAtReading result }
 {
     Out {
         entry: request.entry,
@@ -230,9 +230,9 @@ pub(crate) fn out_with(
     requests: &[Request],
 ) -> Result<Vec<Out>, AllocError>
     requires at { at ≤ READING_MAX }
-    requires out { All IsOut out.now }
+    requires out { All WentOutAtReading out.now }
     ensures value { IfOk result (λ all. all.items ≡ out.now ++ map (out_at at) requests.now) }
-    ensures bounds { IfOk result (λ all. All IsOut all.items) }
+    ensures bounds { IfOk result (λ all. All WentOutAtReading all.items) }
 {
     let mut all = Vec::from_slice(alloc, out)?;
     for request in requests {

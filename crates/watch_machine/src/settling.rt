@@ -1,4 +1,4 @@
-ghost use Rattle.std.specs.Prelude.{◌≡◌, ◌≤◌, ◌&&◌, ℕ, IfOk, IfSome, min};
+ghost use Rattle.std.specs.Prelude.{◌≡◌, ◌≤◌, ◌&&◌, ◌||◌, ℕ, IfOk, IfSome, min};
 ghost use Rattle.watch_machine.specs.code.Bounds.{IsClocks, IsTrack, IsTry};
 ghost use Rattle.watch_machine.specs.declared.reading.TheConstants.{READING_MAX};
 ghost use Rattle.std.specs.List.{All};
@@ -131,7 +131,7 @@ fn paced(at: Millis, pace: u32, answer: Answer) -> u32
 }
 
 /// How long answers take, after these.
-fn pace_after(at: Millis, pace: u32, answers: &[Answer]) -> u32
+pub(crate) fn pace_after(at: Millis, pace: u32, answers: &[Answer]) -> u32
     ensures { result ≡ pace_after at pace answers.now }
 {
     let mut now = pace;
@@ -264,6 +264,13 @@ fn is_any_busy(answers: &[Answer]) -> bool
     ensures { result ≡ list_any (λ (a : Answer). is_busy a.reply) answers.now }
 {
     answers.iter().any(|answer| is_busy(answer.reply))
+}
+
+/// Whether these answers may change until when tries are held back.
+pub(crate) fn is_holding(answers: &[Answer], presence: Presence) -> bool
+    ensures { result ≡ (list_any (λ (a : Answer). is_busy a.reply) answers.now || (presence.away && list_any is_silent answers.now)) }
+{
+    is_any_busy(answers) || (presence.away && is_any_silent(answers))
 }
 
 /// The presence after these answers, but for how long answers take.

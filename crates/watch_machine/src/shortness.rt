@@ -90,7 +90,7 @@ impl Watch {
 
     /// How far an entry can be led, in seconds by the broker's clock, where that is before its need and the need is ahead; else
     /// `None`. It is also `None` while a lookup is owed of the entry or of one over it, which may tell more.
-    #[tactic(auto, unfolding(crate::specs::Shortness::short_of, crate::specs::Shortness::least_reach))]
+    #[tactic(auto, unfolding(crate::specs::Shortness::short_of, crate::specs::Shortness::least_own_reach))]
     pub fn short_of(&self, index: u32) -> Option<u64>
         requires { index < length self.now.forest.entries }
         ensures { result ≡ short_of self.now index }

@@ -5,7 +5,7 @@ ghost use Rattle.watch_machine.specs.declared.fault.WatchFault.TheVariants.{OutO
 ghost use Rattle.watch_machine.specs.History.{Turn};
 ghost use Rattle.watch_machine.specs.Looked.{looked};
 ghost use Rattle.watch_machine.specs.Refusal.{refusal, request_out};
-ghost use Rattle.watch_machine.specs.Renewed.{renewed};
+ghost use Rattle.watch_machine.specs.Renewed.{state_renewed};
 ghost use Rattle.watch_machine.specs.Step.{StepLooked, StepRenewed, notes_looked, notes_renewed, taken};
 ghost use Rattle.watch_machine.specs.declared.event.Operation.TheVariants.{Look, Renew};
 
@@ -126,6 +126,7 @@ impl Watch {
         ensures link { result ≡ link self.old request reply }
     {
         let was_away = self.presence.away;
+        self.lull = None;
         take_out(&mut self.out, request.entry);
         if is_real(reply) {
             self.answers_all();
@@ -142,6 +143,7 @@ impl Watch {
     fn answers_all(&mut self)
         ensures { self.new ≡ answers_all self.old }
     {
+        self.lull = None;
         hear_all(&mut self.out);
         if self.presence.away {
             back_all(&mut self.tracks);

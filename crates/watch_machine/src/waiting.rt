@@ -21,7 +21,7 @@ use keep_tree::{Entry, Forest};
 
 /// The clocks are compared at least so often: every half minute, and four times a margin.
 #[tactic(auto, unfolding(crate::specs::Wait::latest))]
-fn latest(margin: u32, at: Millis) -> Millis
+pub(crate) fn latest(margin: u32, at: Millis) -> Millis
     requires { at ≤ READING_MAX }
     ensures { result ≡ latest margin at }
 {

@@ -3,7 +3,7 @@ ghost use Rattle.watch_machine.specs.code.Bounds.{IsClocks, IsEnd, IsTrack};
 ghost use Rattle.std.specs.List.{All};
 ghost use Rattle.keep_tree.specs.declared.forest.TheConstants.{END_MAX};
 ghost use Rattle.keep_tree.specs.Carried.{carried};
-ghost use Rattle.watch_machine.specs.Wanted.{believed, is_alive, is_fixed, is_open, is_unknown, least_over, seen, wants};
+ghost use Rattle.watch_machine.specs.Wanted.{believed, is_alive, is_fixed, is_open, is_unknown, least_over, seen_entry, wants};
 ghost use Rattle.watch_machine.specs.Wanted as wanted;
 ghost use Rattle.watch_machine.specs.code.View.{IsView};
 
@@ -115,7 +115,7 @@ pub(crate) fn write_seen(
     requires bounds { All IsTrack tracks.now }
     requires clocks { IsClocks clocks }
     ensures view { IsView view.new forest.now }
-    ensures written { view.new.entries ≡ slice_set view.old.entries index (seen forest.now.entries tracks.now clocks index) }
+    ensures written { view.new.entries ≡ slice_set view.old.entries index (seen_entry forest.now.entries tracks.now clocks index) }
 {
     let entry = forest.get(index);
     let track = tracks[index as usize];

@@ -6,12 +6,13 @@ ghost use Rattle.keep_moment.specs.declared.moment.TheConstants.{LAST};
 ghost use Rattle.watch_machine.specs.Answers.{with_track};
 ghost use Rattle.watch_machine.specs.declared.fault.WatchFault.TheVariants.{OutOfMemory};
 ghost use Rattle.watch_machine.specs.declared.track.End.TheVariants.{At};
-ghost use Rattle.watch_machine.specs.State.{fresh_track, opened, present, track_at};
-ghost use Rattle.watch_machine.specs.Step.{known, needed};
+ghost use Rattle.watch_machine.specs.State.{broker_present, fresh_track, opened, track_at};
+ghost use Rattle.watch_machine.specs.Step.{known, with_need_until};
 
 use crate::clocks::Clocks;
 use crate::fault::WatchFault;
 use crate::lanes::{Answer, Out, Presence};
+use crate::lull::Lull;
 use crate::reading::{Millis, moment_at};
 use crate::track::{End, Track};
 use keep_moment::LAST;
@@ -41,17 +42,19 @@ pub struct Watch {
     pub(crate) begun: Option<Millis>,
     pub(crate) asked: bool,
     pub(crate) stepped: bool,
+    // how long nothing is to be done but to take answers, where that is known
+    pub(crate) lull: Option<Lull>,
 }
 
 impl Model for Watch {
-    ghost use Rattle.watch_machine.specs.State.{State};
+    ghost use Rattle.watch_machine.specs.State.{WatchState};
     ghost use Rattle.watch_machine.specs.code.Watching.{IsWatch};
 
-    ghost Value = { State };
+    ghost Value = { WatchState };
 
     ghost view = { λ w. record { forest = w.forest; width = w.width; tracks = w.tracks.items; out = w.out.items; answers = w.answers.items; clocks = w.clocks; presence = w.presence; begun = w.begun; asked = w.asked; stepped = w.stepped } };
 
-    ghost invariant = { λ w. IsWatch w.forest w.view w.tracks.items w.out.items w.clocks };
+    ghost invariant = { λ w. IsWatch w.forest w.view w.tracks.items w.out.items w.clocks w.presence w.lull };
 }
 
 /// What is known of an entry that is watched from now on.
@@ -85,7 +88,7 @@ fn fresh_tracks(alloc: Global, forest: &Forest) -> Result<Vec<Track>, AllocError
 
 /// The broker is there, and nothing is held back.
 fn present() -> Presence
-    ensures { result ≡ present }
+    ensures { result ≡ broker_present }
 {
     Presence {
         away: false,
@@ -130,14 +133,16 @@ impl Watch {
             begun: None,
             asked: false,
             stepped: false,
+            lull: None,
         })
     }
 
     /// The entry is needed until that moment by the broker's clock.
     pub(crate) fn need(&mut self, entry: u32, until: u64)
         requires { entry < length self.old.forest.entries }
-        ensures { self.new ≡ needed self.old entry until }
+        ensures { self.new ≡ with_need_until self.old entry until }
     {
+        self.lull = None;
         self.forest.set_need(entry, moment_at(LAST.min(until)));
     }
 
@@ -193,6 +198,7 @@ impl Watch {
         requires track { IsTrack track }
         ensures { self.new ≡ with_track self.old entry track }
     {
+        self.lull = None;
         self.tracks[entry as usize] = track;
     }
 }

@@ -36,5 +36,5 @@ pub record IsTrack (x : Track) : Type 0 where
   pub last : IfSome x.last (λ last. last ≤ READING_MAX)
 
 -- it went out at a reading
-abbrev pub IsOut : Out → Type 0
-IsOut r = r.since ≤ READING_MAX
+abbrev pub WentOutAtReading : Out → Type 0
+WentOutAtReading r = r.since ≤ READING_MAX

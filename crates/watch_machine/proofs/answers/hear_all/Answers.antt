@@ -4,7 +4,7 @@ use Rattle.std.proofs.lemmas.List.{append-nil, drop_all, get_or_default, take_al
 use Rattle.std.proofs.lemmas.List.Edits.{map_over_more}
 use Rattle.std.proofs.lemmas.List.Elements.{All-set}
 use Rattle.watch_machine.specs.Answers.{heard}
-use Rattle.watch_machine.specs.code.Bounds.{IsOut}
+use Rattle.watch_machine.specs.code.Bounds.{WentOutAtReading}
 use Rattle.watch_machine.proofs.answers.hear_all.Goals as goal
 
 pub loop-index-preserved : goal.loop-index-preserved
@@ -16,7 +16,7 @@ loop-index-preserved c =
     let here : k < length now = omega arith in
     record {
       is = ap (set now k) c.heard.ensures.value ∙ map_over_more heard old now k _ within c.loop-index.invariant.is (get_or_default now k _ _ here);
-      bounds = All-set IsOut now k c.heard.result c.heard.ensures.bounds c.loop-index.invariant.bounds;
+      bounds = All-set WentOutAtReading now k c.heard.result c.heard.ensures.bounds c.loop-index.invariant.bounds;
     }
 
 pub returns-clause-value : goal.returns-clause-value

@@ -2,11 +2,11 @@
 use Rattle.std.proofs.Common.{◌≡◌, ◌++◌, drop, length, map, take}
 use Rattle.std.specs.List.{All}
 use Rattle.watch_machine.specs.Answers.{heard}
-use Rattle.watch_machine.specs.code.Bounds.{IsOut}
+use Rattle.watch_machine.specs.code.Bounds.{WentOutAtReading}
 use Rattle.watch_machine.proofs.answers.hear_all.Given as goal
 
 abbrev pub invariant-loop-index : goal.invariant-loop-index
 invariant-loop-index l = record {
   is : l.out ≡ map heard (take l.index l.initial.out) ++ drop l.index l.initial.out;
-  bounds : All IsOut l.out;
+  bounds : All WentOutAtReading l.out;
 }

@@ -2,8 +2,8 @@
 use Rattle.std.proofs.Common.{◌≡◌, ◌∙◌, List, [], ap, sym}
 use Rattle.keep_tree.specs.Forest.{entry_at}
 use Rattle.watch_machine.specs.declared.track.Track.{Track}
-use Rattle.watch_machine.specs.Press.{asked_in, pressed_alone, pressed_tracks}
-use Rattle.watch_machine.specs.Round.{asked_by}
+use Rattle.watch_machine.specs.Press.{pressed_alone, pressed_tracks, track_asked_in}
+use Rattle.watch_machine.specs.Round.{asked_by_round}
 use Rattle.watch_machine.specs.State.{each}
 use Rattle.watch_machine.proofs.Owing.{none_asked, pressed_are}
 use Rattle.watch_machine.proofs.Seeing.{has_needs}
@@ -27,7 +27,7 @@ returns-clause-tracks c =
     let alone : mid ≡ pressed_alone g k old = c.press_alone.ensures.value ∙ pressed_are g old k needs c.requires.count (has_needs c.args.view.now g old k needs c.requires.needs) in
     elim c.match-round.branch [
       | in-Some w ↦
-          w.tracks-is ∙ w.press_round.ensures.value ∙ ap (λ r. each (λ i. asked_in g.margin (entry_at g.entries i) k.at r i) mid) w.list.ensures
-          ∙ ap (λ ys. each (λ i. asked_in g.margin (entry_at g.entries i) k.at w.in-Some.asked i) ys) alone ∙ ap (λ r. pressed_tracks g k (asked_by r) old) (sym w.in-Some.is)
-      | in_default w ↦ w.tracks-is ∙ alone ∙ sym (none_asked g k old) ∙ ap (λ r. pressed_tracks g k (asked_by r) old) (sym w.in_default.is)
+          w.tracks-is ∙ w.press_round.ensures.value ∙ ap (λ r. each (λ i. track_asked_in g.margin (entry_at g.entries i) k.at r i) mid) w.list.ensures
+          ∙ ap (λ ys. each (λ i. track_asked_in g.margin (entry_at g.entries i) k.at w.in-Some.asked i) ys) alone ∙ ap (λ r. pressed_tracks g k (asked_by_round r) old) (sym w.in-Some.is)
+      | in_default w ↦ w.tracks-is ∙ alone ∙ sym (none_asked g k old) ∙ ap (λ r. pressed_tracks g k (asked_by_round r) old) (sym w.in_default.is)
     ]

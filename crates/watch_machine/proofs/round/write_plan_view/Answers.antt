@@ -6,9 +6,9 @@ use Rattle.keep_tree.specs.Forest.{Forest, entry_at}
 use Rattle.watch_machine.specs.declared.clocks.Clocks.{Clocks}
 use Rattle.watch_machine.specs.declared.track.Track.{Track}
 use Rattle.watch_machine.specs.Clocks.{sec}
-use Rattle.watch_machine.specs.Round.{planned, planned_by}
+use Rattle.watch_machine.specs.Round.{entry_planned, planned_by}
 use Rattle.watch_machine.specs.State.{no_track, track_in}
-use Rattle.watch_machine.specs.Wanted.{need_of, seen}
+use Rattle.watch_machine.specs.Wanted.{need_of, seen_entry}
 use Rattle.watch_machine.proofs.Opening.{halfway_end, halfway_more, halfway_start, plan_written, seen_at, shape_planned}
 use Rattle.watch_machine.proofs.View.{view_set}
 use Rattle.watch_machine.proofs.round.write_plan_view.Goals as goal
@@ -16,10 +16,10 @@ use Rattle.watch_machine.proofs.round.write_plan_view.Goals as goal
 -- an entry as the Asks take it, by what was read of it
 planned_read :
     (g : Forest) (xs : List Track) (c : Clocks) (i m need now : ℕ) (e : Entry) (x : Track) → m ≡ g.margin → e ≡ entry_at g.entries i → x ≡ track_in xs i →
-    need ≡ need_of g.entries xs c i → now ≡ sec c.at → planned_by m e x need now (seen g.entries xs c i) ≡ planned g xs c i
-unfolding planned
+    need ≡ need_of g.entries xs c i → now ≡ sec c.at → planned_by m e x need now (seen_entry g.entries xs c i) ≡ entry_planned g xs c i
+unfolding entry_planned
 planned_read g xs c i m need now e x margins entries tracks needs at =
-    let f = seen g.entries xs c i in
+    let f = seen_entry g.entries xs c i in
     ap (λ n. planned_by n e x need now f) margins ∙ ap (λ y. planned_by g.margin y x need now f) entries
     ∙ ap (λ y. planned_by g.margin (entry_at g.entries i) y need now f) tracks
     ∙ ap (λ n. planned_by g.margin (entry_at g.entries i) (track_in xs i) n now f) needs

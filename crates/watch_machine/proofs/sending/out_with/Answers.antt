@@ -4,7 +4,7 @@ use Rattle.std.proofs.lemmas.List.{append-nil, append_assoc, map_more, take_all}
 use Rattle.std.proofs.lemmas.List.Elements.{All-push}
 use Rattle.std.specs.List.{All}
 use Rattle.watch_machine.specs.Sending.{out_at}
-use Rattle.watch_machine.specs.code.Bounds.{IsOut}
+use Rattle.watch_machine.specs.code.Bounds.{WentOutAtReading}
 use Rattle.watch_machine.proofs.sending.out_with.Goals as goal
 
 pub loop-request-preserved : goal.loop-request-preserved
@@ -18,7 +18,7 @@ loop-request-preserved c =
       is =
           c.in_ok-push.ensures.items ∙ ap (λ ys. ys ++ c.out_at.result ∷ []) c.loop-request.invariant.is ∙ append_assoc out (map f (take k rs)) (c.out_at.result ∷ [])
           ∙ ap (λ ys. out ++ ys) (ap (λ y. map f (take k rs) ++ y ∷ []) c.out_at.ensures.value ∙ sym (map_more f rs k _ within));
-      bounds = subst (All IsOut) (sym c.in_ok-push.ensures.items) (All-push IsOut c.loop-request.all.items c.out_at.result c.loop-request.invariant.bounds c.out_at.ensures.bounds);
+      bounds = subst (All WentOutAtReading) (sym c.in_ok-push.ensures.items) (All-push WentOutAtReading c.loop-request.all.items c.out_at.result c.loop-request.invariant.bounds c.out_at.ensures.bounds);
     }
 
 pub returns-clause-value : goal.returns-clause-value

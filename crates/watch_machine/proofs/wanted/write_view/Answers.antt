@@ -1,6 +1,6 @@
 -- Each entry is written as it is seen, after those before it; in the end that is the view.
 use Rattle.std.proofs.Common.{◌<◌, length, arith}
-use Rattle.watch_machine.specs.Wanted.{seen}
+use Rattle.watch_machine.specs.Wanted.{seen_entry}
 use Rattle.watch_machine.proofs.View.{view_written, written_more}
 use Rattle.watch_machine.proofs.wanted.write_view.Goals as goal
 
@@ -11,7 +11,7 @@ loop-index-preserved c =
     let within : n < length es = omega (arith, c.len-index-end.ensures.value, c.loop-index.invariant.view.count) in
     record {
       view = c.write_seen.ensures.view;
-      written = written_more (seen c.args.forest.now.entries c.args.tracks.now c.args.clocks) es c.write_seen.new.view.entries n within c.write_seen.ensures.written c.loop-index.invariant.written;
+      written = written_more (seen_entry c.args.forest.now.entries c.args.tracks.now c.args.clocks) es c.write_seen.new.view.entries n within c.write_seen.ensures.written c.loop-index.invariant.written;
     }
 
 pub returns-clause-written : goal.returns-clause-written

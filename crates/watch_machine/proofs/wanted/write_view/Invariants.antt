@@ -1,7 +1,7 @@
 -- The entries before the index are written as they are seen.
 use Rattle.std.proofs.Common.{◌≡◌, ◌<◌, ℕ}
 use Rattle.keep_tree.specs.Forest.{entry_at}
-use Rattle.watch_machine.specs.Wanted.{seen}
+use Rattle.watch_machine.specs.Wanted.{seen_entry}
 use Rattle.watch_machine.specs.code.View.{IsView}
 use Rattle.watch_machine.proofs.wanted.write_view.Given as goal
 
@@ -9,5 +9,5 @@ use Rattle.watch_machine.proofs.wanted.write_view.Given as goal
 abbrev pub invariant-loop-index : goal.invariant-loop-index
 invariant-loop-index l = record {
   view : IsView l.view l.forest;
-  written : (k : ℕ) → k < l.index → entry_at l.view.entries k ≡ seen l.forest.entries l.tracks l.clocks k;
+  written : (k : ℕ) → k < l.index → entry_at l.view.entries k ≡ seen_entry l.forest.entries l.tracks l.clocks k;
 }

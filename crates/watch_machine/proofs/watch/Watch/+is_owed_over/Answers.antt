@@ -6,7 +6,7 @@ use Rattle.keep_tree.proofs.Chains.{ParentsFirst}
 use Rattle.keep_tree.proofs.Placed.{parents_first}
 use Rattle.watch_machine.specs.declared.track.Track.{Track}
 use Rattle.watch_machine.specs.Shortness.{is_owed_over}
-use Rattle.watch_machine.specs.State.{State, track_at}
+use Rattle.watch_machine.specs.State.{WatchState, track_at}
 use Rattle.watch_machine.proofs.Reaching.{any_child, any_own, any_root}
 use Rattle.watch_machine.proofs.watch.Watch.+is_owed_over.Goals as goal
 
@@ -25,7 +25,7 @@ returns-in-None t c =
     let i = c.args.index in
     let es = now.forest.entries in
     let track : c.track.result ≡ track_at now i = c.track.ensures.value in
-    let entry : c.get.result.now ≡ entry_at es i = c.get.ensures.value ∙ ap (λ (s : State). entry_at s.forest.entries i) c.self.view_is in
+    let entry : c.get.result.now ≡ entry_at es i = c.get.ensures.value ∙ ap (λ (s : WatchState). entry_at s.forest.entries i) c.self.view_is in
     any_root es i (λ a. (track_at now a).owes) (sym (ap (λ (e : Entry). e.parent) entry) ∙ c.in-None.is) (sym (ap (λ (x : Track). x.owes) track) ∙ c.if-track.false)
 
 pub returns-in-Some : goal.returns-in-Some
@@ -36,7 +36,7 @@ returns-in-Some t c =
     let p = c.in-Some.parent in
     let es = now.forest.entries in
     let track : c.track.result ≡ track_at now i = c.track.ensures.value in
-    let entry : c.get.result.now ≡ entry_at es i = c.get.ensures.value ∙ ap (λ (s : State). entry_at s.forest.entries i) c.self.view_is in
+    let entry : c.get.result.now ≡ entry_at es i = c.get.ensures.value ∙ ap (λ (s : WatchState). entry_at s.forest.entries i) c.self.view_is in
     let child : (entry_at es i).parent ≡ Some p = sym (ap (λ (e : Entry). e.parent) entry) ∙ c.in-Some.is in
-    let first : ParentsFirst es = subst (λ (s : State). ParentsFirst s.forest.entries) c.self.view_is (parents_first c.self.inside.forest c.get.ensures.sound) in
+    let first : ParentsFirst es = subst (λ (s : WatchState). ParentsFirst s.forest.entries) c.self.view_is (parents_first c.self.inside.forest c.get.ensures.sound) in
     c.is_owed_over.ensures ∙ any_child es i (λ a. (track_at now a).owes) p first child (sym (ap (λ (x : Track). x.owes) track) ∙ c.if-track.false)

@@ -6,7 +6,7 @@ use Rattle.keep_tree.specs.Over.{chain}
 use Rattle.keep_tree.proofs.Chains.{ParentsFirst}
 use Rattle.keep_tree.proofs.Placed.{parents_first}
 use Rattle.watch_machine.specs.Shortness.{own_reach}
-use Rattle.watch_machine.specs.State.{State}
+use Rattle.watch_machine.specs.State.{WatchState}
 use Rattle.watch_machine.specs.Wanted.{least}
 use Rattle.watch_machine.proofs.Reaching.{least_child, least_root}
 use Rattle.watch_machine.proofs.watch.Watch.+least_reach.Goals as goal
@@ -16,7 +16,7 @@ returns-in-None t c =
     let now = c.args.self.now in
     let i = c.args.index in
     let es = now.forest.entries in
-    let entry : c.get.result.now ≡ entry_at es i = c.get.ensures.value ∙ ap (λ (s : State). entry_at s.forest.entries i) c.self.view_is in
+    let entry : c.get.result.now ≡ entry_at es i = c.get.ensures.value ∙ ap (λ (s : WatchState). entry_at s.forest.entries i) c.self.view_is in
     let root : (entry_at es i).parent ≡ None = sym (ap (λ (e : Entry). e.parent) entry) ∙ c.in-None.is in
     c.min-least.ensures ∙ least_root es i (own_reach now) c.args.above c.own_reach.result root c.own_reach.ensures
 
@@ -26,8 +26,8 @@ returns-in-Some t c =
     let i = c.args.index in
     let p = c.in-Some.parent in
     let es = now.forest.entries in
-    let entry : c.get.result.now ≡ entry_at es i = c.get.ensures.value ∙ ap (λ (s : State). entry_at s.forest.entries i) c.self.view_is in
+    let entry : c.get.result.now ≡ entry_at es i = c.get.ensures.value ∙ ap (λ (s : WatchState). entry_at s.forest.entries i) c.self.view_is in
     let child : (entry_at es i).parent ≡ Some p = sym (ap (λ (e : Entry). e.parent) entry) ∙ c.in-Some.is in
-    let first : ParentsFirst es = subst (λ (s : State). ParentsFirst s.forest.entries) c.self.view_is (parents_first c.self.inside.forest c.get.ensures.sound) in
+    let first : ParentsFirst es = subst (λ (s : WatchState). ParentsFirst s.forest.entries) c.self.view_is (parents_first c.self.inside.forest c.get.ensures.sound) in
     c.least_reach.ensures ∙ ap (λ n. least n (map (own_reach now) (chain es p))) c.min-least.ensures
     ∙ least_child es i (own_reach now) c.args.above c.own_reach.result p first child c.own_reach.ensures

@@ -4,7 +4,7 @@ use Rattle.keep_tree.specs.declared.entry.Entry.{Entry}
 use Rattle.keep_tree.specs.Carried.{carried}
 use Rattle.watch_machine.specs.declared.track.Track.{Track}
 use Rattle.watch_machine.specs.Margins.{has_come}
-use Rattle.watch_machine.specs.State.{State, entry_of, second, track_at}
+use Rattle.watch_machine.specs.State.{WatchState, entry_of, second, track_at}
 use Rattle.watch_machine.specs.Wanted.{is_wanted, need_of, view, wanted_need, wants}
 use Rattle.watch_machine.proofs.Tests.{and_yes}
 use Rattle.watch_machine.proofs.watch.Watch.is_called_for.Goals as goal
@@ -24,10 +24,10 @@ returns-clause-value c =
     c.carried_need-need.ensures ∙ ap (λ es. carried es c.moment_at.result i) c.write_view.ensures.written
     ∙ ap (λ xs. carried (view w.forest.entries xs w.clocks) c.moment_at.result i) c.deref.ensures.value
     ∙ ap (λ now. carried (view w.forest.entries w.tracks.items w.clocks) now i) (c.moment_at.ensures ∙ c.second-now.ensures.value)
-    ∙ ap (λ (s : State). wanted_need s i) c.self.view_is in
+    ∙ ap (λ (s : WatchState). wanted_need s i) c.self.view_is in
     let come : c.has_come.result ≡ has_come n.forest.margin (entry_of n i) (track_at n i) (second n) =
     c.has_come.ensures
-    ∙ come_same _ _ _ _ _ _ _ _ (c.margin.ensures ∙ ap (λ (s : State). s.forest.margin) c.self.view_is) (c.get.ensures.value ∙ ap (λ (s : State). entry_of s i) c.self.view_is)
-    c.track-track.ensures.value (c.second-now.ensures.value ∙ ap (λ (s : State). second s) c.self.view_is) in
+    ∙ come_same _ _ _ _ _ _ _ _ (c.margin.ensures ∙ ap (λ (s : WatchState). s.forest.margin) c.self.view_is) (c.get.ensures.value ∙ ap (λ (s : WatchState). entry_of s i) c.self.view_is)
+    c.track-track.ensures.value (c.second-now.ensures.value ∙ ap (λ (s : WatchState). second s) c.self.view_is) in
     c.wants.ensures ∙ ap (λ (x : Track). wants x need) c.track-track.ensures.value ∙ ap (wants (track_at n i)) needs
     ∙ sym (and_yes (is_wanted n i) (has_come n.forest.margin (entry_of n i) (track_at n i) (second n)) (sym come ∙ c.if-not-has_come.false))

@@ -2,7 +2,7 @@
 use Rattle.std.proofs.Common.{◌≡◌, ◌∙◌, ℕ, ap, subst}
 use Rattle.keep_tree.specs.Carried.{carried}
 use Rattle.watch_machine.specs.declared.track.Track.{Track}
-use Rattle.watch_machine.specs.State.{State}
+use Rattle.watch_machine.specs.State.{WatchState}
 use Rattle.watch_machine.specs.Wanted.{is_wanted, need_of, view, wants}
 use Rattle.watch_machine.proofs.watch.Watch.is_wanted.Goals as goal
 
@@ -15,5 +15,5 @@ returns-clause-value c =
     let need : c.carried_need-need.result ≡ need_of w.forest.entries w.tracks.items w.clocks i =
     c.carried_need-need.ensures ∙ ap (λ es. carried es c.moment_at.result i) (c.write_view.ensures.written ∙ ap (λ xs. view w.forest.entries xs w.clocks) c.deref.ensures.value)
     ∙ ap (λ n. carried seen n i) (c.moment_at.ensures ∙ c.second.ensures.value) in
-    subst (λ (t : State). c.wants.result ≡ is_wanted t i) c.self.view_is
+    subst (λ (t : WatchState). c.wants.result ≡ is_wanted t i) c.self.view_is
     (c.wants.ensures ∙ ap (wants c.track.result) need ∙ ap (λ (x : Track). wants x (need_of w.forest.entries w.tracks.items w.clocks i)) c.track.ensures.value)

@@ -15,4 +15,5 @@ invariant_of-self c =
       tracks = kept.tracks;
       out = kept.out;
       clocks = kept.clocks;
+      lull = tt;
     }

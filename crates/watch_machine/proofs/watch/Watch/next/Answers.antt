@@ -1,17 +1,52 @@
--- By the needs that the view carries, the next time is that of the definitions.
+-- In a lull the next time is known; else it is found by the needs that the view carries.
 use Rattle.std.proofs.Common.{subst}
-use Rattle.keep_tree.specs.Forest.{Forest}
-use Rattle.watch_machine.specs.declared.track.Track.{Track}
-use Rattle.watch_machine.specs.Outlook.{IsNext}
-use Rattle.watch_machine.specs.State.{State}
+use Rattle.watch_machine.specs.Outlook.{IsNextTime}
+use Rattle.watch_machine.specs.State.{WatchState}
+use Rattle.watch_machine.specs.Wanted.{HasNeeds}
+use Rattle.watch_machine.specs.code.Lull.{IsLull, shown_by}
 use Rattle.watch_machine.specs.code.View.{Sees}
+use Rattle.watch_machine.proofs.Cases.{of_value}
+use Rattle.watch_machine.proofs.Lulls.{next_shown}
 use Rattle.watch_machine.proofs.Seeing.{has_needs}
 use Rattle.watch_machine.proofs.watch.Watch.next.Goals as goal
+
+pub returns-in-Some-clause-next : goal.returns-in-Some-clause-next
+returns-in-Some-clause-next c =
+    let w = c.self.inside in
+    let s : WatchState = record {
+      forest = w.forest;
+      width = w.width;
+      tracks = w.tracks.items;
+      out = w.out.items;
+      answers = w.answers.items;
+      clocks = w.clocks;
+      presence = w.presence;
+      begun = w.begun;
+      asked = w.asked;
+      stepped = w.stepped;
+    } in
+    let lull = c.in-Some.lull in
+    let is = of_value (IsLull w.forest w.tracks.items w.clocks w.presence) w.lull lull c.self.invariant.lull c.in-Some.is in
+    subst (λ (t : WatchState). IsNextTime t lull.ahead) c.self.view_is (next_shown s lull.ahead is.told)
 
 pub returns-clause-next : goal.returns-clause-next
 returns-clause-next c =
     let w = c.self.inside in
+    let s : WatchState = record {
+      forest = w.forest;
+      width = w.width;
+      tracks = w.tracks.items;
+      out = w.out.items;
+      answers = w.answers.items;
+      clocks = w.clocks;
+      presence = w.presence;
+      begun = w.begun;
+      asked = w.asked;
+      stepped = w.stepped;
+    } in
     let view = c.needs_of.new.view in
     let needs = c.in_ok-needs.needs in
     let sees : Sees view w.forest w.tracks.items w.clocks needs = subst (λ xs. Sees view w.forest xs w.clocks needs) c.deref.ensures.value c.in_ok-needs.ensures.needs in
-    subst (λ (t : State). IsNext t c.next_time.result) c.self.view_is (c.next_time.ensures (has_needs view w.forest w.tracks.items w.clocks needs sees))
+    let next = c.first_time-next.result in
+    let found = subst (λ xs. HasNeeds w.forest.entries xs w.clocks needs → IsNextTime (shown_by w.forest xs w.clocks) next) c.deref-2.ensures.value c.first_time-next.ensures in
+    subst (λ (t : WatchState). IsNextTime t next) c.self.view_is (next_shown s next (found (has_needs view w.forest w.tracks.items w.clocks needs sees)))

@@ -5,8 +5,8 @@ use Rattle.std.proofs.lemmas.Iterator.Search.{find_from_yields_List}
 use Rattle.std.specs.Option.{option_copied}
 use Rattle.watch_machine.specs.declared.lanes.Out.{Out}
 use Rattle.watch_machine.specs.Refusal.{is_same, request_out}
-use Rattle.watch_machine.specs.State.{State}
-use Rattle.watch_machine.specs.code.Bounds.{IsOut}
+use Rattle.watch_machine.specs.State.{WatchState}
+use Rattle.watch_machine.specs.code.Bounds.{WentOutAtReading}
 use Rattle.watch_machine.proofs.Within.{out_all}
 use Rattle.watch_machine.proofs.watch.Watch.request_out.Goals as goal
 
@@ -22,7 +22,7 @@ found c =
     ∙ find_from_yields_List test _ _ c.find.result c.find.ensures.ran (YieldsList-from_slice c.self.inside.out.items (c.iter.ensures.rest ∙ c.deref.ensures.value)) (λ x b q k. search (rules, tests))
 
 pub returns-clause-value : goal.returns-clause-value
-returns-clause-value c = found c ∙ ap (λ (s : State). request_out s.out c.args.entry c.args.operation) c.self.view_is
+returns-clause-value c = found c ∙ ap (λ (s : WatchState). request_out s.out c.args.entry c.args.operation) c.self.view_is
 
 pub returns-clause-bounds : goal.returns-clause-bounds
-returns-clause-bounds c = subst (λ o. IfSome o IsOut) (sym (found c)) (out_all IsOut c.self.inside.out.items c.args.entry c.args.operation c.self.invariant.out)
+returns-clause-bounds c = subst (λ o. IfSome o WentOutAtReading) (sym (found c)) (out_all WentOutAtReading c.self.inside.out.items c.args.entry c.args.operation c.self.invariant.out)

@@ -7,9 +7,9 @@ use Rattle.watch_machine.specs.declared.notes.Notes.{Notes}
 use Rattle.watch_machine.specs.Answers.{link, noted, replied}
 use Rattle.watch_machine.specs.Looked.{looked}
 use Rattle.watch_machine.specs.Refusal.{request_out}
-use Rattle.watch_machine.specs.State.{State}
+use Rattle.watch_machine.specs.State.{WatchState}
 use Rattle.watch_machine.specs.Step.{StepLooked, notes_of, taken, with_link}
-use Rattle.watch_machine.specs.code.Bounds.{IsOut}
+use Rattle.watch_machine.specs.code.Bounds.{WentOutAtReading}
 use Rattle.watch_machine.proofs.Cases.{of_value}
 use Rattle.watch_machine.proofs.Within.{out_entry}
 use Rattle.watch_machine.proofs.watch.Watch.take_looked.Goals as goal
@@ -20,11 +20,11 @@ looked-notes-requires-clause-within c =
     let i = c.args.entry in
     let r = c.in-Some.request in
     let found : request_out old.out i Look ≡ Some r = sym c.request_out.ensures.value ∙ c.in-Some.is in
-    subst (λ (s : State). r.entry < length s.forest.entries) (sym c.in_ok-note.ensures.value)
+    subst (λ (s : WatchState). r.entry < length s.forest.entries) (sym c.in_ok-note.ensures.value)
     (subst (λ n. n < length old.forest.entries) (sym (out_entry old.out i Look r found)) c.requires)
 
 pub looked-notes-requires-clause-request : goal.looked-notes-requires-clause-request
-looked-notes-requires-clause-request c = of_value IsOut c.request_out.result c.in-Some.request c.request_out.ensures.bounds c.in-Some.is
+looked-notes-requires-clause-request c = of_value WentOutAtReading c.request_out.result c.in-Some.request c.request_out.ensures.bounds c.in-Some.is
 
 pub returns-clause-step : goal.returns-clause-step
 returns-clause-step c =
@@ -34,12 +34,12 @@ returns-clause-step c =
     let reply = c.args.reply in
     let terms = c.args.terms in
     let new = c.replied-link.new.self in
-    let s : State = noted old r reply in
+    let s : WatchState = noted old r reply in
     let found : request_out old.out i Look ≡ Some r = sym c.request_out.ensures.value ∙ c.in-Some.is in
-    let taken' : c.looked-notes.new.self ≡ looked s r reply terms = c.looked-notes.ensures.state ∙ ap (λ (t : State). looked t r reply terms) c.in_ok-note.ensures.value in
-    let notes : c.looked-notes.result ≡ notes_of s r reply terms = c.looked-notes.ensures.notes ∙ ap (λ (t : State). notes_of t r reply terms) c.in_ok-note.ensures.value in
-    let linked : c.replied-link.result ≡ link (looked s r reply terms) r reply = c.replied-link.ensures.link ∙ ap (λ (t : State). link t r reply) taken' in
+    let taken' : c.looked-notes.new.self ≡ looked s r reply terms = c.looked-notes.ensures.state ∙ ap (λ (t : WatchState). looked t r reply terms) c.in_ok-note.ensures.value in
+    let notes : c.looked-notes.result ≡ notes_of s r reply terms = c.looked-notes.ensures.notes ∙ ap (λ (t : WatchState). notes_of t r reply terms) c.in_ok-note.ensures.value in
+    let linked : c.replied-link.result ≡ link (looked s r reply terms) r reply = c.replied-link.ensures.link ∙ ap (λ (t : WatchState). link t r reply) taken' in
     subst (λ (o : Option Out). StepLooked old o reply terms c.taken.result new) (sym found) (
       c.taken.ensures ∙ ap (λ (n : Notes). taken (with_link n c.replied-link.result)) notes ∙ ap (λ (l : Option Link). taken (with_link (notes_of s r reply terms) l)) linked,
-      c.replied-link.ensures.state ∙ ap (λ (t : State). replied t r reply) taken',
+      c.replied-link.ensures.state ∙ ap (λ (t : WatchState). replied t r reply) taken',
     )

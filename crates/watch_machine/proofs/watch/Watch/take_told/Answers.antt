@@ -6,7 +6,7 @@ use Rattle.keep_tree.specs.Forest.{Forest}
 use Rattle.watch_machine.specs.declared.track.Track.{Track}
 use Rattle.watch_machine.specs.Answers.{with_track}
 use Rattle.watch_machine.specs.Looked.{told_track, with_terms}
-use Rattle.watch_machine.specs.State.{State, track_at}
+use Rattle.watch_machine.specs.State.{WatchState, track_at}
 use Rattle.watch_machine.specs.code.Bounds.{IsTrack}
 use Rattle.watch_machine.proofs.View.{told_alike, view_both}
 use Rattle.watch_machine.proofs.watch.Watch.take_told.Goals as goal
@@ -16,7 +16,7 @@ invariant_of-self c =
     let w = c.self.inside in
     let kept = c.self.invariant in
     let i = c.args.request.entry in
-    let within : i < length w.forest.entries = subst (λ (s : State). i < length s.forest.entries) (sym c.self.view_is) c.requires.within in
+    let within : i < length w.forest.entries = subst (λ (s : WatchState). i < length s.forest.entries) (sym c.self.view_is) c.requires.within in
     record {
       count = length-set w.tracks.items i c.told_track-track.result ∙ kept.count
           ∙ sym (ap (λ (g : Forest). length g.entries) c.take_terms.ensures ∙ length-set w.forest.entries i _);
@@ -25,6 +25,7 @@ invariant_of-self c =
       tracks = All-set IsTrack w.tracks.items i c.told_track-track.result c.told_track-track.ensures.bounds kept.tracks;
       out = kept.out;
       clocks = kept.clocks;
+      lull = tt;
     }
 
 pub returns : goal.returns
@@ -33,7 +34,7 @@ returns c =
     let i = c.args.request.entry in
     let terms = c.args.terms in
     let x = c.told_track-track.result in
-    let s : State = record {
+    let s : WatchState = record {
       forest = w.forest;
       width = w.width;
       tracks = w.tracks.items;
@@ -48,5 +49,5 @@ returns c =
     let track : x ≡ told_track c.args.request.since c.args.seconds c.args.renewable terms.endless (track_at c.args.self.now i) =
     c.told_track-track.ensures.value ∙ ap (told_track c.args.request.since c.args.seconds c.args.renewable terms.endless) c.track-before.ensures.value in
     ap (λ (g : Forest). record s { forest = g; tracks = set s.tracks i x }) c.take_terms.ensures
-    ∙ ap (λ (t : State). with_track (with_terms t i terms) i x) c.self.view_is
+    ∙ ap (λ (t : WatchState). with_track (with_terms t i terms) i x) c.self.view_is
     ∙ ap (λ (y : Track). with_track (with_terms c.args.self.now i terms) i y) track
