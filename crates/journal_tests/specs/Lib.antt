@@ -1,1 +1,2 @@
 pub mod Kills
+pub mod Sound

@@ -2,7 +2,7 @@
 //! acknowledged, and at most the change that was under way besides; and so it is where the restart is killed too.
 ghost use Rattle.std.specs.Prelude.{◌≡◌, IfOk, true};
 ghost use Rattle.keep_disk.specs.Memory.{memory_state};
-ghost use Rattle.keep_journal.specs.Journals.{Holds, path_of};
+ghost use Rattle.keep_journal.specs.Journals.{JournalHolds, path_of_journal};
 ghost use Rattle.journal_tests.specs.Kills.{AllKept, journal_path};
 
 use crate::recoveries::{JOURNAL, joined, stored};
@@ -10,14 +10,13 @@ use keep_disk::{DiskFault, Failing, MemoryDisk, Stored, Why};
 use keep_journal::{Journal, is_line};
 use keep_moment::Text;
 use std::alloc::{AllocError, Global};
-use std::process::Abort;
 use std::test::Fail;
 
 // The file that the records are settled in, or set aside in.
 const TARGET: &str = "tokens.toml";
 
 // A change of a journal.
-#[derive(Clone, Copy, Debug, PartialEq, Eq)]
+#[derive(Clone, Copy, Debug)]
 enum Change {
     Put,
     Compact,
@@ -102,10 +101,10 @@ fn make(
     journal: &mut Journal<'_>,
     disk: &mut MemoryDisk,
 ) -> Result<(), DiskFault>
-    requires held { Holds true journal.old (memory_state disk.old) }
-    requires path { path_of journal.old ≡ journal_path }
-    ensures held { Holds true journal.new (memory_state disk.new) }
-    ensures path { path_of journal.new ≡ journal_path }
+    requires held { JournalHolds true journal.old (memory_state disk.old) }
+    requires path { path_of_journal journal.old ≡ journal_path }
+    ensures held { JournalHolds true journal.new (memory_state disk.new) }
+    ensures path { path_of_journal journal.new ≡ journal_path }
 {
     let line = Text::of(alloc, b"last")?;
     if !is_line(line.list()) {
@@ -158,43 +157,64 @@ fn twice(alloc: Global, disk: &MemoryDisk, seed: u64, calls: u64) -> Result<Vec<
     there(alloc, &mut restarted(alloc, &torn, seed, Failing::Never)?)
 }
 
+// What a restart finds after a crash at this moment.
+fn found_after(alloc: Global, disk: &MemoryDisk, seed: u64) -> Result<Vec<u8>, Fail> {
+    there(alloc, &mut restarted(alloc, disk, seed, Failing::Never)?)
+}
+
+// Whether a restart finds that too where a restart before it was killed, at whatever call.
+fn is_found_again(alloc: Global, disk: &MemoryDisk, seed: u64, found: &[u8]) -> Result<bool, Fail> {
+    for calls in 0..RESTART_CALLS {
+        if twice(alloc, disk, seed, calls)?.as_slice() != found {
+            return Ok(false);
+        }
+    }
+    Ok(true)
+}
+
 fn is_one_of(found: &[u8], states: &[&[u8]]) -> bool {
     states.iter().any(|state| *state == found)
 }
 
-// The change is killed after so many calls, and what a restart finds is one of those that it may leave; the one that was
-// acknowledged, where it was. So it is where the restart is killed too.
-fn is_killed<R: AllocGlobal + Abort>(
-    rt: &R,
-    change: Change,
-    may_leave: &[&[u8]],
-    acknowledged: &[u8],
-    calls: u64,
-) -> Result<(), Fail> {
-    let alloc = rt.alloc();
-    let (disk, is_done) = killed(alloc, change, calls)?;
+// Whether what a restart finds is one of those that the change may leave; and so it is where the restart is killed too.
+fn is_left(alloc: Global, disk: &MemoryDisk, seed: u64, may_leave: &[&[u8]]) -> Result<bool, Fail> {
+    let found = found_after(alloc, disk, seed)?;
+    Ok(is_found_again(alloc, disk, seed, &found)? && is_one_of(&found, may_leave))
+}
+
+// The number of the first way of tearing, counted from 0, after which a restart finds none of these; `None` where there is none.
+fn first_lost(alloc: Global, disk: &MemoryDisk, may_leave: &[&[u8]]) -> Result<Option<u64>, Fail> {
     for seed in 0..SEEDS {
-        let found = there(alloc, &mut restarted(alloc, &disk, seed, Failing::Never)?)?;
-        assert!(rt;
-            !is_done || found.as_slice() == acknowledged,
-            "{change:?} {calls} {seed}"
-        );
-        assert!(rt; is_one_of(&found, may_leave), "{change:?} {calls} {seed}");
-        for again in 0..RESTART_CALLS {
-            assert!(rt;
-                twice(alloc, &disk, seed, again)? == found,
-                "{change:?} {calls} {seed}"
-            );
+        if !is_left(alloc, disk, seed, may_leave)? {
+            return Ok(Some(seed));
         }
     }
-    Ok(())
+    Ok(None)
+}
+
+// The change is killed after so many calls, and what a restart finds is one of those that it may leave; the one that was
+// acknowledged, where it was.
+fn first_lost_after(
+    alloc: Global,
+    change: Change,
+    calls: u64,
+    may_leave: &[&[u8]],
+    acknowledged: &[u8],
+) -> Result<Option<u64>, Fail> {
+    let (disk, is_done) = killed(alloc, change, calls)?;
+    if is_done {
+        first_lost(alloc, &disk, &[acknowledged])
+    } else {
+        first_lost(alloc, &disk, may_leave)
+    }
 }
 
 #[test]
 fn holds_where_it_is_killed(rt: HostRuntime) -> Result<(), Fail> {
     for (change, may_leave, acknowledged) in &CHANGES {
         for calls in 0..CALLS {
-            is_killed(&rt, *change, may_leave, acknowledged, calls)?;
+            let lost = first_lost_after(rt.alloc(), *change, calls, may_leave, acknowledged)?;
+            assert!(rt; lost.is_none(), "{change:?} {calls} {lost:?}");
         }
     }
     Ok(())
@@ -212,17 +232,10 @@ fn failed_and_made(alloc: Global, calls: u64) -> Result<(MemoryDisk, bool), Fail
 
 #[test]
 fn goes_on_after_a_failure(rt: HostRuntime) -> Result<(), Fail> {
-    let alloc = rt.alloc();
     for calls in 1..5 {
-        let (disk, is_lost) = failed_and_made(alloc, calls)?;
-        assert!(rt; is_lost, "{calls}");
-        for seed in 0..SEEDS {
-            let found = there(alloc, &mut restarted(alloc, &disk, seed, Failing::Never)?)?;
-            assert!(rt;
-                is_one_of(&found, &[b"old:a\nbb\n\nlast\n"]),
-                "{calls} {seed}"
-            );
-        }
+        let (disk, is_lost) = failed_and_made(rt.alloc(), calls)?;
+        let lost = first_lost(rt.alloc(), &disk, &[b"old:a\nbb\n\nlast\n"])?;
+        assert!(rt; is_lost && lost.is_none(), "{calls}: {is_lost} {lost:?}");
     }
     Ok(())
 }

@@ -3,10 +3,10 @@
 use Rattle.std.specs.Prelude.{◌≡◌, ℕ, List, false}
 use Rattle.std.specs.Str.{bytes_eq}
 use Rattle.keep_journal.specs.Records.{AreLines}
-use Rattle.keep_journal.specs.Journals.{lines_of, path_of}
+use Rattle.keep_journal.specs.Journals.{lines_of_journal, path_of_journal}
 use Rattle.keep_journal.specs.declared.journal.Journal.{Journal}
 
 -- its records are lines, and it stands apart from the file
-pub record IsSound (journal : Journal) (file : List ℕ) : Type 0 where
-  pub are_lines : AreLines (lines_of journal)
-  pub apart : bytes_eq (path_of journal) file ≡ false
+pub record JournalIsSound (journal : Journal) (file : List ℕ) : Type 0 where
+  pub are_lines : AreLines (lines_of_journal journal)
+  pub apart : bytes_eq (path_of_journal journal) file ≡ false

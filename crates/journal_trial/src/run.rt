@@ -1,4 +1,4 @@
-ghost use Rattle.journal_trial.specs.Trials.{IsSound};
+ghost use Rattle.journal_trial.specs.Trials.{JournalIsSound};
 
 use crate::book::{Book, read_book};
 use crate::changes::{compact, make, settle_all};
@@ -23,9 +23,9 @@ pub fn run<R: Env + Files<File = File> + AllocGlobal + Print + Input>(rt: &R) ->
     let mut disk = SystemDisk::new(rt);
     disk.make_folder(folder.as_str())?;
     let lock = format!(in alloc; "{folder}/lock")?;
-    if !disk.lock(lock.as_str())? {
+    let Some(_lock) = disk.lock(lock.as_str())? else {
         return Err(Fault::Held);
-    }
+    };
     let path = format!(in alloc; "{folder}/journal")?;
     let aside = format!(in alloc; "{folder}/journal.set-aside")?;
     keep(rt, &mut disk, file.as_str(), path.as_str(), aside.as_str())
@@ -69,7 +69,7 @@ fn answer_all<R: Files<File = File> + AllocGlobal + Print + Input>(
     file: &str,
     book: &mut Book,
 ) -> Result<(), Fault>
-    requires { IsSound journal.old file.now }
+    requires { JournalIsSound journal.old file.now }
 {
     let mut done = 0u64;
     for line in rt.lines(rt.alloc()) {
@@ -95,8 +95,8 @@ fn answer<R: Files<File = File> + AllocGlobal + Print>(
     book: &mut Book,
     line: &str,
 ) -> Result<Option<String>, Fault>
-    requires { IsSound journal.old file.now }
-    ensures { IsSound journal.new file.now }
+    requires { JournalIsSound journal.old file.now }
+    ensures { JournalIsSound journal.new file.now }
 {
     let alloc = rt.alloc();
     match line {
@@ -117,8 +117,8 @@ fn obey<R: Files<File = File> + AllocGlobal>(
     book: &mut Book,
     line: &str,
 ) -> Result<Option<String>, Fault>
-    requires { IsSound journal.old file.now }
-    ensures { IsSound journal.new file.now }
+    requires { JournalIsSound journal.old file.now }
+    ensures { JournalIsSound journal.new file.now }
 {
     let Some(Record::Made(change)) = read_record(alloc, line.as_bytes())? else {
         return Ok(Some(String::from_str(alloc, "no record")?));

@@ -4,12 +4,12 @@ use Rattle.std.proofs.lemmas.Bool.{true≢false, false≢true, cases_Bool}
 use Rattle.std.proofs.lemmas.Slice.Eq.{bytes_eq-Decides}
 use Rattle.std.proofs.lemmas.List.{take_at, drop_at, take_all, drop_all, take_more}
 use Rattle.std.specs.Str.{bytes_eq}
-use Rattle.keep_disk.specs.Image.{File, Image, changed, placed, with_bytes, overwritten}
-use Rattle.keep_disk.specs.Torn.{Torn, Cut, Tears, Moves, IsTornFile}
-use Rattle.keep_disk.specs.State.{State}
-use Rattle.keep_disk.specs.History.{after, after_all, left_after, file_after, sound_after}
+use Rattle.keep_disk.specs.Image.{File, Image, image_changed, with_file_at, with_bytes, overwritten}
+use Rattle.keep_disk.specs.Torn.{Torn, Cut, Tears, MovesFile, IsTornFile}
+use Rattle.keep_disk.specs.State.{DiskState}
+use Rattle.keep_disk.specs.History.{state_after_call, state_after_calls, left_after_what, file_after, sound_after}
 use Rattle.keep_disk.specs.Memory.{at_first}
-use Rattle.keep_disk.specs.Left.{MayStand, MayMake, IsFollowed}
+use Rattle.keep_disk.specs.Left.{MayStand, MayMake, PathIsFollowed}
 use Rattle.keep_disk.specs.declared.call.Call.{Call}
 use Rattle.keep_disk.specs.declared.call.What.{What}
 use Rattle.keep_disk.specs.declared.call.What.TheVariants as what
@@ -30,10 +30,10 @@ back path other apart = ⊎_elim
     (λ no. no)
     (cases_Bool (bytes_eq other path))
 
-at_place : (path : List ℕ) (f : Option File) (c : Image) → changed path (λ _. f) c path ≡ f
+at_place : (path : List ℕ) (f : Option File) (c : Image) → image_changed path (λ _. f) c path ≡ f
 at_place path f c = yes_side (bytes_eq path path) f (c path) ((bytes_eq-Decides path path).1 refl)
 
-past_place : (path : List ℕ) (f : Option File) (c : Image) (other : List ℕ) → bytes_eq path other ≡ false → changed path (λ _. f) c other ≡ c other
+past_place : (path : List ℕ) (f : Option File) (c : Image) (other : List ℕ) → bytes_eq path other ≡ false → image_changed path (λ _. f) c other ≡ c other
 past_place path f c other apart = no_side (bytes_eq path other) f (c other) apart
 
 -- a file in the place of one that was just put there
@@ -41,7 +41,7 @@ twice_side : (b : Bool) (f g h : Option File) → (if b then f else (if b then g
 twice_side true f g h = refl
 twice_side false f g h = refl
 
-put_twice : (path : List ℕ) (f g : Option File) (c : Image) → changed path (λ _. f) (changed path (λ _. g) c) ≡ changed path (λ _. f) c
+put_twice : (path : List ℕ) (f g : Option File) (c : Image) → image_changed path (λ _. f) (image_changed path (λ _. g) c) ≡ image_changed path (λ _. f) c
 put_twice path f g c = λ i other. twice_side (bytes_eq path other) f g (c other) i
 
 -- the file that stands there already
@@ -49,7 +49,7 @@ there_side : (c : Image) (path other : List ℕ) (b : Bool) → (b ≡ true → 
 there_side c path other true is = ap c (is refl)
 there_side c path other false is = refl
 
-put_back : (path : List ℕ) (c : Image) → changed path (λ _. c path) c ≡ c
+put_back : (path : List ℕ) (c : Image) → image_changed path (λ _. c path) c ≡ c
 put_back path c = λ i other. there_side c path other (bytes_eq path other) (bytes_eq-Decides path other).0 i
 
 -- two files at two paths, in either order
@@ -59,88 +59,88 @@ swap_side true false f g h apart = refl
 swap_side false true f g h apart = refl
 swap_side false false f g h apart = refl
 
-put_both : (p q : List ℕ) (f g : Option File) (c : Image) → bytes_eq q p ≡ false → changed p (λ _. f) (changed q (λ _. g) c) ≡ changed q (λ _. g) (changed p (λ _. f) c)
+put_both : (p q : List ℕ) (f g : Option File) (c : Image) → bytes_eq q p ≡ false → image_changed p (λ _. f) (image_changed q (λ _. g) c) ≡ image_changed q (λ _. g) (image_changed p (λ _. f) c)
 put_both p q f g c apart = λ i other. swap_side (bytes_eq p other) (bytes_eq q other) f g (c other)
     (λ one two. true≢false (sym ((bytes_eq-Decides q p).1 ((bytes_eq-Decides q other).0 two ∙ sym ((bytes_eq-Decides p other).0 one))) ∙ apart)) i
 
 -- a file that is torn in its place, and one past it
 tears_here : (path : List ℕ) (step : List ℕ → List ℕ → Type 0) (old new : Option File) (d c : Image) → Tears path step d c → IsTornFile step old new
-    → Tears path step (changed path (λ _. old) d) (changed path (λ _. new) c)
+    → Tears path step (image_changed path (λ _. old) d) (image_changed path (λ _. new) c)
 tears_here path step old new d c tears torn = record {
   elsewhere = λ other apart. past_place path new c other apart ∙ tears.elsewhere other apart ∙ sym (past_place path old d other apart);
-  there = subst (λ (o : Option File). IsTornFile step o (changed path (λ _. new) c path)) (sym (at_place path old d))
+  there = subst (λ (o : Option File). IsTornFile step o (image_changed path (λ _. new) c path)) (sym (at_place path old d))
       (subst (λ (o : Option File). IsTornFile step old o) (sym (at_place path new c)) torn);
 }
 
 tears_past : (q p : List ℕ) (step : List ℕ → List ℕ → Type 0) (f : Option File) (d c : Image) → bytes_eq q p ≡ false → Tears q step d c
-    → Tears q step (changed p (λ _. f) d) (changed p (λ _. f) c)
+    → Tears q step (image_changed p (λ _. f) d) (image_changed p (λ _. f) c)
 tears_past q p step f d c apart tears = record {
   elsewhere = λ other other_apart i. if bytes_eq p other then f else tears.elsewhere other other_apart i;
-  there = subst (λ (o : Option File). IsTornFile step o (changed p (λ _. f) c q)) (sym (past_place p f d q (back q p apart)))
+  there = subst (λ (o : Option File). IsTornFile step o (image_changed p (λ _. f) c q)) (sym (past_place p f d q (back q p apart)))
       (subst (λ (o : Option File). IsTornFile step (d q) o) (sym (past_place p f c q (back q p apart))) tears.there);
 }
 
 -- a call at the path
 stands_made : (asked : What) (path : List ℕ) (may_leave : Image → Type 0) (sound : Bool) (seen old new : Option File) → MayMake asked sound seen old new
-    → ((c : Image) → may_leave c → may_leave (changed path (λ _. old) c))
-    → (c : Image) → left_after asked path may_leave sound seen c → left_after asked path may_leave sound seen (changed path (λ _. new) c)
+    → ((c : Image) → may_leave c → may_leave (image_changed path (λ _. old) c))
+    → (c : Image) → left_after_what asked path may_leave sound seen c → left_after_what asked path may_leave sound seen (image_changed path (λ _. new) c)
 stands_made (what.Write at bytes done) path may_leave sound seen old new made stands c left =
-    (changed path (λ _. old) left.0, stands left.0 left.1, tears_here path (Torn at (length bytes.items)) old new left.0 c left.2 made)
+    (image_changed path (λ _. old) left.0, stands left.0 left.1, tears_here path (Torn at (length bytes.items)) old new left.0 c left.2 made)
 stands_made (what.Cut len done) path may_leave sound seen old new made stands c left =
-    (changed path (λ _. old) left.0, stands left.0 left.1, tears_here path (Cut len) old new left.0 c left.2 made)
+    (image_changed path (λ _. old) left.0, stands left.0 left.1, tears_here path (Cut len) old new left.0 c left.2 made)
 stands_made (what.Sync true) path may_leave true seen old new made stands c left =
     let is : new ≡ c path = made ∙ sym (left.1 refl) in
-    let same : changed path (λ _. new) c ≡ c = (λ i. changed path (λ _. is i) c) ∙ put_back path c in
+    let same : image_changed path (λ _. new) c ≡ c = (λ i. image_changed path (λ _. is i) c) ∙ put_back path c in
     (subst may_leave (sym same) left.0, λ sound. at_place path new c ∙ made)
 stands_made (what.Sync true) path may_leave false seen old new made stands c left =
-    (subst (λ (f : Option File). may_leave (changed path (λ _. f) c)) (sym made) (stands c left.0), λ sound. absurd (false≢true sound))
+    (subst (λ (f : Option File). may_leave (image_changed path (λ _. f) c)) (sym made) (stands c left.0), λ sound. absurd (false≢true sound))
 stands_made (what.Sync false) path may_leave sound seen old new made stands c left =
-    subst (λ (f : Option File). may_leave (changed path (λ _. f) c)) (sym made) (stands c left)
+    subst (λ (f : Option File). may_leave (image_changed path (λ _. f) c)) (sym made) (stands c left)
 stands_made (what.Move mode bytes done) path may_leave sound seen old new (inl same) stands c left =
-    (changed path (λ _. old) left.0, stands left.0 left.1, inl (here left.2))
+    (image_changed path (λ _. old) left.0, stands left.0 left.1, inl (here left.2))
   where
-    here : Moves path (record { mode = mode; bytes = bytes.items }) left.0 c → changed path (λ _. new) c ≡ changed path (λ _. old) left.0
-    here (inl is) = λ i. changed path (λ _. same i) (is i)
-    here (inr moved) = (λ i. changed path (λ _. same i) (moved i)) ∙ put_twice path old (Some (record { mode = mode; bytes = bytes.items })) left.0
+    here : MovesFile path (record { mode = mode; bytes = bytes.items }) left.0 c → image_changed path (λ _. new) c ≡ image_changed path (λ _. old) left.0
+    here (inl is) = λ i. image_changed path (λ _. same i) (is i)
+    here (inr moved) = (λ i. image_changed path (λ _. same i) (moved i)) ∙ put_twice path old (Some (record { mode = mode; bytes = bytes.items })) left.0
 stands_made (what.Move mode bytes done) path may_leave sound seen old new (inr is_new) stands c left =
     (left.0, left.1, inr (here left.2))
   where
-    here : Moves path (record { mode = mode; bytes = bytes.items }) left.0 c → changed path (λ _. new) c ≡ placed path (record { mode = mode; bytes = bytes.items }) left.0
-    here (inl is) = λ i. changed path (λ _. is_new i) (is i)
-    here (inr moved) = (λ i. changed path (λ _. is_new i) (moved i))
+    here : MovesFile path (record { mode = mode; bytes = bytes.items }) left.0 c → image_changed path (λ _. new) c ≡ with_file_at path (record { mode = mode; bytes = bytes.items }) left.0
+    here (inl is) = λ i. image_changed path (λ _. is_new i) (is i)
+    here (inr moved) = (λ i. image_changed path (λ _. is_new i) (moved i))
         ∙ put_twice path (Some (record { mode = mode; bytes = bytes.items })) (Some (record { mode = mode; bytes = bytes.items })) left.0
 
 -- a call at another path
 stands_past : (asked : What) (q p : List ℕ) (may_leave : Image → Type 0) (sound : Bool) (seen f : Option File) → bytes_eq q p ≡ false
-    → ((c : Image) → may_leave c → may_leave (changed p (λ _. f) c))
-    → (c : Image) → left_after asked q may_leave sound seen c → left_after asked q may_leave sound seen (changed p (λ _. f) c)
+    → ((c : Image) → may_leave c → may_leave (image_changed p (λ _. f) c))
+    → (c : Image) → left_after_what asked q may_leave sound seen c → left_after_what asked q may_leave sound seen (image_changed p (λ _. f) c)
 stands_past (what.Write at bytes done) q p may_leave sound seen f apart stands c left =
-    (changed p (λ _. f) left.0, stands left.0 left.1, tears_past q p (Torn at (length bytes.items)) f left.0 c apart left.2)
+    (image_changed p (λ _. f) left.0, stands left.0 left.1, tears_past q p (Torn at (length bytes.items)) f left.0 c apart left.2)
 stands_past (what.Cut len done) q p may_leave sound seen f apart stands c left =
-    (changed p (λ _. f) left.0, stands left.0 left.1, tears_past q p (Cut len) f left.0 c apart left.2)
+    (image_changed p (λ _. f) left.0, stands left.0 left.1, tears_past q p (Cut len) f left.0 c apart left.2)
 stands_past (what.Sync true) q p may_leave sound seen f apart stands c left =
     (stands c left.0, λ is. past_place p f c q (back q p apart) ∙ left.1 is)
 stands_past (what.Sync false) q p may_leave sound seen f apart stands c left = stands c left
 stands_past (what.Move mode bytes done) q p may_leave sound seen f apart stands c left =
-    (changed p (λ _. f) left.0, stands left.0 left.1, here left.2)
+    (image_changed p (λ _. f) left.0, stands left.0 left.1, here left.2)
   where
-    here : Moves q (record { mode = mode; bytes = bytes.items }) left.0 c → Moves q (record { mode = mode; bytes = bytes.items }) (changed p (λ _. f) left.0) (changed p (λ _. f) c)
-    here (inl is) = inl (λ i. changed p (λ _. f) (is i))
-    here (inr moved) = inr ((λ i. changed p (λ _. f) (moved i)) ∙ put_both p q f (Some (record { mode = mode; bytes = bytes.items })) left.0 apart)
+    here : MovesFile q (record { mode = mode; bytes = bytes.items }) left.0 c → MovesFile q (record { mode = mode; bytes = bytes.items }) (image_changed p (λ _. f) left.0) (image_changed p (λ _. f) c)
+    here (inl is) = inl (λ i. image_changed p (λ _. f) (is i))
+    here (inr moved) = inr ((λ i. image_changed p (λ _. f) (moved i)) ∙ put_both p q f (Some (record { mode = mode; bytes = bytes.items })) left.0 apart)
 
 -- before the first call, what was there
 pub stands_first : (path : List ℕ) (image : Image) (why : Why) → MayStand path (image path) (at_first image why)
-stands_first path image why c is = (λ i. changed path (λ _. image path) (is i)) ∙ put_back path image
+stands_first path image why c is = (λ i. image_changed path (λ _. image path) (is i)) ∙ put_back path image
 
-pub stands_after : (call : Call) (path : List ℕ) (s : State) (old new : Option File) → call.path.items ≡ path
-    → MayMake call.what (s.is_sound path) (s.seen path) old new → MayStand path old s → MayStand path new (after call s)
+pub stands_after : (call : Call) (path : List ℕ) (s : DiskState) (old new : Option File) → call.path.items ≡ path
+    → MayMake call.what (s.is_sound path) (s.seen path) old new → MayStand path old s → MayStand path new (state_after_call call s)
 stands_after call path s old new is made stands =
-    subst (λ (p : List ℕ). MayStand p new (after call s)) is
+    subst (λ (p : List ℕ). MayStand p new (state_after_call call s)) is
     (λ c left. stands_made call.what call.path.items s.may_leave (s.is_sound call.path.items) (s.seen call.path.items) old new
     (subst (λ (p : List ℕ). MayMake call.what (s.is_sound p) (s.seen p) old new) (sym is) made)
     (subst (λ (p : List ℕ). MayStand p old s) (sym is) stands) c left)
 
-pub stands_still : (call : Call) (path : List ℕ) (s : State) (f : Option File) → bytes_eq call.path.items path ≡ false → MayStand path f s → MayStand path f (after call s)
+pub stands_still : (call : Call) (path : List ℕ) (s : DiskState) (f : Option File) → bytes_eq call.path.items path ≡ false → MayStand path f s → MayStand path f (state_after_call call s)
 stands_still call path s f apart stands c left =
     stands_past call.what call.path.items path s.may_leave (s.is_sound call.path.items) (s.seen call.path.items) f apart stands c left
 
@@ -200,15 +200,15 @@ cut_longer len n (Some file) le = (
     fronts (suc n) (x ∷ xs) = ap (λ (l : List ℕ). x ∷ l) (fronts n xs)
 
 -- the calls before the first, one more on the path, and one elsewhere
-pub followed_first : (path : List ℕ) (image : Image) (why : Why) (seen left : Option File) → seen ≡ image path → left ≡ image path → IsFollowed path seen left true (at_first image why)
+pub followed_first : (path : List ℕ) (image : Image) (why : Why) (seen left : Option File) → seen ≡ image path → left ≡ image path → PathIsFollowed path seen left true (at_first image why)
 followed_first path image why seen left seen_is left_is = record {
   seen_is = seen_is;
   sound_is = refl;
   stands = subst (λ (f : Option File). MayStand path f (at_first image why)) (sym left_is) (stands_first path image why);
 }
 
-pub followed_here : (call : Call) (path : List ℕ) (seen left new : Option File) (sound : Bool) (s : State) → call.path.items ≡ path → IsFollowed path seen left sound s
-    → MayMake call.what sound seen left new → IsFollowed path (file_after call.what seen) new (sound_after call.what sound) (after call s)
+pub followed_here : (call : Call) (path : List ℕ) (seen left new : Option File) (sound : Bool) (s : DiskState) → call.path.items ≡ path → PathIsFollowed path seen left sound s
+    → MayMake call.what sound seen left new → PathIsFollowed path (file_after call.what seen) new (sound_after call.what sound) (state_after_call call s)
 followed_here call path seen left new sound s is f made = record {
   seen_is = ap (file_after call.what) f.seen_is ∙ sym (yes_side (bytes_eq call.path.items path) (file_after call.what (s.seen path)) (s.seen path) ((bytes_eq-Decides call.path.items path).1 is));
   sound_is = ap (sound_after call.what) f.sound_is ∙ sym (yes_side (bytes_eq call.path.items path) (sound_after call.what (s.is_sound path)) (s.is_sound path) ((bytes_eq-Decides call.path.items path).1 is));
@@ -216,8 +216,8 @@ followed_here call path seen left new sound s is f made = record {
       (subst (λ (b : Bool). MayMake call.what b (s.seen path) left new) f.sound_is (subst (λ (o : Option File). MayMake call.what sound o left new) f.seen_is made)) f.stands;
 }
 
-pub followed_past : (call : Call) (path : List ℕ) (seen left : Option File) (sound : Bool) (s : State) → bytes_eq call.path.items path ≡ false → IsFollowed path seen left sound s
-    → IsFollowed path seen left sound (after call s)
+pub followed_past : (call : Call) (path : List ℕ) (seen left : Option File) (sound : Bool) (s : DiskState) → bytes_eq call.path.items path ≡ false → PathIsFollowed path seen left sound s
+    → PathIsFollowed path seen left sound (state_after_call call s)
 followed_past call path seen left sound s apart f = record {
   seen_is = f.seen_is ∙ sym (no_side (bytes_eq call.path.items path) (file_after call.what (s.seen path)) (s.seen path) apart);
   sound_is = f.sound_is ∙ sym (no_side (bytes_eq call.path.items path) (sound_after call.what (s.is_sound path)) (s.is_sound path) apart);
@@ -225,11 +225,11 @@ followed_past call path seen left sound s apart f = record {
 }
 
 -- the state after one call more
-pub state_more : (calls : List Call) (k : ℕ) (call : Call) (s : State) → k < length calls → call ≡ get_or calls k call → after_all (take (k + 1) calls) s ≡ after call (after_all (take k calls) s)
+pub state_more : (calls : List Call) (k : ℕ) (call : Call) (s : DiskState) → k < length calls → call ≡ get_or calls k call → state_after_calls (take (k + 1) calls) s ≡ state_after_call call (state_after_calls (take k calls) s)
 state_more calls k call s below is =
-    (λ i. after_all (take_more calls k call below i) s)
+    (λ i. state_after_calls (take_more calls k call below i) s)
     ∙ after_all_push (take k calls) (get_or calls k call) s
-    ∙ (λ i. after (sym is i) (after_all (take k calls) s))
+    ∙ (λ i. state_after_call (sym is i) (state_after_calls (take k calls) s))
 
 -- what the test of a path says
 pub elsewhere : (b : Bool) → not b ≡ true → b ≡ false

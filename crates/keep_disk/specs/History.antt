@@ -2,9 +2,9 @@
 -- Source: this project's own.
 use Rattle.std.specs.Prelude.{◌≡◌, ◌⊎◌, ℕ, suc, ◌/◌, ◌≤◌, List, [], ◌∷◌, length, take, Option, Some, Bool, true, false, if◌then◌else◌}
 use Rattle.std.specs.Str.{bytes_eq}
-use Rattle.keep_disk.specs.Image.{File, Image, changed, with_bytes, overwritten}
-use Rattle.keep_disk.specs.Torn.{Torn, Cut, Tears, Moves}
-use Rattle.keep_disk.specs.State.{State}
+use Rattle.keep_disk.specs.Image.{File, Image, image_changed, with_bytes, overwritten}
+use Rattle.keep_disk.specs.Torn.{Torn, Cut, Tears, MovesFile}
+use Rattle.keep_disk.specs.State.{DiskState}
 use Rattle.keep_disk.specs.declared.call.Call.{Call}
 use Rattle.keep_disk.specs.declared.call.What.{What}
 use Rattle.keep_disk.specs.declared.call.What.TheVariants as what
@@ -25,31 +25,31 @@ sound_after (what.Move mode bytes done) sound = if done then true else sound
 
 -- what a crash may leave after a call at a path: from what it might have left before, from whether the file was sound, and
 -- from what is read there
-abbrev pub left_after : What → List ℕ → (Image → Type 0) → Bool → Option File → Image → Type 0
-left_after (what.Write at bytes done) path may_leave sound file c = (d : Image) × may_leave d × Tears path (Torn at (length bytes.items)) d c
-left_after (what.Cut len done) path may_leave sound file c = (d : Image) × may_leave d × Tears path (Cut len) d c
-left_after (what.Sync true) path may_leave sound file c = may_leave c × (sound ≡ true → c path ≡ file)
-left_after (what.Sync false) path may_leave sound file c = may_leave c
-left_after (what.Move mode bytes done) path may_leave sound file c = (d : Image) × may_leave d × Moves path (record { mode = mode; bytes = bytes.items }) d c
+abbrev pub left_after_what : What → List ℕ → (Image → Type 0) → Bool → Option File → Image → Type 0
+left_after_what (what.Write at bytes done) path may_leave sound file c = (d : Image) × may_leave d × Tears path (Torn at (length bytes.items)) d c
+left_after_what (what.Cut len done) path may_leave sound file c = (d : Image) × may_leave d × Tears path (Cut len) d c
+left_after_what (what.Sync true) path may_leave sound file c = may_leave c × (sound ≡ true → c path ≡ file)
+left_after_what (what.Sync false) path may_leave sound file c = may_leave c
+left_after_what (what.Move mode bytes done) path may_leave sound file c = (d : Image) × may_leave d × MovesFile path (record { mode = mode; bytes = bytes.items }) d c
 
 -- the same of a call
-abbrev pub left_by : Call → State → Image → Type 0
-left_by call s = left_after call.what call.path.items s.may_leave (s.is_sound call.path.items) (s.seen call.path.items)
+abbrev pub left_by_call : Call → DiskState → Image → Type 0
+left_by_call call s = left_after_what call.what call.path.items s.may_leave (s.is_sound call.path.items) (s.seen call.path.items)
 
 -- what is known after a call
-abbrev pub after : Call → State → State
-after call s = record s {
-  seen = changed call.path.items (file_after call.what) s.seen;
+abbrev pub state_after_call : Call → DiskState → DiskState
+state_after_call call s = record s {
+  seen = image_changed call.path.items (file_after call.what) s.seen;
   is_sound = λ other. if bytes_eq call.path.items other then sound_after call.what (s.is_sound other) else s.is_sound other;
-  may_leave = left_by call s;
+  may_leave = left_by_call call s;
   moment = suc s.moment;
-  left_since = λ t c. s.left_since t c ⊎ ((t ≤ suc s.moment) × left_by call s c);
+  left_since = λ t c. s.left_since t c ⊎ ((t ≤ suc s.moment) × left_by_call call s c);
 }
 
 -- and after several, the first of them first
-abbrev pub after_all : List Call → State → State
-after_all [] s = s
-after_all (call ∷ calls) s = after_all calls (after call s)
+abbrev pub state_after_calls : List Call → DiskState → DiskState
+state_after_calls [] s = s
+state_after_calls (call ∷ calls) s = state_after_calls calls (state_after_call call s)
 
 -- the file at a path after several calls, the first of them first
 abbrev pub file_after_all : List ℕ → List Call → Option File → Option File

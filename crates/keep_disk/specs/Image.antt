@@ -12,12 +12,12 @@ abbrev pub Image : Type 0
 Image = List ℕ → Option File
 
 -- the image with the file at this path changed, and all else as it was
-abbrev pub changed : List ℕ → (Option File → Option File) → Image → Image
-changed path change image other = if bytes_eq path other then change (image other) else image other
+abbrev pub image_changed : List ℕ → (Option File → Option File) → Image → Image
+image_changed path change image other = if bytes_eq path other then change (image other) else image other
 
 -- the image with this file at the path
-abbrev pub placed : List ℕ → File → Image → Image
-placed path file image = changed path (λ _. Some file) image
+abbrev pub with_file_at : List ℕ → File → Image → Image
+with_file_at path file image = image_changed path (λ _. Some file) image
 
 -- the two images differ at this path alone
 abbrev pub SameElsewhere : List ℕ → Image → Image → Type 0

@@ -3,8 +3,8 @@
 use Rattle.std.specs.Prelude.{◌≡◌, ℕ, zero, suc, ◌≤◌, List, [], ◌∷◌, ◌++◌, Vec, Result, Err, Option, None, Some, Bool, true, false, if◌then◌else◌}
 use Rattle.std.specs.Str.{bytes_eq}
 use Rattle.keep_disk.specs.Image.{File, Image}
-use Rattle.keep_disk.specs.State.{State, Beside}
-use Rattle.keep_disk.specs.History.{after_all}
+use Rattle.keep_disk.specs.State.{DiskState, Beside}
+use Rattle.keep_disk.specs.History.{state_after_calls}
 use Rattle.keep_disk.specs.declared.call.Stored.{Stored}
 use Rattle.keep_disk.specs.declared.call.Call.{Call}
 use Rattle.keep_disk.specs.declared.call.Held.{Held}
@@ -19,24 +19,25 @@ use Rattle.keep_disk.specs.declared.memory.MemoryDisk.{MemoryDisk}
 use Rattle.keep_disk.specs.declared.call.Draft.{Draft}
 
 -- a file that code holds
-abbrev pub held : Option Held → Option File
-held None = None
-held (Some file) = Some (record { mode = file.mode; bytes = file.bytes.items })
+abbrev pub held_file : Option Held → Option File
+held_file None = None
+held_file (Some file) = Some (record { mode = file.mode; bytes = file.bytes.items })
 
 -- the files as they stood before the first call
 abbrev pub image_of : List Stored → Image
 image_of [] path = None
-image_of (stored ∷ rest) path = if bytes_eq stored.path.items path then held (Some stored.file) else image_of rest path
+image_of (stored ∷ rest) path = if bytes_eq stored.path.items path then held_file (Some stored.file) else image_of rest path
 
 abbrev pub beside_of : Option Draft → Option Beside
 beside_of None = None
 beside_of (Some draft) = Some (record { path = draft.path.items; file = record { mode = draft.file.mode; bytes = draft.file.bytes.items }; is_synced = draft.is_synced })
 
 -- all of them on the disk
-abbrev pub at_first : Image → Why → State
+abbrev pub at_first : Image → Why → DiskState
 at_first image why = record {
   seen = image;
   beside = None;
+  taken = λ path. false;
   is_sound = λ path. true;
   may_leave = λ c. c ≡ image;
   moment = 0;
@@ -46,20 +47,21 @@ at_first image why = record {
 }
 
 -- what these calls made of these files
-abbrev pub state_of : List Call → List Stored → Option Draft → ℕ → Why → State
-state_of calls files beside faults fault = record (after_all calls (at_first (image_of files) fault)) { beside = beside_of beside; faults = faults; fault = fault }
+abbrev pub state_of : List Call → List Stored → Option Draft → Bool → ℕ → Why → DiskState
+state_of calls files beside taken faults fault = record (state_after_calls calls (at_first (image_of files) fault)) { beside = beside_of beside; taken = λ path. taken; faults = faults; fault = fault }
 
 -- the calls on its files, in their order
-abbrev pub calls_of : MemoryDisk → List Call
-calls_of m = m.calls.items
+abbrev pub calls_of_disk : MemoryDisk → List Call
+calls_of_disk m = m.calls.items
 
-abbrev pub memory_state : MemoryDisk → State
-memory_state m = state_of m.calls.items m.files.items m.beside m.faults m.fault
+abbrev pub memory_state : MemoryDisk → DiskState
+memory_state m = state_of m.calls.items m.files.items m.beside m.taken m.faults m.fault
 
 -- but for its calls and their failures, a disk is as it was
 pub record IsSame (old new : MemoryDisk) : Type 0 where
   pub files : new.files.items ≡ old.files.items
   pub beside : new.beside ≡ old.beside
+  pub taken : new.taken ≡ old.taken
   pub fault : new.fault ≡ old.fault
 
 -- one call more was made, on this path
@@ -69,9 +71,9 @@ pub record HasEntered (path : List ℕ) (what : What) (old new : MemoryDisk) : T
   pub calls : new.calls.items ≡ old.calls.items ++ record { path = name; what = what } ∷ []
 
 -- a call is entered unless there was no memory for it
-abbrev pub Enters : List ℕ → What → MemoryDisk → MemoryDisk → Result Unit DiskFault → Type 0
-Enters path what old new (Err faults.OutOfMemory) = new.calls.items ≡ old.calls.items
-Enters path what old new answer = HasEntered path what old new
+abbrev pub EntersCall : List ℕ → What → MemoryDisk → MemoryDisk → Result Unit DiskFault → Type 0
+EntersCall path what old new (Err faults.OutOfMemory) = new.calls.items ≡ old.calls.items
+EntersCall path what old new answer = HasEntered path what old new
 
 -- whether the call whose turn it is fails, and what is to fail after it
 abbrev pub is_turn : Failing → Bool
@@ -89,7 +91,7 @@ next_turn (failing.From zero) = failing.From zero
 next_turn (failing.From (suc n)) = failing.From n
 
 -- nothing has happened yet: these files are on the disk, and no call has failed
-pub record IsFirst (image : Image) (why : Why) (s : State) : Type 0 where
+pub record IsFreshDisk (image : Image) (why : Why) (s : DiskState) : Type 0 where
   pub seen : s.seen ≡ image
   pub beside : s.beside ≡ None
   pub sound : (path : List ℕ) → s.is_sound path ≡ true
@@ -98,7 +100,7 @@ pub record IsFirst (image : Image) (why : Why) (s : State) : Type 0 where
   pub fault : s.fault ≡ why
 
 -- a crash at this moment counts as one since any moment before, and of the present moment there is no other
-pub record IsLawful (s : State) : Type 0 where
+pub record IsLawful (s : DiskState) : Type 0 where
   pub counts : (t : ℕ) (c : Image) → t ≤ s.moment → s.may_leave c → s.left_since t c
   pub only : (t : ℕ) (c : Image) → s.moment ≤ t → s.left_since t c → s.may_leave c
   pub none_later : (t : ℕ) (c : Image) → s.left_since t c → t ≤ s.moment

@@ -3,8 +3,8 @@ use Rattle.std.specs.Prelude.{List, [], ◌∷◌}
 use Rattle.std.proofs.Common.{inr, ⊎_elim, le_trans, le_of_lt, lt-suc_self}
 use Rattle.std.proofs.Math.Nat.{not-suc-le_self}
 use Rattle.keep_disk.specs.Image.{Image}
-use Rattle.keep_disk.specs.State.{State}
-use Rattle.keep_disk.specs.History.{after, after_all}
+use Rattle.keep_disk.specs.State.{DiskState}
+use Rattle.keep_disk.specs.History.{state_after_call, state_after_calls}
 use Rattle.keep_disk.specs.Memory.{at_first, image_of, memory_state, IsLawful}
 use Rattle.keep_disk.specs.declared.call.Call.{Call}
 use Rattle.keep_disk.specs.declared.fault.Why.{Why}
@@ -17,16 +17,16 @@ lawful_first image why = record {
   none_later = λ t c left. left.0;
 }
 
-lawful_after : (call : Call) (s : State) → IsLawful s → IsLawful (after call s)
+lawful_after : (call : Call) (s : DiskState) → IsLawful s → IsLawful (state_after_call call s)
 lawful_after call s laws = record {
   counts = λ t c le now. inr (le, now);
   only = λ t c le left. ⊎_elim (λ was. absurd (not-suc-le_self s.moment (le_trans le (laws.none_later t c was)))) (λ now. now.1) left;
   none_later = λ t c left. ⊎_elim (λ was. le_trans (laws.none_later t c was) (le_of_lt (lt-suc_self s.moment))) (λ now. now.0) left;
 }
 
-lawful_all : (calls : List Call) (s : State) → IsLawful s → IsLawful (after_all calls s)
+lawful_all : (calls : List Call) (s : DiskState) → IsLawful s → IsLawful (state_after_calls calls s)
 lawful_all [] s laws = laws
-lawful_all (call ∷ calls) s laws = lawful_all calls (after call s) (lawful_after call s laws)
+lawful_all (call ∷ calls) s laws = lawful_all calls (state_after_call call s) (lawful_after call s laws)
 
 pub memory_lawful : (m : MemoryDisk) → IsLawful (memory_state m)
 memory_lawful m =

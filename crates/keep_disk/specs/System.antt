@@ -1,14 +1,15 @@
 -- System: of a real disk contracts know how many calls failed, and nothing of what stands on it.
 -- Source: this project's own.
 use Rattle.std.specs.Prelude.{ℕ, None, false, Result, Err}
-use Rattle.keep_disk.specs.State.{State}
+use Rattle.keep_disk.specs.State.{DiskState}
 use Rattle.keep_disk.specs.declared.fault.DiskFault.{DiskFault}
 use Rattle.keep_disk.specs.declared.fault.Why.{Why}
 
-abbrev pub system_state : ℕ → Why → State
+abbrev pub system_state : ℕ → Why → DiskState
 system_state faults why = record {
   seen = λ path. None;
   beside = None;
+  taken = λ path. false;
   is_sound = λ path. false;
   may_leave = λ c. ⊥;
   moment = 0;

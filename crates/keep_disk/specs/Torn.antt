@@ -1,7 +1,7 @@
 -- Torn: what a crash makes of a call that was under way.
 -- Source: this project's own; POSIX, "fsync" and "rename", for what is not promised.
 use Rattle.std.specs.Prelude.{◌≡◌, ◌⊎◌, ℕ, ◌+◌, ◌≤◌, min, max, List, length, take, drop, Option, None, Some}
-use Rattle.keep_disk.specs.Image.{File, Image, placed, SameElsewhere}
+use Rattle.keep_disk.specs.Image.{File, Image, with_file_at, SameElsewhere}
 
 -- after a write of n bytes: any bytes in the range and past the old end, the same elsewhere
 pub record Torn (at n : ℕ) (old new : List ℕ) : Type 0 where
@@ -28,5 +28,5 @@ pub record Tears (path : List ℕ) (step : List ℕ → List ℕ → Type 0) (ol
   pub there : IsTornFile step (old path) (new path)
 
 -- a file is moved to this path: it is there whole, or what was there is
-abbrev pub Moves : List ℕ → File → Image → Image → Type 0
-Moves path file old new = (new ≡ old) ⊎ (new ≡ placed path file old)
+abbrev pub MovesFile : List ℕ → File → Image → Image → Type 0
+MovesFile path file old new = (new ≡ old) ⊎ (new ≡ with_file_at path file old)

@@ -1,7 +1,7 @@
 ghost use Rattle.std.specs.Prelude.{◌≡◌, ◌≤◌, ◌+◌, ◌++◌, length, take, drop, IfOk, OnOk};
 ghost use Rattle.keep_disk.specs.Image.{overwritten, with_bytes};
 ghost use Rattle.keep_disk.specs.History.{file_after};
-ghost use Rattle.keep_disk.specs.Memory.{image_of, held};
+ghost use Rattle.keep_disk.specs.Memory.{image_of, held_file};
 
 use crate::call::{Held, Stored, What};
 use std::alloc::{AllocError, Global};
@@ -12,7 +12,7 @@ pub(crate) fn first_of(
     files: &[Stored],
     path: &str,
 ) -> Result<Option<Held>, AllocError>
-    ensures { IfOk result (λ file. held file ≡ image_of files.now path.now) }
+    ensures { IfOk result (λ file. held_file file ≡ image_of files.now path.now) }
 {
     for stored in files {
         if stored.path.as_slice() == path.as_bytes() {
@@ -31,7 +31,7 @@ pub(crate) fn after_call(
     file: Option<Held>,
     what: &What,
 ) -> Result<Option<Held>, AllocError>
-    ensures { IfOk result (λ after. held after ≡ file_after what.now (held file)) }
+    ensures { IfOk result (λ after. held_file after ≡ file_after what.now (held_file file)) }
 {
     match what {
         What::Move { mode, bytes, done } if *done => Ok(Some(Held {
@@ -58,7 +58,7 @@ pub(crate) fn overwrite(
     at: usize,
     bytes: &[u8],
 ) -> Result<Option<Held>, AllocError>
-    ensures { IfOk result (λ after. held after ≡ with_bytes (overwritten at bytes.now) (held file)) }
+    ensures { IfOk result (λ after. held_file after ≡ with_bytes (overwritten at bytes.now) (held_file file)) }
 {
     let Some(
         Held {
@@ -79,7 +79,7 @@ pub(crate) fn overwrite(
 
 /// The file cut to a length.
 pub(crate) fn cut(file: Option<Held>, len: usize) -> Option<Held>
-    ensures { held result ≡ with_bytes (take len) (held file) }
+    ensures { held_file result ≡ with_bytes (take len) (held_file file) }
 {
     let Some(
         Held {
@@ -96,7 +96,7 @@ pub(crate) fn cut(file: Option<Held>, len: usize) -> Option<Held>
 
 /// The same file.
 pub(crate) fn copy_of(alloc: Global, file: &Option<Held>) -> Result<Option<Held>, AllocError>
-    ensures { IfOk result (λ copy. held copy ≡ held file.now) }
+    ensures { IfOk result (λ copy. held_file copy ≡ held_file file.now) }
 {
     let Some(held) = file else {
         return Ok(None);

@@ -3,7 +3,7 @@ ghost use Rattle.std.specs.Str.{bytes_eq};
 ghost use Rattle.keep_disk.specs.Torn.{Torn, IsTornFile};
 ghost use Rattle.keep_disk.specs.History.{sound_after};
 ghost use Rattle.keep_disk.specs.Left.{MayStand, MayMake};
-ghost use Rattle.keep_disk.specs.Memory.{memory_state, held};
+ghost use Rattle.keep_disk.specs.Memory.{memory_state, held_file};
 
 use crate::MemoryDisk;
 use crate::call::{Call, Held, What};
@@ -14,7 +14,7 @@ impl MemoryDisk {
     /// A file that a crash at this moment may leave at `path`, whatever it leaves at the others; `None` for no file. Which one of
     /// them it is, `seed` decides.
     pub fn left(&self, alloc: Global, path: &str, seed: u64) -> Result<Option<Held>, AllocError>
-        ensures { IfOk result (λ file. MayStand path.now (held file) (memory_state self.now)) }
+        ensures { IfOk result (λ file. MayStand path.now (held_file file) (memory_state self.now)) }
     {
         let mut seen = first_of(alloc, &self.files, path)?;
         let mut left = first_of(alloc, &self.files, path)?;
@@ -65,7 +65,7 @@ fn made_by(
     left: Option<Held>,
     choice: u64,
 ) -> Result<Option<Held>, AllocError>
-    ensures { IfOk result (λ after. MayMake what.now sound (held seen.now) (held left) (held after)) }
+    ensures { IfOk result (λ after. MayMake what.now sound (held_file seen.now) (held_file left) (held_file after)) }
 {
     match what {
         What::Write { at, bytes, .. } => torn(alloc, left, *at, bytes, choice),
@@ -87,7 +87,7 @@ fn torn(
     bytes: &[u8],
     choice: u64,
 ) -> Result<Option<Held>, AllocError>
-    ensures { IfOk result (λ after. IsTornFile (Torn at (length bytes.now)) (held left) (held after)) }
+    ensures { IfOk result (λ after. IsTornFile (Torn at (length bytes.now)) (held_file left) (held_file after)) }
 {
     let Some(file) = left else {
         return Ok(None);

@@ -1,10 +1,10 @@
-ghost use Rattle.std.specs.Prelude.{◌≡◌, ◌≤◌, ◌⊎◌, ℕ, length, take, true, false, Bool, Some, None, List, OnOk, IfOk, IfSome, MatchOption, IsTrue};
+ghost use Rattle.std.specs.Prelude.{◌≡◌, ◌≤◌, ◌⊎◌, ℕ, length, take, true, false, Bool, Some, None, List, OnOk, IfOk, IfSome, MatchOption, IsTrue, is_none};
 ghost use Rattle.std.specs.Str.{bytes_eq};
-ghost use Rattle.keep_disk.specs.Image.{Image, File, changed, placed, with_bytes, overwritten};
-ghost use Rattle.keep_disk.specs.Torn.{Torn, Cut, Tears, Moves};
-ghost use Rattle.keep_disk.specs.State.{State, Follows, Touches, LeavesAlone, Elapses, Tells, IsReady};
+ghost use Rattle.keep_disk.specs.Image.{Image, File, image_changed, with_file_at, with_bytes, overwritten};
+ghost use Rattle.keep_disk.specs.Torn.{Torn, Cut, Tears, MovesFile};
+ghost use Rattle.keep_disk.specs.State.{DiskState, OutcomesFollow, Touches, LeavesAlone, Elapses, TellsFailure, StandsBeside};
 
-use crate::DiskFault;
+use crate::{DiskFault, Lock};
 use keep_moment::Text;
 use std::alloc::Global;
 
@@ -31,7 +31,7 @@ pub trait Disk {
     ghost is_known: { Bool };
 
     /// What they know.
-    ghost state: { Self → State };
+    ghost state: { Self → DiskState };
 
     /// The bytes of the file at `path`, `None` where there is no file.
     ///
@@ -43,7 +43,7 @@ pub trait Disk {
         ensures alone { IsTrue is_known → LeavesAlone (state self.old) (state self.new) }
         ensures beside { IsTrue is_known → (state self.new).beside ≡ (state self.old).beside }
         ensures time { IsTrue is_known → Elapses (state self.old) (state self.new) }
-        ensures cause { Tells (state self.old) (state self.new) result };
+        ensures cause { TellsFailure (state self.old) (state self.new) result };
 
     /// The stamp of the file at `path`, `None` where there is no file.
     fn stamp(&mut self, path: &str) -> Result<Option<Stamp>, DiskFault>
@@ -52,28 +52,28 @@ pub trait Disk {
         ensures alone { IsTrue is_known → LeavesAlone (state self.old) (state self.new) }
         ensures beside { IsTrue is_known → (state self.new).beside ≡ (state self.old).beside }
         ensures time { IsTrue is_known → Elapses (state self.old) (state self.new) }
-        ensures cause { Tells (state self.old) (state self.new) result };
+        ensures cause { TellsFailure (state self.old) (state self.new) result };
 
     /// Writes over what is in the file at `path`, and past its end. Until a sync, a crash may leave any bytes in the range.
     fn write_at(&mut self, path: &str, at: usize, bytes: &[u8]) -> Result<(), DiskFault>
         requires { IsTrue is_known → IfSome ((state self.old).seen path.now) (λ file. at ≤ length file.bytes) }
         ensures written { OnOk result (IsTrue is_known
-            → (state self.new).seen ≡ changed path.now (with_bytes (overwritten at bytes.now)) (state self.old).seen) }
+            → (state self.new).seen ≡ image_changed path.now (with_bytes (overwritten at bytes.now)) (state self.old).seen) }
         ensures sound { OnOk result (IsTrue is_known → (state self.new).is_sound ≡ (state self.old).is_sound) }
         ensures touches { IsTrue is_known → Touches path.now (state self.old) (state self.new) }
-        ensures crash { IsTrue is_known → Follows (Tears path.now (Torn at (length bytes.now))) (state self.old) (state self.new) }
+        ensures crash { IsTrue is_known → OutcomesFollow (Tears path.now (Torn at (length bytes.now))) (state self.old) (state self.new) }
         ensures time { IsTrue is_known → Elapses (state self.old) (state self.new) }
-        ensures cause { Tells (state self.old) (state self.new) result };
+        ensures cause { TellsFailure (state self.old) (state self.new) result };
 
     /// Cuts the file at `path` to a length. Until a sync, a crash may leave any length between.
     fn cut(&mut self, path: &str, len: usize) -> Result<(), DiskFault>
         requires { IsTrue is_known → IfSome ((state self.old).seen path.now) (λ file. len ≤ length file.bytes) }
-        ensures cut { OnOk result (IsTrue is_known → (state self.new).seen ≡ changed path.now (with_bytes (take len)) (state self.old).seen) }
+        ensures cut { OnOk result (IsTrue is_known → (state self.new).seen ≡ image_changed path.now (with_bytes (take len)) (state self.old).seen) }
         ensures sound { OnOk result (IsTrue is_known → (state self.new).is_sound ≡ (state self.old).is_sound) }
         ensures touches { IsTrue is_known → Touches path.now (state self.old) (state self.new) }
-        ensures crash { IsTrue is_known → Follows (Tears path.now (Cut len)) (state self.old) (state self.new) }
+        ensures crash { IsTrue is_known → OutcomesFollow (Tears path.now (Cut len)) (state self.old) (state self.new) }
         ensures time { IsTrue is_known → Elapses (state self.old) (state self.new) }
-        ensures cause { Tells (state self.old) (state self.new) result };
+        ensures cause { TellsFailure (state self.old) (state self.new) result };
 
     /// After it, a crash leaves the file at `path` as a read gives it, where no earlier call on that file has failed. That a
     /// file was moved there is on the disk then too.
@@ -85,7 +85,7 @@ pub trait Disk {
         ensures touches { IsTrue is_known → Touches path.now (state self.old) (state self.new) }
         ensures crash { IsTrue is_known → (c : Image) → (state self.new).may_leave c → (state self.old).may_leave c }
         ensures time { IsTrue is_known → Elapses (state self.old) (state self.new) }
-        ensures cause { Tells (state self.old) (state self.new) result };
+        ensures cause { TellsFailure (state self.old) (state self.new) result };
 
     /// Writes a new file beside `path`, in the place of one that was begun there. What stands at `path` is left alone.
     fn write_beside(&mut self, path: &str, mode: u32, bytes: &[u8]) -> Result<(), DiskFault>
@@ -93,36 +93,38 @@ pub trait Disk {
             ≡ Some (record { path = path.now; file = record { mode = mode; bytes = bytes.now }; is_synced = false })) }
         ensures alone { IsTrue is_known → LeavesAlone (state self.old) (state self.new) }
         ensures time { IsTrue is_known → Elapses (state self.old) (state self.new) }
-        ensures cause { Tells (state self.old) (state self.new) result };
+        ensures cause { TellsFailure (state self.old) (state self.new) result };
 
     /// Syncs the file that was written beside `path`.
     fn sync_beside(&mut self, path: &str) -> Result<(), DiskFault>
         ensures synced { OnOk result (IsTrue is_known → (file : File)
-            → (state self.old).beside ≡ Some (record { path = path.now; file = file; is_synced = false }) → IsReady path.now file (state self.new)) }
+            → (state self.old).beside ≡ Some (record { path = path.now; file = file; is_synced = false }) → StandsBeside path.now file (state self.new)) }
         ensures alone { IsTrue is_known → LeavesAlone (state self.old) (state self.new) }
         ensures time { IsTrue is_known → Elapses (state self.old) (state self.new) }
-        ensures cause { Tells (state self.old) (state self.new) result };
+        ensures cause { TellsFailure (state self.old) (state self.new) result };
 
     /// Moves the file that was written beside `path`, and synced, to its place. Until a sync of `path`, a crash leaves
     /// it there or what was there before.
     fn move_beside(&mut self, path: &str) -> Result<(), DiskFault>
-        requires { IsTrue is_known → (file : File) × IsReady path.now file (state self.old) }
-        ensures moved { OnOk result (IsTrue is_known → (file : File) → IsReady path.now file (state self.old)
-            → ((state self.new).seen ≡ placed path.now file (state self.old).seen) × ((state self.new).is_sound path.now ≡ true)) }
-        ensures seen { IsTrue is_known → (file : File) → IsReady path.now file (state self.old)
-            → Moves path.now file (state self.old).seen (state self.new).seen }
+        requires { IsTrue is_known → (file : File) × StandsBeside path.now file (state self.old) }
+        ensures moved { OnOk result (IsTrue is_known → (file : File) → StandsBeside path.now file (state self.old)
+            → ((state self.new).seen ≡ with_file_at path.now file (state self.old).seen) × ((state self.new).is_sound path.now ≡ true)) }
+        ensures seen { IsTrue is_known → (file : File) → StandsBeside path.now file (state self.old)
+            → MovesFile path.now file (state self.old).seen (state self.new).seen }
         ensures sound { IsTrue is_known → (other : List ℕ) → bytes_eq path.now other ≡ false → (state self.new).is_sound other ≡ (state self.old).is_sound other }
-        ensures crash { IsTrue is_known → (file : File) → IsReady path.now file (state self.old) → Follows (Moves path.now file) (state self.old) (state self.new) }
+        ensures crash { IsTrue is_known → (file : File) → StandsBeside path.now file (state self.old) → OutcomesFollow (MovesFile path.now file) (state self.old) (state self.new) }
         ensures time { IsTrue is_known → Elapses (state self.old) (state self.new) }
-        ensures cause { Tells (state self.old) (state self.new) result };
+        ensures cause { TellsFailure (state self.old) (state self.new) result };
 
-    /// Holds the lock of the file at `path`, which is made where there is none, until the process ends; `false` where another
+    /// Holds the lock of the file at `path`, which is made where there is none, until the process ends; `None` where another
     /// process holds it.
-    fn lock(&mut self, path: &str) -> Result<bool, DiskFault>
+    fn lock(&mut self, path: &str) -> Result<Option<Lock>, DiskFault>
+        ensures held { IfOk result (λ lock. IfSome lock (λ l. l ≡ path.now)) }
+        ensures taken { IsTrue is_known → IfOk result (λ lock. is_none lock ≡ (state self.old).taken path.now) }
         ensures alone { IsTrue is_known → LeavesAlone (state self.old) (state self.new) }
         ensures beside { IsTrue is_known → (state self.new).beside ≡ (state self.old).beside }
         ensures time { IsTrue is_known → Elapses (state self.old) (state self.new) }
-        ensures cause { Tells (state self.old) (state self.new) result };
+        ensures cause { TellsFailure (state self.old) (state self.new) result };
 
     /// This moment is one of those since an earlier one.
     ghost counts_now: { (disk : Self) (t : ℕ) (c : Image) → t ≤ (state disk).moment → (state disk).may_leave c → (state disk).left_since t c };

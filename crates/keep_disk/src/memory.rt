@@ -1,15 +1,15 @@
 ghost use Rattle.std.specs.Prelude.{◌≡◌, true, false, if◌then◌else◌, Ok, Err, IfOk, OnOk, List, ℕ};
 ghost use Rattle.keep_device.specs.Failures.{one_more};
 ghost use Rattle.keep_disk.specs.declared.fault.DiskFault.TheVariants as faults;
-ghost use Rattle.keep_disk.specs.State.{IsKept, Tells};
+ghost use Rattle.keep_disk.specs.State.{DiskKeeps, Elapses, LeavesAlone, TellsFailure};
 ghost use Rattle.keep_disk.specs.MemoryLaws.{memory_lawful};
 ghost use Rattle.std.proofs.Common.{le_refl};
-ghost use Rattle.keep_disk.specs.Memory.{IsFirst, IsSame, Enters, image_of, calls_of, memory_state, held, is_turn, next_turn};
+ghost use Rattle.keep_disk.specs.Memory.{IsFreshDisk, IsSame, EntersCall, image_of, calls_of_disk, memory_state, held_file, is_turn, next_turn};
 
 use crate::call::{Call, Draft, Held, Stored, What};
 use crate::content::{after_call, first_of};
 use crate::failing::Failing;
-use crate::{Disk, DiskFault, Stamp, Why};
+use crate::{Disk, DiskFault, Lock, Stamp, Why};
 use keep_moment::Text;
 use std::alloc::{AllocError, Global};
 
@@ -20,6 +20,8 @@ pub struct MemoryDisk {
     pub(crate) files: Vec<Stored>,
     pub(crate) calls: Vec<Call>,
     beside: Option<Draft>,
+    // Another process holds each lock.
+    taken: bool,
     failing: Failing,
     faults: u64,
     fault: Why,
@@ -28,30 +30,43 @@ pub struct MemoryDisk {
 impl MemoryDisk {
     /// A disk with these files, all of them on it. Of two with one path the first is there. Calls that fail meet `fault`.
     pub fn new(alloc: Global, files: Vec<Stored>, failing: Failing, fault: Why) -> MemoryDisk
-        ensures first { IsFirst (image_of files.items) fault (memory_state result) }
-        ensures kept { (path : List ℕ) → IsKept path (memory_state result) }
+        ensures first { IsFreshDisk (image_of files.items) fault (memory_state result) }
+        ensures kept { (path : List ℕ) → DiskKeeps path (memory_state result) }
     {
         MemoryDisk {
             alloc,
             files,
             calls: Vec::new(alloc),
             beside: None,
+            taken: false,
             failing,
             faults: 0,
             fault,
         }
     }
 
+    /// From now on another process holds each lock.
+    pub fn take_locks(&mut self)
+        ensures taken { (path : List ℕ) → (memory_state self.new).taken path ≡ true }
+        ensures alone { LeavesAlone (memory_state self.old) (memory_state self.new) }
+        ensures beside { (memory_state self.new).beside ≡ (memory_state self.old).beside }
+        ensures time { Elapses (memory_state self.old) (memory_state self.new) }
+        ensures faults { (memory_state self.new).faults ≡ (memory_state self.old).faults }
+        ensures fault { (memory_state self.new).fault ≡ (memory_state self.old).fault }
+    {
+        self.taken = true;
+    }
+
     /// The calls that were made on its files, in their order: writes, cuts, syncs and moves, also those that failed.
     pub fn calls(&self) -> &[Call]
-        ensures { result.now ≡ calls_of self.now }
+        ensures { result.now ≡ calls_of_disk self.now }
     {
         &self.calls
     }
 
     /// The file that a read gives.
     pub fn file(&self, alloc: Global, path: &str) -> Result<Option<Held>, AllocError>
-        ensures { IfOk result (λ file. held file ≡ (memory_state self.now).seen path.now) }
+        ensures { IfOk result (λ file. held_file file ≡ (memory_state self.now).seen path.now) }
     {
         let mut file = first_of(alloc, &self.files, path)?;
         for call in &self.calls {
@@ -70,6 +85,7 @@ impl MemoryDisk {
         ensures files { self.new.files.items ≡ self.old.files.items }
         ensures calls { self.new.calls.items ≡ self.old.calls.items }
         ensures beside { self.new.beside ≡ self.old.beside }
+        ensures taken { self.new.taken ≡ self.old.taken }
         ensures fault { self.new.fault ≡ self.old.fault }
     {
         let fails = self.failing.is_turn();
@@ -83,10 +99,10 @@ impl MemoryDisk {
 
     /// Makes a call on the file at a path.
     fn enter(&mut self, path: &str, what: What) -> Result<(), DiskFault>
-        ensures entered { Enters path.now what self.old self.new result }
+        ensures entered { EntersCall path.now what self.old self.new result }
         ensures same { IsSame self.old self.new }
         ensures done { OnOk result (is_turn self.old.failing ≡ false) }
-        ensures cause { Tells (memory_state self.old) (memory_state self.new) result }
+        ensures cause { TellsFailure (memory_state self.old) (memory_state self.new) result }
     {
         let path = Vec::from_slice(self.alloc, path.as_bytes())?;
         self.calls.push(Call { path, what })?;
@@ -171,8 +187,9 @@ impl Disk for MemoryDisk {
         self.enter(path, What::Move { mode, bytes, done })
     }
 
-    fn lock(&mut self, _path: &str) -> Result<bool, DiskFault> {
+    fn lock(&mut self, path: &str) -> Result<Option<Lock>, DiskFault> {
+        let lock = Lock::of(self.alloc, path)?;
         self.end()?;
-        Ok(true)
+        Ok(if self.taken { None } else { Some(lock) })
     }
 }

@@ -1,8 +1,8 @@
 ghost use Rattle.std.specs.Prelude.{◌≡◌, OnOk, IsTrue, true, false, List, ℕ};
 ghost use Rattle.std.specs.Str.{bytes_eq};
-ghost use Rattle.keep_disk.specs.Image.{placed};
-ghost use Rattle.keep_disk.specs.Torn.{Moves};
-ghost use Rattle.keep_disk.specs.State.{IsKept, LeavesOnly, IsAfter, Follows, Tells};
+ghost use Rattle.keep_disk.specs.Image.{with_file_at};
+ghost use Rattle.keep_disk.specs.Torn.{MovesFile};
+ghost use Rattle.keep_disk.specs.State.{DiskKeeps, LeavesOnly, IsAfter, OutcomesFollow, TellsFailure};
 
 use crate::{Disk, DiskFault};
 
@@ -10,19 +10,19 @@ use crate::{Disk, DiskFault};
 /// is on the disk.
 pub fn replace<D: Disk>(disk: &mut D, path: &str, mode: u32, bytes: &[u8]) -> Result<(), DiskFault>
     ensures replaced { OnOk result (IsTrue D.is_known
-        → ((D.state disk.new).seen ≡ placed path.now (record { mode = mode; bytes = bytes.now }) (D.state disk.old).seen)
-        × IsKept path.now (D.state disk.new)) }
+        → ((D.state disk.new).seen ≡ with_file_at path.now (record { mode = mode; bytes = bytes.now }) (D.state disk.old).seen)
+        × DiskKeeps path.now (D.state disk.new)) }
 
     // A crash at any moment of the call leaves the file that was there, or the new one whole; and so does a fault.
     ensures any_moment { IsTrue D.is_known → LeavesOnly (D.state disk.old) (D.state disk.new)
-        (IsAfter (Moves path.now (record { mode = mode; bytes = bytes.now })) (D.state disk.old)) }
+        (IsAfter (MovesFile path.now (record { mode = mode; bytes = bytes.now })) (D.state disk.old)) }
     ensures crash { IsTrue D.is_known
-        → Follows (Moves path.now (record { mode = mode; bytes = bytes.now })) (D.state disk.old) (D.state disk.new) }
+        → OutcomesFollow (MovesFile path.now (record { mode = mode; bytes = bytes.now })) (D.state disk.old) (D.state disk.new) }
     ensures seen { IsTrue D.is_known
-        → Moves path.now (record { mode = mode; bytes = bytes.now }) (D.state disk.old).seen (D.state disk.new).seen }
+        → MovesFile path.now (record { mode = mode; bytes = bytes.now }) (D.state disk.old).seen (D.state disk.new).seen }
     ensures sound { IsTrue D.is_known → (other : List ℕ) → bytes_eq path.now other ≡ false
         → (D.state disk.new).is_sound other ≡ (D.state disk.old).is_sound other }
-    ensures cause { Tells (D.state disk.old) (D.state disk.new) result }
+    ensures cause { TellsFailure (D.state disk.old) (D.state disk.new) result }
 {
     disk.write_beside(path, mode, bytes)?;
     disk.sync_beside(path)?;

@@ -1,7 +1,7 @@
 ghost use Rattle.std.specs.Prelude.{◌≡◌, ◌≤◌, length, take, OnOk, IsTrue, IfSome, true};
-ghost use Rattle.keep_disk.specs.Image.{changed, with_bytes, overwritten};
+ghost use Rattle.keep_disk.specs.Image.{image_changed, with_bytes, overwritten};
 ghost use Rattle.keep_disk.specs.Torn.{Torn, Cut, Tears};
-ghost use Rattle.keep_disk.specs.State.{IsKept, Touches, Follows, LeavesOnly, IsAfter, Tells};
+ghost use Rattle.keep_disk.specs.State.{DiskKeeps, Touches, OutcomesFollow, LeavesOnly, IsAfter, TellsFailure};
 
 use crate::{Disk, DiskFault};
 
@@ -14,15 +14,15 @@ pub fn write_synced<D: Disk>(
 ) -> Result<(), DiskFault>
     requires { IsTrue D.is_known → IfSome ((D.state disk.old).seen path.now) (λ file. at ≤ length file.bytes) }
     ensures written { OnOk result (IsTrue D.is_known
-        → (D.state disk.new).seen ≡ changed path.now (with_bytes (overwritten at bytes.now)) (D.state disk.old).seen) }
-    ensures kept { OnOk result (IsTrue D.is_known → (D.state disk.old).is_sound path.now ≡ true → IsKept path.now (D.state disk.new)) }
+        → (D.state disk.new).seen ≡ image_changed path.now (with_bytes (overwritten at bytes.now)) (D.state disk.old).seen) }
+    ensures kept { OnOk result (IsTrue D.is_known → (D.state disk.old).is_sound path.now ≡ true → DiskKeeps path.now (D.state disk.new)) }
 
     // A crash at any moment of the call leaves any bytes in the range, and what was there elsewhere; and so does a fault.
     ensures any_moment { IsTrue D.is_known → LeavesOnly (D.state disk.old) (D.state disk.new)
         (IsAfter (Tears path.now (Torn at (length bytes.now))) (D.state disk.old)) }
-    ensures crash { IsTrue D.is_known → Follows (Tears path.now (Torn at (length bytes.now))) (D.state disk.old) (D.state disk.new) }
+    ensures crash { IsTrue D.is_known → OutcomesFollow (Tears path.now (Torn at (length bytes.now))) (D.state disk.old) (D.state disk.new) }
     ensures touches { IsTrue D.is_known → Touches path.now (D.state disk.old) (D.state disk.new) }
-    ensures cause { Tells (D.state disk.old) (D.state disk.new) result }
+    ensures cause { TellsFailure (D.state disk.old) (D.state disk.new) result }
 {
     disk.write_at(path, at, bytes)?;
     disk.sync(path)
@@ -32,15 +32,15 @@ pub fn write_synced<D: Disk>(
 pub fn cut_synced<D: Disk>(disk: &mut D, path: &str, len: usize) -> Result<(), DiskFault>
     requires { IsTrue D.is_known → IfSome ((D.state disk.old).seen path.now) (λ file. len ≤ length file.bytes) }
     ensures cut { OnOk result (IsTrue D.is_known
-        → (D.state disk.new).seen ≡ changed path.now (with_bytes (take len)) (D.state disk.old).seen) }
-    ensures kept { OnOk result (IsTrue D.is_known → (D.state disk.old).is_sound path.now ≡ true → IsKept path.now (D.state disk.new)) }
+        → (D.state disk.new).seen ≡ image_changed path.now (with_bytes (take len)) (D.state disk.old).seen) }
+    ensures kept { OnOk result (IsTrue D.is_known → (D.state disk.old).is_sound path.now ≡ true → DiskKeeps path.now (D.state disk.new)) }
 
     // A crash at any moment of the call leaves some length between; and so does a fault.
     ensures any_moment { IsTrue D.is_known → LeavesOnly (D.state disk.old) (D.state disk.new)
         (IsAfter (Tears path.now (Cut len)) (D.state disk.old)) }
-    ensures crash { IsTrue D.is_known → Follows (Tears path.now (Cut len)) (D.state disk.old) (D.state disk.new) }
+    ensures crash { IsTrue D.is_known → OutcomesFollow (Tears path.now (Cut len)) (D.state disk.old) (D.state disk.new) }
     ensures touches { IsTrue D.is_known → Touches path.now (D.state disk.old) (D.state disk.new) }
-    ensures cause { Tells (D.state disk.old) (D.state disk.new) result }
+    ensures cause { TellsFailure (D.state disk.old) (D.state disk.new) result }
 {
     disk.cut(path, len)?;
     disk.sync(path)

@@ -1,9 +1,9 @@
 ghost use Rattle.std.specs.Prelude.{◌≡◌, false};
-ghost use Rattle.keep_disk.specs.State.{Tells};
+ghost use Rattle.keep_disk.specs.State.{TellsFailure};
 ghost use Rattle.keep_disk.specs.System.{system_state, refused};
 
 use crate::places::{beside_of, folder_of};
-use crate::{Disk, DiskFault, Stamp, Why};
+use crate::{Disk, DiskFault, Lock, Stamp, Why};
 use keep_device::{Counted, InputFault, read_all};
 use keep_moment::Text;
 use std::alloc::Global;
@@ -48,7 +48,7 @@ impl<'a, R: Files<File = File> + AllocGlobal> SystemDisk<'a, R> {
     /// Makes the folder at `path` with mode 0700 where there is none, and puts its name on the disk: by the next loss of power it is
     /// there, and so is what was synced in it.
     pub fn make_folder(&mut self, path: &str) -> Result<(), DiskFault>
-        ensures cause { Tells (system_state self.old.faults self.old.fault) (system_state self.new.faults self.new.fault) result }
+        ensures cause { TellsFailure (system_state self.old.faults self.old.fault) (system_state self.new.faults self.new.fault) result }
     {
         match DirBuilder::new().mode(FOLDER_MODE).create(self.rt, path) {
             Err(error) if error.kind() != ErrorKind::AlreadyExists => Err(self.fail(&error)),
@@ -62,14 +62,14 @@ impl<'a, R: Files<File = File> + AllocGlobal> SystemDisk<'a, R> {
 
     /// Counts a call that failed, unless it failed because memory ran out.
     fn fail(&mut self, error: &io::Error) -> DiskFault
-        ensures { Tells (system_state self.old.faults self.old.fault) (system_state self.new.faults self.new.fault) (refused result) }
+        ensures { TellsFailure (system_state self.old.faults self.old.fault) (system_state self.new.faults self.new.fault) (refused result) }
     {
         count(&mut self.faults, &mut self.fault, error)
     }
 
     /// What the system answered.
     fn answer<T: Drop>(&mut self, answer: io::Result<T>) -> Result<T, DiskFault>
-        ensures { Tells (system_state self.old.faults self.old.fault) (system_state self.new.faults self.new.fault) result }
+        ensures { TellsFailure (system_state self.old.faults self.old.fault) (system_state self.new.faults self.new.fault) result }
     {
         match answer {
             Ok(x) => Ok(x),
@@ -152,7 +152,7 @@ impl<'a, R: Files<File = File> + AllocGlobal> SystemDisk<'a, R> {
 
 /// Counts a call that failed, unless it failed because memory ran out.
 fn count(faults: &mut u64, fault: &mut Why, error: &io::Error) -> DiskFault
-    ensures { Tells (system_state faults.old fault.old) (system_state faults.new fault.new) (refused result) }
+    ensures { TellsFailure (system_state faults.old fault.old) (system_state faults.new fault.new) (refused result) }
 {
     let why = match error.kind() {
         ErrorKind::OutOfMemory => return DiskFault::OutOfMemory,
@@ -243,8 +243,12 @@ impl<'a, R: Files<File = File> + AllocGlobal> Disk for SystemDisk<'a, R> {
         self.answer(moved)
     }
 
-    fn lock(&mut self, path: &str) -> Result<bool, DiskFault> {
+    fn lock(&mut self, path: &str) -> Result<Option<Lock>, DiskFault> {
+        let lock = Lock::of(self.rt.alloc(), path)?;
         let held = self.try_lock(path);
-        self.answer(held)
+        match self.answer(held)? {
+            true => Ok(Some(lock)),
+            false => Ok(None),
+        }
     }
 }

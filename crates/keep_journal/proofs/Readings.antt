@@ -6,7 +6,7 @@ use Rattle.std.proofs.lemmas.Bool.{eqb-true, eq-eqb}
 use Rattle.memchr.specs.Find.{Nowhere, Passes, NoneBefore, is_byte}
 use Rattle.keep_disk.specs.Torn.{Torn, Cut}
 use Rattle.keep_disk.specs.Image.{overwritten}
-use Rattle.keep_journal.specs.Records.{IsLine, AreLines, block, blocks, at_rest, StandsFor, IsBeforeOrAfter, kept, is_out, taken}
+use Rattle.keep_journal.specs.Records.{IsRecordLine, AreLines, block, blocks, at_rest, StandsFor, IsBeforeOrAfter, lines_kept, is_out, lines_taken_out}
 
 abbrev first_of : ℕ → List ℕ → ℕ
 first_of d [] = d
@@ -23,7 +23,7 @@ pub not_nil : (x : ℕ) (xs : List ℕ) → [] ≡ x ∷ xs → ⊥
 not_nil x xs is = let long : zero ≡ suc (length xs) = ap length is in absurd (omega (arith, long))
 
 -- a line ends at its first line feed
-pub same_line : (xs ys : List ℕ) (a b : List ℕ) → IsLine xs → IsLine ys → xs ++ 10 ∷ a ≡ ys ++ 10 ∷ b → (xs ≡ ys) × (a ≡ b)
+pub same_line : (xs ys : List ℕ) (a b : List ℕ) → IsRecordLine xs → IsRecordLine ys → xs ++ 10 ∷ a ≡ ys ++ 10 ∷ b → (xs ≡ ys) × (a ≡ b)
 same_line [] [] a b p q is = (refl, tails 10 10 a b is)
 same_line [] (y ∷ ys) a b p q is = absurd (q.0 (sym (heads 10 y a (ys ++ 10 ∷ b) is)))
 same_line (x ∷ xs) [] a b p q is = absurd (p.0 (heads x 10 (xs ++ 10 ∷ a) b is))
@@ -38,7 +38,7 @@ block_then line rest = ap (λ (l : List ℕ). 43 ∷ l) (append_assoc line (10 �
 pub length-block : (line : List ℕ) → length (block line) ≡ length line + 2
 length-block line = omega (arith, length-append line (10 ∷ []))
 
-pub same_block : (xs ys a b : List ℕ) → IsLine xs → IsLine ys → block xs ++ a ≡ block ys ++ b → (xs ≡ ys) × (a ≡ b)
+pub same_block : (xs ys a b : List ℕ) → IsRecordLine xs → IsRecordLine ys → block xs ++ a ≡ block ys ++ b → (xs ≡ ys) × (a ≡ b)
 same_block xs ys a b p q is =
     same_line xs ys a b p q (tails 43 43 (xs ++ 10 ∷ a) (ys ++ 10 ∷ b) (sym (block_then xs a) ∙ is ∙ block_then ys b))
 
@@ -47,13 +47,13 @@ blocks_push [] line rest = ap (λ (l : List ℕ). l ++ rest) (append-nil (block 
 blocks_push (l ∷ lines) line rest =
     append_assoc (block l) (blocks (lines ++ line ∷ [])) rest ∙ ap (λ (m : List ℕ). block l ++ m) (blocks_push lines line rest) ∙ sym (append_assoc (block l) (blocks lines) (block line ++ rest))
 
-pub lines_push : (lines : List (List ℕ)) (line : List ℕ) → AreLines lines → IsLine line → AreLines (lines ++ line ∷ [])
+pub lines_push : (lines : List (List ℕ)) (line : List ℕ) → AreLines lines → IsRecordLine line → AreLines (lines ++ line ∷ [])
 lines_push [] line p q = (q, tt)
 lines_push (l ∷ lines) line p q = (p.0, lines_push lines line p.1 q)
 
 -- a file stands for one list of records
 pub one_reading : (xs ys : List (List ℕ)) (a b : List ℕ) → AreLines xs → AreLines ys → blocks xs ++ a ≡ blocks ys ++ b
-    → ((line rest : List ℕ) → IsLine line → a ≢ block line ++ rest) → ((line rest : List ℕ) → IsLine line → b ≢ block line ++ rest) → xs ≡ ys
+    → ((line rest : List ℕ) → IsRecordLine line → a ≢ block line ++ rest) → ((line rest : List ℕ) → IsRecordLine line → b ≢ block line ++ rest) → xs ≡ ys
 one_reading [] [] a b p q is end_a end_b = refl
 one_reading [] (y ∷ ys) a b p q is end_a end_b = absurd (end_a y (blocks ys ++ b) q.0 (is ∙ append_assoc (block y) (blocks ys) b))
 one_reading (x ∷ xs) [] a b p q is end_a end_b = absurd (end_b x (blocks xs ++ a) p.0 (sym is ∙ append_assoc (block x) (blocks xs) a))
@@ -66,10 +66,10 @@ pub stands_once : (file : List ℕ) (xs ys : List (List ℕ)) → StandsFor file
 stands_once file xs ys s t = one_reading xs ys s.end t.end s.are_lines t.are_lines (sym s.split ∙ t.split) s.nothing t.nothing
 
 -- what begins with another byte than an open gate begins with no record
-pub shut : (gate : ℕ) (rest : List ℕ) → gate ≢ 43 → (line more : List ℕ) → IsLine line → gate ∷ rest ≢ block line ++ more
+pub shut : (gate : ℕ) (rest : List ℕ) → gate ≢ 43 → (line more : List ℕ) → IsRecordLine line → gate ∷ rest ≢ block line ++ more
 shut gate rest closed line more is_line is = closed (heads gate 43 rest (line ++ 10 ∷ more) (is ∙ block_then line more))
 
-pub nothing_in_nil : (line more : List ℕ) → IsLine line → [] ≢ block line ++ more
+pub nothing_in_nil : (line more : List ℕ) → IsRecordLine line → [] ≢ block line ++ more
 nothing_in_nil line more is_line is = not_nil 43 (line ++ 10 ∷ more) (is ∙ block_then line more)
 
 pub stands_closed : (lines : List (List ℕ)) (gate : ℕ) (rest : List ℕ) → AreLines lines → gate ≢ 43 → StandsFor (blocks lines ++ gate ∷ rest) lines
@@ -101,7 +101,7 @@ module _ (lines : List (List ℕ)) (size : ℕ) (are : AreLines lines) (size_is 
       ∙ ap (λ (l : List ℕ). at_rest lines ++ l) (append-nil tail)
       ∙ append_assoc (blocks lines) (45 ∷ []) tail
 
-  module _ (line : List ℕ) (is_line : IsLine line) where
+  module _ (line : List ℕ) (is_line : IsRecordLine line) where
     tail : List ℕ
     tail = line ++ 10 ∷ 45 ∷ []
 
@@ -195,26 +195,26 @@ module _ (file : List ℕ) (lines : List (List ℕ)) (stands : StandsFor file li
       ∙ ap (λ (l : List ℕ). blocks lines ++ 45 ∷ l) (drop_all (size + 1) (blocks lines) (omega (arith, size_is)))
 
 -- a front in which no line feed stands is a line
-pub line_from : (k : ℕ) (xs : List ℕ) → k ≤ length xs → ((j : ℕ) → j < k → slice_index xs j ≢ 10) → IsLine (take k xs)
+pub line_from : (k : ℕ) (xs : List ℕ) → k ≤ length xs → ((j : ℕ) → j < k → slice_index xs j ≢ 10) → IsRecordLine (take k xs)
 line_from zero xs le none = tt
 line_from (suc k) [] le none = absurd (omega arith)
 line_from (suc k) (x ∷ xs) le none = (none 0 (omega arith), line_from k xs (omega arith) (λ j below. none (suc j) (omega arith)))
 
 -- and in a line there is none
-pub line_has_none : (xs : List ℕ) → IsLine xs → (j : ℕ) → j < length xs → slice_index xs j ≢ 10
+pub line_has_none : (xs : List ℕ) → IsRecordLine xs → (j : ℕ) → j < length xs → slice_index xs j ≢ 10
 line_has_none [] is j below = absurd (omega arith)
 line_has_none (x ∷ xs) is zero below = is.0
 line_has_none (x ∷ xs) is (suc j) below = line_has_none xs is.1 j (omega arith)
 
-pub line_when_none : (xs : List ℕ) → Nowhere (Passes (is_byte 10) xs) 0 (length xs) → IsLine xs
-line_when_none xs nowhere = subst IsLine (take_all (length xs) xs (omega arith))
+pub line_when_none : (xs : List ℕ) → Nowhere (Passes (is_byte 10) xs) 0 (length xs) → IsRecordLine xs
+line_when_none xs nowhere = subst IsRecordLine (take_all (length xs) xs (omega arith))
     (line_from (length xs) xs (omega arith) (λ j below is. nowhere j (omega arith) below (eq-eqb (slice_index xs j) 10 is)))
 
-pub nowhere_in_line : (xs : List ℕ) → IsLine xs → Nowhere (Passes (is_byte 10) xs) 0 (length xs)
+pub nowhere_in_line : (xs : List ℕ) → IsRecordLine xs → Nowhere (Passes (is_byte 10) xs) 0 (length xs)
 nowhere_in_line xs is j low below passes = line_has_none xs is j below (eqb-true (slice_index xs j) 10 passes)
 
 -- what comes before the first line feed is a line
-pub line_before : (xs : List ℕ) (k : ℕ) → NoneBefore (Passes (is_byte 10) xs) 0 (length xs) k → IsLine (take k xs)
+pub line_before : (xs : List ℕ) (k : ℕ) → NoneBefore (Passes (is_byte 10) xs) 0 (length xs) k → IsRecordLine (take k xs)
 line_before xs k first = line_from k xs (omega (arith, first.high)) (λ j below is. first.before j (omega arith) below (eq-eqb (slice_index xs j) 10 is))
 
 pub split_at_feed : (xs : List ℕ) (k : ℕ) → k < length xs → slice_index xs k ≡ 10 → xs ≡ take k xs ++ 10 ∷ drop (k + 1) xs
@@ -234,11 +234,11 @@ pub no_line : (after line rest : List ℕ) → ((line rest : List ℕ) → after
 no_line after line rest none is = none line rest (tails 43 43 after (line ++ 10 ∷ rest) (is ∙ block_then line rest))
 
 -- a step of taking records out
-kept_all : (lines : List (List ℕ)) → kept lines [] ≡ lines
+kept_all : (lines : List (List ℕ)) → lines_kept lines [] ≡ lines
 kept_all [] = refl
 kept_all (line ∷ lines) = refl
 
-kept_first : (line : List ℕ) (lines : List (List ℕ)) (outs : List Bool) → kept (line ∷ lines) outs ≡ (if is_out outs 0 then kept lines (drop 1 outs) else line ∷ kept lines (drop 1 outs))
+kept_first : (line : List ℕ) (lines : List (List ℕ)) (outs : List Bool) → lines_kept (line ∷ lines) outs ≡ (if is_out outs 0 then lines_kept lines (drop 1 outs) else line ∷ lines_kept lines (drop 1 outs))
 kept_first line lines [] = ap (λ (l : List (List ℕ)). line ∷ l) (sym (kept_all lines))
 kept_first line lines (true ∷ outs) = refl
 kept_first line lines (false ∷ outs) = refl
@@ -257,57 +257,57 @@ drop_later (out ∷ outs) (suc next) zero is = let same : zero ≡ next = omega 
 drop_later (out ∷ outs) (suc next) (suc at) is = drop_later outs next at (omega arith)
 
 kept_step : (lines : List (List ℕ)) (outs : List Bool) (at : ℕ) → at < length lines
-    → kept (drop at lines) (drop at outs) ≡ (if is_out outs at then kept (drop (at + 1) lines) (drop (at + 1) outs) else get_or lines at [] ∷ kept (drop (at + 1) lines) (drop (at + 1) outs))
+    → lines_kept (drop at lines) (drop at outs) ≡ (if is_out outs at then lines_kept (drop (at + 1) lines) (drop (at + 1) outs) else get_or lines at [] ∷ lines_kept (drop (at + 1) lines) (drop (at + 1) outs))
 kept_step lines outs at below =
-    ap (λ (l : List (List ℕ)). kept l (drop at outs)) (drop_more lines at [] below)
+    ap (λ (l : List (List ℕ)). lines_kept l (drop at outs)) (drop_more lines at [] below)
     ∙ kept_first (get_or lines at []) (drop (at + 1) lines) (drop at outs)
-    ∙ (λ i. if out_later outs at i then kept (drop (at + 1) lines) (drop_later outs (at + 1) at (omega arith) i) else get_or lines at [] ∷ kept (drop (at + 1) lines) (drop_later outs (at + 1) at (omega arith) i))
+    ∙ (λ i. if out_later outs at i then lines_kept (drop (at + 1) lines) (drop_later outs (at + 1) at (omega arith) i) else get_or lines at [] ∷ lines_kept (drop (at + 1) lines) (drop_later outs (at + 1) at (omega arith) i))
 
 pub kept_out : (lines : List (List ℕ)) (outs : List Bool) (at : ℕ) → at < length lines → is_out outs at ≡ true
-    → kept (drop at lines) (drop at outs) ≡ kept (drop (at + 1) lines) (drop (at + 1) outs)
+    → lines_kept (drop at lines) (drop at outs) ≡ lines_kept (drop (at + 1) lines) (drop (at + 1) outs)
 kept_out lines outs at below out =
     kept_step lines outs at below
-    ∙ (λ i. if out i then kept (drop (at + 1) lines) (drop (at + 1) outs) else get_or lines at [] ∷ kept (drop (at + 1) lines) (drop (at + 1) outs))
+    ∙ (λ i. if out i then lines_kept (drop (at + 1) lines) (drop (at + 1) outs) else get_or lines at [] ∷ lines_kept (drop (at + 1) lines) (drop (at + 1) outs))
 
 pub kept_in : (lines : List (List ℕ)) (outs : List Bool) (at : ℕ) → at < length lines → is_out outs at ≡ false
-    → kept (drop at lines) (drop at outs) ≡ get_or lines at [] ∷ kept (drop (at + 1) lines) (drop (at + 1) outs)
+    → lines_kept (drop at lines) (drop at outs) ≡ get_or lines at [] ∷ lines_kept (drop (at + 1) lines) (drop (at + 1) outs)
 kept_in lines outs at below stays =
     kept_step lines outs at below
-    ∙ (λ i. if stays i then kept (drop (at + 1) lines) (drop (at + 1) outs) else get_or lines at [] ∷ kept (drop (at + 1) lines) (drop (at + 1) outs))
+    ∙ (λ i. if stays i then lines_kept (drop (at + 1) lines) (drop (at + 1) outs) else get_or lines at [] ∷ lines_kept (drop (at + 1) lines) (drop (at + 1) outs))
 
-pub kept_lines : (lines : List (List ℕ)) (outs : List Bool) → AreLines lines → AreLines (kept lines outs)
+pub kept_lines : (lines : List (List ℕ)) (outs : List Bool) → AreLines lines → AreLines (lines_kept lines outs)
 kept_lines [] outs are = tt
 kept_lines (line ∷ lines) [] are = are
 kept_lines (line ∷ lines) (true ∷ outs) are = kept_lines lines outs are.1
 kept_lines (line ∷ lines) (false ∷ outs) are = (are.0, kept_lines lines outs are.1)
 
-taken_none : (lines : List (List ℕ)) → taken lines [] ≡ []
+taken_none : (lines : List (List ℕ)) → lines_taken_out lines [] ≡ []
 taken_none [] = refl
 taken_none (line ∷ lines) = refl
 
-taken_first : (line : List ℕ) (lines : List (List ℕ)) (outs : List Bool) → taken (line ∷ lines) outs ≡ (if is_out outs 0 then line ++ 10 ∷ taken lines (drop 1 outs) else taken lines (drop 1 outs))
+taken_first : (line : List ℕ) (lines : List (List ℕ)) (outs : List Bool) → lines_taken_out (line ∷ lines) outs ≡ (if is_out outs 0 then line ++ 10 ∷ lines_taken_out lines (drop 1 outs) else lines_taken_out lines (drop 1 outs))
 taken_first line lines [] = sym (taken_none lines)
 taken_first line lines (true ∷ outs) = refl
 taken_first line lines (false ∷ outs) = refl
 
 taken_step : (lines : List (List ℕ)) (outs : List Bool) (at : ℕ) → at < length lines
-    → taken (drop at lines) (drop at outs) ≡ (if is_out outs at then get_or lines at [] ++ 10 ∷ taken (drop (at + 1) lines) (drop (at + 1) outs) else taken (drop (at + 1) lines) (drop (at + 1) outs))
+    → lines_taken_out (drop at lines) (drop at outs) ≡ (if is_out outs at then get_or lines at [] ++ 10 ∷ lines_taken_out (drop (at + 1) lines) (drop (at + 1) outs) else lines_taken_out (drop (at + 1) lines) (drop (at + 1) outs))
 taken_step lines outs at below =
-    ap (λ (l : List (List ℕ)). taken l (drop at outs)) (drop_more lines at [] below)
+    ap (λ (l : List (List ℕ)). lines_taken_out l (drop at outs)) (drop_more lines at [] below)
     ∙ taken_first (get_or lines at []) (drop (at + 1) lines) (drop at outs)
-    ∙ (λ i. if out_later outs at i then get_or lines at [] ++ 10 ∷ taken (drop (at + 1) lines) (drop_later outs (at + 1) at (omega arith) i) else taken (drop (at + 1) lines) (drop_later outs (at + 1) at (omega arith) i))
+    ∙ (λ i. if out_later outs at i then get_or lines at [] ++ 10 ∷ lines_taken_out (drop (at + 1) lines) (drop_later outs (at + 1) at (omega arith) i) else lines_taken_out (drop (at + 1) lines) (drop_later outs (at + 1) at (omega arith) i))
 
 pub taken_out : (lines : List (List ℕ)) (outs : List Bool) (at : ℕ) → at < length lines → is_out outs at ≡ true
-    → taken (drop at lines) (drop at outs) ≡ get_or lines at [] ++ 10 ∷ taken (drop (at + 1) lines) (drop (at + 1) outs)
+    → lines_taken_out (drop at lines) (drop at outs) ≡ get_or lines at [] ++ 10 ∷ lines_taken_out (drop (at + 1) lines) (drop (at + 1) outs)
 taken_out lines outs at below out =
     taken_step lines outs at below
-    ∙ (λ i. if out i then get_or lines at [] ++ 10 ∷ taken (drop (at + 1) lines) (drop (at + 1) outs) else taken (drop (at + 1) lines) (drop (at + 1) outs))
+    ∙ (λ i. if out i then get_or lines at [] ++ 10 ∷ lines_taken_out (drop (at + 1) lines) (drop (at + 1) outs) else lines_taken_out (drop (at + 1) lines) (drop (at + 1) outs))
 
 pub taken_in : (lines : List (List ℕ)) (outs : List Bool) (at : ℕ) → at < length lines → is_out outs at ≡ false
-    → taken (drop at lines) (drop at outs) ≡ taken (drop (at + 1) lines) (drop (at + 1) outs)
+    → lines_taken_out (drop at lines) (drop at outs) ≡ lines_taken_out (drop (at + 1) lines) (drop (at + 1) outs)
 taken_in lines outs at below stays =
     taken_step lines outs at below
-    ∙ (λ i. if stays i then get_or lines at [] ++ 10 ∷ taken (drop (at + 1) lines) (drop (at + 1) outs) else taken (drop (at + 1) lines) (drop (at + 1) outs))
+    ∙ (λ i. if stays i then get_or lines at [] ++ 10 ∷ lines_taken_out (drop (at + 1) lines) (drop (at + 1) outs) else lines_taken_out (drop (at + 1) lines) (drop (at + 1) outs))
 
 -- an item that is there, whatever else would be read
 pub same_item : (xs : List (List ℕ)) (i : ℕ) (d e : List ℕ) → i < length xs → get_or xs i d ≡ get_or xs i e

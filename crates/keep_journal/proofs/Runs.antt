@@ -1,36 +1,36 @@
 -- What runs of several steps leave, and what they keep.
 use Rattle.std.proofs.Common.{◌≡◌, inl, ℕ, ◌≤◌, List, [], ◌∷◌, ◌++◌, false, Option, None, Some, refl, sym, ◌∙◌, ap, subst}
 use Rattle.std.specs.Str.{bytes_eq}
-use Rattle.keep_disk.specs.Image.{File, Image, placed}
-use Rattle.keep_disk.specs.Torn.{Moves}
-use Rattle.keep_disk.specs.State.{State, IsKept, Follows, IsAfter, LeavesAlone, Elapses, LeavesOnly}
+use Rattle.keep_disk.specs.Image.{File, Image, with_file_at}
+use Rattle.keep_disk.specs.Torn.{MovesFile}
+use Rattle.keep_disk.specs.State.{DiskState, DiskKeeps, OutcomesFollow, IsAfter, LeavesAlone, Elapses, LeavesOnly}
 use Rattle.keep_disk.proofs.Moments.{started, goes_on, weaker, and_then}
 use Rattle.keep_journal.specs.Records.{at_rest, StandsFor, IsBeforeOrAfter}
-use Rattle.keep_journal.specs.Journals.{bytes_of, IsAtRest, Leaves, KeepsOthers, Exchanging, Settling, IsThere}
+use Rattle.keep_journal.specs.Journals.{bytes_of_file, JournalIsAtRest, CrashLeaves, KeepsOthers, Exchanging, Settling, FileIsThere}
 use Rattle.keep_journal.proofs.Readings.{stands_at_rest, stands_once, nothing_in_nil}
 use Rattle.keep_journal.proofs.Steps.{at_path, at_end, leaves_weaker, leaves_then, leaves_past, still_leaves, kept_has, kept_past, moves_elsewhere, first_in_place, then_anew, first_put, then_exchanged}
 
 -- the file's records, where it is at rest with them
-pub rest_has : (path : List ℕ) (lines : List (List ℕ)) (size : ℕ) (t : State) → IsAtRest path lines size t → (d : Image) → t.may_leave d → StandsFor (bytes_of (d path)) lines
+pub rest_has : (path : List ℕ) (lines : List (List ℕ)) (size : ℕ) (t : DiskState) → JournalIsAtRest path lines size t → (d : Image) → t.may_leave d → StandsFor (bytes_of_file (d path)) lines
 rest_has path lines size t rest = kept_has path t rest.mode (at_rest lines) (λ f. StandsFor f lines) rest.seen rest.is_kept (stands_at_rest lines rest.are_lines)
 
 -- a record is added once the file is at rest
-pub put_leaves : (path : List ℕ) (lines : List (List ℕ)) (line : List ℕ) (size : ℕ) (s t u : State) → LeavesOnly s t (Leaves path (λ f. StandsFor f lines) s)
-    → ((m : ℕ) (c : Image) → m ≤ t.moment → t.may_leave c → t.left_since m c) → IsAtRest path lines size t
-    → LeavesOnly t u (Leaves path (IsBeforeOrAfter lines line) t) → LeavesOnly s u (Leaves path (IsBeforeOrAfter lines line) s)
+pub put_leaves : (path : List ℕ) (lines : List (List ℕ)) (line : List ℕ) (size : ℕ) (s t u : DiskState) → LeavesOnly s t (CrashLeaves path (λ f. StandsFor f lines) s)
+    → ((m : ℕ) (c : Image) → m ≤ t.moment → t.may_leave c → t.left_since m c) → JournalIsAtRest path lines size t
+    → LeavesOnly t u (CrashLeaves path (IsBeforeOrAfter lines line) t) → LeavesOnly s u (CrashLeaves path (IsBeforeOrAfter lines line) s)
 put_leaves path lines line size s t u first counts rest second =
-    and_then s t u (Leaves path (IsBeforeOrAfter lines line) s) (Leaves path (IsBeforeOrAfter lines line) t)
-    (weaker s t (Leaves path (λ f. StandsFor f lines) s) (Leaves path (IsBeforeOrAfter lines line) s) first (leaves_weaker path (λ f. StandsFor f lines) (IsBeforeOrAfter lines line) s (λ f stands. inl stands)))
+    and_then s t u (CrashLeaves path (IsBeforeOrAfter lines line) s) (CrashLeaves path (IsBeforeOrAfter lines line) t)
+    (weaker s t (CrashLeaves path (λ f. StandsFor f lines) s) (CrashLeaves path (IsBeforeOrAfter lines line) s) first (leaves_weaker path (λ f. StandsFor f lines) (IsBeforeOrAfter lines line) s (λ f stands. inl stands)))
     second
-    (leaves_then path s t (λ f. StandsFor f lines) (IsBeforeOrAfter lines line) (IsBeforeOrAfter lines line) (at_end s t (Leaves path (λ f. StandsFor f lines) s) first counts)
+    (leaves_then path s t (λ f. StandsFor f lines) (IsBeforeOrAfter lines line) (IsBeforeOrAfter lines line) (at_end s t (CrashLeaves path (λ f. StandsFor f lines) s) first counts)
     (λ d left. inl (rest_has path lines size t rest d left)) (λ f has. has))
 
 -- a file is put in its place, which is not the journal's
-module _ (path target : List ℕ) (file : File) (apart : bytes_eq path target ≡ false) (s t : State) where
-  pub others_past : Moves target file s.seen t.seen → ((other : List ℕ) → bytes_eq target other ≡ false → t.is_sound other ≡ s.is_sound other) → KeepsOthers target s t
+module _ (path target : List ℕ) (file : File) (apart : bytes_eq path target ≡ false) (s t : DiskState) where
+  pub others_past : MovesFile target file s.seen t.seen → ((other : List ℕ) → bytes_eq target other ≡ false → t.is_sound other ≡ s.is_sound other) → KeepsOthers target s t
   others_past moves sound = record { seen = moves_elsewhere target file s.seen t.seen moves; sound = sound }
 
-  pub rest_past : (lines : List (List ℕ)) (size : ℕ) → bytes_eq target path ≡ false → KeepsOthers target s t → Follows (Moves target file) s t → IsAtRest path lines size s → IsAtRest path lines size t
+  pub rest_past : (lines : List (List ℕ)) (size : ℕ) → bytes_eq target path ≡ false → KeepsOthers target s t → OutcomesFollow (MovesFile target file) s t → JournalIsAtRest path lines size s → JournalIsAtRest path lines size t
   rest_past lines size back others before rest = record {
     are_lines = rest.are_lines;
     mode = rest.mode;
@@ -39,51 +39,51 @@ module _ (path target : List ℕ) (file : File) (apart : bytes_eq path target �
     is_kept = kept_past target path s t back others rest.is_kept (λ c left. let from = before c left in (from.0, from.1, moves_elsewhere target file from.0 c from.2));
   }
 
-  pub in_place : t.seen ≡ placed target file s.seen → IsKept target t → IsThere target file t
+  pub in_place : t.seen ≡ with_file_at target file s.seen → DiskKeeps target t → FileIsThere target file t
   in_place placed_is is_kept = record { seen = ap (λ (image : Image). image target) placed_is ∙ at_path target (λ _. Some file) s.seen; is_kept = is_kept }
 
-  pub exchanged_leaves : (P : List ℕ → Type 0) (u : State) → LeavesOnly s t (IsAfter (Moves target file) s) → Follows (Moves target file) s t → IsThere target file t
-      → LeavesOnly t u (Leaves path P t) → LeavesOnly s u (Exchanging path target file P s)
+  pub exchanged_leaves : (P : List ℕ → Type 0) (u : DiskState) → LeavesOnly s t (IsAfter (MovesFile target file) s) → OutcomesFollow (MovesFile target file) s t → FileIsThere target file t
+      → LeavesOnly t u (CrashLeaves path P t) → LeavesOnly s u (Exchanging path target file P s)
   exchanged_leaves P u first before there second =
-      and_then s t u (Exchanging path target file P s) (Leaves path P t)
-      (weaker s t (IsAfter (Moves target file) s) (Exchanging path target file P s) first (first_in_place path target file P apart s))
+      and_then s t u (Exchanging path target file P s) (CrashLeaves path P t)
+      (weaker s t (IsAfter (MovesFile target file) s) (Exchanging path target file P s) first (first_in_place path target file P apart s))
       second (then_anew path target file P apart s t there before)
 
   -- it stays there while the journal is made anew
-  pub there_past : (P : List ℕ → Type 0) (u : State) → IsThere target file t → KeepsOthers path t u → LeavesOnly t u (Leaves path P t)
-      → ((m : ℕ) (c : Image) → m ≤ u.moment → u.may_leave c → u.left_since m c) → IsThere target file u
+  pub there_past : (P : List ℕ → Type 0) (u : DiskState) → FileIsThere target file t → KeepsOthers path t u → LeavesOnly t u (CrashLeaves path P t)
+      → ((m : ℕ) (c : Image) → m ≤ u.moment → u.may_leave c → u.left_since m c) → FileIsThere target file u
   there_past P u there others run counts = record {
     seen = others.seen target apart ∙ there.seen;
-    is_kept = kept_past path target t u apart others there.is_kept (λ c left. let l = at_end t u (Leaves path P t) run counts c left in (l.0, l.1, l.2));
+    is_kept = kept_past path target t u apart others there.is_kept (λ c left. let l = at_end t u (CrashLeaves path P t) run counts c left in (l.0, l.1, l.2));
   }
 
 -- the records are settled
-pub settled_leaves : (path target : List ℕ) (file : File) (lines : List (List ℕ)) (line : List ℕ) (apart : bytes_eq path target ≡ false) (size : ℕ) (s t u : State)
-    → LeavesOnly s t (Leaves path (IsBeforeOrAfter lines line) s) → ((m : ℕ) (c : Image) → m ≤ t.moment → t.may_leave c → t.left_since m c)
-    → IsAtRest path (lines ++ line ∷ []) size t → LeavesOnly t u (Exchanging path target file (λ f. StandsFor f []) t) → LeavesOnly s u (Settling path target file lines line s)
+pub settled_leaves : (path target : List ℕ) (file : File) (lines : List (List ℕ)) (line : List ℕ) (apart : bytes_eq path target ≡ false) (size : ℕ) (s t u : DiskState)
+    → LeavesOnly s t (CrashLeaves path (IsBeforeOrAfter lines line) s) → ((m : ℕ) (c : Image) → m ≤ t.moment → t.may_leave c → t.left_since m c)
+    → JournalIsAtRest path (lines ++ line ∷ []) size t → LeavesOnly t u (Exchanging path target file (λ f. StandsFor f []) t) → LeavesOnly s u (Settling path target file lines line s)
 settled_leaves path target file lines line apart size s t u first counts rest second =
     and_then s t u (Settling path target file lines line s) (Exchanging path target file (λ f. StandsFor f []) t)
-    (weaker s t (Leaves path (IsBeforeOrAfter lines line) s) (Settling path target file lines line s) first (first_put path target file lines line apart s))
+    (weaker s t (CrashLeaves path (IsBeforeOrAfter lines line) s) (Settling path target file lines line s) first (first_put path target file lines line apart s))
     second
-    (then_exchanged path target file lines line apart s t (at_end s t (Leaves path (IsBeforeOrAfter lines line) s) first counts) (rest_has path (lines ++ line ∷ []) size t rest))
+    (then_exchanged path target file lines line apart s t (at_end s t (CrashLeaves path (IsBeforeOrAfter lines line) s) first counts) (rest_has path (lines ++ line ∷ []) size t rest))
 
 -- no bytes stand for no records
 pub none_stand : StandsFor [] []
 none_stand = record { are_lines = tt; end = []; split = refl; nothing = nothing_in_nil }
 
 -- a run after a read
-pub read_then : (path : List ℕ) (P Q : List ℕ → Type 0) (s t u : State) → ((c : Image) → s.left_since s.moment c → s.may_leave c) → LeavesAlone s t → Elapses s t → ((f : List ℕ) → Q f → P f)
-    → LeavesOnly t u (Leaves path Q t) → LeavesOnly s u (Leaves path P s)
+pub read_then : (path : List ℕ) (P Q : List ℕ → Type 0) (s t u : DiskState) → ((c : Image) → s.left_since s.moment c → s.may_leave c) → LeavesAlone s t → Elapses s t → ((f : List ℕ) → Q f → P f)
+    → LeavesOnly t u (CrashLeaves path Q t) → LeavesOnly s u (CrashLeaves path P s)
 read_then path P Q s t u only alone time means second =
-    and_then s t u (Leaves path P s) (Leaves path Q t)
-    (goes_on s s t (Leaves path P s) (started s (Leaves path P s) only (still_leaves path P s)) time (λ c now. still_leaves path P s c (alone.crash c now)))
+    and_then s t u (CrashLeaves path P s) (CrashLeaves path Q t)
+    (goes_on s s t (CrashLeaves path P s) (started s (CrashLeaves path P s) only (still_leaves path P s)) time (λ c now. still_leaves path P s c (alone.crash c now)))
     second (λ c left. leaves_weaker path Q P s means c (leaves_past path Q s t alone.crash c left))
 
 -- where there is no file there are no records
-pub none_there : (file : Option File) (lines : List (List ℕ)) → file ≡ None → StandsFor (bytes_of file) lines → [] ≡ lines
-none_there file lines none stands = stands_once [] [] lines none_stand (subst (λ (o : Option File). StandsFor (bytes_of o) lines) none stands)
+pub none_there : (file : Option File) (lines : List (List ℕ)) → file ≡ None → StandsFor (bytes_of_file file) lines → [] ≡ lines
+none_there file lines none stands = stands_once [] [] lines none_stand (subst (λ (o : Option File). StandsFor (bytes_of_file o) lines) none stands)
 
 -- where there is one, they are those of its bytes
-pub bytes_there : (seen : Option File) (bytes : List ℕ) (lines : List (List ℕ)) → ((file : File) × (seen ≡ Some file) × (bytes ≡ file.bytes)) → StandsFor (bytes_of seen) lines → StandsFor bytes lines
+pub bytes_there : (seen : Option File) (bytes : List ℕ) (lines : List (List ℕ)) → ((file : File) × (seen ≡ Some file) × (bytes ≡ file.bytes)) → StandsFor (bytes_of_file seen) lines → StandsFor bytes lines
 bytes_there seen bytes lines there stands =
-    subst (λ (b : List ℕ). StandsFor b lines) (sym there.2) (subst (λ (o : Option File). StandsFor (bytes_of o) lines) there.1 stands)
+    subst (λ (b : List ℕ). StandsFor b lines) (sym there.2) (subst (λ (o : Option File). StandsFor (bytes_of_file o) lines) there.1 stands)

@@ -3,11 +3,11 @@ use Rattle.std.proofs.Common.{◌≡◌, ◌⊎◌, inl, inr, ⊎_elim, ℕ, ◌
 use Rattle.std.proofs.lemmas.Bool.{true≢false, cases_Bool}
 use Rattle.std.proofs.lemmas.Slice.Eq.{bytes_eq-Decides}
 use Rattle.std.specs.Str.{bytes_eq}
-use Rattle.keep_disk.specs.Image.{File, Image, SameElsewhere, changed, with_bytes}
-use Rattle.keep_disk.specs.Torn.{Tears, Moves, IsTornFile}
-use Rattle.keep_disk.specs.State.{State, IsKept, Touches, Follows, IsAfter, LeavesOnly}
+use Rattle.keep_disk.specs.Image.{File, Image, SameElsewhere, image_changed, with_bytes}
+use Rattle.keep_disk.specs.Torn.{Tears, MovesFile, IsTornFile}
+use Rattle.keep_disk.specs.State.{DiskState, DiskKeeps, Touches, OutcomesFollow, IsAfter, LeavesOnly}
 use Rattle.keep_journal.specs.Records.{StandsFor, IsBeforeOrAfter}
-use Rattle.keep_journal.specs.Journals.{bytes_of, Leaves, KeepsOthers, Exchanging, Settling, IsThere}
+use Rattle.keep_journal.specs.Journals.{bytes_of_file, CrashLeaves, KeepsOthers, Exchanging, Settling, FileIsThere}
 
 pub other_side : {X : Type 0} (b : Bool) (x y : X) → b ≡ false → (if b then x else y) ≡ y
 other_side true x y is = absurd (true≢false is)
@@ -21,17 +21,17 @@ apart_back path other apart = ⊎_elim
     (cases_Bool (bytes_eq other path))
 
 -- the changed path, and each other
-pub at_path : (path : List ℕ) (change : Option File → Option File) (image : Image) → changed path change image path ≡ change (image path)
+pub at_path : (path : List ℕ) (change : Option File → Option File) (image : Image) → image_changed path change image path ≡ change (image path)
 at_path path change image = ap (λ (b : Bool). if b then change (image path) else image path) ((bytes_eq-Decides path path).1 refl)
 
-pub elsewhere_changed : (path : List ℕ) (change : Option File → Option File) (image : Image) → SameElsewhere path image (changed path change image)
+pub elsewhere_changed : (path : List ℕ) (change : Option File → Option File) (image : Image) → SameElsewhere path image (image_changed path change image)
 elsewhere_changed path change image other apart = other_side (bytes_eq path other) (change (image other)) (image other) apart
 
 -- what is torn of a file that is known
-pub torn_bytes : (step : List ℕ → List ℕ → Type 0) (a b : Option File) (mode : ℕ) (bytes : List ℕ) → a ≡ Some (record { mode = mode; bytes = bytes }) → IsTornFile step a b → step bytes (bytes_of b)
+pub torn_bytes : (step : List ℕ → List ℕ → Type 0) (a b : Option File) (mode : ℕ) (bytes : List ℕ) → a ≡ Some (record { mode = mode; bytes = bytes }) → IsTornFile step a b → step bytes (bytes_of_file b)
 torn_bytes step a b mode bytes is torn = there b (subst (λ (o : Option File). IsTornFile step o b) is torn)
   where
-    there : (o : Option File) → IsTornFile step (Some (record { mode = mode; bytes = bytes })) o → step bytes (bytes_of o)
+    there : (o : Option File) → IsTornFile step (Some (record { mode = mode; bytes = bytes })) o → step bytes (bytes_of_file o)
     there None none = absurd none
     there (Some file) some = some.1
 
@@ -40,99 +40,99 @@ pub long_enough : (file : Option File) (mode at : ℕ) (bytes : List ℕ) → fi
 long_enough file mode at bytes is long = subst (λ (o : Option File). IfSome o (λ f. at ≤ length f.bytes)) (sym is) long
 
 -- a write or a cut of a file that is known
-pub seen_then : (path : List ℕ) (s t : State) (change : List ℕ → List ℕ) (mode : ℕ) (bytes : List ℕ) → s.seen path ≡ Some (record { mode = mode; bytes = bytes })
-    → t.seen ≡ changed path (with_bytes change) s.seen → t.seen path ≡ Some (record { mode = mode; bytes = change bytes })
+pub seen_then : (path : List ℕ) (s t : DiskState) (change : List ℕ → List ℕ) (mode : ℕ) (bytes : List ℕ) → s.seen path ≡ Some (record { mode = mode; bytes = bytes })
+    → t.seen ≡ image_changed path (with_bytes change) s.seen → t.seen path ≡ Some (record { mode = mode; bytes = change bytes })
 seen_then path s t change mode bytes was is = ap (λ (image : Image). image path) is ∙ at_path path (with_bytes change) s.seen ∙ ap (with_bytes change) was
 
 -- what is on the disk has what its bytes have
-pub kept_has : (path : List ℕ) (t : State) (mode : ℕ) (bytes : List ℕ) (R : List ℕ → Type 0) → t.seen path ≡ Some (record { mode = mode; bytes = bytes }) → IsKept path t → R bytes
-    → (d : Image) → t.may_leave d → R (bytes_of (d path))
-kept_has path t mode bytes R was is_kept has d left = subst (λ (o : Option File). R (bytes_of o)) (sym (is_kept.durable d left ∙ was)) has
+pub kept_has : (path : List ℕ) (t : DiskState) (mode : ℕ) (bytes : List ℕ) (R : List ℕ → Type 0) → t.seen path ≡ Some (record { mode = mode; bytes = bytes }) → DiskKeeps path t → R bytes
+    → (d : Image) → t.may_leave d → R (bytes_of_file (d path))
+kept_has path t mode bytes R was is_kept has d left = subst (λ (o : Option File). R (bytes_of_file o)) (sym (is_kept.durable d left ∙ was)) has
 
 -- what a crash leaves at the end of a run
-pub at_end : (old new : State) (P : Image → Type 0) → LeavesOnly old new P → ((t : ℕ) (c : Image) → t ≤ new.moment → new.may_leave c → new.left_since t c) → (c : Image) → new.may_leave c → P c
+pub at_end : (old new : DiskState) (P : Image → Type 0) → LeavesOnly old new P → ((t : ℕ) (c : Image) → t ≤ new.moment → new.may_leave c → new.left_since t c) → (c : Image) → new.may_leave c → P c
 at_end old new P run counts c now = run.each c (counts old.moment c run.later now)
 
 -- nothing has changed yet
-pub still_leaves : (path : List ℕ) (P : List ℕ → Type 0) (s : State) (c : Image) → s.may_leave c → Leaves path P s c
+pub still_leaves : (path : List ℕ) (P : List ℕ → Type 0) (s : DiskState) (c : Image) → s.may_leave c → CrashLeaves path P s c
 still_leaves path P s c now = (c, now, (λ other apart. refl), inl refl)
 
-pub leaves_weaker : (path : List ℕ) (P Q : List ℕ → Type 0) (s : State) → ((f : List ℕ) → P f → Q f) → (c : Image) → Leaves path P s c → Leaves path Q s c
-leaves_weaker path P Q s means c left = (left.0, left.1, left.2, ⊎_elim (λ same. inl same) (λ p. inr (means (bytes_of (c path)) p)) left.3)
+pub leaves_weaker : (path : List ℕ) (P Q : List ℕ → Type 0) (s : DiskState) → ((f : List ℕ) → P f → Q f) → (c : Image) → CrashLeaves path P s c → CrashLeaves path Q s c
+leaves_weaker path P Q s means c left = (left.0, left.1, left.2, ⊎_elim (λ same. inl same) (λ p. inr (means (bytes_of_file (c path)) p)) left.3)
 
 -- what one torn call leaves
-pub torn_leaves : (path : List ℕ) (s : State) (step : List ℕ → List ℕ → Type 0) (P : List ℕ → Type 0) (mode : ℕ) (bytes : List ℕ)
-    → s.seen path ≡ Some (record { mode = mode; bytes = bytes }) → IsKept path s → ((f : List ℕ) → step bytes f → P f) → (c : Image) → IsAfter (Tears path step) s c → Leaves path P s c
+pub torn_leaves : (path : List ℕ) (s : DiskState) (step : List ℕ → List ℕ → Type 0) (P : List ℕ → Type 0) (mode : ℕ) (bytes : List ℕ)
+    → s.seen path ≡ Some (record { mode = mode; bytes = bytes }) → DiskKeeps path s → ((f : List ℕ) → step bytes f → P f) → (c : Image) → IsAfter (Tears path step) s c → CrashLeaves path P s c
 torn_leaves path s step P mode bytes was is_kept means c after = (
   after.0,
   after.1,
   after.2.elsewhere,
-  inr (means (bytes_of (c path)) (torn_bytes step (after.0 path) (c path) mode bytes (is_kept.durable after.0 after.1 ∙ was) after.2.there)),
+  inr (means (bytes_of_file (c path)) (torn_bytes step (after.0 path) (c path) mode bytes (is_kept.durable after.0 after.1 ∙ was) after.2.there)),
 )
 
 -- and a second one, once the first is synced
-pub torn_again : (path : List ℕ) (s t : State) (first second : List ℕ → List ℕ → Type 0) (P : List ℕ → Type 0) (mode : ℕ) (bytes : List ℕ)
-    → t.seen path ≡ Some (record { mode = mode; bytes = bytes }) → IsKept path t → Follows (Tears path first) s t
-    → ((f : List ℕ) → second bytes f → P f) → (c : Image) → IsAfter (Tears path second) t c → Leaves path P s c
+pub torn_again : (path : List ℕ) (s t : DiskState) (first second : List ℕ → List ℕ → Type 0) (P : List ℕ → Type 0) (mode : ℕ) (bytes : List ℕ)
+    → t.seen path ≡ Some (record { mode = mode; bytes = bytes }) → DiskKeeps path t → OutcomesFollow (Tears path first) s t
+    → ((f : List ℕ) → second bytes f → P f) → (c : Image) → IsAfter (Tears path second) t c → CrashLeaves path P s c
 torn_again path s t first second P mode bytes was is_kept before means c after =
     let from = before after.0 after.1 in (
       from.0,
       from.1,
       (λ other apart. after.2.elsewhere other apart ∙ from.2.elsewhere other apart),
-      inr (means (bytes_of (c path)) (torn_bytes second (after.0 path) (c path) mode bytes (is_kept.durable after.0 after.1 ∙ was) after.2.there)),
+      inr (means (bytes_of_file (c path)) (torn_bytes second (after.0 path) (c path) mode bytes (is_kept.durable after.0 after.1 ∙ was) after.2.there)),
     )
 
 -- a run after one whose records are on the disk
-pub leaves_then : (path : List ℕ) (s t : State) (P Q R : List ℕ → Type 0) → ((d : Image) → t.may_leave d → Leaves path P s d)
-    → ((d : Image) → t.may_leave d → R (bytes_of (d path))) → ((f : List ℕ) → Q f → R f) → (c : Image) → Leaves path Q t c → Leaves path R s c
+pub leaves_then : (path : List ℕ) (s t : DiskState) (P Q R : List ℕ → Type 0) → ((d : Image) → t.may_leave d → CrashLeaves path P s d)
+    → ((d : Image) → t.may_leave d → R (bytes_of_file (d path))) → ((f : List ℕ) → Q f → R f) → (c : Image) → CrashLeaves path Q t c → CrashLeaves path R s c
 leaves_then path s t P Q R before stands means c left =
     let from = before left.0 left.1 in (
       from.0,
       from.1,
       (λ other apart. left.2 other apart ∙ from.2 other apart),
-      inr (⊎_elim (λ same. subst (λ (o : Option File). R (bytes_of o)) (sym same) (stands left.0 left.1)) (means (bytes_of (c path))) left.3),
+      inr (⊎_elim (λ same. subst (λ (o : Option File). R (bytes_of_file o)) (sym same) (stands left.0 left.1)) (means (bytes_of_file (c path))) left.3),
     )
 
 -- a file that is moved to its place
-pub moved_leaves : (path : List ℕ) (s : State) (file : File) (P : List ℕ → Type 0) → P file.bytes → (c : Image) → IsAfter (Moves path file) s c → Leaves path P s c
+pub moved_leaves : (path : List ℕ) (s : DiskState) (file : File) (P : List ℕ → Type 0) → P file.bytes → (c : Image) → IsAfter (MovesFile path file) s c → CrashLeaves path P s c
 moved_leaves path s file P has c after = there after.2
   where
-    there : Moves path file after.0 c → Leaves path P s c
+    there : MovesFile path file after.0 c → CrashLeaves path P s c
     there (inl same) = (after.0, after.1, (λ other apart. ap (λ (image : Image). image other) same), inl (ap (λ (image : Image). image path) same))
     there (inr moved) = (
       after.0,
       after.1,
       (λ other apart. ap (λ (image : Image). image other) moved ∙ elsewhere_changed path (λ _. Some file) after.0 other apart),
-      inr (subst (λ (o : Option File). P (bytes_of o)) (sym (ap (λ (image : Image). image path) moved ∙ at_path path (λ _. Some file) after.0)) has),
+      inr (subst (λ (o : Option File). P (bytes_of_file o)) (sym (ap (λ (image : Image). image path) moved ∙ at_path path (λ _. Some file) after.0)) has),
     )
 
-pub moves_elsewhere : (path : List ℕ) (file : File) (a b : Image) → Moves path file a b → SameElsewhere path a b
+pub moves_elsewhere : (path : List ℕ) (file : File) (a b : Image) → MovesFile path file a b → SameElsewhere path a b
 moves_elsewhere path file a b (inl same) other apart = ap (λ (image : Image). image other) same
 moves_elsewhere path file a b (inr moved) other apart = ap (λ (image : Image). image other) moved ∙ elsewhere_changed path (λ _. Some file) a other apart
 
 -- others are kept through several calls
-pub touches_then : (path : List ℕ) (s t u : State) → Touches path s t → Touches path t u → Touches path s u
+pub touches_then : (path : List ℕ) (s t u : DiskState) → Touches path s t → Touches path t u → Touches path s u
 touches_then path s t u first second = record {
   seen = λ other apart. second.seen other apart ∙ first.seen other apart;
   beside = second.beside ∙ first.beside;
   sound = λ other apart. second.sound other apart ∙ first.sound other apart;
 }
 
-pub others_then : (path : List ℕ) (s t u : State) → KeepsOthers path s t → KeepsOthers path t u → KeepsOthers path s u
+pub others_then : (path : List ℕ) (s t u : DiskState) → KeepsOthers path s t → KeepsOthers path t u → KeepsOthers path s u
 others_then path s t u first second = record {
   seen = λ other apart. second.seen other apart ∙ first.seen other apart;
   sound = λ other apart. second.sound other apart ∙ first.sound other apart;
 }
 
-pub others_still : (path : List ℕ) (s : State) → KeepsOthers path s s
+pub others_still : (path : List ℕ) (s : DiskState) → KeepsOthers path s s
 others_still path s = record { seen = λ other apart. refl; sound = λ other apart. refl }
 
-pub touches_others : (path : List ℕ) (s t : State) → Touches path s t → KeepsOthers path s t
+pub touches_others : (path : List ℕ) (s t : DiskState) → Touches path s t → KeepsOthers path s t
 touches_others path s t touches = record { seen = touches.seen; sound = touches.sound }
 
 -- a file that another call left alone is still on the disk
-pub kept_past : (path other : List ℕ) (s t : State) → bytes_eq path other ≡ false → KeepsOthers path s t → IsKept other s
-    → ((c : Image) → t.may_leave c → (d : Image) × s.may_leave d × SameElsewhere path d c) → IsKept other t
+pub kept_past : (path other : List ℕ) (s t : DiskState) → bytes_eq path other ≡ false → KeepsOthers path s t → DiskKeeps other s
+    → ((c : Image) → t.may_leave c → (d : Image) × s.may_leave d × SameElsewhere path d c) → DiskKeeps other t
 kept_past path other s t apart others was from = record {
   sound = others.sound other apart ∙ was.sound;
   durable = λ c left.
@@ -141,12 +141,12 @@ kept_past path other s t apart others was from = record {
 }
 
 -- the two files of an exchange
-module _ (path target : List ℕ) (file : File) (P : List ℕ → Type 0) (apart : bytes_eq path target ≡ false) (s : State) where
+module _ (path target : List ℕ) (file : File) (P : List ℕ → Type 0) (apart : bytes_eq path target ≡ false) (s : DiskState) where
   pub still_exchanging : (c : Image) → s.may_leave c → Exchanging path target file P s c
   still_exchanging c now = record { was = c; before = now; elsewhere = λ other p q. refl; both = inl (refl, refl) }
 
   -- the first takes its place
-  pub first_in_place : (c : Image) → IsAfter (Moves target file) s c → Exchanging path target file P s c
+  pub first_in_place : (c : Image) → IsAfter (MovesFile target file) s c → Exchanging path target file P s c
   first_in_place c after = record {
     was = after.0;
     before = after.1;
@@ -154,7 +154,7 @@ module _ (path target : List ℕ) (file : File) (P : List ℕ → Type 0) (apart
     both = outcome after.2;
   }
     where
-      outcome : Moves target file after.0 c → ((c target ≡ after.0 target) × (c path ≡ after.0 path)) ⊎ ((c target ≡ Some file) × ((c path ≡ after.0 path) ⊎ P (bytes_of (c path))))
+      outcome : MovesFile target file after.0 c → ((c target ≡ after.0 target) × (c path ≡ after.0 path)) ⊎ ((c target ≡ Some file) × ((c path ≡ after.0 path) ⊎ P (bytes_of_file (c path))))
       outcome (inl same) = inl (ap (λ (image : Image). image target) same, ap (λ (image : Image). image path) same)
       outcome (inr moved) = inr (
         ap (λ (image : Image). image target) moved ∙ at_path target (λ _. Some file) after.0,
@@ -162,7 +162,7 @@ module _ (path target : List ℕ) (file : File) (P : List ℕ → Type 0) (apart
       )
 
   -- and then the journal is made anew
-  pub then_anew : (t : State) → IsThere target file t → Follows (Moves target file) s t → (c : Image) → Leaves path P t c → Exchanging path target file P s c
+  pub then_anew : (t : DiskState) → FileIsThere target file t → OutcomesFollow (MovesFile target file) s t → (c : Image) → CrashLeaves path P t c → Exchanging path target file P s c
   then_anew t there before c left =
       let from = before left.0 left.1 in
       record {
@@ -176,8 +176,8 @@ module _ (path target : List ℕ) (file : File) (P : List ℕ → Type 0) (apart
       }
 
 -- a journal that is settled
-module _ (path target : List ℕ) (file : File) (lines : List (List ℕ)) (line : List ℕ) (apart : bytes_eq path target ≡ false) (s : State) where
-  pub first_put : (c : Image) → Leaves path (IsBeforeOrAfter lines line) s c → Settling path target file lines line s c
+module _ (path target : List ℕ) (file : File) (lines : List (List ℕ)) (line : List ℕ) (apart : bytes_eq path target ≡ false) (s : DiskState) where
+  pub first_put : (c : Image) → CrashLeaves path (IsBeforeOrAfter lines line) s c → Settling path target file lines line s c
   first_put c left = record {
     was = left.0;
     before = left.1;
@@ -185,13 +185,13 @@ module _ (path target : List ℕ) (file : File) (lines : List (List ℕ)) (line 
     both = inl (left.2 target apart, left.3);
   }
 
-  pub then_exchanged : (t : State) → ((d : Image) → t.may_leave d → Leaves path (IsBeforeOrAfter lines line) s d)
-      → ((d : Image) → t.may_leave d → StandsFor (bytes_of (d path)) (lines ++ line ∷ []))
+  pub then_exchanged : (t : DiskState) → ((d : Image) → t.may_leave d → CrashLeaves path (IsBeforeOrAfter lines line) s d)
+      → ((d : Image) → t.may_leave d → StandsFor (bytes_of_file (d path)) (lines ++ line ∷ []))
       → (c : Image) → Exchanging path target file (λ f. StandsFor f []) t c → Settling path target file lines line s c
   then_exchanged t before stands c x =
       let from = before x.was x.before in
-      let same_stands : c path ≡ x.was path → StandsFor (bytes_of (c path)) (lines ++ line ∷ []) =
-      λ same. subst (λ (o : Option File). StandsFor (bytes_of o) (lines ++ line ∷ [])) (sym same) (stands x.was x.before) in
+      let same_stands : c path ≡ x.was path → StandsFor (bytes_of_file (c path)) (lines ++ line ∷ []) =
+      λ same. subst (λ (o : Option File). StandsFor (bytes_of_file o) (lines ++ line ∷ [])) (sym same) (stands x.was x.before) in
       record {
         was = from.0;
         before = from.1;
@@ -203,7 +203,7 @@ module _ (path target : List ℕ) (file : File) (lines : List (List ℕ)) (line 
       }
 
 -- a run after a call that changed nothing
-pub leaves_past : (path : List ℕ) (P : List ℕ → Type 0) (s t : State) → ((c : Image) → t.may_leave c → s.may_leave c) → (c : Image) → Leaves path P t c → Leaves path P s c
+pub leaves_past : (path : List ℕ) (P : List ℕ → Type 0) (s t : DiskState) → ((c : Image) → t.may_leave c → s.may_leave c) → (c : Image) → CrashLeaves path P t c → CrashLeaves path P s c
 leaves_past path P s t before c left = (left.0, before left.0 left.1, left.2, left.3)
 
 -- two facts of a call that went well, and one that holds either way

@@ -4,11 +4,11 @@ use Rattle.std.specs.Prelude.{◌≡◌, ◌≢◌, ◌⊎◌, ℕ, List, [], �
 use Rattle.std.specs.List.{AllByRecursion}
 
 -- a line of text: no line feed stands in it
-abbrev pub IsLine : List ℕ → Type 0
-IsLine line = AllByRecursion (λ byte. byte ≢ 10) line
+abbrev pub IsRecordLine : List ℕ → Type 0
+IsRecordLine line = AllByRecursion (λ byte. byte ≢ 10) line
 
 abbrev pub AreLines : List (List ℕ) → Type 0
-AreLines lines = AllByRecursion IsLine lines
+AreLines lines = AllByRecursion IsRecordLine lines
 
 -- a record in the file: an open gate (a plus sign), the line, a line feed
 abbrev pub block : List ℕ → List ℕ
@@ -27,26 +27,26 @@ pub record StandsFor (file : List ℕ) (lines : List (List ℕ)) : Type 0 where
   pub are_lines : AreLines lines
   pub end : List ℕ
   pub split : file ≡ blocks lines ++ end
-  pub nothing : (line rest : List ℕ) → IsLine line → end ≢ block line ++ rest
+  pub nothing : (line rest : List ℕ) → IsRecordLine line → end ≢ block line ++ rest
 
 -- the records with one more, or without it
 abbrev pub IsBeforeOrAfter : List (List ℕ) → List ℕ → List ℕ → Type 0
 IsBeforeOrAfter lines line file = StandsFor file lines ⊎ StandsFor file (lines ++ line ∷ [])
 
 -- the records that are not taken out
-abbrev pub kept : List (List ℕ) → List Bool → List (List ℕ)
-kept [] outs = []
-kept (line ∷ lines) [] = line ∷ lines
-kept (line ∷ lines) (true ∷ outs) = kept lines outs
-kept (line ∷ lines) (false ∷ outs) = line ∷ kept lines outs
+abbrev pub lines_kept : List (List ℕ) → List Bool → List (List ℕ)
+lines_kept [] outs = []
+lines_kept (line ∷ lines) [] = line ∷ lines
+lines_kept (line ∷ lines) (true ∷ outs) = lines_kept lines outs
+lines_kept (line ∷ lines) (false ∷ outs) = line ∷ lines_kept lines outs
 
 -- whether the record with this index is taken out
 abbrev pub is_out : List Bool → ℕ → Bool
 is_out outs at = get_or outs at false
 
 -- the records that are taken out, each with a line feed after it
-abbrev pub taken : List (List ℕ) → List Bool → List ℕ
-taken [] outs = []
-taken (line ∷ lines) [] = []
-taken (line ∷ lines) (true ∷ outs) = line ++ 10 ∷ taken lines outs
-taken (line ∷ lines) (false ∷ outs) = taken lines outs
+abbrev pub lines_taken_out : List (List ℕ) → List Bool → List ℕ
+lines_taken_out [] outs = []
+lines_taken_out (line ∷ lines) [] = []
+lines_taken_out (line ∷ lines) (true ∷ outs) = line ++ 10 ∷ lines_taken_out lines outs
+lines_taken_out (line ∷ lines) (false ∷ outs) = lines_taken_out lines outs

@@ -1,8 +1,8 @@
 ghost use Rattle.std.specs.Prelude.{◌≡◌, ◌⊎◌, ◌∷◌, [], ◌++◌, true, false, IsTrue, IfOk, OnOk, OnErr, List, ℕ};
 ghost use Rattle.std.specs.Str.{bytes_eq};
-ghost use Rattle.keep_disk.specs.State.{LeavesAlone, Elapses, LeavesOnly, Tells};
-ghost use Rattle.keep_journal.specs.Records.{IsLine, AreLines, StandsFor, kept, taken};
-ghost use Rattle.keep_journal.specs.Journals.{IsWhole, Holds, Leaves, Exchanging, Settling, KeepsOthers, IsThere, bytes_of, path_of, lines_of};
+ghost use Rattle.keep_disk.specs.State.{LeavesAlone, Elapses, LeavesOnly, TellsFailure};
+ghost use Rattle.keep_journal.specs.Records.{IsRecordLine, AreLines, StandsFor, lines_kept, lines_taken_out};
+ghost use Rattle.keep_journal.specs.Journals.{JournalIsWhole, JournalHolds, CrashLeaves, Exchanging, Settling, KeepsOthers, FileIsThere, bytes_of_file, path_of_journal, lines_of_journal};
 
 use crate::Journal;
 use crate::journal::{MOST_BYTES, write_anew};
@@ -18,18 +18,18 @@ impl<'a> Journal<'a> {
     /// Takes out the records that the caller says are void; the others stay, in their order. It is worth while from
     /// [`COMPACT_AT`] void ones on.
     pub fn compact<D: Disk>(&mut self, disk: &mut D, is_void: &[bool]) -> Result<(), DiskFault>
-        requires held { Holds D.is_known self.old (D.state disk.old) }
-        ensures taken_out { OnOk result ((lines_of self.new ≡ kept (lines_of self.old) is_void.now)
-            × (IsTrue D.is_known → IsWhole self.new (D.state disk.new))) }
-        ensures refused { OnErr result (lines_of self.new ≡ lines_of self.old) }
-        ensures path { path_of self.new ≡ path_of self.old }
-        ensures held { Holds D.is_known self.new (D.state disk.new) }
+        requires held { JournalHolds D.is_known self.old (D.state disk.old) }
+        ensures taken_out { OnOk result ((lines_of_journal self.new ≡ lines_kept (lines_of_journal self.old) is_void.now)
+            × (IsTrue D.is_known → JournalIsWhole self.new (D.state disk.new))) }
+        ensures refused { OnErr result (lines_of_journal self.new ≡ lines_of_journal self.old) }
+        ensures path { path_of_journal self.new ≡ path_of_journal self.old }
+        ensures held { JournalHolds D.is_known self.new (D.state disk.new) }
 
         // A crash at any moment leaves the file as it might have been left before, or the records that stay.
         ensures any_moment { IsTrue D.is_known → LeavesOnly (D.state disk.old) (D.state disk.new)
-            (Leaves (path_of self.old) (λ file. StandsFor file (kept (lines_of self.old) is_void.now)) (D.state disk.old)) }
-        ensures others { IsTrue D.is_known → KeepsOthers (path_of self.old) (D.state disk.old) (D.state disk.new) }
-        ensures cause { Tells (D.state disk.old) (D.state disk.new) result }
+            (CrashLeaves (path_of_journal self.old) (λ file. StandsFor file (lines_kept (lines_of_journal self.old) is_void.now)) (D.state disk.old)) }
+        ensures others { IsTrue D.is_known → KeepsOthers (path_of_journal self.old) (D.state disk.old) (D.state disk.new) }
+        ensures cause { TellsFailure (D.state disk.old) (D.state disk.new) result }
     {
         let left = without(self.alloc, &self.lines, is_void)?;
         self.rewrite(disk, left)
@@ -45,21 +45,21 @@ impl<'a> Journal<'a> {
         aside: &str,
         is_damaged: &[bool],
     ) -> Result<(), DiskFault>
-        requires apart { bytes_eq (path_of self.old) aside.now ≡ false }
-        requires held { Holds D.is_known self.old (D.state disk.old) }
-        ensures taken_out { OnOk result ((lines_of self.new ≡ kept (lines_of self.old) is_damaged.now)
-            × (IsTrue D.is_known → IsWhole self.new (D.state disk.new))) }
-        ensures there { OnOk result (IsTrue D.is_known → IsThere aside.now
-            (record { mode = 384; bytes = bytes_of ((D.state disk.old).seen aside.now) ++ taken (lines_of self.old) is_damaged.now }) (D.state disk.new)) }
-        ensures refused { OnErr result (lines_of self.new ≡ lines_of self.old) }
-        ensures path { path_of self.new ≡ path_of self.old }
-        ensures held { Holds D.is_known self.new (D.state disk.new) }
+        requires apart { bytes_eq (path_of_journal self.old) aside.now ≡ false }
+        requires held { JournalHolds D.is_known self.old (D.state disk.old) }
+        ensures taken_out { OnOk result ((lines_of_journal self.new ≡ lines_kept (lines_of_journal self.old) is_damaged.now)
+            × (IsTrue D.is_known → JournalIsWhole self.new (D.state disk.new))) }
+        ensures there { OnOk result (IsTrue D.is_known → FileIsThere aside.now
+            (record { mode = 384; bytes = bytes_of_file ((D.state disk.old).seen aside.now) ++ lines_taken_out (lines_of_journal self.old) is_damaged.now }) (D.state disk.new)) }
+        ensures refused { OnErr result (lines_of_journal self.new ≡ lines_of_journal self.old) }
+        ensures path { path_of_journal self.new ≡ path_of_journal self.old }
+        ensures held { JournalHolds D.is_known self.new (D.state disk.new) }
 
         // A crash at any moment leaves the damaged records in the journal, or in the file aside, or in both.
-        ensures any_moment { IsTrue D.is_known → LeavesOnly (D.state disk.old) (D.state disk.new) (Exchanging (path_of self.old) aside.now
-            (record { mode = 384; bytes = bytes_of ((D.state disk.old).seen aside.now) ++ taken (lines_of self.old) is_damaged.now })
-            (λ file. StandsFor file (kept (lines_of self.old) is_damaged.now)) (D.state disk.old)) }
-        ensures cause { Tells (D.state disk.old) (D.state disk.new) result }
+        ensures any_moment { IsTrue D.is_known → LeavesOnly (D.state disk.old) (D.state disk.new) (Exchanging (path_of_journal self.old) aside.now
+            (record { mode = 384; bytes = bytes_of_file ((D.state disk.old).seen aside.now) ++ lines_taken_out (lines_of_journal self.old) is_damaged.now })
+            (λ file. StandsFor file (lines_kept (lines_of_journal self.old) is_damaged.now)) (D.state disk.old)) }
+        ensures cause { TellsFailure (D.state disk.old) (D.state disk.new) result }
     {
         let before = bytes_at(self.alloc, disk, aside)?;
         let bytes = with_taken(before, &self.lines, is_damaged)?;
@@ -79,20 +79,20 @@ impl<'a> Journal<'a> {
         bytes: &[u8],
         settling: Text,
     ) -> Result<(), DiskFault>
-        requires apart { bytes_eq (path_of self.old) target.now ≡ false }
-        requires line { IsLine settling }
-        requires held { Holds D.is_known self.old (D.state disk.old) }
-        ensures settled { OnOk result ((lines_of self.new ≡ []) × (IsTrue D.is_known → IsWhole self.new (D.state disk.new)
-            × IsThere target.now (record { mode = mode; bytes = bytes.now }) (D.state disk.new))) }
-        ensures refused { OnErr result ((lines_of self.new ≡ lines_of self.old) ⊎ (lines_of self.new ≡ lines_of self.old ++ settling ∷ [])) }
-        ensures path { path_of self.new ≡ path_of self.old }
-        ensures held { Holds D.is_known self.new (D.state disk.new) }
+        requires apart { bytes_eq (path_of_journal self.old) target.now ≡ false }
+        requires line { IsRecordLine settling }
+        requires held { JournalHolds D.is_known self.old (D.state disk.old) }
+        ensures settled { OnOk result ((lines_of_journal self.new ≡ []) × (IsTrue D.is_known → JournalIsWhole self.new (D.state disk.new)
+            × FileIsThere target.now (record { mode = mode; bytes = bytes.now }) (D.state disk.new))) }
+        ensures refused { OnErr result ((lines_of_journal self.new ≡ lines_of_journal self.old) ⊎ (lines_of_journal self.new ≡ lines_of_journal self.old ++ settling ∷ [])) }
+        ensures path { path_of_journal self.new ≡ path_of_journal self.old }
+        ensures held { JournalHolds D.is_known self.new (D.state disk.new) }
 
         // A crash at any moment leaves the old file with the records, with the new one or without; or the new file with all of
         // them or with none.
         ensures any_moment { IsTrue D.is_known → LeavesOnly (D.state disk.old) (D.state disk.new)
-            (Settling (path_of self.old) target.now (record { mode = mode; bytes = bytes.now }) (lines_of self.old) settling (D.state disk.old)) }
-        ensures cause { Tells (D.state disk.old) (D.state disk.new) result }
+            (Settling (path_of_journal self.old) target.now (record { mode = mode; bytes = bytes.now }) (lines_of_journal self.old) settling (D.state disk.old)) }
+        ensures cause { TellsFailure (D.state disk.old) (D.state disk.new) result }
     {
         self.put(disk, settling)?;
         let none = Vec::new(self.alloc);
@@ -108,17 +108,17 @@ impl<'a> Journal<'a> {
         bytes: &[u8],
         lines: Vec<Text>,
     ) -> Result<(), DiskFault>
-        requires apart { bytes_eq (path_of self.old) target.now ≡ false }
+        requires apart { bytes_eq (path_of_journal self.old) target.now ≡ false }
         requires lines { AreLines lines.items }
-        requires held { Holds D.is_known self.old (D.state disk.old) }
-        ensures there { OnOk result (IsTrue D.is_known → IsThere target.now (record { mode = mode; bytes = bytes.now }) (D.state disk.new)) }
-        ensures taken { OnOk result ((lines_of self.new ≡ lines.items) × (IsTrue D.is_known → IsWhole self.new (D.state disk.new))) }
-        ensures refused { OnErr result (lines_of self.new ≡ lines_of self.old) }
-        ensures path { path_of self.new ≡ path_of self.old }
-        ensures held { Holds D.is_known self.new (D.state disk.new) }
+        requires held { JournalHolds D.is_known self.old (D.state disk.old) }
+        ensures there { OnOk result (IsTrue D.is_known → FileIsThere target.now (record { mode = mode; bytes = bytes.now }) (D.state disk.new)) }
+        ensures taken { OnOk result ((lines_of_journal self.new ≡ lines.items) × (IsTrue D.is_known → JournalIsWhole self.new (D.state disk.new))) }
+        ensures refused { OnErr result (lines_of_journal self.new ≡ lines_of_journal self.old) }
+        ensures path { path_of_journal self.new ≡ path_of_journal self.old }
+        ensures held { JournalHolds D.is_known self.new (D.state disk.new) }
         ensures any_moment { IsTrue D.is_known → LeavesOnly (D.state disk.old) (D.state disk.new)
-            (Exchanging (path_of self.old) target.now (record { mode = mode; bytes = bytes.now }) (λ file. StandsFor file lines.items) (D.state disk.old)) }
-        ensures cause { Tells (D.state disk.old) (D.state disk.new) result }
+            (Exchanging (path_of_journal self.old) target.now (record { mode = mode; bytes = bytes.now }) (λ file. StandsFor file lines.items) (D.state disk.old)) }
+        ensures cause { TellsFailure (D.state disk.old) (D.state disk.new) result }
     {
         replace(disk, target, mode, bytes)?;
         self.rewrite(disk, lines)
@@ -127,15 +127,15 @@ impl<'a> Journal<'a> {
     /// Makes these the records.
     fn rewrite<D: Disk>(&mut self, disk: &mut D, lines: Vec<Text>) -> Result<(), DiskFault>
         requires lines { AreLines lines.items }
-        requires old { AreLines (lines_of self.old) }
-        ensures taken { OnOk result ((lines_of self.new ≡ lines.items) × (IsTrue D.is_known → IsWhole self.new (D.state disk.new))) }
-        ensures refused { OnErr result (lines_of self.new ≡ lines_of self.old) }
-        ensures path { path_of self.new ≡ path_of self.old }
-        ensures held { Holds D.is_known self.new (D.state disk.new) }
+        requires old { AreLines (lines_of_journal self.old) }
+        ensures taken { OnOk result ((lines_of_journal self.new ≡ lines.items) × (IsTrue D.is_known → JournalIsWhole self.new (D.state disk.new))) }
+        ensures refused { OnErr result (lines_of_journal self.new ≡ lines_of_journal self.old) }
+        ensures path { path_of_journal self.new ≡ path_of_journal self.old }
+        ensures held { JournalHolds D.is_known self.new (D.state disk.new) }
         ensures any_moment { IsTrue D.is_known → LeavesOnly (D.state disk.old) (D.state disk.new)
-            (Leaves (path_of self.old) (λ file. StandsFor file lines.items) (D.state disk.old)) }
-        ensures others { IsTrue D.is_known → KeepsOthers (path_of self.old) (D.state disk.old) (D.state disk.new) }
-        ensures cause { Tells (D.state disk.old) (D.state disk.new) result }
+            (CrashLeaves (path_of_journal self.old) (λ file. StandsFor file lines.items) (D.state disk.old)) }
+        ensures others { IsTrue D.is_known → KeepsOthers (path_of_journal self.old) (D.state disk.old) (D.state disk.new) }
+        ensures cause { TellsFailure (D.state disk.old) (D.state disk.new) result }
     {
         self.is_whole = false;
         let size = write_anew(self.alloc, disk, self.path, &lines)?;
@@ -148,10 +148,10 @@ impl<'a> Journal<'a> {
 
 /// The bytes of the file at `path`; none where there is no file.
 fn bytes_at<D: Disk>(alloc: Global, disk: &mut D, path: &str) -> Result<Vec<u8>, DiskFault>
-    ensures bytes { IfOk result (λ bytes. IsTrue D.is_known → bytes.items ≡ bytes_of ((D.state disk.old).seen path.now)) }
+    ensures bytes { IfOk result (λ bytes. IsTrue D.is_known → bytes.items ≡ bytes_of_file ((D.state disk.old).seen path.now)) }
     ensures alone { IsTrue D.is_known → LeavesAlone (D.state disk.old) (D.state disk.new) }
     ensures time { IsTrue D.is_known → Elapses (D.state disk.old) (D.state disk.new) }
-    ensures cause { Tells (D.state disk.old) (D.state disk.new) result }
+    ensures cause { TellsFailure (D.state disk.old) (D.state disk.new) result }
 {
     let Some(text) = disk.read(alloc, path, MOST_BYTES)? else {
         return Ok(Vec::new(alloc));

@@ -1,8 +1,8 @@
 ghost use Rattle.std.specs.Prelude.{◌≡◌, ◌∷◌, [], ◌++◌, ◌≤◌, ◌<◌, ◌+◌, length, IsTrue, IfOk, OnOk, OnErr, List, ℕ, ◌^◌, Some};
 ghost use Rattle.keep_disk.specs.Image.{File};
-ghost use Rattle.keep_disk.specs.State.{IsKept, Touches, LeavesOnly, Tells};
-ghost use Rattle.keep_journal.specs.Records.{IsLine, AreLines, StandsFor, IsBeforeOrAfter};
-ghost use Rattle.keep_journal.specs.Journals.{IsAtRest, IsWhole, Holds, Leaves, Untidy, KeepsOthers, bytes_of, path_of, lines_of};
+ghost use Rattle.keep_disk.specs.State.{DiskKeeps, Touches, LeavesOnly, TellsFailure};
+ghost use Rattle.keep_journal.specs.Records.{IsRecordLine, AreLines, StandsFor, IsBeforeOrAfter};
+ghost use Rattle.keep_journal.specs.Journals.{JournalIsAtRest, JournalIsWhole, JournalHolds, CrashLeaves, Untidy, KeepsOthers, bytes_of_file, path_of_journal, lines_of_journal};
 
 use crate::records::{CLOSED, OPEN, read_records, tail_of, text_of};
 use keep_disk::{Disk, DiskFault, FILE_MODE, cut_synced, replace, write_synced};
@@ -39,18 +39,18 @@ impl<'a> Journal<'a> {
         path: &'a str,
     ) -> Result<Journal<'a>, DiskFault>
         // After a restart, what is read is what is on the disk.
-        requires { IsTrue D.is_known → IsKept path.now (D.state disk.old) }
+        requires { IsTrue D.is_known → DiskKeeps path.now (D.state disk.old) }
         ensures read { IfOk result (λ journal. IsTrue D.is_known
-            → StandsFor (bytes_of ((D.state disk.old).seen path.now)) (lines_of journal)) }
-        ensures path { IfOk result (λ journal. path_of journal ≡ path.now) }
-        ensures whole { IfOk result (λ journal. IsTrue D.is_known → IsWhole journal (D.state disk.new)) }
-        ensures held { IfOk result (λ journal. Holds D.is_known journal (D.state disk.new)) }
+            → StandsFor (bytes_of_file ((D.state disk.old).seen path.now)) (lines_of_journal journal)) }
+        ensures path { IfOk result (λ journal. path_of_journal journal ≡ path.now) }
+        ensures whole { IfOk result (λ journal. IsTrue D.is_known → JournalIsWhole journal (D.state disk.new)) }
+        ensures held { IfOk result (λ journal. JournalHolds D.is_known journal (D.state disk.new)) }
 
         // A crash at any moment leaves the same records.
-        ensures any_moment { IsTrue D.is_known → (lines : List (List ℕ)) → StandsFor (bytes_of ((D.state disk.old).seen path.now)) lines
-            → LeavesOnly (D.state disk.old) (D.state disk.new) (Leaves path.now (λ file. StandsFor file lines) (D.state disk.old)) }
+        ensures any_moment { IsTrue D.is_known → (lines : List (List ℕ)) → StandsFor (bytes_of_file ((D.state disk.old).seen path.now)) lines
+            → LeavesOnly (D.state disk.old) (D.state disk.new) (CrashLeaves path.now (λ file. StandsFor file lines) (D.state disk.old)) }
         ensures others { IsTrue D.is_known → KeepsOthers path.now (D.state disk.old) (D.state disk.new) }
-        ensures cause { Tells (D.state disk.old) (D.state disk.new) result }
+        ensures cause { TellsFailure (D.state disk.old) (D.state disk.new) result }
     {
         let Some(text) = disk.read(alloc, path, MOST_BYTES)? else {
             return Journal::begin(alloc, disk, path);
@@ -60,14 +60,14 @@ impl<'a> Journal<'a> {
 
     /// The journal with no record, at a path at which there is no file.
     fn begin<D: Disk>(alloc: Global, disk: &mut D, path: &'a str) -> Result<Journal<'a>, DiskFault>
-        ensures empty { IfOk result (λ journal. lines_of journal ≡ []) }
-        ensures path { IfOk result (λ journal. path_of journal ≡ path.now) }
-        ensures whole { IfOk result (λ journal. IsTrue D.is_known → IsWhole journal (D.state disk.new)) }
-        ensures held { IfOk result (λ journal. Holds D.is_known journal (D.state disk.new)) }
+        ensures empty { IfOk result (λ journal. lines_of_journal journal ≡ []) }
+        ensures path { IfOk result (λ journal. path_of_journal journal ≡ path.now) }
+        ensures whole { IfOk result (λ journal. IsTrue D.is_known → JournalIsWhole journal (D.state disk.new)) }
+        ensures held { IfOk result (λ journal. JournalHolds D.is_known journal (D.state disk.new)) }
         ensures any_moment { IsTrue D.is_known → LeavesOnly (D.state disk.old) (D.state disk.new)
-            (Leaves path.now (λ file. StandsFor file []) (D.state disk.old)) }
+            (CrashLeaves path.now (λ file. StandsFor file []) (D.state disk.old)) }
         ensures others { IsTrue D.is_known → KeepsOthers path.now (D.state disk.old) (D.state disk.new) }
-        ensures cause { Tells (D.state disk.old) (D.state disk.new) result }
+        ensures cause { TellsFailure (D.state disk.old) (D.state disk.new) result }
     {
         let mut journal = Journal {
             alloc,
@@ -87,16 +87,16 @@ impl<'a> Journal<'a> {
         path: &'a str,
         bytes: &[u8],
     ) -> Result<Journal<'a>, DiskFault>
-        requires kept { IsTrue D.is_known → IsKept path.now (D.state disk.old) }
+        requires kept { IsTrue D.is_known → DiskKeeps path.now (D.state disk.old) }
         requires seen { IsTrue D.is_known → (file : File) × ((D.state disk.old).seen path.now ≡ Some file) × (bytes.now ≡ file.bytes) }
-        ensures read { IfOk result (λ journal. StandsFor bytes.now (lines_of journal)) }
-        ensures path { IfOk result (λ journal. path_of journal ≡ path.now) }
-        ensures whole { IfOk result (λ journal. IsTrue D.is_known → IsWhole journal (D.state disk.new)) }
-        ensures held { IfOk result (λ journal. Holds D.is_known journal (D.state disk.new)) }
+        ensures read { IfOk result (λ journal. StandsFor bytes.now (lines_of_journal journal)) }
+        ensures path { IfOk result (λ journal. path_of_journal journal ≡ path.now) }
+        ensures whole { IfOk result (λ journal. IsTrue D.is_known → JournalIsWhole journal (D.state disk.new)) }
+        ensures held { IfOk result (λ journal. JournalHolds D.is_known journal (D.state disk.new)) }
         ensures any_moment { IsTrue D.is_known → (lines : List (List ℕ)) → StandsFor bytes.now lines
-            → LeavesOnly (D.state disk.old) (D.state disk.new) (Leaves path.now (λ file. StandsFor file lines) (D.state disk.old)) }
+            → LeavesOnly (D.state disk.old) (D.state disk.new) (CrashLeaves path.now (λ file. StandsFor file lines) (D.state disk.old)) }
         ensures others { IsTrue D.is_known → KeepsOthers path.now (D.state disk.old) (D.state disk.new) }
-        ensures cause { Tells (D.state disk.old) (D.state disk.new) result }
+        ensures cause { TellsFailure (D.state disk.old) (D.state disk.new) result }
     {
         let found = read_records(alloc, bytes)?;
         let journal = Journal {
@@ -115,7 +115,7 @@ impl<'a> Journal<'a> {
 
     /// The records, in their order.
     pub fn records(&self) -> &[Text]
-        ensures { result.now ≡ lines_of self.now }
+        ensures { result.now ≡ lines_of_journal self.now }
     {
         &self.lines
     }
@@ -125,19 +125,19 @@ impl<'a> Journal<'a> {
     ///
     /// `TooLong`: the file would have more than 128 MiB.
     pub fn put<D: Disk>(&mut self, disk: &mut D, line: Text) -> Result<(), DiskFault>
-        requires line { IsLine line }
-        requires held { Holds D.is_known self.old (D.state disk.old) }
-        ensures acknowledged { OnOk result ((lines_of self.new ≡ lines_of self.old ++ line ∷ [])
-            × (IsTrue D.is_known → IsWhole self.new (D.state disk.new))) }
-        ensures refused { OnErr result (lines_of self.new ≡ lines_of self.old) }
-        ensures path { path_of self.new ≡ path_of self.old }
-        ensures held { Holds D.is_known self.new (D.state disk.new) }
+        requires line { IsRecordLine line }
+        requires held { JournalHolds D.is_known self.old (D.state disk.old) }
+        ensures acknowledged { OnOk result ((lines_of_journal self.new ≡ lines_of_journal self.old ++ line ∷ [])
+            × (IsTrue D.is_known → JournalIsWhole self.new (D.state disk.new))) }
+        ensures refused { OnErr result (lines_of_journal self.new ≡ lines_of_journal self.old) }
+        ensures path { path_of_journal self.new ≡ path_of_journal self.old }
+        ensures held { JournalHolds D.is_known self.new (D.state disk.new) }
 
         // A crash at any moment leaves the records, with the new one or without; or the file as it might have been left before.
         ensures any_moment { IsTrue D.is_known → LeavesOnly (D.state disk.old) (D.state disk.new)
-            (Leaves (path_of self.old) (IsBeforeOrAfter (lines_of self.old) line) (D.state disk.old)) }
-        ensures others { IsTrue D.is_known → KeepsOthers (path_of self.old) (D.state disk.old) (D.state disk.new) }
-        ensures cause { Tells (D.state disk.old) (D.state disk.new) result }
+            (CrashLeaves (path_of_journal self.old) (IsBeforeOrAfter (lines_of_journal self.old) line) (D.state disk.old)) }
+        ensures others { IsTrue D.is_known → KeepsOthers (path_of_journal self.old) (D.state disk.old) (D.state disk.new) }
+        ensures cause { TellsFailure (D.state disk.old) (D.state disk.new) result }
     {
         self.lines.reserve(1)?;
         self.write(disk, &line)?;
@@ -150,17 +150,17 @@ impl<'a> Journal<'a> {
     /// Makes sure of the file, and writes a record. That the file is at rest is left for the caller to say, who adds the record to
     /// those that are held.
     fn write<D: Disk>(&mut self, disk: &mut D, line: &Text) -> Result<(), DiskFault>
-        requires line { IsLine line.now }
-        requires held { Holds D.is_known self.old (D.state disk.old) }
+        requires line { IsRecordLine line.now }
+        requires held { JournalHolds D.is_known self.old (D.state disk.old) }
         ensures written { OnOk result (IsTrue D.is_known
-            → IsAtRest (path_of self.old) (lines_of self.old ++ line.now ∷ []) self.new.size (D.state disk.new)) }
-        ensures lines { lines_of self.new ≡ lines_of self.old }
-        ensures path { path_of self.new ≡ path_of self.old }
-        ensures held { Holds D.is_known self.new (D.state disk.new) }
+            → JournalIsAtRest (path_of_journal self.old) (lines_of_journal self.old ++ line.now ∷ []) self.new.size (D.state disk.new)) }
+        ensures lines { lines_of_journal self.new ≡ lines_of_journal self.old }
+        ensures path { path_of_journal self.new ≡ path_of_journal self.old }
+        ensures held { JournalHolds D.is_known self.new (D.state disk.new) }
         ensures any_moment { IsTrue D.is_known → LeavesOnly (D.state disk.old) (D.state disk.new)
-            (Leaves (path_of self.old) (IsBeforeOrAfter (lines_of self.old) line.now) (D.state disk.old)) }
-        ensures others { IsTrue D.is_known → KeepsOthers (path_of self.old) (D.state disk.old) (D.state disk.new) }
-        ensures cause { Tells (D.state disk.old) (D.state disk.new) result }
+            (CrashLeaves (path_of_journal self.old) (IsBeforeOrAfter (lines_of_journal self.old) line.now) (D.state disk.old)) }
+        ensures others { IsTrue D.is_known → KeepsOthers (path_of_journal self.old) (D.state disk.old) (D.state disk.new) }
+        ensures cause { TellsFailure (D.state disk.old) (D.state disk.new) result }
     {
         self.refresh(disk)?;
         let len = line.list().len();
@@ -176,16 +176,16 @@ impl<'a> Journal<'a> {
 
     /// Writes a record after the closed gate, and opens the gate.
     fn append<D: Disk>(&self, disk: &mut D, line: &Text, tail: &[u8]) -> Result<(), DiskFault>
-        requires line { IsLine line.now }
+        requires line { IsRecordLine line.now }
         requires tail { tail.now ≡ line.now ++ 10 ∷ 45 ∷ [] }
         requires room { self.now.size < 2 ^ 60 }
-        requires whole { IsTrue D.is_known → IsWhole self.now (D.state disk.old) }
-        ensures acknowledged { OnOk result (IsTrue D.is_known → IsAtRest (path_of self.now) (lines_of self.now ++ line.now ∷ [])
+        requires whole { IsTrue D.is_known → JournalIsWhole self.now (D.state disk.old) }
+        ensures acknowledged { OnOk result (IsTrue D.is_known → JournalIsAtRest (path_of_journal self.now) (lines_of_journal self.now ++ line.now ∷ [])
             (self.now.size + (length line.now + 2)) (D.state disk.new)) }
         ensures any_moment { IsTrue D.is_known → LeavesOnly (D.state disk.old) (D.state disk.new)
-            (Leaves (path_of self.now) (IsBeforeOrAfter (lines_of self.now) line.now) (D.state disk.old)) }
-        ensures touches { IsTrue D.is_known → Touches (path_of self.now) (D.state disk.old) (D.state disk.new) }
-        ensures cause { Tells (D.state disk.old) (D.state disk.new) result }
+            (CrashLeaves (path_of_journal self.now) (IsBeforeOrAfter (lines_of_journal self.now) line.now) (D.state disk.old)) }
+        ensures touches { IsTrue D.is_known → Touches (path_of_journal self.now) (D.state disk.old) (D.state disk.new) }
+        ensures cause { TellsFailure (D.state disk.old) (D.state disk.new) result }
     {
         write_synced(disk, self.path, self.size + 1, tail)?;
         write_synced(disk, self.path, self.size, &[OPEN])
@@ -194,11 +194,11 @@ impl<'a> Journal<'a> {
     /// Takes away what stands after the records, and closes the gate there.
     fn mend<D: Disk>(&self, disk: &mut D) -> Result<(), DiskFault>
         requires untidy { IsTrue D.is_known → Untidy self.now (D.state disk.old) }
-        ensures whole { OnOk result (IsTrue D.is_known → IsWhole self.now (D.state disk.new)) }
+        ensures whole { OnOk result (IsTrue D.is_known → JournalIsWhole self.now (D.state disk.new)) }
         ensures any_moment { IsTrue D.is_known → LeavesOnly (D.state disk.old) (D.state disk.new)
-            (Leaves (path_of self.now) (λ file. StandsFor file (lines_of self.now)) (D.state disk.old)) }
-        ensures touches { IsTrue D.is_known → Touches (path_of self.now) (D.state disk.old) (D.state disk.new) }
-        ensures cause { Tells (D.state disk.old) (D.state disk.new) result }
+            (CrashLeaves (path_of_journal self.now) (λ file. StandsFor file (lines_of_journal self.now)) (D.state disk.old)) }
+        ensures touches { IsTrue D.is_known → Touches (path_of_journal self.now) (D.state disk.old) (D.state disk.new) }
+        ensures cause { TellsFailure (D.state disk.old) (D.state disk.new) result }
     {
         // The cut has to be on the disk first: after a gate that is torn open, what was there would count.
         cut_synced(disk, self.path, self.size)?;
@@ -207,15 +207,15 @@ impl<'a> Journal<'a> {
 
     /// Writes the file anew with the records, unless no call has failed since it was written.
     pub(crate) fn refresh<D: Disk>(&mut self, disk: &mut D) -> Result<(), DiskFault>
-        requires held { Holds D.is_known self.old (D.state disk.old) }
-        ensures whole { OnOk result (IsTrue D.is_known → IsWhole self.new (D.state disk.new)) }
-        ensures lines { lines_of self.new ≡ lines_of self.old }
-        ensures path { path_of self.new ≡ path_of self.old }
-        ensures held { Holds D.is_known self.new (D.state disk.new) }
+        requires held { JournalHolds D.is_known self.old (D.state disk.old) }
+        ensures whole { OnOk result (IsTrue D.is_known → JournalIsWhole self.new (D.state disk.new)) }
+        ensures lines { lines_of_journal self.new ≡ lines_of_journal self.old }
+        ensures path { path_of_journal self.new ≡ path_of_journal self.old }
+        ensures held { JournalHolds D.is_known self.new (D.state disk.new) }
         ensures any_moment { IsTrue D.is_known → LeavesOnly (D.state disk.old) (D.state disk.new)
-            (Leaves (path_of self.old) (λ file. StandsFor file (lines_of self.old)) (D.state disk.old)) }
-        ensures others { IsTrue D.is_known → KeepsOthers (path_of self.old) (D.state disk.old) (D.state disk.new) }
-        ensures cause { Tells (D.state disk.old) (D.state disk.new) result }
+            (CrashLeaves (path_of_journal self.old) (λ file. StandsFor file (lines_of_journal self.old)) (D.state disk.old)) }
+        ensures others { IsTrue D.is_known → KeepsOthers (path_of_journal self.old) (D.state disk.old) (D.state disk.new) }
+        ensures cause { TellsFailure (D.state disk.old) (D.state disk.new) result }
     {
         if self.is_whole {
             return Ok(());
@@ -236,11 +236,11 @@ pub(crate) fn write_anew<D: Disk>(
     lines: &[Text],
 ) -> Result<usize, DiskFault>
     requires lines { AreLines lines.now }
-    ensures written { IfOk result (λ size. IsTrue D.is_known → IsAtRest path.now lines.now size (D.state disk.new)) }
+    ensures written { IfOk result (λ size. IsTrue D.is_known → JournalIsAtRest path.now lines.now size (D.state disk.new)) }
     ensures any_moment { IsTrue D.is_known → LeavesOnly (D.state disk.old) (D.state disk.new)
-        (Leaves path.now (λ file. StandsFor file lines.now) (D.state disk.old)) }
+        (CrashLeaves path.now (λ file. StandsFor file lines.now) (D.state disk.old)) }
     ensures others { IsTrue D.is_known → KeepsOthers path.now (D.state disk.old) (D.state disk.new) }
-    ensures cause { Tells (D.state disk.old) (D.state disk.new) result }
+    ensures cause { TellsFailure (D.state disk.old) (D.state disk.new) result }
 {
     let text = text_of(alloc, lines)?;
     if text.len() > MOST_BYTES {

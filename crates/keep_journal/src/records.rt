@@ -1,5 +1,5 @@
 ghost use Rattle.std.specs.Prelude.{◌≡◌, ◌≢◌, ◌+◌, ◌∷◌, [], ◌++◌, List, ℕ, length, IfOk, MatchOption, IsTrue, ◌↔◌};
-ghost use Rattle.keep_journal.specs.Records.{IsLine, AreLines, block, blocks, at_rest, StandsFor, kept, is_out, taken};
+ghost use Rattle.keep_journal.specs.Records.{IsRecordLine, AreLines, block, blocks, at_rest, StandsFor, lines_kept, is_out, lines_taken_out};
 
 use keep_moment::Text;
 use memchr::memchr;
@@ -15,7 +15,7 @@ const LINE_FEED: u8 = b'\n';
 
 /// Whether no line feed stands in these bytes.
 pub fn is_line(bytes: &[u8]) -> bool
-    ensures { IsTrue result ↔ IsLine bytes.now }
+    ensures { IsTrue result ↔ IsRecordLine bytes.now }
 {
     memchr(LINE_FEED, bytes).is_none()
 }
@@ -47,8 +47,8 @@ pub(crate) fn text_of(alloc: Global, lines: &[Text]) -> Result<Vec<u8>, AllocErr
 /// The line of the record with which these bytes begin, and what comes after the record; `None` where they begin with none.
 #[tactic(auto, using(crate::proofs::Readings::no_line, crate::proofs::Readings::block_then))]
 pub(crate) fn first_record(bytes: &[u8]) -> Option<(&[u8], &[u8])>
-    ensures { MatchOption result ((line rest : List ℕ) → IsLine line → bytes.now ≢ block line ++ rest)
-        (λ first. IsLine first.0.now × (bytes.now ≡ block first.0.now ++ first.1.now)) }
+    ensures { MatchOption result ((line rest : List ℕ) → IsRecordLine line → bytes.now ≢ block line ++ rest)
+        (λ first. IsRecordLine first.0.now × (bytes.now ≡ block first.0.now ++ first.1.now)) }
 {
     let (gate, after) = bytes.split_first()?;
     if *gate != OPEN {
@@ -61,7 +61,7 @@ pub(crate) fn first_record(bytes: &[u8]) -> Option<(&[u8], &[u8])>
 #[tactic(auto, using(crate::proofs::Readings::no_feed))]
 fn first_line(bytes: &[u8]) -> Option<(&[u8], &[u8])>
     ensures { MatchOption result ((line rest : List ℕ) → bytes.now ≢ line ++ 10 ∷ rest)
-        (λ first. IsLine first.0.now × (bytes.now ≡ first.0.now ++ 10 ∷ first.1.now)) }
+        (λ first. IsRecordLine first.0.now × (bytes.now ≡ first.0.now ++ 10 ∷ first.1.now)) }
 {
     let Some(end) = memchr(LINE_FEED, bytes) else {
         return None;
@@ -109,7 +109,7 @@ fn is_closed_gate(bytes: &[u8]) -> bool
 /// The records that are not to be taken out. Those past the end of `outs` stay.
 #[tactic(auto, using(crate::proofs::Readings::kept_out, crate::proofs::Readings::kept_in))]
 pub(crate) fn without(alloc: Global, lines: &[Text], outs: &[bool]) -> Result<Vec<Text>, AllocError>
-    ensures { IfOk result (λ left. left.items ≡ kept lines.now outs.now) }
+    ensures { IfOk result (λ left. left.items ≡ lines_kept lines.now outs.now) }
 {
     let mut left = Vec::new(alloc);
     for at in 0..lines.len() {
@@ -128,7 +128,7 @@ pub(crate) fn with_taken(
     lines: &[Text],
     outs: &[bool],
 ) -> Result<Vec<u8>, AllocError>
-    ensures { IfOk result (λ text. text.items ≡ before.items ++ taken lines.now outs.now) }
+    ensures { IfOk result (λ text. text.items ≡ before.items ++ lines_taken_out lines.now outs.now) }
 {
     let mut text = before;
     for at in 0..lines.len() {

@@ -3,17 +3,17 @@ use Rattle.std.proofs.Common.{◌≡◌, ℕ, ◌+◌, ◌<◌, ◌≤◌, List,
 use Rattle.std.proofs.lemmas.List.{flat_map_more, take_all, take_more}
 use Rattle.keep_change.specs.declared.change.Record.{Record}
 use Rattle.keep_change.specs.declared.replaying.Note.{Note}
-use Rattle.keep_state.specs.Noted.{line_in, note_lines}
+use Rattle.keep_state.specs.Noted.{lines_in_note, note_lines}
 
 pub lines_none : (margin : ℕ) (records : List Record) → note_lines margin records [] ≡ []
 unfolding note_lines
 lines_none margin records = refl
 
 pub lines_more : (margin : ℕ) (records : List Record) (notes : List Note) (i : ℕ) (d : Note) → i < length notes
-    → note_lines margin records (take (i + 1) notes) ≡ note_lines margin records (take i notes) ++ line_in margin records (get_or notes i d)
+    → note_lines margin records (take (i + 1) notes) ≡ note_lines margin records (take i notes) ++ lines_in_note margin records (get_or notes i d)
 unfolding note_lines
 lines_more margin records notes i d h =
-    ap (note_lines margin records) (take_more notes i d h) ∙ sym (flat_map_more (line_in margin records) [] (take i notes) (get_or notes i d))
+    ap (note_lines margin records) (take_more notes i d h) ∙ sym (flat_map_more (lines_in_note margin records) [] (take i notes) (get_or notes i d))
 
 pub lines_all : (margin : ℕ) (records : List Record) (notes : List Note) (i : ℕ) → length notes ≤ i → note_lines margin records (take i notes) ≡ note_lines margin records notes
 lines_all margin records notes i past = ap (note_lines margin records) (take_all i notes past)

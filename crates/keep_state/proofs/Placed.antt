@@ -4,7 +4,7 @@ use Rattle.std.specs.Prelude.{codes}
 use Rattle.std.proofs.lemmas.Bool.{true≢false, cases_Bool}
 use Rattle.std.proofs.lemmas.Slice.Eq.{bytes_eq-Decides}
 use Rattle.std.specs.Str.{bytes_eq}
-use Rattle.keep_state.specs.Places.{AreApart, Places, in_folder, is_inside, places_of}
+use Rattle.keep_state.specs.Places.{Places, PlacesAreApart, in_folder, is_inside, places_of}
 
 same_rest : (x y : ℕ) (a b : List ℕ) → x ∷ a ≡ y ∷ b → a ≡ b
 same_rest x y a b e = cc
@@ -19,7 +19,7 @@ apart_in folder a b apart = ⊎_elim
     (λ no. no)
     (cases_Bool (bytes_eq (in_folder folder a) (in_folder folder b)))
 
-pub are_apart : (file folder : List ℕ) → is_inside (places_of file folder) ≡ false → AreApart (places_of file folder)
+pub are_apart : (file folder : List ℕ) → is_inside (places_of file folder) ≡ false → PlacesAreApart (places_of file folder)
 are_apart file folder outside = record {
   inside = outside;
   journal_copy = apart_in folder (codes "journal") (codes "copy") refl;

@@ -1,37 +1,38 @@
 -- A start: whose fault it is that nothing is kept, and the copy of the file that is served.
-use Rattle.std.proofs.Common.{◌≡◌, ◌≤◌, List, ℕ, false, Option, Some, None, refl, sym, ap, ◌∙◌}
+use Rattle.std.proofs.Common.{◌≡◌, ◌≤◌, List, ℕ, Bool, false, Option, Some, None, refl, sym, ap, ◌∙◌}
 use Rattle.std.specs.Str.{bytes_eq}
 use Rattle.keep_disk.specs.Image.{File, Image, SameElsewhere}
-use Rattle.keep_disk.specs.State.{State, IsAfter, LeavesOnly}
-use Rattle.keep_disk.specs.Torn.{Moves}
+use Rattle.keep_disk.specs.State.{DiskState, IsAfter, LeavesOnly}
+use Rattle.keep_disk.specs.Torn.{MovesFile}
 use Rattle.keep_disk.specs.declared.fault.DiskFault.{DiskFault}
 use Rattle.keep_disk.specs.declared.fault.DiskFault.TheVariants.{Failed, TooLong}
 use Rattle.keep_disk.specs.declared.fault.DiskFault.TheVariants as disks
 use Rattle.keep_disk.proofs.Moments.{started, weaker}
-use Rattle.keep_journal.specs.Journals.{IsThere, KeepsOthers}
+use Rattle.keep_journal.specs.Journals.{FileIsThere, KeepsOthers}
 use Rattle.keep_store.specs.Records.{records_in}
 use Rattle.keep_store.proofs.Copied.{moves_elsewhere}
 use Rattle.keep_store.proofs.Undamaged.{same_records}
 use Rattle.keep_state.specs.declared.fault.OpenFault.{OpenFault}
 use Rattle.keep_state.specs.declared.fault.OpenFault.TheVariants.{Held, Disk, OutOfMemory}
 use Rattle.keep_state.specs.Opens.{IsOfFolder, unheld}
+use Rattle.keep_state.specs.Places.{Places}
 use Rattle.keep_state.specs.Recovers.{IsAside}
 use Rattle.keep_state.proofs.Others.{at_end}
 
-pub of_folder : (fault : DiskFault) → IsOfFolder (unheld fault)
-of_folder (Failed why) = tt
-of_folder TooLong = tt
-of_folder disks.OutOfMemory = tt
+pub of_folder : (known : Bool) (places : Places) (s : DiskState) (fault : DiskFault) → IsOfFolder known places s (unheld fault)
+of_folder known places s (Failed why) = tt
+of_folder known places s TooLong = tt
+of_folder known places s disks.OutOfMemory = tt
 
-pub copy_elsewhere : (copy : List ℕ) (file : File) (s t : State) → LeavesOnly s t (IsAfter (Moves copy file) s) → LeavesOnly s t (IsAfter (SameElsewhere copy) s)
-copy_elsewhere copy file s t run = weaker s t (IsAfter (Moves copy file) s) (IsAfter (SameElsewhere copy) s) run (λ c left. (left.0, left.1, moves_elsewhere copy file left.0 c left.2))
+pub copy_elsewhere : (copy : List ℕ) (file : File) (s t : DiskState) → LeavesOnly s t (IsAfter (MovesFile copy file) s) → LeavesOnly s t (IsAfter (SameElsewhere copy) s)
+copy_elsewhere copy file s t run = weaker s t (IsAfter (MovesFile copy file) s) (IsAfter (SameElsewhere copy) s) run (λ c left. (left.0, left.1, moves_elsewhere copy file left.0 c left.2))
 
-pub nothing_copied : (copy : List ℕ) (s : State) → ((c : Image) → s.left_since s.moment c → s.may_leave c) → LeavesOnly s s (IsAfter (SameElsewhere copy) s)
+pub nothing_copied : (copy : List ℕ) (s : DiskState) → ((c : Image) → s.left_since s.moment c → s.may_leave c) → LeavesOnly s s (IsAfter (SameElsewhere copy) s)
 nothing_copied copy s only = started s (IsAfter (SameElsewhere copy) s) only (λ c left. (c, left, (λ other apart. refl)))
 
 -- another file is still there once the copy was made
-pub put_past : (copy other : List ℕ) (file : File) (s t : State) → bytes_eq copy other ≡ false → KeepsOthers copy s t → LeavesOnly s t (IsAfter (SameElsewhere copy) s)
-    → ((n : ℕ) (c : Image) → n ≤ t.moment → t.may_leave c → t.left_since n c) → IsThere other file s → IsThere other file t
+pub put_past : (copy other : List ℕ) (file : File) (s t : DiskState) → bytes_eq copy other ≡ false → KeepsOthers copy s t → LeavesOnly s t (IsAfter (SameElsewhere copy) s)
+    → ((n : ℕ) (c : Image) → n ≤ t.moment → t.may_leave c → t.left_since n c) → FileIsThere other file s → FileIsThere other file t
 put_past copy other file s t apart others run counts there = record {
   seen = others.seen other apart ∙ there.seen;
   is_kept = record {

@@ -1,13 +1,13 @@
 -- What a crash leaves while the journal of a folder is opened, and what stands on the disk then.
-use Rattle.std.proofs.Common.{◌≡◌, ◌≢◌, ◌⊎◌, inl, inr, ⊎_elim, ℕ, suc, ◌-◌, ◌≤◌, List, [], ◌∷◌, ◌++◌, Option, Some, None, is_none, option_to_list, length, Bool, false, refl, sym, ap, subst, ◌∙◌, arith}
+use Rattle.std.proofs.Common.{◌≡◌, ◌≢◌, ◌⊎◌, inl, inr, ⊎_elim, ℕ, suc, ◌-◌, ◌≤◌, List, [], ◌∷◌, ◌++◌, Option, Some, None, IfSome, is_none, option_to_list, length, Bool, false, refl, sym, ap, subst, ◌∙◌, arith}
 use Rattle.std.specs.Str.{bytes_eq}
 use Rattle.keep_change.specs.declared.change.Record.{Record}
 use Rattle.keep_change.specs.Records.{record_of}
 use Rattle.keep_disk.specs.Image.{File, Image, SameElsewhere}
-use Rattle.keep_disk.specs.State.{State, Elapses, IsAfter, IsKept, LeavesAlone, LeavesOnly}
+use Rattle.keep_disk.specs.State.{DiskState, Elapses, IsAfter, DiskKeeps, LeavesAlone, LeavesOnly}
 use Rattle.keep_disk.proofs.Moments.{and_then, goes_on, started}
-use Rattle.keep_journal.specs.Journals.{Exchanging, Leaves, bytes_of}
-use Rattle.keep_journal.specs.Records.{StandsFor, kept}
+use Rattle.keep_journal.specs.Journals.{CrashLeaves, Exchanging, bytes_of_file}
+use Rattle.keep_journal.specs.Records.{StandsFor, lines_kept}
 use Rattle.keep_store.specs.Compacted.{damages, undamaged}
 use Rattle.keep_store.specs.Records.{records_in}
 use Rattle.keep_store.proofs.Undamaged.{same_records}
@@ -16,25 +16,25 @@ use Rattle.keep_state.proofs.Others.{apart_back, at_end}
 use Rattle.keep_state.specs.Recovers.{LeftByStart}
 
 -- what is kept is kept by a call that changes nothing
-pub kept_alone : (path : List ℕ) (s t : State) → LeavesAlone s t → IsKept path s → IsKept path t
+pub kept_alone : (path : List ℕ) (s t : DiskState) → LeavesAlone s t → DiskKeeps path s → DiskKeeps path t
 kept_alone path s t alone kept = record {
   sound = ap (λ (f : List ℕ → Bool). f path) alone.sound ∙ kept.sound;
   durable = λ c left. kept.durable c (alone.crash c left) ∙ ap (λ (image : Image). image path) (sym alone.seen);
 }
 
-abbrev bytes_there : List ℕ → State → List ℕ
-bytes_there path s = bytes_of (s.seen path)
+abbrev bytes_there : List ℕ → DiskState → List ℕ
+bytes_there path s = bytes_of_file (s.seen path)
 
-pub stands_alone : (path : List ℕ) (lines : List (List ℕ)) (s t : State) → LeavesAlone s t → StandsFor (bytes_there path s) lines → StandsFor (bytes_there path t) lines
-stands_alone path lines s t alone stands = subst (λ (image : Image). StandsFor (bytes_of (image path)) lines) (sym alone.seen) stands
+pub stands_alone : (path : List ℕ) (lines : List (List ℕ)) (s t : DiskState) → LeavesAlone s t → StandsFor (bytes_there path s) lines → StandsFor (bytes_there path t) lines
+stands_alone path lines s t alone stands = subst (λ (image : Image). StandsFor (bytes_of_file (image path)) lines) (sym alone.seen) stands
 
-module _ (lines : List (List ℕ)) (places : Places) (s : State) where
+module _ (lines : List (List ℕ)) (places : Places) (s : DiskState) where
   -- the journal's file is as in an image that has P, and no other file is changed but those two
   pub from_one : (d c : Image) → LeftByStart lines places s d → c places.journal ≡ d places.journal
       → ((other : List ℕ) → bytes_eq places.journal other ≡ false → bytes_eq places.aside other ≡ false → bytes_eq places.copy other ≡ false → c other ≡ d other) → LeftByStart lines places s c
   from_one d c has same elsewhere = record {
     now = has.now;
-    stands = subst (λ (file : Option File). StandsFor (bytes_of file) has.now) (sym same) has.stands;
+    stands = subst (λ (file : Option File). StandsFor (bytes_of_file file) has.now) (sym same) has.stands;
     same = has.same;
     was = has.was;
     before = has.before;
@@ -42,7 +42,7 @@ module _ (lines : List (List ℕ)) (places : Places) (s : State) where
   }
 
   -- or it stands for lines with the same records
-  pub anew : (d c : Image) (now : List (List ℕ)) → LeftByStart lines places s d → StandsFor (bytes_of (c places.journal)) now → records_in now ≡ records_in lines
+  pub anew : (d c : Image) (now : List (List ℕ)) → LeftByStart lines places s d → StandsFor (bytes_of_file (c places.journal)) now → records_in now ≡ records_in lines
       → ((other : List ℕ) → bytes_eq places.journal other ≡ false → bytes_eq places.aside other ≡ false → bytes_eq places.copy other ≡ false → c other ≡ d other) → LeftByStart lines places s c
   anew d c now has stands same elsewhere = record {
     now = now;
@@ -53,35 +53,35 @@ module _ (lines : List (List ℕ)) (places : Places) (s : State) where
     elsewhere = λ other a b e. elsewhere other a b e ∙ has.elsewhere other a b e;
   }
 
-  module _ (kept : IsKept places.journal s) (stands : StandsFor (bytes_there places.journal s) lines) where
+  module _ (kept : DiskKeeps places.journal s) (stands : StandsFor (bytes_there places.journal s) lines) where
     pub as_before : (c : Image) → s.may_leave c → LeftByStart lines places s c
     as_before c left = record {
       now = lines;
-      stands = subst (λ (file : Option File). StandsFor (bytes_of file) lines) (sym (kept.durable c left)) stands;
+      stands = subst (λ (file : Option File). StandsFor (bytes_of_file file) lines) (sym (kept.durable c left)) stands;
       same = refl;
       was = c;
       before = left;
       elsewhere = λ other a b e. refl;
     }
 
-    pub locked : (t : State) → ((c : Image) → s.left_since s.moment c → s.may_leave c) → LeavesAlone s t → Elapses s t → LeavesOnly s t (LeftByStart lines places s)
+    pub locked : (t : DiskState) → ((c : Image) → s.left_since s.moment c → s.may_leave c) → LeavesAlone s t → Elapses s t → LeavesOnly s t (LeftByStart lines places s)
     locked t only alone time = goes_on s s t (LeftByStart lines places s) (started s (LeftByStart lines places s) only as_before) time (λ c left. as_before c (alone.crash c left))
 
-    pub opened : (t u : State) → LeavesOnly s t (LeftByStart lines places s) → LeavesAlone s t → LeavesOnly t u (Leaves places.journal (λ f. StandsFor f lines) t) → LeavesOnly s u (LeftByStart lines places s)
-    opened t u run alone second = and_then s t u (LeftByStart lines places s) (Leaves places.journal (λ f. StandsFor f lines) t) run second means
+    pub opened : (t u : DiskState) → LeavesOnly s t (LeftByStart lines places s) → LeavesAlone s t → LeavesOnly t u (CrashLeaves places.journal (λ f. StandsFor f lines) t) → LeavesOnly s u (LeftByStart lines places s)
+    opened t u run alone second = and_then s t u (LeftByStart lines places s) (CrashLeaves places.journal (λ f. StandsFor f lines) t) run second means
       where
-        means : (c : Image) → Leaves places.journal (λ f. StandsFor f lines) t c → LeftByStart lines places s c
+        means : (c : Image) → CrashLeaves places.journal (λ f. StandsFor f lines) t c → LeftByStart lines places s c
         means c (d, left, elsewhere, inl same) = from_one d c (as_before d (alone.crash d left)) same (λ other a b e. elsewhere other a)
         means c (d, left, elsewhere, inr has) = anew d c lines (as_before d (alone.crash d left)) has refl (λ other a b e. elsewhere other a)
 
     -- the lock, and then the journal at a path that is its own
-    pub begun : (path : List ℕ) → path ≡ places.journal → (t u : State) → ((c : Image) → s.left_since s.moment c → s.may_leave c) → LeavesAlone s t → Elapses s t
-        → ((ls : List (List ℕ)) → StandsFor (bytes_of (t.seen path)) ls → LeavesOnly t u (Leaves path (λ f. StandsFor f ls) t)) → LeavesOnly s u (LeftByStart lines places s)
+    pub begun : (path : List ℕ) → path ≡ places.journal → (t u : DiskState) → ((c : Image) → s.left_since s.moment c → s.may_leave c) → LeavesAlone s t → Elapses s t
+        → ((ls : List (List ℕ)) → StandsFor (bytes_of_file (t.seen path)) ls → LeavesOnly t u (CrashLeaves path (λ f. StandsFor f ls) t)) → LeavesOnly s u (LeftByStart lines places s)
     begun path at t u only alone time second =
-        let there : StandsFor (bytes_of (t.seen path)) lines = subst (λ (p : List ℕ). StandsFor (bytes_of (t.seen p)) lines) (sym at) (stands_alone places.journal lines s t alone stands) in
-        opened t u (locked t only alone time) alone (subst (λ (p : List ℕ). LeavesOnly t u (Leaves p (λ f. StandsFor f lines) t)) at (second lines there))
+        let there : StandsFor (bytes_of_file (t.seen path)) lines = subst (λ (p : List ℕ). StandsFor (bytes_of_file (t.seen p)) lines) (sym at) (stands_alone places.journal lines s t alone stands) in
+        opened t u (locked t only alone time) alone (subst (λ (p : List ℕ). LeavesOnly t u (CrashLeaves p (λ f. StandsFor f lines) t)) at (second lines there))
 
-  module _ (t u : State) (run : LeavesOnly s t (LeftByStart lines places s)) (counts : (n : ℕ) (c : Image) → n ≤ t.moment → t.may_leave c → t.left_since n c) where
+  module _ (t u : DiskState) (run : LeavesOnly s t (LeftByStart lines places s)) (counts : (n : ℕ) (c : Image) → n ≤ t.moment → t.may_leave c → t.left_since n c) where
     now_has : (c : Image) → t.may_leave c → LeftByStart lines places s c
     now_has = at_end s t (LeftByStart lines places s) run counts
 
@@ -121,7 +121,7 @@ no_more (line ∷ lines) = one_more lines (record_of line) (no_more lines)
 
 module _ (line : List ℕ) (lines : List (List ℕ)) where
   good_first : (o : Option Record) → length (option_to_list o ++ records_in lines) ≡ suc (length lines) → (length (records_in lines) ≡ length lines → undamaged lines ≡ lines)
-      → kept (line ∷ lines) (is_none o ∷ damages lines) ≡ line ∷ lines
+      → lines_kept (line ∷ lines) (is_none o ∷ damages lines) ≡ line ∷ lines
   good_first None e so = let most = no_more lines in absurd (omega (arith, e, most))
   good_first (Some r) e so = ap (λ (ls : List (List ℕ)). line ∷ ls) (so (omega (arith, e)))
 
@@ -133,6 +133,16 @@ all_good (line ∷ lines) e = good_first line lines (record_of line) e (all_good
 pub none_damaged : (lines : List (List ℕ)) → length lines - length (records_in lines) ≡ 0 → lines ≡ undamaged lines
 none_damaged lines none = let most = no_more lines in sym (all_good lines (omega (arith, none, most)))
 
-pub stands_before : (path at : List ℕ) (lines : List (List ℕ)) (s t : State) → path ≡ at → LeavesAlone s t → StandsFor (bytes_of (t.seen path)) lines → StandsFor (bytes_of (s.seen at)) lines
+pub stands_before : (path at : List ℕ) (lines : List (List ℕ)) (s t : DiskState) → path ≡ at → LeavesAlone s t → StandsFor (bytes_of_file (t.seen path)) lines → StandsFor (bytes_of_file (s.seen at)) lines
 stands_before path at lines s t same alone stands =
-    subst (λ (image : Image). StandsFor (bytes_of (image at)) lines) alone.seen (subst (λ (p : List ℕ). StandsFor (bytes_of (t.seen p)) lines) same stands)
+    subst (λ (image : Image). StandsFor (bytes_of_file (image at)) lines) alone.seen (subst (λ (p : List ℕ). StandsFor (bytes_of_file (t.seen p)) lines) same stands)
+
+-- ---- the lock
+
+-- a disk gave the lock of the file that it was asked for
+pub lock_is : {X : Type 0} → (given : Option X) (lock asked path : X) → given ≡ Some lock → IfSome given (λ l. l ≡ asked) → asked ≡ path → lock ≡ path
+lock_is given lock asked path is held same = subst (λ o. IfSome o (λ l. l ≡ asked)) is held ∙ same
+
+-- and so nobody else holds it
+pub none_holds : {X : Type 0} → (given : Option X) (lock : X) (taken : Bool) → given ≡ Some lock → is_none given ≡ taken → taken ≡ false
+none_holds given lock taken is none = sym none ∙ ap is_none is

@@ -8,11 +8,11 @@ use Rattle.keep_inventory.specs.declared.fault.InvFault.{InvFault}
 use Rattle.keep_inventory.specs.declared.fault.InvFault.TheVariants as inventories
 use Rattle.keep_inventory.specs.declared.key.Key.{Key}
 use Rattle.keep_inventory.specs.Answers.{Fails}
-use Rattle.keep_inventory.specs.Inventory.{read_served, tree_of}
+use Rattle.keep_inventory.specs.Inventory.{document_tree, read_served}
 use Rattle.keep_inventory.specs.Served.{Served}
 use Rattle.keep_state.specs.declared.fault.TableFault.{TableFault}
 use Rattle.keep_state.specs.declared.fault.TableFault.TheVariants.{NotToml, NotOne, Missing, Unknown, Bad, Tree, OutOfMemory}
-use Rattle.keep_state.specs.Tables.{GivesOr, beside, entry_in, entry_of, entry_under, over_entry, over_item, over_items, place_of, row_of_table, table_fault}
+use Rattle.keep_state.specs.Tables.{GivesOr, beside, entry_in, entry_under, over_entry, over_item, over_items, place_after_parent, row_at_place, row_of_table, table_fault}
 
 pub gives_err : (fault : TableFault) (answer : Result Row TableFault) → Err fault ≡ answer → GivesOr (Err fault) answer
 gives_err NotToml answer e = e
@@ -32,28 +32,28 @@ fails_with f (inventories.BadValue i k) answer is fails = sym (ap f fails ∙ is
 fails_with f (inventories.Tree i t) answer is fails = sym (ap f fails ∙ is (inventories.Tree i t))
 fails_with f inventories.OutOfMemory answer is fails = tt
 
-pub no_tree : (bytes : List ℕ) (fault : InvFault) → Fails fault (tree_of bytes) → GivesOr (Err (table_fault fault)) (row_of_table bytes)
+pub no_tree : (bytes : List ℕ) (fault : InvFault) → Fails fault (document_tree bytes) → GivesOr (Err (table_fault fault)) (row_of_table bytes)
 unfolding row_of_table
-no_tree bytes fault fails = fails_with (entry_in bytes) fault (tree_of bytes) (λ other. refl) fails
+no_tree bytes fault fails = fails_with (entry_in bytes) fault (document_tree bytes) (λ other. refl) fails
 
-pub no_over : (bytes : List ℕ) (ms : Members) (fault : TableFault) → tree_of bytes ≡ Ok ms → over_entry ms ≡ Err fault → GivesOr (Err fault) (row_of_table bytes)
+pub no_over : (bytes : List ℕ) (ms : Members) (fault : TableFault) → document_tree bytes ≡ Ok ms → over_entry ms ≡ Err fault → GivesOr (Err fault) (row_of_table bytes)
 unfolding row_of_table
-no_over bytes ms fault tree is = gives_err fault (entry_in bytes (tree_of bytes)) (sym (ap (entry_in bytes) tree ∙ ap (entry_under bytes) is))
+no_over bytes ms fault tree is = gives_err fault (entry_in bytes (document_tree bytes)) (sym (ap (entry_in bytes) tree ∙ ap (entry_under bytes) is))
 
-pub by_steps : (bytes : List ℕ) (ms : Members) (over : Option (List ℕ)) (r : Result Row TableFault) → tree_of bytes ≡ Ok ms → over_entry ms ≡ Ok over → GivesOr r (entry_of (place_of over) (read_served (beside over bytes))) → GivesOr r (row_of_table bytes)
+pub by_steps : (bytes : List ℕ) (ms : Members) (over : Option (List ℕ)) (r : Result Row TableFault) → document_tree bytes ≡ Ok ms → over_entry ms ≡ Ok over → GivesOr r (row_at_place (place_after_parent over) (read_served (beside over bytes))) → GivesOr r (row_of_table bytes)
 unfolding row_of_table
 by_steps bytes ms over r tree is gives = subst (GivesOr r) (sym (ap (entry_in bytes) tree ∙ ap (entry_under bytes) is)) gives
 
-pub not_served : (place : ℕ) (text : List ℕ) (fault : InvFault) → Fails fault (read_served text) → GivesOr (Err (table_fault fault)) (entry_of place (read_served text))
-not_served place text inventories.NotToml fails = sym (ap (entry_of place) fails)
-not_served place text (inventories.MissingKey i k) fails = sym (ap (entry_of place) fails)
-not_served place text (inventories.UnknownKey i) fails = sym (ap (entry_of place) fails)
-not_served place text (inventories.BadValue i k) fails = sym (ap (entry_of place) fails)
-not_served place text (inventories.Tree i t) fails = sym (ap (entry_of place) fails)
+pub not_served : (place : ℕ) (text : List ℕ) (fault : InvFault) → Fails fault (read_served text) → GivesOr (Err (table_fault fault)) (row_at_place place (read_served text))
+not_served place text inventories.NotToml fails = sym (ap (row_at_place place) fails)
+not_served place text (inventories.MissingKey i k) fails = sym (ap (row_at_place place) fails)
+not_served place text (inventories.UnknownKey i) fails = sym (ap (row_at_place place) fails)
+not_served place text (inventories.BadValue i k) fails = sym (ap (row_at_place place) fails)
+not_served place text (inventories.Tree i t) fails = sym (ap (row_at_place place) fails)
 not_served place text inventories.OutOfMemory fails = tt
 
-pub served_so : (place : ℕ) (text : List ℕ) (v : Served) (r : Result Row TableFault) → read_served text ≡ Ok v → GivesOr r (entry_of place (Ok v)) → GivesOr r (entry_of place (read_served text))
-served_so place text v r is gives = subst (λ (o : Result Served InvFault). GivesOr r (entry_of place o)) (sym is) gives
+pub served_so : (place : ℕ) (text : List ℕ) (v : Served) (r : Result Row TableFault) → read_served text ≡ Ok v → GivesOr r (row_at_place place (Ok v)) → GivesOr r (row_at_place place (read_served text))
+served_so place text v r is gives = subst (λ (o : Result Served InvFault). GivesOr r (row_at_place place o)) (sym is) gives
 
 -- ---- an array of one table
 

@@ -14,8 +14,8 @@ line_about margin why None = []
 line_about margin why (Some (Made c)) = note_line margin c why ∷ []
 line_about margin why (Some (Settling mark)) = []
 
-abbrev pub line_in : ℕ → List Record → Note → List (List ℕ)
-line_in margin records note = line_about margin note.why (slice_get records note.at)
+abbrev pub lines_in_note : ℕ → List Record → Note → List (List ℕ)
+lines_in_note margin records note = line_about margin note.why (slice_get records note.at)
 
 unfoldable pub note_lines : ℕ → List Record → List Note → List (List ℕ)
-note_lines margin records notes = flat_map (line_in margin records) notes
+note_lines margin records notes = flat_map (lines_in_note margin records) notes

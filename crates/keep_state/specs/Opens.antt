@@ -1,16 +1,16 @@
 -- Opens: what is kept from a start on.
 -- Source: this project's own.
-use Rattle.std.specs.Prelude.{◌≡◌, ◌≢◌, ℕ, List, Option, Some, None, Bool, IsTrue}
-use Rattle.keep_disk.specs.State.{LeavesOnly, State}
+use Rattle.std.specs.Prelude.{◌≡◌, ◌≢◌, ℕ, List, Option, Some, None, Bool, true, false, IsTrue}
+use Rattle.keep_disk.specs.State.{DiskState, LeavesOnly}
 use Rattle.keep_disk.specs.declared.fault.DiskFault.{DiskFault}
 use Rattle.keep_disk.specs.declared.fault.DiskFault.TheVariants as disks
-use Rattle.keep_journal.specs.Journals.{bytes_of}
+use Rattle.keep_journal.specs.Journals.{bytes_of_file}
 use Rattle.keep_journal.specs.Records.{StandsFor}
 use Rattle.keep_store.specs.declared.fault.FileFault.{FileFault}
 use Rattle.keep_store.specs.declared.fault.FileFault.TheVariants as files
-use Rattle.keep_store.specs.Books.{IsFaultOf}
+use Rattle.keep_store.specs.Books.{IsFileFaultOf}
 use Rattle.keep_store.specs.Records.{records_in}
-use Rattle.keep_store.specs.Stores.{IsFrom, lines_in}
+use Rattle.keep_store.specs.Stores.{BookIsFrom, lines_in}
 use Rattle.keep_waiting.specs.Keepers.{waiting_in}
 use Rattle.keep_state.specs.declared.fault.OpenFault.{OpenFault}
 use Rattle.keep_state.specs.declared.fault.OpenFault.TheVariants.{Held, Disk, File, OutOfMemory}
@@ -29,26 +29,27 @@ abbrev pub unserved : FileFault → OpenFault
 unserved files.OutOfMemory = OutOfMemory
 unserved fault = File fault
 
--- no fault of a file that is to be served
-abbrev pub IsOfFolder : OpenFault → Type 0
-IsOfFolder (File fault) = ⊥
-IsOfFolder fault = Unit {0}
+-- no fault of a file that is to be served; another process holds the folder where it holds its lock
+abbrev pub IsOfFolder : Bool → Places → DiskState → OpenFault → Type 0
+IsOfFolder known places s Held = IsTrue known → s.taken places.lock ≡ true
+IsOfFolder known places s (File fault) = ⊥
+IsOfFolder known places s fault = Unit {0}
 
 -- why nothing is kept: another process holds the folder, the journal cannot be used, or no file is served
-abbrev pub IsWhyUnopened : Option (List ℕ) → OpenFault → Type 0
-IsWhyUnopened file Held = Unit {0}
-IsWhyUnopened file (Disk fault) = Unit {0}
-IsWhyUnopened file (File fault) = IsFaultOf file fault
-IsWhyUnopened file OutOfMemory = Unit {0}
+abbrev pub IsWhyUnopened : Bool → Option (List ℕ) → Places → DiskState → OpenFault → Type 0
+IsWhyUnopened known file places s Held = IsTrue known → s.taken places.lock ≡ true
+IsWhyUnopened known file places s (Disk fault) = Unit {0}
+IsWhyUnopened known file places s (File fault) = IsFileFaultOf file fault
+IsWhyUnopened known file places s OutOfMemory = Unit {0}
 
 -- the file that is served is the last good copy, unless this says why not
-abbrev pub IsCopyOf : Bool → List ℕ → Option (List ℕ) → Option FileFault → Option DiskFault → State → Type 0
+abbrev pub IsCopyOf : Bool → List ℕ → Option (List ℕ) → Option FileFault → Option DiskFault → DiskState → Type 0
 IsCopyOf known path (Some bytes) None copy s = IsCopiedTo known path bytes copy s
 IsCopyOf known path file fault copy s = copy ≡ None
 
 -- over a folder whose journal's file stands for these lines
-pub record IsOpenedOver (lines : List (List ℕ)) {D : Type 0} (known : Bool) (file copy : Option (List ℕ)) (places : Places) (s t : State) (o : Opened D) : Type 0 where
-  pub book : IsFrom file copy o.fault (records_in lines) (book_in o.state) o.notes.items
+pub record IsOpenedOver (lines : List (List ℕ)) {D : Type 0} (known : Bool) (file copy : Option (List ℕ)) (places : Places) (s t : DiskState) (o : Opened D) : Type 0 where
+  pub book : BookIsFrom file copy o.fault (records_in lines) (book_in o.state) o.notes.items
   pub damaged : o.damaged ≡ damage_of lines
   pub aside : IsAside lines o.aside (lines_in (store_in o.state))
   pub put : IsTrue known → o.aside ≡ None → o.damaged ≢ 0 → IsPutAside lines places s t
@@ -56,9 +57,11 @@ pub record IsOpenedOver (lines : List (List ℕ)) {D : Type 0} (known : Bool) (f
   pub waiting : waiting_in o.state.keeper ≡ None
   pub places_are : o.state.places ≡ places
 
--- and over a disk; a crash at any moment of the start leaves the same records
-pub record IsOpenedState {D : Type 0} (known : Bool) (file copy : Option (List ℕ)) (places : Places) (s t : State) (o : Opened D) : Type 0 where
+-- and over a disk, with the lock of the folder, which no other process held; a crash at any moment of the start leaves the same records
+pub record IsOpenedState {D : Type 0} (known : Bool) (file copy : Option (List ℕ)) (places : Places) (s t : DiskState) (o : Opened D) : Type 0 where
   pub lines : List (List ℕ)
-  pub read : IsTrue known → StandsFor (bytes_of (s.seen places.journal)) lines
+  pub locked : o.lock ≡ places.lock
+  pub free : IsTrue known → s.taken places.lock ≡ false
+  pub read : IsTrue known → StandsFor (bytes_of_file (s.seen places.journal)) lines
   pub over : IsOpenedOver lines known file copy places s t o
   pub any_moment : IsTrue known → LeavesOnly s t (LeftByStart lines places s)

@@ -30,7 +30,7 @@ abbrev pub is_inside : Places → Bool
 is_inside p = bytes_eq p.file p.journal || (bytes_eq p.file p.copy || (bytes_eq p.file p.aside || bytes_eq p.file p.lock))
 
 -- no file that is written is another one
-pub record AreApart (p : Places) : Type 0 where
+pub record PlacesAreApart (p : Places) : Type 0 where
   pub inside : is_inside p ≡ false
   pub journal_copy : bytes_eq p.journal p.copy ≡ false
   pub journal_aside : bytes_eq p.journal p.aside ≡ false

@@ -2,7 +2,7 @@
 -- Source: this project's own.
 use Rattle.std.specs.Prelude.{◌≡◌, ◌≢◌, ℕ, List, Option, None, Some, bit_and}
 use Rattle.keep_disk.specs.Image.{File}
-use Rattle.keep_disk.specs.State.{State}
+use Rattle.keep_disk.specs.State.{DiskState}
 use Rattle.keep_disk.specs.declared.fault.DiskFault.{DiskFault}
 use Rattle.keep_disk.specs.declared.fault.DiskFault.TheVariants as disks
 use Rattle.keep_state.specs.declared.fault.ReadFault.{ReadFault}
@@ -10,12 +10,12 @@ use Rattle.keep_state.specs.declared.fault.ReadFault.TheVariants.{Missing, NotRe
 use Rattle.keep_state.specs.declared.reading.FileRead.{FileRead}
 
 -- the file at this path has that mode and those bytes
-abbrev pub IsFileAt : List ℕ → State → FileRead → Type 0
+abbrev pub IsFileAt : List ℕ → DiskState → FileRead → Type 0
 IsFileAt path s read = s.seen path ≡ Some (record { mode = read.mode; bytes = read.bytes })
 
 -- why it is not read: there is none; it is no regular file; others may read or write it; the disk failed, or it is too long; or
 -- memory was refused
-abbrev pub IsWhyUnread : List ℕ → State → ReadFault → Type 0
+abbrev pub IsWhyUnread : List ℕ → DiskState → ReadFault → Type 0
 IsWhyUnread path s Missing = s.seen path ≡ None
 IsWhyUnread path s NotRegular = Unit {0}
 IsWhyUnread path s (ForOthers mode) = (file : File) × (s.seen path ≡ Some file) × (mode ≡ file.mode) × (bit_and mode 6 ≢ 0)

@@ -3,10 +3,10 @@
 use Rattle.std.specs.Prelude.{◌≡◌, ◌≢◌, ℕ, ◌-◌, List, ◌++◌, Option, Some, None, Bool, false, IsTrue, length}
 use Rattle.std.specs.Str.{bytes_eq}
 use Rattle.keep_disk.specs.Image.{Image}
-use Rattle.keep_disk.specs.State.{State}
+use Rattle.keep_disk.specs.State.{DiskState}
 use Rattle.keep_disk.specs.declared.fault.DiskFault.{DiskFault}
-use Rattle.keep_journal.specs.Journals.{Holds, IsThere, bytes_of, lines_of, path_of}
-use Rattle.keep_journal.specs.Records.{StandsFor, taken}
+use Rattle.keep_journal.specs.Journals.{FileIsThere, JournalHolds, bytes_of_file, lines_of_journal, path_of_journal}
+use Rattle.keep_journal.specs.Records.{StandsFor, lines_taken_out}
 use Rattle.keep_store.specs.Compacted.{damages, undamaged}
 use Rattle.keep_store.specs.Records.{records_in}
 use Rattle.keep_state.specs.declared.recovering.Recovered.{Recovered}
@@ -22,23 +22,25 @@ IsAside lines None now = now ≡ undamaged lines
 IsAside lines (Some fault) now = now ≡ lines
 
 -- and in the file aside, after what was there
-abbrev pub IsPutAside : List (List ℕ) → Places → State → State → Type 0
-IsPutAside lines places s t = IsThere places.aside (record { mode = 384; bytes = bytes_of (s.seen places.aside) ++ taken lines (damages lines) }) t
+abbrev pub IsPutAside : List (List ℕ) → Places → DiskState → DiskState → Type 0
+IsPutAside lines places s t = FileIsThere places.aside (record { mode = 384; bytes = bytes_of_file (s.seen places.aside) ++ lines_taken_out lines (damages lines) }) t
 
--- the journal of a folder whose journal's file stands for these lines
-pub record IsRecovered (known : Bool) (places : Places) (s t : State) (r : Recovered) : Type 0 where
+-- the journal of a folder whose journal's file stands for these lines, and whose lock is held from then on
+pub record IsRecovered (known : Bool) (places : Places) (s t : DiskState) (r : Recovered) : Type 0 where
   pub lines : List (List ℕ)
-  pub read : IsTrue known → StandsFor (bytes_of (s.seen places.journal)) lines
+  pub locked : r.lock ≡ places.lock
+  pub free : IsTrue known → s.taken places.lock ≡ false
+  pub read : IsTrue known → StandsFor (bytes_of_file (s.seen places.journal)) lines
   pub damaged : r.damaged ≡ damage_of lines
-  pub aside : IsAside lines r.aside (lines_of r.journal)
+  pub aside : IsAside lines r.aside (lines_of_journal r.journal)
   pub put : IsTrue known → r.aside ≡ None → r.damaged ≢ 0 → IsPutAside lines places s t
-  pub path : path_of r.journal ≡ places.journal
-  pub held : Holds known r.journal t
+  pub path : path_of_journal r.journal ≡ places.journal
+  pub held : JournalHolds known r.journal t
 
 -- what a crash leaves meanwhile: a journal with the same records, and all but that, the file aside and the copy as before
-pub record LeftByStart (lines : List (List ℕ)) (places : Places) (s : State) (c : Image) : Type 0 where
+pub record LeftByStart (lines : List (List ℕ)) (places : Places) (s : DiskState) (c : Image) : Type 0 where
   pub now : List (List ℕ)
-  pub stands : StandsFor (bytes_of (c places.journal)) now
+  pub stands : StandsFor (bytes_of_file (c places.journal)) now
   pub same : records_in now ≡ records_in lines
   pub was : Image
   pub before : s.may_leave was

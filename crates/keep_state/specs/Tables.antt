@@ -7,11 +7,11 @@ use Rattle.keep_inventory.specs.declared.fault.InvFault.{InvFault}
 use Rattle.keep_inventory.specs.declared.fault.InvFault.TheVariants as inventories
 use Rattle.keep_inventory.specs.declared.key.Key.{Key}
 use Rattle.keep_inventory.specs.declared.key.Key.TheVariants.{Lease, Parent, Token}
-use Rattle.keep_inventory.specs.Inventory.{read_served, tree_of}
+use Rattle.keep_inventory.specs.Inventory.{document_tree, read_served}
 use Rattle.keep_inventory.specs.Keys.{all_keys, is_one_of, key_text}
 use Rattle.keep_inventory.specs.Served.{Served}
 use Rattle.keep_change.specs.declared.row.Row.{Row}
-use Rattle.keep_change.specs.Listed.{rows_of}
+use Rattle.keep_change.specs.Listed.{rows_of_served}
 use Rattle.keep_state.specs.declared.fault.TableFault.{TableFault}
 use Rattle.keep_state.specs.declared.fault.TableFault.TheVariants.{NotToml, NotOne, Missing, Unknown, Bad, Tree, OutOfMemory}
 
@@ -67,21 +67,21 @@ unfoldable pub beside : Option (List ℕ) → List ℕ → List ℕ
 beside None bytes = bytes
 beside (Some name) bytes = token_text name ++ bytes
 
-abbrev pub place_of : Option (List ℕ) → ℕ
-place_of None = 0
-place_of (Some name) = 1
+abbrev pub place_after_parent : Option (List ℕ) → ℕ
+place_after_parent None = 0
+place_after_parent (Some name) = 1
 
 abbrev pub or_not_one : Option Row → Result Row TableFault
 or_not_one None = Err NotOne
 or_not_one (Some row) = Ok row
 
-abbrev pub entry_of : ℕ → Result Served InvFault → Result Row TableFault
-entry_of place (Err fault) = Err (table_fault fault)
-entry_of place (Ok v) = or_not_one (slice_get (rows_of v) place)
+abbrev pub row_at_place : ℕ → Result Served InvFault → Result Row TableFault
+row_at_place place (Err fault) = Err (table_fault fault)
+row_at_place place (Ok v) = or_not_one (slice_get (rows_of_served v) place)
 
 abbrev pub entry_under : List ℕ → Result (Option (List ℕ)) TableFault → Result Row TableFault
 entry_under bytes (Err fault) = Err fault
-entry_under bytes (Ok over) = entry_of (place_of over) (read_served (beside over bytes))
+entry_under bytes (Ok over) = row_at_place (place_after_parent over) (read_served (beside over bytes))
 
 abbrev pub entry_in : List ℕ → Result Members InvFault → Result Row TableFault
 entry_in bytes (Err fault) = Err (table_fault fault)
@@ -89,7 +89,7 @@ entry_in bytes (Ok ms) = entry_under bytes (over_entry ms)
 
 -- the row of the one table of a text, or why it has none
 unfoldable pub row_of_table : List ℕ → Result Row TableFault
-row_of_table bytes = entry_in bytes (tree_of bytes)
+row_of_table bytes = entry_in bytes (document_tree bytes)
 
 -- the call gives that, unless memory was refused
 abbrev pub GivesOr : {X : Type 0} → Result X TableFault → Result X TableFault → Type 0

@@ -1,5 +1,5 @@
 ghost use Rattle.std.specs.Prelude.{◌≡◌, ◌++◌, IfOk, OnOk, option_copied};
-ghost use Rattle.keep_state.specs.Noted.{line_about, line_in, note_lines};
+ghost use Rattle.keep_state.specs.Noted.{line_about, lines_in_note, note_lines};
 
 use keep_change::{Note, Record, Why};
 use keep_moment::Text;
@@ -32,7 +32,7 @@ fn push_noted(
     note: &Note,
     lines: &mut Vec<Text>,
 ) -> Result<(), AllocError>
-    ensures { OnOk result (lines.new.items ≡ lines.old.items ++ line_in margin records.now note.now) }
+    ensures { OnOk result (lines.new.items ≡ lines.old.items ++ lines_in_note margin records.now note.now) }
 {
     push_line(alloc, margin, records.get(note.at), note.why, lines)
 }

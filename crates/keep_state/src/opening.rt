@@ -2,8 +2,8 @@ ghost use Rattle.std.specs.Prelude.{◌≡◌, IsTrue, false, option_copied};
 ghost use Rattle.std.specs.Str.{bytes_eq};
 ghost use Rattle.keep_disk.specs.Image.{SameElsewhere};
 ghost use Rattle.keep_disk.specs.State.{IsAfter, LeavesOnly};
-ghost use Rattle.keep_journal.specs.Journals.{Holds, KeepsOthers};
-ghost use Rattle.keep_store.specs.Stores.{journal_of, path_in};
+ghost use Rattle.keep_journal.specs.Journals.{JournalHolds, KeepsOthers};
+ghost use Rattle.keep_store.specs.Stores.{journal_of, path_of_store};
 ghost use Rattle.keep_state.specs.Opens.{IsCopyOf};
 
 use crate::fault::OpenFault;
@@ -11,7 +11,7 @@ use crate::paths::Paths;
 use crate::recovering::{Recovered, recover};
 use crate::state::State;
 use keep_change::Note;
-use keep_disk::{Disk, DiskFault};
+use keep_disk::{Disk, DiskFault, Lock};
 use keep_store::{FileFault, Store};
 use keep_waiting::Keeper;
 use std::alloc::Global;
@@ -19,6 +19,8 @@ use std::alloc::Global;
 /// A state at a start.
 #[derive(Drop)]
 pub struct Opened<'a, D: Disk> {
+    /// The lock of the folder.
+    pub lock: Lock,
     /// What is kept.
     pub state: State<'a, D>,
     /// A note on each change of the journal that was not made, by the place of its record.
@@ -35,7 +37,7 @@ pub struct Opened<'a, D: Disk> {
 
 impl<'a, D: Disk + Drop> State<'a, D> {
     ghost use Rattle.std.specs.Prelude.{◌≡◌, IfErr, IfOk, IsTrue, option_copied};
-    ghost use Rattle.keep_disk.specs.State.{IsKept};
+    ghost use Rattle.keep_disk.specs.State.{DiskKeeps};
     ghost use Rattle.keep_state.specs.Opens.{IsOpenedState, IsWhyUnopened};
 
     /// What is kept from a start on, by the journal of the folder, which is held from then on: the file with these bytes and every
@@ -53,12 +55,13 @@ impl<'a, D: Disk + Drop> State<'a, D> {
         copy: Option<&[u8]>,
     ) -> Result<Opened<'a, D>, OpenFault>
         // After a restart, what is read is what is on the disk.
-        requires { IsTrue D.is_known → IsKept paths.now.journal (D.state disk) }
+        requires { IsTrue D.is_known → DiskKeeps paths.now.journal (D.state disk) }
         ensures opened { IfOk result (λ o. IsOpenedState D.is_known (option_copied file.entry) (option_copied copy.entry) paths.now (D.state disk) (D.state o.state.disk) o) }
-        ensures refused { IfErr result (IsWhyUnopened (option_copied file.entry)) }
+        ensures refused { IfErr result (IsWhyUnopened D.is_known (option_copied file.entry) paths.now (D.state disk)) }
     {
         let mut disk = disk;
         let Recovered {
+            lock,
             journal,
             damaged,
             aside,
@@ -71,6 +74,7 @@ impl<'a, D: Disk + Drop> State<'a, D> {
         } = opened;
         let copy = keep_good(&mut disk, &store, paths.copy(), fault, file);
         Ok(Opened {
+            lock,
             state: State {
                 alloc,
                 keeper: Keeper::new(store),
@@ -95,10 +99,10 @@ fn keep_good<D: Disk>(
     fault: Option<FileFault>,
     file: Option<&[u8]>,
 ) -> Option<DiskFault>
-    requires apart { bytes_eq (path_in store.now) copy.now ≡ false }
-    requires held { Holds D.is_known (journal_of store.now) (D.state disk.old) }
+    requires apart { bytes_eq (path_of_store store.now) copy.now ≡ false }
+    requires held { JournalHolds D.is_known (journal_of store.now) (D.state disk.old) }
     ensures copied { IsCopyOf D.is_known copy.now (option_copied file.entry) fault result (D.state disk.new) }
-    ensures held { Holds D.is_known (journal_of store.now) (D.state disk.new) }
+    ensures held { JournalHolds D.is_known (journal_of store.now) (D.state disk.new) }
 
     ensures others { IsTrue D.is_known → KeepsOthers copy.now (D.state disk.old) (D.state disk.new) }
 

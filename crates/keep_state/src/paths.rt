@@ -1,5 +1,5 @@
 ghost use Rattle.std.specs.Prelude.{◌≡◌, ◌++◌, ◌∷◌, IfErr, IfOk, string_bytes};
-ghost use Rattle.keep_state.specs.Places.{AreApart, IsWhyNoPlaces, in_folder, is_inside, places_of};
+ghost use Rattle.keep_state.specs.Places.{IsWhyNoPlaces, PlacesAreApart, in_folder, is_inside, places_of};
 
 use crate::fault::PathsFault;
 use std::alloc::{AllocError, Global};
@@ -17,13 +17,13 @@ pub struct Paths {
 
 impl Model for Paths {
     ghost use Rattle.std.specs.Prelude.{string_bytes};
-    ghost use Rattle.keep_state.specs.Places.{AreApart, Places};
+    ghost use Rattle.keep_state.specs.Places.{Places, PlacesAreApart};
 
     ghost Value = { Places };
 
     ghost view = { λ p. record { file = string_bytes p.file; journal = string_bytes p.journal; copy = string_bytes p.copy; aside = string_bytes p.aside; lock = string_bytes p.lock } };
 
-    ghost invariant = { λ p. AreApart (record { file = string_bytes p.file; journal = string_bytes p.journal; copy = string_bytes p.copy; aside = string_bytes p.aside; lock = string_bytes p.lock }) };
+    ghost invariant = { λ p. PlacesAreApart (record { file = string_bytes p.file; journal = string_bytes p.journal; copy = string_bytes p.copy; aside = string_bytes p.aside; lock = string_bytes p.lock }) };
 }
 
 impl Paths {
@@ -59,7 +59,7 @@ impl Paths {
     /// The inventory's file.
     pub fn file(&self) -> &str
         ensures value { result.now ≡ self.now.file }
-        ensures apart { AreApart self.now }
+        ensures apart { PlacesAreApart self.now }
     {
         self.file.as_str()
     }
@@ -67,7 +67,7 @@ impl Paths {
     /// The journal of the changes.
     pub fn journal(&self) -> &str
         ensures value { result.now ≡ self.now.journal }
-        ensures apart { AreApart self.now }
+        ensures apart { PlacesAreApart self.now }
     {
         self.journal.as_str()
     }
@@ -75,7 +75,7 @@ impl Paths {
     /// The last good copy of FILE.
     pub fn copy(&self) -> &str
         ensures value { result.now ≡ self.now.copy }
-        ensures apart { AreApart self.now }
+        ensures apart { PlacesAreApart self.now }
     {
         self.copy.as_str()
     }
@@ -83,7 +83,7 @@ impl Paths {
     /// The damaged lines of the journal.
     pub fn aside(&self) -> &str
         ensures value { result.now ≡ self.now.aside }
-        ensures apart { AreApart self.now }
+        ensures apart { PlacesAreApart self.now }
     {
         self.aside.as_str()
     }
@@ -91,7 +91,7 @@ impl Paths {
     /// The file whose lock the agent holds.
     pub fn lock(&self) -> &str
         ensures value { result.now ≡ self.now.lock }
-        ensures apart { AreApart self.now }
+        ensures apart { PlacesAreApart self.now }
     {
         self.lock.as_str()
     }

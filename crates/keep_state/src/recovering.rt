@@ -1,13 +1,13 @@
 ghost use Rattle.std.specs.Prelude.{IfErr, IfOk, IsTrue, List, ℕ};
-ghost use Rattle.keep_disk.specs.State.{IsKept, LeavesOnly};
-ghost use Rattle.keep_journal.specs.Journals.{bytes_of};
+ghost use Rattle.keep_disk.specs.State.{DiskKeeps, LeavesOnly};
+ghost use Rattle.keep_journal.specs.Journals.{bytes_of_file};
 ghost use Rattle.keep_journal.specs.Records.{StandsFor};
 ghost use Rattle.keep_state.specs.Opens.{IsOfFolder};
 ghost use Rattle.keep_state.specs.Recovers.{IsRecovered, LeftByStart};
 
 use crate::fault::OpenFault;
 use crate::paths::Paths;
-use keep_disk::{Disk, DiskFault};
+use keep_disk::{Disk, DiskFault, Lock};
 use keep_journal::{Journal, records_are_read_back};
 use keep_store::{count_damaged, set_damaged_aside};
 use std::alloc::Global;
@@ -15,6 +15,8 @@ use std::alloc::Global;
 /// The journal of a state folder at a start. It has no `Debug`: a record may hold a secret.
 #[derive(Drop)]
 pub struct Recovered<'a> {
+    /// The lock of the folder.
+    pub lock: Lock,
     /// The journal.
     pub journal: Journal<'a>,
     /// How many of its lines wrote no record, as no command has made them. They count for nothing.
@@ -28,7 +30,7 @@ pub struct Recovered<'a> {
 ///
 /// # Errors
 ///
-/// The first in the order of [`OpenFault`], but no `File`.
+/// The first in the order of [`OpenFault`], but no `File`: `Held` exactly where another process holds the lock of the folder.
 #[tactic(auto, using(crate::proofs::Served::of_folder))]
 pub fn recover<'a, D: Disk>(
     alloc: Global,
@@ -36,22 +38,23 @@ pub fn recover<'a, D: Disk>(
     paths: &'a Paths,
 ) -> Result<Recovered<'a>, OpenFault>
     // After a restart, what is read is what is on the disk.
-    requires { IsTrue D.is_known → IsKept paths.now.journal (D.state disk.old) }
+    requires { IsTrue D.is_known → DiskKeeps paths.now.journal (D.state disk.old) }
     ensures recovered { IfOk result (IsRecovered D.is_known paths.now (D.state disk.old) (D.state disk.new)) }
 
-    ensures refused { IfErr result IsOfFolder }
+    ensures refused { IfErr result (IsOfFolder D.is_known paths.now (D.state disk.old)) }
 
     // A crash at any moment leaves the same records.
-    ensures any_moment { IsTrue D.is_known → (lines : List (List ℕ)) → StandsFor (bytes_of ((D.state disk.old).seen paths.now.journal)) lines
+    ensures any_moment { IsTrue D.is_known → (lines : List (List ℕ)) → StandsFor (bytes_of_file ((D.state disk.old).seen paths.now.journal)) lines
         → LeavesOnly (D.state disk.old) (D.state disk.new) (LeftByStart lines paths.now (D.state disk.old)) }
 {
-    if !disk.lock(paths.lock())? {
+    let Some(lock) = disk.lock(paths.lock())? else {
         return Err(OpenFault::Held);
-    }
+    };
     let mut journal = Journal::open(alloc, disk, paths.journal())?;
     let damaged = count_damaged(alloc, &journal)?;
     if damaged == 0 {
         return Ok(Recovered {
+            lock,
             journal,
             damaged,
             aside: None,
@@ -61,6 +64,7 @@ pub fn recover<'a, D: Disk>(
     records_are_read_back();
     let aside = set_damaged_aside(alloc, disk, &mut journal, paths.aside()).err();
     Ok(Recovered {
+        lock,
         journal,
         damaged,
         aside,

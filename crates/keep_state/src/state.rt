@@ -45,18 +45,18 @@ pub struct Reloaded {
 
 impl<'a, D: Disk> State<'a, D> {
     ghost use Rattle.std.specs.Prelude.{◌≡◌, IfErr, IfOk, IsTrue, None, Ok, OnErr, OnOk, Some, false, if◌then◌else◌};
-    ghost use Rattle.keep_agent.specs.Waiting.{changed, is_due};
+    ghost use Rattle.keep_agent.specs.Waiting.{changed, is_rebuilding_due};
     ghost use Rattle.keep_disk.specs.State.{IsAfter, LeavesAlone, LeavesOnly};
-    ghost use Rattle.keep_disk.specs.Torn.{Moves};
-    ghost use Rattle.keep_journal.specs.Journals.{IsWhole, KeepsOthers, Leaves};
+    ghost use Rattle.keep_disk.specs.Torn.{MovesFile};
+    ghost use Rattle.keep_journal.specs.Journals.{CrashLeaves, JournalIsWhole, KeepsOthers};
     ghost use Rattle.keep_journal.specs.Records.{IsBeforeOrAfter, StandsFor};
     ghost use Rattle.keep_served.specs.ForGood.{inventory_for_good};
-    ghost use Rattle.keep_store.specs.Books.{HasSecrets, IsBookIf, IsFaultOf};
+    ghost use Rattle.keep_store.specs.Books.{HasSecrets, IsBookIf, IsFileFaultOf};
     ghost use Rattle.keep_store.specs.Compacted.{compacted_lines, is_worth};
-    ghost use Rattle.keep_store.specs.Entering.{IsWhyNot, line_for};
+    ghost use Rattle.keep_store.specs.Entering.{IsWhyNot, line_for_change};
     ghost use Rattle.keep_store.specs.Records.{records_in};
-    ghost use Rattle.keep_store.specs.Stores.{IsTaken, journal_of, lines_in, path_in};
-    ghost use Rattle.keep_waiting.specs.Keepers.{IsGiven, waiting_in};
+    ghost use Rattle.keep_store.specs.Stores.{ChangeIsTaken, journal_of, lines_in, path_of_store};
+    ghost use Rattle.keep_waiting.specs.Keepers.{InventoryIsGiven, waiting_in};
     ghost use Rattle.keep_state.specs.Noted.{note_lines};
     ghost use Rattle.keep_state.specs.Reading.{IsFileAt, IsWhyUnread};
     ghost use Rattle.keep_state.specs.Settles.{IsCopied, copy_with};
@@ -70,9 +70,9 @@ impl<'a, D: Disk> State<'a, D> {
     ///
     /// The first in the order of [`TakeFault`]. All is as it was then, but that the disk may have the change where that has failed.
     pub fn take(&mut self, now: Millis, name: Name, what: What) -> Result<bool, TakeFault>
-        ensures taken { IfOk result (λ need. IsTaken (store_in self.old) name what need (store_in self.new)) }
+        ensures taken { IfOk result (λ need. ChangeIsTaken (store_in self.old) name what need (store_in self.new)) }
         ensures waiting { IfOk result (λ need. waiting_in self.new.keeper ≡ (if need then waiting_in self.old.keeper else changed (waiting_in self.old.keeper) now)) }
-        ensures acknowledged { OnOk result (IsTrue D.is_known → IsWhole (journal_of (store_in self.new)) (D.state self.new.disk)) }
+        ensures acknowledged { OnOk result (IsTrue D.is_known → JournalIsWhole (journal_of (store_in self.new)) (D.state self.new.disk)) }
         ensures refused { IfErr result (IsWhyNot (book_in self.old) name what) }
         ensures book { OnErr result (book_in self.new ≡ book_in self.old) }
         ensures lines { OnErr result (lines_in (store_in self.new) ≡ lines_in (store_in self.old)) }
@@ -81,8 +81,8 @@ impl<'a, D: Disk> State<'a, D> {
 
         // A crash at any moment leaves the journal with the change or without it.
         ensures any_moment { IsTrue D.is_known → LeavesOnly (D.state self.old.disk) (D.state self.new.disk)
-            (Leaves (path_in (store_in self.old)) (IsBeforeOrAfter (lines_in (store_in self.old)) (line_for (book_in self.old).file name what)) (D.state self.old.disk)) }
-        ensures others { IsTrue D.is_known → KeepsOthers (path_in (store_in self.old)) (D.state self.old.disk) (D.state self.new.disk) }
+            (CrashLeaves (path_of_store (store_in self.old)) (IsBeforeOrAfter (lines_in (store_in self.old)) (line_for_change (book_in self.old).file name what)) (D.state self.old.disk)) }
+        ensures others { IsTrue D.is_known → KeepsOthers (path_of_store (store_in self.old)) (D.state self.old.disk) (D.state self.new.disk) }
     {
         self.keeper.take(&mut self.disk, now, name, what)
     }
@@ -97,7 +97,7 @@ impl<'a, D: Disk> State<'a, D> {
         ensures reloaded { IfOk result (λ r. IsBookIf (Some bytes.now) (records_in (lines_in (store_in self.old))) (book_in self.old).secrets (book_in self.new) r.notes.items) }
         ensures waiting { OnOk result (waiting_in self.new.keeper ≡ changed (waiting_in self.old.keeper) now) }
         ensures copied { IfOk result (λ r. IsCopied D.is_known self.old.places bytes.now r.copy (D.state self.new.disk)) }
-        ensures refused { IfErr result (IsFaultOf (Some bytes.now)) }
+        ensures refused { IfErr result (IsFileFaultOf (Some bytes.now)) }
         ensures book { OnErr result (book_in self.new ≡ book_in self.old) }
         ensures unchanged { OnErr result (waiting_in self.new.keeper ≡ waiting_in self.old.keeper) }
         ensures journal { journal_of (store_in self.new) ≡ journal_of (store_in self.old) }
@@ -105,7 +105,7 @@ impl<'a, D: Disk> State<'a, D> {
 
         // A crash at any moment leaves the old copy, or the new one whole.
         ensures any_moment { IsTrue D.is_known → LeavesOnly (D.state self.old.disk) (D.state self.new.disk)
-            (IsAfter (Moves self.old.places.copy (copy_with bytes.now)) (D.state self.old.disk)) }
+            (IsAfter (MovesFile self.old.places.copy (copy_with bytes.now)) (D.state self.old.disk)) }
     {
         let notes = self.keeper.reload(now, Some(bytes))?;
         let kept = self
@@ -144,8 +144,8 @@ impl<'a, D: Disk> State<'a, D> {
 
         // A crash at any moment leaves the lines, or those that stay.
         ensures any_moment { IsTrue D.is_known → LeavesOnly (D.state self.old.disk) (D.state self.new.disk)
-            (Leaves (path_in (store_in self.old)) (λ file. StandsFor file (compacted_lines (lines_in (store_in self.old)))) (D.state self.old.disk)) }
-        ensures others { IsTrue D.is_known → KeepsOthers (path_in (store_in self.old)) (D.state self.old.disk) (D.state self.new.disk) }
+            (CrashLeaves (path_of_store (store_in self.old)) (λ file. StandsFor file (compacted_lines (lines_in (store_in self.old)))) (D.state self.old.disk)) }
+        ensures others { IsTrue D.is_known → KeepsOthers (path_of_store (store_in self.old)) (D.state self.old.disk) (D.state self.new.disk) }
     {
         self.keeper.compact(&mut self.disk)
     }
@@ -168,8 +168,8 @@ impl<'a, D: Disk> State<'a, D> {
     /// The inventory that is to be served from now on, where a rebuilding is due: the first of the changes that wait for it came five
     /// seconds ago. The only error is lack of memory, and only there.
     pub fn due(&self, now: Millis) -> Result<Option<Inventory>, AllocError>
-        ensures given { IfOk result (IsGiven (waiting_in self.now.keeper) now (book_in self.now).text) }
-        ensures early { is_due (waiting_in self.now.keeper) now ≡ false → result ≡ Ok None }
+        ensures given { IfOk result (InventoryIsGiven (waiting_in self.now.keeper) now (book_in self.now).text) }
+        ensures early { is_rebuilding_due (waiting_in self.now.keeper) now ≡ false → result ≡ Ok None }
     {
         self.keeper.due(now)
     }
@@ -203,6 +203,13 @@ impl<'a, D: Disk> State<'a, D> {
         ensures { result.now ≡ (book_in self.now).rows }
     {
         self.keeper.store().book().rows()
+    }
+
+    /// What was taken from files of secrets.
+    pub fn secrets(&self) -> &[Secret]
+        ensures { result.now ≡ (book_in self.now).secrets }
+    {
+        self.keeper.store().book().secrets()
     }
 
     /// The text of the inventory that is served: a file that says it, with FILE's margin.

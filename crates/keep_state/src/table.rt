@@ -7,9 +7,9 @@ ghost use Rattle.toml.specs.View.{items_view, table_view, view};
 ghost use Rattle.keep_tree.specs.Push.{is_name, is_name_byte};
 ghost use Rattle.keep_inventory.specs.Answers.{Gives};
 ghost use Rattle.keep_inventory.specs.declared.fault.InvFault.TheVariants as inventories;
-ghost use Rattle.keep_inventory.specs.Inventory.{read_served, tree_of};
+ghost use Rattle.keep_inventory.specs.Inventory.{document_tree, read_served};
 ghost use Rattle.keep_inventory.specs.Keys.{all_keys, is_one_of, key_text};
-ghost use Rattle.keep_state.specs.Tables.{GivesOr, beside, entry_of, if_name, name_in, over_entry, over_in, over_item, over_items, over_of, place_of, row_of_table};
+ghost use Rattle.keep_state.specs.Tables.{GivesOr, beside, if_name, name_in, over_entry, over_in, over_item, over_items, over_of, place_after_parent, row_at_place, row_of_table};
 
 use crate::fault::TableFault;
 use keep_change::{Row, rows_of};
@@ -38,9 +38,9 @@ pub fn read_table(alloc: Global, table: &[u8]) -> Result<Row, TableFault>
 }
 
 // The tree of a document.
-#[tactic(auto, unfolding(keep_inventory::specs::Inventory::tree_of))]
+#[tactic(auto, unfolding(keep_inventory::specs::Inventory::document_tree))]
 fn read_tree(alloc: Global, bytes: &[u8]) -> Result<Table, InvFault>
-    ensures { Gives table_view result (tree_of bytes.now) }
+    ensures { Gives table_view result (document_tree bytes.now) }
 {
     let Ok(text) = std::str::from_utf8(bytes) else {
         return Err(InvFault::NotToml);
@@ -186,7 +186,7 @@ fn beside(alloc: Global, over: Option<&[u8]>, table: &[u8]) -> Result<Text, Allo
 
 // The place of the entry, after the token over it.
 fn place_of(over: Option<&[u8]>) -> usize
-    ensures { result ≡ place_of (option_copied over.entry) }
+    ensures { result ≡ place_after_parent (option_copied over.entry) }
 {
     match over {
         None => 0,
@@ -196,7 +196,7 @@ fn place_of(over: Option<&[u8]>) -> usize
 
 // The row of the entry at a place.
 fn entry_at(alloc: Global, served: &Served, place: usize) -> Result<Row, TableFault>
-    ensures { GivesOr result (entry_of place (Ok served.now)) }
+    ensures { GivesOr result (row_at_place place (Ok served.now)) }
 {
     let rows = rows_of(alloc, served)?;
     match rows.list().get(place) {

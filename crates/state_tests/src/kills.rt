@@ -1,7 +1,7 @@
 //! States that are killed at each call of the disk, and started again over what a crash left.
 ghost use Rattle.std.specs.Prelude.{IfOk, List, ℕ};
 ghost use Rattle.keep_disk.specs.Memory.{memory_state};
-ghost use Rattle.keep_disk.specs.State.{IsKept};
+ghost use Rattle.keep_disk.specs.State.{DiskKeeps};
 
 use crate::starts::{FILE, TEXT, paths};
 use keep_change::What;
@@ -27,7 +27,7 @@ fn left_of(
     seed: u64,
     failing: Failing,
 ) -> Result<MemoryDisk, AllocError>
-    ensures { IfOk result (λ disk. (path : List ℕ) → IsKept path (memory_state disk)) }
+    ensures { IfOk result (λ disk. (path : List ℕ) → DiskKeeps path (memory_state disk)) }
 {
     let mut files = Vec::new(alloc);
     push_left(alloc, disk, paths.file(), seed, &mut files)?;
@@ -52,7 +52,7 @@ fn push_left(
 
 // The first disk: FILE alone.
 fn first_disk(alloc: Global, failing: Failing) -> Result<MemoryDisk, AllocError>
-    ensures { IfOk result (λ disk. (path : List ℕ) → IsKept path (memory_state disk)) }
+    ensures { IfOk result (λ disk. (path : List ℕ) → DiskKeeps path (memory_state disk)) }
 {
     let mut files = Vec::new(alloc);
     files.push(Stored {
@@ -67,7 +67,7 @@ fn first_disk(alloc: Global, failing: Failing) -> Result<MemoryDisk, AllocError>
 
 // Until when the entry is needed by a start on this disk.
 fn needed(alloc: Global, disk: MemoryDisk, paths: &Paths) -> Result<Option<u64>, Fail>
-    requires { (path : List ℕ) → IsKept path (memory_state disk) }
+    requires { (path : List ℕ) → DiskKeeps path (memory_state disk) }
 {
     let text = match disk.file(alloc, paths.file())? {
         None => return Ok(None),

@@ -1,10 +1,10 @@
 //! Disks and states that the tests begin with.
 ghost use Rattle.std.specs.Prelude.{IfOk, List, ℕ};
 ghost use Rattle.keep_disk.specs.Memory.{memory_state};
-ghost use Rattle.keep_disk.specs.State.{IsKept};
+ghost use Rattle.keep_disk.specs.State.{DiskKeeps};
 
 use keep_disk::{Disk, DiskFault, FILE_MODE, Failing, Held, MemoryDisk, Stored, Why};
-use keep_state::{Opened, Paths, State};
+use keep_state::{OpenFault, Paths, State};
 use std::alloc::{AllocError, Global};
 use std::test::Fail;
 
@@ -16,7 +16,7 @@ pub(crate) const TEXT: &[u8] =
 
 /// A disk with this file, and with no journal.
 pub(crate) fn disk_with(alloc: Global, text: &[u8], mode: u32) -> Result<MemoryDisk, AllocError>
-    ensures { IfOk result (λ disk. (path : List ℕ) → IsKept path (memory_state disk)) }
+    ensures { IfOk result (λ disk. (path : List ℕ) → DiskKeeps path (memory_state disk)) }
 {
     let mut files = Vec::new(alloc);
     files.push(Stored {
@@ -41,8 +41,20 @@ pub(crate) fn start<'a>(
     paths: &'a Paths,
     text: &[u8],
 ) -> Result<State<'a, MemoryDisk>, Fail>
-    requires { (path : List ℕ) → IsKept path (memory_state disk) }
+    requires { (path : List ℕ) → DiskKeeps path (memory_state disk) }
 {
     let opened = State::open(alloc, disk, paths, Some(text), None)?;
     Ok(opened.state)
+}
+
+/// A second agent is refused, and changes nothing.
+#[test]
+fn a_second_agent_is_refused(rt: HostRuntime) -> Result<(), Fail> {
+    let alloc = rt.alloc();
+    let paths = paths(alloc)?;
+    let mut disk = disk_with(alloc, TEXT, FILE_MODE)?;
+    disk.take_locks();
+    let opened = State::open(alloc, disk, &paths, Some(TEXT), None);
+    assert!(rt; matches!(opened, Err(OpenFault::Held)));
+    Ok(())
 }

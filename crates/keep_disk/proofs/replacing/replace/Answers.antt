@@ -1,7 +1,7 @@
 use Rattle.std.proofs.Common.{inl, refl}
 use Rattle.keep_disk.specs.Image.{File}
 use Rattle.keep_disk.specs.State.{IsAfter}
-use Rattle.keep_disk.specs.Torn.{Moves}
+use Rattle.keep_disk.specs.Torn.{MovesFile}
 use Rattle.keep_disk.proofs.Moments.{started, goes_on}
 use Rattle.keep_disk.proofs.replacing.replace.Goals as goal
 
@@ -9,7 +9,7 @@ pub returns-in_err-move_beside-clause-any_moment : goal.returns-in_err-move_besi
 returns-in_err-move_beside-clause-any_moment g c known =
     let s = g.D.Disk.state in
     let file : File = record { mode = c.args.mode; bytes = c.args.bytes.now } in
-    let P = IsAfter (Moves c.args.path.now file) (s c.args.disk.now) in
+    let P = IsAfter (MovesFile c.args.path.now file) (s c.args.disk.now) in
     let at_start = started (s c.args.disk.now) P (g.met.D.Disk.only_now c.args.disk.now) (λ d now. (d, now, inl refl)) in
     let beside = goes_on (s c.args.disk.now) (s c.args.disk.now) (s c.write_beside.new.self) P at_start (c.write_beside.ensures.time known) (λ d now. (d, (c.write_beside.ensures.alone known).crash d now, inl refl)) in
     let synced = goes_on (s c.args.disk.now) (s c.write_beside.new.self) (s c.sync_beside.new.self) P beside (c.sync_beside.ensures.time known)
@@ -23,7 +23,7 @@ pub returns-clause-any_moment : goal.returns-clause-any_moment
 returns-clause-any_moment g c known =
     let s = g.D.Disk.state in
     let file : File = record { mode = c.args.mode; bytes = c.args.bytes.now } in
-    let P = IsAfter (Moves c.args.path.now file) (s c.args.disk.now) in
+    let P = IsAfter (MovesFile c.args.path.now file) (s c.args.disk.now) in
     let at_start = started (s c.args.disk.now) P (g.met.D.Disk.only_now c.args.disk.now) (λ d now. (d, now, inl refl)) in
     let beside = goes_on (s c.args.disk.now) (s c.args.disk.now) (s c.write_beside.new.self) P at_start (c.write_beside.ensures.time known) (λ d now. (d, (c.write_beside.ensures.alone known).crash d now, inl refl)) in
     let synced = goes_on (s c.args.disk.now) (s c.write_beside.new.self) (s c.sync_beside.new.self) P beside (c.sync_beside.ensures.time known)

@@ -1,5 +1,5 @@
 use Rattle.std.proofs.Common.{◌≡◌, ℕ, List, [], ◌∷◌, ◌++◌, sym, ◌∙◌, ap, subst, rules}
-use Rattle.keep_journal.specs.Records.{IsLine, AreLines, block, blocks}
+use Rattle.keep_journal.specs.Records.{IsRecordLine, AreLines, block, blocks}
 use Rattle.keep_journal.proofs.Readings.{blocks_push, lines_push}
 use Rattle.keep_journal.proofs.records.read_records.Goals as goal
 
@@ -8,7 +8,7 @@ loop-line-preserved c =
     let lines = c.loop-line.lines.items in
     let line = c.in-Some.line.now in
     let after = c.in-Some.after.now in
-    let first : IsLine line × (c.loop-line.rest.now ≡ block line ++ after) = search rules in
+    let first : IsRecordLine line × (c.loop-line.rest.now ≡ block line ++ after) = search rules in
     let items : c.push.new.self.items ≡ lines ++ line ∷ [] = cc (c.in_ok-push.ensures.items, c.in_ok-of.ensures) in
     record {
       read = ap (λ (l : List (List ℕ)). blocks l ++ after) items ∙ blocks_push lines line after ∙ ap (λ (l : List ℕ). blocks lines ++ l) (sym first.1) ∙ c.loop-line.invariant.read;

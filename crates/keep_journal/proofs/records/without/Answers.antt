@@ -1,5 +1,5 @@
 use Rattle.std.proofs.Common.{◌≡◌, ◌<◌, ◌+◌, ℕ, List, [], ◌∷◌, ◌++◌, length, get_or, drop, false, sym, ◌∙◌, ap, append_assoc, arith}
-use Rattle.keep_journal.specs.Records.{kept, is_out}
+use Rattle.keep_journal.specs.Records.{lines_kept, is_out}
 use Rattle.keep_journal.proofs.Readings.{same_item, kept_in}
 use Rattle.keep_journal.proofs.records.without.Goals as goal
 
@@ -10,7 +10,7 @@ loop-at-preserved c =
     let at = c.loop-at.at in
     let left = c.loop-at.left.items in
     let line = get_or lines at [] in
-    let rest = kept (drop (at + 1) lines) (drop (at + 1) outs) in
+    let rest = lines_kept (drop (at + 1) lines) (drop (at + 1) outs) in
     let below : at < length lines = omega arith in
     let stays : is_out outs at ≡ false = sym c.is_out.ensures ∙ c.if-is_out.false in
     let is : c.in_ok-of.field-0 ≡ line = cc (c.in_ok-of.ensures, c.list.ensures, c.index-lines-at.is, same_item lines at c.index-lines-at.result [] below) in

@@ -1,8 +1,8 @@
 use Rattle.std.proofs.Common.{◌≡◌, sym, ◌∙◌, ap, subst, not, true, Option}
 use Rattle.std.proofs.lemmas.Result.{on_ok_weaker}
-use Rattle.keep_disk.specs.Image.{File, placed}
-use Rattle.keep_disk.specs.Torn.{Moves}
-use Rattle.keep_disk.specs.State.{Beside, Follows}
+use Rattle.keep_disk.specs.Image.{File, with_file_at}
+use Rattle.keep_disk.specs.Torn.{MovesFile}
+use Rattle.keep_disk.specs.State.{Beside, OutcomesFollow}
 use Rattle.keep_disk.specs.Memory.{memory_state, beside_of}
 use Rattle.keep_disk.specs.declared.call.What.TheVariants as what
 use Rattle.keep_disk.proofs.Runs.{touches, elapses, at_ok, moved, not_moved, move_crash, file_of}
@@ -19,7 +19,7 @@ returns-clause-moved c =
     let is_file : record { mode = draft.file.mode; bytes = c.in_ok-bytes.bytes.items } ≡ file =
     (λ i. record { mode = draft.file.mode; bytes = (c.in_ok-bytes.ensures.items ∙ c.deref.ensures.value) i })
     ∙ ap (λ (o : Option Beside). file_of o file) (sym (ap beside_of c.in-Some.is) ∙ ready) in
-    subst (λ (f : File). ((memory_state n).seen ≡ placed c.args.path.now f (memory_state m).seen) × ((memory_state n).is_sound c.args.path.now ≡ true)) is_file
+    subst (λ (f : File). ((memory_state n).seen ≡ with_file_at c.args.path.now f (memory_state m).seen) × ((memory_state n).is_sound c.args.path.now ≡ true)) is_file
     (moved m n same c.args.path.now draft.file.mode c.in_ok-bytes.bytes (not c.is_turn-done.result) (ap not (c.is_turn-done.ensures ∙ ok.0)) ok.1))
     (at_ok m n same c.args.path.now asked _ c.enter.result c.enter.ensures.entered c.enter.ensures.done)
 
@@ -33,7 +33,7 @@ returns-clause-seen c = λ known file ready.
     let is_file : record { mode = draft.file.mode; bytes = c.in_ok-bytes.bytes.items } ≡ file =
     (λ i. record { mode = draft.file.mode; bytes = (c.in_ok-bytes.ensures.items ∙ c.deref.ensures.value) i })
     ∙ ap (λ (o : Option Beside). file_of o file) (sym (ap beside_of c.in-Some.is) ∙ ready) in
-    subst (λ (f : File). Moves c.args.path.now f (memory_state m).seen (memory_state n).seen) is_file
+    subst (λ (f : File). MovesFile c.args.path.now f (memory_state m).seen (memory_state n).seen) is_file
     (not_moved m n same c.args.path.now draft.file.mode c.in_ok-bytes.bytes (not c.is_turn-done.result) c.enter.result c.enter.ensures.entered)
 
 pub returns-clause-sound : goal.returns-clause-sound
@@ -55,7 +55,7 @@ returns-clause-crash c = λ known file ready.
     let is_file : record { mode = draft.file.mode; bytes = c.in_ok-bytes.bytes.items } ≡ file =
     (λ i. record { mode = draft.file.mode; bytes = (c.in_ok-bytes.ensures.items ∙ c.deref.ensures.value) i })
     ∙ ap (λ (o : Option Beside). file_of o file) (sym (ap beside_of c.in-Some.is) ∙ ready) in
-    subst (λ (f : File). Follows (Moves c.args.path.now f) (memory_state m) (memory_state n)) is_file
+    subst (λ (f : File). OutcomesFollow (MovesFile c.args.path.now f) (memory_state m) (memory_state n)) is_file
     (move_crash m n same c.args.path.now draft.file.mode c.in_ok-bytes.bytes (not c.is_turn-done.result) c.enter.result c.enter.ensures.entered)
 
 pub returns-clause-time : goal.returns-clause-time

@@ -1,9 +1,9 @@
 use Rattle.keep_disk.specs.Image.{File}
-use Rattle.keep_disk.specs.Torn.{Moves}
+use Rattle.keep_disk.specs.Torn.{MovesFile}
 use Rattle.keep_disk.specs.State.{IsAfter}
 use Rattle.keep_disk.proofs.Moments.{weaker}
 use Rattle.keep_journal.specs.Records.{StandsFor}
-use Rattle.keep_journal.specs.Journals.{Exchanging, path_of}
+use Rattle.keep_journal.specs.Journals.{Exchanging, path_of_journal}
 use Rattle.keep_journal.proofs.Steps.{first_in_place, on_any}
 use Rattle.keep_journal.proofs.Runs.{in_place, there_past}
 use Rattle.keep_journal.proofs.journal.Journal.exchange.Goals as goal
@@ -11,17 +11,17 @@ use Rattle.keep_journal.proofs.journal.Journal.exchange.Goals as goal
 pub returns-in_err-replace-clause-any_moment : goal.returns-in_err-replace-clause-any_moment
 returns-in_err-replace-clause-any_moment g c known =
     let s = g.D.Disk.state in
-    let path = path_of c.args.self.now in
+    let path = path_of_journal c.args.self.now in
     let target = c.args.target.now in
     let file : File = record { mode = c.args.mode; bytes = c.args.bytes.now } in
-    weaker (s c.args.disk.now) (s c.replace.new.disk) (IsAfter (Moves target file) (s c.args.disk.now)) (Exchanging path target file (λ f. StandsFor f c.args.lines.items) (s c.args.disk.now))
+    weaker (s c.args.disk.now) (s c.replace.new.disk) (IsAfter (MovesFile target file) (s c.args.disk.now)) (Exchanging path target file (λ f. StandsFor f c.args.lines.items) (s c.args.disk.now))
     (c.replace.ensures.any_moment known)
     (first_in_place path target file (λ f. StandsFor f c.args.lines.items) c.requires.apart (s c.args.disk.now))
 
 pub returns-clause-there : goal.returns-clause-there
 returns-clause-there g c = on_any c.rewrite.result (λ known.
     let s = g.D.Disk.state in
-    let path = path_of c.args.self.now in
+    let path = path_of_journal c.args.self.now in
     let target = c.args.target.now in
     let file : File = record { mode = c.args.mode; bytes = c.args.bytes.now } in
     let placed = c.in_ok-replace.ensures.replaced known in

@@ -1,7 +1,7 @@
 use Rattle.std.proofs.Common.{ℕ, List, refl, subst}
 use Rattle.keep_disk.specs.State.{LeavesOnly}
 use Rattle.keep_journal.specs.Records.{StandsFor}
-use Rattle.keep_journal.specs.Journals.{Leaves}
+use Rattle.keep_journal.specs.Journals.{CrashLeaves}
 use Rattle.keep_journal.proofs.Readings.{stands_once}
 use Rattle.keep_journal.proofs.Writing.{found_at_rest, found_untidy}
 use Rattle.keep_journal.proofs.journal.Journal.recover.Goals as goal
@@ -34,11 +34,11 @@ mend-requires g c =
 pub returns-in_err-mend-clause-any_moment : goal.returns-in_err-mend-clause-any_moment
 returns-in_err-mend-clause-any_moment g c known lines stands =
     let s = g.D.Disk.state in
-    subst (λ (l : List (List ℕ)). LeavesOnly (s c.args.disk.now) (s c.mend.new.disk) (Leaves c.args.path.now (λ f. StandsFor f l) (s c.args.disk.now)))
+    subst (λ (l : List (List ℕ)). LeavesOnly (s c.args.disk.now) (s c.mend.new.disk) (CrashLeaves c.args.path.now (λ f. StandsFor f l) (s c.args.disk.now)))
     (stands_once c.args.bytes.now c.in_ok-found.found.lines.items lines c.in_ok-found.ensures.stands stands) (c.mend.ensures.any_moment known)
 
 pub returns-clause-any_moment : goal.returns-clause-any_moment
 returns-clause-any_moment g c known lines stands =
     let s = g.D.Disk.state in
-    subst (λ (l : List (List ℕ)). LeavesOnly (s c.args.disk.now) (s c.mend.new.disk) (Leaves c.args.path.now (λ f. StandsFor f l) (s c.args.disk.now)))
+    subst (λ (l : List (List ℕ)). LeavesOnly (s c.args.disk.now) (s c.mend.new.disk) (CrashLeaves c.args.path.now (λ f. StandsFor f l) (s c.args.disk.now)))
     (stands_once c.args.bytes.now c.in_ok-found.found.lines.items lines c.in_ok-found.ensures.stands stands) (c.mend.ensures.any_moment known)

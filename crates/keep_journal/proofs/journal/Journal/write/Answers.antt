@@ -1,7 +1,7 @@
 use Rattle.std.proofs.Common.{List, ℕ, subst}
 use Rattle.keep_disk.specs.State.{LeavesOnly}
 use Rattle.keep_journal.specs.Records.{IsBeforeOrAfter}
-use Rattle.keep_journal.specs.Journals.{IsAtRest, Leaves, path_of, lines_of}
+use Rattle.keep_journal.specs.Journals.{JournalIsAtRest, CrashLeaves, path_of_journal, lines_of_journal}
 use Rattle.keep_journal.proofs.Runs.{put_leaves}
 use Rattle.keep_journal.proofs.journal.Journal.write.Goals as goal
 
@@ -11,11 +11,11 @@ returns-in_err-append-clause-any_moment g c known =
     let old = c.args.self.now in
     let mid = c.refresh.new.self in
     let line = c.args.line.now in
-    let rest = subst (λ (p : List ℕ). IsAtRest p (lines_of old) mid.size (s c.refresh.new.disk)) c.refresh.ensures.path
-    (subst (λ (l : List (List ℕ)). IsAtRest (path_of mid) l mid.size (s c.refresh.new.disk)) c.refresh.ensures.lines (c.in_ok-refresh.ensures.whole known)) in
-    let added = subst (λ (p : List ℕ). LeavesOnly (s c.refresh.new.disk) (s c.append.new.disk) (Leaves p (IsBeforeOrAfter (lines_of old) line) (s c.refresh.new.disk))) c.refresh.ensures.path
-    (subst (λ (l : List (List ℕ)). LeavesOnly (s c.refresh.new.disk) (s c.append.new.disk) (Leaves (path_of mid) (IsBeforeOrAfter l line) (s c.refresh.new.disk))) c.refresh.ensures.lines (c.append.ensures.any_moment known)) in
-    put_leaves (path_of old) (lines_of old) line mid.size (s c.args.disk.now) (s c.refresh.new.disk) (s c.append.new.disk)
+    let rest = subst (λ (p : List ℕ). JournalIsAtRest p (lines_of_journal old) mid.size (s c.refresh.new.disk)) c.refresh.ensures.path
+    (subst (λ (l : List (List ℕ)). JournalIsAtRest (path_of_journal mid) l mid.size (s c.refresh.new.disk)) c.refresh.ensures.lines (c.in_ok-refresh.ensures.whole known)) in
+    let added = subst (λ (p : List ℕ). LeavesOnly (s c.refresh.new.disk) (s c.append.new.disk) (CrashLeaves p (IsBeforeOrAfter (lines_of_journal old) line) (s c.refresh.new.disk))) c.refresh.ensures.path
+    (subst (λ (l : List (List ℕ)). LeavesOnly (s c.refresh.new.disk) (s c.append.new.disk) (CrashLeaves (path_of_journal mid) (IsBeforeOrAfter l line) (s c.refresh.new.disk))) c.refresh.ensures.lines (c.append.ensures.any_moment known)) in
+    put_leaves (path_of_journal old) (lines_of_journal old) line mid.size (s c.args.disk.now) (s c.refresh.new.disk) (s c.append.new.disk)
     (c.refresh.ensures.any_moment known) (g.met.D.Disk.counts_now c.refresh.new.disk) rest added
 
 pub returns-clause-any_moment : goal.returns-clause-any_moment
@@ -24,9 +24,9 @@ returns-clause-any_moment g c known =
     let old = c.args.self.now in
     let mid = c.refresh.new.self in
     let line = c.args.line.now in
-    let rest = subst (λ (p : List ℕ). IsAtRest p (lines_of old) mid.size (s c.refresh.new.disk)) c.refresh.ensures.path
-    (subst (λ (l : List (List ℕ)). IsAtRest (path_of mid) l mid.size (s c.refresh.new.disk)) c.refresh.ensures.lines (c.in_ok-refresh.ensures.whole known)) in
-    let added = subst (λ (p : List ℕ). LeavesOnly (s c.refresh.new.disk) (s c.append.new.disk) (Leaves p (IsBeforeOrAfter (lines_of old) line) (s c.refresh.new.disk))) c.refresh.ensures.path
-    (subst (λ (l : List (List ℕ)). LeavesOnly (s c.refresh.new.disk) (s c.append.new.disk) (Leaves (path_of mid) (IsBeforeOrAfter l line) (s c.refresh.new.disk))) c.refresh.ensures.lines (c.append.ensures.any_moment known)) in
-    put_leaves (path_of old) (lines_of old) line mid.size (s c.args.disk.now) (s c.refresh.new.disk) (s c.append.new.disk)
+    let rest = subst (λ (p : List ℕ). JournalIsAtRest p (lines_of_journal old) mid.size (s c.refresh.new.disk)) c.refresh.ensures.path
+    (subst (λ (l : List (List ℕ)). JournalIsAtRest (path_of_journal mid) l mid.size (s c.refresh.new.disk)) c.refresh.ensures.lines (c.in_ok-refresh.ensures.whole known)) in
+    let added = subst (λ (p : List ℕ). LeavesOnly (s c.refresh.new.disk) (s c.append.new.disk) (CrashLeaves p (IsBeforeOrAfter (lines_of_journal old) line) (s c.refresh.new.disk))) c.refresh.ensures.path
+    (subst (λ (l : List (List ℕ)). LeavesOnly (s c.refresh.new.disk) (s c.append.new.disk) (CrashLeaves (path_of_journal mid) (IsBeforeOrAfter l line) (s c.refresh.new.disk))) c.refresh.ensures.lines (c.append.ensures.any_moment known)) in
+    put_leaves (path_of_journal old) (lines_of_journal old) line mid.size (s c.args.disk.now) (s c.refresh.new.disk) (s c.append.new.disk)
     (c.refresh.ensures.any_moment known) (g.met.D.Disk.counts_now c.refresh.new.disk) rest added

@@ -4,12 +4,12 @@ use Rattle.keep_disk.specs.Image.{File, SameElsewhere}
 use Rattle.keep_disk.specs.State.{IsAfter, LeavesOnly}
 use Rattle.keep_change.specs.declared.change.Record.{Record}
 use Rattle.keep_journal.specs.declared.journal.Journal.{Journal}
-use Rattle.keep_journal.specs.Journals.{KeepsOthers, bytes_of, lines_of}
-use Rattle.keep_journal.specs.Records.{taken}
+use Rattle.keep_journal.specs.Journals.{KeepsOthers, bytes_of_file, lines_of_journal}
+use Rattle.keep_journal.specs.Records.{lines_taken_out}
 use Rattle.keep_store.specs.Compacted.{damages}
 use Rattle.keep_store.specs.declared.store.Store.{Store}
 use Rattle.keep_store.specs.Records.{records_in}
-use Rattle.keep_store.specs.Stores.{IsFrom, book_of, lines_in}
+use Rattle.keep_store.specs.Stores.{BookIsFrom, book_of, lines_in}
 use Rattle.keep_state.specs.Opens.{IsCopyOf}
 use Rattle.keep_state.specs.Recovers.{IsAside}
 use Rattle.keep_state.proofs.Served.{aside_records, put_past}
@@ -25,17 +25,19 @@ returns-clause-opened g c =
     let u = s c.keep_good-copy.new.disk in
     let file = option_copied c.args.file in
     let copy = option_copied c.args.copy in
-    let r = c.in_ok-journal.ensures.recovered in
+    let r = c.in_ok-lock.ensures.recovered in
     let o = c.in_ok-opened.ensures.opened in
     let run : IsTrue g.D.Disk.is_known → LeavesOnly t u (IsAfter (SameElsewhere p.copy) t) = λ known. subst (λ (q : List ℕ). LeavesOnly t u (IsAfter (SameElsewhere q) t)) c.copy.ensures.value (c.keep_good-copy.ensures.any_moment known) in
     record {
       lines = r.lines;
+      locked = r.locked;
+      free = r.free;
       read = r.read;
       over = record {
-        book = subst (λ (st : Store). IsFrom file copy c.in_ok-opened.opened.fault (records_in r.lines) (book_of st) c.in_ok-opened.opened.notes.items) (sym c.new.ensures.store)
-            (subst (λ (rs : List Record). IsFrom file copy c.in_ok-opened.opened.fault rs (book_of c.in_ok-opened.opened.store) c.in_ok-opened.opened.notes.items) (aside_records r.lines _ _ r.aside) o.book);
+        book = subst (λ (st : Store). BookIsFrom file copy c.in_ok-opened.opened.fault (records_in r.lines) (book_of st) c.in_ok-opened.opened.notes.items) (sym c.new.ensures.store)
+            (subst (λ (rs : List Record). BookIsFrom file copy c.in_ok-opened.opened.fault rs (book_of c.in_ok-opened.opened.store) c.in_ok-opened.opened.notes.items) (aside_records r.lines _ _ r.aside) o.book);
         damaged = r.damaged;
-        aside = subst (λ (st : Store). IsAside r.lines c.in_ok-journal.field-0.aside (lines_in st)) (sym c.new.ensures.store) (subst (λ (j : Journal). IsAside r.lines c.in_ok-journal.field-0.aside (lines_of j)) (sym o.journal_is) r.aside);
+        aside = subst (λ (st : Store). IsAside r.lines c.in_ok-lock.field-0.aside (lines_in st)) (sym c.new.ensures.store) (subst (λ (j : Journal). IsAside r.lines c.in_ok-lock.field-0.aside (lines_of_journal j)) (sym o.journal_is) r.aside);
         put = λ known none some. put_past p.copy p.aside (record { mode = 384; bytes = _ }) t u c.copy.ensures.apart.copy_aside
             (subst (λ (q : List ℕ). KeepsOthers q t u) c.copy.ensures.value (c.keep_good-copy.ensures.others known)) (run known) (g.met.D.Disk.counts_now c.keep_good-copy.new.disk) (r.put known none some);
         copied = subst (λ (q : List ℕ). IsCopyOf g.D.Disk.is_known q file c.in_ok-opened.opened.fault c.keep_good-copy.result u) c.copy.ensures.value c.keep_good-copy.ensures.copied;

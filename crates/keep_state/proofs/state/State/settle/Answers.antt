@@ -2,9 +2,9 @@
 use Rattle.std.proofs.Common.{◌≡◌, ℕ, IsTrue, List, Option, Some, OnOk, sym, ap, subst, ◌∙◌}
 use Rattle.std.specs.Prelude.{option_map, string_bytes}
 use Rattle.keep_disk.specs.Image.{File}
-use Rattle.keep_disk.specs.State.{Follows, IsAfter, LeavesOnly}
-use Rattle.keep_disk.specs.Torn.{Moves}
-use Rattle.keep_journal.specs.Journals.{IsThere, KeepsOthers}
+use Rattle.keep_disk.specs.State.{IsAfter, LeavesOnly, OutcomesFollow}
+use Rattle.keep_disk.specs.Torn.{MovesFile}
+use Rattle.keep_journal.specs.Journals.{FileIsThere, KeepsOthers}
 use Rattle.keep_store.specs.Moved.{IsMovedIf, LeftByMove}
 use Rattle.keep_waiting.specs.Keepers.{store_of}
 use Rattle.keep_state.specs.Settles.{IsSettledState, LeftBySettling, copy_with, mode_of}
@@ -48,11 +48,11 @@ returns-clause-settled g c =
       text = Some text;
       moved = moved_past g.D.Disk.is_known (store_in k) (store_of c.settle.new.self) k.places c.file.ensures.apart (c.settle.ensures.path ∙ c.self.invariant.path) text u v
           (λ known. subst (λ (p : List ℕ). KeepsOthers p u v) c.copy.ensures.value (c.keep_copy-kept.ensures.others known))
-          (λ known. subst (λ (p : List ℕ). Follows (Moves p (copy_with text)) u v) c.copy.ensures.value (subst (λ (b : List ℕ). Follows (Moves c.copy.result.now (copy_with b)) u v) c.as_bytes.ensures.value (c.keep_copy-kept.ensures.crash known)))
+          (λ known. subst (λ (p : List ℕ). OutcomesFollow (MovesFile p (copy_with text)) u v) c.copy.ensures.value (subst (λ (b : List ℕ). OutcomesFollow (MovesFile c.copy.result.now (copy_with b)) u v) c.as_bytes.ensures.value (c.keep_copy-kept.ensures.crash known)))
           (mode_of c.in_ok-bytes.field-0.mode) text there;
       copied = copied_so g.D.Disk.is_known k.places text c.keep_copy-kept.result c.err.result v c.err.ensures.value
-          (subst (λ (p : List ℕ). OnOk c.keep_copy-kept.result (IsTrue g.D.Disk.is_known → IsThere p (copy_with text) v)) c.copy.ensures.value
-          (subst (λ (b : List ℕ). OnOk c.keep_copy-kept.result (IsTrue g.D.Disk.is_known → IsThere c.copy.result.now (copy_with b) v)) c.as_bytes.ensures.value c.keep_copy-kept.ensures.there));
+          (subst (λ (p : List ℕ). OnOk c.keep_copy-kept.result (IsTrue g.D.Disk.is_known → FileIsThere p (copy_with text) v)) c.copy.ensures.value
+          (subst (λ (b : List ℕ). OnOk c.keep_copy-kept.result (IsTrue g.D.Disk.is_known → FileIsThere c.copy.result.now (copy_with b) v)) c.as_bytes.ensures.value c.keep_copy-kept.ensures.there));
     })
 
 pub returns-clause-any_moment : goal.returns-clause-any_moment
@@ -64,4 +64,4 @@ returns-clause-any_moment g c known =
     subst (λ (k : Kept g.row.D.Denot). LeavesOnly (s k.disk) (s c.keep_copy-kept.new.disk) (LeftBySettling (store_in k) k.places (s k.disk))) c.self.view_is
     (then_copied (store_in k) k.places (s k.disk) file seen (s c.read_file.new.disk) (s c.settle.new.disk) (c.read_file.ensures.alone known) (c.read_file.ensures.any_moment known) (subst (λ (p : List ℕ). LeavesOnly (s c.read_file.new.disk) (s c.settle.new.disk) (LeftByMove (store_in k) p (mode_of c.in_ok-bytes.field-0.mode) (s c.read_file.new.disk))) c.file-2.ensures.value (c.settle.ensures.any_moment known))
     c.as_bytes.result.now (s c.keep_copy-kept.new.disk) (g.met.D.Disk.counts_now c.settle.new.disk)
-    (subst (λ (p : List ℕ). LeavesOnly (s c.settle.new.disk) (s c.keep_copy-kept.new.disk) (IsAfter (Moves p (copy_with c.as_bytes.result.now)) (s c.settle.new.disk))) c.copy.ensures.value (c.keep_copy-kept.ensures.any_moment known)))
+    (subst (λ (p : List ℕ). LeavesOnly (s c.settle.new.disk) (s c.keep_copy-kept.new.disk) (IsAfter (MovesFile p (copy_with c.as_bytes.result.now)) (s c.settle.new.disk))) c.copy.ensures.value (c.keep_copy-kept.ensures.any_moment known)))
