@@ -3,10 +3,10 @@ use Rattle.std.proofs.Common.{◌≡◌, inl, inr, ⊎_elim, ℕ, List, Option, 
 use Rattle.std.proofs.lemmas.Bool.{true≢false, cases_Bool, cond-false}
 use Rattle.std.proofs.lemmas.Slice.Eq.{bytes_eq-Decides}
 use Rattle.std.specs.Str.{bytes_eq}
-use Rattle.keep_disk.specs.Image.{File, Image, SameElsewhere, placed}
-use Rattle.keep_disk.specs.State.{State, Follows, IsKept}
-use Rattle.keep_disk.specs.Torn.{Moves}
-use Rattle.keep_journal.specs.Journals.{IsAtRest, IsThere}
+use Rattle.keep_disk.specs.Image.{File, Image, SameElsewhere, with_file_at}
+use Rattle.keep_disk.specs.State.{DiskState, OutcomesFollow, DiskKeeps}
+use Rattle.keep_disk.specs.Torn.{MovesFile}
+use Rattle.keep_journal.specs.Journals.{FileIsThere, JournalIsAtRest}
 
 pub on_ok : {X E A B : Type 0} (r : Result X E) → (A → B) → OnOk r A → OnOk r B
 on_ok (Ok x) f a = f a
@@ -19,18 +19,18 @@ apart_back path other apart = ⊎_elim
     (λ no. no)
     (cases_Bool (bytes_eq other path))
 
-at_path : (path : List ℕ) (file : File) (image : Image) → placed path file image path ≡ Some file
+at_path : (path : List ℕ) (file : File) (image : Image) → with_file_at path file image path ≡ Some file
 at_path path file image = ap (λ (b : Bool). if b then Some file else image path) ((bytes_eq-Decides path path).1 refl)
 
-pub moves_elsewhere : (copy : List ℕ) (file : File) (a b : Image) → Moves copy file a b → SameElsewhere copy a b
+pub moves_elsewhere : (copy : List ℕ) (file : File) (a b : Image) → MovesFile copy file a b → SameElsewhere copy a b
 moves_elsewhere copy file a b (inl same) other apart = ap (λ (image : Image). image other) same
 moves_elsewhere copy file a b (inr moved) other apart = ap (λ (image : Image). image other) moved ∙ cond-false (bytes_eq copy other) (Some file) (a other) apart
 
-pub in_place : (copy : List ℕ) (file : File) (s t : State) → t.seen ≡ placed copy file s.seen → IsKept copy t → IsThere copy file t
+pub in_place : (copy : List ℕ) (file : File) (s t : DiskState) → t.seen ≡ with_file_at copy file s.seen → DiskKeeps copy t → FileIsThere copy file t
 in_place copy file s t is is_kept = record { seen = ap (λ (image : Image). image copy) is ∙ at_path copy file s.seen; is_kept = is_kept }
 
-module _ (path copy : List ℕ) (file : File) (s t : State) (moves : Moves copy file s.seen t.seen) (sound : (other : List ℕ) → bytes_eq copy other ≡ false → t.is_sound other ≡ s.is_sound other) (before : Follows (Moves copy file) s t) where
-  kept_past : bytes_eq copy path ≡ false → IsKept path s → IsKept path t
+module _ (path copy : List ℕ) (file : File) (s t : DiskState) (moves : MovesFile copy file s.seen t.seen) (sound : (other : List ℕ) → bytes_eq copy other ≡ false → t.is_sound other ≡ s.is_sound other) (before : OutcomesFollow (MovesFile copy file) s t) where
+  kept_past : bytes_eq copy path ≡ false → DiskKeeps path s → DiskKeeps path t
   kept_past apart is = record {
     sound = sound path apart ∙ is.sound;
     durable = λ c left.
@@ -38,7 +38,7 @@ module _ (path copy : List ℕ) (file : File) (s t : State) (moves : Moves copy 
         moves_elsewhere copy file from.0 c from.2 path apart ∙ is.durable from.0 from.1 ∙ sym (moves_elsewhere copy file s.seen t.seen moves path apart);
   }
 
-  pub rest_past : (lines : List (List ℕ)) (size : ℕ) → bytes_eq path copy ≡ false → IsAtRest path lines size s → IsAtRest path lines size t
+  pub rest_past : (lines : List (List ℕ)) (size : ℕ) → bytes_eq path copy ≡ false → JournalIsAtRest path lines size s → JournalIsAtRest path lines size t
   rest_past lines size apart rest = record {
     are_lines = rest.are_lines;
     mode = rest.mode;

@@ -11,13 +11,13 @@ use Rattle.keep_change.specs.declared.fault.ChangeFault.{ChangeFault}
 use Rattle.keep_change.specs.declared.fault.ChangeFault.TheVariants.{OutOfMemory}
 use Rattle.keep_change.specs.declared.replaying.File.{File}
 use Rattle.keep_change.specs.declared.row.Row.{Row}
-use Rattle.keep_change.specs.Changes.{IsWhy, after, changed, refusal, unless}
+use Rattle.keep_change.specs.Changes.{IsWhy, change_refusal, rows_changed, rows_unless, rows_with_change}
 use Rattle.keep_change.specs.Records.{IsRecord, record_of, record_text}
 use Rattle.keep_change.specs.Replay.{is_as_then}
 use Rattle.keep_change.specs.Said.{said}
 use Rattle.keep_change.proofs.Found.{read_is_written}
 use Rattle.keep_change.proofs.ReadBack.{line_law, written_is_read}
-use Rattle.keep_journal.specs.Records.{IsLine}
+use Rattle.keep_journal.specs.Records.{IsRecordLine}
 use Rattle.keep_words.specs.Laws.{Lacks}
 use Rattle.keep_disk.specs.declared.fault.DiskFault.{DiskFault}
 use Rattle.keep_disk.specs.declared.fault.DiskFault.TheVariants as disks
@@ -27,12 +27,12 @@ use Rattle.keep_store.specs.declared.fault.TakeFault.{TakeFault}
 use Rattle.keep_store.specs.declared.fault.TakeFault.TheVariants.{NoRecord, Refused, Unwritten, Disk}
 use Rattle.keep_store.specs.declared.fault.TakeFault.TheVariants as takes
 use Rattle.keep_store.specs.Books.{Book}
-use Rattle.keep_store.specs.Entering.{IsReadAs, IsWhyNot, line_for, record_for}
+use Rattle.keep_store.specs.Entering.{IsReadAs, IsWhyNot, line_for_change, record_for}
 use Rattle.keep_store.specs.code.Entered.{IsRecorded, IsUnmade, IsUnrecorded}
 use Rattle.keep_store.specs.code.Faults.{change_in, unkept, unmade, unwritten}
 
 -- no line feed stands in a text that lacks it
-pub lacking : (text : List ℕ) → Lacks 10 text → IsLine text
+pub lacking : (text : List ℕ) → Lacks 10 text → IsRecordLine text
 lacking [] lacks = tt
 lacking (b ∷ bs) lacks = (λ is. absurd (true≢false (sym (parts b bs lacks).0 ∙ ap (λ (k : ℕ). not (k == 10)) is)), lacking bs (parts b bs lacks).1)
   where
@@ -40,8 +40,8 @@ lacking (b ∷ bs) lacks = (λ is. absurd (true≢false (sym (parts b bs lacks).
     parts x xs all = and_parts (not (x == 10)) (list_all (λ y. not (y == 10)) xs) all
 
 -- a line in which a record is read is that record's, and one line
-read_line : (text : List ℕ) (r : Record) → record_of text ≡ Some r → IsLine text
-read_line text r is = subst IsLine (sym (read_is_written text r is).1) (lacking (record_text r) (line_law r (read_is_written text r is).0))
+read_line : (text : List ℕ) (r : Record) → record_of text ≡ Some r → IsRecordLine text
+read_line text r is = subst IsRecordLine (sym (read_is_written text r is).1) (lacking (record_text r) (line_law r (read_is_written text r is).0))
 
 same_some : (c d : Change) → Some c ≡ Some d → c ≡ d
 same_some c d e = cc
@@ -58,7 +58,7 @@ change_read None c e = cc
 change_read (Some (Made d)) c e = ap (λ (x : Change). Some (Made x)) (same_some d c e)
 change_read (Some (Settling mark)) c e = cc
 
-pub recorded_is : (b : Book) (name : List ℕ) (w : What) (line : List ℕ) (c : Change) → line ≡ line_for b.file name w → change_in (record_of line) ≡ Some c → is_as_then b.file.rows c ≡ true → IsRecorded b name w line c
+pub recorded_is : (b : Book) (name : List ℕ) (w : What) (line : List ℕ) (c : Change) → line ≡ line_for_change b.file name w → change_in (record_of line) ≡ Some c → is_as_then b.file.rows c ≡ true → IsRecorded b name w line c
 recorded_is b name w line c is read same = record {
   line_is = is;
   is_line = read_line line (Made c) (change_read (record_of line) c read);
@@ -67,8 +67,8 @@ recorded_is b name w line c is read same = record {
 }
 
 -- a record is read in its line: so where no change is, or another, it is none that a journal can write
-pub not_read : (f : File) (name : List ℕ) (w : What) (line : List ℕ) → line ≡ line_for f name w → change_in (record_of line) ≡ None → IsRecord (record_for f name w) → ⊥
-unfolding line_for
+pub not_read : (f : File) (name : List ℕ) (w : What) (line : List ℕ) → line ≡ line_for_change f name w → change_in (record_of line) ≡ None → IsRecord (record_for f name w) → ⊥
+unfolding line_for_change
 not_read f name w line at none is = let read = ap change_in (ap record_of at ∙ written_is_read (record_for f name w) is) in cc
 
 as_then_self : (f : File) (name : List ℕ) (w : What) → is_as_then f.rows (record { name = name; was = said f.rows name w; what = w }) ≡ true
@@ -76,8 +76,8 @@ unfolding is_as_then
 as_then_self f name w = (bytes_decides (said f.rows name w) (said f.rows name w)).1 refl
 
 -- and where the change that is read is none that a replay makes, too
-pub not_then : (f : File) (name : List ℕ) (w : What) (line : List ℕ) (c : Change) → line ≡ line_for f name w → change_in (record_of line) ≡ Some c → is_as_then f.rows c ≡ false → IsRecord (record_for f name w) → ⊥
-unfolding line_for
+pub not_then : (f : File) (name : List ℕ) (w : What) (line : List ℕ) (c : Change) → line ≡ line_for_change f name w → change_in (record_of line) ≡ Some c → is_as_then f.rows c ≡ false → IsRecord (record_for f name w) → ⊥
+unfolding line_for_change
 not_then f name w line c at read differs is =
     let d : Change = record { name = name; was = said f.rows name w; what = w } in
     let same : d ≡ c = same_change d c (same_record (Made d) (Made c) (sym (ap record_of at ∙ written_is_read (record_for f name w) is) ∙ change_read (record_of line) c read)) in
@@ -89,20 +89,20 @@ why_refused : (o : Option ChangeFault) (w : What) (fault : ChangeFault) → IsWh
 why_refused o w fault (inl e) some = e
 why_refused o w fault (inr e) some = absurd (some e.2)
 
-pub refused_unmade : (b : Book) (c : Change) (fault : ChangeFault) → IsWhy (refusal b.file.margin b.rows c.name c.what) c.what fault → IsUnmade b c (unmade fault)
+pub refused_unmade : (b : Book) (c : Change) (fault : ChangeFault) → IsWhy (change_refusal b.file.margin b.rows c.name c.what) c.what fault → IsUnmade b c (unmade fault)
 refused_unmade b c OutOfMemory why = tt
-refused_unmade b c fault why = why_refused (refusal b.file.margin b.rows c.name c.what) c.what fault why (λ same. cc)
+refused_unmade b c fault why = why_refused (change_refusal b.file.margin b.rows c.name c.what) c.what fault why (λ same. cc)
 
-unless_ok : (rows new : List Row) (o : Option ChangeFault) → unless rows o ≡ Ok new → o ≡ None
+unless_ok : (rows new : List Row) (o : Option ChangeFault) → rows_unless rows o ≡ Ok new → o ≡ None
 unless_ok rows new None e = refl
 unless_ok rows new (Some fault) e = cc
 
 -- one that can be made is not refused
-pub made_unrefused : (margin : ℕ) (rows new : List Row) (name : List ℕ) (w : What) → changed margin rows name w ≡ Ok new → refusal margin rows name w ≡ None
-unfolding changed
-made_unrefused margin rows new name w e = unless_ok (after rows name w) new (refusal margin rows name w) e
+pub made_unrefused : (margin : ℕ) (rows new : List Row) (name : List ℕ) (w : What) → rows_changed margin rows name w ≡ Ok new → change_refusal margin rows name w ≡ None
+unfolding rows_changed
+made_unrefused margin rows new name w e = unless_ok (rows_with_change rows name w) new (change_refusal margin rows name w) e
 
-pub unwritten_unmade : (b : Book) (c : Change) (fault : SettleFault) → refusal b.file.margin b.rows c.name c.what ≡ None → IsUnmade b c (unwritten fault)
+pub unwritten_unmade : (b : Book) (c : Change) (fault : SettleFault) → change_refusal b.file.margin b.rows c.name c.what ≡ None → IsUnmade b c (unwritten fault)
 unwritten_unmade b c settles.OutOfMemory is = tt
 unwritten_unmade b c fault is = is
 
@@ -122,6 +122,6 @@ unmade_why b name w c (Disk fault) read why = absurd why
 unmade_why b name w c takes.OutOfMemory read why = tt
 
 -- nor is what the disk has not kept
-pub unkept_why : (b : Book) (name : List ℕ) (w : What) (c : Change) (fault : DiskFault) → IsReadAs b.file name w c → refusal b.file.margin b.rows c.name c.what ≡ None → IsWhyNot b name w (unkept fault)
+pub unkept_why : (b : Book) (name : List ℕ) (w : What) (c : Change) (fault : DiskFault) → IsReadAs b.file name w c → change_refusal b.file.margin b.rows c.name c.what ≡ None → IsWhyNot b name w (unkept fault)
 unkept_why b name w c disks.OutOfMemory read is = tt
 unkept_why b name w c fault read is = (c, (read, is))

@@ -4,22 +4,22 @@ use Rattle.keep_change.specs.declared.replaying.File.{File}
 use Rattle.keep_change.specs.declared.change.Change.{Change}
 use Rattle.keep_change.specs.declared.change.Record.{Record}
 use Rattle.keep_change.specs.declared.change.Record.TheVariants.{Made}
-use Rattle.keep_change.specs.Replay.{State, replayed}
+use Rattle.keep_change.specs.Replay.{ReplayState, replayed}
 use Rattle.keep_change.specs.Said.{said}
 use Rattle.keep_change.proofs.ReadBack.{written_is_read}
 use Rattle.keep_store.specs.Books.{IsBookOf}
-use Rattle.keep_store.specs.Entering.{line_for, record_for}
+use Rattle.keep_store.specs.Entering.{line_for_change, record_for}
 use Rattle.keep_store.specs.Laws.{AsGivenLaw, RestartLaw}
 use Rattle.keep_store.specs.Records.{records_in}
 use Rattle.keep_store.specs.Stores.{lines_in}
 use Rattle.keep_store.proofs.Entered.{same_change, same_record}
 
 pub as_given : AsGivenLaw
-unfolding line_for
+unfolding line_for_change
 as_given f name w c is read =
     let d : Change = record { name = name; was = said f.rows name w; what = w } in
     sym (same_change d c (same_record (Made d) (Made c) (sym (written_is_read (record_for f name w) is) ∙ read)))
 
 pub restarted : RestartLaw
 restarted store replays bytes secrets b notes is same =
-    ap (λ (s : State). s.rows) (sym is.rows) ∙ ap (λ (f : File). (replayed f (records_in (lines_in store))).rows) same ∙ replays
+    ap (λ (s : ReplayState). s.rows) (sym is.rows) ∙ ap (λ (f : File). (replayed f (records_in (lines_in store))).rows) same ∙ replays

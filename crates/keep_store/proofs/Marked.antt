@@ -6,12 +6,12 @@ use Rattle.keep_change.specs.declared.change.Record.{Record}
 use Rattle.keep_change.specs.declared.change.Record.TheVariants.{Settling}
 use Rattle.keep_change.specs.declared.replaying.File.{File}
 use Rattle.keep_change.specs.Records.{record_of, record_text}
-use Rattle.keep_change.specs.Replay.{State, replayed}
+use Rattle.keep_change.specs.Replay.{ReplayState, replayed}
 use Rattle.keep_change.specs.RowText.{is_word}
 use Rattle.keep_change.specs.Words.{fingerprint}
 use Rattle.keep_change.proofs.ReadBack.{line_law, written_is_read}
 use Rattle.keep_change.proofs.Settling.{unsettled}
-use Rattle.keep_journal.specs.Records.{IsLine}
+use Rattle.keep_journal.specs.Records.{IsRecordLine}
 use Rattle.keep_settle.proofs.Staying.{stays}
 use Rattle.keep_store.specs.Laws.{MovedLaw}
 use Rattle.keep_store.specs.Moved.{mark_line}
@@ -25,7 +25,7 @@ use Rattle.keep_store.proofs.Digits.{mark_is_word}
 mark_read : (text : List ℕ) → record_of (mark_line text) ≡ Some (Settling (fingerprint text))
 mark_read text = written_is_read (Settling (fingerprint text)) (mark_is_word text)
 
-pub mark_is_line : (text : List ℕ) → IsLine (mark_line text)
+pub mark_is_line : (text : List ℕ) → IsRecordLine (mark_line text)
 mark_is_line text = lacking (mark_line text) (line_law (Settling (fingerprint text)) (mark_is_word text))
 
 records_marked : (lines : List (List ℕ)) (text : List ℕ) → records_in (lines ++ mark_line text ∷ []) ≡ records_in lines ++ Settling (fingerprint text) ∷ []
@@ -38,7 +38,7 @@ moved_law store so text v says =
     let gives = stays (Some b.file.margin) _ b.rows text v says (file_of text v) refl refl rs in (
       ap (replayed (file_of text v)) (records_marked (lines_in store) text) ∙ gives.0,
       ap (replayed (file_of text v)) records_none ∙ gives.1,
-      λ other. ap (λ (s : State). s.rows) (ap (replayed b.file) (records_marked (lines_in store) text) ∙ unsettled b.file rs (fingerprint text) other) ∙ so,
+      λ other. ap (λ (s : ReplayState). s.rows) (ap (replayed b.file) (records_marked (lines_in store) text) ∙ unsettled b.file rs (fingerprint text) other) ∙ so,
     )
 
 pub same_texts : (a b : List ℕ) → bytes_eq a b ≡ true → a ≡ b

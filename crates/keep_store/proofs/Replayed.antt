@@ -7,37 +7,37 @@ use Rattle.keep_change.specs.declared.change.Record.TheVariants.{Made}
 use Rattle.keep_change.specs.declared.fault.ChangeFault.{ChangeFault}
 use Rattle.keep_change.specs.declared.replaying.File.{File}
 use Rattle.keep_change.specs.declared.row.Row.{Row}
-use Rattle.keep_change.specs.Changes.{changed}
+use Rattle.keep_change.specs.Changes.{rows_changed}
 use Rattle.keep_change.specs.Records.{record_of}
-use Rattle.keep_change.specs.Replay.{State, begun, is_as_then, made, made_with, overruled, replay_from, replayed, step}
+use Rattle.keep_change.specs.Replay.{ReplayState, is_as_then, made, made_with, overruled, replay_begun, replay_from, replay_step, replayed}
 use Rattle.keep_store.specs.Records.{record_in, records_in}
 use Rattle.keep_store.proofs.Lists.{records_push}
 
 -- the last record comes after all others
-from_last : (f : File) (rs : List Record) (r : Record) (at : ℕ) (s : State) → replay_from f at s (rs ++ r ∷ []) ≡ step f (at + length rs) (replay_from f at s rs) r
-from_last f [] r at s = let same : at ≡ at + 0 = omega arith in ap (λ (k : ℕ). step f k s r) same
+from_last : (f : File) (rs : List Record) (r : Record) (at : ℕ) (s : ReplayState) → replay_from f at s (rs ++ r ∷ []) ≡ replay_step f (at + length rs) (replay_from f at s rs) r
+from_last f [] r at s = let same : at ≡ at + 0 = omega arith in ap (λ (k : ℕ). replay_step f k s r) same
 from_last f (first ∷ rs) r at s =
     let same : (at + 1) + length rs ≡ at + length (first ∷ rs) = omega arith in
-    from_last f rs r (at + 1) (step f at s first) ∙ ap (λ (k : ℕ). step f k (replay_from f (at + 1) (step f at s first) rs) r) same
+    from_last f rs r (at + 1) (replay_step f at s first) ∙ ap (λ (k : ℕ). replay_step f k (replay_from f (at + 1) (replay_step f at s first) rs) r) same
 
-replayed_last : (f : File) (rs : List Record) (r : Record) → replayed f (rs ++ r ∷ []) ≡ step f (0 + length rs) (replayed f rs) r
+replayed_last : (f : File) (rs : List Record) (r : Record) → replayed f (rs ++ r ∷ []) ≡ replay_step f (0 + length rs) (replayed f rs) r
 unfolding replayed
-replayed_last f rs r = from_last f rs r 0 (begun f)
+replayed_last f rs r = from_last f rs r 0 (replay_begun f)
 
 -- a change that is made
-made_rows : (margin at : ℕ) (s : State) (c : Change) (rows : List Row) → changed margin s.rows c.name c.what ≡ Ok rows → (made margin at s c).rows ≡ rows
+made_rows : (margin at : ℕ) (s : ReplayState) (c : Change) (rows : List Row) → rows_changed margin s.rows c.name c.what ≡ Ok rows → (made margin at s c).rows ≡ rows
 unfolding made
 made_rows margin at s c rows e = ap (λ (r : Result (List Row) ChangeFault). (made_with at s r).rows) e
 
-step_rows : (f : File) (at : ℕ) (s : State) (c : Change) (rows : List Row) → is_as_then f.rows c ≡ true → changed f.margin s.rows c.name c.what ≡ Ok rows → (step f at s (Made c)).rows ≡ rows
+step_rows : (f : File) (at : ℕ) (s : ReplayState) (c : Change) (rows : List Row) → is_as_then f.rows c ≡ true → rows_changed f.margin s.rows c.name c.what ≡ Ok rows → (replay_step f at s (Made c)).rows ≡ rows
 step_rows f at s c rows same e =
-    ap (λ (t : State). t.rows) (cond-true (is_as_then f.rows c) (made f.margin at s c) (overruled at s c) same) ∙ made_rows f.margin at s c rows e
+    ap (λ (t : ReplayState). t.rows) (cond-true (is_as_then f.rows c) (made f.margin at s c) (overruled at s c) same) ∙ made_rows f.margin at s c rows e
 
 -- the rows after one line more, which keeps a change that can be made
 pub taken_rows : (f : File) (lines : List (List ℕ)) (line : List ℕ) (c : Change) (old rows : List Row) → (replayed f (records_in lines)).rows ≡ old
-    → record_of line ≡ Some (Made c) → is_as_then f.rows c ≡ true → changed f.margin old c.name c.what ≡ Ok rows → (replayed f (records_in (lines ++ line ∷ []))).rows ≡ rows
+    → record_of line ≡ Some (Made c) → is_as_then f.rows c ≡ true → rows_changed f.margin old c.name c.what ≡ Ok rows → (replayed f (records_in (lines ++ line ∷ []))).rows ≡ rows
 taken_rows f lines line c old rows so is same e =
     let one : records_in (lines ++ line ∷ []) ≡ records_in lines ++ Made c ∷ [] = records_push lines line ∙ ap (λ (o : Option Record). records_in lines ++ option_to_list o) is in
     ap (λ (rs : List Record). (replayed f rs).rows) one
-    ∙ ap (λ (t : State). t.rows) (replayed_last f (records_in lines) (Made c))
-    ∙ step_rows f (0 + length (records_in lines)) (replayed f (records_in lines)) c rows same (ap (λ (r : List Row). changed f.margin r c.name c.what) so ∙ e)
+    ∙ ap (λ (t : ReplayState). t.rows) (replayed_last f (records_in lines) (Made c))
+    ∙ step_rows f (0 + length (records_in lines)) (replayed f (records_in lines)) c rows same (ap (λ (r : List Row). rows_changed f.margin r c.name c.what) so ∙ e)

@@ -7,10 +7,10 @@ use Rattle.keep_change.specs.Compaction as changes
 use Rattle.keep_change.specs.Records.{record_of}
 use Rattle.keep_change.specs.Replay.{replayed}
 use Rattle.keep_change.proofs.Compacting.{compaction}
-use Rattle.keep_journal.specs.Records.{kept}
+use Rattle.keep_journal.specs.Records.{lines_kept}
 use Rattle.keep_store.specs.declared.store.Store.{Store}
 use Rattle.keep_store.specs.Books.{Book}
-use Rattle.keep_store.specs.Compacted.{are_records, compacted_lines, damages, is_time, is_worth, undamaged, void_count}
+use Rattle.keep_store.specs.Compacted.{are_records, compacted_lines, damages, is_time_to_look, is_worth, undamaged, void_count}
 use Rattle.keep_store.specs.Records.{record_in, records_in}
 use Rattle.keep_store.specs.Stores.{IsReplayed, book_of, lines_in}
 
@@ -33,7 +33,7 @@ record_first : (line : List ℕ) (lines : List (List ℕ)) → records_in (line 
 unfolding records_in
 record_first line lines = refl
 
-without_first : (line : List ℕ) (lines : List (List ℕ)) (o : Option Record) → record_of line ≡ o → records_in (undamaged lines) ≡ records_in lines → records_in (kept (line ∷ lines) (is_none o ∷ damages lines)) ≡ records_in (line ∷ lines)
+without_first : (line : List ℕ) (lines : List (List ℕ)) (o : Option Record) → record_of line ≡ o → records_in (undamaged lines) ≡ records_in lines → records_in (lines_kept (line ∷ lines) (is_none o ∷ damages lines)) ≡ records_in (line ∷ lines)
 without_first line lines None e so = so ∙ ap (λ (o : Option Record). option_to_list o ++ records_in lines) (sym e) ∙ sym (record_first line lines)
 without_first line lines (Some r) e so = record_first line (undamaged lines) ∙ ap (λ (rs : List Record). record_in line ++ rs) so ∙ sym (record_first line lines)
 
@@ -59,16 +59,16 @@ module _ (line : List ℕ) (lines : List (List ℕ)) where
   all_after (Some r) e = omega (arith, e)
 
   kept_first : (o : Option Record) (outs : List Bool) → length (option_to_list o ++ records_in lines) ≡ suc (length lines)
-      → ((rest : List Bool) → records_in (kept lines rest) ≡ changes.kept (records_in lines) rest) → record_of line ≡ o
-      → records_in (kept (line ∷ lines) outs) ≡ changes.kept (option_to_list o ++ records_in lines) outs
-  unfolding records_in changes.kept
+      → ((rest : List Bool) → records_in (lines_kept lines rest) ≡ changes.records_kept (records_in lines) rest) → record_of line ≡ o
+      → records_in (lines_kept (line ∷ lines) outs) ≡ changes.records_kept (option_to_list o ++ records_in lines) outs
+  unfolding records_in changes.records_kept
   kept_first None outs e so is = let most = no_more lines in absurd (omega (arith, e, most))
   kept_first (Some r) [] e so is = ap (λ (o : Option Record). option_to_list o ++ records_in lines) is
   kept_first (Some r) (true ∷ outs) e so is = so outs
-  kept_first (Some r) (false ∷ outs) e so is = ap (λ (o : Option Record). option_to_list o ++ records_in (kept lines outs)) is ∙ ap (λ (rs : List Record). r ∷ rs) (so outs)
+  kept_first (Some r) (false ∷ outs) e so is = ap (λ (o : Option Record). option_to_list o ++ records_in (lines_kept lines outs)) is ∙ ap (λ (rs : List Record). r ∷ rs) (so outs)
 
-kept_records : (lines : List (List ℕ)) → length (records_in lines) ≡ length lines → (outs : List Bool) → records_in (kept lines outs) ≡ changes.kept (records_in lines) outs
-unfolding records_in changes.kept
+kept_records : (lines : List (List ℕ)) → length (records_in lines) ≡ length lines → (outs : List Bool) → records_in (lines_kept lines outs) ≡ changes.records_kept (records_in lines) outs
+unfolding records_in changes.records_kept
 kept_records [] e outs = refl
 kept_records (line ∷ lines) e outs = kept_first line lines (record_of line) outs e (kept_records lines (all_after line lines (record_of line) e)) refl
 
@@ -79,13 +79,13 @@ compacted_records lines e = kept_records lines e (changes.voids (records_in line
 pub worth_records : (lines : List (List ℕ)) → is_worth lines ≡ true → length (records_in lines) ≡ length lines
 unfolding is_worth
 worth_records lines is =
-    let some = and_parts (is_time lines) (are_records lines && nat_le 1000 (void_count lines)) is in
+    let some = and_parts (is_time_to_look lines) (are_records lines && nat_le 1000 (void_count lines)) is in
     let all = and_parts (are_records lines) (nat_le 1000 (void_count lines)) some.1 in
     eqb-true (length (records_in lines)) (length lines) all.0
 
-pub compacted_is : (lines : List (List ℕ)) (outs : List Bool) → outs ≡ changes.voids (records_in lines) → kept lines outs ≡ compacted_lines lines
+pub compacted_is : (lines : List (List ℕ)) (outs : List Bool) → outs ≡ changes.voids (records_in lines) → lines_kept lines outs ≡ compacted_lines lines
 unfolding compacted_lines
-compacted_is lines outs same = ap (kept lines) same
+compacted_is lines outs same = ap (lines_kept lines) same
 
 -- what is kept stays as it is
 pub compacted_replays : (old new : Store) → IsReplayed old → is_worth (lines_in old) ≡ true → book_of new ≡ book_of old → lines_in new ≡ compacted_lines (lines_in old) → IsReplayed new

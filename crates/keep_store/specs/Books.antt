@@ -8,10 +8,10 @@ use Rattle.keep_change.specs.declared.change.Record.{Record}
 use Rattle.keep_change.specs.declared.replaying.File.{File}
 use Rattle.keep_change.specs.declared.replaying.Note.{Note}
 use Rattle.keep_change.specs.declared.row.Row.{Row}
-use Rattle.keep_change.specs.Listed.{rows_of}
+use Rattle.keep_change.specs.Listed.{rows_of_served}
 use Rattle.keep_change.specs.Replay.{replayed}
 use Rattle.keep_change.specs.Words.{fingerprint}
-use Rattle.keep_settle.specs.Settled.{IsSettled}
+use Rattle.keep_settle.specs.Settled.{TextIsSettled}
 use Rattle.keep_store.specs.declared.fault.FileFault.{FileFault}
 use Rattle.keep_store.specs.declared.fault.FileFault.TheVariants.{Unread, Faulty, Unwritten, OutOfMemory}
 use Rattle.keep_store.specs.declared.secret.Secret.{Secret}
@@ -25,7 +25,7 @@ pub record Book : Type 0 where
 
 -- the text of a file that says what is handed of these rows, with that margin
 abbrev pub IsTextOf : ℕ → List Secret → List Row → List ℕ → Type 0
-IsTextOf margin secrets rows text = (v : Served) × IsSettled (Some margin) None (handed secrets rows) text v
+IsTextOf margin secrets rows text = (v : Served) × TextIsSettled (Some margin) None (handed secrets rows) text v
 
 -- what a book always keeps
 abbrev pub IsBook : Book → Type 0
@@ -33,7 +33,7 @@ IsBook b = IsTextOf b.file.margin b.secrets b.rows b.text
 
 -- what a file with these bytes says
 abbrev pub file_of : List ℕ → Served → File
-file_of bytes v = record { rows = rows_of v; margin = v.inventory.forest.margin; mark = fingerprint bytes }
+file_of bytes v = record { rows = rows_of_served v; margin = v.inventory.forest.margin; mark = fingerprint bytes }
 
 abbrev pub IsFileOf : List ℕ → File → Type 0
 IsFileOf bytes f = (v : Served) × ((read_served bytes ≡ Ok v) × (f ≡ file_of bytes v))
@@ -52,11 +52,11 @@ IsFault bytes (Unwritten fault) = (v : Served) × (read_served bytes ≡ Ok v)
 IsFault bytes OutOfMemory = Unit {0}
 
 -- the same of a file whose bytes may not be had
-abbrev pub IsFaultOf : Option (List ℕ) → FileFault → Type 0
-IsFaultOf None Unread = Unit {0}
-IsFaultOf None OutOfMemory = Unit {0}
-IsFaultOf None fault = ⊥
-IsFaultOf (Some bytes) fault = IsFault bytes fault
+abbrev pub IsFileFaultOf : Option (List ℕ) → FileFault → Type 0
+IsFileFaultOf None Unread = Unit {0}
+IsFileFaultOf None OutOfMemory = Unit {0}
+IsFileFaultOf None fault = ⊥
+IsFileFaultOf (Some bytes) fault = IsFault bytes fault
 
 abbrev pub IsBookIf : Option (List ℕ) → List Record → List Secret → Book → List Note → Type 0
 IsBookIf None records secrets b notes = ⊥

@@ -7,7 +7,7 @@ use Rattle.keep_change.specs.declared.change.Record.TheVariants.{Made}
 use Rattle.keep_change.specs.declared.change.What.{What}
 use Rattle.keep_change.specs.declared.replaying.File.{File}
 use Rattle.keep_change.specs.declared.row.Row.{Row}
-use Rattle.keep_change.specs.Changes.{changed, refusal}
+use Rattle.keep_change.specs.Changes.{change_refusal, rows_changed}
 use Rattle.keep_change.specs.Records.{IsRecord, record_of, record_text}
 use Rattle.keep_change.specs.Said.{said}
 use Rattle.keep_store.specs.declared.fault.TakeFault.{TakeFault}
@@ -19,17 +19,17 @@ abbrev pub record_for : File → List ℕ → What → Record
 record_for f name w = Made (record { name = name; was = said f.rows name w; what = w })
 
 -- the line that keeps it
-unfoldable pub line_for : File → List ℕ → What → List ℕ
-line_for f name w = record_text (record_for f name w)
+unfoldable pub line_for_change : File → List ℕ → What → List ℕ
+line_for_change f name w = record_text (record_for f name w)
 
 -- the change as a later start reads it in that line: for what a journal can write it is the same
 abbrev pub IsReadAs : File → List ℕ → What → Change → Type 0
-IsReadAs f name w c = record_of (line_for f name w) ≡ Some (Made c)
+IsReadAs f name w c = record_of (line_for_change f name w) ≡ Some (Made c)
 
 -- a book after that change
 pub record IsChanged (old : Book) (name : List ℕ) (w : What) (c : Change) (new : Book) : Type 0 where
   pub read : IsReadAs old.file name w c
-  pub made : changed old.file.margin old.rows c.name c.what ≡ Ok new.rows
+  pub made : rows_changed old.file.margin old.rows c.name c.what ≡ Ok new.rows
   pub file : new.file ≡ old.file
   pub secrets : new.secrets ≡ old.secrets
 
@@ -37,7 +37,7 @@ pub record IsChanged (old : Book) (name : List ℕ) (w : What) (c : Change) (new
 -- as over 1 MiB; the disk failed; or memory was refused
 abbrev pub IsWhyNot : Book → List ℕ → What → TakeFault → Type 0
 IsWhyNot b name w NoRecord = IsRecord (record_for b.file name w) → ⊥
-IsWhyNot b name w (Refused fault) = (c : Change) × (IsReadAs b.file name w c × (refusal b.file.margin b.rows c.name c.what ≡ Some fault))
-IsWhyNot b name w (Unwritten fault) = (c : Change) × (IsReadAs b.file name w c × (refusal b.file.margin b.rows c.name c.what ≡ None))
-IsWhyNot b name w (Disk fault) = (c : Change) × (IsReadAs b.file name w c × (refusal b.file.margin b.rows c.name c.what ≡ None))
+IsWhyNot b name w (Refused fault) = (c : Change) × (IsReadAs b.file name w c × (change_refusal b.file.margin b.rows c.name c.what ≡ Some fault))
+IsWhyNot b name w (Unwritten fault) = (c : Change) × (IsReadAs b.file name w c × (change_refusal b.file.margin b.rows c.name c.what ≡ None))
+IsWhyNot b name w (Disk fault) = (c : Change) × (IsReadAs b.file name w c × (change_refusal b.file.margin b.rows c.name c.what ≡ None))
 IsWhyNot b name w OutOfMemory = Unit {0}

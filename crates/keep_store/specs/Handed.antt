@@ -35,14 +35,14 @@ abbrev pub if_there : (Row → Bool) → Option Row → Bool
 if_there holds None = false
 if_there holds (Some row) = holds row
 
-abbrev pub of_parent : List Row → (Row → Bool) → Option (List ℕ) → Bool
-of_parent rows holds None = true
-of_parent rows holds (Some name) = if_there holds (named rows name)
+abbrev pub holds_if_parent : List Row → (Row → Bool) → Option (List ℕ) → Bool
+holds_if_parent rows holds None = true
+holds_if_parent rows holds (Some name) = if_there holds (named rows name)
 
 -- the credential of a row is there, and so is that of each over it, of which there are fewer than so many
 unfoldable pub is_ready : ℕ → List Row → Row → Bool
 is_ready zero rows row = false
-is_ready (suc n) rows row = is_none row.file && of_parent rows (is_ready n rows) row.parent
+is_ready (suc n) rows row = is_none row.file && holds_if_parent rows (is_ready n rows) row.parent
 
 unfoldable pub all_ready : List Row → List Row
 all_ready rows = filter (is_ready MAX_DEPTH rows) rows

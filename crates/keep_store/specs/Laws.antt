@@ -15,7 +15,7 @@ use Rattle.keep_store.specs.declared.secret.Secret.{Secret}
 use Rattle.keep_store.specs.declared.store.Store.{Store}
 use Rattle.keep_store.specs.Books.{Book, IsBookOf, file_of}
 use Rattle.keep_store.specs.Entering.{IsReadAs, record_for}
-use Rattle.keep_store.specs.Moved.{Says, mark_line}
+use Rattle.keep_store.specs.Moved.{SaysAllKept, mark_line}
 use Rattle.keep_store.specs.Records.{records_in}
 use Rattle.keep_store.specs.Stores.{IsReplayed, book_of, lines_in}
 
@@ -33,7 +33,7 @@ RestartLaw =
 -- the mark of that text, and with none. As long as the old file is there, the mark changes nothing of the rows.
 abbrev pub MovedLaw : Type 0
 MovedLaw =
-    (store : Store) → IsReplayed store → (text : List ℕ) (v : Served) → Says (book_of store) text v
+    (store : Store) → IsReplayed store → (text : List ℕ) (v : Served) → SaysAllKept (book_of store) text v
     → GivesRows (file_of text v) (book_of store).rows (records_in (lines_in store ++ mark_line text ∷ []))
     × GivesRows (file_of text v) (book_of store).rows (records_in [])
     × (bytes_eq (fingerprint text) (book_of store).file.mark ≡ false

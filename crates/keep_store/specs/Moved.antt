@@ -6,20 +6,20 @@ use Rattle.keep_change.specs.declared.change.Record.TheVariants.{Settling}
 use Rattle.keep_change.specs.Records.{record_text}
 use Rattle.keep_change.specs.Words.{fingerprint}
 use Rattle.keep_disk.specs.Image.{Image}
-use Rattle.keep_disk.specs.State.{State}
+use Rattle.keep_disk.specs.State.{DiskState}
 use Rattle.keep_inventory.specs.Served.{Served}
 use Rattle.keep_journal.specs.Journals as journals
 use Rattle.keep_settle.specs.Order.{in_order}
-use Rattle.keep_settle.specs.Settled.{IsSettled}
+use Rattle.keep_settle.specs.Settled.{TextIsSettled}
 use Rattle.keep_store.specs.declared.fault.Unsettled.{Unsettled}
 use Rattle.keep_store.specs.declared.fault.Unsettled.TheVariants.{Changed, Unwritten, Disk, OutOfMemory}
 use Rattle.keep_store.specs.declared.store.Store.{Store}
 use Rattle.keep_store.specs.Books.{Book, IsBook, file_of}
-use Rattle.keep_store.specs.Stores.{book_of, journal_of, lines_in, path_in}
+use Rattle.keep_store.specs.Stores.{book_of, journal_of, lines_in, path_of_store}
 
 -- the text of a file that says all that is kept, with the margin of the one that was read, and what is read of it
-abbrev pub Says : Book → List ℕ → Served → Type 0
-Says b text v = IsSettled (Some b.file.margin) None b.rows text v
+abbrev pub SaysAllKept : Book → List ℕ → Served → Type 0
+SaysAllKept b text v = TextIsSettled (Some b.file.margin) None b.rows text v
 
 -- the line that says that the file with this text holds every change before
 abbrev pub mark_line : List ℕ → List ℕ
@@ -32,20 +32,20 @@ pub record IsMovedBook (old : Book) (text : List ℕ) (v : Served) (new : Book) 
   pub secrets : new.secrets ≡ old.secrets
 
 -- the file is there with that text, and no change is left in the journal
-pub record IsMoved (known : Bool) (old : Store) (target : List ℕ) (mode : ℕ) (text : List ℕ) (new : Store) (s : State) : Type 0 where
+pub record IsMoved (known : Bool) (old : Store) (target : List ℕ) (mode : ℕ) (text : List ℕ) (new : Store) (s : DiskState) : Type 0 where
   pub served : Served
-  pub says : Says (book_of old) text served
+  pub says : SaysAllKept (book_of old) text served
   pub book : IsMovedBook (book_of old) text served (book_of new)
   pub lines : lines_in new ≡ []
-  pub there : IsTrue known → journals.IsThere target (record { mode = mode; bytes = text }) s
-  pub whole : IsTrue known → journals.IsWhole (journal_of new) s
+  pub there : IsTrue known → journals.FileIsThere target (record { mode = mode; bytes = text }) s
+  pub whole : IsTrue known → journals.JournalIsWhole (journal_of new) s
 
 -- the file that was read has that text already, by its fingerprint
 abbrev pub SaysAlready : Book → Type 0
-SaysAlready b = (text : List ℕ) × (v : Served) × Says b text v × (fingerprint text ≡ b.file.mark)
+SaysAlready b = (text : List ℕ) × (v : Served) × SaysAllKept b text v × (fingerprint text ≡ b.file.mark)
 
 -- the file has become what is kept, with this text; or it said all that before, and all stays as it was
-abbrev pub IsMovedIf : Bool → Store → List ℕ → ℕ → Option (List ℕ) → Store → State → Type 0
+abbrev pub IsMovedIf : Bool → Store → List ℕ → ℕ → Option (List ℕ) → Store → DiskState → Type 0
 IsMovedIf known old target mode (Some text) new s = IsMoved known old target mode text new s
 IsMovedIf known old target mode None new s = (new ≡ old) × SaysAlready (book_of old)
 
@@ -63,7 +63,7 @@ IsWhyUnsettled b present OutOfMemory = Unit {0}
 
 -- what a crash leaves meanwhile: all as it might have been left before; or the old file, with the mark of the new text or without
 -- it; or the new one, with every change and that mark, or with none
-abbrev pub LeftByMove : Store → List ℕ → ℕ → State → Image → Type 0
+abbrev pub LeftByMove : Store → List ℕ → ℕ → DiskState → Image → Type 0
 LeftByMove store target mode s c = s.may_leave c
-    ⊎ ((text : List ℕ) × (v : Served) × Says (book_of store) text v
-    × journals.Settling (path_in store) target (record { mode = mode; bytes = text }) (lines_in store) (mark_line text) s c)
+    ⊎ ((text : List ℕ) × (v : Served) × SaysAllKept (book_of store) text v
+    × journals.Settling (path_of_store store) target (record { mode = mode; bytes = text }) (lines_in store) (mark_line text) s c)

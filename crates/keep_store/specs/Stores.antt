@@ -10,12 +10,12 @@ use Rattle.keep_change.specs.Compaction.{is_need}
 use Rattle.keep_change.specs.Records.{record_of}
 use Rattle.keep_change.specs.Replay.{replayed}
 use Rattle.keep_journal.specs.declared.journal.Journal.{Journal}
-use Rattle.keep_journal.specs.Journals.{lines_of, path_of}
+use Rattle.keep_journal.specs.Journals.{lines_of_journal, path_of_journal}
 use Rattle.keep_store.specs.declared.fault.FileFault.{FileFault}
 use Rattle.keep_store.specs.declared.store.Opened.{Opened}
 use Rattle.keep_store.specs.declared.store.Store.{Store}
-use Rattle.keep_store.specs.Books.{Book, IsBookIf, IsFaultOf}
-use Rattle.keep_store.specs.Entering.{IsChanged, line_for}
+use Rattle.keep_store.specs.Books.{Book, IsBookIf, IsFileFaultOf}
+use Rattle.keep_store.specs.Entering.{IsChanged, line_for_change}
 use Rattle.keep_store.specs.Records.{records_in}
 
 abbrev pub journal_of : Store → Journal
@@ -25,29 +25,29 @@ abbrev pub book_of : Store → Book
 book_of store = store.book
 
 abbrev pub lines_in : Store → List (List ℕ)
-lines_in store = lines_of store.journal
+lines_in store = lines_of_journal store.journal
 
-abbrev pub path_in : Store → List ℕ
-path_in store = path_of store.journal
+abbrev pub path_of_store : Store → List ℕ
+path_of_store store = path_of_journal store.journal
 
 -- the rows are those that the file and the journal give together: all changes that were acknowledged, in order
 abbrev pub IsReplayed : Store → Type 0
 IsReplayed store = (replayed store.book.file (records_in (lines_in store))).rows ≡ store.book.rows
 
 -- a store after a change that was taken, which its journal keeps; and whether it is a need
-pub record IsTaken (old : Store) (name : List ℕ) (w : What) (need : Bool) (new : Store) : Type 0 where
+pub record ChangeIsTaken (old : Store) (name : List ℕ) (w : What) (need : Bool) (new : Store) : Type 0 where
   pub change : Change
   pub changed : IsChanged old.book name w change new.book
-  pub lines : lines_in new ≡ lines_in old ++ line_for old.book.file name w ∷ []
-  pub path : path_in new ≡ path_in old
+  pub lines : lines_in new ≡ lines_in old ++ line_for_change old.book.file name w ∷ []
+  pub path : path_of_store new ≡ path_of_store old
   pub needed : need ≡ is_need change.what
 
 -- the book is that of the file where there is no fault; else the fault is that of the file, and the book is that of its copy
-abbrev pub IsFrom : Option (List ℕ) → Option (List ℕ) → Option FileFault → List Record → Book → List Note → Type 0
-IsFrom file copy None records b notes = IsBookIf file records [] b notes
-IsFrom file copy (Some fault) records b notes = IsFaultOf file fault × IsBookIf copy records [] b notes
+abbrev pub BookIsFrom : Option (List ℕ) → Option (List ℕ) → Option FileFault → List Record → Book → List Note → Type 0
+BookIsFrom file copy None records b notes = IsBookIf file records [] b notes
+BookIsFrom file copy (Some fault) records b notes = IsFileFaultOf file fault × IsBookIf copy records [] b notes
 
 -- a store at a start, over this journal
-pub record IsOpened (file copy : Option (List ℕ)) (journal : Journal) (o : Opened) : Type 0 where
+pub record StoreIsOpened (file copy : Option (List ℕ)) (journal : Journal) (o : Opened) : Type 0 where
   pub journal_is : journal_of o.store ≡ journal
-  pub book : IsFrom file copy o.fault (records_in (lines_of journal)) (book_of o.store) o.notes.items
+  pub book : BookIsFrom file copy o.fault (records_in (lines_of_journal journal)) (book_of o.store) o.notes.items

@@ -1,7 +1,7 @@
 ghost use Rattle.std.specs.Prelude.{◌≡◌, IfErr, IfOk, OnErr, OnOk, Ok, option_copied, string_bytes};
 ghost use Rattle.keep_served.specs.ForGood.{inventory_for_good};
-ghost use Rattle.keep_store.specs.Books.{HasSecrets, IsBook, IsBookIf, IsBookOf, IsFault, IsFaultOf, IsFileOf, IsTextOf, file_of};
-ghost use Rattle.keep_store.specs.Moved.{IsMovedBook, Says};
+ghost use Rattle.keep_store.specs.Books.{HasSecrets, IsBook, IsBookIf, IsBookOf, IsFault, IsFileFaultOf, IsFileOf, IsTextOf, file_of};
+ghost use Rattle.keep_store.specs.Moved.{IsMovedBook, SaysAllKept};
 
 use crate::fault::{FileFault, faulty, unhanded};
 use crate::handing::handed;
@@ -110,6 +110,13 @@ impl Book {
         self.text = text;
     }
 
+    /// What was taken from files of secrets, the last of each.
+    pub fn secrets(&self) -> &[Secret]
+        ensures { result.now ≡ self.now.secrets }
+    {
+        &self.secrets
+    }
+
     /// Has from now on what these files of secrets have given. Where that cannot be handed on, as where two entries of a kind would have
     /// one credential, all is as it was.
     pub fn take_secrets(&mut self, alloc: Global, secrets: Vec<Secret>) -> Result<(), SettleFault>
@@ -129,7 +136,7 @@ impl Book {
         text: &str,
         served: &Served,
     ) -> Result<Book, SettleFault>
-        requires { Says self.now text.now served.now }
+        requires { SaysAllKept self.now text.now served.now }
         ensures { IfOk result (IsMovedBook self.now text.now served.now) }
     {
         let file = file_with(alloc, text.as_bytes(), served)?;
@@ -200,7 +207,7 @@ pub(crate) fn read_if(
     secrets: &[Secret],
 ) -> Result<(Book, Vec<Note>), FileFault>
     ensures read { IfOk result (λ r. IsBookIf (option_copied bytes.entry) records.now secrets.now r.0 r.1.items) }
-    ensures refused { IfErr result (IsFaultOf (option_copied bytes.entry)) }
+    ensures refused { IfErr result (IsFileFaultOf (option_copied bytes.entry)) }
 {
     match bytes {
         None => Err(FileFault::Unread),

@@ -17,10 +17,10 @@ const LOOK_EVERY: usize = 1000;
 impl<'a> Store<'a> {
     ghost use Rattle.std.specs.Prelude.{◌≡◌, IfOk, IsTrue, OnErr, if◌then◌else◌};
     ghost use Rattle.keep_disk.specs.State.{LeavesOnly};
-    ghost use Rattle.keep_journal.specs.Journals.{Holds, KeepsOthers, Leaves};
+    ghost use Rattle.keep_journal.specs.Journals.{CrashLeaves, JournalHolds, KeepsOthers};
     ghost use Rattle.keep_journal.specs.Records.{StandsFor};
     ghost use Rattle.keep_store.specs.Compacted.{compacted_lines, is_worth};
-    ghost use Rattle.keep_store.specs.Stores.{IsReplayed, book_of, journal_of, lines_in, path_in};
+    ghost use Rattle.keep_store.specs.Stores.{IsReplayed, book_of, journal_of, lines_in, path_of_store};
 
     /// Takes out of the journal each record that a later one makes void, where that is worth while: [`COMPACT_AT`] or more are void, and
     /// each line writes a record. `true` then. What is kept stays as it is, and so does what any file gives with the journal.
@@ -29,20 +29,20 @@ impl<'a> Store<'a> {
     /// those of the disk, and lack of memory; the lines are as they were then.
     #[tactic(auto, using(crate::proofs::Undamaged::compacted_is))]
     pub fn compact<D: Disk>(&mut self, disk: &mut D) -> Result<bool, DiskFault>
-        requires held { Holds D.is_known (journal_of self.old) (D.state disk.old) }
+        requires held { JournalHolds D.is_known (journal_of self.old) (D.state disk.old) }
         requires replayed { IsReplayed self.old }
         ensures worth { IfOk result (λ done. done ≡ is_worth (lines_in self.old)) }
         ensures lines { IfOk result (λ done. lines_in self.new ≡ (if done then compacted_lines (lines_in self.old) else lines_in self.old)) }
         ensures refused { OnErr result (lines_in self.new ≡ lines_in self.old) }
         ensures book { book_of self.new ≡ book_of self.old }
-        ensures path { path_in self.new ≡ path_in self.old }
-        ensures held { Holds D.is_known (journal_of self.new) (D.state disk.new) }
+        ensures path { path_of_store self.new ≡ path_of_store self.old }
+        ensures held { JournalHolds D.is_known (journal_of self.new) (D.state disk.new) }
         ensures replayed { IsReplayed self.new }
 
         // A crash at any moment leaves the lines, or those that stay.
         ensures any_moment { IsTrue D.is_known → LeavesOnly (D.state disk.old) (D.state disk.new)
-            (Leaves (path_in self.old) (λ file. StandsFor file (compacted_lines (lines_in self.old))) (D.state disk.old)) }
-        ensures others { IsTrue D.is_known → KeepsOthers (path_in self.old) (D.state disk.old) (D.state disk.new) }
+            (CrashLeaves (path_of_store self.old) (λ file. StandsFor file (compacted_lines (lines_in self.old))) (D.state disk.old)) }
+        ensures others { IsTrue D.is_known → KeepsOthers (path_of_store self.old) (D.state disk.old) (D.state disk.new) }
     {
         let Some(voids) = worth(self.alloc, self.journal.records())? else {
             return Ok(false);

@@ -1,9 +1,9 @@
 ghost use Rattle.std.specs.Prelude.{◌≡◌, ◌-◌, ◌++◌, IfOk, IsTrue, OnErr, OnOk, false, length, is_none};
 ghost use Rattle.std.specs.Str.{bytes_eq};
 ghost use Rattle.keep_change.specs.Records.{record_of};
-ghost use Rattle.keep_disk.specs.State.{LeavesOnly, Tells};
-ghost use Rattle.keep_journal.specs.Journals.{Exchanging, Holds, IsThere, IsWhole, bytes_of, lines_of, path_of};
-ghost use Rattle.keep_journal.specs.Records.{StandsFor, taken};
+ghost use Rattle.keep_disk.specs.State.{LeavesOnly, TellsFailure};
+ghost use Rattle.keep_journal.specs.Journals.{Exchanging, FileIsThere, JournalHolds, JournalIsWhole, bytes_of_file, lines_of_journal, path_of_journal};
+ghost use Rattle.keep_journal.specs.Records.{StandsFor, lines_taken_out};
 ghost use Rattle.keep_store.specs.Compacted.{damages, undamaged};
 ghost use Rattle.keep_store.specs.Records.{records_in};
 
@@ -16,7 +16,7 @@ use std::alloc::{AllocError, Global};
 
 /// How many lines of a journal write no record, as no command has made them. The only error is lack of memory.
 pub fn count_damaged(alloc: Global, journal: &Journal<'_>) -> Result<usize, AllocError>
-    ensures { IfOk result (λ count. count ≡ length (lines_of journal.now) - length (records_in (lines_of journal.now))) }
+    ensures { IfOk result (λ count. count ≡ length (lines_of_journal journal.now) - length (records_in (lines_of_journal journal.now))) }
 {
     let lines = journal.records();
     let records = records_in(alloc, lines)?;
@@ -34,21 +34,21 @@ pub fn set_damaged_aside<D: Disk>(
     journal: &mut Journal<'_>,
     aside: &str,
 ) -> Result<(), DiskFault>
-    requires apart { bytes_eq (path_of journal.old) aside.now ≡ false }
-    requires held { Holds D.is_known journal.old (D.state disk.old) }
-    ensures taken_out { OnOk result ((lines_of journal.new ≡ undamaged (lines_of journal.old)) × (IsTrue D.is_known → IsWhole journal.new (D.state disk.new))) }
-    ensures there { OnOk result (IsTrue D.is_known → IsThere aside.now
-        (record { mode = 384; bytes = bytes_of ((D.state disk.old).seen aside.now) ++ taken (lines_of journal.old) (damages (lines_of journal.old)) }) (D.state disk.new)) }
-    ensures refused { OnErr result (lines_of journal.new ≡ lines_of journal.old) }
-    ensures records { records_in (lines_of journal.new) ≡ records_in (lines_of journal.old) }
-    ensures path { path_of journal.new ≡ path_of journal.old }
-    ensures held { Holds D.is_known journal.new (D.state disk.new) }
+    requires apart { bytes_eq (path_of_journal journal.old) aside.now ≡ false }
+    requires held { JournalHolds D.is_known journal.old (D.state disk.old) }
+    ensures taken_out { OnOk result ((lines_of_journal journal.new ≡ undamaged (lines_of_journal journal.old)) × (IsTrue D.is_known → JournalIsWhole journal.new (D.state disk.new))) }
+    ensures there { OnOk result (IsTrue D.is_known → FileIsThere aside.now
+        (record { mode = 384; bytes = bytes_of_file ((D.state disk.old).seen aside.now) ++ lines_taken_out (lines_of_journal journal.old) (damages (lines_of_journal journal.old)) }) (D.state disk.new)) }
+    ensures refused { OnErr result (lines_of_journal journal.new ≡ lines_of_journal journal.old) }
+    ensures records { records_in (lines_of_journal journal.new) ≡ records_in (lines_of_journal journal.old) }
+    ensures path { path_of_journal journal.new ≡ path_of_journal journal.old }
+    ensures held { JournalHolds D.is_known journal.new (D.state disk.new) }
 
     // A crash at any moment leaves the damaged lines in the journal, or in the file aside, or in both.
-    ensures any_moment { IsTrue D.is_known → LeavesOnly (D.state disk.old) (D.state disk.new) (Exchanging (path_of journal.old) aside.now
-        (record { mode = 384; bytes = bytes_of ((D.state disk.old).seen aside.now) ++ taken (lines_of journal.old) (damages (lines_of journal.old)) })
-        (λ file. StandsFor file (undamaged (lines_of journal.old))) (D.state disk.old)) }
-    ensures cause { Tells (D.state disk.old) (D.state disk.new) result }
+    ensures any_moment { IsTrue D.is_known → LeavesOnly (D.state disk.old) (D.state disk.new) (Exchanging (path_of_journal journal.old) aside.now
+        (record { mode = 384; bytes = bytes_of_file ((D.state disk.old).seen aside.now) ++ lines_taken_out (lines_of_journal journal.old) (damages (lines_of_journal journal.old)) })
+        (λ file. StandsFor file (undamaged (lines_of_journal journal.old))) (D.state disk.old)) }
+    ensures cause { TellsFailure (D.state disk.old) (D.state disk.new) result }
 {
     let damages = damages(alloc, journal.records())?;
     journal.set_aside(disk, aside, &damages)

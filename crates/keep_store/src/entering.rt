@@ -4,9 +4,9 @@ ghost use Rattle.keep_change.specs.Records.{record_of};
 ghost use Rattle.keep_change.specs.Replay.{is_as_then};
 ghost use Rattle.keep_settle.specs.declared.fault.SettleFault.{SettleFault};
 ghost use Rattle.keep_store.specs.Books.{IsTextOf};
-ghost use Rattle.keep_store.specs.Entering.{IsWhyNot, line_for};
+ghost use Rattle.keep_store.specs.Entering.{IsWhyNot, line_for_change};
 ghost use Rattle.keep_store.specs.code.Faults.{change_in, unwritten};
-ghost use Rattle.keep_store.specs.code.Entered.{IsEntered, IsMade, IsRecorded, IsUnmade, IsUnrecorded};
+ghost use Rattle.keep_store.specs.code.Entered.{IsEntered, IsRecorded, IsUnmade, IsUnrecorded, RowsAndTextAreMade};
 
 use crate::book::{Book, text_of};
 use crate::fault::{TakeFault, unmade, unwritten};
@@ -64,7 +64,7 @@ impl Book {
     // The rows after a change, and the text of what is handed then.
     #[tactic(auto, using(crate::proofs::Entered::refused_unmade, crate::proofs::Entered::unwritten_unmade, crate::proofs::Entered::made_unrefused))]
     fn made(&self, alloc: Global, change: Change) -> Result<(Rows, String), TakeFault>
-        ensures made { IfOk result (λ r. IsMade self.now change r.0 (string_bytes r.1)) }
+        ensures made { IfOk result (λ r. RowsAndTextAreMade self.now change r.0 (string_bytes r.1)) }
         ensures refused { IfErr result (IsUnmade self.now change) }
     {
         let mut rows = self.rows.copy(alloc)?;
@@ -88,9 +88,9 @@ impl Book {
 }
 
 // The line that keeps a change of the entry of that name.
-#[tactic(auto, unfolding(crate::specs::Entering::line_for))]
+#[tactic(auto, unfolding(crate::specs::Entering::line_for_change))]
 fn line_for(alloc: Global, file: &File, name: Name, what: What) -> Result<Text, AllocError>
-    ensures { IfOk result (λ line. line ≡ line_for file.now name what) }
+    ensures { IfOk result (λ line. line ≡ line_for_change file.now name what) }
 {
     let was = said(alloc, &file.rows, name.list(), &what)?;
     keep_change::text_of(alloc, &Record::Made(Change { name, was, what }))

@@ -1,5 +1,5 @@
 ghost use Rattle.std.specs.Prelude.{◌≡◌, IfOk, option_copied, option_map};
-ghost use Rattle.keep_store.specs.Handed.{all_filled, all_ready, filled, filled_from, filled_with, handed, is_of, is_ready, of_parent, taken_from};
+ghost use Rattle.keep_store.specs.Handed.{all_filled, all_ready, filled, filled_from, filled_with, handed, holds_if_parent, is_of, is_ready, taken_from};
 
 use crate::secret::Secret;
 use keep_change::{Row, Rows};

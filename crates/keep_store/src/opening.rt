@@ -1,6 +1,6 @@
 ghost use Rattle.std.specs.Prelude.{◌≡◌, ◌⊎◌, [], IfErr, IfOk, Some, option_copied};
-ghost use Rattle.keep_store.specs.Books.{IsBookIf, IsFaultOf};
-ghost use Rattle.keep_store.specs.Stores.{IsFrom};
+ghost use Rattle.keep_store.specs.Books.{IsBookIf, IsFileFaultOf};
+ghost use Rattle.keep_store.specs.Stores.{BookIsFrom};
 ghost use Rattle.keep_store.specs.declared.fault.FileFault.TheVariants.{OutOfMemory};
 
 use crate::book::{Book, read_if};
@@ -13,8 +13,8 @@ use std::alloc::Global;
 
 impl<'a> Store<'a> {
     ghost use Rattle.std.specs.Prelude.{◌≡◌, IfErr, IfOk, option_copied};
-    ghost use Rattle.keep_store.specs.Stores.{IsOpened, IsReplayed};
-    ghost use Rattle.keep_store.specs.Books.{IsFaultOf};
+    ghost use Rattle.keep_store.specs.Stores.{IsReplayed, StoreIsOpened};
+    ghost use Rattle.keep_store.specs.Books.{IsFileFaultOf};
 
     /// What is kept from a start on, over an open journal: the file with these bytes and every change of the journal in order; or, where
     /// the file cannot be had or is not served, its last good copy with them. A line of the journal that writes no record counts for
@@ -30,9 +30,9 @@ impl<'a> Store<'a> {
         file: Option<&[u8]>,
         copy: Option<&[u8]>,
     ) -> Result<Opened<'a>, FileFault>
-        ensures opened { IfOk result (IsOpened (option_copied file.entry) (option_copied copy.entry) journal.entry) }
+        ensures opened { IfOk result (StoreIsOpened (option_copied file.entry) (option_copied copy.entry) journal.entry) }
         ensures replayed { IfOk result (λ opened. IsReplayed opened.store) }
-        ensures refused { IfErr result (IsFaultOf (option_copied file.entry)) }
+        ensures refused { IfErr result (IsFileFaultOf (option_copied file.entry)) }
     {
         let records = records_in(alloc, journal.records())?;
         let (book, notes, fault) = good_of(alloc, file, copy, &records)?;
@@ -57,8 +57,8 @@ fn good_of(
     copy: Option<&[u8]>,
     records: &[Record],
 ) -> Result<(Book, Vec<Note>, Option<FileFault>), FileFault>
-    ensures good { IfOk result (λ r. IsFrom (option_copied file.entry) (option_copied copy.entry) r.2 records.now r.0 r.1.items) }
-    ensures refused { IfErr result (IsFaultOf (option_copied file.entry)) }
+    ensures good { IfOk result (λ r. BookIsFrom (option_copied file.entry) (option_copied copy.entry) r.2 records.now r.0 r.1.items) }
+    ensures refused { IfErr result (IsFileFaultOf (option_copied file.entry)) }
 {
     match read_if(alloc, file, records, &[]) {
         Ok((book, notes)) => Ok((book, notes, None)),

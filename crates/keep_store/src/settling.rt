@@ -27,10 +27,10 @@ struct Moving {
 impl<'a> Store<'a> {
     ghost use Rattle.std.specs.Prelude.{◌≡◌, IfErr, IfOk, IsTrue, OnErr, false, option_map, string_bytes};
     ghost use Rattle.std.specs.Str.{bytes_eq};
-    ghost use Rattle.keep_disk.specs.State.{LeavesOnly, Tells};
-    ghost use Rattle.keep_journal.specs.Journals.{Holds};
+    ghost use Rattle.keep_disk.specs.State.{LeavesOnly, TellsFailure};
+    ghost use Rattle.keep_journal.specs.Journals.{JournalHolds};
     ghost use Rattle.keep_store.specs.Moved.{HasMarkAtMost, IsMovedIf, IsWhyUnsettled, LeftByMove};
-    ghost use Rattle.keep_store.specs.Stores.{IsReplayed, book_of, journal_of, path_in};
+    ghost use Rattle.keep_store.specs.Stores.{IsReplayed, book_of, journal_of, path_of_store};
 
     /// Makes the file at `target`, whose bytes are `present`, one that says all that is kept, with this mode, and the journal empty.
     /// It gives the text that the file has then; `None`: the file says all that already, and nothing is written.
@@ -46,15 +46,15 @@ impl<'a> Store<'a> {
         mode: u32,
         present: &[u8],
     ) -> Result<Option<String>, Unsettled>
-        requires apart { bytes_eq (path_in self.old) target.now ≡ false }
-        requires held { Holds D.is_known (journal_of self.old) (D.state disk.old) }
+        requires apart { bytes_eq (path_of_store self.old) target.now ≡ false }
+        requires held { JournalHolds D.is_known (journal_of self.old) (D.state disk.old) }
         requires replayed { IsReplayed self.old }
         ensures settled { IfOk result (λ text. IsMovedIf D.is_known self.old target.now mode (option_map string_bytes text) self.new (D.state disk.new)) }
         ensures refused { IfErr result (IsWhyUnsettled (book_of self.old) present.now) }
         ensures book { OnErr result (book_of self.new ≡ book_of self.old) }
         ensures lines { OnErr result (HasMarkAtMost self.old self.new) }
-        ensures path { path_in self.new ≡ path_in self.old }
-        ensures held { Holds D.is_known (journal_of self.new) (D.state disk.new) }
+        ensures path { path_of_store self.new ≡ path_of_store self.old }
+        ensures held { JournalHolds D.is_known (journal_of self.new) (D.state disk.new) }
         ensures replayed { IsReplayed self.new }
 
         // A crash at any moment leaves what gives the same inventory: `a_crash_while_settling_changes_nothing`.

@@ -33,15 +33,15 @@ pub struct Opened<'a> {
 impl<'a> Store<'a> {
     ghost use Rattle.std.specs.Prelude.{◌≡◌, Ok, IfErr, IfOk, OnErr, OnOk, IsTrue, false, option_copied};
     ghost use Rattle.std.specs.Str.{bytes_eq};
-    ghost use Rattle.keep_disk.specs.State.{Follows, IsAfter, LeavesOnly, Tells};
-    ghost use Rattle.keep_disk.specs.Torn.{Moves};
-    ghost use Rattle.keep_journal.specs.Journals.{Holds, IsThere, IsWhole, KeepsOthers, Leaves};
+    ghost use Rattle.keep_disk.specs.State.{IsAfter, LeavesOnly, OutcomesFollow, TellsFailure};
+    ghost use Rattle.keep_disk.specs.Torn.{MovesFile};
+    ghost use Rattle.keep_journal.specs.Journals.{CrashLeaves, FileIsThere, JournalHolds, JournalIsWhole, KeepsOthers};
     ghost use Rattle.keep_journal.specs.Records.{IsBeforeOrAfter};
     ghost use Rattle.keep_served.specs.ForGood.{inventory_for_good};
-    ghost use Rattle.keep_store.specs.Books.{HasSecrets, IsBookIf, IsFaultOf};
-    ghost use Rattle.keep_store.specs.Entering.{IsWhyNot, line_for};
+    ghost use Rattle.keep_store.specs.Books.{HasSecrets, IsBookIf, IsFileFaultOf};
+    ghost use Rattle.keep_store.specs.Entering.{IsWhyNot, line_for_change};
     ghost use Rattle.keep_store.specs.Records.{records_in};
-    ghost use Rattle.keep_store.specs.Stores.{IsReplayed, IsTaken, book_of, journal_of, lines_in, path_in};
+    ghost use Rattle.keep_store.specs.Stores.{ChangeIsTaken, IsReplayed, book_of, journal_of, lines_in, path_of_store};
 
     /// What the file says, and what is served.
     pub fn book(&self) -> &Book
@@ -71,21 +71,21 @@ impl<'a> Store<'a> {
     ///
     /// The first in the order of [`TakeFault`]. All is as it was then, but that the disk may have the change where that has failed.
     pub fn take<D: Disk>(&mut self, disk: &mut D, name: Name, what: What) -> Result<bool, TakeFault>
-        requires held { Holds D.is_known (journal_of self.old) (D.state disk.old) }
+        requires held { JournalHolds D.is_known (journal_of self.old) (D.state disk.old) }
         requires replayed { IsReplayed self.old }
-        ensures taken { IfOk result (λ need. IsTaken self.old name what need self.new) }
-        ensures acknowledged { OnOk result (IsTrue D.is_known → IsWhole (journal_of self.new) (D.state disk.new)) }
+        ensures taken { IfOk result (λ need. ChangeIsTaken self.old name what need self.new) }
+        ensures acknowledged { OnOk result (IsTrue D.is_known → JournalIsWhole (journal_of self.new) (D.state disk.new)) }
         ensures refused { IfErr result (IsWhyNot (book_of self.old) name what) }
         ensures book { OnErr result (book_of self.new ≡ book_of self.old) }
         ensures lines { OnErr result (lines_in self.new ≡ lines_in self.old) }
-        ensures path { OnErr result (path_in self.new ≡ path_in self.old) }
-        ensures held { Holds D.is_known (journal_of self.new) (D.state disk.new) }
+        ensures path { OnErr result (path_of_store self.new ≡ path_of_store self.old) }
+        ensures held { JournalHolds D.is_known (journal_of self.new) (D.state disk.new) }
         ensures replayed { IsReplayed self.new }
 
         // A crash at any moment leaves the journal with the change or without it.
         ensures any_moment { IsTrue D.is_known → LeavesOnly (D.state disk.old) (D.state disk.new)
-            (Leaves (path_in self.old) (IsBeforeOrAfter (lines_in self.old) (line_for (book_of self.old).file name what)) (D.state disk.old)) }
-        ensures others { IsTrue D.is_known → KeepsOthers (path_in self.old) (D.state disk.old) (D.state disk.new) }
+            (CrashLeaves (path_of_store self.old) (IsBeforeOrAfter (lines_in self.old) (line_for_change (book_of self.old).file name what)) (D.state disk.old)) }
+        ensures others { IsTrue D.is_known → KeepsOthers (path_of_store self.old) (D.state disk.old) (D.state disk.new) }
     {
         let entered = self.book.enter(self.alloc, name, what)?;
         let Entered {
@@ -113,7 +113,7 @@ impl<'a> Store<'a> {
     pub fn reload(&mut self, bytes: Option<&[u8]>) -> Result<Vec<Note>, FileFault>
         requires replayed { IsReplayed self.old }
         ensures reloaded { IfOk result (λ notes. IsBookIf (option_copied bytes.entry) (records_in (lines_in self.old)) (book_of self.old).secrets (book_of self.new) notes.items) }
-        ensures refused { IfErr result (IsFaultOf (option_copied bytes.entry)) }
+        ensures refused { IfErr result (IsFileFaultOf (option_copied bytes.entry)) }
         ensures unchanged { OnErr result (book_of self.new ≡ book_of self.old) }
         ensures journal { journal_of self.new ≡ journal_of self.old }
         ensures replayed { IsReplayed self.new }
@@ -143,17 +143,17 @@ impl<'a> Store<'a> {
         copy: &str,
         bytes: &[u8],
     ) -> Result<(), DiskFault>
-        requires apart { bytes_eq (path_in self.now) copy.now ≡ false }
-        requires held { Holds D.is_known (journal_of self.now) (D.state disk.old) }
-        ensures there { OnOk result (IsTrue D.is_known → IsThere copy.now (record { mode = FILE_MODE; bytes = bytes.now }) (D.state disk.new)) }
-        ensures held { Holds D.is_known (journal_of self.now) (D.state disk.new) }
+        requires apart { bytes_eq (path_of_store self.now) copy.now ≡ false }
+        requires held { JournalHolds D.is_known (journal_of self.now) (D.state disk.old) }
+        ensures there { OnOk result (IsTrue D.is_known → FileIsThere copy.now (record { mode = FILE_MODE; bytes = bytes.now }) (D.state disk.new)) }
+        ensures held { JournalHolds D.is_known (journal_of self.now) (D.state disk.new) }
         ensures others { IsTrue D.is_known → KeepsOthers copy.now (D.state disk.old) (D.state disk.new) }
-        ensures crash { IsTrue D.is_known → Follows (Moves copy.now (record { mode = FILE_MODE; bytes = bytes.now })) (D.state disk.old) (D.state disk.new) }
+        ensures crash { IsTrue D.is_known → OutcomesFollow (MovesFile copy.now (record { mode = FILE_MODE; bytes = bytes.now })) (D.state disk.old) (D.state disk.new) }
 
         // A crash at any moment leaves the old copy, or the new one whole; and so does a fault.
         ensures any_moment { IsTrue D.is_known → LeavesOnly (D.state disk.old) (D.state disk.new)
-            (IsAfter (Moves copy.now (record { mode = FILE_MODE; bytes = bytes.now })) (D.state disk.old)) }
-        ensures cause { Tells (D.state disk.old) (D.state disk.new) result }
+            (IsAfter (MovesFile copy.now (record { mode = FILE_MODE; bytes = bytes.now })) (D.state disk.old)) }
+        ensures cause { TellsFailure (D.state disk.old) (D.state disk.new) result }
     {
         replace(disk, copy, FILE_MODE, bytes)
     }

@@ -3,10 +3,10 @@ ghost use Rattle.std.specs.Prelude.{IfOk};
 ghost use Rattle.keep_disk.specs.Memory.{memory_state};
 ghost use Rattle.store_tests.specs.Starts.{AllKept};
 
-use crate::starts::{FILE, JOURNAL, disk_of, seen, start};
+use crate::plays::{Play, Step};
+use crate::starts::{FILE, JOURNAL};
 use keep_disk::{FILE_MODE, Failing, Held, MemoryDisk, Stored, Why};
 use std::alloc::{AllocError, Global};
-use std::process::Abort;
 use std::test::Fail;
 
 // The line by which web is needed until that moment, where FILE says this of its need.
@@ -14,16 +14,20 @@ fn line(alloc: Global, was: u64, until: u64) -> Result<String, AllocError> {
     format!(in alloc; "+need web {was} {until}\n")
 }
 
-// The bytes of a journal of so many lines, of which later ones make so many void; the others were beside words that FILE never said.
+// The line of that number in a journal of which later lines make so many void; the others were beside words that FILE never said.
+fn numbered(alloc: Global, number: u64, voids: u64) -> Result<String, AllocError> {
+    if number <= voids {
+        line(alloc, 1200, number.saturating_add(1300))
+    } else {
+        line(alloc, number.saturating_add(5000), 1300)
+    }
+}
+
+// The bytes of a journal of so many lines, of which later ones make so many void.
 fn bytes_of(alloc: Global, lines: u64, voids: u64) -> Result<String, AllocError> {
     let mut text = String::new(alloc);
     for number in 0..lines {
-        let line = if number <= voids {
-            line(alloc, 1200, number.saturating_add(1300))?
-        } else {
-            line(alloc, number.saturating_add(5000), 1300)?
-        };
-        text.push_str(line.as_str())?;
+        text.push_str(numbered(alloc, number, voids)?.as_str())?;
     }
     text.push_str("-")?;
     Ok(text)
@@ -44,36 +48,45 @@ fn disk_with(alloc: Global, bytes: &str) -> Result<MemoryDisk, AllocError>
     Ok(MemoryDisk::new(alloc, files, Failing::Never, Why::Other))
 }
 
-// How many lines a start finds once such a journal was to be compacted, and whether it was. Web is needed by both until the same moment.
-fn compacted<R: AllocGlobal + Abort>(
-    rt: &R,
+// What comes of a journal by which web is needed until that moment, before it is to be compacted, after that and after a restart: whether
+// it is compacted, and how many lines a start finds then.
+fn steps(until: u64, is_done: bool, left: usize) -> [Step; 6] {
+    [
+        Step::Serves(b"web", until, b"hvs.web"),
+        Step::Compact(is_done),
+        Step::Serves(b"web", until, b"hvs.web"),
+        Step::Restart,
+        Step::Serves(b"web", until, b"hvs.web"),
+        Step::Lines(left),
+    ]
+}
+
+// The number of the first step of which something else comes, with a journal of so many lines, of which so many are void.
+fn first_wrong(
+    alloc: Global,
     lines: u64,
     voids: u64,
-) -> Result<(bool, usize), Fail> {
-    let alloc = rt.alloc();
+    steps: &[Step],
+) -> Result<Option<usize>, Fail> {
     let bytes = bytes_of(alloc, lines, voids)?;
-    let mut disk = disk_with(alloc, bytes.as_str())?;
-    let mut store = start(alloc, &mut disk, FILE)?;
-    let until = voids.saturating_add(1300);
-    assert!(rt; seen(&store, b"web", b"hvs.web")? == Some((until, true)));
-    let is_done = store.compact(&mut disk)?;
-    assert!(rt; seen(&store, b"web", b"hvs.web")? == Some((until, true)));
-    let mut left = disk_of(alloc, Some(&disk), 3, Failing::Never)?;
-    let again = start(alloc, &mut left, FILE)?;
-    assert!(rt; seen(&again, b"web", b"hvs.web")? == Some((until, true)));
-    Ok((is_done, again.lines().len()))
+    let disk = disk_with(alloc, bytes.as_str())?;
+    Play::over(alloc, disk, FILE)?.first_wrong(steps)
 }
 
 #[test]
 fn a_thousand_void_records_are_taken_out(rt: HostRuntime) -> Result<(), Fail> {
-    assert!(rt; compacted(&rt, 2000, 999)? == (false, 2000));
-    assert!(rt; compacted(&rt, 2000, 1000)? == (true, 1000));
+    let too_few = first_wrong(rt.alloc(), 2000, 999, &steps(2299, false, 2000))?;
+    assert_eq!(rt; too_few, None);
+    let enough = first_wrong(rt.alloc(), 2000, 1000, &steps(2300, true, 1000))?;
+    assert_eq!(rt; enough, None);
     Ok(())
 }
 
 #[test]
 fn it_is_looked_once_in_a_thousand_lines(rt: HostRuntime) -> Result<(), Fail> {
-    assert!(rt; compacted(&rt, 2001, 1500)? == (false, 2001));
-    assert!(rt; compacted(&rt, 1000, 999)? == (false, 1000));
+    let one_more = first_wrong(rt.alloc(), 2001, 1500, &steps(2800, false, 2001))?;
+    assert_eq!(rt; one_more, None);
+    let once = first_wrong(rt.alloc(), 1000, 999, &steps(2299, false, 1000))?;
+    assert_eq!(rt; once, None);
     Ok(())
 }

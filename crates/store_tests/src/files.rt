@@ -1,14 +1,15 @@
 //! Starts on a file or on its copy, files that change, and files of secrets.
 ghost use Rattle.std.specs.Prelude.{◌≡◌};
 
-use crate::starts::{FILE, JOURNAL, OTHER_FILE, disk_of, seen, start, take, until};
+use crate::plays::{Reloaded, Step, plays};
+use crate::starts::{Change, FILE, JOURNAL, OTHER_FILE, disk_of, seen};
 use keep_change::{Note, Why};
 use keep_disk::Failing;
 use keep_inventory::InvFault;
 use keep_journal::Journal;
-use keep_moment::{Name, Text};
-use keep_store::{FileFault, Secret, Store};
-use std::alloc::{AllocError, Global};
+use keep_store::{FileFault, Store};
+use std::alloc::Global;
+use std::process::Abort;
 use std::test::Fail;
 
 // What a start on these files says against the file, and until when the entry `web` is needed then; `None` where nothing is served.
@@ -22,24 +23,41 @@ fn begun(
     match Store::open(alloc, journal, file, copy) {
         Ok(opened) => {
             let found = seen(&opened.store, b"web", b"hvs.web")?;
-            Ok((opened.fault, found.map(|(need, _)| need)))
+            Ok((opened.fault, need_of(found)))
         }
         Err(fault) => Ok((Some(fault), None)),
     }
 }
 
+// The need of what is seen.
+fn need_of(found: Option<(u64, bool)>) -> Option<u64> {
+    match found {
+        None => None,
+        Some((need, _)) => Some(need),
+    }
+}
+
+const UNREAD: FileFault = FileFault::Unread;
+
+const FAULTY: FileFault = FileFault::Faulty(InvFault::NotToml);
+
+// Files and their copies, and how a start on them is answered.
+const BEGUN: [(Option<&[u8]>, Option<&[u8]>, Option<FileFault>, Option<u64>); 7] = [
+    (Some(FILE), None, None, Some(1200)),
+    (Some(FILE), Some(OTHER_FILE), None, Some(1200)),
+    (None, Some(OTHER_FILE), Some(UNREAD), Some(1250)),
+    (Some(b"["), Some(OTHER_FILE), Some(FAULTY), Some(1250)),
+    (Some(b"["), None, Some(FAULTY), None),
+    (Some(b"["), Some(b"]"), Some(FAULTY), None),
+    (None, None, Some(UNREAD), None),
+];
+
 #[test]
 fn a_copy_stands_for_a_faulty_file(rt: HostRuntime) -> Result<(), Fail> {
-    let alloc = rt.alloc();
-    let faulty = Some(FileFault::Faulty(InvFault::NotToml));
-    let unread = Some(FileFault::Unread);
-    assert!(rt; begun(alloc, Some(FILE), None)? == (None, Some(1200)));
-    assert!(rt; begun(alloc, Some(FILE), Some(OTHER_FILE))? == (None, Some(1200)));
-    assert!(rt; begun(alloc, None, Some(OTHER_FILE))? == (unread, Some(1250)));
-    assert!(rt; begun(alloc, Some(b"["), Some(OTHER_FILE))? == (faulty, Some(1250)));
-    assert!(rt; begun(alloc, Some(b"["), None)? == (faulty, None));
-    assert!(rt; begun(alloc, Some(b"["), Some(b"]"))? == (faulty, None));
-    assert!(rt; begun(alloc, None, None)? == (unread, None));
+    for (number, (file, copy, fault, need)) in BEGUN.iter().enumerate() {
+        let (said, served) = begun(rt.alloc(), *file, *copy)?;
+        assert!(rt; said == *fault && served == *need, "{number}");
+    }
     Ok(())
 }
 
@@ -49,63 +67,40 @@ const FILE_WINS: Note = Note {
     why: Why::FileWins,
 };
 
+const FILE_SAYS_ANOTHER_NEED: [Step; 8] = [
+    Step::Take(b"web", Change::Until(1300), Ok(true)),
+    Step::Reload(Some(OTHER_FILE), Reloaded::But(FILE_WINS)),
+    Step::Serves(b"web", 1250, b"hvs.web"),
+    Step::Reload(Some(FILE), Reloaded::Whole),
+    Step::Serves(b"web", 1300, b"hvs.web"),
+    Step::Reload(Some(b"["), Reloaded::Refused(FAULTY)),
+    Step::Reload(None, Reloaded::Refused(UNREAD)),
+    Step::Serves(b"web", 1300, b"hvs.web"),
+];
+
 #[test]
 fn a_file_that_says_something_else_wins(rt: HostRuntime) -> Result<(), Fail> {
-    let alloc = rt.alloc();
-    let mut disk = disk_of(alloc, None, 0, Failing::Never)?;
-    let mut store = start(alloc, &mut disk, FILE)?;
-    take(alloc, &mut store, &mut disk, b"web", until(1300))?;
-    assert!(rt; store.reload(Some(OTHER_FILE))?.as_slice() == [FILE_WINS].as_slice());
-    assert!(rt; seen(&store, b"web", b"hvs.web")? == Some((1250, true)));
-    assert!(rt; store.reload(Some(FILE))?.is_empty());
-    assert!(rt; seen(&store, b"web", b"hvs.web")? == Some((1300, true)));
-    assert!(rt; store.reload(Some(b"[")).err() == Some(FileFault::Faulty(InvFault::NotToml)));
-    assert!(rt; store.reload(None).err() == Some(FileFault::Unread));
-    assert!(rt; seen(&store, b"web", b"hvs.web")? == Some((1300, true)));
-    Ok(())
+    plays(&rt, FILE, &FILE_SAYS_ANOTHER_NEED)
 }
 
 // Two tokens and a lease of the second one, whose secret stands in a file.
 const IN_A_FILE: &[u8] =
     b"margin = 20\n\n[[token]]\nname = \"web\"\nissued = 1000\nend = 1060\nincrement = 60\nmax_ttl = 9000\nneed = 1200\nsecret = \"hvs.web\"\n\n[[token]]\nname = \"db\"\nissued = 1000\nend = 1060\nincrement = 60\nmax_ttl = 9000\nneed = 1250\nsecret_file = \"/run/db\"\n\n[[lease]]\nname = \"creds\"\ntoken = \"db\"\nissued = 1000\nend = 1060\nincrement = 60\nmax_ttl = 9000\nneed = 1250\nlease_id = \"db/creds/1\"\n";
 
-// What a file of that path gave for the token `db`.
-fn given(alloc: Global, file: &[u8], credential: &[u8]) -> Result<Vec<Secret>, AllocError> {
-    let mut secrets = Vec::new(alloc);
-    secrets.push(Secret {
-        name: Name::of(alloc, b"db")?,
-        file: Text::of(alloc, file)?,
-        credential: Text::of(alloc, credential)?,
-    })?;
-    Ok(secrets)
-}
+const SECRETS_COME: [Step; 10] = [
+    Step::Serves(b"web", 1200, b"hvs.web"),
+    Step::IsGone(b"db"),
+    Step::IsGone(b"creds"),
+    Step::Secret(b"/run/other", b"hvs.other", true),
+    Step::IsGone(b"db"),
+    Step::Secret(b"/run/db", b"hvs.db", true),
+    Step::Serves(b"db", 1250, b"hvs.db"),
+    Step::Serves(b"creds", 1250, b"db/creds/1"),
+    Step::Secret(b"/run/db", b"hvs.web", false),
+    Step::Serves(b"db", 1250, b"hvs.db"),
+];
 
 #[test]
 fn an_entry_waits_for_its_file(rt: HostRuntime) -> Result<(), Fail> {
-    let alloc = rt.alloc();
-    let mut disk = disk_of(alloc, None, 0, Failing::Never)?;
-    let mut store = start(alloc, &mut disk, IN_A_FILE)?;
-    assert!(rt; seen(&store, b"web", b"hvs.web")? == Some((1200, true)));
-    assert!(rt; seen(&store, b"db", b"hvs.db")? == None);
-    assert!(rt; seen(&store, b"creds", b"db/creds/1")? == None);
-    assert!(rt;
-        store
-            .take_secrets(given(alloc, b"/run/other", b"hvs.other")?)
-            .is_ok()
-    );
-    assert!(rt; seen(&store, b"db", b"hvs.other")? == None);
-    assert!(rt;
-        store
-            .take_secrets(given(alloc, b"/run/db", b"hvs.db")?)
-            .is_ok()
-    );
-    assert!(rt; seen(&store, b"db", b"hvs.db")? == Some((1250, true)));
-    assert!(rt; seen(&store, b"creds", b"db/creds/1")? == Some((1250, true)));
-    assert!(rt;
-        store
-            .take_secrets(given(alloc, b"/run/db", b"hvs.web")?)
-            .is_err()
-    );
-    assert!(rt; seen(&store, b"db", b"hvs.db")? == Some((1250, true)));
-    Ok(())
+    plays(&rt, IN_A_FILE, &SECRETS_COME)
 }

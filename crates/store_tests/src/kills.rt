@@ -2,14 +2,16 @@
 //! acknowledged, in order, and at most the one that was under way besides; and so it is where the restart is killed too.
 ghost use Rattle.std.specs.Prelude.{◌≡◌};
 ghost use Rattle.keep_disk.specs.Memory.{memory_state};
-ghost use Rattle.store_tests.specs.Starts.{AllKept, IsReady};
+ghost use Rattle.store_tests.specs.Starts.{AllKept, StoreIsReady};
 
-use crate::starts::{FILE, JOURNAL, by, disk_of, seen, start, store_over, take, until};
+use crate::plays::{Step, plays};
+use crate::starts::{
+    Change, FILE, JOURNAL, disk_of, seen, start, store_over, take, until, what_of,
+};
 use keep_disk::{Failing, MemoryDisk};
 use keep_journal::Journal;
 use keep_store::Store;
 use std::alloc::{AllocError, Global};
-use std::process::Abort;
 use std::test::Fail;
 
 // The need and the credential of the entry after none of the changes, after one, and so on.
@@ -22,12 +24,12 @@ const STATES: [(u64, &[u8]); 4] = [
 
 // Makes the changes in order, up to the first that is not acknowledged: how many were.
 fn made(alloc: Global, store: &mut Store<'_>, disk: &mut MemoryDisk) -> Result<usize, AllocError>
-    requires { IsReady store.old (memory_state disk.old) }
+    requires { StoreIsReady store.old (memory_state disk.old) }
 {
     if take(alloc, store, disk, b"web", until(1300)).is_err() {
         return Ok(0);
     }
-    let fresh = by(alloc, b"hvs.new")?;
+    let fresh = what_of(alloc, Change::By(b"hvs.new"))?;
     if take(alloc, store, disk, b"web", fresh).is_err() {
         return Ok(1);
     }
@@ -49,17 +51,28 @@ fn killed(alloc: Global, calls: u64) -> Result<(MemoryDisk, usize), Fail> {
     Ok((disk, count))
 }
 
-// How many of the changes a start on this disk serves; `None` where that is no such state.
-fn served(alloc: Global, disk: &mut MemoryDisk) -> Result<Option<usize>, Fail>
-    requires { AllKept (memory_state disk.old) }
-{
-    let store = start(alloc, disk, FILE)?;
-    for (count, (need, credential)) in STATES.iter().enumerate() {
-        if seen(&store, b"web", credential)? == Some((*need, true)) {
+// Whether the entry has that need and that credential.
+fn is_in(store: &Store<'_>, state: &(u64, &'static [u8])) -> Result<bool, AllocError> {
+    let (need, credential) = *state;
+    Ok(seen(store, b"web", credential)? == Some((need, true)))
+}
+
+// How many of the changes a store serves; `None` where that is no such state.
+fn count_of(store: &Store<'_>) -> Result<Option<usize>, AllocError> {
+    for (count, state) in STATES.iter().enumerate() {
+        if is_in(store, state)? {
             return Ok(Some(count));
         }
     }
     Ok(None)
+}
+
+// How many of the changes a start on this disk serves.
+fn served(alloc: Global, disk: &mut MemoryDisk) -> Result<Option<usize>, Fail>
+    requires { AllKept (memory_state disk.old) }
+{
+    let store = start(alloc, disk, FILE)?;
+    Ok(count_of(&store)?)
 }
 
 // The same where a restart before it was killed after so many calls.
@@ -90,46 +103,65 @@ fn holds(found: Option<usize>, acknowledged: usize) -> bool {
     found == Some(acknowledged) || found == Some(acknowledged.saturating_add(1))
 }
 
-// Kills the process after so many calls, and gives how many changes were acknowledged.
-fn is_kept<R: AllocGlobal + Abort>(rt: &R, calls: u64) -> Result<usize, Fail> {
-    let alloc = rt.alloc();
-    let (disk, acknowledged) = killed(alloc, calls)?;
-    for seed in 0..SEEDS {
-        let found = served(
-            alloc,
-            &mut disk_of(alloc, Some(&disk), seed, Failing::Never)?,
-        )?;
-        assert!(rt; holds(found, acknowledged), "{calls} {seed}");
-        for again in 0..RESTART_CALLS {
-            assert!(rt;
-                served_again(alloc, &disk, seed, again)? == found,
-                "{calls} {seed} {again}"
-            );
+// Whether a start serves so many of the changes too where a restart before it was killed, at whatever call.
+fn is_served_again(
+    alloc: Global,
+    disk: &MemoryDisk,
+    seed: u64,
+    found: Option<usize>,
+) -> Result<bool, Fail> {
+    for calls in 0..RESTART_CALLS {
+        if served_again(alloc, disk, seed, calls)? != found {
+            return Ok(false);
         }
     }
-    Ok(acknowledged)
+    Ok(true)
+}
+
+// Whether what was acknowledged is there after such a crash, and after one of the restart too.
+fn is_kept(alloc: Global, disk: &MemoryDisk, seed: u64, acknowledged: usize) -> Result<bool, Fail> {
+    let found = served(
+        alloc,
+        &mut disk_of(alloc, Some(disk), seed, Failing::Never)?,
+    )?;
+    Ok(is_served_again(alloc, disk, seed, found)? && holds(found, acknowledged))
+}
+
+// The number of the first way of tearing, counted from 0, that loses something; `None` where there is none.
+fn first_lost(alloc: Global, disk: &MemoryDisk, acknowledged: usize) -> Result<Option<u64>, Fail> {
+    for seed in 0..SEEDS {
+        if !is_kept(alloc, disk, seed, acknowledged)? {
+            return Ok(Some(seed));
+        }
+    }
+    Ok(None)
 }
 
 #[test]
 fn what_is_acknowledged_holds(rt: HostRuntime) -> Result<(), Fail> {
     let mut most = 0;
     for calls in 0..CALLS {
-        most = is_kept(&rt, calls)?.max(most);
+        let (disk, acknowledged) = killed(rt.alloc(), calls)?;
+        let lost = first_lost(rt.alloc(), &disk, acknowledged)?;
+        assert!(rt; lost.is_none(), "{calls} {lost:?}");
+        most = acknowledged.max(most);
     }
     assert!(rt; most == 3, "the last changes were never reached");
     Ok(())
 }
 
+const EVERY_KIND: [Step; 8] = [
+    Step::Serves(b"web", 1200, b"hvs.web"),
+    Step::Take(b"web", Change::Until(1300), Ok(true)),
+    Step::Take(b"web", Change::By(b"hvs.new"), Ok(false)),
+    Step::Take(b"web", Change::Until(1400), Ok(true)),
+    Step::Serves(b"web", 1400, b"hvs.new"),
+    Step::Lines(3),
+    Step::Restart,
+    Step::Serves(b"web", 1400, b"hvs.new"),
+];
+
 #[test]
 fn changes_of_every_kind_are_there_after_a_restart(rt: HostRuntime) -> Result<(), Fail> {
-    let alloc = rt.alloc();
-    let mut disk = disk_of(alloc, None, 0, Failing::Never)?;
-    let mut store = start(alloc, &mut disk, FILE)?;
-    assert!(rt; seen(&store, b"web", b"hvs.web")? == Some((1200, true)));
-    assert!(rt; made(alloc, &mut store, &mut disk)? == 3);
-    assert!(rt; seen(&store, b"web", b"hvs.new")? == Some((1400, true)));
-    assert!(rt; store.lines().len() == 3);
-    let found = served(alloc, &mut disk_of(alloc, Some(&disk), 3, Failing::Never)?)?;
-    assert!(rt; found == Some(3));
-    Ok(())
+    plays(&rt, FILE, &EVERY_KIND)
 }

@@ -14,6 +14,8 @@ mod files;
 #[cfg(test)]
 mod kills;
 #[cfg(test)]
+mod plays;
+#[cfg(test)]
 mod starts;
 #[cfg(test)]
 mod waits;

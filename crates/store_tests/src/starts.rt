@@ -1,16 +1,17 @@
 //! Disks and stores that the tests begin with, and what is seen of them.
 ghost use Rattle.std.specs.Prelude.{◌≡◌, IfOk, true};
 ghost use Rattle.keep_disk.specs.Memory.{memory_state};
-ghost use Rattle.keep_journal.specs.Journals.{Holds};
+ghost use Rattle.keep_journal.specs.Journals.{JournalHolds};
 ghost use Rattle.keep_store.specs.Stores.{IsReplayed, journal_of};
-ghost use Rattle.store_tests.specs.Starts.{AllKept, IsReady};
+ghost use Rattle.store_tests.specs.Starts.{AllKept, StoreIsReady};
 
-use keep_change::What;
+use keep_change::{Row, What};
 use keep_disk::{Failing, MemoryDisk, Stored, Why};
-use keep_inventory::Need;
+use keep_inventory::{Need, Terms};
 use keep_journal::Journal;
-use keep_moment::{Moment, Text};
-use keep_store::{FileFault, Store, TakeFault};
+use keep_moment::{Moment, Name, Text};
+use keep_store::{FileFault, Secret, Store, TakeFault};
+use keep_tree::Kind;
 use std::alloc::{AllocError, Global};
 use std::test::Fail;
 
@@ -78,7 +79,7 @@ pub(crate) fn start(
     file: &[u8],
 ) -> Result<Store<'static>, Fail>
     requires { AllKept (memory_state disk.old) }
-    ensures { IfOk result (λ store. IsReady store (memory_state disk.new)) }
+    ensures { IfOk result (λ store. StoreIsReady store (memory_state disk.new)) }
 {
     let journal = Journal::open(alloc, disk, JOURNAL)?;
     Ok(store_over(alloc, journal, file)?)
@@ -92,8 +93,8 @@ pub(crate) fn take(
     name: &[u8],
     what: What,
 ) -> Result<bool, TakeFault>
-    requires { IsReady store.old (memory_state disk.old) }
-    ensures { IsReady store.new (memory_state disk.new) }
+    requires { StoreIsReady store.old (memory_state disk.old) }
+    ensures { StoreIsReady store.new (memory_state disk.new) }
 {
     let name = Text::of(alloc, name)?;
     store.take(disk, name, what)
@@ -104,9 +105,65 @@ pub(crate) fn until(seconds: u64) -> What {
     What::Need(Need::Until(Moment::new(seconds).unwrap_or(Moment::new(0).unwrap())))
 }
 
-/// The change by which an entry has that credential.
-pub(crate) fn by(alloc: Global, credential: &[u8]) -> Result<What, AllocError> {
-    Ok(What::Replace(Text::of(alloc, credential)?))
+/// A change, in a table.
+#[derive(Clone, Copy)]
+pub(crate) enum Change {
+    /// The entry is needed until then.
+    Until(u64),
+    /// It has that credential.
+    By(&'static [u8]),
+    /// The token `db` is kept too, until 1500.
+    Add,
+    /// It is kept no more.
+    Drop,
+}
+
+/// The change itself.
+pub(crate) fn what_of(alloc: Global, change: Change) -> Result<What, AllocError> {
+    match change {
+        Change::Until(seconds) => Ok(until(seconds)),
+        Change::By(credential) => Ok(What::Replace(Text::of(alloc, credential)?)),
+        Change::Add => more(alloc),
+        Change::Drop => Ok(What::Drop),
+    }
+}
+
+// A token more, which is needed until 1500.
+fn more(alloc: Global) -> Result<What, AllocError> {
+    let never = Moment::new(0).unwrap();
+    Ok(What::Add(Row {
+        name: Name::of(alloc, b"db")?,
+        kind: Kind::Token,
+        parent: None,
+        is_told: true,
+        end: 1100,
+        renewable: true,
+        terms: Terms {
+            issued: Moment::new(1000).unwrap_or(never),
+            increment: Some(60),
+            period: 0,
+            max_ttl: 9000,
+            explicit_max: 0,
+        },
+        need: Need::Until(Moment::new(1500).unwrap_or(never)),
+        credential: Text::of(alloc, b"hvs.db")?,
+        file: None,
+    }))
+}
+
+/// What a file of that path gave for the token `db`.
+pub(crate) fn given(
+    alloc: Global,
+    file: &[u8],
+    credential: &[u8],
+) -> Result<Vec<Secret>, AllocError> {
+    let mut secrets = Vec::new(alloc);
+    secrets.push(Secret {
+        name: Name::of(alloc, b"db")?,
+        file: Text::of(alloc, file)?,
+        credential: Text::of(alloc, credential)?,
+    })?;
+    Ok(secrets)
 }
 
 /// Until when the entry of that name is needed by what is served, and whether that is its credential; `None` where it is not served.

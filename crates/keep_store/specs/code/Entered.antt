@@ -4,21 +4,21 @@ use Rattle.std.specs.Prelude.{◌≡◌, ◌⊎◌, ℕ, List, true, Result, Ok,
 use Rattle.keep_change.specs.declared.change.Change.{Change}
 use Rattle.keep_change.specs.declared.change.What.{What}
 use Rattle.keep_change.specs.declared.row.Row.{Row}
-use Rattle.keep_change.specs.Changes.{changed, refusal}
+use Rattle.keep_change.specs.Changes.{change_refusal, rows_changed}
 use Rattle.keep_change.specs.Compaction.{is_need}
 use Rattle.keep_change.specs.Records.{IsRecord}
 use Rattle.keep_change.specs.Replay.{is_as_then}
-use Rattle.keep_journal.specs.Records.{IsLine}
+use Rattle.keep_journal.specs.Records.{IsRecordLine}
 use Rattle.keep_store.specs.declared.entering.Entered.{Entered}
 use Rattle.keep_store.specs.declared.fault.TakeFault.{TakeFault}
 use Rattle.keep_store.specs.declared.fault.TakeFault.TheVariants.{NoRecord, Refused, Unwritten, Disk, OutOfMemory}
 use Rattle.keep_store.specs.Books.{Book, IsTextOf}
-use Rattle.keep_store.specs.Entering.{IsReadAs, line_for, record_for}
+use Rattle.keep_store.specs.Entering.{IsReadAs, line_for_change, record_for}
 
 -- the line is that of the change, which is read in it; and a replay makes that
 pub record IsRecorded (b : Book) (name : List ℕ) (w : What) (line : List ℕ) (c : Change) : Type 0 where
-  pub line_is : line ≡ line_for b.file name w
-  pub is_line : IsLine line
+  pub line_is : line ≡ line_for_change b.file name w
+  pub is_line : IsRecordLine line
   pub read : IsReadAs b.file name w c
   pub as_then : is_as_then b.file.rows c ≡ true
 
@@ -30,18 +30,18 @@ IsUnrecorded b name w fault = ⊥
 
 -- why a change is not made
 abbrev pub IsUnmade : Book → Change → TakeFault → Type 0
-IsUnmade b c (Refused fault) = refusal b.file.margin b.rows c.name c.what ≡ Some fault
-IsUnmade b c (Unwritten fault) = refusal b.file.margin b.rows c.name c.what ≡ None
+IsUnmade b c (Refused fault) = change_refusal b.file.margin b.rows c.name c.what ≡ Some fault
+IsUnmade b c (Unwritten fault) = change_refusal b.file.margin b.rows c.name c.what ≡ None
 IsUnmade b c OutOfMemory = Unit {0}
 IsUnmade b c fault = ⊥
 
 -- the rows after the change, and the text of what is handed then
-pub record IsMade (b : Book) (c : Change) (rows : List Row) (text : List ℕ) : Type 0 where
-  pub made : changed b.file.margin b.rows c.name c.what ≡ Ok rows
+pub record RowsAndTextAreMade (b : Book) (c : Change) (rows : List Row) (text : List ℕ) : Type 0 where
+  pub made : rows_changed b.file.margin b.rows c.name c.what ≡ Ok rows
   pub text_is : IsTextOf b.file.margin b.secrets rows text
 
 pub record IsEntered (b : Book) (name : List ℕ) (w : What) (e : Entered) : Type 0 where
   pub change : Change
   pub recorded : IsRecorded b name w e.line change
-  pub made : IsMade b change e.rows (string_bytes e.text)
+  pub made : RowsAndTextAreMade b change e.rows (string_bytes e.text)
   pub needed : e.is_need ≡ is_need change.what

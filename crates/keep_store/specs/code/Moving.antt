@@ -4,16 +4,16 @@ use Rattle.std.specs.Prelude.{◌≡◌, false, string_bytes}
 use Rattle.std.specs.Str.{bytes_eq}
 use Rattle.keep_change.specs.Words.{fingerprint}
 use Rattle.keep_inventory.specs.Served.{Served}
-use Rattle.keep_journal.specs.Records.{IsLine}
+use Rattle.keep_journal.specs.Records.{IsRecordLine}
 use Rattle.keep_store.specs.declared.settling.Moving.{Moving}
 use Rattle.keep_store.specs.Books.{Book}
-use Rattle.keep_store.specs.Moved.{IsMovedBook, Says, mark_line}
+use Rattle.keep_store.specs.Moved.{IsMovedBook, SaysAllKept, mark_line}
 
 -- its text says all that is kept, which is another than the file has; the line is that of its mark; and the book is that of it
 pub record IsMoving (b : Book) (m : Moving) : Type 0 where
   pub served : Served
-  pub says : Says b (string_bytes m.text) served
+  pub says : SaysAllKept b (string_bytes m.text) served
   pub other : bytes_eq (fingerprint (string_bytes m.text)) b.file.mark ≡ false
   pub line_is : m.line ≡ mark_line (string_bytes m.text)
-  pub is_line : IsLine m.line
+  pub is_line : IsRecordLine m.line
   pub book : IsMovedBook b (string_bytes m.text) served m.book

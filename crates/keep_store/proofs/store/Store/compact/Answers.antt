@@ -3,7 +3,7 @@ use Rattle.std.proofs.Common.{◌≡◌, ℕ, Bool, true, false, List, Vec, refl
 use Rattle.std.specs.declared.alloc.Global.{Global}
 use Rattle.std.proofs.lemmas.Option.{MatchOption-at_some}
 use Rattle.keep_change.specs.Compaction.{voids}
-use Rattle.keep_journal.specs.Records.{kept}
+use Rattle.keep_journal.specs.Records.{lines_kept}
 use Rattle.keep_store.specs.declared.store.Store.{Store}
 use Rattle.keep_store.specs.Compacted.{compacted_lines, is_worth}
 use Rattle.keep_store.specs.Records.{records_in}
@@ -20,5 +20,5 @@ returns-clause-replayed g c =
     let same : read ≡ lines = c.records.ensures in
     let is = MatchOption-at_some (is_worth read ≡ false) (λ (outs : Vec Bool Global). (outs.items ≡ voids (records_in read)) × (is_worth read ≡ true)) c.in-Some.voids c.in-Some.is c.in_ok-voids.ensures in
     let outs : c.in-Some.voids.items ≡ voids (records_in lines) = is.0 ∙ ap (λ (l : List (List ℕ)). voids (records_in l)) same in
-    let lined : lines_in new ≡ compacted_lines lines = c.in_ok-compact.ensures.taken_out.0 ∙ ap (kept lines) c.deref.ensures.value ∙ compacted_is lines c.in-Some.voids.items outs in
+    let lined : lines_in new ≡ compacted_lines lines = c.in_ok-compact.ensures.taken_out.0 ∙ ap (lines_kept lines) c.deref.ensures.value ∙ compacted_is lines c.in-Some.voids.items outs in
     compacted_replays old new c.requires.replayed (ap is_worth (sym same) ∙ is.1) refl lined

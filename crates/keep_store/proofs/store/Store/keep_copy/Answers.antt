@@ -1,6 +1,6 @@
 -- The copy is in its place, and the journal is left alone.
 use Rattle.keep_disk.specs.Image.{File}
-use Rattle.keep_journal.specs.Journals.{lines_of, path_of}
+use Rattle.keep_journal.specs.Journals.{lines_of_journal, path_of_journal}
 use Rattle.keep_store.proofs.Copied.{in_place, moves_elsewhere, on_ok, rest_past}
 use Rattle.keep_store.proofs.store.Store.keep_copy.Goals as goal
 
@@ -20,8 +20,8 @@ returns-clause-held g c =
     record {
       are_lines = c.requires.held.are_lines;
       whole = λ known yes.
-          rest_past (path_of journal) copy file (s c.args.disk.now) (s c.replace.new.disk) (c.replace.ensures.seen known) (c.replace.ensures.sound known) (c.replace.ensures.crash known)
-          (lines_of journal) journal.size c.requires.apart (c.requires.held.whole known yes);
+          rest_past (path_of_journal journal) copy file (s c.args.disk.now) (s c.replace.new.disk) (c.replace.ensures.seen known) (c.replace.ensures.sound known) (c.replace.ensures.crash known)
+          (lines_of_journal journal) journal.size c.requires.apart (c.requires.held.whole known yes);
     }
 
 pub returns-clause-others : goal.returns-clause-others

@@ -1,0 +1,5 @@
+pub mod Stripped
+pub mod Passing
+pub mod Placing
+pub mod Staying
+pub mod Readings

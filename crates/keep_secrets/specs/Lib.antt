@@ -1,0 +1,4 @@
+pub mod Credentials
+pub mod Stamps
+pub mod Looking
+pub mod Outcomes
