@@ -14,9 +14,9 @@ use Rattle.watch_machine.specs.declared.fault.WatchFault.TheVariants.{BadIndex}
 use Rattle.watch_machine.specs.declared.lanes.Out.{Out}
 use Rattle.watch_machine.specs.History.{Turn}
 use Rattle.watch_machine.specs.Refusal.{is_same, refusal, request_out, unless_some}
-use Rattle.watch_machine.specs.State.{State, track_at}
+use Rattle.watch_machine.specs.State.{WatchState, track_at}
 use Rattle.keep_asking.specs.Handing.{AreHandedIn, IsHandedIn, out_of}
-use Rattle.keep_asking.specs.InStep.{AreOut, IsSound, entries_of, entries_out, times}
+use Rattle.keep_asking.specs.InStep.{AreOut, MachineIsSound, entries_of, entries_out, times}
 use Rattle.keep_asking.specs.Told.{event_as}
 use Rattle.keep_asking.specs.declared.handing.HandedIn.{HandedIn}
 use Rattle.keep_asking.proofs.Sound.{Answered, counts, marked_within, same_index, skips, times_append, turn_looked, turn_renewed}
@@ -70,7 +70,7 @@ asked_out (r ∷ out) i q is =
     ]
 
 -- it is of an entry
-pub out_within : (m : State) (i : ℕ) → IsSound m → out_of m.out i ≢ None → i < length m.forest.entries
+pub out_within : (m : WatchState) (i : ℕ) → MachineIsSound m → out_of m.out i ≢ None → i < length m.forest.entries
 out_within m i sound some =
     let there = counted_out m.out i some in
     let once = sound.once i in
@@ -79,7 +79,7 @@ out_within m i sound some =
       | inr free ↦ absurd (let none : times i (entries_out m) ≤ 0 = subst (λ (b : Bool). times i (entries_out m) ≤ cond b 1 0) free once in omega (arith, none, there))
     ]
 
-asked_free : (m : State) (i : ℕ) (operation : Operation) → i < length m.forest.entries → request_out m.out i operation ≢ None → cond (nat_le (length m.forest.entries) i) (Some BadIndex) (unless_some (request_out m.out i operation)) ≡ None
+asked_free : (m : WatchState) (i : ℕ) (operation : Operation) → i < length m.forest.entries → request_out m.out i operation ≢ None → cond (nat_le (length m.forest.entries) i) (Some BadIndex) (unless_some (request_out m.out i operation)) ≡ None
 asked_free m i operation within some =
     let test : nat_le (length m.forest.entries) i ≡ false = grind (arith, nat_tests) in
     cond-false (nat_le (length m.forest.entries) i) (Some BadIndex) (unless_some (request_out m.out i operation)) test ∙ there (request_out m.out i operation) some where
@@ -87,36 +87,36 @@ asked_free m i operation within some =
       there None h = absurd (h refl)
       there (Some r) h = refl
 
-free_by : (m : State) (i : ℕ) (operation : Operation) (reply : Reply) (terms : Terms) → i < length m.forest.entries → request_out m.out i operation ≢ None → refusal m (event_as operation i reply terms) ≡ None
+free_by : (m : WatchState) (i : ℕ) (operation : Operation) (reply : Reply) (terms : Terms) → i < length m.forest.entries → request_out m.out i operation ≢ None → refusal m (event_as operation i reply terms) ≡ None
 unfolding refusal
 free_by m i Look reply terms within some = asked_free m i Look within some
 free_by m i Renew reply terms within some = asked_free m i Renew within some
 
 -- the event of an answer to it is not refused
-pub answer_free : (m : State) (i : ℕ) (q : Out) (reply : Reply) (terms : Terms) → IsSound m → out_of m.out i ≡ Some q → refusal m (event_as q.operation i reply terms) ≡ None
+pub answer_free : (m : WatchState) (i : ℕ) (q : Out) (reply : Reply) (terms : Terms) → MachineIsSound m → out_of m.out i ≡ Some q → refusal m (event_as q.operation i reply terms) ≡ None
 answer_free m i q reply terms sound is = free_by m i q.operation reply terms (out_within m i sound (λ none. (let bad : Some q ≡ None = sym is ∙ none in cc))) (asked_out m.out i q is)
 
 -- ---- what is then out
 
-turned : (old new : State) (operation : Operation) (i : ℕ) (reply : Reply) (terms : Terms) (output : Output) → Turn old (event_as operation i reply terms) (Ok output) new → IsSound old → Answered old i new
+turned : (old new : WatchState) (operation : Operation) (i : ℕ) (reply : Reply) (terms : Terms) (output : Output) → Turn old (event_as operation i reply terms) (Ok output) new → MachineIsSound old → Answered old i new
 turned old new Look i reply terms output turn sound = turn_looked old new i reply terms output turn sound
 turned old new Renew i reply terms output turn sound = turn_renewed old new i reply output turn sound
 
-handed_one : (s : Inventory) (a : lanes.Answered) (old new : State) (h : HandedIn) → IsHandedIn s a old h new → IsSound old → Answered old a.index new
+handed_one : (s : Inventory) (a : lanes.Answered) (old new : WatchState) (h : HandedIn) → IsHandedIn s a old h new → MachineIsSound old → Answered old a.index new
 handed_one s a old new h is sound = turned old new h.request.operation a.index h.said.reply h.said.terms h.output is.turn sound
 
 -- answers were handed in, each to another request that was out: the others are out
-pub record AreOver (old : State) (answers : List lanes.Answered) (new : State) : Type 0 where
+pub record AreOver (old : WatchState) (answers : List lanes.Answered) (new : WatchState) : Type 0 where
   pub width : new.width ≡ old.width
   pub each : (i : ℕ) → times i (entries_out new) + times i (entries_of answers) ≡ times i (entries_out old)
   pub count : length new.out + length answers ≡ length old.out
-  pub sound : IsSound new
+  pub sound : MachineIsSound new
 
 flag_most : (b : Bool) → cond b 1 0 ≤ 1
 flag_most true = omega arith
 flag_most false = omega arith
 
-pub are_over : (s : Inventory) (answers : List lanes.Answered) (old new : State) → AreHandedIn s answers old new → IsSound old → AreOut old answers → AreOver old answers new
+pub are_over : (s : Inventory) (answers : List lanes.Answered) (old new : WatchState) → AreHandedIn s answers old new → MachineIsSound old → AreOut old answers → AreOver old answers new
 are_over s [] old new h sound out =
     subst (AreOver old []) (sym h) (record { width = refl; each = λ i. omega arith; count = omega arith; sound = sound })
 are_over s (a ∷ rest) old new h sound out =
@@ -159,8 +159,8 @@ are_over s (a ∷ rest) old new h sound out =
 
 -- of answers that are each to another request that is out the next one is to a request that is out still
 pub next_out :
-    (s : Inventory) (answers : List lanes.Answered) (old now : State) (a : lanes.Answered) (later all : List lanes.Answered) → AreHandedIn s answers old now → answers ++ a ∷ later ≡ all → IsSound old → AreOut old all →
-    (out_of now.out a.index ≢ None) × IsSound now
+    (s : Inventory) (answers : List lanes.Answered) (old now : WatchState) (a : lanes.Answered) (later all : List lanes.Answered) → AreHandedIn s answers old now → answers ++ a ∷ later ≡ all → MachineIsSound old → AreOut old all →
+    (out_of now.out a.index ≢ None) × MachineIsSound now
 next_out s answers old now a later all h is sound out =
     let i = a.index in
     let split : (k : ℕ) → times k (entries_of (answers ++ a ∷ later)) ≡ times k (entries_of answers) + times k (entries_of (a ∷ later)) = λ k. ap (times k) (entries_append answers (a ∷ later)) ∙ times_append k (entries_of answers) (entries_of (a ∷ later)) in

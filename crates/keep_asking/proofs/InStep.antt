@@ -4,14 +4,14 @@ use Rattle.std.proofs.Common.{◌≡◌, ◌∙◌, ℕ, ◌+◌, ◌≤◌, Boo
 use Rattle.std.proofs.lemmas.List.{length-append, length-map}
 use Rattle.keep_inventory.specs.Inventories.{Inventory}
 use Rattle.keep_lanes.specs.Out as lanes
-use Rattle.keep_lanes.specs.Out.{IsParted, IsPut}
+use Rattle.keep_lanes.specs.Out.{IsParted, OutIsPut}
 use Rattle.keep_lanes.specs.declared.lanes.Answered.{Answered}
 use Rattle.watch_machine.specs.declared.command.Output.{Output}
 use Rattle.watch_machine.specs.declared.command.Request.{Request}
 use Rattle.watch_machine.specs.declared.event.Event.TheVariants.{Clock, Looked, Renewed, Need, Begin, Known}
 use Rattle.watch_machine.specs.declared.lanes.Out.{Out}
 use Rattle.watch_machine.specs.History.{Turn}
-use Rattle.watch_machine.specs.State.{State, fresh_track}
+use Rattle.watch_machine.specs.State.{WatchState, fresh_track}
 use Rattle.keep_asking.specs.Handing.{AreHandedIn}
 use Rattle.keep_asking.specs.InStep.{AreOut, IsAbreast, entries_of, entries_on, entries_out, times}
 use Rattle.keep_asking.specs.Laws.{AnswersLaw, ClockLaw, NewLaw, OtherLaw}
@@ -26,7 +26,7 @@ entries_on_append [] ys = refl
 entries_on_append (x ∷ xs) ys = ap (λ ns. x.index ∷ ns) (entries_on_append xs ys)
 
 -- one lane more
-put_times : (o : lanes.Out) (old new : List lanes.Out) → IsPut o old new → (i : ℕ) → times i (entries_on new) ≡ times i (o.index ∷ entries_on old)
+put_times : (o : lanes.Out) (old new : List lanes.Out) → OutIsPut o old new → (i : ℕ) → times i (entries_on new) ≡ times i (o.index ∷ entries_on old)
 put_times o old new h i =
     let after = ap (λ out. times i (entries_on out)) h.new_is ∙ ap (times i) (entries_on_append h.before (o ∷ h.behind)) ∙ times_append i (entries_on h.before) (entries_on (o ∷ h.behind)) in
     let before = ap (λ out. times i (entries_on out)) h.old_is ∙ ap (times i) (entries_on_append h.before h.behind) ∙ times_append i (entries_on h.before) (entries_on h.behind) in
@@ -34,7 +34,7 @@ put_times o old new h i =
     let all = times_cons i o.index (entries_on old) in
     omega (arith, after, before, more, all)
 
-pub put_count : (o : lanes.Out) (old new : List lanes.Out) → IsPut o old new → length new ≡ length old + 1
+pub put_count : (o : lanes.Out) (old new : List lanes.Out) → OutIsPut o old new → length new ≡ length old + 1
 put_count o old new h =
     let after = ap length h.new_is ∙ length-append h.before (o ∷ h.behind) in
     let before = ap length h.old_is ∙ length-append h.before h.behind in
@@ -45,7 +45,7 @@ pub record AreSent (old : List lanes.Out) (requests : List Request) (new : List 
   pub count : length new ≡ length old + length requests
   pub each : (i : ℕ) → times i (entries_on new) ≡ times i (entries_on old) + times i (entries_asked requests)
 
-pub sent_all : (port : ℕ) (s : Inventory) (m : State) (t now : ℕ) (requests : List Request) (old new : Lanes) → GoOut port s m t now requests old new → AreSent old.out requests new.out
+pub sent_all : (port : ℕ) (s : Inventory) (m : WatchState) (t now : ℕ) (requests : List Request) (old new : Lanes) → GoOut port s m t now requests old new → AreSent old.out requests new.out
 sent_all port s m t now [] old new h = subst (λ (l : Lanes). AreSent old.out [] l.out) (sym h) (record { count = omega arith; each = λ i. omega arith })
 sent_all port s m t now (r ∷ rest) old new h =
     let mid = h.0 in
@@ -64,7 +64,7 @@ sent_all port s m t now (r ∷ rest) old new h =
     }
 
 -- as many lanes are free as the machine sends requests
-pub lanes_free : (old mid : State) (requests : List Request) (width : ℕ) (out : List lanes.Out) → IsAbreast old width out → Gone old requests mid → length out + length requests ≤ width
+pub lanes_free : (old mid : WatchState) (requests : List Request) (width : ℕ) (out : List lanes.Out) → IsAbreast old width out → Gone old requests mid → length out + length requests ≤ width
 lanes_free old mid requests width out abreast gone =
     let w = abreast.width_is in
     let n = abreast.in_step.count in
@@ -72,7 +72,7 @@ lanes_free old mid requests width out abreast gone =
     let room = abreast.room in
     omega (arith, w, n, few, room)
 
-pub abreast_sent : (old mid : State) (requests : List Request) (width : ℕ) (out new : List lanes.Out) → IsAbreast old width out → Gone old requests mid → AreSent out requests new → IsAbreast mid width new
+pub abreast_sent : (old mid : WatchState) (requests : List Request) (width : ℕ) (out new : List lanes.Out) → IsAbreast old width out → Gone old requests mid → AreSent out requests new → IsAbreast mid width new
 abreast_sent old mid requests width out new abreast gone sent =
     let n = abreast.in_step.count in
     let a = gone.count in
@@ -121,11 +121,11 @@ parted_count (o ∷ os) answers left h = elim h [
 ]
 
 -- each is to a request that the machine has out
-pub parted_out : (m : State) (width : ℕ) (old : List lanes.Out) (answers : List Answered) (left : List lanes.Out) → IsAbreast m width old → IsParted old answers left → AreOut m answers
+pub parted_out : (m : WatchState) (width : ℕ) (old : List lanes.Out) (answers : List Answered) (left : List lanes.Out) → IsAbreast m width old → IsParted old answers left → AreOut m answers
 parted_out m width old answers left abreast parted = λ i. (let parts = parted_times old answers left parted i in let same = abreast.in_step.each i in omega (arith, parts, same))
 
 pub abreast_handed_in :
-    (s : Inventory) (old new : State) (width : ℕ) (out : List lanes.Out) (answers : List Answered) (left : List lanes.Out) → IsAbreast old width out → IsParted out answers left → AreHandedIn s answers old new → IsAbreast new width left
+    (s : Inventory) (old new : WatchState) (width : ℕ) (out : List lanes.Out) (answers : List Answered) (left : List lanes.Out) → IsAbreast old width out → IsParted out answers left → AreHandedIn s answers old new → IsAbreast new width left
 abreast_handed_in s old new width out answers left abreast parted handed =
     let over = are_over s answers old new handed abreast.sound (parted_out old width out answers left abreast parted) in
     let n = abreast.in_step.count in
@@ -148,7 +148,7 @@ abreast_handed_in s old new width out answers left abreast parted handed =
 
 -- ---- nothing goes out, and nothing comes back
 
-pub abreast_quiet : (old new : State) (width : ℕ) (out : List lanes.Out) → IsAbreast old width out → IsQuiet old new → IsAbreast new width out
+pub abreast_quiet : (old new : WatchState) (width : ℕ) (out : List lanes.Out) → IsAbreast old width out → IsQuiet old new → IsAbreast new width out
 abreast_quiet old new width out abreast quiet = record {
   width_is = quiet.width ∙ abreast.width_is;
   room = abreast.room;
@@ -159,18 +159,18 @@ abreast_quiet old new width out abreast quiet = record {
   };
 }
 
-pub abreast_need : (old new : State) (i until : ℕ) (output : Output) (width : ℕ) (out : List lanes.Out) → Turn old (Need i until) (Ok output) new → IsAbreast old width out → IsAbreast new width out
+pub abreast_need : (old new : WatchState) (i until : ℕ) (output : Output) (width : ℕ) (out : List lanes.Out) → Turn old (Need i until) (Ok output) new → IsAbreast old width out → IsAbreast new width out
 abreast_need old new i until output width out turn abreast = abreast_quiet old new width out abreast (turn_need old new i until output turn abreast.sound)
 
-pub abreast_begin : (old new : State) (output : Output) (width : ℕ) (out : List lanes.Out) → Turn old Begin (Ok output) new → IsAbreast old width out → IsAbreast new width out
+pub abreast_begin : (old new : WatchState) (output : Output) (width : ℕ) (out : List lanes.Out) → Turn old Begin (Ok output) new → IsAbreast old width out → IsAbreast new width out
 abreast_begin old new output width out turn abreast = abreast_quiet old new width out abreast (turn_begin old new output turn abreast.sound)
 
-pub abreast_known : (old new : State) (i end : ℕ) (renewable : Bool) (output : Output) (width : ℕ) (out : List lanes.Out) → Turn old (Known i end renewable) (Ok output) new → IsAbreast old width out → IsAbreast new width out
+pub abreast_known : (old new : WatchState) (i end : ℕ) (renewable : Bool) (output : Output) (width : ℕ) (out : List lanes.Out) → Turn old (Known i end renewable) (Ok output) new → IsAbreast old width out → IsAbreast new width out
 abreast_known old new i end renewable output width out turn abreast = abreast_quiet old new width out abreast (turn_known old new i end renewable output turn abreast.sound)
 
 -- one request more goes out after those before it
 pub gone_more :
-    (port : ℕ) (s : Inventory) (m : State) (t now : ℕ) (requests : List Request) (r : Request) (old mid new : Lanes) → GoOut port s m t now requests old mid → GoesOut port s m t now r mid new → GoOut port s m t now (requests ++ r ∷ []) old new
+    (port : ℕ) (s : Inventory) (m : WatchState) (t now : ℕ) (requests : List Request) (r : Request) (old mid new : Lanes) → GoOut port s m t now requests old mid → GoesOut port s m t now r mid new → GoOut port s m t now (requests ++ r ∷ []) old new
 gone_more port s m t now [] r old mid new h one = (new, (subst (λ (l : Lanes). GoesOut port s m t now r l new) h one, refl))
 gone_more port s m t now (q ∷ rest) r old mid new h one = (h.0, (h.1.0, gone_more port s m t now rest r h.0 mid new h.1.1 one))
 

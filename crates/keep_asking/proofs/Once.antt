@@ -23,12 +23,12 @@ use Rattle.watch_machine.specs.declared.track.Track.{Track}
 use Rattle.watch_machine.specs.Clocks.{sec}
 use Rattle.watch_machine.specs.History.{Turn}
 use Rattle.watch_machine.specs.Press.{pressed}
-use Rattle.watch_machine.specs.Outlook.{IsNext}
+use Rattle.watch_machine.specs.Outlook.{IsNextTime}
 use Rattle.watch_machine.specs.Refusal.{request_out}
-use Rattle.watch_machine.specs.Round.{IsRound, IsSecond, asked_by, plan_view}
-use Rattle.watch_machine.specs.Sending.{IsGoing, IsLine, Place, due, is_before, request, sent}
-use Rattle.watch_machine.specs.State.{State}
-use Rattle.watch_machine.specs.Step.{Step, StepClock, StepCommand, StepLooked, StepRenewed, nothing, readied, why}
+use Rattle.watch_machine.specs.Round.{IsRound, IsSecond, asked_by_round, plan_view}
+use Rattle.watch_machine.specs.Sending.{IsGoing, IsSendingOrder, Place, due, is_before, request, sent}
+use Rattle.watch_machine.specs.State.{WatchState}
+use Rattle.watch_machine.specs.Step.{Step, StepClock, StepCommand, StepLooked, StepRenewed, nothing_noted, readied, why}
 use Rattle.watch_machine.specs.Wait.{wait}
 use Rattle.keep_tree.specs.Forest.{Forest}
 
@@ -174,7 +174,7 @@ order_once (x ∷ xs) (y ∷ ys) up up' same =
     let rest = order_once xs ys (rest_in_order x xs up) (rest_in_order y ys up') (λ p. same_rest x p xs ys (sym (ap (λ z. often p (z ∷ ys)) e) ∙ same p)) in
     ap₂ (λ z zs. z ∷ zs) e rest
 
-line_once : (p : Presence) (at : ℕ) (xs : List Track) (a b : List Place) → IsLine p at xs a → IsLine p at xs b → b ≡ a
+line_once : (p : Presence) (at : ℕ) (xs : List Track) (a b : List Place) → IsSendingOrder p at xs a → IsSendingOrder p at xs b → b ≡ a
 unfolding often
 line_once p at xs a b one two =
     order_once a b one.in_order two.in_order
@@ -188,7 +188,7 @@ going_once p at xs lanes a b one two =
 
 -- ---- what is commanded, and the round that opens
 
-command_once : (mid x y : State) (c d : Command) → StepCommand mid c x → StepCommand mid d y → (d ≡ c) × (y ≡ x)
+command_once : (mid x y : WatchState) (c d : Command) → StepCommand mid c x → StepCommand mid d y → (d ≡ c) × (y ≡ x)
 command_once mid x y (Go rs until) (Go qs other) a b =
     let requests : qs ≡ rs = going_once mid.presence mid.clocks.at mid.tracks (mid.width - length mid.out) rs qs a.0.0 b.0.0 in
     let state : y ≡ x = b.0.1 ∙ ap (sent mid) requests ∙ sym a.0.1 in
@@ -224,22 +224,22 @@ round_once g xs c (Some asked) (Some other) x y =
 output_of : (a b : Output) → b.command ≡ a.command → b.notes ≡ a.notes → b ≡ a
 output_of a b command notes = ap₂ (λ c n. record { command = c; notes = n }) command notes
 
-clock_once : (old x y : State) (wall elapsed : ℕ) (a b : Output) → StepClock old wall elapsed a x → StepClock old wall elapsed b y → (b ≡ a) × (y ≡ x)
+clock_once : (old x y : WatchState) (wall elapsed : ℕ) (a b : Output) → StepClock old wall elapsed a x → StepClock old wall elapsed b y → (b ≡ a) × (y ≡ x)
 clock_once old x y wall elapsed a b one two =
     let ready = readied old wall elapsed in
     let round = round_once ready.forest ready.tracks ready.clocks one.round two.round one.is_round two.is_round in
-    let done = command_once (pressed ready (asked_by one.round)) x y a.command b.command one.command (subst (λ r. StepCommand (pressed ready (asked_by r)) b.command y) round two.command) in
-    (output_of a b done.0 (two.notes ∙ ap (λ r. record nothing { began = why old wall elapsed; round = r }) round ∙ sym one.notes), done.1)
+    let done = command_once (pressed ready (asked_by_round one.round)) x y a.command b.command one.command (subst (λ r. StepCommand (pressed ready (asked_by_round r)) b.command y) round two.command) in
+    (output_of a b done.0 (two.notes ∙ ap (λ r. record nothing_noted { began = why old wall elapsed; round = r }) round ∙ sym one.notes), done.1)
 
-looked_once : (old x y : State) (found : Option Out) (reply : Reply) (terms : Terms) (a b : Output) → StepLooked old found reply terms a x → StepLooked old found reply terms b y → (b ≡ a) × (y ≡ x)
+looked_once : (old x y : WatchState) (found : Option Out) (reply : Reply) (terms : Terms) (a b : Output) → StepLooked old found reply terms a x → StepLooked old found reply terms b y → (b ≡ a) × (y ≡ x)
 looked_once old x y None reply terms a b one two = absurd one
 looked_once old x y (Some r) reply terms a b one two = (two.0 ∙ sym one.0, two.1 ∙ sym one.1)
 
-renewed_once : (old x y : State) (found : Option Out) (reply : Reply) (a b : Output) → StepRenewed old found reply a x → StepRenewed old found reply b y → (b ≡ a) × (y ≡ x)
+renewed_once : (old x y : WatchState) (found : Option Out) (reply : Reply) (a b : Output) → StepRenewed old found reply a x → StepRenewed old found reply b y → (b ≡ a) × (y ≡ x)
 renewed_once old x y None reply a b one two = absurd one
 renewed_once old x y (Some r) reply a b one two = (two.0 ∙ sym one.0, two.1 ∙ sym one.1)
 
-step_once : (old x y : State) (event : Event) (a b : Output) → Step old event a x → Step old event b y → (b ≡ a) × (y ≡ x)
+step_once : (old x y : WatchState) (event : Event) (a b : Output) → Step old event a x → Step old event b y → (b ≡ a) × (y ≡ x)
 step_once old x y (Clock wall elapsed) a b one two = clock_once old x y wall elapsed a b one two
 step_once old x y (Looked i reply terms) a b one two = looked_once old x y (request_out old.out i Look) reply terms a b one two
 step_once old x y (Renewed i reply) a b one two = renewed_once old x y (request_out old.out i Renew) reply a b one two
@@ -247,12 +247,12 @@ step_once old x y (Need i until) a b one two = (two.0 ∙ sym one.0, two.1 ∙ s
 step_once old x y Begin a b one two = (two.0 ∙ sym one.0, two.1 ∙ sym one.1)
 step_once old x y (Known i end renewable) a b one two = (two.0 ∙ sym one.0, two.1 ∙ sym one.1)
 
-pub turn_once : (old x y : State) (event : Event) (a b : Output) → Turn old event (Ok a) x → Turn old event (Ok b) y → (b ≡ a) × (y ≡ x)
+pub turn_once : (old x y : WatchState) (event : Event) (a b : Output) → Turn old event (Ok a) x → Turn old event (Ok b) y → (b ≡ a) × (y ≡ x)
 turn_once old x y event a b one two = step_once old x y event a b one.1 two.1
 
 -- ---- the next time
 
-first_same : (s : State) (a b : Next) → IsNext s (Some a) → IsNext s (Some b) → b ≡ a
+first_same : (s : WatchState) (a b : Next) → IsNextTime s (Some a) → IsNextTime s (Some b) → b ≡ a
 first_same s a b x y =
     let low = x.least b.entry y.within y.timed in
     let high = y.least a.entry x.within x.timed in
@@ -268,7 +268,7 @@ first_same s a b x y =
     ] in
     ap₂ (λ m i. record { at = m; entry = i }) moment entry
 
-pub next_once : (s : State) (a b : Option Next) → IsNext s a → IsNext s b → b ≡ a
+pub next_once : (s : WatchState) (a b : Option Next) → IsNextTime s a → IsNextTime s b → b ≡ a
 next_once s None None x y = refl
 next_once s None (Some b) x y = absurd (let e = sym (x b.entry y.within) ∙ y.timed in cc)
 next_once s (Some a) None x y = absurd (let e = sym (y a.entry x.within) ∙ x.timed in cc)

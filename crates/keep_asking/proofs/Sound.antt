@@ -30,27 +30,27 @@ use Rattle.watch_machine.specs.declared.notes.Why.{Why}
 use Rattle.watch_machine.specs.declared.track.End.TheVariants.{At}
 use Rattle.watch_machine.specs.declared.track.Track.{Track}
 use Rattle.watch_machine.specs.declared.track.Try.{Try}
-use Rattle.watch_machine.specs.Answers.{answers_all, back_track, heard, lane_freed, noted, replied, silent, without}
-use Rattle.watch_machine.specs.Beginning.{begun, is_called, owing, owing_lookup, soon, sooner, untopped, untopped_track}
+use Rattle.watch_machine.specs.Answers.{answers_all, back_track, heard, lane_freed, noted, replied, silent, without_request}
+use Rattle.watch_machine.specs.Beginning.{begun, is_called, owing, owing_lookup, soon, sooner_try, untopped, untopped_track}
 use Rattle.watch_machine.specs.Clocks.{sec}
 use Rattle.watch_machine.specs.History.{Turn}
 use Rattle.watch_machine.specs.Lines.{is_due, is_due_try}
 use Rattle.watch_machine.specs.Looked.{looked, told_state}
 use Rattle.watch_machine.specs.Margins.{has_come}
-use Rattle.watch_machine.specs.Press.{asked_in, asked_track, dropped, is_fresh, press, pressed, pressed_alone, pressed_track}
+use Rattle.watch_machine.specs.Press.{asked_track, dropped, is_fresh, press, pressed, pressed_alone, pressed_track, track_asked_in}
 use Rattle.watch_machine.specs.Refusal.{request_out}
-use Rattle.watch_machine.specs.Renewed.{renewed}
-use Rattle.watch_machine.specs.Round.{asked_by as round_of}
+use Rattle.watch_machine.specs.Renewed.{state_renewed}
+use Rattle.watch_machine.specs.Round.{asked_by_round as round_of}
 use Rattle.watch_machine.specs.Sending.{IsGoing, Place, due, is_partial, out_at, place, place_of, request, request_of, sent, sent_in, sent_track}
 use Rattle.watch_machine.specs.Settling.{is_real, settled, settled_track, timed}
-use Rattle.watch_machine.specs.State.{State, each, no_track, track_at, track_in}
+use Rattle.watch_machine.specs.State.{WatchState, each, no_track, track_at, track_in}
 use Rattle.watch_machine.specs.Step.{Step, StepClock, StepCommand, StepLooked, StepRenewed, known, readied, why}
 use Rattle.watch_machine.specs.Wanted.{is_open, need_of, wants}
 use Rattle.watch_machine.proofs.Cases.{if_both, if_cases}
 use Rattle.watch_machine.proofs.Seeing.{each_past, each_read}
 use Rattle.watch_machine.proofs.Within.{out_entry}
 use Rattle.watch_machine.proofs.Written.{each_length}
-use Rattle.keep_asking.specs.InStep.{IsSound, entries_out, times}
+use Rattle.keep_asking.specs.InStep.{MachineIsSound, entries_out, times}
 
 -- ---- how often an entry is among some
 
@@ -187,7 +187,7 @@ owing_flag : (at : ℕ) (called : Bool) (x : Track) → Flag (owing at called x)
 unfolding owing
 owing_flag at called x =
     if_both (λ y. Flag y x) (called && is_open (sec at) x) (owing_lookup at x) x
-    (if_both (λ y. Flag y x) x.out (record x { owes = true }) (record x { owes = true; attempt = Some (sooner (soon at x) x.attempt) }) refl refl) refl
+    (if_both (λ y. Flag y x) x.out (record x { owes = true }) (record x { owes = true; attempt = Some (sooner_try (soon at x) x.attempt) }) refl refl) refl
 
 pressed_flag : (margin : ℕ) (e : Entry) (need at : ℕ) (x : Track) → Flag (pressed_track margin e need at x) x
 unfolding pressed_track
@@ -195,7 +195,7 @@ pressed_flag margin e need at x =
     if_both (λ y. Flag y x) (is_fresh margin e x need (sec at)) (record x { attempt = Some (press at false x) }) (if wants x need || x.out then x else record x { attempt = dropped x x.attempt }) refl
     (if_both (λ y. Flag y x) (wants x need || x.out) x (record x { attempt = dropped x x.attempt }) refl refl)
 
-asked_flag : (margin : ℕ) (e : Entry) (at : ℕ) (round : List ℕ) (i : ℕ) (x : Track) → Flag (asked_in margin e at round i x) x
+asked_flag : (margin : ℕ) (e : Entry) (at : ℕ) (round : List ℕ) (i : ℕ) (x : Track) → Flag (track_asked_in margin e at round i x) x
 unfolding asked_track
 asked_flag margin e at round i x =
     if_both (λ y. Flag y x) (list_any (λ j. j == i) round) (asked_track margin e at x) x
@@ -209,14 +209,14 @@ back_flag : (x : Track) → Flag (back_track x) x
 unfolding back_track
 back_flag x = refl
 
-begun_flag : (s : State) (w : Option Why) (i : ℕ) → Flag (track_at (begun s w) i) (track_at s i)
+begun_flag : (s : WatchState) (w : Option Why) (i : ℕ) → Flag (track_at (begun s w) i) (track_at s i)
 begun_flag s None i = refl
 begun_flag s (Some w) i =
     let xs = untopped s.tracks in
     each_kept Flag refl (λ j. owing s.clocks.at (is_called s.forest xs s.clocks j)) xs (λ j x. owing_flag s.clocks.at (is_called s.forest xs s.clocks j) x) i
     ∙ each_kept Flag refl (λ j. untopped_track) s.tracks (λ j x. refl) i
 
-mid_flag : (s : State) (wall elapsed : ℕ) (round : List ℕ) (i : ℕ) → Flag (track_at (pressed (readied s wall elapsed) round) i) (track_at s i)
+mid_flag : (s : WatchState) (wall elapsed : ℕ) (round : List ℕ) (i : ℕ) → Flag (track_at (pressed (readied s wall elapsed) round) i) (track_at s i)
 unfolding readied
 mid_flag s wall elapsed round i =
     let t = timed s wall elapsed in
@@ -224,52 +224,52 @@ mid_flag s wall elapsed round i =
     let c = u.clocks in
     let g = u.forest in
     let alone = pressed_alone g c u.tracks in
-    each_kept Flag refl (λ j. asked_in g.margin (entry_at g.entries j) c.at round j) alone (λ j x. asked_flag g.margin (entry_at g.entries j) c.at round j x) i
+    each_kept Flag refl (λ j. track_asked_in g.margin (entry_at g.entries j) c.at round j) alone (λ j x. asked_flag g.margin (entry_at g.entries j) c.at round j x) i
     ∙ each_kept Flag refl (λ j. pressed_track g.margin (entry_at g.entries j) (need_of g.entries u.tracks c j) c.at) u.tracks
     (λ j x. pressed_flag g.margin (entry_at g.entries j) (need_of g.entries u.tracks c j) c.at x) i
     ∙ begun_flag (settled t) (why s wall elapsed) i ∙ each_kept Flag refl (λ j. settled_track t.forest.margin t.clocks.at) s.tracks (λ j x. settled_flag t.forest.margin t.clocks.at x) i
 
 -- ---- the rest of a state before requests go out
 
-begun_count : (s : State) (w : Option Why) → length (begun s w).tracks ≡ length s.tracks
+begun_count : (s : WatchState) (w : Option Why) → length (begun s w).tracks ≡ length s.tracks
 begun_count s None = refl
 begun_count s (Some w) =
     let xs = untopped s.tracks in
     each_length (λ j. owing s.clocks.at (is_called s.forest xs s.clocks j)) xs ∙ each_length (λ j. untopped_track) s.tracks
 
-mid_count : (s : State) (wall elapsed : ℕ) (round : List ℕ) → length (pressed (readied s wall elapsed) round).tracks ≡ length s.tracks
+mid_count : (s : WatchState) (wall elapsed : ℕ) (round : List ℕ) → length (pressed (readied s wall elapsed) round).tracks ≡ length s.tracks
 unfolding readied
 mid_count s wall elapsed round =
     let t = timed s wall elapsed in
     let u = begun (settled t) (why s wall elapsed) in
     let c = u.clocks in
     let g = u.forest in
-    each_length (λ j. asked_in g.margin (entry_at g.entries j) c.at round j) (pressed_alone g c u.tracks)
+    each_length (λ j. track_asked_in g.margin (entry_at g.entries j) c.at round j) (pressed_alone g c u.tracks)
     ∙ each_length (λ j. pressed_track g.margin (entry_at g.entries j) (need_of g.entries u.tracks c j) c.at) u.tracks
     ∙ begun_count (settled t) (why s wall elapsed) ∙ each_length (λ j. settled_track t.forest.margin t.clocks.at) s.tracks
 
 -- all but what a clock writes first
-abbrev Left : State → State → Type 0
+abbrev Left : WatchState → WatchState → Type 0
 Left new old = (new.out ≡ old.out) × ((new.width ≡ old.width) × (new.forest ≡ old.forest))
 
-begun_left : (s : State) (w : Option Why) → Left (begun s w) s
+begun_left : (s : WatchState) (w : Option Why) → Left (begun s w) s
 begun_left s None = (refl, (refl, refl))
 begun_left s (Some w) = (refl, (refl, refl))
 
-pub readied_left : (s : State) (wall elapsed : ℕ) → Left (readied s wall elapsed) s
+pub readied_left : (s : WatchState) (wall elapsed : ℕ) → Left (readied s wall elapsed) s
 unfolding readied
 readied_left s wall elapsed = begun_left (settled (timed s wall elapsed)) (why s wall elapsed)
 
 -- ---- a clock
 
 -- what the requests of a clock make of what is out
-pub record Gone (old : State) (requests : List Request) (new : State) : Type 0 where
+pub record Gone (old : WatchState) (requests : List Request) (new : WatchState) : Type 0 where
   pub entries : entries_out new ≡ entries_out old ++ entries_asked requests
   pub count : length new.out ≡ length old.out + length requests
   pub few : length requests ≤ old.width - length old.out
   pub within : All (λ (r : Request). r.entry < length new.forest.entries) requests
   pub width : new.width ≡ old.width
-  pub sound : IsSound new
+  pub sound : MachineIsSound new
 
 entries_more : (at : ℕ) (out : List Out) (requests : List Request) → map (λ (r : Out). r.entry) (out ++ map (out_at at) requests) ≡ map (λ (r : Out). r.entry) out ++ entries_asked requests
 entries_more at [] [] = refl
@@ -305,12 +305,12 @@ among P i (j ∷ js) all some =
     ]
 
 -- the mark of an entry that goes out, and of any other
-sent_mark : (s : State) (requests : List Request) (i : ℕ) → (track_at s i).out ≡ true → i < length s.tracks → (track_at (sent s requests) i).out ≡ true
+sent_mark : (s : WatchState) (requests : List Request) (i : ℕ) → (track_at s i).out ≡ true → i < length s.tracks → (track_at (sent s requests) i).out ≡ true
 sent_mark s requests i marked within =
     ap (λ (x : Track). x.out) (each_read (sent_in s.clocks.at requests) s.tracks i within)
     ∙ if_both (λ (x : Track). x.out ≡ true) (list_any (λ (r : Request). r.entry == i) requests) (sent_track s.clocks.at (track_at s i)) (track_at s i) refl marked
 
-went_mark : (s : State) (requests : List Request) (i : ℕ) → list_any (λ (r : Request). r.entry == i) requests ≡ true → i < length s.tracks → (track_at (sent s requests) i).out ≡ true
+went_mark : (s : WatchState) (requests : List Request) (i : ℕ) → list_any (λ (r : Request). r.entry == i) requests ≡ true → i < length s.tracks → (track_at (sent s requests) i).out ≡ true
 went_mark s requests i named within =
     ap (λ (x : Track). x.out)
     (each_read (sent_in s.clocks.at requests) s.tracks i within ∙ cond-true (list_any (λ (r : Request). r.entry == i) requests) (sent_track s.clocks.at (track_at s i)) (track_at s i) named)
@@ -323,7 +323,7 @@ marked_within xs i marked =
       | inr past ↦ absurd (let e : false ≡ true = sym (ap (λ (x : Track). x.out) (get_or_past xs i no_track past)) ∙ marked in cc)
     ]
 
-sent_once : (s : State) (requests : List Request) (i : ℕ) → Goes s.presence s.clocks.at s.tracks (s.width - length s.out) requests → times i (entries_out s) ≤ (if (track_at s i).out then 1 else 0) →
+sent_once : (s : WatchState) (requests : List Request) (i : ℕ) → Goes s.presence s.clocks.at s.tracks (s.width - length s.out) requests → times i (entries_out s) ≤ (if (track_at s i).out then 1 else 0) →
     times i (entries_out s ++ entries_asked requests) ≤ (if (track_at (sent s requests) i).out then 1 else 0)
 sent_once s requests i h once =
     let new = sent s requests in
@@ -348,7 +348,7 @@ sent_once s requests i h once =
           ]
     ]
 
-sent_gone : (s : State) (requests : List Request) → IsSound s → Goes s.presence s.clocks.at s.tracks (s.width - length s.out) requests → Gone s requests (sent s requests)
+sent_gone : (s : WatchState) (requests : List Request) → MachineIsSound s → Goes s.presence s.clocks.at s.tracks (s.width - length s.out) requests → Gone s requests (sent s requests)
 sent_gone s requests sound h =
     let new = sent s requests in
     let entries = entries_more s.clocks.at s.out requests in
@@ -368,14 +368,14 @@ sent_gone s requests sound h =
       };
     }
 
-clock_gone : (old new : State) (wall elapsed : ℕ) (output : Output) (requests : List Request) (until : ℕ) → StepClock old wall elapsed output new → output.command ≡ Go requests until → IsSound old → Gone old requests new
+clock_gone : (old new : WatchState) (wall elapsed : ℕ) (output : Output) (requests : List Request) (until : ℕ) → StepClock old wall elapsed output new → output.command ≡ Go requests until → MachineIsSound old → Gone old requests new
 clock_gone old new wall elapsed output requests until step is sound =
     let round = round_of step.round in
     let mid = pressed (readied old wall elapsed) round in
     let left = readied_left old wall elapsed in
     let command : StepCommand mid (Go requests until) new = subst (λ c. StepCommand mid c new) is step.command in
     let same : entries_out mid ≡ entries_out old = ap (λ (out : List Out). map (λ (r : Out). r.entry) out) left.0 in
-    let mid_sound : IsSound mid = record {
+    let mid_sound : MachineIsSound mid = record {
       count = mid_count old wall elapsed round ∙ sound.count ∙ ap (λ (g : Forest). length g.entries) (sym left.1.1);
       once = λ i.
           subst (λ (b : Bool). times i (entries_out mid) ≤ (if b then 1 else 0)) (sym (mid_flag old wall elapsed round i))
@@ -392,22 +392,22 @@ clock_gone old new wall elapsed output requests until step is sound =
       sound = at.sound;
     }
 
-pub turn_gone : (old new : State) (wall elapsed : ℕ) (output : Output) (requests : List Request) (until : ℕ) → Turn old (Clock wall elapsed) (Ok output) new → output.command ≡ Go requests until → IsSound old → Gone old requests new
+pub turn_gone : (old new : WatchState) (wall elapsed : ℕ) (output : Output) (requests : List Request) (until : ℕ) → Turn old (Clock wall elapsed) (Ok output) new → output.command ≡ Go requests until → MachineIsSound old → Gone old requests new
 turn_gone old new wall elapsed output requests until turn is sound = clock_gone old new wall elapsed output requests until turn.1 is sound
 
 -- ---- an answer
 
 -- the requests that are out but for those of j
-none_without : (j : ℕ) (out : List Out) → times j (map (λ (r : Out). r.entry) (without j out)) ≡ 0
-unfolding without
+none_without : (j : ℕ) (out : List Out) → times j (map (λ (r : Out). r.entry) (without_request j out)) ≡ 0
+unfolding without_request
 none_without j [] = refl
 none_without j (r ∷ out) =
     let rest = none_without j out in
     if_cases (λ (xs : List Out). times j (map (λ (q : Out). q.entry) xs) ≡ 0) (not (r.entry == j)) (r ∷ filter (λ q. not (q.entry == j)) out) (filter (λ q. not (q.entry == j)) out)
     (λ e. skips j r.entry (map (λ (q : Out). q.entry) (filter (λ q. not (q.entry == j)) out)) (not_so (r.entry == j) e) ∙ rest) (λ e. rest)
 
-other_without : (i j : ℕ) (out : List Out) → (j == i) ≡ false → times i (map (λ (r : Out). r.entry) (without j out)) ≡ times i (map (λ (r : Out). r.entry) out)
-unfolding without
+other_without : (i j : ℕ) (out : List Out) → (j == i) ≡ false → times i (map (λ (r : Out). r.entry) (without_request j out)) ≡ times i (map (λ (r : Out). r.entry) out)
+unfolding without_request
 other_without i j [] other = refl
 other_without i j (r ∷ out) other =
     let rest = other_without i j out other in
@@ -420,8 +420,8 @@ other_without i j (r ∷ out) other =
       so true h = refl
       so false h = absurd cc
 
-count_without : (j : ℕ) (out : List Out) → length (without j out) + times j (map (λ (r : Out). r.entry) out) ≡ length out
-unfolding without
+count_without : (j : ℕ) (out : List Out) → length (without_request j out) + times j (map (λ (r : Out). r.entry) out) ≡ length out
+unfolding without_request
 count_without j [] = refl
 count_without j (r ∷ out) =
     let rest = count_without j out in
@@ -441,65 +441,65 @@ heard_entries : (out : List Out) → SameEntries (map heard out) out
 heard_entries [] = (refl, refl)
 heard_entries (r ∷ out) = let rest = heard_entries out in (ap (λ ns. r.entry ∷ ns) rest.0, ap suc rest.1)
 
-replied_out : (s : State) (r : Out) (reply : Reply) → SameEntries (replied s r reply).out (without r.entry s.out)
+replied_out : (s : WatchState) (r : Out) (reply : Reply) → SameEntries (replied s r reply).out (without_request r.entry s.out)
 replied_out s r reply =
     let free = lane_freed s r in
-    let P : State → Type 0 = λ t. SameEntries t.out (without r.entry s.out) in
-    let all = heard_entries (without r.entry s.out) in
+    let P : WatchState → Type 0 = λ t. SameEntries t.out (without_request r.entry s.out) in
+    let all = heard_entries (without_request r.entry s.out) in
     if_both P (is_real reply) (answers_all free) (if r.heard then free else silent free)
     (if_both P s.presence.away _ _ all all)
     (if_both P r.heard free (silent free) (refl, refl) (if_both P s.presence.away _ _ (refl, refl) (refl, refl)))
 
 -- what an answer leaves
-abbrev pub IsKeptBy : State → State → Type 0
+abbrev pub IsKeptBy : WatchState → WatchState → Type 0
 IsKeptBy new old = (new.width ≡ old.width) × ((length new.tracks ≡ length old.tracks) × (length new.forest.entries ≡ length old.forest.entries))
 
-replied_kept : (s : State) (r : Out) (reply : Reply) → IsKeptBy (replied s r reply) s
+replied_kept : (s : WatchState) (r : Out) (reply : Reply) → IsKeptBy (replied s r reply) s
 replied_kept s r reply =
     let free = lane_freed s r in
-    let P : State → Type 0 = λ t. IsKeptBy t s in
+    let P : WatchState → Type 0 = λ t. IsKeptBy t s in
     if_both P (is_real reply) (answers_all free) (if r.heard then free else silent free)
     (if_both P s.presence.away _ _ (refl, (each_length (λ j. back_track) s.tracks, refl)) (refl, (refl, refl)))
     (if_both P r.heard free (silent free) (refl, (refl, refl)) (if_both P s.presence.away _ _ (refl, (refl, refl)) (refl, (refl, refl))))
 
-replied_flag : (s : State) (r : Out) (reply : Reply) (i : ℕ) → Flag (track_at (replied s r reply) i) (track_at s i)
+replied_flag : (s : WatchState) (r : Out) (reply : Reply) (i : ℕ) → Flag (track_at (replied s r reply) i) (track_at s i)
 replied_flag s r reply i =
     let free = lane_freed s r in
-    let P : State → Type 0 = λ t. Flag (track_at t i) (track_at s i) in
+    let P : WatchState → Type 0 = λ t. Flag (track_at t i) (track_at s i) in
     if_both P (is_real reply) (answers_all free) (if r.heard then free else silent free)
     (if_both P s.presence.away _ _ (each_kept Flag refl (λ j. back_track) s.tracks (λ j x. back_flag x) i) refl)
     (if_both P r.heard free (silent free) refl (if_both P s.presence.away _ _ refl refl))
 
 -- an answer to j: what is out is what was, but for j
-pub record Answered (old : State) (j : ℕ) (new : State) : Type 0 where
+pub record Answered (old : WatchState) (j : ℕ) (new : WatchState) : Type 0 where
   pub width : new.width ≡ old.width
   pub others : (i : ℕ) → (j == i) ≡ false → times i (entries_out new) ≡ times i (entries_out old)
   pub own : times j (entries_out new) ≡ 0
   pub count : length new.out + times j (entries_out old) ≡ length old.out
-  pub sound : IsSound new
+  pub sound : MachineIsSound new
 
-answered : (old mid new : State) (q : Out) (reply : Reply) → new ≡ replied mid q reply → mid.out ≡ old.out → IsKeptBy mid old → ((i : ℕ) → (q.entry == i) ≡ false → track_at mid i ≡ track_at old i) → IsSound old → Answered old q.entry new
+answered : (old mid new : WatchState) (q : Out) (reply : Reply) → new ≡ replied mid q reply → mid.out ≡ old.out → IsKeptBy mid old → ((i : ℕ) → (q.entry == i) ≡ false → track_at mid i ≡ track_at old i) → MachineIsSound old → Answered old q.entry new
 answered old mid new q reply is out kept others sound =
     let left = replied_out mid q reply in
-    let entries : entries_out new ≡ map (λ (r : Out). r.entry) (without q.entry old.out) =
-    ap entries_out is ∙ left.0 ∙ ap (λ (o : List Out). map (λ (r : Out). r.entry) (without q.entry o)) out in
+    let entries : entries_out new ≡ map (λ (r : Out). r.entry) (without_request q.entry old.out) =
+    ap entries_out is ∙ left.0 ∙ ap (λ (o : List Out). map (λ (r : Out). r.entry) (without_request q.entry o)) out in
     let own : times q.entry (entries_out new) ≡ 0 = ap (times q.entry) entries ∙ none_without q.entry old.out in
     let rest : (i : ℕ) → (q.entry == i) ≡ false → times i (entries_out new) ≡ times i (entries_out old) = λ i other. ap (times i) entries ∙ other_without i q.entry old.out other in
     let after = replied_kept mid q reply in
-    let length_is : length new.out ≡ length (without q.entry old.out) = ap (λ (s : State). length s.out) is ∙ left.1 ∙ ap (λ (o : List Out). length (without q.entry o)) out in
+    let length_is : length new.out ≡ length (without_request q.entry old.out) = ap (λ (s : WatchState). length s.out) is ∙ left.1 ∙ ap (λ (o : List Out). length (without_request q.entry o)) out in
     let whole = count_without q.entry old.out in
     record {
-      width = ap (λ (s : State). s.width) is ∙ after.0 ∙ kept.0;
+      width = ap (λ (s : WatchState). s.width) is ∙ after.0 ∙ kept.0;
       others = rest;
       own = own;
       count = omega (arith, length_is, whole);
       sound = record {
-        count = ap (λ (s : State). length s.tracks) is ∙ after.1.0 ∙ kept.1.0 ∙ sound.count ∙ sym kept.1.1 ∙ sym after.1.1 ∙ sym (ap (λ (s : State). length s.forest.entries) is);
+        count = ap (λ (s : WatchState). length s.tracks) is ∙ after.1.0 ∙ kept.1.0 ∙ sound.count ∙ sym kept.1.1 ∙ sym after.1.1 ∙ sym (ap (λ (s : WatchState). length s.forest.entries) is);
         once = λ i. elim (cases_Bool (q.entry == i)) [
           | inl same ↦ (let none : times i (entries_out new) ≡ 0 = subst (λ n. times n (entries_out new) ≡ 0) (eqb-true q.entry i same) own in omega (arith, none))
           | inr other ↦
               let flags : (track_at new i).out ≡ (track_at old i).out =
-              ap (λ (s : State). (track_at s i).out) is ∙ replied_flag mid q reply i ∙ ap (λ (x : Track). x.out) (others i other) in
+              ap (λ (s : WatchState). (track_at s i).out) is ∙ replied_flag mid q reply i ∙ ap (λ (x : Track). x.out) (others i other) in
               subst (λ (b : Bool). times i (entries_out new) ≤ (if b then 1 else 0)) (sym flags) (subst (λ n. n ≤ (if (track_at old i).out then 1 else 0)) (sym (rest i other)) (sound.once i))
         ];
       };
@@ -508,65 +508,65 @@ answered old mid new q reply is out kept others sound =
 apart : (i j : ℕ) → (j == i) ≡ false → (i ≡ j → ⊥)
 apart i j other same = let both : false ≡ true = sym other ∙ ap (λ n. j == n) same ∙ same_index j in cc
 
-looked_other : (s : State) (q : Out) (reply : Reply) (terms : Terms) (i : ℕ) → (i ≡ q.entry → ⊥) → track_at (looked s q reply terms) i ≡ track_at s i
+looked_other : (s : WatchState) (q : Out) (reply : Reply) (terms : Terms) (i : ℕ) → (i ≡ q.entry → ⊥) → track_at (looked s q reply terms) i ≡ track_at s i
 looked_other s q (Told seconds renewable date) terms i other =
     get_or-set_other (told_state s q.entry q.since seconds renewable terms).tracks q.entry i _ no_track other ∙ get_or-set_other s.tracks q.entry i _ no_track other
 looked_other s q (Refused status date) terms i other = get_or-set_other s.tracks q.entry i _ no_track other
 looked_other s q Busy terms i other = get_or-set_other s.tracks q.entry i _ no_track other
 looked_other s q Lost terms i other = get_or-set_other s.tracks q.entry i _ no_track other
 
-pub looked_out : (s : State) (q : Out) (reply : Reply) (terms : Terms) → (looked s q reply terms).out ≡ s.out
+pub looked_out : (s : WatchState) (q : Out) (reply : Reply) (terms : Terms) → (looked s q reply terms).out ≡ s.out
 looked_out s q (Told seconds renewable date) terms = refl
 looked_out s q (Refused status date) terms = refl
 looked_out s q Busy terms = refl
 looked_out s q Lost terms = refl
 
-looked_kept : (s : State) (q : Out) (reply : Reply) (terms : Terms) → IsKeptBy (looked s q reply terms) s
+looked_kept : (s : WatchState) (q : Out) (reply : Reply) (terms : Terms) → IsKeptBy (looked s q reply terms) s
 looked_kept s q (Told seconds renewable date) terms = (refl, (length-set _ q.entry _ ∙ length-set s.tracks q.entry _, length-set s.forest.entries q.entry _))
 looked_kept s q (Refused status date) terms = (refl, (length-set s.tracks q.entry _, refl))
 looked_kept s q Busy terms = (refl, (length-set s.tracks q.entry _, refl))
 looked_kept s q Lost terms = (refl, (length-set s.tracks q.entry _, refl))
 
-looked_answered : (old new : State) (j : ℕ) (found : Option Out) (reply : Reply) (terms : Terms) (output : Output) → request_out old.out j Look ≡ found → StepLooked old found reply terms output new → IsSound old → Answered old j new
+looked_answered : (old new : WatchState) (j : ℕ) (found : Option Out) (reply : Reply) (terms : Terms) (output : Output) → request_out old.out j Look ≡ found → StepLooked old found reply terms output new → MachineIsSound old → Answered old j new
 looked_answered old new j None reply terms output is step sound = absurd step
 looked_answered old new j (Some q) reply terms output is step sound =
     let s = noted old q reply in
     subst (λ k. Answered old k new) (out_entry old.out j Look q is)
     (answered old (looked s q reply terms) new q reply step.1 (looked_out s q reply terms) (looked_kept s q reply terms) (λ i other. looked_other s q reply terms i (apart i q.entry other)) sound)
 
-renewed_answered : (old new : State) (j : ℕ) (found : Option Out) (reply : Reply) (output : Output) → request_out old.out j Renew ≡ found → StepRenewed old found reply output new → IsSound old → Answered old j new
+renewed_answered : (old new : WatchState) (j : ℕ) (found : Option Out) (reply : Reply) (output : Output) → request_out old.out j Renew ≡ found → StepRenewed old found reply output new → MachineIsSound old → Answered old j new
 renewed_answered old new j None reply output is step sound = absurd step
 renewed_answered old new j (Some q) reply output is step sound =
     let s = noted old q reply in
     subst (λ k. Answered old k new) (out_entry old.out j Renew q is)
-    (answered old (renewed s q reply) new q reply step.1 refl (refl, (length-set s.tracks q.entry _, refl)) (λ i other. get_or-set_other s.tracks q.entry i _ no_track (apart i q.entry other)) sound)
+    (answered old (state_renewed s q reply) new q reply step.1 refl (refl, (length-set s.tracks q.entry _, refl)) (λ i other. get_or-set_other s.tracks q.entry i _ no_track (apart i q.entry other)) sound)
 
-pub turn_looked : (old new : State) (j : ℕ) (reply : Reply) (terms : Terms) (output : Output) → Turn old (Looked j reply terms) (Ok output) new → IsSound old → Answered old j new
+pub turn_looked : (old new : WatchState) (j : ℕ) (reply : Reply) (terms : Terms) (output : Output) → Turn old (Looked j reply terms) (Ok output) new → MachineIsSound old → Answered old j new
 turn_looked old new j reply terms output turn sound = looked_answered old new j (request_out old.out j Look) reply terms output refl turn.1 sound
 
-pub turn_renewed : (old new : State) (j : ℕ) (reply : Reply) (output : Output) → Turn old (Renewed j reply) (Ok output) new → IsSound old → Answered old j new
+pub turn_renewed : (old new : WatchState) (j : ℕ) (reply : Reply) (output : Output) → Turn old (Renewed j reply) (Ok output) new → MachineIsSound old → Answered old j new
 turn_renewed old new j reply output turn sound = renewed_answered old new j (request_out old.out j Renew) reply output refl turn.1 sound
 
 -- ---- the other events
 
 -- nothing goes out, and nothing comes
-pub record IsQuiet (old new : State) : Type 0 where
+pub record IsQuiet (old new : WatchState) : Type 0 where
   pub out : new.out ≡ old.out
   pub width : new.width ≡ old.width
-  pub sound : IsSound new
+  pub sound : MachineIsSound new
 
-pub turn_need : (old new : State) (i until : ℕ) (output : Output) → Turn old (Need i until) (Ok output) new → IsSound old → IsQuiet old new
+pub turn_need : (old new : WatchState) (i until : ℕ) (output : Output) → Turn old (Need i until) (Ok output) new → MachineIsSound old → IsQuiet old new
 turn_need old new i until output turn sound =
     subst (IsQuiet old) (sym turn.1.1)
     (record { out = refl; width = refl; sound = record { count = sound.count ∙ sym (length-set old.forest.entries i _); once = sound.once } })
 
-pub turn_begin : (old new : State) (output : Output) → Turn old Begin (Ok output) new → IsSound old → IsQuiet old new
+pub turn_begin : (old new : WatchState) (output : Output) → Turn old Begin (Ok output) new → MachineIsSound old → IsQuiet old new
 turn_begin old new output turn sound = subst (IsQuiet old) (sym turn.1.1) (record { out = refl; width = refl; sound = record { count = sound.count; once = sound.once } })
 
-known_flag : (old : State) (i end : ℕ) (renewable : Bool) (k : ℕ) → Flag (track_at (known old i end renewable) k) (track_at old k)
+known_flag : (old : WatchState) (i end : ℕ) (renewable : Bool) (k : ℕ) → Flag (track_at (known old i end renewable) k) (track_at old k)
 known_flag old i end renewable k = set_kept Flag (λ x. refl) old.tracks i (record (track_at old i) { end = At (min END_MAX end); renewable = renewable }) refl k
 
-pub turn_known : (old new : State) (i end : ℕ) (renewable : Bool) (output : Output) → Turn old (Known i end renewable) (Ok output) new → IsSound old → IsQuiet old new
+pub turn_known : (old new : WatchState) (i end : ℕ) (renewable : Bool) (output : Output) → Turn old (Known i end renewable) (Ok output) new → MachineIsSound old → IsQuiet old new
 turn_known old new i end renewable output turn sound =
     subst (IsQuiet old) (sym turn.1.1)
     (record {
@@ -580,33 +580,33 @@ turn_known old new i end renewable output turn sound =
 
 -- ---- and any event leaves as many entries
 
-clock_entries : (old new : State) (wall elapsed : ℕ) (round : List ℕ) (command : Command) → StepCommand (pressed (readied old wall elapsed) round) command new → length new.forest.entries ≡ length old.forest.entries
+clock_entries : (old new : WatchState) (wall elapsed : ℕ) (round : List ℕ) (command : Command) → StepCommand (pressed (readied old wall elapsed) round) command new → length new.forest.entries ≡ length old.forest.entries
 clock_entries old new wall elapsed round (Go requests until) h =
-    ap (λ (s : State). length s.forest.entries) h.0.1 ∙ ap (λ (g : Forest). length g.entries) (readied_left old wall elapsed).1.1
+    ap (λ (s : WatchState). length s.forest.entries) h.0.1 ∙ ap (λ (g : Forest). length g.entries) (readied_left old wall elapsed).1.1
 clock_entries old new wall elapsed round Taken h = absurd h
 
-looked_entries : (old new : State) (found : Option Out) (reply : Reply) (terms : Terms) (output : Output) → StepLooked old found reply terms output new → length new.forest.entries ≡ length old.forest.entries
+looked_entries : (old new : WatchState) (found : Option Out) (reply : Reply) (terms : Terms) (output : Output) → StepLooked old found reply terms output new → length new.forest.entries ≡ length old.forest.entries
 looked_entries old new None reply terms output step = absurd step
 looked_entries old new (Some q) reply terms output step =
-    ap (λ (s : State). length s.forest.entries) step.1 ∙ (replied_kept (looked (noted old q reply) q reply terms) q reply).1.1 ∙ (looked_kept (noted old q reply) q reply terms).1.1
+    ap (λ (s : WatchState). length s.forest.entries) step.1 ∙ (replied_kept (looked (noted old q reply) q reply terms) q reply).1.1 ∙ (looked_kept (noted old q reply) q reply terms).1.1
 
-renewed_entries : (old new : State) (found : Option Out) (reply : Reply) (output : Output) → StepRenewed old found reply output new → length new.forest.entries ≡ length old.forest.entries
+renewed_entries : (old new : WatchState) (found : Option Out) (reply : Reply) (output : Output) → StepRenewed old found reply output new → length new.forest.entries ≡ length old.forest.entries
 renewed_entries old new None reply output step = absurd step
-renewed_entries old new (Some q) reply output step = ap (λ (s : State). length s.forest.entries) step.1 ∙ (replied_kept (renewed (noted old q reply) q reply) q reply).1.1
+renewed_entries old new (Some q) reply output step = ap (λ (s : WatchState). length s.forest.entries) step.1 ∙ (replied_kept (state_renewed (noted old q reply) q reply) q reply).1.1
 
-step_entries : (old new : State) (event : Event) (output : Output) → Step old event output new → length new.forest.entries ≡ length old.forest.entries
+step_entries : (old new : WatchState) (event : Event) (output : Output) → Step old event output new → length new.forest.entries ≡ length old.forest.entries
 step_entries old new (Clock wall elapsed) output step = clock_entries old new wall elapsed (round_of step.round) output.command step.command
 step_entries old new (Looked i reply terms) output step = looked_entries old new (request_out old.out i Look) reply terms output step
 step_entries old new (Renewed i reply) output step = renewed_entries old new (request_out old.out i Renew) reply output step
-step_entries old new (Need i until) output step = ap (λ (s : State). length s.forest.entries) step.1 ∙ length-set old.forest.entries i _
-step_entries old new Begin output step = ap (λ (s : State). length s.forest.entries) step.1
-step_entries old new (Known i end renewable) output step = ap (λ (s : State). length s.forest.entries) step.1
+step_entries old new (Need i until) output step = ap (λ (s : WatchState). length s.forest.entries) step.1 ∙ length-set old.forest.entries i _
+step_entries old new Begin output step = ap (λ (s : WatchState). length s.forest.entries) step.1
+step_entries old new (Known i end renewable) output step = ap (λ (s : WatchState). length s.forest.entries) step.1
 
-refused_stays : (old new : State) (event : Event) (fault : WatchFault) → Turn old event (Err fault) new → new ≡ old
+refused_stays : (old new : WatchState) (event : Event) (fault : WatchFault) → Turn old event (Err fault) new → new ≡ old
 refused_stays old new event NotAsked h = h.1
 refused_stays old new event BadIndex h = h.1
 refused_stays old new event OutOfMemory h = h.1.1
 
-pub turn_entries : (old new : State) (event : Event) (result : Result Output WatchFault) → Turn old event result new → length new.forest.entries ≡ length old.forest.entries
+pub turn_entries : (old new : WatchState) (event : Event) (result : Result Output WatchFault) → Turn old event result new → length new.forest.entries ≡ length old.forest.entries
 turn_entries old new event (Ok output) turn = step_entries old new event output turn.1
-turn_entries old new event (Err fault) turn = ap (λ (s : State). length s.forest.entries) (refused_stays old new event fault turn)
+turn_entries old new event (Err fault) turn = ap (λ (s : WatchState). length s.forest.entries) (refused_stays old new event fault turn)

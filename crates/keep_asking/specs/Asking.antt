@@ -1,7 +1,7 @@
 -- Asking: what the machine asks, as the messages that are sent.
 -- Source: this project's own.
 use Rattle.std.specs.Prelude.{ℕ}
-use Rattle.keep_exchange.specs.Requests.{lookup_of, request_of}
+use Rattle.keep_exchange.specs.Requests.{lookup_of, renewal_request}
 use Rattle.keep_inventory.specs.Inventories.{Inventory}
 use Rattle.keep_lanes.specs.declared.lanes.Ask.{Ask}
 use Rattle.vault_http.specs.declared.request.Request as http
@@ -10,14 +10,14 @@ use Rattle.watch_machine.specs.declared.command.Patience.TheVariants.{Full, AtMo
 use Rattle.watch_machine.specs.declared.command.Request.{Request}
 use Rattle.watch_machine.specs.declared.event.Operation.{Operation}
 use Rattle.watch_machine.specs.declared.event.Operation.TheVariants.{Look, Renew}
-use Rattle.watch_machine.specs.State.{State}
+use Rattle.watch_machine.specs.State.{WatchState}
 
 -- a request as it is sent to a broker at that port. A renewal asks for the step that the machine has
-abbrev pub message_as : Operation → ℕ → Inventory → State → ℕ → http.Request
+abbrev pub message_as : Operation → ℕ → Inventory → WatchState → ℕ → http.Request
 message_as Look port s m i = lookup_of port s.credentials s.forest i
-message_as Renew port s m i = request_of port s.credentials m.forest i
+message_as Renew port s m i = renewal_request port s.credentials m.forest i
 
-abbrev pub message : ℕ → Inventory → State → Request → http.Request
+abbrev pub message : ℕ → Inventory → WatchState → Request → http.Request
 message port s m r = message_as r.operation port s m r.entry
 
 -- how long it may take, in milliseconds: of lanes no more than their time-out counts
@@ -26,5 +26,5 @@ patience_in Full = 18446744073709551615
 patience_in (AtMost ms) = ms
 
 -- a request as it is handed to the lanes
-abbrev pub ask_of : ℕ → Inventory → State → Request → Ask
+abbrev pub ask_of : ℕ → Inventory → WatchState → Request → Ask
 ask_of port s m r = record { index = r.entry; patience = patience_in r.patience; request = message port s m r }

@@ -5,7 +5,7 @@ use Rattle.keep_inventory.specs.Inventories.{Inventory}
 use Rattle.keep_lanes.specs.declared.lanes.Answered.{Answered}
 use Rattle.watch_machine.specs.declared.lanes.Out.{Out}
 use Rattle.watch_machine.specs.History.{Turn}
-use Rattle.watch_machine.specs.State.{State}
+use Rattle.watch_machine.specs.State.{WatchState}
 use Rattle.keep_asking.specs.Told.{event_as, said_to}
 use Rattle.keep_asking.specs.declared.handing.HandedIn.{HandedIn}
 
@@ -15,12 +15,12 @@ out_of out i = find (λ r. r.entry == i) out
 
 -- the answer is handed to the machine as the event of the request that is out of its entry: which that is, what the answer says to
 -- it, and what the machine makes of the event
-pub record IsHandedIn (s : Inventory) (a : Answered) (old : State) (h : HandedIn) (new : State) : Type 0 where
+pub record IsHandedIn (s : Inventory) (a : Answered) (old : WatchState) (h : HandedIn) (new : WatchState) : Type 0 where
   pub is_out : out_of old.out a.index ≡ Some h.request
   pub said_is : h.said ≡ said_to s h.request.operation a.index a.answer
   pub turn : Turn old (event_as h.request.operation a.index h.said.reply h.said.terms) (Ok h.output) new
 
 -- answers are handed in, one after another
-abbrev pub AreHandedIn : Inventory → List Answered → State → State → Type 0
+abbrev pub AreHandedIn : Inventory → List Answered → WatchState → WatchState → Type 0
 AreHandedIn s [] old new = new ≡ old
-AreHandedIn s (a ∷ rest) old new = (mid : State) × ((h : HandedIn) × (IsHandedIn s a old h mid × AreHandedIn s rest mid new))
+AreHandedIn s (a ∷ rest) old new = (mid : WatchState) × ((h : HandedIn) × (IsHandedIn s a old h mid × AreHandedIn s rest mid new))

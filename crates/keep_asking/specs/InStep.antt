@@ -3,14 +3,14 @@
 use Rattle.std.specs.Prelude.{◌≡◌, ◌≤◌, ◌==◌, ℕ, List, count_by, if◌then◌else◌, length, map}
 use Rattle.keep_lanes.specs.Out as lanes
 use Rattle.keep_lanes.specs.declared.lanes.Answered.{Answered}
-use Rattle.watch_machine.specs.State.{State, track_at}
+use Rattle.watch_machine.specs.State.{WatchState, track_at}
 
 -- how often an entry is among these
 abbrev pub times : ℕ → List ℕ → ℕ
 times i entries = count_by (λ j. j == i) entries
 
 -- the entries of the requests that the machine has out, of those on lanes, and of answers
-abbrev pub entries_out : State → List ℕ
+abbrev pub entries_out : WatchState → List ℕ
 entries_out m = map (λ r. r.entry) m.out
 
 abbrev pub entries_on : List lanes.Out → List ℕ
@@ -20,22 +20,22 @@ abbrev pub entries_of : List Answered → List ℕ
 entries_of answers = map (λ (a : Answered). a.index) answers
 
 -- the machine has a track for each entry; and of an entry one request out at most, and that only where its track says so
-pub record IsSound (m : State) : Type 0 where
+pub record MachineIsSound (m : WatchState) : Type 0 where
   pub count : length m.tracks ≡ length m.forest.entries
   pub once : (i : ℕ) → times i (entries_out m) ≤ (if (track_at m i).out then 1 else 0)
 
 -- on the lanes are the requests that the machine has out
-pub record AreInStep (m : State) (out : List lanes.Out) : Type 0 where
+pub record AreInStep (m : WatchState) (out : List lanes.Out) : Type 0 where
   pub count : length out ≡ length m.out
   pub each : (i : ℕ) → times i (entries_on out) ≡ times i (entries_out m)
 
 -- as many may be out on the lanes as the machine has out at once, no more are, and they are in step with it
-pub record IsAbreast (m : State) (width : ℕ) (out : List lanes.Out) : Type 0 where
+pub record IsAbreast (m : WatchState) (width : ℕ) (out : List lanes.Out) : Type 0 where
   pub width_is : m.width ≡ width
   pub room : length out ≤ width
-  pub sound : IsSound m
+  pub sound : MachineIsSound m
   pub in_step : AreInStep m out
 
 -- each of these answers is for a request of the machine that is out, and for another one
-abbrev pub AreOut : State → List Answered → Type 0
+abbrev pub AreOut : WatchState → List Answered → Type 0
 AreOut m answers = (i : ℕ) → times i (entries_of answers) ≤ times i (entries_out m)

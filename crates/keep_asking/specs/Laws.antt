@@ -12,7 +12,7 @@ use Rattle.watch_machine.specs.declared.command.Request.{Request}
 use Rattle.watch_machine.specs.declared.event.Event.{Event}
 use Rattle.watch_machine.specs.declared.event.Event.TheVariants.{Clock, Looked, Renewed, Need, Begin, Known}
 use Rattle.watch_machine.specs.History.{Turn}
-use Rattle.watch_machine.specs.State.{State, opened}
+use Rattle.watch_machine.specs.State.{WatchState, opened}
 use Rattle.keep_asking.specs.Handing.{AreHandedIn}
 use Rattle.keep_asking.specs.InStep.{AreOut, IsAbreast}
 use Rattle.keep_asking.specs.Sending.{GoOut, Lanes}
@@ -24,25 +24,25 @@ NewLaw = (g : Forest) (width : ℕ) → IsAbreast (opened g width) width []
 -- the requests of a clock are of entries, as many lanes are free, and when they have gone out the lanes are in step again
 abbrev pub ClockLaw : Type 0
 ClockLaw =
-    (old new : State) (wall elapsed : ℕ) (output : Output) (requests : List Request) (until width : ℕ) (before : Lanes) → Turn old (Clock wall elapsed) (Ok output) new → output.command ≡ Go requests until →
+    (old new : WatchState) (wall elapsed : ℕ) (output : Output) (requests : List Request) (until width : ℕ) (before : Lanes) → Turn old (Clock wall elapsed) (Ok output) new → output.command ≡ Go requests until →
     IsAbreast old width before.out → All (λ r. r.entry < length new.forest.entries) requests × ((length before.out + length requests ≤ width)
     × ((port : ℕ) (s : Inventory) (t now : ℕ) (after : Lanes) → GoOut port s new t now requests before after → IsAbreast new width after.out))
 
 -- answers that are handed back are to requests that are out, and when they have been handed in the lanes are in step again
 abbrev pub AnswersLaw : Type 0
 AnswersLaw =
-    (old : State) (width : ℕ) (out left : List lanes.Out) (answers : List Answered) → IsAbreast old width out → IsParted out answers left →
-    AreOut old answers × ((s : Inventory) (new : State) → AreHandedIn s answers old new → IsAbreast new width left)
+    (old : WatchState) (width : ℕ) (out left : List lanes.Out) (answers : List Answered) → IsAbreast old width out → IsParted out answers left →
+    AreOut old answers × ((s : Inventory) (new : WatchState) → AreHandedIn s answers old new → IsAbreast new width left)
 
 -- an event that is no clock and no answer
-abbrev pub IsOther : Event → Type 0
-IsOther (Clock wall elapsed) = ⊥
-IsOther (Looked i reply terms) = ⊥
-IsOther (Renewed i reply) = ⊥
-IsOther (Need i until) = Unit {0}
-IsOther Begin = Unit {0}
-IsOther (Known i end renewable) = Unit {0}
+abbrev pub IsOtherEvent : Event → Type 0
+IsOtherEvent (Clock wall elapsed) = ⊥
+IsOtherEvent (Looked i reply terms) = ⊥
+IsOtherEvent (Renewed i reply) = ⊥
+IsOtherEvent (Need i until) = Unit {0}
+IsOtherEvent Begin = Unit {0}
+IsOtherEvent (Known i end renewable) = Unit {0}
 
 -- such an event leaves them in step
 abbrev pub OtherLaw : Type 0
-OtherLaw = (old new : State) (event : Event) (output : Output) (width : ℕ) (out : List lanes.Out) → IsOther event → Turn old event (Ok output) new → IsAbreast old width out → IsAbreast new width out
+OtherLaw = (old new : WatchState) (event : Event) (output : Output) (width : ℕ) (out : List lanes.Out) → IsOtherEvent event → Turn old event (Ok output) new → IsAbreast old width out → IsAbreast new width out

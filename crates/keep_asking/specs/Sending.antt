@@ -4,28 +4,28 @@ use Rattle.std.specs.Prelude.{◌≡◌, ℕ, List, [], ◌∷◌, Option, IfSom
 use Rattle.keep_inventory.specs.Inventories.{Inventory}
 use Rattle.keep_lanes.specs.Out as lanes
 use Rattle.keep_lanes.specs.Out.{AreThere, IsParted}
-use Rattle.keep_lanes.specs.Serving.{Behind, IsSent}
+use Rattle.keep_lanes.specs.Serving.{BehindLanes, RequestIsSent}
 use Rattle.keep_lanes.specs.declared.lanes.Answered.{Answered}
 use Rattle.watch_machine.specs.declared.command.Request.{Request}
-use Rattle.watch_machine.specs.State.{State}
+use Rattle.watch_machine.specs.State.{WatchState}
 use Rattle.keep_asking.specs.Asking.{ask_of}
 
 -- lanes: what is behind them, where it is known; the requests that are out, by rising index; and their time-out in seconds
 pub record Lanes : Type 0 where
-  pub behind : Option Behind
+  pub behind : Option BehindLanes
   pub out : List lanes.Out
   pub seconds : ℕ
 
-abbrev pub lanes_of : Option Behind → List lanes.Out → ℕ → Lanes
+abbrev pub lanes_of : Option BehindLanes → List lanes.Out → ℕ → Lanes
 lanes_of behind out seconds = record { behind = behind; out = out; seconds = seconds }
 
 -- the request goes out on a lane, at that moment of the wall and of the elapsed clock
-pub record GoesOut (port : ℕ) (s : Inventory) (m : State) (t now : ℕ) (r : Request) (old new : Lanes) : Type 0 where
-  pub sent : IsSent old.seconds t now (ask_of port s m r) old.behind old.out new.behind new.out
+pub record GoesOut (port : ℕ) (s : Inventory) (m : WatchState) (t now : ℕ) (r : Request) (old new : Lanes) : Type 0 where
+  pub sent : RequestIsSent old.seconds t now (ask_of port s m r) old.behind old.out new.behind new.out
   pub seconds : new.seconds ≡ old.seconds
 
 -- requests go out one after another
-abbrev pub GoOut : ℕ → Inventory → State → ℕ → ℕ → List Request → Lanes → Lanes → Type 0
+abbrev pub GoOut : ℕ → Inventory → WatchState → ℕ → ℕ → List Request → Lanes → Lanes → Type 0
 GoOut port s m t now [] old new = new ≡ old
 GoOut port s m t now (r ∷ rest) old new = (mid : Lanes) × (GoesOut port s m t now r old mid × GoOut port s m t now rest mid new)
 

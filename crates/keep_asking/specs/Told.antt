@@ -2,7 +2,7 @@
 -- Source: Vault, HTTP API: `auth/token`, "Lookup a token (self)"; `sys/leases`, "Read lease". That one said of another entry, or
 -- of the other kind, counts as lost is this project's own.
 use Rattle.std.specs.Prelude.{ℕ, Bool, true, false, if◌then◌else◌, Option, Some, None}
-use Rattle.keep_lanes.specs.Heard.{looked_up, renewed_by}
+use Rattle.keep_lanes.specs.Heard.{looked_up_by_answer, renewed_by_answer}
 use Rattle.keep_lanes.specs.Losses.{Answer}
 use Rattle.keep_lanes.specs.declared.heard.Heard.{Heard}
 use Rattle.keep_lanes.specs.declared.heard.Heard.TheVariants as heard
@@ -95,16 +95,16 @@ loss_in (heard.Lost why) = why
 
 -- what the machine is told of it, what terms, and why it counts as lost, where it does
 abbrev pub reply_as : Operation → Inventory → ℕ → Answer → Reply
-reply_as Look s i answer = lookup_reply s i (looked_up (entry_at s.forest.entries i).kind answer)
-reply_as Renew s i answer = renewal_reply (renewed_by (entry_at s.forest.entries i).kind (credential_at s.credentials i) answer)
+reply_as Look s i answer = lookup_reply s i (looked_up_by_answer (entry_at s.forest.entries i).kind answer)
+reply_as Renew s i answer = renewal_reply (renewed_by_answer (entry_at s.forest.entries i).kind (credential_at s.credentials i) answer)
 
 abbrev pub terms_as : Operation → Inventory → ℕ → Answer → Terms
-terms_as Look s i answer = lookup_terms s i (looked_up (entry_at s.forest.entries i).kind answer)
+terms_as Look s i answer = lookup_terms s i (looked_up_by_answer (entry_at s.forest.entries i).kind answer)
 terms_as Renew s i answer = no_terms
 
 abbrev pub loss_as : Operation → Inventory → ℕ → Answer → Loss
-loss_as Look s i answer = loss_in (looked_up (entry_at s.forest.entries i).kind answer)
-loss_as Renew s i answer = loss_in (renewed_by (entry_at s.forest.entries i).kind (credential_at s.credentials i) answer)
+loss_as Look s i answer = loss_in (looked_up_by_answer (entry_at s.forest.entries i).kind answer)
+loss_as Renew s i answer = loss_in (renewed_by_answer (entry_at s.forest.entries i).kind (credential_at s.credentials i) answer)
 
 abbrev pub said_to : Inventory → Operation → ℕ → Answer → Said
 said_to s operation i answer = record { reply = reply_as operation s i answer; terms = terms_as operation s i answer; loss = loss_as operation s i answer }

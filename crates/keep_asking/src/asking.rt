@@ -1,6 +1,6 @@
 //! What the machine asks, as it is handed to the lanes.
 ghost use Rattle.std.specs.Prelude.{◌≡◌, ◌<◌, IfOk, length};
-ghost use Rattle.keep_exchange.specs.Requests.{IsShort};
+ghost use Rattle.keep_exchange.specs.Requests.{IsShortRequest};
 ghost use Rattle.keep_asking.specs.Asking.{ask_of, message, patience_in};
 ghost use Rattle.vault_http.specs.RoundTripRequest.{IsWritable};
 
@@ -24,7 +24,7 @@ pub fn ask_for(
     requires whole { length watch.now.forest.entries ≡ length inventory.now.forest.entries }
     ensures is { IfOk result (λ ask. ask ≡ ask_of port inventory.now watch.now request) }
     ensures writable { IfOk result (λ ask. IsWritable ask.request) }
-    ensures short { IfOk result (λ ask. IsShort ask.request) }
+    ensures short { IfOk result (λ ask. IsShortRequest ask.request) }
 {
     Ok(Ask {
         index: request.entry,
@@ -45,7 +45,7 @@ fn message(
     requires whole { length watch.now.forest.entries ≡ length inventory.now.forest.entries }
     ensures is { IfOk result (λ sent. sent ≡ message port inventory.now watch.now request) }
     ensures writable { IfOk result IsWritable }
-    ensures short { IfOk result IsShort }
+    ensures short { IfOk result IsShortRequest }
 {
     let entry = request.entry;
     match request.operation {

@@ -2,7 +2,7 @@
 use Rattle.std.proofs.Common.{◌≡◌, ◌∙◌, ◌<◌, ap, arith, get_or, length, subst, sym, take}
 use Rattle.std.proofs.lemmas.List.{take_more}
 use Rattle.std.proofs.lemmas.List.Elements.{All-get_or}
-use Rattle.keep_lanes.specs.Serving.{IsSent}
+use Rattle.keep_lanes.specs.Serving.{RequestIsSent}
 use Rattle.watch_machine.specs.declared.command.Patience.TheVariants.{Full}
 use Rattle.watch_machine.specs.declared.command.Request.{Request}
 use Rattle.watch_machine.specs.declared.event.Operation.TheVariants.{Look}
@@ -40,8 +40,8 @@ loop-request-preserved g c =
     let new : Lanes = lanes_of (g.L.Lanes.behind c.send.new.self) (g.L.Lanes.out c.send.new.self) (g.L.Lanes.seconds c.send.new.self) in
     let ask : c.in_ok-ask.ask ≡ ask_of port s m r =
     c.in_ok-ask.ensures.is ∙ ap (λ p. ask_of p s m r) c.port-port.ensures in
-    let sent : IsSent mid.seconds t now (ask_of port s m r) mid.behind mid.out new.behind new.out =
-    subst (λ a. IsSent mid.seconds t now a mid.behind mid.out new.behind new.out) ask c.in_ok-send.ensures.sent in
+    let sent : RequestIsSent mid.seconds t now (ask_of port s m r) mid.behind mid.out new.behind new.out =
+    subst (λ a. RequestIsSent mid.seconds t now a mid.behind mid.out new.behind new.out) ask c.in_ok-send.ensures.sent in
     let one = put_count _ mid.out new.out sent.put in
     let taken = c.loop-request.invariant.taken in
     record {

@@ -1,0 +1,3 @@
+pub mod Verdicts
+pub mod Lookups
+pub mod Laws
