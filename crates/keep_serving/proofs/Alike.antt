@@ -15,7 +15,7 @@ use Rattle.keep_asking.specs.Sending.{Lanes}
 use Rattle.keep_asking.specs.Told.{event_as}
 use Rattle.keep_asking.specs.declared.told.Said.{Said}
 use Rattle.keep_clock.specs.declared.reading.Reading.{Reading}
-use Rattle.keep_inventory.specs.Inventories.{Inventory, with_need}
+use Rattle.keep_inventory.specs.Inventories.{Inventory, inventory_with_need}
 use Rattle.keep_lanes.specs.declared.lanes.Answered.{Answered}
 use Rattle.keep_tree.specs.Forest.{Forest}
 use Rattle.watch_machine.specs.declared.command.Command.{Command}
@@ -27,23 +27,23 @@ use Rattle.watch_machine.specs.declared.event.Event.TheVariants as events
 use Rattle.watch_machine.specs.declared.fault.WatchFault.{WatchFault}
 use Rattle.watch_machine.specs.declared.lanes.Out.{Out}
 use Rattle.watch_machine.specs.History.{Turn}
-use Rattle.watch_machine.specs.State.{State, opened}
-use Rattle.watch_machine.specs.Step.{MayWant}
+use Rattle.watch_machine.specs.State.{WatchState, opened}
+use Rattle.watch_machine.specs.Step.{TurnMayWantMemory}
 use Rattle.keep_serving.specs.Alike.{AlikeLaw, AreAgentsAlike, AreHeldAlike, AreInventoriesAlike, AreWordsAlike, Content, RebuiltAlikeLaw, contents_at, contents_in, contents_taken}
-use Rattle.keep_serving.specs.Changes.{AreMade, IsMade, IsTurned, Made}
-use Rattle.keep_serving.specs.Held.{Held, Side, side}
+use Rattle.keep_serving.specs.Changes.{AgentIsTurned, AreMade, ChangeIsMade, Made}
+use Rattle.keep_serving.specs.Held.{Held, ServingSide, serving_side}
 use Rattle.keep_serving.specs.Laws.{KeepInventory, KeepsInventory}
-use Rattle.keep_serving.specs.Stages.{AreTaken, IsTaken}
-use Rattle.keep_serving.specs.Words.{Follows, HandsBy, HandsIn, SaysBy, Words}
+use Rattle.keep_serving.specs.Stages.{AnswerIsTaken, AnswersAreTaken}
+use Rattle.keep_serving.specs.Words.{HandsBy, SaysBy, TurnFollowsWords, Words, WordsHandIn}
 use Rattle.keep_serving.specs.declared.change.Change.{Change}
 use Rattle.keep_serving.specs.declared.change.Change.TheVariants.{Need, Begin, Serve, Kept}
 use Rattle.keep_serving.proofs.OneWay.{handed_same, not_both}
 
 -- ---- the agent
 
-need_alike : (s t : Inventory) (i need : ℕ) → AreInventoriesAlike s t → AreInventoriesAlike (with_need s i need) (with_need t i need)
-unfolding with_need
-need_alike s t i need alike = ap (λ (x : Inventory). with_need x i need) alike
+need_alike : (s t : Inventory) (i need : ℕ) → AreInventoriesAlike s t → AreInventoriesAlike (inventory_with_need s i need) (inventory_with_need t i need)
+unfolding inventory_with_need
+need_alike s t i need alike = ap (λ (x : Inventory). inventory_with_need x i need) alike
 
 inventory_alike : (event : Event) (s t : Inventory) → AreInventoriesAlike s t → AreInventoriesAlike (inventory_after event s) (inventory_after event t)
 inventory_alike (events.Clock wall elapsed) s t alike = alike
@@ -57,35 +57,35 @@ same_agents : (old other a b : Agent) → a ≡ old → b ≡ other → AreAgent
 same_agents old other a b one two alike = subst (λ (x : Agent). AreAgentsAlike x b) (sym one) (subst (λ (y : Agent). AreAgentsAlike old y) (sym two) alike)
 
 -- what the machine takes
-taken_alike : (old other a b : Agent) (event : Event) (x y : Output) → AreAgentsAlike old other → turns.IsTaken old event x a → turns.IsTaken other event y b → (y ≡ x) × AreAgentsAlike a b
+taken_alike : (old other a b : Agent) (event : Event) (x y : Output) → AreAgentsAlike old other → turns.EventIsTaken old event x a → turns.EventIsTaken other event y b → (y ≡ x) × AreAgentsAlike a b
 taken_alike old other a b event x y alike one two =
-    let machine = turn_once old.machine a.machine b.machine event x y one.machine (subst (λ (m : State). Turn m event (Ok y) b.machine) alike.machine two.machine) in
+    let machine = turn_once old.machine a.machine b.machine event x y one.machine (subst (λ (m : WatchState). Turn m event (Ok y) b.machine) alike.machine two.machine) in
     let inventory = inventory_alike event old.inventory other.inventory alike.inventory in (
       machine.0,
       record {
         machine = machine.1;
         inventory = subst (λ (t : Inventory). AreInventoriesAlike a.inventory t) (sym two.inventory) (subst (λ (s : Inventory). AreInventoriesAlike s (inventory_after event other.inventory)) (sym one.inventory) inventory);
-        standings = two.standings ∙ ap₂ (λ (m : State) (xs : List Standing). standings_after m event xs) machine.1 alike.standings ∙ sym one.standings;
+        standings = two.standings ∙ ap₂ (λ (m : WatchState) (xs : List Standing). standings_after m event xs) machine.1 alike.standings ∙ sym one.standings;
         beginnings = two.beginnings ∙ ap₂ (λ (o : Output) (n : ℕ). beginnings_after o.notes.began n) machine.0 alike.beginnings ∙ sym one.beginnings;
       },
     )
 
-turned_alike : (old other a b : Agent) (event : Event) (x y : Result Output WatchFault) → (MayWant event → ⊥) → AreAgentsAlike old other → AgentTurn old event x a → AgentTurn other event y b → AreAgentsAlike a b
+turned_alike : (old other a b : Agent) (event : Event) (x y : Result Output WatchFault) → (TurnMayWantMemory event → ⊥) → AreAgentsAlike old other → AgentTurn old event x a → AgentTurn other event y b → AreAgentsAlike a b
 turned_alike old other a b event (Ok x) (Ok y) wants alike one two = (taken_alike old other a b event x y alike one two).1
-turned_alike old other a b event (Ok x) (Err f) wants alike one two = absurd (not_both old.machine event x a.machine f wants one.machine (subst (λ (m : State). Turn m event (Err f) m) alike.machine two.0))
-turned_alike old other a b event (Err f) (Ok y) wants alike one two = absurd (not_both old.machine event y b.machine f wants (subst (λ (m : State). Turn m event (Ok y) b.machine) alike.machine two.machine) one.0)
+turned_alike old other a b event (Ok x) (Err f) wants alike one two = absurd (not_both old.machine event x a.machine f wants one.machine (subst (λ (m : WatchState). Turn m event (Err f) m) alike.machine two.0))
+turned_alike old other a b event (Err f) (Ok y) wants alike one two = absurd (not_both old.machine event y b.machine f wants (subst (λ (m : WatchState). Turn m event (Ok y) b.machine) alike.machine two.machine) one.0)
 turned_alike old other a b event (Err f) (Err g) wants alike one two = same_agents old other a b one.1 two.1 alike
 
 -- ---- answers
 
-one_alike : (x y : Answered) (old other a b : Agent) → AreAgentsAlike old other → (one : IsTaken x old a) (two : IsTaken y other b) → y.index ≡ x.index → two.said ≡ one.said → AreAgentsAlike a b
+one_alike : (x y : Answered) (old other a b : Agent) → AreAgentsAlike old other → (one : AnswerIsTaken x old a) (two : AnswerIsTaken y other b) → y.index ≡ x.index → two.said ≡ one.said → AreAgentsAlike a b
 one_alike x y old other a b alike one two index said =
-    let found : Some two.request ≡ Some one.request = sym two.is_out ∙ ap₂ (λ (m : State) (i : ℕ). out_of m.out i) alike.machine index ∙ one.is_out in
+    let found : Some two.request ≡ Some one.request = sym two.is_out ∙ ap₂ (λ (m : WatchState) (i : ℕ). out_of m.out i) alike.machine index ∙ one.is_out in
     let request : two.request ≡ one.request = cc in
     let event : event_as two.request.operation y.index two.said.reply two.said.terms ≡ event_as one.request.operation x.index one.said.reply one.said.terms =
     ap₂ (λ (r : Out) (s : Said). event_as r.operation y.index s.reply s.terms) request said ∙ ap (λ i. event_as one.request.operation i one.said.reply one.said.terms) index in
     (taken_alike old other a b (event_as one.request.operation x.index one.said.reply one.said.terms) one.output two.output alike one.turn
-    (subst (λ (e : Event). turns.IsTaken other e two.output b) event two.turn)).1
+    (subst (λ (e : Event). turns.EventIsTaken other e two.output b) event two.turn)).1
 
 abbrev head_or : {X : Type 0} → X → List X → X
 head_or d [] = d
@@ -95,7 +95,7 @@ abbrev tail_of : {X : Type 0} → List X → List X
 tail_of [] = []
 tail_of (x ∷ xs) = xs
 
-answers_alike : (xs ys : List Answered) (old other a b : Agent) → AreAgentsAlike old other → (one : AreTaken xs old a) (two : AreTaken ys other b) → contents_taken ys other b two ≡ contents_taken xs old a one → AreAgentsAlike a b
+answers_alike : (xs ys : List Answered) (old other a b : Agent) → AreAgentsAlike old other → (one : AnswersAreTaken xs old a) (two : AnswersAreTaken ys other b) → contents_taken ys other b two ≡ contents_taken xs old a one → AreAgentsAlike a b
 answers_alike [] [] old other a b alike one two same = same_agents old other a b one two alike
 answers_alike [] (y ∷ ys) old other a b alike one two same = absurd cc
 answers_alike (x ∷ xs) [] old other a b alike one two same = absurd cc
@@ -124,18 +124,18 @@ until_in o = until_by o.command
 says_alike : (is_said : Bool) (mid other a b : Agent) → AreAgentsAlike mid other → SaysBy is_said mid a → SaysBy is_said other b → AreAgentsAlike a b
 says_alike true mid other a b alike one two =
     same_agents (all_said mid) (all_said other) a b one two
-    (record { machine = alike.machine; inventory = alike.inventory; standings = ap₂ (λ (m : State) (xs : List Standing). said_standings m xs) alike.machine alike.standings; beginnings = alike.beginnings })
+    (record { machine = alike.machine; inventory = alike.inventory; standings = ap₂ (λ (m : WatchState) (xs : List Standing). said_standings m xs) alike.machine alike.standings; beginnings = alike.beginnings })
 says_alike false mid other a b alike one two = same_agents mid other a b one two alike
 
 hands_alike :
-    (r : Reading) (came more : List Answered) (is_said : Bool) (h k a b : Held) (sent out : List Request) → AreHeldAlike h k → (one : HandsIn r came is_said h sent a) (two : HandsIn r more is_said k out b) →
+    (r : Reading) (came more : List Answered) (is_said : Bool) (h k a b : Held) (sent out : List Request) → AreHeldAlike h k → (one : WordsHandIn r came is_said h sent a) (two : WordsHandIn r more is_said k out b) →
     contents_taken (k.pending ++ more) k.agent two.told two.taken ≡ contents_taken (h.pending ++ came) h.agent one.told one.taken → (out ≡ sent) × AreHeldAlike a b
 hands_alike r came more is_said h k a b sent out alike one two same =
     let told = answers_alike (h.pending ++ came) (k.pending ++ more) h.agent k.agent one.told two.told alike.agent one.taken two.taken same in
     let turned = taken_alike one.told two.told one.mid two.mid (events.Clock r.wall r.elapsed) (record { command = Go one.commanded one.until; notes = one.notes }) (record { command = Go two.commanded two.until; notes = two.notes }) told one.turn two.turn in
     let commanded : two.commanded ≡ one.commanded = ap requests_in turned.0 in
     let until : two.until ≡ one.until = ap until_in turned.0 in
-    let at : two.until - two.mid.machine.clocks.phase ≡ one.until - one.mid.machine.clocks.phase = ap₂ (λ (n : ℕ) (m : State). n - m.clocks.phase) until turned.1.machine in (
+    let at : two.until - two.mid.machine.clocks.phase ≡ one.until - one.mid.machine.clocks.phase = ap₂ (λ (n : ℕ) (m : WatchState). n - m.clocks.phase) until turned.1.machine in (
       two.sent_is ∙ ap₂ (λ (xs : List Request) (ys : List Request). xs ++ ys) alike.unsent commanded ∙ sym one.sent_is,
       record {
         agent = says_alike is_said one.mid two.mid a.agent b.agent turned.1 one.said two.said;
@@ -159,33 +159,33 @@ hands_by_alike w v (Some r) is_said h k a b sent out alike one two same = hands_
 
 -- ---- changes
 
-event_alike : (event : Event) (h k : Held) (l m : Lanes) (a b : Side) → (MayWant event → ⊥) → AreHeldAlike h k → IsTurned event (side h l) a → IsTurned event (side k m) b → AreHeldAlike a.held b.held
+event_alike : (event : Event) (h k : Held) (l m : Lanes) (a b : ServingSide) → (TurnMayWantMemory event → ⊥) → AreHeldAlike h k → AgentIsTurned event (serving_side h l) a → AgentIsTurned event (serving_side k m) b → AreHeldAlike a.held b.held
 event_alike event h k l m a b wants alike one two = record {
   agent = turned_alike h.agent k.agent a.held.agent b.held.agent event one.result two.result wants alike.agent one.turn two.turn;
-  unsent = ap (λ (x : Side). x.held.unsent) two.rest ∙ alike.unsent ∙ sym (ap (λ (x : Side). x.held.unsent) one.rest);
-  asked = ap (λ (x : Side). x.held.asked) two.rest ∙ alike.asked ∙ sym (ap (λ (x : Side). x.held.asked) one.rest);
-  until = ap (λ (x : Side). x.held.until) two.rest ∙ alike.until ∙ sym (ap (λ (x : Side). x.held.until) one.rest);
+  unsent = ap (λ (x : ServingSide). x.held.unsent) two.rest ∙ alike.unsent ∙ sym (ap (λ (x : ServingSide). x.held.unsent) one.rest);
+  asked = ap (λ (x : ServingSide). x.held.asked) two.rest ∙ alike.asked ∙ sym (ap (λ (x : ServingSide). x.held.asked) one.rest);
+  until = ap (λ (x : ServingSide). x.held.until) two.rest ∙ alike.until ∙ sym (ap (λ (x : ServingSide). x.held.until) one.rest);
 }
 
-change_alike : (c : Change) (is_made : Bool) (h k : Held) (l m : Lanes) (a b : Side) → KeepsInventory c → AreHeldAlike h k → IsMade c is_made (side h l) a → IsMade c is_made (side k m) b → AreHeldAlike a.held b.held
-change_alike c false h k l m a b keep alike one two = same_held h k a.held b.held (ap (λ (x : Side). x.held) one) (ap (λ (x : Side). x.held) two) alike
+change_alike : (c : Change) (is_made : Bool) (h k : Held) (l m : Lanes) (a b : ServingSide) → KeepsInventory c → AreHeldAlike h k → ChangeIsMade c is_made (serving_side h l) a → ChangeIsMade c is_made (serving_side k m) b → AreHeldAlike a.held b.held
+change_alike c false h k l m a b keep alike one two = same_held h k a.held b.held (ap (λ (x : ServingSide). x.held) one) (ap (λ (x : ServingSide). x.held) two) alike
 change_alike (Need i until) true h k l m a b keep alike one two = event_alike (events.Need i until) h k l m a b (λ wants. wants) alike one two
 change_alike Begin true h k l m a b keep alike one two = event_alike events.Begin h k l m a b (λ wants. wants) alike one two
 change_alike (Serve s) true h k l m a b keep alike one two = absurd keep
-change_alike Kept true h k l m a b keep alike one two = same_held h k a.held b.held (ap (λ (x : Side). x.held) one) (ap (λ (x : Side). x.held) two) alike
+change_alike Kept true h k l m a b keep alike one two = same_held h k a.held b.held (ap (λ (x : ServingSide). x.held) one) (ap (λ (x : ServingSide). x.held) two) alike
 
-changes_alike : (made : List Made) (h k : Held) (l m : Lanes) (a b : Side) → KeepInventory made → AreHeldAlike h k → AreMade made (side h l) a → AreMade made (side k m) b → AreHeldAlike a.held b.held
-changes_alike [] h k l m a b keep alike one two = same_held h k a.held b.held (ap (λ (x : Side). x.held) one) (ap (λ (x : Side). x.held) two) alike
+changes_alike : (made : List Made) (h k : Held) (l m : Lanes) (a b : ServingSide) → KeepInventory made → AreHeldAlike h k → AreMade made (serving_side h l) a → AreMade made (serving_side k m) b → AreHeldAlike a.held b.held
+changes_alike [] h k l m a b keep alike one two = same_held h k a.held b.held (ap (λ (x : ServingSide). x.held) one) (ap (λ (x : ServingSide). x.held) two) alike
 changes_alike (c ∷ rest) h k l m a b keep alike one two =
     let mid = change_alike c.change c.is_made h k l m one.0 two.0 keep.0 alike one.1.0 two.1.0 in
     changes_alike rest one.0.held two.0.held one.0.lanes two.0.lanes a b keep.1 mid one.1.1 two.1.1
 
 -- ---- turns
 
-follows_alike : (w v : Words) (h k a b : Held) (sent out : List Request) → AreHeldAlike h k → AreWordsAlike w v → (one : Follows w h sent a) (two : Follows v k out b) → contents_in v k out b two ≡ contents_in w h sent a one → (out ≡ sent) × AreHeldAlike a b
+follows_alike : (w v : Words) (h k a b : Held) (sent out : List Request) → AreHeldAlike h k → AreWordsAlike w v → (one : TurnFollowsWords w h sent a) (two : TurnFollowsWords v k out b) → contents_in v k out b two ≡ contents_in w h sent a one → (out ≡ sent) × AreHeldAlike a b
 follows_alike w v h k a b sent out alike words one two same =
     let hands = by v.reading words.reading v.is_said words.is_said two.hands same in
-    (hands.0, changes_alike w.changes one.mid two.mid one.before two.before (side a one.after) (side b two.after) words.keep hands.1 one.changes (subst (λ made. AreMade made (side two.mid two.before) (side b two.after)) words.changes two.changes)) where
+    (hands.0, changes_alike w.changes one.mid two.mid one.before two.before (serving_side a one.after) (serving_side b two.after) words.keep hands.1 one.changes (subst (λ made. AreMade made (serving_side two.mid two.before) (serving_side b two.after)) words.changes two.changes)) where
       by : (reading : Option Reading) → reading ≡ w.reading → (is_said : Bool) → is_said ≡ w.is_said → (hands : HandsBy reading v.came is_said k out two.mid) →
           contents_at reading v.came is_said k out two.mid hands ≡ contents_at w.reading w.came w.is_said h sent one.mid one.hands → (out ≡ sent) × AreHeldAlike one.mid two.mid
       by reading read is_said said =
@@ -206,11 +206,11 @@ alike_law (w ∷ ws) (v ∷ vs) h k new last (s ∷ sent) (o ∷ out) one two al
 
 -- ---- a rebuilding
 
-handed_alike : (told other : ℕ → Option Told) (old : State) (n : ℕ) (a b : State) → ((i : ℕ) → other i ≡ told i) → AreHanded told old n a → AreHanded other old n b → b ≡ a
+handed_alike : (told other : ℕ → Option Told) (old : WatchState) (n : ℕ) (a b : WatchState) → ((i : ℕ) → other i ≡ told i) → AreHanded told old n a → AreHanded other old n b → b ≡ a
 handed_alike told other old zero a b same one two = two ∙ sym one
 handed_alike told other old (suc n) a b same one two =
     let mid = handed_alike told other old n one.0 two.0 same one.1.0 two.1.0 in
-    handed_same (told n) n one.0 a b one.1.1 (subst (λ (t : Option Told). IsHanded n t one.0 b) (same n) (subst (λ (m : State). IsHanded n (other n) m b) mid two.1.1))
+    handed_same (told n) n one.0 a b one.1.1 (subst (λ (t : Option Told). IsHanded n t one.0 b) (same n) (subst (λ (m : WatchState). IsHanded n (other n) m b) mid two.1.1))
 
 map_alike : (f g : ℕ → Standing) (xs : List ℕ) → ((i : ℕ) → g i ≡ f i) → map g xs ≡ map f xs
 map_alike f g [] same = refl

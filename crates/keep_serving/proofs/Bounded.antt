@@ -4,8 +4,8 @@ use Rattle.std.proofs.lemmas.List.{length-append, length-replicate}
 use Rattle.keep_clock.specs.declared.reading.Reading.{Reading}
 use Rattle.keep_serving.specs.Changes.{Made}
 use Rattle.keep_serving.specs.Laws.{CallsLaw, WaitLaw}
-use Rattle.keep_serving.specs.Neighbours.{Answer, GoOn, Hear, calls_at, changes_in, heard_in, heard_of_time}
-use Rattle.keep_serving.specs.Turns.{Turned, is_some_change, wait_by}
+use Rattle.keep_serving.specs.Neighbours.{Answer, GoOn, Hear, calls_at, calls_of_hearing, changes_in, heard_of_time}
+use Rattle.keep_serving.specs.Turns.{ServingTurn, is_some_change, wait_by}
 
 -- ---- the wait
 
@@ -38,7 +38,7 @@ few_of_time : (is_handed : Bool) → length (heard_of_time is_handed) ≤ 2
 few_of_time true = omega arith
 few_of_time false = omega arith
 
-few_heard : (answers : ℕ) (is_handed : Bool) → length (heard_in answers is_handed) ≤ answers + 2
+few_heard : (answers : ℕ) (is_handed : Bool) → length (calls_of_hearing answers is_handed) ≤ answers + 2
 few_heard answers is_handed =
     let all = length-append (replicate answers (Hear Answer)) (heard_of_time is_handed) in
     let first = length-replicate answers (Hear Answer) in
@@ -50,10 +50,10 @@ few_changes zero made = omega arith
 few_changes (suc most) [] = omega arith
 few_changes (suc most) (m ∷ made) = (let rest = few_changes most made in omega (arith, rest))
 
-few_calls : (reading : Option Reading) (answers : ℕ) (is_handed : Bool) (t : Turned) → length (calls_at reading answers is_handed t) ≤ answers + 19
+few_calls : (reading : Option Reading) (answers : ℕ) (is_handed : Bool) (t : ServingTurn) → length (calls_at reading answers is_handed t) ≤ answers + 19
 few_calls None answers is_handed t = omega arith
 few_calls (Some r) answers is_handed t =
-    let all = length-append (heard_in answers is_handed) (GoOn t.is_busy ∷ changes_in 8 t.changes) in
+    let all = length-append (calls_of_hearing answers is_handed) (GoOn t.is_busy ∷ changes_in 8 t.changes) in
     let first = few_heard answers is_handed in
     let last = few_changes 8 t.changes in
     omega (arith, all, first, last)

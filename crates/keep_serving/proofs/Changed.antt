@@ -5,7 +5,7 @@ use Rattle.keep_agent.specs.declared.standing.Told.{Told}
 use Rattle.keep_agent.specs.Agent.{Agent}
 use Rattle.keep_agent.specs.Rebuilding.{AreHanded, IsHanded, carried_told}
 use Rattle.keep_agent.specs.Turns.{AgentTurn}
-use Rattle.keep_asking.specs.InStep.{IsSound, times}
+use Rattle.keep_asking.specs.InStep.{MachineIsSound, times}
 use Rattle.keep_asking.proofs.InStep.{abreast_new}
 use Rattle.keep_asking.proofs.Sound.{IsQuiet, turn_begin, turn_known, turn_need}
 use Rattle.keep_inventory.specs.Inventories.{Inventory}
@@ -15,17 +15,17 @@ use Rattle.watch_machine.specs.declared.event.Event.{Event}
 use Rattle.watch_machine.specs.declared.event.Event.TheVariants as events
 use Rattle.watch_machine.specs.declared.fault.WatchFault.{WatchFault}
 use Rattle.watch_machine.specs.declared.lanes.Out.{Out}
-use Rattle.watch_machine.specs.State.{State, opened}
-use Rattle.keep_serving.specs.Changes.{AllGiven, AreMade, IsMade, IsServed, Made, changes_of}
-use Rattle.keep_serving.specs.Held.{Held, IsInStep, Side}
+use Rattle.watch_machine.specs.State.{WatchState, opened}
+use Rattle.keep_serving.specs.Changes.{AllGiven, AreMade, ChangeIsMade, InventoryIsServed, Made, changes_of}
+use Rattle.keep_serving.specs.Held.{Held, IsInStep, ServingSide}
 use Rattle.keep_serving.specs.Turns.{is_some_change}
 use Rattle.keep_serving.specs.declared.change.Change.{Change}
 use Rattle.keep_serving.specs.declared.change.Change.TheVariants.{Need, Begin, Serve, Kept}
 
 -- ---- one after another
 
-pub made_on : (made : List Made) (c : Change) (is_made : Bool) (old mid new : Side) → AreMade made old mid → IsMade c is_made mid new → AreMade (made ++ record { change = c; is_made = is_made } ∷ []) old new
-made_on [] c is_made old mid new h one = (new, (subst (λ (s : Side). IsMade c is_made s new) h one, refl))
+pub made_on : (made : List Made) (c : Change) (is_made : Bool) (old mid new : ServingSide) → AreMade made old mid → ChangeIsMade c is_made mid new → AreMade (made ++ record { change = c; is_made = is_made } ∷ []) old new
+made_on [] c is_made old mid new h one = (new, (subst (λ (s : ServingSide). ChangeIsMade c is_made s new) h one, refl))
 made_on (m ∷ rest) c is_made old mid new h one = (h.0, (h.1.0, made_on rest c is_made h.0 mid new h.1.1 one))
 
 pub some_made : (made : List Made) (m : Made) → true ≡ is_some_change (made ++ m ∷ [])
@@ -79,22 +79,22 @@ turned_in_step width out event h new quiet (Ok output) turn step = quiet_in_step
 turned_in_step width out event h new quiet (Err fault) turn step = subst (λ (a : Agent). IsInStep width out (record h { agent = a })) (sym turn.1) step
 
 -- what is handed to a new machine leaves nothing out
-record IsIdle (width : ℕ) (m : State) : Type 0 where
+record IsIdle (width : ℕ) (m : WatchState) : Type 0 where
   none : m.out ≡ []
   width_is : m.width ≡ width
-  sound : IsSound m
+  sound : MachineIsSound m
 
-handed_one : (width i : ℕ) (told : Option Told) (old new : State) → IsHanded i told old new → IsIdle width old → IsIdle width new
+handed_one : (width i : ℕ) (told : Option Told) (old new : WatchState) → IsHanded i told old new → IsIdle width old → IsIdle width new
 handed_one width i None old new h idle = subst (IsIdle width) (sym h) idle
 handed_one width i (Some t) old new h idle =
     let quiet = turn_known old new i t.end t.renewable h.0 h.1 idle.sound in
     record { none = quiet.out ∙ idle.none; width_is = quiet.width ∙ idle.width_is; sound = quiet.sound }
 
-handed_idle : (width : ℕ) (told : ℕ → Option Told) (n : ℕ) (old new : State) → AreHanded told old n new → IsIdle width old → IsIdle width new
+handed_idle : (width : ℕ) (told : ℕ → Option Told) (n : ℕ) (old new : WatchState) → AreHanded told old n new → IsIdle width old → IsIdle width new
 handed_idle width told zero old new h idle = subst (IsIdle width) (sym h) idle
 handed_idle width told (suc n) old new h idle = handed_one width n (told n) h.0 new h.1.1 (handed_idle width told n old h.0 h.1.0 idle)
 
-served_in_step : (width : ℕ) (s : Inventory) (old new : Side) → IsServed s old new → IsInStep width old.lanes.out old.held → IsInStep width new.lanes.out new.held
+served_in_step : (width : ℕ) (s : Inventory) (old new : ServingSide) → InventoryIsServed s old new → IsInStep width old.lanes.out old.held → IsInStep width new.lanes.out new.held
 served_in_step width s old new h step =
     let w = old.held.agent.machine.width in
     let fresh = abreast_new s.forest w in
@@ -109,17 +109,17 @@ served_in_step width s old new h step =
     } in
     subst (λ l. IsInStep width l.out new.held) (sym h.lanes) (subst (IsInStep width []) (sym h.held) held)
 
-made_one : (width : ℕ) (c : Change) (is_made : Bool) (old new : Side) → IsMade c is_made old new → IsInStep width old.lanes.out old.held → IsInStep width new.lanes.out new.held
-made_one width c false old new h step = subst (λ (s : Side). IsInStep width s.lanes.out s.held) (sym h) step
+made_one : (width : ℕ) (c : Change) (is_made : Bool) (old new : ServingSide) → ChangeIsMade c is_made old new → IsInStep width old.lanes.out old.held → IsInStep width new.lanes.out new.held
+made_one width c false old new h step = subst (λ (s : ServingSide). IsInStep width s.lanes.out s.held) (sym h) step
 made_one width (Need i until) true old new h step =
-    subst (λ (s : Side). IsInStep width s.lanes.out s.held) (sym h.rest)
+    subst (λ (s : ServingSide). IsInStep width s.lanes.out s.held) (sym h.rest)
     (turned_in_step width old.lanes.out (events.Need i until) old.held new.held.agent (λ output turn. turn_need old.held.agent.machine new.held.agent.machine i until output turn.machine step.sound) h.result h.turn step)
 made_one width Begin true old new h step =
-    subst (λ (s : Side). IsInStep width s.lanes.out s.held) (sym h.rest)
+    subst (λ (s : ServingSide). IsInStep width s.lanes.out s.held) (sym h.rest)
     (turned_in_step width old.lanes.out events.Begin old.held new.held.agent (λ output turn. turn_begin old.held.agent.machine new.held.agent.machine output turn.machine step.sound) h.result h.turn step)
 made_one width (Serve s) true old new h step = served_in_step width s old new h step
-made_one width Kept true old new h step = subst (λ (s : Side). IsInStep width s.lanes.out s.held) (sym h) step
+made_one width Kept true old new h step = subst (λ (s : ServingSide). IsInStep width s.lanes.out s.held) (sym h) step
 
-pub made_keeps : (width : ℕ) (made : List Made) (old new : Side) → AreMade made old new → IsInStep width old.lanes.out old.held → IsInStep width new.lanes.out new.held
-made_keeps width [] old new h step = subst (λ (s : Side). IsInStep width s.lanes.out s.held) (sym h) step
+pub made_keeps : (width : ℕ) (made : List Made) (old new : ServingSide) → AreMade made old new → IsInStep width old.lanes.out old.held → IsInStep width new.lanes.out new.held
+made_keeps width [] old new h step = subst (λ (s : ServingSide). IsInStep width s.lanes.out s.held) (sym h) step
 made_keeps width (m ∷ rest) old new h step = made_keeps width rest h.0 new h.1.1 (made_one width m.change m.is_made old h.0 h.1.0 step)

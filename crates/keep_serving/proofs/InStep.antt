@@ -18,9 +18,9 @@ use Rattle.watch_machine.specs.declared.event.Operation.{Operation}
 use Rattle.watch_machine.specs.declared.event.Operation.TheVariants.{Look, Renew}
 use Rattle.watch_machine.specs.declared.event.Reply.{Reply}
 use Rattle.watch_machine.specs.declared.event.Terms.{Terms}
-use Rattle.watch_machine.specs.State.{State}
-use Rattle.keep_serving.specs.Held.{Held, IsInStep, Side, entries_unsent}
-use Rattle.keep_serving.specs.Stages.{AreTaken, HaveCome, HaveGone, HaveTaken, IsKeptBack, IsRead, IsSaid}
+use Rattle.watch_machine.specs.State.{WatchState}
+use Rattle.keep_serving.specs.Held.{Held, IsInStep, ServingSide, entries_unsent}
+use Rattle.keep_serving.specs.Stages.{AnswersAreTaken, HaveCome, HaveGone, HaveTaken, IsKeptBack, ShortsAreSaid, TimeIsHandedIn}
 
 unsent_append : (xs ys : List Request) → entries_unsent (xs ++ ys) ≡ entries_unsent xs ++ entries_unsent ys
 unsent_append [] ys = refl
@@ -54,7 +54,7 @@ lane_free width out h step some =
 
 -- ---- requests have gone out
 
-pub in_step_gone : (port width : ℕ) (old new : Side) → HaveGone port old new → IsInStep width old.lanes.out old.held → IsInStep width new.lanes.out new.held
+pub in_step_gone : (port width : ℕ) (old new : ServingSide) → HaveGone port old new → IsInStep width old.lanes.out old.held → IsInStep width new.lanes.out new.held
 in_step_gone port width old new h step =
     let sent = sent_all port _ _ _ _ h.sent old.lanes new.lanes h.out in
     let parts = ap length h.parts ∙ length-append h.sent new.held.unsent in
@@ -73,12 +73,12 @@ in_step_gone port width old new h step =
     } in
     subst (IsInStep width new.lanes.out) (sym h.held) now
 
-pub in_step_kept : (port width : ℕ) (old new : Side) → IsKeptBack port old new → IsInStep width old.lanes.out old.held → IsInStep width new.lanes.out new.held
+pub in_step_kept : (port width : ℕ) (old new : ServingSide) → IsKeptBack port old new → IsInStep width old.lanes.out old.held → IsInStep width new.lanes.out new.held
 in_step_kept port width old new h step = subst (λ out. IsInStep width out new.held) (sym h.out) (subst (IsInStep width old.lanes.out) (sym h.held) step)
 
 -- ---- answers have come
 
-pub in_step_come : (now width : ℕ) (old new : Side) → HaveCome now old new → IsInStep width old.lanes.out old.held → IsInStep width new.lanes.out new.held
+pub in_step_come : (now width : ℕ) (old new : ServingSide) → HaveCome now old new → IsInStep width old.lanes.out old.held → IsInStep width new.lanes.out new.held
 in_step_come now width old new h step =
     let parts = parted_count old.lanes.out new.held.pending new.lanes.out h.parted in
     let none = ap length h.none in
@@ -102,7 +102,7 @@ same_inventory : (operation : Operation) (i : ℕ) (reply : Reply) (terms : Term
 same_inventory Look i reply terms s = refl
 same_inventory Renew i reply terms s = refl
 
-pub handed_all : (answers : List Answered) (old new : Agent) → AreTaken answers old new → AreHandedIn old.inventory answers old.machine new.machine × (new.inventory ≡ old.inventory)
+pub handed_all : (answers : List Answered) (old new : Agent) → AnswersAreTaken answers old new → AreHandedIn old.inventory answers old.machine new.machine × (new.inventory ≡ old.inventory)
 handed_all [] old new h = (ap (λ (a : Agent). a.machine) h, ap (λ (a : Agent). a.inventory) h)
 handed_all (a ∷ rest) old new h =
     let mid = h.0 in
@@ -150,11 +150,11 @@ in_step_taken width out old new h step =
 
 -- ---- the time was handed in
 
-pub said_machine : (old new : Agent) → IsSaid old new → new.machine ≡ old.machine
+pub said_machine : (old new : Agent) → ShortsAreSaid old new → new.machine ≡ old.machine
 said_machine old new (inl same) = ap (λ (a : Agent). a.machine) same
 said_machine old new (inr said) = ap (λ (a : Agent). a.machine) said
 
-pub in_step_read : (r : Reading) (width : ℕ) (out : List lanes.Out) (old new : Held) → IsRead r old new → IsInStep width out old → IsInStep width out new
+pub in_step_read : (r : Reading) (width : ℕ) (out : List lanes.Out) (old new : Held) → TimeIsHandedIn r old new → IsInStep width out old → IsInStep width out new
 in_step_read r width out old new h step =
     let gone = turn_gone old.agent.machine h.mid.machine r.wall r.elapsed _ new.unsent h.until h.turn.machine refl step.sound in
     let none = ap length h.none in
@@ -176,7 +176,7 @@ in_step_read r width out old new h step =
     } in
     let same = said_machine h.mid new.agent h.said in
     let agent : IsInStep width out (record { agent = new.agent; pending = old.pending; unsent = new.unsent; asked = r; until = new.until }) =
-    subst (λ (m : State). IsInStep width out (record { agent = record new.agent { machine = m }; pending = old.pending; unsent = new.unsent; asked = r; until = new.until })) (sym same) mid in
+    subst (λ (m : WatchState). IsInStep width out (record { agent = record new.agent { machine = m }; pending = old.pending; unsent = new.unsent; asked = r; until = new.until })) (sym same) mid in
     subst (λ (x : Held). IsInStep width out (record x { until = new.until })) (sym h.held) agent
 
 -- ---- the first answer that waits is to a request that is out

@@ -13,3 +13,6 @@ pub mod OneWay
 pub mod Called
 pub mod Bounded
 pub mod Alike
+pub mod Waited
+pub mod Asked
+pub mod Due

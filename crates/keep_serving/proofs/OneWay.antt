@@ -1,7 +1,7 @@
 -- OneWay: from the same words and the same beginning the same follows.
 use Rattle.std.proofs.Common.{◌≡◌, ◌∙◌, ℕ, zero, suc, ◌-◌, Bool, true, false, List, [], ◌∷◌, ◌++◌, Option, Some, None, Result, Ok, Err, ap, ap₂, length, sym, subst}
 use Rattle.keep_agent.specs.Agent.{Agent}
-use Rattle.keep_agent.specs.Rebuilding.{AreHanded, IsHanded, IsRebuilt, carried_told}
+use Rattle.keep_agent.specs.Rebuilding.{AgentIsRebuilt, AreHanded, IsHanded, carried_told}
 use Rattle.keep_agent.specs.Shorts.{all_said}
 use Rattle.keep_agent.specs.Standings.{standings_after}
 use Rattle.keep_agent.specs.Turns.{AgentTurn, beginnings_after}
@@ -25,13 +25,13 @@ use Rattle.watch_machine.specs.declared.fault.WatchFault.{WatchFault}
 use Rattle.watch_machine.specs.declared.fault.WatchFault.TheVariants.{NotAsked, BadIndex, OutOfMemory}
 use Rattle.watch_machine.specs.declared.lanes.Out.{Out}
 use Rattle.watch_machine.specs.History.{Turn}
-use Rattle.watch_machine.specs.State.{State, opened}
-use Rattle.watch_machine.specs.Step.{MayWant}
-use Rattle.keep_serving.specs.Changes.{AreMade, IsMade, IsServed, IsTurned, Made}
-use Rattle.keep_serving.specs.Held.{Held, Side, side}
+use Rattle.watch_machine.specs.State.{WatchState, opened}
+use Rattle.watch_machine.specs.Step.{TurnMayWantMemory}
+use Rattle.keep_serving.specs.Changes.{AgentIsTurned, AreMade, ChangeIsMade, InventoryIsServed, Made}
+use Rattle.keep_serving.specs.Held.{Held, ServingSide, serving_side}
 use Rattle.keep_serving.specs.Laws.{OneWayLaw}
-use Rattle.keep_serving.specs.Stages.{AreTaken, IsTaken}
-use Rattle.keep_serving.specs.Words.{AllFollow, Follows, HandsBy, HandsIn, SaysBy, Words}
+use Rattle.keep_serving.specs.Stages.{AnswerIsTaken, AnswersAreTaken}
+use Rattle.keep_serving.specs.Words.{AllFollow, HandsBy, SaysBy, TurnFollowsWords, Words, WordsHandIn}
 use Rattle.keep_serving.specs.declared.change.Change.{Change}
 use Rattle.keep_serving.specs.declared.change.Change.TheVariants.{Need, Begin, Serve, Kept}
 
@@ -39,11 +39,11 @@ use Rattle.keep_serving.specs.declared.change.Change.TheVariants.{Need, Begin, S
 
 same_agent : (a b : Agent) → b.machine ≡ a.machine → b.inventory ≡ a.inventory → b.standings ≡ a.standings → b.beginnings ≡ a.beginnings → b ≡ a
 same_agent a b machine inventory standings beginnings =
-    ap₂ (λ (m : State) (s : Inventory). record { machine = m; inventory = s; standings = b.standings; beginnings = b.beginnings }) machine inventory
+    ap₂ (λ (m : WatchState) (s : Inventory). record { machine = m; inventory = s; standings = b.standings; beginnings = b.beginnings }) machine inventory
     ∙ ap₂ (λ (x : List Standing) (n : ℕ). record { machine = a.machine; inventory = a.inventory; standings = x; beginnings = n }) standings beginnings
 
 -- what the machine takes
-taken_same : (old a b : Agent) (event : Event) (x y : Output) → turns.IsTaken old event x a → turns.IsTaken old event y b → (y ≡ x) × (b ≡ a)
+taken_same : (old a b : Agent) (event : Event) (x y : Output) → turns.EventIsTaken old event x a → turns.EventIsTaken old event y b → (y ≡ x) × (b ≡ a)
 taken_same old a b event x y one two =
     let machine = turn_once old.machine a.machine b.machine event x y one.machine two.machine in (
       machine.0,
@@ -52,12 +52,12 @@ taken_same old a b event x y one two =
     )
 
 -- an event that wants no memory is taken, or it is refused
-pub not_both : (s : State) (event : Event) (x : Output) (new : State) (fault : WatchFault) → (MayWant event → ⊥) → Turn s event (Ok x) new → Turn s event (Err fault) s → ⊥
+pub not_both : (s : WatchState) (event : Event) (x : Output) (new : WatchState) (fault : WatchFault) → (TurnMayWantMemory event → ⊥) → Turn s event (Ok x) new → Turn s event (Err fault) s → ⊥
 not_both s event x new NotAsked wants one two = let e = sym one.0 ∙ two.0 in absurd cc
 not_both s event x new BadIndex wants one two = let e = sym one.0 ∙ two.0 in absurd cc
 not_both s event x new OutOfMemory wants one two = wants two.1.0
 
-turned_same : (old a b : Agent) (event : Event) (x y : Result Output WatchFault) → (MayWant event → ⊥) → AgentTurn old event x a → AgentTurn old event y b → b ≡ a
+turned_same : (old a b : Agent) (event : Event) (x y : Result Output WatchFault) → (TurnMayWantMemory event → ⊥) → AgentTurn old event x a → AgentTurn old event y b → b ≡ a
 turned_same old a b event (Ok x) (Ok y) wants one two = (taken_same old a b event x y one two).1
 turned_same old a b event (Ok x) (Err f) wants one two = absurd (not_both old.machine event x a.machine f wants one.machine two.0)
 turned_same old a b event (Err f) (Ok y) wants one two = absurd (not_both old.machine event y b.machine f wants two.machine one.0)
@@ -65,7 +65,7 @@ turned_same old a b event (Err f) (Err g) wants one two = two.1 ∙ sym one.1
 
 -- ---- answers
 
-one_answer : (x : Answered) (old a b : Agent) → IsTaken x old a → IsTaken x old b → b ≡ a
+one_answer : (x : Answered) (old a b : Agent) → AnswerIsTaken x old a → AnswerIsTaken x old b → b ≡ a
 one_answer x old a b one two =
     let found : Some two.request ≡ Some one.request = sym two.is_out ∙ one.is_out in
     let request : two.request ≡ one.request = cc in
@@ -73,13 +73,13 @@ one_answer x old a b one two =
     let event : event_as two.request.operation x.index two.said.reply two.said.terms ≡ event_as one.request.operation x.index one.said.reply one.said.terms =
     ap₂ (λ (r : Out) (s : Said). event_as r.operation x.index s.reply s.terms) request said in
     (taken_same old a b (event_as one.request.operation x.index one.said.reply one.said.terms) one.output two.output one.turn
-    (subst (λ (e : Event). turns.IsTaken old e two.output b) event two.turn)).1
+    (subst (λ (e : Event). turns.EventIsTaken old e two.output b) event two.turn)).1
 
-answers_same : (xs : List Answered) (old a b : Agent) → AreTaken xs old a → AreTaken xs old b → b ≡ a
+answers_same : (xs : List Answered) (old a b : Agent) → AnswersAreTaken xs old a → AnswersAreTaken xs old b → b ≡ a
 answers_same [] old a b one two = two ∙ sym one
 answers_same (x ∷ xs) old a b one two =
     let mid = one_answer x old one.0 two.0 one.1.0 two.1.0 in
-    answers_same xs one.0 a b one.1.1 (subst (λ (m : Agent). AreTaken xs m b) mid two.1.1)
+    answers_same xs one.0 a b one.1.1 (subst (λ (m : Agent). AnswersAreTaken xs m b) mid two.1.1)
 
 -- ---- the time
 
@@ -95,12 +95,12 @@ says_same : (is_said : Bool) (mid other a b : Agent) → other ≡ mid → SaysB
 says_same true mid other a b same one two = two ∙ ap all_said same ∙ sym one
 says_same false mid other a b same one two = two ∙ same ∙ sym one
 
-hands_same : (r : Reading) (came : List Answered) (is_said : Bool) (old a b : Held) (sent out : List Request) → HandsIn r came is_said old sent a → HandsIn r came is_said old out b → (out ≡ sent) × (b ≡ a)
+hands_same : (r : Reading) (came : List Answered) (is_said : Bool) (old a b : Held) (sent out : List Request) → WordsHandIn r came is_said old sent a → WordsHandIn r came is_said old out b → (out ≡ sent) × (b ≡ a)
 unfolding requests_of until_of
 hands_same r came is_said old a b sent out one two =
     let told = answers_same (old.pending ++ came) old.agent one.told two.told one.taken two.taken in
     let turned = taken_same one.told one.mid two.mid (events.Clock r.wall r.elapsed) (record { command = Go one.commanded one.until; notes = one.notes }) (record { command = Go two.commanded two.until; notes = two.notes })
-    one.turn (subst (λ (x : Agent). turns.IsTaken x (events.Clock r.wall r.elapsed) (record { command = Go two.commanded two.until; notes = two.notes }) two.mid) told two.turn) in
+    one.turn (subst (λ (x : Agent). turns.EventIsTaken x (events.Clock r.wall r.elapsed) (record { command = Go two.commanded two.until; notes = two.notes }) two.mid) told two.turn) in
     let commanded : two.commanded ≡ one.commanded = ap (λ (o : Output). requests_of o.command) turned.0 in
     let until : two.until ≡ one.until = ap (λ (o : Output). until_of o.command) turned.0 in
     let agent = says_same is_said one.mid two.mid a.agent b.agent turned.1 one.said two.said in
@@ -115,49 +115,49 @@ hands_by_same (Some r) came is_said old a b sent out one two = hands_same r came
 
 -- ---- changes, whatever is on the lanes
 
-pub handed_same : (told : Option Told) (i : ℕ) (old a b : State) → IsHanded i told old a → IsHanded i told old b → b ≡ a
+pub handed_same : (told : Option Told) (i : ℕ) (old a b : WatchState) → IsHanded i told old a → IsHanded i told old b → b ≡ a
 handed_same None i old a b one two = two ∙ sym one
 handed_same (Some t) i old a b one two = (turn_once old a b (events.Known i t.end t.renewable) one.0 two.0 one.1 two.1).1
 
-all_handed_same : (told : ℕ → Option Told) (old : State) (n : ℕ) (a b : State) → AreHanded told old n a → AreHanded told old n b → b ≡ a
+all_handed_same : (told : ℕ → Option Told) (old : WatchState) (n : ℕ) (a b : WatchState) → AreHanded told old n a → AreHanded told old n b → b ≡ a
 all_handed_same told old zero a b one two = two ∙ sym one
 all_handed_same told old (suc n) a b one two =
     let mid = all_handed_same told old n one.0 two.0 one.1.0 two.1.0 in
-    handed_same (told n) n one.0 a b one.1.1 (subst (λ (m : State). IsHanded n (told n) m b) mid two.1.1)
+    handed_same (told n) n one.0 a b one.1.1 (subst (λ (m : WatchState). IsHanded n (told n) m b) mid two.1.1)
 
-rebuilt_same : (old : Agent) (s : Inventory) (width : ℕ) (a b : Agent) → IsRebuilt old s width a → IsRebuilt old s width b → b ≡ a
+rebuilt_same : (old : Agent) (s : Inventory) (width : ℕ) (a b : Agent) → AgentIsRebuilt old s width a → AgentIsRebuilt old s width b → b ≡ a
 rebuilt_same old s width a b one two =
     same_agent a b (all_handed_same (carried_told old s) (opened s.forest width) (length s.forest.entries) a.machine b.machine one.machine two.machine) (two.inventory ∙ sym one.inventory) (two.standings ∙ sym one.standings) (two.beginnings ∙ sym one.beginnings)
 
-event_same : (event : Event) (h : Held) (l k : Lanes) (a b : Side) → (MayWant event → ⊥) → IsTurned event (side h l) a → IsTurned event (side h k) b → b.held ≡ a.held
+event_same : (event : Event) (h : Held) (l k : Lanes) (a b : ServingSide) → (TurnMayWantMemory event → ⊥) → AgentIsTurned event (serving_side h l) a → AgentIsTurned event (serving_side h k) b → b.held ≡ a.held
 event_same event h l k a b wants one two =
     let agent = turned_same h.agent a.held.agent b.held.agent event one.result two.result wants one.turn two.turn in
-    ap (λ (x : Side). x.held) two.rest ∙ ap (λ (x : Agent). record h { agent = x }) agent ∙ sym (ap (λ (x : Side). x.held) one.rest)
+    ap (λ (x : ServingSide). x.held) two.rest ∙ ap (λ (x : Agent). record h { agent = x }) agent ∙ sym (ap (λ (x : ServingSide). x.held) one.rest)
 
-served_same : (s : Inventory) (h : Held) (l k : Lanes) (a b : Side) → IsServed s (side h l) a → IsServed s (side h k) b → b.held ≡ a.held
+served_same : (s : Inventory) (h : Held) (l k : Lanes) (a b : ServingSide) → InventoryIsServed s (serving_side h l) a → InventoryIsServed s (serving_side h k) b → b.held ≡ a.held
 served_same s h l k a b one two =
     let agent = rebuilt_same h.agent s h.agent.machine.width a.held.agent b.held.agent one.agent two.agent in
     two.held ∙ ap (λ (x : Agent). record h { agent = x; pending = []; unsent = [] }) agent ∙ sym one.held
 
-change_same : (c : Change) (is_made : Bool) (h : Held) (l k : Lanes) (a b : Side) → IsMade c is_made (side h l) a → IsMade c is_made (side h k) b → b.held ≡ a.held
-change_same c false h l k a b one two = ap (λ (x : Side). x.held) two ∙ sym (ap (λ (x : Side). x.held) one)
+change_same : (c : Change) (is_made : Bool) (h : Held) (l k : Lanes) (a b : ServingSide) → ChangeIsMade c is_made (serving_side h l) a → ChangeIsMade c is_made (serving_side h k) b → b.held ≡ a.held
+change_same c false h l k a b one two = ap (λ (x : ServingSide). x.held) two ∙ sym (ap (λ (x : ServingSide). x.held) one)
 change_same (Need i until) true h l k a b one two = event_same (events.Need i until) h l k a b (λ wants. wants) one two
 change_same Begin true h l k a b one two = event_same events.Begin h l k a b (λ wants. wants) one two
 change_same (Serve s) true h l k a b one two = served_same s h l k a b one two
-change_same Kept true h l k a b one two = ap (λ (x : Side). x.held) two ∙ sym (ap (λ (x : Side). x.held) one)
+change_same Kept true h l k a b one two = ap (λ (x : ServingSide). x.held) two ∙ sym (ap (λ (x : ServingSide). x.held) one)
 
-changes_same : (made : List Made) (h : Held) (l k : Lanes) (a b : Side) → AreMade made (side h l) a → AreMade made (side h k) b → b.held ≡ a.held
-changes_same [] h l k a b one two = ap (λ (x : Side). x.held) two ∙ sym (ap (λ (x : Side). x.held) one)
+changes_same : (made : List Made) (h : Held) (l k : Lanes) (a b : ServingSide) → AreMade made (serving_side h l) a → AreMade made (serving_side h k) b → b.held ≡ a.held
+changes_same [] h l k a b one two = ap (λ (x : ServingSide). x.held) two ∙ sym (ap (λ (x : ServingSide). x.held) one)
 changes_same (m ∷ rest) h l k a b one two =
     let mid = change_same m.change m.is_made h l k one.0 two.0 one.1.0 two.1.0 in
-    changes_same rest one.0.held one.0.lanes two.0.lanes a b one.1.1 (subst (λ (x : Held). AreMade rest (side x two.0.lanes) b) mid two.1.1)
+    changes_same rest one.0.held one.0.lanes two.0.lanes a b one.1.1 (subst (λ (x : Held). AreMade rest (serving_side x two.0.lanes) b) mid two.1.1)
 
 -- ---- turns
 
-follows_same : (w : Words) (old a b : Held) (sent out : List Request) → Follows w old sent a → Follows w old out b → (out ≡ sent) × (b ≡ a)
+follows_same : (w : Words) (old a b : Held) (sent out : List Request) → TurnFollowsWords w old sent a → TurnFollowsWords w old out b → (out ≡ sent) × (b ≡ a)
 follows_same w old a b sent out one two =
     let hands = hands_by_same w.reading w.came w.is_said old one.mid two.mid sent out one.hands two.hands in
-    (hands.0, changes_same w.changes one.mid one.before two.before (side a one.after) (side b two.after) one.changes (subst (λ (x : Held). AreMade w.changes (side x two.before) (side b two.after)) hands.1 two.changes))
+    (hands.0, changes_same w.changes one.mid one.before two.before (serving_side a one.after) (serving_side b two.after) one.changes (subst (λ (x : Held). AreMade w.changes (serving_side x two.before) (serving_side b two.after)) hands.1 two.changes))
 
 pub one_way_law : OneWayLaw
 one_way_law [] old a b sent out one two = (two.0 ∙ sym one.0, two.1 ∙ sym one.1)

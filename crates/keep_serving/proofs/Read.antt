@@ -10,7 +10,7 @@ use Rattle.watch_machine.specs.declared.command.Output.{Output}
 use Rattle.watch_machine.specs.declared.command.Request.{Request}
 use Rattle.watch_machine.specs.declared.event.Event.TheVariants.{Clock}
 use Rattle.keep_serving.specs.Held.{Held}
-use Rattle.keep_serving.specs.Stages.{IsRead, IsSaid}
+use Rattle.keep_serving.specs.Stages.{ShortsAreSaid, TimeIsHandedIn}
 
 -- what is held once the agent has taken the time
 abbrev pub ready : Reading → Held → Agent → List Request → ℕ → Held
@@ -26,7 +26,7 @@ ready_is r old mid requests until here pending unsent a b c =
 
 pub read_whole :
     (r : Reading) (old : Held) (mid : Agent) (requests : List Request) (until : ℕ) (output : Output) (between new : Held) → old.unsent ≡ [] → output.command ≡ Go requests until → AgentTurn old.agent (Clock r.wall r.elapsed) (Ok output) mid →
-    between ≡ ready r old mid requests until → IsSaid between.agent new.agent → new ≡ record between { agent = new.agent } → IsRead r old new
+    between ≡ ready r old mid requests until → ShortsAreSaid between.agent new.agent → new ≡ record between { agent = new.agent } → TimeIsHandedIn r old new
 read_whole r old mid requests until output between new none is turn made said rest =
     let all : new ≡ record (ready r old mid requests until) { agent = new.agent } = rest ∙ ap (λ (h : Held). record h { agent = new.agent }) made in
     let unsent : new.unsent ≡ requests = ap (λ (h : Held). h.unsent) all in
@@ -37,6 +37,6 @@ read_whole r old mid requests until output between new none is turn made said re
       notes = output.notes;
       mid = mid;
       turn = subst (λ (k : Command). AgentTurn old.agent (Clock r.wall r.elapsed) (Ok (record { command = k; notes = output.notes })) mid) command turn;
-      said = subst (λ (a : Agent). IsSaid a new.agent) (ap (λ (h : Held). h.agent) made) said;
+      said = subst (λ (a : Agent). ShortsAreSaid a new.agent) (ap (λ (h : Held). h.agent) made) said;
       held = all ∙ ap (λ (rs : List Request). record { agent = new.agent; pending = old.pending; unsent = rs; asked = r; until = until - mid.machine.clocks.phase }) (sym unsent);
     }

@@ -1,36 +1,36 @@
 -- Run: one turn more. For `run`.
 use Rattle.std.proofs.Common.{◌≡◌, ◌∙◌, ℕ, ◌+◌, List, [], ◌∷◌, ◌++◌, Option, append_assoc, length, refl, sym, ap, subst, arith}
 use Rattle.std.proofs.lemmas.List.{length-append}
-use Rattle.keep_clock.specs.Seen.{AllMade, Seen}
+use Rattle.keep_clock.specs.Seen.{AllMade, ClockSeen}
 use Rattle.keep_clock.proofs.Joined.{joined_law}
 use Rattle.keep_serving.specs.Changes.{AllGiven, changes_of}
-use Rattle.keep_serving.specs.Held.{Side}
+use Rattle.keep_serving.specs.Held.{ServingSide}
 use Rattle.keep_serving.specs.Runs.{AreTurns, all_calls, all_changes}
-use Rattle.keep_serving.specs.Turns.{IsTurn, Turned, calls_of}
+use Rattle.keep_serving.specs.Turns.{IsServingTurn, ServingTurn, calls_of_turn}
 use Rattle.keep_serving.specs.declared.change.Change.{Change}
 use Rattle.keep_serving.proofs.Changed.{given_join}
 
-pub turns_on : (port : ℕ) (ts : List Turned) (t : Turned) (old mid new : Side) → AreTurns port old ts mid → IsTurn port mid t new → AreTurns port old (ts ++ t ∷ []) new
-turns_on port [] t old mid new h one = (new, (subst (λ (s : Side). IsTurn port s t new) h one, refl))
+pub turns_on : (port : ℕ) (ts : List ServingTurn) (t : ServingTurn) (old mid new : ServingSide) → AreTurns port old ts mid → IsServingTurn port mid t new → AreTurns port old (ts ++ t ∷ []) new
+turns_on port [] t old mid new h one = (new, (subst (λ (s : ServingSide). IsServingTurn port s t new) h one, refl))
 turns_on port (x ∷ xs) t old mid new h one = (h.0, (h.1.0, turns_on port xs t h.0 mid new h.1.1 one))
 
 append_none : {T : Type 0} → (xs : List T) → xs ++ [] ≡ xs
 append_none [] = refl
 append_none (x ∷ xs) = ap (λ ys. x ∷ ys) (append_none xs)
 
-calls_append : (ts : List Turned) (t : Turned) → all_calls (ts ++ t ∷ []) ≡ all_calls ts ++ calls_of t
-calls_append [] t = append_none (calls_of t)
-calls_append (x ∷ xs) t = ap (λ cs. calls_of x ++ cs) (calls_append xs t) ∙ sym (append_assoc (calls_of x) (all_calls xs) (calls_of t))
+calls_append : (ts : List ServingTurn) (t : ServingTurn) → all_calls (ts ++ t ∷ []) ≡ all_calls ts ++ calls_of_turn t
+calls_append [] t = append_none (calls_of_turn t)
+calls_append (x ∷ xs) t = ap (λ cs. calls_of_turn x ++ cs) (calls_append xs t) ∙ sym (append_assoc (calls_of_turn x) (all_calls xs) (calls_of_turn t))
 
-changes_append : (ts : List Turned) (t : Turned) → all_changes (ts ++ t ∷ []) ≡ all_changes ts ++ changes_of t.changes
+changes_append : (ts : List ServingTurn) (t : ServingTurn) → all_changes (ts ++ t ∷ []) ≡ all_changes ts ++ changes_of t.changes
 changes_append [] t = append_none (changes_of t.changes)
 changes_append (x ∷ xs) t = ap (λ cs. changes_of x.changes ++ cs) (changes_append xs t) ∙ sym (append_assoc (changes_of x.changes) (all_changes xs) (changes_of t.changes))
 
-pub calls_on : (ts : List Turned) (t : Turned) (a b c : Seen) → AllMade (all_calls ts) a b → AllMade (calls_of t) b c → AllMade (all_calls (ts ++ t ∷ [])) a c
-calls_on ts t a b c h one = subst (λ cs. AllMade cs a c) (sym (calls_append ts t)) (joined_law (all_calls ts) (calls_of t) a b c h one)
+pub calls_on : (ts : List ServingTurn) (t : ServingTurn) (a b c : ClockSeen) → AllMade (all_calls ts) a b → AllMade (calls_of_turn t) b c → AllMade (all_calls (ts ++ t ∷ [])) a c
+calls_on ts t a b c h one = subst (λ cs. AllMade cs a c) (sym (calls_append ts t)) (joined_law (all_calls ts) (calls_of_turn t) a b c h one)
 
-pub changes_run : (ts : List Turned) (t : Turned) (a b c : Option (List Change)) → AllGiven (all_changes ts) a b → AllGiven (changes_of t.changes) b c → AllGiven (all_changes (ts ++ t ∷ [])) a c
+pub changes_run : (ts : List ServingTurn) (t : ServingTurn) (a b c : Option (List Change)) → AllGiven (all_changes ts) a b → AllGiven (changes_of t.changes) b c → AllGiven (all_changes (ts ++ t ∷ [])) a c
 changes_run ts t a b c h one = subst (λ cs. AllGiven cs a c) (sym (changes_append ts t)) (given_join (all_changes ts) (changes_of t.changes) a b c h one)
 
-pub one_more : (ts : List Turned) (t : Turned) (n : ℕ) → length ts ≡ n → length (ts ++ t ∷ []) ≡ n + 1
+pub one_more : (ts : List ServingTurn) (t : ServingTurn) (n : ℕ) → length ts ≡ n → length (ts ++ t ∷ []) ≡ n + 1
 one_more ts t n is = (let more = length-append ts (t ∷ []) in omega (arith, more, is))

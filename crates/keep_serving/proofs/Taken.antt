@@ -3,11 +3,11 @@ use Rattle.std.proofs.Common.{◌∙◌, ◌∷◌, [], ◌++◌, List, append_a
 use Rattle.keep_agent.specs.Agent.{Agent}
 use Rattle.keep_lanes.specs.declared.lanes.Answered.{Answered}
 use Rattle.keep_serving.specs.Held.{Held}
-use Rattle.keep_serving.specs.Stages.{AreTaken, HaveTaken, IsTaken}
+use Rattle.keep_serving.specs.Stages.{AnswerIsTaken, AnswersAreTaken, HaveTaken}
 use Rattle.keep_serving.specs.code.Firsts.{TakesFirst}
 
-taken_more : (answers : List Answered) (a : Answered) (old mid new : Agent) → AreTaken answers old mid → IsTaken a mid new → AreTaken (answers ++ a ∷ []) old new
-taken_more [] a old mid new h one = (new, (subst (λ (x : Agent). IsTaken a x new) h one, refl))
+taken_more : (answers : List Answered) (a : Answered) (old mid new : Agent) → AnswersAreTaken answers old mid → AnswerIsTaken a mid new → AnswersAreTaken (answers ++ a ∷ []) old new
+taken_more [] a old mid new h one = (new, (subst (λ (x : Agent). AnswerIsTaken a x new) h one, refl))
 taken_more (b ∷ rest) a old mid new h one = (h.0, (h.1.0, taken_more rest a h.0 mid new h.1.1 one))
 
 -- none was handed in yet

@@ -2,7 +2,7 @@
 -- Source: this project's own.
 use Rattle.std.specs.Prelude.{◌≡◌, ◌++◌, ℕ, Bool, List, [], ◌∷◌, Option, None, Some}
 use Rattle.keep_agent.specs.Agent.{Agent}
-use Rattle.keep_agent.specs.Rebuilding.{IsRebuilt, carried_standing}
+use Rattle.keep_agent.specs.Rebuilding.{AgentIsRebuilt, carried_standing}
 use Rattle.keep_asking.specs.declared.told.Said.{Said}
 use Rattle.keep_clock.specs.declared.reading.Reading.{Reading}
 use Rattle.keep_inventory.specs.Inventories.{Inventory}
@@ -10,8 +10,8 @@ use Rattle.keep_lanes.specs.declared.lanes.Answered.{Answered}
 use Rattle.watch_machine.specs.declared.command.Request.{Request}
 use Rattle.keep_serving.specs.Held.{Held}
 use Rattle.keep_serving.specs.Laws.{KeepInventory}
-use Rattle.keep_serving.specs.Stages.{AreTaken}
-use Rattle.keep_serving.specs.Words.{AllFollow, Follows, HandsBy, Words}
+use Rattle.keep_serving.specs.Stages.{AnswersAreTaken}
+use Rattle.keep_serving.specs.Words.{AllFollow, HandsBy, TurnFollowsWords, Words}
 
 -- ---- what is alike
 
@@ -51,7 +51,7 @@ pub record Content : Type 0 where
   pub index : ℕ
   pub said : Said
 
-abbrev pub contents_taken : (answers : List Answered) (old new : Agent) → AreTaken answers old new → List Content
+abbrev pub contents_taken : (answers : List Answered) (old new : Agent) → AnswersAreTaken answers old new → List Content
 contents_taken [] old new h = []
 contents_taken (a ∷ rest) old new h = record { index = a.index; said = h.1.0.said } ∷ contents_taken rest h.0 new h.1.1
 
@@ -60,7 +60,7 @@ abbrev pub contents_at : (reading : Option Reading) (came : List Answered) (is_s
 contents_at None came is_said old sent new h = []
 contents_at (Some r) came is_said old sent new h = contents_taken (old.pending ++ came) old.agent h.told h.taken
 
-abbrev pub contents_in : (w : Words) (old : Held) (sent : List Request) (new : Held) → Follows w old sent new → List Content
+abbrev pub contents_in : (w : Words) (old : Held) (sent : List Request) (new : Held) → TurnFollowsWords w old sent new → List Content
 contents_in w old sent new h = contents_at w.reading w.came w.is_said old sent h.mid h.hands
 
 abbrev pub contents : (words : List Words) (old : Held) (sent : List (List Request)) (new : Held) → AllFollow words old sent new → List (List Content)
@@ -80,5 +80,5 @@ AlikeLaw =
 -- and so they do after a rebuilding, if what was said of the same entries is carried over
 abbrev pub RebuiltAlikeLaw : Type 0
 RebuiltAlikeLaw =
-    (a b new last : Agent) (s t : Inventory) (width : ℕ) → AreAgentsAlike a b → AreInventoriesAlike s t → ((i : ℕ) → carried_standing b t i ≡ carried_standing a s i) → IsRebuilt a s width new → IsRebuilt b t width last →
+    (a b new last : Agent) (s t : Inventory) (width : ℕ) → AreAgentsAlike a b → AreInventoriesAlike s t → ((i : ℕ) → carried_standing b t i ≡ carried_standing a s i) → AgentIsRebuilt a s width new → AgentIsRebuilt b t width last →
     AreAgentsAlike new last

@@ -1,48 +1,48 @@
 -- Changes: what is taken from clients and files while the agent runs, and what it makes of the agent.
 -- Source: this project's own.
 use Rattle.std.specs.Prelude.{◌≡◌, ◌++◌, Bool, true, false, List, [], ◌∷◌, Option, Some, IfSome, Result, map}
-use Rattle.keep_agent.specs.Rebuilding.{IsRebuilt}
+use Rattle.keep_agent.specs.Rebuilding.{AgentIsRebuilt}
 use Rattle.keep_agent.specs.Turns.{AgentTurn}
 use Rattle.keep_inventory.specs.Inventories.{Inventory}
 use Rattle.watch_machine.specs.declared.command.Output.{Output}
 use Rattle.watch_machine.specs.declared.event.Event.{Event}
 use Rattle.watch_machine.specs.declared.event.Event.TheVariants as events
 use Rattle.watch_machine.specs.declared.fault.WatchFault.{WatchFault}
-use Rattle.keep_serving.specs.Held.{Side}
+use Rattle.keep_serving.specs.Held.{ServingSide}
 use Rattle.keep_serving.specs.declared.change.Change.{Change}
 use Rattle.keep_serving.specs.declared.change.Change.TheVariants.{Need, Begin, Serve, Kept}
 
 -- the agent takes an event of its own; one of no entry leaves it as it was
-pub record IsTurned (event : Event) (old new : Side) : Type 0 where
+pub record AgentIsTurned (event : Event) (old new : ServingSide) : Type 0 where
   pub result : Result Output WatchFault
   pub turn : AgentTurn old.held.agent event result new.held.agent
   pub rest : new ≡ record old { held = record old.held { agent = new.held.agent } }
 
 -- another inventory is served from now on, by as many requests at once: what is out, what came and is not handed in, and what is not sent is forgotten
-pub record IsServed (s : Inventory) (old new : Side) : Type 0 where
-  pub agent : IsRebuilt old.held.agent s old.held.agent.machine.width new.held.agent
+pub record InventoryIsServed (s : Inventory) (old new : ServingSide) : Type 0 where
+  pub agent : AgentIsRebuilt old.held.agent s old.held.agent.machine.width new.held.agent
   pub held : new.held ≡ record old.held { agent = new.held.agent; pending = []; unsent = [] }
   pub lanes : new.lanes ≡ record old.lanes { out = [] }
 
 -- what a change makes
-abbrev pub Makes : Change → Side → Side → Type 0
-Makes (Need i until) old new = IsTurned (events.Need i until) old new
-Makes Begin old new = IsTurned events.Begin old new
-Makes (Serve s) old new = IsServed s old new
-Makes Kept old new = new ≡ old
+abbrev pub MakesChange : Change → ServingSide → ServingSide → Type 0
+MakesChange (Need i until) old new = AgentIsTurned (events.Need i until) old new
+MakesChange Begin old new = AgentIsTurned events.Begin old new
+MakesChange (Serve s) old new = InventoryIsServed s old new
+MakesChange Kept old new = new ≡ old
 
 -- a change that was taken, and whether memory sufficed to make it; where it did not, all is as it was, and it is to be given again
 pub record Made : Type 0 where
   pub change : Change
   pub is_made : Bool
 
-abbrev pub IsMade : Change → Bool → Side → Side → Type 0
-IsMade change true old new = Makes change old new
-IsMade change false old new = new ≡ old
+abbrev pub ChangeIsMade : Change → Bool → ServingSide → ServingSide → Type 0
+ChangeIsMade change true old new = MakesChange change old new
+ChangeIsMade change false old new = new ≡ old
 
-abbrev pub AreMade : List Made → Side → Side → Type 0
+abbrev pub AreMade : List Made → ServingSide → ServingSide → Type 0
 AreMade [] old new = new ≡ old
-AreMade (m ∷ rest) old new = (mid : Side) × (IsMade m.change m.is_made old mid × AreMade rest mid new)
+AreMade (m ∷ rest) old new = (mid : ServingSide) × (ChangeIsMade m.change m.is_made old mid × AreMade rest mid new)
 
 abbrev pub changes_of : List Made → List Change
 changes_of made = map (λ (m : Made). m.change) made

@@ -5,7 +5,7 @@ use Rattle.keep_agent.specs.Agent.{Agent}
 use Rattle.keep_clock.specs.declared.reading.Reading.{Reading}
 use Rattle.keep_lanes.specs.Out as lanes
 use Rattle.keep_lanes.specs.declared.lanes.Answered.{Answered}
-use Rattle.keep_asking.specs.InStep.{IsSound, entries_of, entries_on, entries_out, times}
+use Rattle.keep_asking.specs.InStep.{MachineIsSound, entries_of, entries_on, entries_out, times}
 use Rattle.keep_asking.specs.Sending.{Lanes}
 use Rattle.watch_machine.specs.declared.command.Request.{Request}
 
@@ -26,18 +26,18 @@ entries_unsent unsent = map (λ r. r.entry) unsent
 pub record IsInStep (width : ℕ) (out : List lanes.Out) (h : Held) : Type 0 where
   pub width_is : h.agent.machine.width ≡ width
   pub room : length h.agent.machine.out ≤ width
-  pub sound : IsSound h.agent.machine
+  pub sound : MachineIsSound h.agent.machine
   pub count : length out + (length h.pending + length h.unsent) ≡ length h.agent.machine.out
   pub each : (i : ℕ) → times i (entries_on out) + (times i (entries_of h.pending) + times i (entries_unsent h.unsent)) ≡ times i (entries_out h.agent.machine)
 
 -- what is held, and the lanes
-pub record Side : Type 0 where
+pub record ServingSide : Type 0 where
   pub held : Held
   pub lanes : Lanes
 
-abbrev pub side : Held → Lanes → Side
-side held lanes = record { held = held; lanes = lanes }
+abbrev pub serving_side : Held → Lanes → ServingSide
+serving_side held lanes = record { held = held; lanes = lanes }
 
 -- an agent that has done nothing yet
-abbrev pub begun : Agent → Held
-begun a = record { agent = a; pending = []; unsent = []; asked = record { wall = 0; elapsed = 0 }; until = 0 }
+abbrev pub held_at_first : Agent → Held
+held_at_first a = record { agent = a; pending = []; unsent = []; asked = record { wall = 0; elapsed = 0 }; until = 0 }

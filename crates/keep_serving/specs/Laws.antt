@@ -2,17 +2,16 @@
 -- Source: this project's own.
 use Rattle.std.specs.Prelude.{◌≡◌, ℕ, ◌+◌, ◌-◌, ◌≤◌, Bool, true, List, [], ◌∷◌, Some, length}
 use Rattle.std.specs.List.{All}
-use Rattle.keep_agent.specs.Laws.{after_all}
 use Rattle.keep_clock.specs.declared.reading.Reading.{Reading}
-use Rattle.watch_machine.specs.History.{History}
+use Rattle.watch_machine.specs.History.{History, after_all}
 use Rattle.watch_machine.specs.History as histories
-use Rattle.watch_machine.specs.State.{State}
+use Rattle.watch_machine.specs.State.{WatchState}
 use Rattle.watch_machine.specs.declared.command.Request.{Request}
 use Rattle.keep_serving.specs.Changes.{Made}
-use Rattle.keep_serving.specs.Held.{Held, Side}
+use Rattle.keep_serving.specs.Held.{Held, ServingSide}
 use Rattle.keep_serving.specs.Neighbours.{calls_in}
 use Rattle.keep_serving.specs.Runs.{AreTurns}
-use Rattle.keep_serving.specs.Turns.{IsTurn, Turned}
+use Rattle.keep_serving.specs.Turns.{IsServingTurn, ServingTurn}
 use Rattle.keep_serving.specs.Words.{AllAreWordsOf, AllFollow, Suffices, Words}
 use Rattle.keep_serving.specs.declared.change.Change.{Change}
 use Rattle.keep_serving.specs.declared.change.Change.TheVariants.{Need, Begin, Serve, Kept}
@@ -28,23 +27,23 @@ abbrev pub KeepInventory : List Made → Type 0
 KeepInventory [] = Unit {0}
 KeepInventory (m ∷ rest) = KeepsInventory m.change × KeepInventory rest
 
-abbrev pub IsStretch : List Turned → Type 0
+abbrev pub IsStretch : List ServingTurn → Type 0
 IsStretch [] = Unit {0}
 IsStretch (t ∷ rest) = KeepInventory t.changes × IsStretch rest
 
 -- some events, handed in one after another, lead from the one state to the other
-abbrev pub LeadsTo : State → State → Type 0
+abbrev pub LeadsTo : WatchState → WatchState → Type 0
 LeadsTo old new = (turns : List histories.Turned) × (History old turns × (after_all old turns ≡ new))
 
 -- in turns that serve one inventory the Watch was handed events, one after another, and nothing else was done to it: so each law of
 -- all such runs holds of it, whatever the neighbours do
 abbrev pub StretchLaw : Type 0
-StretchLaw = (port : ℕ) (old new : Side) (turns : List Turned) → AreTurns port old turns new → IsStretch turns → LeadsTo old.held.agent.machine new.held.agent.machine
+StretchLaw = (port : ℕ) (old new : ServingSide) (turns : List ServingTurn) → AreTurns port old turns new → IsStretch turns → LeadsTo old.held.agent.machine new.held.agent.machine
 
 -- turns for which memory sufficed are what follows from words: their readings and changes, and the answers that came in them
 abbrev pub WordsLaw : Type 0
 WordsLaw =
-    (port : ℕ) (old new : Side) (turns : List Turned) → AreTurns port old turns new → All Suffices turns →
+    (port : ℕ) (old new : ServingSide) (turns : List ServingTurn) → AreTurns port old turns new → All Suffices turns →
     (words : List Words) × ((sent : List (List Request)) × (AllAreWordsOf turns words × AllFollow words old.held sent new.held))
 
 -- and from the same words and the same beginning the same follows: the requests that go out in each turn, and what is held after it
@@ -54,9 +53,9 @@ OneWayLaw = (words : List Words) (old a b : Held) (sent out : List (List Request
 -- a turn waits for a second at most, and where the time was handed in never past the Watch's moment
 abbrev pub WaitLaw : Type 0
 WaitLaw =
-    (port : ℕ) (old new : Side) (t : Turned) → IsTurn port old t new →
+    (port : ℕ) (old new : ServingSide) (t : ServingTurn) → IsServingTurn port old t new →
     (t.millis ≤ 1000) × ((r : Reading) → t.reading ≡ Some r → t.is_whole ≡ true → t.millis ≤ new.held.until - r.elapsed)
 
 -- and it calls its neighbours 19 times at most, and once more for each answer of which they hear
 abbrev pub CallsLaw : Type 0
-CallsLaw = (answers : ℕ) (is_handed : Bool) (t : Turned) → length (calls_in answers is_handed t) ≤ answers + 19
+CallsLaw = (answers : ℕ) (is_handed : Bool) (t : ServingTurn) → length (calls_in answers is_handed t) ≤ answers + 19

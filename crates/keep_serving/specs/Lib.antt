@@ -5,6 +5,8 @@ pub mod Stages
 pub mod Turns
 pub mod Outlook
 pub mod Neighbours
+pub mod Apart
+pub mod Days
 pub mod Runs
 pub mod Words
 pub mod code

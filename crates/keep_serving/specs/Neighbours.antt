@@ -3,7 +3,7 @@
 use Rattle.std.specs.Prelude.{◌≡◌, ℕ, zero, suc, ◌≤◌, Bool, true, false, List, [], ◌∷◌, ◌++◌, Option, Some, None, replicate}
 use Rattle.keep_clock.specs.declared.reading.Reading.{Reading}
 use Rattle.keep_serving.specs.Changes.{Made}
-use Rattle.keep_serving.specs.Turns.{Turned}
+use Rattle.keep_serving.specs.Turns.{ServingTurn}
 use Rattle.keep_serving.specs.declared.change.Change.{Change}
 use Rattle.keep_serving.specs.declared.neighbours.Happened.{Happened}
 use Rattle.keep_serving.specs.declared.neighbours.Happened.TheVariants as happened
@@ -43,8 +43,8 @@ abbrev pub heard_of_time : Bool → List NeighbourCall
 heard_of_time true = Hear Time ∷ Hear Needs ∷ []
 heard_of_time false = []
 
-abbrev pub heard_in : ℕ → Bool → List NeighbourCall
-heard_in answers is_handed = replicate answers (Hear Answer) ++ heard_of_time is_handed
+abbrev pub calls_of_hearing : ℕ → Bool → List NeighbourCall
+calls_of_hearing answers is_handed = replicate answers (Hear Answer) ++ heard_of_time is_handed
 
 -- they are asked for changes until they give none, so many times at most, and told of each that they gave whether it was made
 abbrev pub changes_in : ℕ → List Made → List NeighbourCall
@@ -54,23 +54,23 @@ changes_in (suc most) (m ∷ made) = Give (Some m.change) ∷ Settle m.is_made �
 
 -- at readings they hear, go on once, and are asked for changes, eight times at most; where the clocks could not be read they are
 -- not called
-abbrev pub calls_at : Option Reading → ℕ → Bool → Turned → List NeighbourCall
+abbrev pub calls_at : Option Reading → ℕ → Bool → ServingTurn → List NeighbourCall
 calls_at None answers is_handed t = []
-calls_at (Some r) answers is_handed t = heard_in answers is_handed ++ GoOn t.is_busy ∷ changes_in 8 t.changes
+calls_at (Some r) answers is_handed t = calls_of_hearing answers is_handed ++ GoOn t.is_busy ∷ changes_in 8 t.changes
 
-abbrev pub calls_in : ℕ → Bool → Turned → List NeighbourCall
+abbrev pub calls_in : ℕ → Bool → ServingTurn → List NeighbourCall
 calls_in answers is_handed t = calls_at t.reading answers is_handed t
 
 -- so many answers at most are heard of, and then the time, where memory suffices
-pub record AreHeard {N : Type 0} (does : NeighbourCall → N → N → Type 0) (most : ℕ) (is_whole : Bool) (old new : N) : Type 0 where
+pub record AnswersAreHeardOf {N : Type 0} (does : NeighbourCall → N → N → Type 0) (most : ℕ) (is_whole : Bool) (old new : N) : Type 0 where
   pub answers : ℕ
   pub few : answers ≤ most
   pub is_handed : Bool
   pub whole : is_whole ≡ true → is_handed ≡ true
-  pub called : AllCalled does (heard_in answers is_handed) old new
+  pub called : AllCalled does (calls_of_hearing answers is_handed) old new
 
 -- all that a turn calls them for: an answer is heard of for each lane at most
-pub record AreCalled {N : Type 0} (does : NeighbourCall → N → N → Type 0) (width : ℕ) (t : Turned) (old new : N) : Type 0 where
+pub record AreCalled {N : Type 0} (does : NeighbourCall → N → N → Type 0) (width : ℕ) (t : ServingTurn) (old new : N) : Type 0 where
   pub answers : ℕ
   pub few : answers ≤ width
   pub is_handed : Bool
@@ -78,6 +78,6 @@ pub record AreCalled {N : Type 0} (does : NeighbourCall → N → N → Type 0) 
   pub called : AllCalled does (calls_in answers is_handed t) old new
 
 -- and turns one after another
-abbrev pub AreCalledFor : {N : Type 0} → (NeighbourCall → N → N → Type 0) → ℕ → List Turned → N → N → Type 0
+abbrev pub AreCalledFor : {N : Type 0} → (NeighbourCall → N → N → Type 0) → ℕ → List ServingTurn → N → N → Type 0
 AreCalledFor does width [] old new = new ≡ old
 AreCalledFor {N} does width (t ∷ rest) old new = (mid : N) × (AreCalled does width t old mid × AreCalledFor does width rest mid new)

@@ -4,17 +4,17 @@ use Rattle.std.specs.Prelude.{◌≡◌, ℕ, List, [], ◌∷◌}
 use Rattle.std.specs.List.{flat_map}
 use Rattle.keep_clock.specs.declared.call.Call.{Call}
 use Rattle.keep_serving.specs.Changes.{changes_of}
-use Rattle.keep_serving.specs.Held.{Side}
+use Rattle.keep_serving.specs.Held.{ServingSide}
 use Rattle.keep_serving.specs.declared.change.Change.{Change}
-use Rattle.keep_serving.specs.Turns.{IsTurn, Turned, calls_of}
+use Rattle.keep_serving.specs.Turns.{IsServingTurn, ServingTurn, calls_of_turn}
 
-abbrev pub AreTurns : ℕ → Side → List Turned → Side → Type 0
+abbrev pub AreTurns : ℕ → ServingSide → List ServingTurn → ServingSide → Type 0
 AreTurns port old [] new = new ≡ old
-AreTurns port old (t ∷ rest) new = (mid : Side) × (IsTurn port old t mid × AreTurns port mid rest new)
+AreTurns port old (t ∷ rest) new = (mid : ServingSide) × (IsServingTurn port old t mid × AreTurns port mid rest new)
 
 -- all that is asked of the clock, and all changes that are taken
-abbrev pub all_calls : List Turned → List Call
-all_calls turns = flat_map calls_of turns
+abbrev pub all_calls : List ServingTurn → List Call
+all_calls turns = flat_map calls_of_turn turns
 
-abbrev pub all_changes : List Turned → List Change
-all_changes turns = flat_map (λ (t : Turned). changes_of t.changes) turns
+abbrev pub all_changes : List ServingTurn → List Change
+all_changes turns = flat_map (λ (t : ServingTurn). changes_of t.changes) turns

@@ -6,12 +6,12 @@ use Rattle.keep_clock.specs.declared.call.Call.{Call}
 use Rattle.keep_clock.specs.declared.call.Call.TheVariants.{Wait}
 use Rattle.keep_clock.specs.declared.reading.Reading.{Reading}
 use Rattle.keep_serving.specs.Changes.{AreMade, Made}
-use Rattle.keep_serving.specs.Held.{Side}
-use Rattle.keep_serving.specs.Stages.{Goes}
+use Rattle.keep_serving.specs.Held.{ServingSide}
+use Rattle.keep_serving.specs.Stages.{LeftOverGoesFirst}
 
 -- what a turn read, where it could; whether memory sufficed to hand the time in; the changes that it took; whether a neighbour
 -- could go on at once; the moment by which a lane has to be looked at; and for how long it then waited, in milliseconds
-pub record Turned : Type 0 where
+pub record ServingTurn : Type 0 where
   pub reading : Option Reading
   pub is_whole : Bool
   pub changes : List Made
@@ -20,9 +20,9 @@ pub record Turned : Type 0 where
   pub millis : ℕ
 
 -- nothing is handed in where the clocks could not be read
-abbrev pub Hears : ℕ → Option Reading → Side → Bool → Side → Type 0
-Hears port None old is_whole new = (is_whole ≡ false) × (new ≡ old)
-Hears port (Some r) old is_whole new = Goes port r old is_whole new
+abbrev pub TurnHears : ℕ → Option Reading → ServingSide → Bool → ServingSide → Type 0
+TurnHears port None old is_whole new = (is_whole ≡ false) × (new ≡ old)
+TurnHears port (Some r) old is_whole new = LeftOverGoesFirst port r old is_whole new
 
 abbrev pub is_some_change : List Made → Bool
 is_some_change [] = false
@@ -40,16 +40,16 @@ wait_after is_whole until due (Some r) = if is_whole then wait_at until due r el
 abbrev pub wait_by : Bool → Bool → ℕ → ℕ → Option Reading → ℕ
 wait_by is_more is_whole until due reading = if is_more then 0 else wait_after is_whole until due reading
 
-abbrev pub wait_of : Turned → ℕ → ℕ
+abbrev pub wait_of : ServingTurn → ℕ → ℕ
 wait_of t until = wait_by (is_some_change t.changes || t.is_busy) t.is_whole until t.due t.reading
 
-pub record IsTurn (port : ℕ) (old : Side) (t : Turned) (new : Side) : Type 0 where
-  pub mid : Side
-  pub hears : Hears port t.reading old t.is_whole mid
+pub record IsServingTurn (port : ℕ) (old : ServingSide) (t : ServingTurn) (new : ServingSide) : Type 0 where
+  pub mid : ServingSide
+  pub hears : TurnHears port t.reading old t.is_whole mid
   pub made : AreMade t.changes mid new
   pub few : length t.changes ≤ 8
   pub waits : t.millis ≡ wait_of t new.held.until
 
 -- what is asked of the clock: one reading, and one wait
-abbrev pub calls_of : Turned → List Call
-calls_of t = read_call t.reading ∷ Wait t.millis ∷ []
+abbrev pub calls_of_turn : ServingTurn → List Call
+calls_of_turn t = read_call t.reading ∷ Wait t.millis ∷ []

@@ -13,9 +13,9 @@ use Rattle.watch_machine.specs.declared.command.Request.{Request}
 use Rattle.watch_machine.specs.declared.event.Event.TheVariants.{Clock}
 use Rattle.watch_machine.specs.declared.notes.Notes.{Notes}
 use Rattle.keep_serving.specs.Changes.{AreMade, Made}
-use Rattle.keep_serving.specs.Held.{Held, side}
-use Rattle.keep_serving.specs.Stages.{AreTaken}
-use Rattle.keep_serving.specs.Turns.{Turned}
+use Rattle.keep_serving.specs.Held.{Held, serving_side}
+use Rattle.keep_serving.specs.Stages.{AnswersAreTaken}
+use Rattle.keep_serving.specs.Turns.{ServingTurn}
 
 -- the readings, where the clocks could be read; the answers that came off their lanes; whether memory sufficed to say what is short;
 -- and the changes that were taken
@@ -31,9 +31,9 @@ SaysBy false old new = new ≡ old
 
 -- the answers that were left over and those that came are handed in, and then the readings; what goes out is what was left over and
 -- then what is commanded
-pub record HandsIn (r : Reading) (came : List Answered) (is_said : Bool) (old : Held) (sent : List Request) (new : Held) : Type 0 where
+pub record WordsHandIn (r : Reading) (came : List Answered) (is_said : Bool) (old : Held) (sent : List Request) (new : Held) : Type 0 where
   pub told : Agent
-  pub taken : AreTaken (old.pending ++ came) old.agent told
+  pub taken : AnswersAreTaken (old.pending ++ came) old.agent told
   pub commanded : List Request
   pub until : ℕ
   pub notes : Notes
@@ -45,28 +45,28 @@ pub record HandsIn (r : Reading) (came : List Answered) (is_said : Bool) (old : 
 
 abbrev pub HandsBy : Option Reading → List Answered → Bool → Held → List Request → Held → Type 0
 HandsBy None came is_said old sent new = (sent ≡ []) × (new ≡ old)
-HandsBy (Some r) came is_said old sent new = HandsIn r came is_said old sent new
+HandsBy (Some r) came is_said old sent new = WordsHandIn r came is_said old sent new
 
 -- what goes out in a turn of these words, and what is held after it, whatever is on the lanes
-pub record Follows (w : Words) (old : Held) (sent : List Request) (new : Held) : Type 0 where
+pub record TurnFollowsWords (w : Words) (old : Held) (sent : List Request) (new : Held) : Type 0 where
   pub mid : Held
   pub hands : HandsBy w.reading w.came w.is_said old sent mid
   pub before : Lanes
   pub after : Lanes
-  pub changes : AreMade w.changes (side mid before) (side new after)
+  pub changes : AreMade w.changes (serving_side mid before) (serving_side new after)
 
 -- and in turns one after another
 abbrev pub AllFollow : List Words → Held → List (List Request) → Held → Type 0
 AllFollow [] old sent new = (sent ≡ []) × (new ≡ old)
 AllFollow (w ∷ rest) old [] new = ⊥
-AllFollow (w ∷ rest) old (s ∷ later) new = (mid : Held) × (Follows w old s mid × AllFollow rest mid later new)
+AllFollow (w ∷ rest) old (s ∷ later) new = (mid : Held) × (TurnFollowsWords w old s mid × AllFollow rest mid later new)
 
 -- words that a turn heard: its readings and its changes
-pub record AreWordsOf (t : Turned) (w : Words) : Type 0 where
+pub record AreWordsOf (t : ServingTurn) (w : Words) : Type 0 where
   pub reading : w.reading ≡ t.reading
   pub changes : w.changes ≡ t.changes
 
-abbrev pub AllAreWordsOf : List Turned → List Words → Type 0
+abbrev pub AllAreWordsOf : List ServingTurn → List Words → Type 0
 AllAreWordsOf [] [] = Unit {0}
 AllAreWordsOf [] (w ∷ ws) = ⊥
 AllAreWordsOf (t ∷ ts) [] = ⊥
@@ -77,5 +77,5 @@ abbrev pub SufficesBy : Option Reading → Bool → Type 0
 SufficesBy None is_whole = Unit {0}
 SufficesBy (Some r) is_whole = is_whole ≡ true
 
-abbrev pub Suffices : Turned → Type 0
+abbrev pub Suffices : ServingTurn → Type 0
 Suffices t = SufficesBy t.reading t.is_whole

@@ -1,8 +1,8 @@
 //! Changes are made.
 ghost use Rattle.std.specs.Prelude.{◌≡◌, ◌≤◌, List, Result, length};
 ghost use Rattle.keep_agent.specs.Turns.{AgentTurn};
-ghost use Rattle.keep_serving.specs.Changes.{AllGiven, AreMade, IsMade, Made, changes_of};
-ghost use Rattle.keep_serving.specs.Held.{side};
+ghost use Rattle.keep_serving.specs.Changes.{AllGiven, AreMade, ChangeIsMade, Made, changes_of};
+ghost use Rattle.keep_serving.specs.Held.{serving_side};
 ghost use Rattle.keep_serving.specs.Neighbours.{AllCalled, changes_in};
 ghost use Rattle.keep_serving.specs.declared.change.Change.TheVariants.{Serve};
 ghost use Rattle.watch_machine.specs.declared.command.Output.{Output};
@@ -31,7 +31,7 @@ impl Serving {
         lanes: &mut L,
         neighbours: &mut N,
     ) -> bool
-        ensures made { (made : List Made) × ((AreMade made (side self.old (⟦<L as SeenLanes>⟧.seen lanes.old)) (side self.new (⟦<L as SeenLanes>⟧.seen lanes.new))) × ((length made ≤ 8) × ((result ≡ is_some_change made) × (AllGiven (changes_of made) (N.given neighbours.old) (N.given neighbours.new) × AllCalled N.does (changes_in 8 made) neighbours.old neighbours.new)))) }
+        ensures made { (made : List Made) × ((AreMade made (serving_side self.old (⟦<L as SeenLanes>⟧.seen lanes.old)) (serving_side self.new (⟦<L as SeenLanes>⟧.seen lanes.new))) × ((length made ≤ 8) × ((result ≡ is_some_change made) × (AllGiven (changes_of made) (N.given neighbours.old) (N.given neighbours.new) × AllCalled N.does (changes_in 8 made) neighbours.old neighbours.new)))) }
         ensures width { L.width lanes.new ≡ L.width lanes.old }
         ensures port { L.host_port lanes.new ≡ L.host_port lanes.old }
     {
@@ -48,8 +48,8 @@ impl Serving {
     }
 
     /// Makes a change. Whether memory sufficed; where it did not all is as it was.
-    fn make<L: Lanes>(&mut self, alloc: Global, lanes: &mut L, change: Change) -> bool
-        ensures made { IsMade change result (side self.old (⟦<L as SeenLanes>⟧.seen lanes.old)) (side self.new (⟦<L as SeenLanes>⟧.seen lanes.new)) }
+    pub(crate) fn make<L: Lanes>(&mut self, alloc: Global, lanes: &mut L, change: Change) -> bool
+        ensures made { ChangeIsMade change result (serving_side self.old (⟦<L as SeenLanes>⟧.seen lanes.old)) (serving_side self.new (⟦<L as SeenLanes>⟧.seen lanes.new)) }
         ensures width { L.width lanes.new ≡ L.width lanes.old }
         ensures port { L.host_port lanes.new ≡ L.host_port lanes.old }
     {
@@ -82,7 +82,7 @@ impl Serving {
         lanes: &mut L,
         inventory: Inventory,
     ) -> bool
-        ensures made { IsMade (Serve inventory) result (side self.old (⟦<L as SeenLanes>⟧.seen lanes.old)) (side self.new (⟦<L as SeenLanes>⟧.seen lanes.new)) }
+        ensures made { ChangeIsMade (Serve inventory) result (serving_side self.old (⟦<L as SeenLanes>⟧.seen lanes.old)) (serving_side self.new (⟦<L as SeenLanes>⟧.seen lanes.new)) }
         ensures width { L.width lanes.new ≡ L.width lanes.old }
         ensures port { L.host_port lanes.new ≡ L.host_port lanes.old }
     {

@@ -1,7 +1,7 @@
 //! Answers come off their lanes.
 ghost use Rattle.std.specs.Prelude.{◌≡◌, [], is_ok};
-ghost use Rattle.keep_serving.specs.Held.{side};
-ghost use Rattle.keep_serving.specs.Stages.{Comes};
+ghost use Rattle.keep_serving.specs.Held.{serving_side};
+ghost use Rattle.keep_serving.specs.Stages.{AnswersCome};
 
 use crate::serving::Serving;
 use keep_asking::SeenLanes;
@@ -19,7 +19,7 @@ impl Serving {
         now: u64,
     ) -> Result<(), AllocError>
         requires none { self.old.pending ≡ [] }
-        ensures comes { Comes now (side self.old (⟦<L as SeenLanes>⟧.seen lanes.old)) (is_ok result) (side self.new (⟦<L as SeenLanes>⟧.seen lanes.new)) }
+        ensures comes { AnswersCome now (serving_side self.old (⟦<L as SeenLanes>⟧.seen lanes.old)) (is_ok result) (serving_side self.new (⟦<L as SeenLanes>⟧.seen lanes.new)) }
         ensures width { L.width lanes.new ≡ L.width lanes.old }
         ensures port { L.host_port lanes.new ≡ L.host_port lanes.old }
     {

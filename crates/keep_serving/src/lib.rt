@@ -6,12 +6,16 @@
 //! (`specs/Stages`, `specs/Changes`), and from nothing else ([`nothing_else_is_heard`]); credentials change nothing of it
 //! ([`secrets_change_no_turn`]). A stretch of turns that serve one inventory is a run of its Watch ([`a_stretch_is_a_run`]), so each
 //! law of `watch_laws` holds of it. What a turn calls its neighbours for, and how often, is in `specs/Neighbours`, and that it is
-//! bounded ([`a_turn_is_bounded`]). Begin with `neighbours`, then `turn`.
+//! bounded ([`a_turn_is_bounded`]). Before the first turn an agent may wait, so that agents which start together ask apart
+//! ([`may_wait`], [`Serving::wait_apart`], `specs/Apart`), and it may ask before a day is over that everything is looked up anew
+//! ([`EarlyDay`], `specs/Days`). Begin with `neighbours`, then `turn`.
 #![tactic(auto)]
 
+mod apart;
 mod change;
 mod changing;
 mod coming;
+mod day;
 mod laws;
 mod neighbours;
 mod reading;
@@ -21,8 +25,11 @@ mod sending;
 mod serving;
 mod taking;
 mod turn;
+mod waiting;
 
+pub use apart::may_wait;
 pub use change::Change;
+pub use day::{DAY, EarlyDay};
 pub use laws::{
     a_stretch_is_a_run, a_turn_is_bounded, nothing_else_is_heard, secrets_change_no_turn,
 };

@@ -2,7 +2,7 @@
 ghost use Rattle.std.specs.Prelude.{◌≡◌, ◌-◌, [], IfSome, is_ok};
 ghost use Rattle.keep_serving.specs.Neighbours.{AllCalled, Hear, Needs, heard_of_time};
 ghost use Rattle.keep_serving.specs.Outlook.{IsOutlook};
-ghost use Rattle.keep_serving.specs.Stages.{IsSaid, Reads};
+ghost use Rattle.keep_serving.specs.Stages.{ShortsAreSaid, TakesReadings};
 
 use crate::neighbours::{Happened, Neighbours};
 use crate::serving::Serving;
@@ -22,7 +22,7 @@ impl Serving {
         neighbours: &mut N,
     ) -> Result<(), AllocError>
         requires none { self.old.unsent ≡ [] }
-        ensures reads { Reads reading self.old (is_ok result) self.new }
+        ensures reads { TakesReadings reading self.old (is_ok result) self.new }
         ensures given { N.given neighbours.new ≡ N.given neighbours.old }
         ensures heard { AllCalled N.does (heard_of_time (is_ok result)) neighbours.old neighbours.new }
     {
@@ -56,7 +56,7 @@ impl Serving {
 
     /// Says what is short, unless memory is wanting for that.
     fn say_shorts<N: Neighbours>(&mut self, alloc: Global, neighbours: &mut N)
-        ensures said { IsSaid self.old.agent self.new.agent }
+        ensures said { ShortsAreSaid self.old.agent self.new.agent }
         ensures rest { self.new ≡ record self.old { agent = self.new.agent } }
         ensures given { N.given neighbours.new ≡ N.given neighbours.old }
         ensures heard { N.does (Hear Needs) neighbours.old neighbours.new }

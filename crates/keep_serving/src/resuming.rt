@@ -1,7 +1,7 @@
 //! An agent that takes over in the boot in which ends were told.
 ghost use Rattle.std.specs.Prelude.{◌≡◌, [], IfOk};
 ghost use Rattle.keep_agent.specs.Agent.{Agent, fresh};
-ghost use Rattle.keep_serving.specs.Held.{IsInStep, begun};
+ghost use Rattle.keep_serving.specs.Held.{IsInStep, held_at_first};
 ghost use Rattle.keep_serving.specs.Resuming.{AreResumed, IsResumed};
 
 use crate::serving::Serving;
@@ -21,7 +21,7 @@ impl Serving {
         known: &[Event],
     ) -> Result<Serving, WatchFault>
         requires free { L.out lanes.now ≡ [] }
-        ensures resumed { IfOk result (λ serving. (agent : Agent) × ((serving ≡ begun agent) × AreResumed known.now (fresh inventory (L.width lanes.now)) agent)) }
+        ensures resumed { IfOk result (λ serving. (agent : Agent) × ((serving ≡ held_at_first agent) × AreResumed known.now (fresh inventory (L.width lanes.now)) agent)) }
         ensures in_step { IfOk result (λ serving. IsInStep (L.width lanes.now) (L.out lanes.now) serving) }
     {
         let mut serving = Serving::begin(alloc, inventory, lanes)?;

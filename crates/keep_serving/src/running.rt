@@ -3,10 +3,10 @@ ghost use Rattle.std.specs.Prelude.{◌≡◌, [], ℕ, List, IfOk, length};
 ghost use Rattle.keep_agent.specs.Agent.{fresh};
 ghost use Rattle.keep_clock.specs.Seen.{AllMade};
 ghost use Rattle.keep_serving.specs.Changes.{AllGiven};
-ghost use Rattle.keep_serving.specs.Held.{IsInStep, begun, side};
+ghost use Rattle.keep_serving.specs.Held.{IsInStep, held_at_first, serving_side};
 ghost use Rattle.keep_serving.specs.Neighbours.{AreCalledFor};
 ghost use Rattle.keep_serving.specs.Runs.{AreTurns, all_calls, all_changes};
-ghost use Rattle.keep_serving.specs.Turns.{Turned};
+ghost use Rattle.keep_serving.specs.Turns.{ServingTurn};
 
 use crate::neighbours::Neighbours;
 use crate::serving::Serving;
@@ -27,7 +27,7 @@ impl Serving {
         lanes: &L,
     ) -> Result<Serving, WatchFault>
         requires free { L.out lanes.now ≡ [] }
-        ensures begun { IfOk result (λ serving. serving ≡ begun (fresh inventory (L.width lanes.now))) }
+        ensures begun { IfOk result (λ serving. serving ≡ held_at_first (fresh inventory (L.width lanes.now))) }
         ensures in_step { IfOk result (λ serving. IsInStep (L.width lanes.now) (L.out lanes.now) serving) }
     {
         let agent = Agent::new(alloc, inventory, lanes.free())?;
@@ -47,7 +47,7 @@ impl Serving {
         turns: u64,
     )
         requires in_step { IsInStep (L.width lanes.old) (L.out lanes.old) self.old }
-        ensures turns { (ts : List Turned) × ((length ts ≡ turns) × (AreTurns (L.host_port lanes.old) (side self.old (⟦<L as SeenLanes>⟧.seen lanes.old)) ts (side self.new (⟦<L as SeenLanes>⟧.seen lanes.new)) × (AllMade (all_calls ts) (C.seen clock.old) (C.seen clock.new) × (AllGiven (all_changes ts) (N.given neighbours.old) (N.given neighbours.new) × AreCalledFor N.does (L.width lanes.old) ts neighbours.old neighbours.new)))) }
+        ensures turns { (ts : List ServingTurn) × ((length ts ≡ turns) × (AreTurns (L.host_port lanes.old) (serving_side self.old (⟦<L as SeenLanes>⟧.seen lanes.old)) ts (serving_side self.new (⟦<L as SeenLanes>⟧.seen lanes.new)) × (AllMade (all_calls ts) (C.seen clock.old) (C.seen clock.new) × (AllGiven (all_changes ts) (N.given neighbours.old) (N.given neighbours.new) × AreCalledFor N.does (L.width lanes.old) ts neighbours.old neighbours.new)))) }
         ensures in_step { IsInStep (L.width lanes.new) (L.out lanes.new) self.new }
     {
         for _ in 0..turns {

@@ -1,8 +1,9 @@
 //! Requests go out.
 ghost use Rattle.std.specs.Prelude.{◌≡◌, ◌+◌, ◌<◌, ◌≤◌, ◌∷◌, OnErr, OnOk, Some, is_ok, length};
-ghost use Rattle.keep_serving.specs.Held.{IsInStep, side};
-ghost use Rattle.keep_serving.specs.Stages.{IsKeptBack, Sends, moment_of};
+ghost use Rattle.keep_serving.specs.Held.{IsInStep, serving_side};
+ghost use Rattle.keep_serving.specs.Stages.{IsKeptBack, SendsRequests};
 ghost use Rattle.keep_serving.specs.code.Firsts.{GoesFirst};
+ghost use Rattle.watch_machine.specs.Clocks.{second_of_wall};
 
 use crate::serving::Serving;
 use keep_asking::{SeenLanes, ask_for};
@@ -19,7 +20,7 @@ impl Serving {
         lanes: &mut L,
     ) -> Result<(), AllocError>
         requires in_step { IsInStep (L.width lanes.old) (L.out lanes.old) self.old }
-        ensures sends { Sends (L.host_port lanes.old) (side self.old (⟦<L as SeenLanes>⟧.seen lanes.old)) (is_ok result) (side self.new (⟦<L as SeenLanes>⟧.seen lanes.new)) }
+        ensures sends { SendsRequests (L.host_port lanes.old) (serving_side self.old (⟦<L as SeenLanes>⟧.seen lanes.old)) (is_ok result) (serving_side self.new (⟦<L as SeenLanes>⟧.seen lanes.new)) }
         ensures width { L.width lanes.new ≡ L.width lanes.old }
         ensures port { L.host_port lanes.new ≡ L.host_port lanes.old }
     {
@@ -33,8 +34,8 @@ impl Serving {
     fn send_first<L: Lanes>(&mut self, alloc: Global, lanes: &mut L) -> Result<(), AllocError>
         requires some { 0 < length self.old.unsent }
         requires in_step { IsInStep (L.width lanes.old) (L.out lanes.old) self.old }
-        ensures sent { OnOk result (GoesFirst (L.host_port lanes.old) (side self.old (⟦<L as SeenLanes>⟧.seen lanes.old)) (side self.new (⟦<L as SeenLanes>⟧.seen lanes.new))) }
-        ensures kept { OnErr result (IsKeptBack (L.host_port lanes.old) (side self.old (⟦<L as SeenLanes>⟧.seen lanes.old)) (side self.new (⟦<L as SeenLanes>⟧.seen lanes.new))) }
+        ensures sent { OnOk result (GoesFirst (L.host_port lanes.old) (serving_side self.old (⟦<L as SeenLanes>⟧.seen lanes.old)) (serving_side self.new (⟦<L as SeenLanes>⟧.seen lanes.new))) }
+        ensures kept { OnErr result (IsKeptBack (L.host_port lanes.old) (serving_side self.old (⟦<L as SeenLanes>⟧.seen lanes.old)) (serving_side self.new (⟦<L as SeenLanes>⟧.seen lanes.new))) }
         ensures width { L.width lanes.new ≡ L.width lanes.old }
         ensures port { L.host_port lanes.new ≡ L.host_port lanes.old }
     {
@@ -50,8 +51,8 @@ impl Serving {
 }
 
 /// The moment that a wall clock shows at so many milliseconds; after the last one, that.
-fn moment_of(wall: u64) -> Moment
-    ensures { result ≡ moment_of wall }
+pub(crate) fn moment_of(wall: u64) -> Moment
+    ensures { result ≡ second_of_wall wall }
 {
     Moment::new((wall / 1000).min(LAST)).unwrap()
 }

@@ -1,6 +1,6 @@
 //! What the loop holds between two turns.
 ghost use Rattle.std.specs.Prelude.{◌≡◌};
-ghost use Rattle.keep_serving.specs.Held.{begun};
+ghost use Rattle.keep_serving.specs.Held.{held_at_first};
 
 use keep_agent::Agent;
 use keep_clock::Reading;
@@ -36,7 +36,7 @@ impl Model for Serving {
 impl Serving {
     /// An agent that has done nothing yet.
     pub fn new(alloc: Global, agent: Agent) -> Serving
-        ensures { result ≡ begun agent }
+        ensures { result ≡ held_at_first agent }
     {
         Serving {
             agent,

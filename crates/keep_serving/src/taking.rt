@@ -4,7 +4,7 @@ ghost use Rattle.keep_asking.specs.Handing.{out_of};
 ghost use Rattle.keep_lanes.specs.Out as lanes;
 ghost use Rattle.keep_serving.specs.Held.{IsInStep};
 ghost use Rattle.keep_serving.specs.Neighbours.{AllCalled, Answer, Hear};
-ghost use Rattle.keep_serving.specs.Stages.{Takes};
+ghost use Rattle.keep_serving.specs.Stages.{TakesAnswers};
 ghost use Rattle.keep_serving.specs.code.Firsts.{TakesFirst};
 
 use crate::neighbours::{Happened, Neighbours};
@@ -21,7 +21,7 @@ impl Serving {
         neighbours: &mut N,
     ) -> Result<(), AllocError>
         requires in_step { (width : ℕ) × ((out : List lanes.Out) × IsInStep width out self.old) }
-        ensures takes { Takes self.old (is_ok result) self.new }
+        ensures takes { TakesAnswers self.old (is_ok result) self.new }
         ensures given { N.given neighbours.new ≡ N.given neighbours.old }
         ensures heard { (answers : ℕ) × ((answers + length self.new.pending ≡ length self.old.pending) × AllCalled N.does (replicate answers (Hear Answer)) neighbours.old neighbours.new) }
     {

@@ -2,10 +2,10 @@
 ghost use Rattle.std.specs.Prelude.{◌≡◌, ◌+◌, ◌||◌, [], Some, is_ok, length};
 ghost use Rattle.keep_clock.specs.Seen.{AllMade};
 ghost use Rattle.keep_serving.specs.Changes.{AllGiven, changes_of};
-ghost use Rattle.keep_serving.specs.Held.{IsInStep, side};
-ghost use Rattle.keep_serving.specs.Neighbours.{AreCalled, AreHeard};
-ghost use Rattle.keep_serving.specs.Stages.{Commands, Goes, HandsIn, OnHeld, Takes, TakesUp, Then};
-ghost use Rattle.keep_serving.specs.Turns.{IsTurn, Turned, calls_of, wait_at, wait_by};
+ghost use Rattle.keep_serving.specs.Held.{IsInStep, serving_side};
+ghost use Rattle.keep_serving.specs.Neighbours.{AnswersAreHeardOf, AreCalled};
+ghost use Rattle.keep_serving.specs.Stages.{Commands, HandsInAnswers, LeftOverGoesFirst, OnHeld, TakesAnswers, TakesUp, Then};
+ghost use Rattle.keep_serving.specs.Turns.{IsServingTurn, ServingTurn, calls_of_turn, wait_at, wait_by};
 
 use crate::neighbours::Neighbours;
 use crate::serving::Serving;
@@ -15,7 +15,7 @@ use keep_lanes::Lanes;
 use std::alloc::{AllocError, Global};
 
 /// The longest wait of a turn, in milliseconds.
-const MOST_WAIT: u64 = 1000;
+pub(crate) const MOST_WAIT: u64 = 1000;
 
 /// The wait where memory is wanting or no clock is read.
 const SHORT_WAIT: u64 = 100;
@@ -30,7 +30,7 @@ impl Serving {
         neighbours: &mut N,
     )
         requires in_step { IsInStep (L.width lanes.old) (L.out lanes.old) self.old }
-        ensures turn { (t : Turned) × (IsTurn (L.host_port lanes.old) (side self.old (⟦<L as SeenLanes>⟧.seen lanes.old)) t (side self.new (⟦<L as SeenLanes>⟧.seen lanes.new)) × (AllMade (calls_of t) (C.seen clock.old) (C.seen clock.new) × (AllGiven (changes_of t.changes) (N.given neighbours.old) (N.given neighbours.new) × AreCalled N.does (L.width lanes.old) t neighbours.old neighbours.new))) }
+        ensures turn { (t : ServingTurn) × (IsServingTurn (L.host_port lanes.old) (serving_side self.old (⟦<L as SeenLanes>⟧.seen lanes.old)) t (serving_side self.new (⟦<L as SeenLanes>⟧.seen lanes.new)) × (AllMade (calls_of_turn t) (C.seen clock.old) (C.seen clock.new) × (AllGiven (changes_of t.changes) (N.given neighbours.old) (N.given neighbours.new) × AreCalled N.does (L.width lanes.old) t neighbours.old neighbours.new))) }
         ensures in_step { IsInStep (L.width lanes.new) (L.out lanes.new) self.new }
         ensures width { L.width lanes.new ≡ L.width lanes.old }
         ensures port { L.host_port lanes.new ≡ L.host_port lanes.old }
@@ -53,7 +53,7 @@ impl Serving {
         neighbours: &mut N,
     ) -> u64
         requires in_step { IsInStep (L.width lanes.old) (L.out lanes.old) self.old }
-        ensures turn { (t : Turned) × ((t.reading ≡ Some reading) × ((t.millis ≡ result) × (IsTurn (L.host_port lanes.old) (side self.old (⟦<L as SeenLanes>⟧.seen lanes.old)) t (side self.new (⟦<L as SeenLanes>⟧.seen lanes.new)) × (AllGiven (changes_of t.changes) (N.given neighbours.old) (N.given neighbours.new) × AreCalled N.does (L.width lanes.old) t neighbours.old neighbours.new)))) }
+        ensures turn { (t : ServingTurn) × ((t.reading ≡ Some reading) × ((t.millis ≡ result) × (IsServingTurn (L.host_port lanes.old) (serving_side self.old (⟦<L as SeenLanes>⟧.seen lanes.old)) t (serving_side self.new (⟦<L as SeenLanes>⟧.seen lanes.new)) × (AllGiven (changes_of t.changes) (N.given neighbours.old) (N.given neighbours.new) × AreCalled N.does (L.width lanes.old) t neighbours.old neighbours.new)))) }
         ensures in_step { IsInStep (L.width lanes.new) (L.out lanes.new) self.new }
         ensures width { L.width lanes.new ≡ L.width lanes.old }
         ensures port { L.host_port lanes.new ≡ L.host_port lanes.old }
@@ -75,11 +75,11 @@ impl Serving {
         neighbours: &mut N,
     ) -> Result<(), AllocError>
         requires in_step { IsInStep (L.width lanes.old) (L.out lanes.old) self.old }
-        ensures goes { Goes (L.host_port lanes.old) reading (side self.old (⟦<L as SeenLanes>⟧.seen lanes.old)) (is_ok result) (side self.new (⟦<L as SeenLanes>⟧.seen lanes.new)) }
+        ensures goes { LeftOverGoesFirst (L.host_port lanes.old) reading (serving_side self.old (⟦<L as SeenLanes>⟧.seen lanes.old)) (is_ok result) (serving_side self.new (⟦<L as SeenLanes>⟧.seen lanes.new)) }
         ensures width { L.width lanes.new ≡ L.width lanes.old }
         ensures port { L.host_port lanes.new ≡ L.host_port lanes.old }
         ensures given { N.given neighbours.new ≡ N.given neighbours.old }
-        ensures heard { AreHeard N.does (L.width lanes.old) (is_ok result) neighbours.old neighbours.new }
+        ensures heard { AnswersAreHeardOf N.does (L.width lanes.old) (is_ok result) neighbours.old neighbours.new }
     {
         self.send_all(alloc, lanes)?;
         self.hand_in_left(alloc, reading, lanes, neighbours)
@@ -95,11 +95,11 @@ impl Serving {
     ) -> Result<(), AllocError>
         requires in_step { IsInStep (L.width lanes.old) (L.out lanes.old) self.old }
         requires sent { self.old.unsent ≡ [] }
-        ensures goes { Then (OnHeld Takes) (TakesUp (L.host_port lanes.old) reading) (side self.old (⟦<L as SeenLanes>⟧.seen lanes.old)) (is_ok result) (side self.new (⟦<L as SeenLanes>⟧.seen lanes.new)) }
+        ensures goes { Then (OnHeld TakesAnswers) (TakesUp (L.host_port lanes.old) reading) (serving_side self.old (⟦<L as SeenLanes>⟧.seen lanes.old)) (is_ok result) (serving_side self.new (⟦<L as SeenLanes>⟧.seen lanes.new)) }
         ensures width { L.width lanes.new ≡ L.width lanes.old }
         ensures port { L.host_port lanes.new ≡ L.host_port lanes.old }
         ensures given { N.given neighbours.new ≡ N.given neighbours.old }
-        ensures heard { AreHeard N.does (length self.old.pending + length (L.out lanes.old)) (is_ok result) neighbours.old neighbours.new }
+        ensures heard { AnswersAreHeardOf N.does (length self.old.pending + length (L.out lanes.old)) (is_ok result) neighbours.old neighbours.new }
     {
         self.take_all(alloc, neighbours)?;
         self.take_up(alloc, reading, lanes, neighbours)
@@ -116,11 +116,11 @@ impl Serving {
         requires in_step { IsInStep (L.width lanes.old) (L.out lanes.old) self.old }
         requires sent { self.old.unsent ≡ [] }
         requires taken { self.old.pending ≡ [] }
-        ensures goes { TakesUp (L.host_port lanes.old) reading (side self.old (⟦<L as SeenLanes>⟧.seen lanes.old)) (is_ok result) (side self.new (⟦<L as SeenLanes>⟧.seen lanes.new)) }
+        ensures goes { TakesUp (L.host_port lanes.old) reading (serving_side self.old (⟦<L as SeenLanes>⟧.seen lanes.old)) (is_ok result) (serving_side self.new (⟦<L as SeenLanes>⟧.seen lanes.new)) }
         ensures width { L.width lanes.new ≡ L.width lanes.old }
         ensures port { L.host_port lanes.new ≡ L.host_port lanes.old }
         ensures given { N.given neighbours.new ≡ N.given neighbours.old }
-        ensures heard { AreHeard N.does (length (L.out lanes.old)) (is_ok result) neighbours.old neighbours.new }
+        ensures heard { AnswersAreHeardOf N.does (length (L.out lanes.old)) (is_ok result) neighbours.old neighbours.new }
     {
         self.come(alloc, lanes, reading.elapsed)?;
         self.hand_in_new(alloc, reading, lanes, neighbours)
@@ -136,11 +136,11 @@ impl Serving {
     ) -> Result<(), AllocError>
         requires in_step { IsInStep (L.width lanes.old) (L.out lanes.old) self.old }
         requires sent { self.old.unsent ≡ [] }
-        ensures goes { HandsIn (L.host_port lanes.old) reading (side self.old (⟦<L as SeenLanes>⟧.seen lanes.old)) (is_ok result) (side self.new (⟦<L as SeenLanes>⟧.seen lanes.new)) }
+        ensures goes { HandsInAnswers (L.host_port lanes.old) reading (serving_side self.old (⟦<L as SeenLanes>⟧.seen lanes.old)) (is_ok result) (serving_side self.new (⟦<L as SeenLanes>⟧.seen lanes.new)) }
         ensures width { L.width lanes.new ≡ L.width lanes.old }
         ensures port { L.host_port lanes.new ≡ L.host_port lanes.old }
         ensures given { N.given neighbours.new ≡ N.given neighbours.old }
-        ensures heard { AreHeard N.does (length self.old.pending) (is_ok result) neighbours.old neighbours.new }
+        ensures heard { AnswersAreHeardOf N.does (length self.old.pending) (is_ok result) neighbours.old neighbours.new }
     {
         self.take_all(alloc, neighbours)?;
         self.command(alloc, reading, lanes, neighbours)
@@ -156,11 +156,11 @@ impl Serving {
     ) -> Result<(), AllocError>
         requires in_step { IsInStep (L.width lanes.old) (L.out lanes.old) self.old }
         requires sent { self.old.unsent ≡ [] }
-        ensures goes { Commands (L.host_port lanes.old) reading (side self.old (⟦<L as SeenLanes>⟧.seen lanes.old)) (is_ok result) (side self.new (⟦<L as SeenLanes>⟧.seen lanes.new)) }
+        ensures goes { Commands (L.host_port lanes.old) reading (serving_side self.old (⟦<L as SeenLanes>⟧.seen lanes.old)) (is_ok result) (serving_side self.new (⟦<L as SeenLanes>⟧.seen lanes.new)) }
         ensures width { L.width lanes.new ≡ L.width lanes.old }
         ensures port { L.host_port lanes.new ≡ L.host_port lanes.old }
         ensures given { N.given neighbours.new ≡ N.given neighbours.old }
-        ensures heard { AreHeard N.does 0 (is_ok result) neighbours.old neighbours.new }
+        ensures heard { AnswersAreHeardOf N.does 0 (is_ok result) neighbours.old neighbours.new }
     {
         self.read(alloc, reading, neighbours)?;
         self.send_all(alloc, lanes)

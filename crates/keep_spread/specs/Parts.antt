@@ -9,5 +9,5 @@ abbrev pub number_of : List ℕ → ℕ
 number_of name = from_be_bytes w64 (take 8 (sha256 name))
 
 -- that number, of all such numbers, as a part of the seconds from 0 to the spread
-abbrev pub part : List ℕ → ℕ → ℕ
-part name spread = (number_of name * suc spread) / 2 ^ 64
+abbrev pub part_of_spread : List ℕ → ℕ → ℕ
+part_of_spread name spread = (number_of name * suc spread) / 2 ^ 64

@@ -1,13 +1,13 @@
 //! The part that an agent has of a spread.
 ghost use Rattle.std.specs.Prelude.{◌≡◌, ◌≤◌};
-ghost use Rattle.keep_spread.specs.Parts.{part};
+ghost use Rattle.keep_spread.specs.Parts.{part_of_spread};
 
 use sha2::{Digest, Sha256};
 
 /// The seconds, 0 to `spread`, by which the agent of that name wakes up earlier: always the same for one name, and as good as evenly
 /// spread over many names. They are told by the first eight bytes of the name's SHA-256 (FIPS 180-4).
 pub fn part_of(name: &[u8], spread: u32) -> u32
-    ensures part { result ≡ part name.now spread }
+    ensures part { result ≡ part_of_spread name.now spread }
     ensures most { result ≤ spread }
 {
     let digest = Sha256::digest(name);

@@ -1,11 +1,16 @@
 //! Tests alone, of the loop: the example of the watch over a clock and a broker in memory, clocks that cannot be read, faults at
-//! every request, changes, another inventory in the middle of a request, ends that were told before, and the next time.
+//! every request, changes, another inventory in the middle of a request, ends that were told before, the next time, a start that
+//! waits, and a beginning before a day is over.
 #![tactic(auto)]
 
+#[cfg(test)]
+mod apart;
 #[cfg(test)]
 mod beside;
 #[cfg(test)]
 mod changes;
+#[cfg(test)]
+mod days;
 #[cfg(test)]
 mod example;
 #[cfg(test)]

@@ -16,6 +16,13 @@ use watch_machine::Event;
 pub(crate) const WEB: &str =
     "[[token]]\nname = \"web\"\nissued = 1000\nend = 1060\nincrement = 60\nneed = 1200\n";
 
+/// The end of that token.
+pub(crate) const WEB_END: Event = Event::Known {
+    entry: 0,
+    end: 1060,
+    renewable: true,
+};
+
 /// What is played.
 #[derive(Drop)]
 pub(crate) struct Play {
@@ -57,6 +64,13 @@ pub(crate) fn play_known(
         lanes,
         beside: Beside::with(changes),
     })
+}
+
+/// What serves that inventory, where these ends were told before.
+pub(crate) fn shown_known(alloc: Global, text: &str, known: &[Event]) -> Result<Serving, Fail> {
+    let inventory = read(alloc, text.as_bytes())?;
+    let lanes = MemoryLanes::new(alloc, Table::load(alloc, &inventory)?, 5, 8);
+    Ok(Serving::resume(alloc, inventory, &lanes, known)?)
 }
 
 impl Play {

@@ -1,16 +1,9 @@
 //! Ends that were told before, and the next time of an entry.
-use crate::loops::{WEB, play_known, play_of};
+use crate::loops::{WEB, WEB_END, play_known, play_of};
 use keep_serving::Change;
 use std::process::Abort;
 use std::test::Fail;
 use watch_machine::{Event, Next};
-
-/// The end of the example's token.
-const WEB_END: Event = Event::Known {
-    entry: 0,
-    end: 1060,
-    renewable: true,
-};
 
 #[test]
 fn an_end_that_is_known_is_renewed_first(rt: HostRuntime) -> Result<(), Fail> {

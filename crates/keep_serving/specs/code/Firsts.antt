@@ -4,19 +4,20 @@ use Rattle.std.specs.Prelude.{◌≡◌, ℕ, ◌∷◌}
 use Rattle.keep_asking.specs.Sending.{GoesOut}
 use Rattle.keep_lanes.specs.declared.lanes.Answered.{Answered}
 use Rattle.watch_machine.specs.declared.command.Request.{Request}
-use Rattle.keep_serving.specs.Held.{Held, Side}
-use Rattle.keep_serving.specs.Stages.{IsTaken, moment_of}
+use Rattle.watch_machine.specs.Clocks.{second_of_wall}
+use Rattle.keep_serving.specs.Held.{Held, ServingSide}
+use Rattle.keep_serving.specs.Stages.{AnswerIsTaken}
 
 -- the first request that was not sent goes out
-pub record GoesFirst (port : ℕ) (old new : Side) : Type 0 where
+pub record GoesFirst (port : ℕ) (old new : ServingSide) : Type 0 where
   pub request : Request
   pub first : old.held.unsent ≡ request ∷ new.held.unsent
-  pub out : GoesOut port old.held.agent.inventory old.held.agent.machine (moment_of old.held.asked.wall) old.held.asked.elapsed request old.lanes new.lanes
+  pub out : GoesOut port old.held.agent.inventory old.held.agent.machine (second_of_wall old.held.asked.wall) old.held.asked.elapsed request old.lanes new.lanes
   pub held : new.held ≡ record old.held { unsent = new.held.unsent }
 
 -- the first answer that waits is handed in
 pub record TakesFirst (old new : Held) : Type 0 where
   pub answer : Answered
   pub first : old.pending ≡ answer ∷ new.pending
-  pub agent : IsTaken answer old.agent new.agent
+  pub agent : AnswerIsTaken answer old.agent new.agent
   pub held : new ≡ record old { agent = new.agent; pending = new.pending }

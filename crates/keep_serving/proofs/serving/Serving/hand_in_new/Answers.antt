@@ -1,8 +1,8 @@
 -- Once the answers are handed in, what comes after follows.
 use Rattle.std.proofs.Common.{arith, is_ok, length, refl}
 use Rattle.keep_asking.specs.Sending.{Lanes, lanes_of}
-use Rattle.keep_serving.specs.Held.{side}
-use Rattle.keep_serving.specs.Stages.{Commands, OnHeld, Takes}
+use Rattle.keep_serving.specs.Held.{serving_side}
+use Rattle.keep_serving.specs.Stages.{Commands, OnHeld, TakesAnswers}
 use Rattle.keep_serving.proofs.InStep.{in_step_taken}
 use Rattle.keep_serving.proofs.Called.{heard_more, heard_some, not_ok}
 use Rattle.keep_serving.proofs.Staged.{then_on}
@@ -16,7 +16,7 @@ returns-clause-goes g c =
     let old : Lanes = lanes_of (g.L.Lanes.behind c.args.lanes.now) (g.L.Lanes.out c.args.lanes.now) (g.L.Lanes.seconds c.args.lanes.now) in
     let new : Lanes = lanes_of (g.L.Lanes.behind c.command.new.lanes) (g.L.Lanes.out c.command.new.lanes) (g.L.Lanes.seconds c.command.new.lanes) in
     let port = g.L.Lanes.host_port c.args.lanes.now in
-    then_on (OnHeld Takes) (Commands port c.args.reading) (side c.args.self.now old) (side c.take_all.new.self old) (side c.command.new.self new) (is_ok c.command.result)
+    then_on (OnHeld TakesAnswers) (Commands port c.args.reading) (serving_side c.args.self.now old) (serving_side c.take_all.new.self old) (serving_side c.command.new.self new) (is_ok c.command.result)
     (c.in_ok-take_all.ensures.takes, refl) c.command.ensures.goes
 
 pub returns-clause-heard : goal.returns-clause-heard

@@ -2,7 +2,7 @@
 use Rattle.std.proofs.Common.{◌∙◌, ◌++◌, ◌∷◌, [], arith, refl}
 use Rattle.keep_asking.specs.Sending.{Lanes, lanes_of}
 use Rattle.keep_serving.specs.Changes.{Made, changes_of}
-use Rattle.keep_serving.specs.Held.{side}
+use Rattle.keep_serving.specs.Held.{serving_side}
 use Rattle.keep_serving.proofs.Called.{called_for_all, called_for_fewer, given_none_yet, given_one, one_given}
 use Rattle.keep_serving.proofs.Changed.{given_end, given_on, made_on, one_more, some_made}
 use Rattle.keep_serving.proofs.Turned.{given_none}
@@ -23,7 +23,7 @@ loop-preserved g c =
       made = (
         made ++ m ∷ [],
         (
-          made_on made c.in-Some.change c.make-is_made.result (side c.args.self.now old) (side c.loop.self mid) (side c.make-is_made.new.self new) c.loop.invariant.made.1.0 c.make-is_made.ensures.made,
+          made_on made c.in-Some.change c.make-is_made.result (serving_side c.args.self.now old) (serving_side c.loop.self mid) (serving_side c.make-is_made.new.self new) c.loop.invariant.made.1.0 c.make-is_made.ensures.made,
           (
             one_more made m c.loop.counter all.1.1.0,
             (

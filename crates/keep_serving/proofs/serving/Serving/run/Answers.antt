@@ -2,9 +2,9 @@
 use Rattle.std.proofs.Common.{◌∙◌, ◌++◌, ◌∷◌, [], refl, subst}
 use Rattle.keep_asking.specs.Sending.{Lanes, lanes_of}
 use Rattle.keep_clock.proofs.Joined.{none_law}
-use Rattle.keep_serving.specs.Held.{side}
+use Rattle.keep_serving.specs.Held.{serving_side}
 use Rattle.keep_serving.specs.Neighbours.{AreCalled}
-use Rattle.keep_serving.specs.Turns.{IsTurn}
+use Rattle.keep_serving.specs.Turns.{IsServingTurn}
 use Rattle.keep_serving.proofs.Called.{turns_called}
 use Rattle.keep_serving.proofs.Run.{calls_on, changes_run, one_more, turns_on}
 use Rattle.keep_serving.proofs.Turned.{given_none}
@@ -26,7 +26,7 @@ loop-preserved g c =
     let port = g.L.Lanes.host_port c.args.lanes.now in
     let all = c.loop.invariant.turns in
     let one = c.turn.ensures.turn in
-    let turn = subst (λ p. IsTurn p (side c.loop.self mid) one.0 (side c.turn.new.self new)) c.loop.invariant.port one.1.0 in
+    let turn = subst (λ p. IsServingTurn p (serving_side c.loop.self mid) one.0 (serving_side c.turn.new.self new)) c.loop.invariant.port one.1.0 in
     let called = subst (λ w. AreCalled g.N.Neighbours.does w one.0 c.loop.neighbours c.turn.new.neighbours) c.loop.invariant.width one.1.1.1.1 in
     record {
       turns = (
@@ -34,7 +34,7 @@ loop-preserved g c =
         (
           one_more all.0 one.0 c.loop.counter all.1.0,
           (
-            turns_on port all.0 one.0 (side c.args.self.now old) (side c.loop.self mid) (side c.turn.new.self new) all.1.1.0 turn,
+            turns_on port all.0 one.0 (serving_side c.args.self.now old) (serving_side c.loop.self mid) (serving_side c.turn.new.self new) all.1.1.0 turn,
             (
               calls_on all.0 one.0 (g.C.Clock.seen c.args.clock.now) (g.C.Clock.seen c.loop.clock) (g.C.Clock.seen c.turn.new.clock) all.1.1.1.0 one.1.1.0,
               (

@@ -1,13 +1,13 @@
 -- The requests so far have gone out.
 use Rattle.std.proofs.Common.{◌≡◌, ◌+◌, length}
 use Rattle.keep_asking.specs.Sending.{lanes_of}
-use Rattle.keep_serving.specs.Held.{side}
+use Rattle.keep_serving.specs.Held.{serving_side}
 use Rattle.keep_serving.specs.Stages.{HaveGone}
 use Rattle.keep_serving.proofs.serving.Serving.send_all.Given as goal
 
 abbrev pub invariant-loop : goal.invariant-loop
 invariant-loop g l = record {
-  gone : HaveGone (g.L.Lanes.host_port l.fn.lanes) (side l.fn.self (lanes_of (g.L.Lanes.behind l.fn.lanes) (g.L.Lanes.out l.fn.lanes) (g.L.Lanes.seconds l.fn.lanes))) (side l.self (lanes_of (g.L.Lanes.behind l.lanes) (g.L.Lanes.out l.lanes) (g.L.Lanes.seconds l.lanes)));
+  gone : HaveGone (g.L.Lanes.host_port l.fn.lanes) (serving_side l.fn.self (lanes_of (g.L.Lanes.behind l.fn.lanes) (g.L.Lanes.out l.fn.lanes) (g.L.Lanes.seconds l.fn.lanes))) (serving_side l.self (lanes_of (g.L.Lanes.behind l.lanes) (g.L.Lanes.out l.lanes) (g.L.Lanes.seconds l.lanes)));
   left : length l.self.unsent + l.counter ≡ length l.fn.self.unsent;
   width : g.L.Lanes.width l.lanes ≡ g.L.Lanes.width l.fn.lanes;
   port : g.L.Lanes.host_port l.lanes ≡ g.L.Lanes.host_port l.fn.lanes;

@@ -2,8 +2,8 @@
 use Rattle.std.proofs.Common.{◌≡◌, ◌∙◌, ◌∷◌, ◌||◌, Some, ap, is_ok, refl, subst, sym}
 use Rattle.keep_asking.specs.Sending.{Lanes, lanes_of}
 use Rattle.keep_serving.specs.Changes.{AllGiven, changes_of}
-use Rattle.keep_serving.specs.Held.{Held, IsInStep, side}
-use Rattle.keep_serving.specs.Neighbours.{GoOn, changes_in, heard_in}
+use Rattle.keep_serving.specs.Held.{Held, IsInStep, serving_side}
+use Rattle.keep_serving.specs.Neighbours.{GoOn, calls_of_hearing, changes_in}
 use Rattle.keep_serving.specs.Turns.{is_some_change, wait_by}
 use Rattle.keep_serving.proofs.Called.{called_join}
 use Rattle.keep_serving.proofs.Changed.{made_keeps}
@@ -33,7 +33,7 @@ returns-clause-turn g c =
         (
           refl,
           (
-            whole_turn (g.L.Lanes.host_port c.args.lanes.now) r whole busy made.0 due c.wait_of.result (side c.args.self.now old) (side c.hand_in.new.self mid) (side held new) c.hand_in.ensures.goes made.1.0 made.1.1.0 waits,
+            whole_turn (g.L.Lanes.host_port c.args.lanes.now) r whole busy made.0 due c.wait_of.result (serving_side c.args.self.now old) (serving_side c.hand_in.new.self mid) (serving_side held new) c.hand_in.ensures.goes made.1.0 made.1.1.0 waits,
             (
               subst (λ a. AllGiven (changes_of made.0) a (g.N.Neighbours.given c.make_changes-is_changed.new.neighbours)) (c.go_on-is_busy.ensures.given ∙ c.hand_in.ensures.given) made.1.1.1.1.0,
               record {
@@ -41,7 +41,7 @@ returns-clause-turn g c =
                 few = heard.few;
                 is_handed = heard.is_handed;
                 whole = heard.whole;
-                called = called_join g.N.Neighbours.does (heard_in heard.answers heard.is_handed) (GoOn busy ∷ changes_in 8 made.0) c.args.neighbours.now c.hand_in.new.neighbours c.make_changes-is_changed.new.neighbours heard.called
+                called = called_join g.N.Neighbours.does (calls_of_hearing heard.answers heard.is_handed) (GoOn busy ∷ changes_in 8 made.0) c.args.neighbours.now c.hand_in.new.neighbours c.make_changes-is_changed.new.neighbours heard.called
                     (c.go_on-is_busy.new.self, (c.go_on-is_busy.ensures.does, made.1.1.1.1.1));
               },
             ),
@@ -56,7 +56,7 @@ returns-clause-in_step g c =
     let mid : Lanes = lanes_of (g.L.Lanes.behind c.hand_in.new.lanes) (g.L.Lanes.out c.hand_in.new.lanes) (g.L.Lanes.seconds c.hand_in.new.lanes) in
     let new : Lanes = lanes_of (g.L.Lanes.behind c.make_changes-is_changed.new.lanes) (g.L.Lanes.out c.make_changes-is_changed.new.lanes) (g.L.Lanes.seconds c.make_changes-is_changed.new.lanes) in
     let width = g.L.Lanes.width c.args.lanes.now in
-    let gone = goes_keeps (g.L.Lanes.host_port c.args.lanes.now) c.args.reading width (side c.args.self.now old) (side c.hand_in.new.self mid) (is_ok c.hand_in.result) c.hand_in.ensures.goes c.requires.in_step in
+    let gone = goes_keeps (g.L.Lanes.host_port c.args.lanes.now) c.args.reading width (serving_side c.args.self.now old) (serving_side c.hand_in.new.self mid) (is_ok c.hand_in.result) c.hand_in.ensures.goes c.requires.in_step in
     let made = c.make_changes-is_changed.ensures.made in
-    let step = made_keeps width made.0 (side c.hand_in.new.self mid) (side c.make_changes-is_changed.new.self new) made.1.0 gone in
+    let step = made_keeps width made.0 (serving_side c.hand_in.new.self mid) (serving_side c.make_changes-is_changed.new.self new) made.1.0 gone in
     subst (λ w. IsInStep w (g.L.Lanes.out c.make_changes-is_changed.new.lanes) c.make_changes-is_changed.new.self) (sym (c.make_changes-is_changed.ensures.width ∙ c.hand_in.ensures.width)) step

@@ -1,0 +1,141 @@
+-- Apart: a start that waits, so that agents that start together do not all ask at once. Nothing is asked meanwhile, and whoever looks is
+-- answered.
+-- Source: this project's own.
+use Rattle.std.specs.Prelude.{◌≡◌, ℕ, ◌-◌, ◌*◌, ◌<◌, ◌≤◌, Bool, true, false, not, ◌&&◌, ◌||◌, if◌then◌else◌, List, [], ◌∷◌, ◌++◌, Option, Some, None, is_some, length, min, nat_lt}
+use Rattle.std.specs.List.{All, flat_map}
+use Rattle.keep_agent.specs.Agent.{Agent, standing_at}
+use Rattle.keep_agent.specs.declared.standing.Told.{Told}
+use Rattle.keep_clock.specs.Seen.{read_call}
+use Rattle.keep_clock.specs.declared.call.Call.{Call}
+use Rattle.keep_clock.specs.declared.call.Call.TheVariants.{Wait}
+use Rattle.keep_clock.specs.declared.reading.Reading.{Reading}
+use Rattle.keep_tree.specs.Carried.{carried}
+use Rattle.keep_serving.specs.Changes.{Made, MakesChange}
+use Rattle.keep_serving.specs.Held.{ServingSide}
+use Rattle.keep_serving.specs.Neighbours.{Give, GoOn, NeighbourCall, Settle}
+use Rattle.keep_serving.specs.declared.change.Change.{Change}
+use Rattle.keep_serving.specs.declared.change.Change.TheVariants.{Need, Begin, Serve, Kept}
+
+-- ---- whether it may
+
+-- the time of an end that was told in this boot, a margin before it, comes after a moment in milliseconds
+abbrev pub is_far : ℕ → ℕ → Option Told → Bool
+is_far margin until None = false
+is_far margin until (Some t) = nat_lt until ((t.end - margin) * 1000)
+
+-- with that need, and unless its time is known to come later, an entry may have to be asked by then
+abbrev pub may_be_due : ℕ → ℕ → ℕ → Option Told → Bool
+may_be_due need margin until told = nat_lt 0 need && not (is_far margin until told)
+
+-- the need is that of any entry under it, too, after a second by the wall's clock
+abbrev pub may_be_due_at : Agent → ℕ → ℕ → ℕ → Bool
+may_be_due_at a wall until i = may_be_due (carried a.inventory.forest.entries wall i) a.inventory.forest.margin until (standing_at a i).told
+
+-- no entry may have to be asked by then; or one may
+abbrev pub MayWait : Agent → ℕ → ℕ → Bool → Type 0
+MayWait a wall until true = (i : ℕ) → i < length a.inventory.forest.entries → may_be_due_at a wall until i ≡ false
+MayWait a wall until false = (i : ℕ) × ((i < length a.inventory.forest.entries) × (may_be_due_at a wall until i ≡ true))
+
+-- ---- how it waits
+
+-- what a pause read; whether a neighbour could go on at once; the change that was given, and whether it was made; and for how long it
+-- then waited, in milliseconds
+pub record Pause : Type 0 where
+  pub reading : Reading
+  pub is_busy : Bool
+  pub made : Option Made
+  pub millis : ℕ
+
+abbrev pub is_kept : Change → Bool
+is_kept (Need i until) = false
+is_kept Begin = false
+is_kept (Serve s) = false
+is_kept Kept = true
+
+-- no change was given, or none that is made now
+abbrev pub goes_on : Option Made → Bool
+goes_on None = true
+goes_on (Some m) = is_kept m.change || not m.is_made
+
+-- no wait where more may be done at once; else until the moment, a second at most
+abbrev pub pause_by : Bool → ℕ → Reading → ℕ
+pause_by is_more until r = if is_more then 0 else min 1000 (until - r.elapsed)
+
+pub record IsPause (until : ℕ) (p : Pause) : Type 0 where
+  pub before : p.reading.elapsed < until
+  pub on : goes_on p.made ≡ true
+  pub waits : p.millis ≡ pause_by (is_some p.made || p.is_busy) until p.reading
+
+-- what ends it: there are no more pauses; the clocks could not be read; the moment has come; memory is wanting; or a change is made
+pub data Ending : Type 0 where
+  Spent : Ending
+  Unread : Ending
+  Over : Reading → Ending
+  Wanting : Reading → Ending
+  Changed : Reading → Bool → Change → Ending
+
+-- nothing is sent, and nothing is another, but for that change
+abbrev pub EndsBy : ℕ → Ending → ServingSide → ServingSide → Type 0
+EndsBy until Spent old new = new ≡ old
+EndsBy until Unread old new = new ≡ old
+EndsBy until (Over r) old new = (until ≤ r.elapsed) × (new ≡ old)
+EndsBy until (Wanting r) old new = (r.elapsed < until) × (new ≡ old)
+EndsBy until (Changed r is_busy change) old new = (r.elapsed < until) × ((is_kept change ≡ false) × MakesChange change old new)
+
+-- after so many pauses of so many at most
+abbrev pub EndsAfter : ℕ → ℕ → Ending → Type 0
+EndsAfter pauses most Spent = pauses ≡ most
+EndsAfter pauses most ending = pauses < most
+
+pub record Waited : Type 0 where
+  pub pauses : List Pause
+  pub ending : Ending
+
+pub record IsWaited (until most : ℕ) (old : ServingSide) (w : Waited) (new : ServingSide) : Type 0 where
+  pub pauses : All (IsPause until) w.pauses
+  pub after : EndsAfter (length w.pauses) most w.ending
+  pub ends : EndsBy until w.ending old new
+
+-- ---- what is asked of the clock meanwhile: one reading a pause, and one wait
+
+abbrev pub clocked_in : Pause → List Call
+clocked_in p = read_call (Some p.reading) ∷ Wait p.millis ∷ []
+
+abbrev pub clocked_at : Ending → List Call
+clocked_at Spent = []
+clocked_at Unread = read_call None ∷ []
+clocked_at (Over r) = read_call (Some r) ∷ []
+clocked_at (Wanting r) = read_call (Some r) ∷ []
+clocked_at (Changed r is_busy change) = read_call (Some r) ∷ []
+
+abbrev pub all_clocked : Waited → List Call
+all_clocked w = flat_map clocked_in w.pauses ++ clocked_at w.ending
+
+-- ---- what the neighbours are called for: they go on once a pause, and are asked for one change
+
+abbrev pub asked_for : Option Made → List NeighbourCall
+asked_for None = Give None ∷ []
+asked_for (Some m) = Give (Some m.change) ∷ Settle m.is_made ∷ []
+
+abbrev pub called_in : Pause → List NeighbourCall
+called_in p = GoOn p.is_busy ∷ asked_for p.made
+
+abbrev pub called_at : Ending → List NeighbourCall
+called_at (Changed r is_busy change) = GoOn is_busy ∷ asked_for (Some (record { change = change; is_made = true }))
+called_at ending = []
+
+abbrev pub all_called : Waited → List NeighbourCall
+all_called w = flat_map called_in w.pauses ++ called_at w.ending
+
+-- ---- the changes that they give
+
+abbrev pub given_by : Option Made → List Change
+given_by None = []
+given_by (Some m) = m.change ∷ []
+
+abbrev pub given_at : Ending → List Change
+given_at (Changed r is_busy change) = change ∷ []
+given_at ending = []
+
+abbrev pub all_given : Waited → List Change
+all_given w = flat_map (λ (p : Pause). given_by p.made) w.pauses ++ given_at w.ending

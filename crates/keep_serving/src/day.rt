@@ -1,0 +1,137 @@
+//! Everything is looked up anew before a day is over, so that agents which began together do not do so together for ever.
+ghost use Rattle.std.specs.Prelude.{◌≡◌, ◌-◌, Bool, IfOk, None, Option, Result, false};
+ghost use Rattle.std.specs.declared.alloc.AllocError.{AllocError};
+ghost use Rattle.keep_serving.specs.Days.{AsksBy, GivesOn, IsDue, SettlesOn, begun_after, has_come};
+
+use crate::apart::may_wait;
+use crate::change::Change;
+use crate::neighbours::{Happened, Neighbours};
+use keep_agent::Agent;
+use keep_clock::Reading;
+use std::alloc::{AllocError, Global};
+use watch_machine::{Millis, Why};
+
+/// A day, in milliseconds: after so long the Watch looks everything up by itself.
+pub const DAY: u64 = 86_400_000;
+
+/// Neighbours, and one more, who asks that everything is looked up anew before a day is over, where no entry may be due then.
+#[derive(Debug, Drop)]
+pub struct EarlyDay<N> {
+    /// The others.
+    pub others: N,
+    /// By how much earlier, in milliseconds: 0 for never.
+    pub earlier: Millis,
+    /// The last beginning, by the clock that never steps, in milliseconds; `None` where none was heard of since it was asked for one.
+    pub begun: Option<Millis>,
+    /// Whether the change that was given last is its own.
+    pub is_own: bool,
+}
+
+impl<N> EarlyDay<N> {
+    /// These neighbours, who have heard of no beginning yet.
+    pub fn new(others: N, earlier: Millis) -> EarlyDay<N>
+        ensures { result ≡ record { others = others; earlier = earlier; begun = None; is_own = false } }
+    {
+        EarlyDay {
+            others,
+            earlier,
+            begun: None,
+            is_own: false,
+        }
+    }
+
+    /// The time was handed in to the agent, and everything is looked up anew from then on, if there is a reason.
+    fn hear_begun(&mut self, agent: &Agent, began: Option<Why>)
+        ensures { self.new ≡ record self.old { begun = begun_after began agent.now.machine self.old.begun } }
+    {
+        if began.is_some() {
+            let clocks = agent.watch().clocks();
+            self.begun = Some(clocks.at.saturating_sub(u64::from(clocks.phase)));
+        }
+    }
+
+    /// Asks that everything is looked up anew, where it is time to.
+    fn ask_anew(&mut self, alloc: Global, agent: &Agent, now: Reading) -> Option<Change>
+        ensures { (due : Result Bool AllocError) × (IfOk due (λ is. IsDue agent.now now self.old is) × AsksBy due self.old result self.new) }
+    {
+        match self.is_due(alloc, agent, now) {
+            Ok(true) => {
+                self.begun = None;
+                self.is_own = true;
+                Some(Change::Begin)
+            }
+            Ok(false) | Err(AllocError) => None,
+        }
+    }
+
+    /// Whether it is time to. The only error is lack of memory.
+    fn is_due(&self, alloc: Global, agent: &Agent, now: Reading) -> Result<bool, AllocError>
+        ensures { IfOk result (λ is. IsDue agent.now now self.now is) }
+    {
+        if has_come(self.earlier, self.begun, now.elapsed) {
+            may_wait(alloc, agent, now.wall, now.elapsed)
+        } else {
+            Ok(false)
+        }
+    }
+}
+
+/// Whether a day less so many milliseconds has passed since the last beginning.
+fn has_come(earlier: Millis, begun: Option<Millis>, now: Millis) -> bool
+    ensures { result ≡ has_come earlier begun now }
+{
+    match begun {
+        None => false,
+        Some(begun) => earlier > 0 && DAY.saturating_sub(earlier) <= now.saturating_sub(begun),
+    }
+}
+
+impl<N: Neighbours> EarlyDay<N> {
+    /// The others give a change, or everything is to be looked up anew.
+    fn give(&mut self, alloc: Global, agent: &Agent, now: Reading) -> Option<Change>
+        ensures { GivesOn N.does result self.old self.new }
+    {
+        if let Some(change) = self.others.change(alloc, agent, now) {
+            self.is_own = false;
+            return Some(change);
+        }
+        self.ask_anew(alloc, agent, now)
+    }
+
+    /// The others are told of their own change whether it was made.
+    fn tell(&mut self, alloc: Global, agent: &Agent, is_made: bool)
+        ensures { SettlesOn N.does self.old.is_own is_made self.old.others self.new.others }
+    {
+        if !self.is_own {
+            self.others.settle(alloc, agent, is_made);
+        }
+    }
+}
+
+impl<N: Neighbours> Neighbours for EarlyDay<N> {
+    ghost use Rattle.keep_serving.specs.Days.{PassesOn};
+
+    // Which changes its own were is not known.
+    ghost given = { λ _. None };
+
+    ghost does = { λ call old new. PassesOn N.does call old new };
+
+    fn hear(&mut self, alloc: Global, agent: &Agent, happened: &Happened<'_>) {
+        if let Happened::Clocked { notes, .. } = happened {
+            self.hear_begun(agent, notes.began);
+        }
+        self.others.hear(alloc, agent, happened);
+    }
+
+    fn go_on(&mut self, alloc: Global, agent: &Agent, now: Reading) -> bool {
+        self.others.go_on(alloc, agent, now)
+    }
+
+    fn change(&mut self, alloc: Global, agent: &Agent, now: Reading) -> Option<Change> {
+        self.give(alloc, agent, now)
+    }
+
+    fn settle(&mut self, alloc: Global, agent: &Agent, is_made: bool) {
+        self.tell(alloc, agent, is_made);
+    }
+}

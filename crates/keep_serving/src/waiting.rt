@@ -1,0 +1,148 @@
+//! A start that waits, so that agents which start together do not all ask at once.
+ghost use Rattle.std.specs.Prelude.{◌≡◌, ◌||◌, Bool, List, Result, Some, not, is_ok};
+ghost use Rattle.keep_agent.specs.Turns.{AgentTurn};
+ghost use Rattle.keep_clock.specs.Seen.{AllMade};
+ghost use Rattle.keep_serving.specs.Apart.{IsWaited, Waited, all_called, all_clocked, all_given, goes_on, is_kept, pause_by};
+ghost use Rattle.keep_serving.specs.Changes.{AllGiven, ChangeIsMade};
+ghost use Rattle.keep_serving.specs.Held.{IsInStep, serving_side};
+ghost use Rattle.keep_serving.specs.Neighbours.{AllCalled, Settle};
+ghost use Rattle.keep_serving.specs.code.Pauses.{Pauses};
+ghost use Rattle.watch_machine.specs.declared.command.Output.{Output};
+ghost use Rattle.watch_machine.specs.declared.event.Event.TheVariants as events;
+ghost use Rattle.watch_machine.specs.declared.fault.WatchFault.{WatchFault};
+
+use crate::change::Change;
+use crate::neighbours::Neighbours;
+use crate::serving::Serving;
+use crate::turn::MOST_WAIT;
+use keep_asking::SeenLanes;
+use keep_clock::{Clock, Reading};
+use keep_lanes::Lanes;
+use std::alloc::Global;
+use watch_machine::Event;
+
+impl Serving {
+    /// Waits before the first turn, until a moment of the clock that never steps, in milliseconds, by `most` pauses at most. Nothing is
+    /// asked meanwhile. In each pause the neighbours go on and are asked for one change, and a wait of a second at most follows.
+    ///
+    /// It ends at once where a change is made that counts now, where the clocks cannot be read, and where memory is wanting.
+    ///
+    /// `shown` is what the neighbours see of the agent: it serves the same inventory and knows the same ends, and the time is handed in
+    /// to it. What it commands goes out nowhere.
+    pub fn wait_apart<C: Clock, L: Lanes, N: Neighbours>(
+        &mut self,
+        alloc: Global,
+        shown: &mut Serving,
+        clock: &mut C,
+        lanes: &mut L,
+        neighbours: &mut N,
+        until: u64,
+        most: u64,
+    )
+        requires in_step { IsInStep (L.width lanes.old) (L.out lanes.old) self.old }
+        ensures waited { (w : Waited) × (IsWaited until most (serving_side self.old (⟦<L as SeenLanes>⟧.seen lanes.old)) w (serving_side self.new (⟦<L as SeenLanes>⟧.seen lanes.new)) × (AllMade (all_clocked w) (C.seen clock.old) (C.seen clock.new) × (AllGiven (all_given w) (N.given neighbours.old) (N.given neighbours.new) × AllCalled N.does (all_called w) neighbours.old neighbours.new))) }
+        ensures in_step { IsInStep (L.width lanes.new) (L.out lanes.new) self.new }
+    {
+        for _ in 0..most {
+            let reading = clock.read().ok();
+            let Some(millis) = self.pause(alloc, shown, reading, lanes, neighbours, until) else {
+                return;
+            };
+            clock.wait(millis);
+        }
+    }
+
+    /// One pause, but for its reading and its wait: for how long is to be waited, in milliseconds, or `None` where the wait ends.
+    fn pause<L: Lanes, N: Neighbours>(
+        &mut self,
+        alloc: Global,
+        shown: &mut Serving,
+        reading: Option<Reading>,
+        lanes: &mut L,
+        neighbours: &mut N,
+        until: u64,
+    ) -> Option<u64>
+        ensures pauses { Pauses N.does until reading result (serving_side self.old (⟦<L as SeenLanes>⟧.seen lanes.old)) (serving_side self.new (⟦<L as SeenLanes>⟧.seen lanes.new)) (N.given neighbours.old) (N.given neighbours.new) neighbours.old neighbours.new }
+        ensures width { L.width lanes.new ≡ L.width lanes.old }
+        ensures port { L.host_port lanes.new ≡ L.host_port lanes.old }
+    {
+        let reading = reading?;
+        if reading.elapsed >= until {
+            return None;
+        }
+        if !shown.show(alloc, reading) {
+            return None;
+        }
+        let is_busy = neighbours.go_on(alloc, &shown.agent, reading);
+        let Some(change) = neighbours.change(alloc, &shown.agent, reading) else {
+            return Some(pause_by(is_busy, until, reading));
+        };
+        if self.make_shown(alloc, shown, lanes, neighbours, change) {
+            Some(0)
+        } else {
+            None
+        }
+    }
+
+    /// Makes a change, and tells whether it was made. Whether the wait goes on.
+    fn make_shown<L: Lanes, N: Neighbours>(
+        &mut self,
+        alloc: Global,
+        shown: &Serving,
+        lanes: &mut L,
+        neighbours: &mut N,
+        change: Change,
+    ) -> bool
+        ensures made { (is_made : Bool) × (ChangeIsMade change is_made (serving_side self.old (⟦<L as SeenLanes>⟧.seen lanes.old)) (serving_side self.new (⟦<L as SeenLanes>⟧.seen lanes.new)) × ((result ≡ goes_on (Some (record { change = change; is_made = is_made }))) × N.does (Settle is_made) neighbours.old neighbours.new)) }
+        ensures given { N.given neighbours.new ≡ N.given neighbours.old }
+        ensures width { L.width lanes.new ≡ L.width lanes.old }
+        ensures port { L.host_port lanes.new ≡ L.host_port lanes.old }
+    {
+        let is_kept = is_kept(&change);
+        let is_served = is_served(&change);
+        let is_made = self.make(alloc, lanes, change);
+        let agent = if is_served { &self.agent } else { &shown.agent };
+        neighbours.settle(alloc, agent, is_made);
+        is_kept || !is_made
+    }
+
+    /// The time is handed in; what is commanded by it goes out nowhere. Whether memory sufficed.
+    fn show(&mut self, alloc: Global, reading: Reading) -> bool
+        ensures turned { (turned : Result Output WatchFault) × (AgentTurn self.old.agent (events.Clock reading.wall reading.elapsed) turned self.new.agent × (result ≡ is_ok turned)) }
+        ensures rest { self.new ≡ record self.old { agent = self.new.agent } }
+    {
+        let Reading { wall, elapsed } = reading;
+        self.agent
+            .turn(alloc, Event::Clock { wall, elapsed })
+            .is_ok()
+    }
+}
+
+/// Whether nothing is made of a change now.
+fn is_kept(change: &Change) -> bool
+    ensures { result ≡ is_kept change.now }
+{
+    match change {
+        Change::Need { .. } | Change::Begin | Change::Serve(_) => false,
+        Change::Kept => true,
+    }
+}
+
+/// Whether another inventory is to be served.
+fn is_served(change: &Change) -> bool {
+    match change {
+        Change::Need { .. } | Change::Begin | Change::Kept => false,
+        Change::Serve(_) => true,
+    }
+}
+
+/// For how long is waited: not at all where more may be done at once.
+fn pause_by(is_more: bool, until: u64, reading: Reading) -> u64
+    ensures { result ≡ pause_by is_more until reading }
+{
+    if is_more {
+        0
+    } else {
+        MOST_WAIT.min(until.saturating_sub(reading.elapsed))
+    }
+}
