@@ -9,3 +9,7 @@ mod clients;
 #[cfg(test)]
 mod onlookers;
 pub mod peers;
+#[cfg(test)]
+mod plays;
+#[cfg(test)]
+mod words;

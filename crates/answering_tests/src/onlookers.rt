@@ -6,10 +6,10 @@ use std::process::Abort;
 use std::test::Fail;
 
 const MISSING: &str =
-    "web unknown: the broker has not answered for it yet, and is needed until 1200\n";
+    "web unknown: the broker has not answered for it yet, and is needed until 1970-01-01T00:20:00Z\n";
 
 const UNHEALTHY: &str =
-    "HTTP/1.1 503 Service Unavailable\r\nContent-Type: text/plain; charset=utf-8\r\nContent-Length: 78\r\nConnection: close\r\n\r\nweb unknown: the broker has not answered for it yet, and is needed until 1200\n";
+    "HTTP/1.1 503 Service Unavailable\r\nContent-Type: text/plain; charset=utf-8\r\nContent-Length: 94\r\nConnection: close\r\n\r\nweb unknown: the broker has not answered for it yet, and is needed until 1970-01-01T00:20:00Z\n";
 
 const NOT_FOUND: &str =
     "HTTP/1.1 404 Not Found\r\nContent-Type: text/plain; charset=utf-8\r\nContent-Length: 14\r\nConnection: close\r\n\r\n404 Not Found\n";
@@ -53,7 +53,7 @@ fn each_page_and_each_fault_is_answered(rt: HostRuntime) -> Result<(), Fail> {
 
 #[test]
 fn an_answer_names_its_length(rt: HostRuntime) {
-    assert!(rt; MISSING.len() == 78);
+    assert!(rt; MISSING.len() == 94);
 }
 
 /// A guest that can go on at once is told of, and one that has been answered is not.

@@ -1,13 +1,13 @@
 -- Reading: what is wanted by a line, and by one that was not read. For `wanted_by_line` and `wanted_of`.
 use Rattle.std.proofs.Common.{◌≡◌, ◌≢◌, ◌∙◌, ℕ, List, Ok, Err, IfOk, Result, ap, refl, sym, take}
 use Rattle.keep_control.specs.Answer.{Fails}
-use Rattle.keep_control.specs.Front.{IsFront}
-use Rattle.keep_control.specs.Requests.{request_of}
+use Rattle.keep_control.specs.Front.{IsLineFront}
+use Rattle.keep_control.specs.Requests.{request_in_line}
 use Rattle.keep_control.specs.declared.fault.RequestFault.{RequestFault}
 use Rattle.keep_control.specs.declared.fault.RequestFault.TheVariants as faults
 use Rattle.keep_control.specs.declared.front.Front.TheVariants as fronts
 use Rattle.keep_control.specs.declared.request.Request.{Request}
-use Rattle.keep_answering.specs.Wanting.{Wants, wanted_if}
+use Rattle.keep_answering.specs.Wanting.{ClientWants, wanted_if}
 use Rattle.keep_answering.specs.declared.wanted.Wanted.{Wanted}
 use Rattle.keep_answering.specs.declared.wanted.Wanted.TheVariants as wanted
 use Rattle.keep_answering.specs.declared.wanted.Why.TheVariants as whys
@@ -28,7 +28,7 @@ not_read now fault read (Ok it) fails is = is.1 ∙ refused_by now fault read fa
 not_read now fault read (Err e) fails is = tt
 
 -- what is wanted by the first line is wanted
-pub by_line : {E : Type 0} (now n : ℕ) (bytes : List ℕ) (result : Result Wanted E) → IsFront bytes (fronts.Whole n) →
-    IfOk result (λ it. it ≡ wanted_if now (request_of (take n bytes))) → IfOk result (λ it. Wants now bytes it)
+pub by_line : {E : Type 0} (now n : ℕ) (bytes : List ℕ) (result : Result Wanted E) → IsLineFront bytes (fronts.Whole n) →
+    IfOk result (λ it. it ≡ wanted_if now (request_in_line (take n bytes))) → IfOk result (λ it. ClientWants now bytes it)
 by_line now n bytes (Ok it) front is = (fronts.Whole n, (front, is))
 by_line now n bytes (Err e) front is = tt

@@ -3,13 +3,13 @@
 use Rattle.std.specs.Prelude.{◌≡◌, ℕ, List, [], ◌++◌, Bool, true, false, ◌&&◌, Option, Some, None}
 use Rattle.std.specs.List.{list_any}
 use Rattle.keep_agent.specs.Agent.{Agent}
-use Rattle.keep_clients.specs.Doors.{Log}
+use Rattle.keep_clients.specs.Doors.{DoorLog}
 use Rattle.keep_clients.specs.Guests.{can_go_on}
-use Rattle.keep_clients.specs.Tables.{AnswersFirst, Table, Turns, first_asked}
+use Rattle.keep_clients.specs.Tables.{AnswersFirst, GuestTable, Turns, first_asked}
 use Rattle.keep_clients.specs.declared.talk.Call.{Call}
-use Rattle.keep_onlook.specs.Answers.{answer_of}
+use Rattle.keep_onlook.specs.Answers.{IsAnswer}
 use Rattle.keep_onlook.specs.Board.{board_of}
-use Rattle.keep_onlook.specs.Questions.{IsAsked}
+use Rattle.keep_onlook.specs.Questions.{BytesAsk}
 use Rattle.keep_onlook.specs.declared.answer.Answer.{Answer}
 use Rattle.keep_onlook.specs.declared.asked.Asked.{Asked}
 use Rattle.keep_onlook.specs.declared.asked.Asked.TheVariants.{Open, Whole}
@@ -30,7 +30,7 @@ is_whole (Whole question) = true
 
 -- all has come that is needed: a head, or what no head can begin with, or too much
 abbrev pub TellsHead : List ℕ → Bool → Type 0
-TellsHead bytes whole = (asked : Asked) × (IsAsked bytes asked × (whole ≡ is_whole asked))
+TellsHead bytes whole = (asked : Asked) × (BytesAsk bytes asked × (whole ≡ is_whole asked))
 
 -- what is answered where no more comes: a front of a head is no head
 abbrev pub question_of : Asked → Question
@@ -43,20 +43,21 @@ abbrev pub bytes_of : Answer → List ℕ
 bytes_of answer = answer.head ++ answer.body
 
 -- to an onlooker that has sent these bytes: what answers them, from the agent as it is, and what is around it
-abbrev pub IsSent : Agent → Surroundings → List ℕ → List ℕ → Type 0
-IsSent agent around bytes sent = (asked : Asked) × (IsAsked bytes asked × (sent ≡ bytes_of (answer_of (board_of agent around) (question_of asked))))
+abbrev pub OnlookerIsSent : Agent → Surroundings → List ℕ → List ℕ → Type 0
+OnlookerIsSent agent around bytes sent =
+    (asked : Asked) × (answer : Answer) × BytesAsk bytes asked × IsAnswer (board_of agent around) (question_of asked) answer × (sent ≡ bytes_of answer)
 
 -- or nothing, where memory was wanting
 abbrev pub IsSentIf : Bool → Agent → Surroundings → List ℕ → List ℕ → Type 0
-IsSentIf true agent around bytes sent = IsSent agent around bytes sent
+IsSentIf true agent around bytes sent = OnlookerIsSent agent around bytes sent
 IsSentIf false agent around bytes sent = sent ≡ []
 
 -- the first of those who have asked is sent its answer, and nobody else is sent anything; where nobody has asked nothing is done
-abbrev pub FirstIsSent : {T : Type 0} → Agent → Surroundings → ℕ → Option (List ℕ) → Bool → Table T Heads → Table T Heads → Type 0
+abbrev pub FirstIsSent : {T : Type 0} → Agent → Surroundings → ℕ → Option (List ℕ) → Bool → GuestTable T Heads → GuestTable T Heads → Type 0
 FirstIsSent agent around now None enough old new = (enough ≡ true) × (new ≡ old)
 FirstIsSent agent around now (Some bytes) enough old new = (sent : List ℕ) × (IsSentIf enough agent around bytes sent × AnswersFirst now sent true old new)
 
-abbrev pub OneIsSent : {T : Type 0} → Agent → Surroundings → ℕ → Bool → Table T Heads → Table T Heads → Type 0
+abbrev pub OneIsSent : {T : Type 0} → Agent → Surroundings → ℕ → Bool → GuestTable T Heads → GuestTable T Heads → Type 0
 OneIsSent agent around now enough old new = FirstIsSent agent around now (first_asked old) enough old new
 
 -- ---- a call
@@ -65,9 +66,9 @@ abbrev pub nobody : {T D : Type 0} → D → Onlookers T D
 nobody door = record { clients = record { guests = []; next = 0; limits = record { guests = MOST_ONLOOKERS; bytes = HEAD_MAX }; framing = record {} }; door = door }
 
 -- each goes on by one call of its connection at most, some are let in, and then one of those who have asked is sent its answer
-pub record GoesOn {T D : Type 0} (remaining written : T → Option (List ℕ)) (calls : T → Option (List Call)) (log : D → Option (Log T)) (agent : Agent) (around : Surroundings) (now : ℕ)
+pub record OnlookingGoesOn {T D : Type 0} (remaining written : T → Option (List ℕ)) (calls : T → Option (List Call)) (log : D → Option (DoorLog T)) (agent : Agent) (around : Surroundings) (now : ℕ)
     (went : Went) (old new : Onlookers T D) : Type 0 where
-  pub turned : Table T Heads
+  pub turned : GuestTable T Heads
   pub turned_enough : Bool
   pub sent_enough : Bool
   pub turn : Turns remaining written calls (λ heads. TellsHead) now turned_enough old.clients turned (log old.door) (log new.door)

@@ -1,9 +1,9 @@
 -- Wanting: what a client of the control socket wants, by what it has sent.
 -- Source: this project's own; what a line asks for is keep_control's.
 use Rattle.std.specs.Prelude.{◌≡◌, ℕ, List, Bool, true, false, Option, Some, None, Result, Ok, Err, codes, take}
-use Rattle.keep_control.specs.Front.{IsFront}
-use Rattle.keep_control.specs.Replies.{why_of}
-use Rattle.keep_control.specs.Requests.{request_of}
+use Rattle.keep_control.specs.Front.{IsLineFront}
+use Rattle.keep_control.specs.Replies.{request_fault_text}
+use Rattle.keep_control.specs.Requests.{request_in_line}
 use Rattle.keep_control.specs.When.{need_at}
 use Rattle.keep_control.specs.declared.fault.RequestFault.{RequestFault}
 use Rattle.keep_control.specs.declared.fault.RequestFault.TheVariants as faults
@@ -19,18 +19,18 @@ use Rattle.keep_answering.specs.declared.wanted.Wanted.TheVariants as wanted
 use Rattle.keep_answering.specs.declared.wanted.Why.{Why}
 use Rattle.keep_answering.specs.declared.wanted.Why.TheVariants as whys
 
-abbrev pub is_over : Front → Bool
-is_over fronts.Open = false
-is_over (fronts.Whole n) = true
-is_over fronts.TooLong = true
+abbrev pub is_front_over : Front → Bool
+is_front_over fronts.Open = false
+is_front_over (fronts.Whole n) = true
+is_front_over fronts.TooLong = true
 
 -- all has come that is needed: a line with its end, or too much of one
-abbrev pub TellsLine : List ℕ → Bool → Type 0
-TellsLine bytes whole = (front : Front) × (IsFront bytes front × (whole ≡ is_over front))
+abbrev pub TellsRequestLine : List ℕ → Bool → Type 0
+TellsRequestLine bytes whole = (front : Front) × (IsLineFront bytes front × (whole ≡ is_front_over front))
 
-unfoldable pub why_text : Why → List ℕ
-why_text (whys.Fault fault) = why_of fault
-why_text whys.TooLate = codes "WHEN is after 9999-12-31T23:59:59Z"
+unfoldable pub refusal_text : Why → List ℕ
+refusal_text (whys.Fault fault) = request_fault_text fault
+refusal_text whys.TooLate = codes "WHEN is after 9999-12-31T23:59:59Z"
 
 -- a need of the entry of that name, of which nobody has looked whether there is one
 abbrev pub needed : List ℕ → Option Need → Wanted
@@ -56,9 +56,9 @@ wanted_if now (Err fault) = wanted.Refused (whys.Fault fault)
 -- by the first line that has come: a front of one, of which no more comes, is no request
 abbrev pub wanted_by : ℕ → List ℕ → Front → Wanted
 wanted_by now bytes fronts.Open = wanted.Refused (whys.Fault faults.NotWords)
-wanted_by now bytes (fronts.Whole n) = wanted_if now (request_of (take n bytes))
+wanted_by now bytes (fronts.Whole n) = wanted_if now (request_in_line (take n bytes))
 wanted_by now bytes fronts.TooLong = wanted.Refused (whys.Fault faults.TooLong)
 
 -- what a client wants that has sent these bytes
-abbrev pub Wants : ℕ → List ℕ → Wanted → Type 0
-Wants now bytes it = (front : Front) × (IsFront bytes front × (it ≡ wanted_by now bytes front))
+abbrev pub ClientWants : ℕ → List ℕ → Wanted → Type 0
+ClientWants now bytes it = (front : Front) × (IsLineFront bytes front × (it ≡ wanted_by now bytes front))

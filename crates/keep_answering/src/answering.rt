@@ -1,6 +1,6 @@
 //! What an onlooker is sent.
 ghost use Rattle.std.specs.Prelude.{◌≡◌, IfOk};
-ghost use Rattle.keep_answering.specs.Onlooking.{IsSent, bytes_of};
+ghost use Rattle.keep_answering.specs.Onlooking.{OnlookerIsSent, bytes_of};
 
 use crate::heads::question_of;
 use keep_agent::Agent;
@@ -14,7 +14,7 @@ pub(crate) fn sent_to(
     around: Surroundings,
     bytes: &[u8],
 ) -> Result<Vec<u8>, AllocError>
-    ensures { IfOk result (λ sent. IsSent agent.now around bytes.now sent.items) }
+    ensures { IfOk result (λ sent. OnlookerIsSent agent.now around bytes.now sent.items) }
 {
     let question = question_of(read_question(bytes));
     let board = board_of(alloc, agent, around)?;

@@ -1,6 +1,6 @@
 //! The clients of an agent's control socket.
-ghost use Rattle.std.specs.Prelude.{◌≡◌, ◌&&◌, IfOk};
-ghost use Rattle.keep_answering.specs.Controlling.{AnswersAsked, ControlGoesOn, FollowsAsked, Gives, OneIsReplied, can_be_asked, nobody_asks, refused_text, shown_text};
+ghost use Rattle.std.specs.Prelude.{◌≡◌, ◌&&◌, IfOk, None};
+ghost use Rattle.keep_answering.specs.Controlling.{AnswersAside, AnswersAsked, ControlGoesOn, FollowsAsked, GivesAsked, IsShownText, OneIsReplied, can_be_asked, nobody_asks, refused_text};
 
 use crate::asked::Asked;
 use crate::lines::RequestLines;
@@ -10,7 +10,7 @@ use keep_agent::Agent;
 use keep_clients::{Clients, Door, Limits, Talk};
 use keep_clock::Reading;
 use keep_control::LINE_MAX;
-use keep_onlook::{Method, Page, Question, Surroundings, answer_to, board_of};
+use keep_onlook::{Page, Surroundings, board_of, told_of};
 use std::alloc::{AllocError, Global};
 use std::mem;
 
@@ -73,7 +73,7 @@ impl<T: Talk, D: Door<T>> Control<T, D> {
     /// What the first of those asks for whose line has ended, where it asks for something to be done and the last one is
     /// answered. It waits then until that is answered too. The only error is out of memory: it is left for another call then.
     pub fn asked(&mut self, alloc: Global, now: Reading) -> Result<Option<Asked>, AllocError>
-        ensures { Gives now self.old result self.new }
+        ensures { GivesAsked now self.old result self.new }
     {
         if self.asking.is_some() {
             return Ok(None);
@@ -100,6 +100,25 @@ impl<T: Talk, D: Door<T>> Control<T, D> {
             return;
         };
         let _is_there = self.clients.answer(id, answer, now);
+    }
+
+    /// The client whose request was taken last is answered later, and those of others are taken before: the number under which it is
+    /// answered ([`Control::answer_aside`]); `None` where none was taken, or it was answered.
+    pub fn set_aside(&mut self) -> Option<u64>
+        ensures number { result ≡ self.old.asking }
+        ensures rest { self.new ≡ record self.old { asking = None } }
+    {
+        let number = self.asking;
+        self.asking = None;
+        number
+    }
+
+    /// Sends the client that was set aside under this number this answer, and closes its connection after it; an empty answer closes
+    /// it at once. Where it has gone, nothing is done. `now` is in milliseconds of the clock that never steps.
+    pub fn answer_aside(&mut self, number: u64, answer: Vec<u8>, now: u64)
+        ensures { AnswersAside number answer.items now self.old self.new }
+    {
+        let _is_there = self.clients.answer(number, answer, now);
     }
 
     /// Sends the client whose request was taken last the first of an answer that goes on, and says under which number it is given
@@ -133,37 +152,44 @@ fn reply_to_one<T: Talk>(
         let _is_there = clients.answer_first(Vec::new(alloc), now.elapsed);
         return false;
     };
-    let reply = match wanted {
-        Wanted::Do(_) => return true,
-        Wanted::Show(page) => shown(alloc, agent, around, page),
-        Wanted::Refused(why) => refused(alloc, why),
-    };
-    match reply {
-        Ok(reply) => {
-            let _is_there = clients.answer_first(reply, now.elapsed);
-            true
-        }
-        Err(AllocError) => {
-            let _is_there = clients.answer_first(Vec::new(alloc), now.elapsed);
-            false
-        }
+    match wanted {
+        Wanted::Do(_) => true,
+        Wanted::Show(page) => match shown(alloc, agent, around, page) {
+            Ok(reply) => {
+                let _is_there = clients.answer_first(reply, now.elapsed);
+                true
+            }
+            Err(AllocError) => {
+                let _is_there = clients.answer_first(Vec::new(alloc), now.elapsed);
+                false
+            }
+        },
+        Wanted::Refused(why) => match refused(alloc, why) {
+            Ok(reply) => {
+                let _is_there = clients.answer_first(reply, now.elapsed);
+                true
+            }
+            Err(AllocError) => {
+                let _is_there = clients.answer_first(Vec::new(alloc), now.elapsed);
+                false
+            }
+        },
     }
 }
 
-/// `ok`, and what an onlooker is shown. The only error is out of memory.
-#[tactic(auto, unfolding(crate::specs::Controlling::shown_text))]
+/// `ok`, and what a client is told. The only error is out of memory.
 fn shown(
     alloc: Global,
     agent: &Agent,
     around: Surroundings,
     page: Page,
 ) -> Result<Vec<u8>, AllocError>
-    ensures { IfOk result (λ text. text.items ≡ shown_text agent.now around page) }
+    ensures { IfOk result (λ text. IsShownText agent.now around page text.items) }
 {
     let board = board_of(alloc, agent, around)?;
-    let answer = answer_to(alloc, &board, Question::Read(Method::Get, page))?;
+    let told = told_of(alloc, &board, page)?;
     let mut text = Vec::from_slice(alloc, b"ok\n")?;
-    text.extend_from_slice(answer.body.list())?;
+    text.extend_from_slice(&told)?;
     Ok(text)
 }
 

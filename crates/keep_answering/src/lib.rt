@@ -4,7 +4,7 @@
 //! of those whose question is whole, from the agent as it is then (`specs/Onlooking.antt`). Nothing else is written to any of
 //! them, and the agent is lent to be read alone. [`Control::go_on`] does the same for clients, but where one asks for something to
 //! be done: [`Control::asked`] hands that on, one at a time, and [`Control::answer`] sends its client what it is given, and nobody
-//! else (`specs/Wanting.antt`, `specs/Controlling.antt`). Begin with `onlookers`, then `asked`, `wanted` and `control`.
+//! else; or it is set aside, and [`Control::answer_aside`] does so later (`specs/Wanting.antt`, `specs/Controlling.antt`). Begin with `onlookers`, then `asked`, `wanted` and `control`.
 #![tactic(auto)]
 
 mod answering;

@@ -1,6 +1,6 @@
 //! When all has come of a client that is needed.
 ghost use Rattle.std.specs.Prelude.{◌≡◌};
-ghost use Rattle.keep_answering.specs.Wanting.{TellsLine, is_over};
+ghost use Rattle.keep_answering.specs.Wanting.{TellsRequestLine, is_front_over};
 
 use keep_clients::Framing;
 use keep_control::{Front, front_of};
@@ -10,7 +10,7 @@ use keep_control::{Front, front_of};
 pub struct RequestLines;
 
 impl Framing for RequestLines {
-    ghost tells = { λ _ bytes whole. TellsLine bytes whole };
+    ghost tells = { λ _ bytes whole. TellsRequestLine bytes whole };
 
     fn is_whole(&self, bytes: &[u8]) -> bool {
         is_over(front_of(bytes))
@@ -18,7 +18,7 @@ impl Framing for RequestLines {
 }
 
 fn is_over(front: Front) -> bool
-    ensures { result ≡ is_over front }
+    ensures { result ≡ is_front_over front }
 {
     match front {
         Front::Open => false,

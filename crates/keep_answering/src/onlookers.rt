@@ -1,6 +1,6 @@
 //! The onlookers of an agent.
 ghost use Rattle.std.specs.Prelude.{◌≡◌, ◌&&◌};
-ghost use Rattle.keep_answering.specs.Onlooking.{GoesOn, OneIsSent, nobody};
+ghost use Rattle.keep_answering.specs.Onlooking.{OneIsSent, OnlookingGoesOn, nobody};
 
 use crate::answering::sent_to;
 use crate::heads::Heads;
@@ -41,7 +41,7 @@ impl<T: Talk, D: Door<T>> Onlookers<T, D> {
     ///
     /// Where memory is wanting for an answer, that onlooker is sent nothing and its connection is closed.
     pub fn go_on(&mut self, alloc: Global, agent: &Agent, around: Surroundings, now: u64) -> Went
-        ensures { GoesOn T.remaining T.written T.calls D.log agent.now around now result self.old self.new }
+        ensures { OnlookingGoesOn T.remaining T.written T.calls D.log agent.now around now result self.old self.new }
     {
         let is_turned = self.clients.turn(alloc, &mut self.door, now);
         let is_answered = answer_one(alloc, &mut self.clients, agent, around, now);

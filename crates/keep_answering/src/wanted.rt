@@ -1,9 +1,9 @@
 //! What a client wants, by what it has sent.
 ghost use Rattle.std.specs.Prelude.{◌≡◌, ◌≢◌, IfOk};
-ghost use Rattle.keep_control.specs.Requests.{request_of};
+ghost use Rattle.keep_control.specs.Requests.{request_in_line};
 ghost use Rattle.keep_control.specs.When.{need_at};
 ghost use Rattle.keep_control.specs.declared.fault.RequestFault.TheVariants.{OutOfMemory};
-ghost use Rattle.keep_answering.specs.Wanting.{Wants, needed, wanted_if, wanted_now, why_text};
+ghost use Rattle.keep_answering.specs.Wanting.{ClientWants, needed, refusal_text, wanted_if, wanted_now};
 ghost use Rattle.keep_answering.specs.declared.wanted.Wanted.TheVariants.{Refused};
 ghost use Rattle.keep_answering.specs.declared.wanted.Why.TheVariants.{Fault};
 
@@ -36,9 +36,9 @@ pub enum Why {
 
 impl Why {
     /// The reason in words, for the one who asked.
-    #[tactic(auto, unfolding(crate::specs::Wanting::why_text))]
+    #[tactic(auto, unfolding(crate::specs::Wanting::refusal_text))]
     pub fn text(self) -> &'static str
-        ensures { result.now ≡ why_text self }
+        ensures { result.now ≡ refusal_text self }
     {
         match self {
             Why::Fault(fault) => fault.why(),
@@ -51,7 +51,7 @@ impl Why {
 /// only error is out of memory.
 #[tactic(auto, using(crate::proofs::Reading::by_line))]
 pub(crate) fn wanted_of(alloc: Global, now: u64, bytes: &[u8]) -> Result<Wanted, AllocError>
-    ensures { IfOk result (λ it. Wants now bytes.now it) }
+    ensures { IfOk result (λ it. ClientWants now bytes.now it) }
 {
     match front_of(bytes) {
         Front::Open => Ok(Wanted::Refused(Why::Fault(RequestFault::NotWords))),
@@ -63,7 +63,7 @@ pub(crate) fn wanted_of(alloc: Global, now: u64, bytes: &[u8]) -> Result<Wanted,
 /// What is wanted by a line, which is without its line feed.
 #[tactic(auto, using(crate::proofs::Reading::not_read))]
 fn wanted_by_line(alloc: Global, now: u64, line: &[u8]) -> Result<Wanted, AllocError>
-    ensures { IfOk result (λ it. it ≡ wanted_if now (request_of line.now)) }
+    ensures { IfOk result (λ it. it ≡ wanted_if now (request_in_line line.now)) }
 {
     match read_request(alloc, line) {
         Ok(request) => Ok(wanted_now(now, request)),

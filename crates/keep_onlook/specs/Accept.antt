@@ -7,20 +7,20 @@ use Rattle.std.specs.Str.{str_eq_ignore_ascii_case}
 use Rattle.keep_words.specs.Pieces.{pieces}
 
 -- white space: a space or a tab
-abbrev pub is_blank : ℕ → Bool
-is_blank b = b == 32 || b == 9
+abbrev pub is_space_or_tab : ℕ → Bool
+is_space_or_tab b = b == 32 || b == 9
 
 -- what stands after the white space in front
 unfoldable pub led : List ℕ → List ℕ
-led text = drop (length (take_while is_blank text)) text
+led text = drop (length (take_while is_space_or_tab text)) text
 
 -- the type, letters of either case, and nothing but white space around it
 unfoldable pub is_open_type : List ℕ → Bool
-is_open_type text = str_eq_ignore_ascii_case (take 28 (led text)) (codes "application/openmetrics-text") && list_all is_blank (drop 28 (led text))
+is_open_type text = str_eq_ignore_ascii_case (take 28 (led text)) (codes "application/openmetrics-text") && list_all is_space_or_tab (drop 28 (led text))
 
 -- a zero, a point or white space
 abbrev pub is_zero_byte : ℕ → Bool
-is_zero_byte b = b == 48 || (b == 46 || is_blank b)
+is_zero_byte b = b == 48 || (b == 46 || is_space_or_tab b)
 
 -- `q=0`, and no other digit after it
 unfoldable pub is_zero_weight : List ℕ → Bool

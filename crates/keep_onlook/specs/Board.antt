@@ -6,18 +6,18 @@ use Rattle.keep_tree.specs.Carried.{carried}
 use Rattle.keep_tree.specs.Forest.{entry_at}
 use Rattle.watch_machine.specs.Clocks.{sec}
 use Rattle.watch_machine.specs.Outlook.{broker_moment, broker_now}
-use Rattle.watch_machine.specs.State.{State, entry_of}
+use Rattle.watch_machine.specs.State.{WatchState, entry_of}
 use Rattle.keep_agent.specs.Agent.{Agent, standing_at}
-use Rattle.keep_agent.specs.Status.{status_of}
+use Rattle.keep_agent.specs.Status.{status_of_entry}
 use Rattle.keep_onlook.specs.declared.board.Board.{Board}
 use Rattle.keep_onlook.specs.declared.board.Row.{Row}
 use Rattle.keep_onlook.specs.declared.board.Surroundings.{Surroundings}
 
 -- the moment by the broker's clock of a reading of the clock that never steps, as that is handed in
-abbrev pub moment_of_reading : State → ℕ → ℕ
+abbrev pub moment_of_reading : WatchState → ℕ → ℕ
 moment_of_reading m reading = broker_moment m (sec (min (reading + m.clocks.phase) 18446744073709551615))
 
-abbrev pub success_of : State → Option ℕ → Option ℕ
+abbrev pub success_of : WatchState → Option ℕ → Option ℕ
 success_of m None = None
 success_of m (Some reading) = Some (moment_of_reading m reading)
 
@@ -27,11 +27,11 @@ row_of a i =
     record {
       name = (entry_at a.inventory.forest.entries i).name;
       kind = (entry_at a.inventory.forest.entries i).kind;
-      condition = (status_of a i).condition;
-      end = (status_of a i).end;
+      condition = (status_of_entry a i).condition;
+      end = (status_of_entry a i).end;
       need = (entry_of a.machine i).need;
       carried = carried a.machine.forest.entries 0 i;
-      in_force = (status_of a i).in_force;
+      in_force = (status_of_entry a i).in_force;
       last_success = success_of a.machine (standing_at a i).granted_at;
       trouble = (standing_at a i).trouble;
       granted = (standing_at a i).granted;

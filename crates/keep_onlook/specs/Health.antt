@@ -1,13 +1,13 @@
--- Health: whether all that is needed is kept, and a line for each entry that is not. Moments are seconds since 1970-01-01T00:00:00Z.
--- Source: this project's own.
-use Rattle.std.specs.Prelude.{ℕ, Bool, true, false, ◌&&◌, not, if◌then◌else◌, List, [], ◌∷◌, ◌++◌, Option, Some, None, codes, decimal, nat_le, nat_lt}
+-- Health: whether all that is needed is kept, and the line of an entry that is not.
+-- Source: this project's own, docs/running.md, "What the operator sees".
+use Rattle.std.specs.Prelude.{◌≡◌, ℕ, Bool, true, false, ◌&&◌, not, if◌then◌else◌, List, [], ◌++◌, Option, Some, None, codes, nat_lt}
 use Rattle.std.specs.List.{list_any}
-use Rattle.std.specs.Option.{unwrap_or}
 use Rattle.keep_moment.specs.declared.moment.TheConstants.{LAST}
 use Rattle.keep_agent.specs.declared.status.Condition.{Condition}
 use Rattle.keep_agent.specs.declared.status.Condition.TheVariants.{Gone, Ended, Short, Trying, Kept}
 use Rattle.keep_onlook.specs.declared.board.Board.{Board}
 use Rattle.keep_onlook.specs.declared.board.Row.{Row}
+use Rattle.keep_onlook.specs.Points.{SaysPoint, point_at, point_of}
 
 -- an entry that lives and is asked again is kept; one of which nothing is known yet is not
 abbrev pub is_kept : Condition → Option ℕ → Bool
@@ -33,31 +33,33 @@ why_words Short = codes "short: it can be kept until "
 why_words Trying = codes "unknown: the broker has not answered for it yet"
 why_words Kept = codes "kept"
 
-abbrev pub why_moment : Condition → Row → List ℕ
-why_moment Gone row = []
-why_moment Ended row = decimal (unwrap_or row.end 0)
-why_moment Short row = decimal row.in_force
-why_moment Trying row = []
-why_moment Kept row = []
+-- the moment that follows: the end that is past, or until when the entry can be kept
+abbrev pub SaysWhyMoment : Condition → Row → List ℕ → Type 0
+SaysWhyMoment Gone row text = text ≡ []
+SaysWhyMoment Ended row text = SaysPoint (point_of row.end) text
+SaysWhyMoment Short row text = SaysPoint (point_at row.in_force) text
+SaysWhyMoment Trying row text = text ≡ []
+SaysWhyMoment Kept row text = text ≡ []
 
-unfoldable pub why_text : Row → List ℕ
-why_text row = why_words row.condition ++ why_moment row.condition row
+unfoldable pub needed_words : ℕ → List ℕ
+needed_words need = if nat_lt need LAST then codes ", and is needed until " else codes ", and is needed "
 
-unfoldable pub needed_words : List ℕ
-needed_words = codes ", and is needed "
+-- why an entry is not kept, and until when it is needed, with these texts of the moments
+unfoldable pub condition_text : Row → List ℕ → List ℕ
+condition_text row moment = why_words row.condition ++ moment
 
-abbrev pub until_text : ℕ → List ℕ
-until_text need = if nat_lt need LAST then codes "until " ++ decimal need else codes "always"
+unfoldable pub needed_text : ℕ → List ℕ → List ℕ
+needed_text need moment = needed_words need ++ moment
 
-unfoldable pub needed_text : ℕ → List ℕ
-needed_text need = needed_words ++ until_text need
+-- the line of an entry, where these are the text of the moment that follows why it is not kept, and that of its need
+unfoldable pub missing_line : Row → List ℕ → List ℕ → List ℕ
+missing_line row why need = row.name ++ codes " " ++ condition_text row why ++ needed_text row.carried need ++ codes "\n"
 
-unfoldable pub missing_line : Row → List ℕ
-missing_line row = row.name ++ codes " " ++ why_text row ++ needed_text row.carried ++ codes "\n"
+abbrev pub IsMissingLine : Row → List ℕ → Type 0
+IsMissingLine row line =
+    (why need : List ℕ) × SaysWhyMoment row.condition row why × SaysPoint (point_at row.carried) need × (line ≡ missing_line row why need)
 
-abbrev pub missing_lines : ℕ → List Row → List ℕ
-missing_lines now [] = []
-missing_lines now (row ∷ rows) = (if is_missing now row then missing_line row else []) ++ missing_lines now rows
-
-unfoldable pub health_text : Board → List ℕ
-health_text b = if is_healthy b then codes "every needed entry is kept\n" else missing_lines b.broker_now b.rows
+-- an entry that is not missing has no line
+abbrev pub IsMissingLineIf : Bool → Row → List ℕ → Type 0
+IsMissingLineIf true row line = IsMissingLine row line
+IsMissingLineIf false row line = line ≡ []

@@ -2,7 +2,10 @@ pub mod Board
 pub mod Escapes
 pub mod Metrics
 pub mod Listing
+pub mod Points
 pub mod Health
+pub mod Standing
+pub mod Lines
 pub mod Accept
 pub mod Questions
 pub mod Answers

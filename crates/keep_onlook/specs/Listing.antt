@@ -59,17 +59,17 @@ moments_text row =
 unfoldable pub renewals_text : Row → List ℕ
 renewals_text row = member_text members.Granted (Some row.granted) ++ member_text members.Refused (Some row.refused) ++ member_text members.Lost (Some row.lost) ++ codes "}"
 
-unfoldable pub row_text : Row → List ℕ
-row_text row = words_text row ++ moments_text row ++ renewals_text row
+unfoldable pub board_row_text : Row → List ℕ
+board_row_text row = words_text row ++ moments_text row ++ renewals_text row
 
 -- each row after a comma
 abbrev pub more_rows : List Row → List ℕ
 more_rows [] = []
-more_rows (row ∷ rows) = codes "," ++ row_text row ++ more_rows rows
+more_rows (row ∷ rows) = codes "," ++ board_row_text row ++ more_rows rows
 
 unfoldable pub rows_text : List Row → List ℕ
 rows_text [] = []
-rows_text (row ∷ rows) = row_text row ++ more_rows rows
+rows_text (row ∷ rows) = board_row_text row ++ more_rows rows
 
 unfoldable pub entries_name : List ℕ
 entries_name = codes ",\"entries\":["

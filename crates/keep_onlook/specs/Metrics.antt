@@ -88,13 +88,13 @@ column_help columns.LastSuccess = codes "When the entry was last renewed."
 column_help columns.Renewals = codes "Renewals, by what came of them."
 
 -- of either
-abbrev pub kind_of : Family → FamilyKind
-kind_of (Agent figure) = figure_kind figure
-kind_of (Entry column) = column_kind column
+abbrev pub kind_of_family : Family → FamilyKind
+kind_of_family (Agent figure) = figure_kind figure
+kind_of_family (Entry column) = column_kind column
 
-abbrev pub name_of : Family → List ℕ
-name_of (Agent figure) = figure_name figure
-name_of (Entry column) = column_name column
+abbrev pub name_of_family : Family → List ℕ
+name_of_family (Agent figure) = figure_name figure
+name_of_family (Entry column) = column_name column
 
 abbrev pub help_of : Family → List ℕ
 help_of (Agent figure) = figure_help figure
@@ -104,9 +104,9 @@ help_of (Entry column) = column_help column
 unfoldable pub prefix : List ℕ
 prefix = codes "leasekeepd_"
 
-abbrev pub kind_word : FamilyKind → List ℕ
-kind_word Gauge = codes "gauge"
-kind_word Counter = codes "counter"
+abbrev pub family_kind_word : FamilyKind → List ℕ
+family_kind_word Gauge = codes "gauge"
+family_kind_word Counter = codes "counter"
 
 -- the samples of a counter end in `_total`
 abbrev pub total_of : FamilyKind → List ℕ
@@ -114,18 +114,18 @@ total_of Gauge = []
 total_of Counter = codes "_total"
 
 unfoldable pub sample_name : Family → List ℕ
-sample_name family = prefix ++ name_of family ++ total_of (kind_of family)
+sample_name family = prefix ++ name_of_family family ++ total_of (kind_of_family family)
 
 -- a family is named as its samples are; OpenMetrics leaves `_total` out
 unfoldable pub family_name : Format → Family → List ℕ
 family_name Prometheus family = sample_name family
-family_name OpenMetrics family = prefix ++ name_of family
+family_name OpenMetrics family = prefix ++ name_of_family family
 
 unfoldable pub help_line : Format → Family → List ℕ
 help_line format family = codes "# HELP " ++ family_name format family ++ codes " " ++ help_of family ++ codes "\n"
 
 unfoldable pub type_line : Format → Family → List ℕ
-type_line format family = codes "# TYPE " ++ family_name format family ++ codes " " ++ kind_word (kind_of family) ++ codes "\n"
+type_line format family = codes "# TYPE " ++ family_name format family ++ codes " " ++ family_kind_word (kind_of_family family) ++ codes "\n"
 
 -- OpenMetrics has the type first
 unfoldable pub family_head : Format → Family → List ℕ
@@ -185,13 +185,13 @@ condition_word Short = codes "short"
 condition_word Trying = codes "trying"
 condition_word Kept = codes "kept"
 
-abbrev pub is_same : Condition → Condition → Bool
-is_same Gone Gone = true
-is_same Ended Ended = true
-is_same Short Short = true
-is_same Trying Trying = true
-is_same Kept Kept = true
-is_same a b = false
+abbrev pub is_same_condition : Condition → Condition → Bool
+is_same_condition Gone Gone = true
+is_same_condition Ended Ended = true
+is_same_condition Short Short = true
+is_same_condition Trying Trying = true
+is_same_condition Kept Kept = true
+is_same_condition a b = false
 
 -- the labels of an entry: its name, and one label more where there is one
 unfoldable pub labels_of : List ℕ → List ℕ → List ℕ
@@ -201,7 +201,7 @@ unfoldable pub label : List ℕ → List ℕ → List ℕ
 label key value = codes "," ++ key ++ codes "=\"" ++ value ++ codes "\""
 
 unfoldable pub state_sample : Row → Condition → List ℕ
-state_sample row c = sample (Entry columns.State) (labels_of row.name (label (codes "state") (condition_word c))) (one_if (is_same c row.condition))
+state_sample row c = sample (Entry columns.State) (labels_of row.name (label (codes "state") (condition_word c))) (one_if (is_same_condition c row.condition))
 
 unfoldable pub state_samples : Row → List ℕ
 state_samples row = state_sample row Gone ++ state_sample row Ended ++ state_sample row Short ++ state_sample row Trying ++ state_sample row Kept

@@ -40,7 +40,7 @@ abbrev pub page_of : List ℕ → Bool → Page
 page_of target takes = page_at (path_of target) takes
 
 -- the bytes begin with a head of at most 64 fields, which asks for that page by that method
-pub record Asks (bytes : List ℕ) (method : Method) (page : Page) : Type 0 where
+pub record AsksForPage (bytes : List ℕ) (method : Method) (page : Page) : Type 0 where
   pub head : RequestHead
   pub rest : List ℕ
   pub reads : ReadsRequest bytes head rest
@@ -49,18 +49,18 @@ pub record Asks (bytes : List ℕ) (method : Method) (page : Page) : Type 0 wher
   pub page_is : page ≡ page_of head.target (takes_fields (map name_and_value head.fields))
 
 -- what the bytes that may be looked at begin with; the word is the code's own
-abbrev pub IsFront : List ℕ → Front → Type 0
-IsFront bytes fronts.Open = HasNoRequest bytes × MayBecomeRequest bytes
-IsFront bytes fronts.Unread = RequestOverflows FIELDS_MAX bytes
-IsFront bytes (fronts.Read method page) = Asks bytes method page
+abbrev pub IsHeadFront : List ℕ → Front → Type 0
+IsHeadFront bytes fronts.Open = HasNoRequest bytes × MayBecomeRequest bytes
+IsHeadFront bytes fronts.Unread = RequestOverflows FIELDS_MAX bytes
+IsHeadFront bytes (fronts.Read method page) = AsksForPage bytes method page
 
 -- of the bytes that may be looked at: a head; none of at most 64 fields, whatever follows; as many as may be, and no head
 abbrev pub IsQuestion : List ℕ → Question → Type 0
-IsQuestion bytes (questions.Read method page) = Asks (take HEAD_MAX bytes) method page
+IsQuestion bytes (questions.Read method page) = AsksForPage (take HEAD_MAX bytes) method page
 IsQuestion bytes questions.Unread = RequestOverflows FIELDS_MAX (take HEAD_MAX bytes)
 IsQuestion bytes questions.TooLong = (HEAD_MAX ≤ length bytes) × (HasNoRequest (take HEAD_MAX bytes) × MayBecomeRequest (take HEAD_MAX bytes))
 
 -- a question, or no head yet, and one may come
-abbrev pub IsAsked : List ℕ → Asked → Type 0
-IsAsked bytes asked.Open = (length bytes < HEAD_MAX) × (HasNoRequest bytes × MayBecomeRequest bytes)
-IsAsked bytes (asked.Whole question) = IsQuestion bytes question
+abbrev pub BytesAsk : List ℕ → Asked → Type 0
+BytesAsk bytes asked.Open = (length bytes < HEAD_MAX) × (HasNoRequest bytes × MayBecomeRequest bytes)
+BytesAsk bytes (asked.Whole question) = IsQuestion bytes question

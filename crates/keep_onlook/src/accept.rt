@@ -4,7 +4,7 @@ ghost use Rattle.std.specs.List.{list_all, list_any};
 ghost use Rattle.std.specs.Str.{str_eq_ignore_ascii_case};
 ghost use Rattle.httparse.specs.Spans.{IsHeaderWithin, header_bytes};
 ghost use Rattle.keep_words.specs.Pieces.{pieces};
-ghost use Rattle.keep_onlook.specs.Accept.{is_blank, is_open_type, is_zero_byte, is_zero_weight, led, takes_field, takes_fields, takes_range, takes_value};
+ghost use Rattle.keep_onlook.specs.Accept.{is_open_type, is_space_or_tab, is_zero_byte, is_zero_weight, led, takes_field, takes_fields, takes_range, takes_value};
 
 use httparse::spans::HeaderSpan;
 use keep_words::cut;
@@ -95,7 +95,7 @@ fn led(text: &[u8]) -> &[u8]
 }
 
 fn blanks(text: &[u8]) -> usize
-    ensures { result ≡ length (take_while is_blank text.now) }
+    ensures { result ≡ length (take_while is_space_or_tab text.now) }
 {
     text.iter()
         .take_while(|byte| **byte == b' ' || **byte == b'\t')
@@ -103,7 +103,7 @@ fn blanks(text: &[u8]) -> usize
 }
 
 fn are_blank(text: &[u8]) -> bool
-    ensures { result ≡ list_all is_blank text.now }
+    ensures { result ≡ list_all is_space_or_tab text.now }
 {
     text.iter().all(|byte| *byte == b' ' || *byte == b'\t')
 }

@@ -1,6 +1,6 @@
 //! What is sent.
 ghost use Rattle.std.specs.Prelude.{◌≡◌, IfOk};
-ghost use Rattle.keep_onlook.specs.Answers.{answer_of, headed, sent_to, whole};
+ghost use Rattle.keep_onlook.specs.Answers.{IsAnswer, headed, sent_to, whole_answer};
 
 use crate::asked::{Method, Question};
 use crate::board::Board;
@@ -20,9 +20,9 @@ pub struct Answer {
 /// `GET` and `HEAD` of `/metrics`, `/health` and `/status` are answered with 200, and a health that is not good with 503; `HEAD` gets the
 /// head alone, which is the same. Any other path is 404, another method of these three 405, bytes that are no head 400, and a head that is
 /// too long 431. The only error is out of memory.
-#[tactic(auto, unfolding(crate::specs::Answers::answer_of))]
+#[tactic(auto, unfolding(crate::specs::Answers::IsAnswer))]
 pub fn answer_to(alloc: Global, board: &Board, question: Question) -> Result<Answer, AllocError>
-    ensures { IfOk result (λ answer. answer ≡ answer_of board.now question) }
+    ensures { IfOk result (λ answer. IsAnswer board.now question answer) }
 {
     match question {
         Question::Read(method, page) => {
@@ -45,7 +45,7 @@ fn sent_to(alloc: Global, method: Method, shown: Shown) -> Result<Answer, AllocE
 
 /// The head and the body.
 fn whole(alloc: Global, shown: Shown) -> Result<Answer, AllocError>
-    ensures { IfOk result (λ answer. answer ≡ whole shown) }
+    ensures { IfOk result (λ answer. answer ≡ whole_answer shown) }
 {
     let head = shown.head(alloc)?;
     Ok(Answer {

@@ -1,7 +1,7 @@
 //! What the first bytes of an onlooker ask for.
 ghost use Rattle.std.specs.Prelude.{◌≡◌, length};
 ghost use Rattle.keep_onlook.specs.Accept.{takes_fields};
-ghost use Rattle.keep_onlook.specs.Questions.{Asks, IsAsked, IsFront, format_of, method_of, page_at, page_of, path_of};
+ghost use Rattle.keep_onlook.specs.Questions.{AsksForPage, BytesAsk, IsHeadFront, format_of, method_of, page_at, page_of, path_of};
 
 use crate::accept::{front, takes_open_metrics};
 use crate::family::Format;
@@ -60,7 +60,7 @@ pub enum Asked {
 
 /// What the bytes that an onlooker has sent so far ask for. A body is not looked at.
 pub fn read_question(bytes: &[u8]) -> Asked
-    ensures { IsAsked bytes.now result }
+    ensures { BytesAsk bytes.now result }
 {
     match read_front(front(bytes, HEAD_MAX)) {
         Front::Open if bytes.len() >= HEAD_MAX => Asked::Whole(Question::TooLong),
@@ -79,7 +79,7 @@ enum Front {
 }
 
 fn read_front(bytes: &[u8]) -> Front
-    ensures { IsFront bytes.now result }
+    ensures { IsHeadFront bytes.now result }
 {
     let mut headers = [EMPTY_HEADER_SPAN; FIELDS_MAX];
     match parse_request(bytes, &mut headers) {

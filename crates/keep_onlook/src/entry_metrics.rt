@@ -1,6 +1,6 @@
 //! The figures of each entry, and all figures.
 ghost use Rattle.std.specs.Prelude.{◌≡◌, ◌++◌, IfOk, OnOk};
-ghost use Rattle.keep_onlook.specs.Metrics.{column_text, condition_word, entries_text, is_same, label, labels_of, last_line, metrics_text, moment_sample, result_sample, result_samples, samples_in, samples_of, state_sample, state_samples};
+ghost use Rattle.keep_onlook.specs.Metrics.{column_text, condition_word, entries_text, is_same_condition, label, labels_of, last_line, metrics_text, moment_sample, result_sample, result_samples, samples_in, samples_of, state_sample, state_samples};
 
 use crate::agent_metrics::{one_if, push_agent};
 use crate::board::{Board, Row};
@@ -217,7 +217,7 @@ pub(crate) fn condition_word(condition: Condition) -> &'static str
 }
 
 fn is_same(a: Condition, b: Condition) -> bool
-    ensures { result ≡ is_same a b }
+    ensures { result ≡ is_same_condition a b }
 {
     match a {
         Condition::Gone => matches!(b, Condition::Gone),

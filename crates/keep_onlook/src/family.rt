@@ -1,6 +1,6 @@
 //! Families of samples: the lines that tell of one, and a sample.
 ghost use Rattle.std.specs.Prelude.{◌≡◌, ◌++◌, OnOk};
-ghost use Rattle.keep_onlook.specs.Metrics.{family_head, family_name, help_line, help_of, kind_of, kind_word, name_of, prefix, sample, sample_name, sample_of, total_of, type_line};
+ghost use Rattle.keep_onlook.specs.Metrics.{family_head, family_kind_word, family_name, help_line, help_of, kind_of_family, name_of_family, prefix, sample, sample_name, sample_of, total_of, type_line};
 
 use crate::column::Column;
 use crate::figure::{FamilyKind, Figure};
@@ -27,7 +27,7 @@ pub(crate) enum Family {
 
 impl Family {
     fn kind(self) -> FamilyKind
-        ensures { result ≡ kind_of self }
+        ensures { result ≡ kind_of_family self }
     {
         match self {
             Family::Agent(figure) => figure.kind(),
@@ -36,7 +36,7 @@ impl Family {
     }
 
     fn name(self) -> &'static str
-        ensures { result.now ≡ name_of self }
+        ensures { result.now ≡ name_of_family self }
     {
         match self {
             Family::Agent(figure) => figure.name(),
@@ -138,7 +138,7 @@ fn total_of(kind: FamilyKind) -> &'static str
 }
 
 fn kind_word(kind: FamilyKind) -> &'static str
-    ensures { result.now ≡ kind_word kind }
+    ensures { result.now ≡ family_kind_word kind }
 {
     match kind {
         FamilyKind::Gauge => "gauge",

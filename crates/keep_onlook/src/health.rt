@@ -1,27 +1,13 @@
-//! Whether all that is needed is kept.
-ghost use Rattle.std.specs.Prelude.{◌≡◌, ◌++◌, IfOk, OnOk};
+//! Whether all that is needed is kept, and the line of an entry that is not.
+ghost use Rattle.std.specs.Prelude.{◌≡◌, ◌++◌, List, ℕ, IfOk, OnOk};
 ghost use Rattle.std.specs.List.{list_any};
-ghost use Rattle.keep_onlook.specs.Health.{health_text, is_healthy, is_kept, is_missing, missing_line, missing_lines, needed_text, needed_words, until_text, why_moment, why_text, why_words};
+ghost use Rattle.keep_onlook.specs.Health.{IsMissingLine, IsMissingLineIf, SaysWhyMoment, condition_text, is_healthy, is_kept, is_missing, missing_line, needed_text, needed_words, why_words};
 
 use crate::board::{Board, Row};
+use crate::point::{point_at, point_of, point_text};
 use keep_agent::Condition;
-use keep_moment::LAST;
-use keep_words::push_number;
+use keep_moment::{LAST, Text};
 use std::alloc::{AllocError, Global};
-
-/// A line for each entry that is needed and not kept, or one that says that there is none. The only error is out of memory.
-#[tactic(auto, unfolding(crate::specs::Health::health_text))]
-pub(crate) fn health_text(alloc: Global, board: &Board) -> Result<Vec<u8>, AllocError>
-    ensures { IfOk result (λ text. text.items ≡ health_text board.now) }
-{
-    let mut text = Vec::new(alloc);
-    if is_healthy(board) {
-        text.extend_from_slice(b"every needed entry is kept\n")?;
-    } else {
-        push_missing(alloc, board.broker_now, board.rows.list(), &mut text)?;
-    }
-    Ok(text)
-}
 
 /// Whether every entry that is needed is kept.
 #[tactic(auto, unfolding(crate::specs::Health::is_healthy))]
@@ -55,36 +41,70 @@ fn is_kept(condition: Condition, end: Option<u64>) -> bool
     }
 }
 
-/// Appends a line for each of these entries that is missing.
-fn push_missing(alloc: Global, now: u64, rows: &[Row], text: &mut Vec<u8>) -> Result<(), AllocError>
-    ensures { OnOk result (text.new.items ≡ text.old.items ++ missing_lines now rows.now) }
+/// Appends the line of an entry that is missing at that moment of the broker's clock, and nothing where it is not. The only error is out
+/// of memory, here and in what follows.
+pub(crate) fn push_missing(
+    alloc: Global,
+    now: u64,
+    row: &Row,
+    text: &mut Vec<u8>,
+) -> Result<(), AllocError>
+    ensures { OnOk result ((line : List ℕ) × IsMissingLineIf (is_missing now row.now) row.now line × (text.new.items ≡ text.old.items ++ line)) }
 {
-    for row in rows {
-        if is_missing(now, row) {
-            push_line(alloc, row, text)?;
-        }
+    if is_missing(now, row) {
+        push_missing_line(alloc, row, text)
+    } else {
+        Ok(())
     }
-    Ok(())
 }
 
+fn push_missing_line(alloc: Global, row: &Row, text: &mut Vec<u8>) -> Result<(), AllocError>
+    ensures { OnOk result ((line : List ℕ) × IsMissingLine row.now line × (text.new.items ≡ text.old.items ++ line)) }
+{
+    let why = why_moment(alloc, row.condition, row)?;
+    let need = point_text(alloc, point_at(row.carried))?;
+    push_line(row, why.list(), need.list(), text)
+}
+
+/// The moment that follows why an entry in that state is not kept.
+fn why_moment(alloc: Global, condition: Condition, row: &Row) -> Result<Text, AllocError>
+    ensures { IfOk result (λ why. SaysWhyMoment condition row.now why) }
+{
+    match condition {
+        Condition::Gone | Condition::Trying | Condition::Kept => Text::of(alloc, b""),
+        Condition::Ended => point_text(alloc, point_of(row.end)),
+        Condition::Short => point_text(alloc, point_at(row.in_force)),
+    }
+}
+
+/// Appends the line of an entry, where these are the text of the moment that follows why it is not kept, and that of its need.
 #[tactic(auto, unfolding(crate::specs::Health::missing_line))]
-fn push_line(alloc: Global, row: &Row, text: &mut Vec<u8>) -> Result<(), AllocError>
-    ensures { OnOk result (text.new.items ≡ text.old.items ++ missing_line row.now) }
+fn push_line(row: &Row, why: &[u8], need: &[u8], text: &mut Vec<u8>) -> Result<(), AllocError>
+    ensures { OnOk result (text.new.items ≡ text.old.items ++ missing_line row.now why.now need.now) }
 {
     text.extend_from_slice(row.name.list())?;
     text.extend_from_slice(b" ")?;
-    push_why(alloc, row, text)?;
-    push_needed(alloc, row.carried, text)?;
+    push_why(row, why, text)?;
+    push_needed(row.carried, need, text)?;
     text.extend_from_slice(b"\n")
 }
 
-/// Appends why an entry is not kept.
-#[tactic(auto, unfolding(crate::specs::Health::why_text))]
-fn push_why(alloc: Global, row: &Row, text: &mut Vec<u8>) -> Result<(), AllocError>
-    ensures { OnOk result (text.new.items ≡ text.old.items ++ why_text row.now) }
+/// Appends why an entry is not kept, with the text of the moment that follows.
+#[tactic(auto, unfolding(crate::specs::Health::condition_text))]
+fn push_why(row: &Row, moment: &[u8], text: &mut Vec<u8>) -> Result<(), AllocError>
+    ensures { OnOk result (text.new.items ≡ text.old.items ++ condition_text row.now moment.now) }
 {
     text.extend_from_slice(why_words(row.condition).as_bytes())?;
-    push_why_moment(alloc, row.condition, row, text)
+    text.extend_from_slice(moment)
+}
+
+/// Appends until when an entry is needed, with the text of that moment.
+#[tactic(auto, unfolding(crate::specs::Health::needed_text))]
+fn push_needed(need: u64, moment: &[u8], text: &mut Vec<u8>) -> Result<(), AllocError>
+    ensures { OnOk result (text.new.items ≡ text.old.items ++ needed_text need moment.now) }
+{
+    text.extend_from_slice(needed_words(need).as_bytes())?;
+    text.extend_from_slice(moment)
 }
 
 /// Why an entry is not kept, without the moment that may follow.
@@ -101,45 +121,14 @@ fn why_words(condition: Condition) -> &'static str
     }
 }
 
-/// Appends the moment that follows.
-fn push_why_moment(
-    alloc: Global,
-    condition: Condition,
-    row: &Row,
-    text: &mut Vec<u8>,
-) -> Result<(), AllocError>
-    ensures { OnOk result (text.new.items ≡ text.old.items ++ why_moment condition row.now) }
-{
-    match condition {
-        Condition::Gone | Condition::Trying | Condition::Kept => Ok(()),
-        Condition::Ended => push_number(alloc, row.end.unwrap_or(0), text),
-        Condition::Short => push_number(alloc, row.in_force, text),
-    }
-}
-
-/// Appends until when an entry is needed.
-#[tactic(auto, unfolding(crate::specs::Health::needed_text))]
-fn push_needed(alloc: Global, need: u64, text: &mut Vec<u8>) -> Result<(), AllocError>
-    ensures { OnOk result (text.new.items ≡ text.old.items ++ needed_text need) }
-{
-    text.extend_from_slice(needed_words().as_bytes())?;
-    push_until(alloc, need, text)
-}
-
+/// That an entry is needed, without the moment that follows.
 #[tactic(auto, unfolding(crate::specs::Health::needed_words))]
-fn needed_words() -> &'static str
-    ensures { result.now ≡ needed_words }
-{
-    ", and is needed "
-}
-
-fn push_until(alloc: Global, need: u64, text: &mut Vec<u8>) -> Result<(), AllocError>
-    ensures { OnOk result (text.new.items ≡ text.old.items ++ until_text need) }
+fn needed_words(need: u64) -> &'static str
+    ensures { result.now ≡ needed_words need }
 {
     if need < LAST {
-        text.extend_from_slice(b"until ")?;
-        push_number(alloc, need, text)
+        ", and is needed until "
     } else {
-        text.extend_from_slice(b"always")
+        ", and is needed "
     }
 }

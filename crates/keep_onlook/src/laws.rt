@@ -1,4 +1,5 @@
 ghost use Rattle.std.specs.Prelude.{◌≡◌};
+ghost use Rattle.keep_onlook.specs.Answers.{OneAnswer, OneTold};
 ghost use Rattle.keep_onlook.specs.Board.{NoCredentialShows};
 ghost use Rattle.keep_onlook.specs.declared.asked.TheConstants.{FIELDS_MAX, HEAD_MAX};
 
@@ -11,4 +12,11 @@ pub fn limits_of_onlookers()
 /// The law of secrecy: two agents that differ in credentials and terms alone show the same.
 pub fn no_credential_shows()
     ensures { NoCredentialShows }
+{}
+
+/// The law that a board is told in one way: a question has one answer, and what a client is told of a page is one text. So nothing shows in
+/// them but what is on the board.
+pub fn nothing_else_is_told()
+    ensures answers { OneAnswer }
+    ensures told { OneTold }
 {}

@@ -1,8 +1,9 @@
 //! What onlookers are told of a running agent: metrics, health and status, over HTTP/1.1. It answers from what is known and asks nobody.
 //!
 //! The contract for the layer above: [`board_of`] writes down what an agent shows, without a credential; [`read_question`] says what the first
-//! bytes of an onlooker ask for; and [`answer_to`] gives exactly the bytes that answer it (`specs/Answers`). The metrics are in Prometheus'
-//! text format or in that of OpenMetrics (`specs/Metrics`), the status is JSON (`specs/Listing`). Begin with `board`, then `answer`.
+//! bytes of an onlooker ask for; [`answer_to`] gives exactly the bytes that answer it, and [`told_of`] what a client of the control socket is
+//! told (`specs/Answers`). The metrics are in Prometheus' text format or in that of OpenMetrics (`specs/Metrics`), the status is JSON for
+//! onlookers (`specs/Listing`) and lines for clients (`specs/Lines`), and health is lines for both. Begin with `board`, then `answer`.
 #![tactic(auto)]
 
 mod accept;
@@ -18,12 +19,17 @@ mod figure;
 mod gathering;
 mod health;
 mod laws;
+mod lines;
 mod listing;
+mod point;
 mod shown;
+mod standing;
+mod told;
 
 pub use answer::{Answer, answer_to};
 pub use asked::{Asked, FIELDS_MAX, HEAD_MAX, Method, Page, Question, read_question};
 pub use board::{Board, FileReading, Row, Surroundings};
 pub use family::Format;
 pub use gathering::board_of;
-pub use laws::{limits_of_onlookers, no_credential_shows};
+pub use laws::{limits_of_onlookers, no_credential_shows, nothing_else_is_told};
+pub use told::told_of;

@@ -1,6 +1,6 @@
 //! The status as JSON.
 ghost use Rattle.std.specs.Prelude.{◌≡◌, ◌++◌, IfOk, OnOk};
-ghost use Rattle.keep_onlook.specs.Listing.{entries_name, front_text, kind_word, listing_text, member_name, member_text, moments_text, more_rows, number_or_null, renewals_text, row_text, rows_text, trouble_word, words_text};
+ghost use Rattle.keep_onlook.specs.Listing.{board_row_text, entries_name, front_text, kind_word, listing_text, member_name, member_text, moments_text, more_rows, number_or_null, renewals_text, rows_text, trouble_word, words_text};
 
 use crate::board::{Board, Row};
 use crate::entry_metrics::condition_word;
@@ -107,9 +107,9 @@ fn push_more(alloc: Global, rows: &[Row], text: &mut Vec<u8>) -> Result<(), Allo
 }
 
 /// Appends an entry.
-#[tactic(auto, unfolding(crate::specs::Listing::row_text))]
+#[tactic(auto, unfolding(crate::specs::Listing::board_row_text))]
 fn push_row(alloc: Global, row: &Row, text: &mut Vec<u8>) -> Result<(), AllocError>
-    ensures { OnOk result (text.new.items ≡ text.old.items ++ row_text row.now) }
+    ensures { OnOk result (text.new.items ≡ text.old.items ++ board_row_text row.now) }
 {
     push_words(row, text)?;
     push_moments(alloc, row, text)?;

@@ -1,12 +1,13 @@
 //! What is shown: a status, and what the body is.
 ghost use Rattle.std.specs.Prelude.{◌≡◌, ◌++◌, IfOk, length};
-ghost use Rattle.keep_onlook.specs.Answers.{allow_line, bare, code_words, content_words, head_text, health_code, page_of_board, shown_to};
+ghost use Rattle.keep_onlook.specs.Answers.{IsHealthPage, IsPage, IsShown, allow_line, bare, code_words, content_words, head_text, health_code, shown_well};
 
 use crate::asked::{Method, Page};
 use crate::board::Board;
 use crate::entry_metrics::metrics_text;
 use crate::family::Format;
-use crate::health::{health_text, is_healthy};
+use crate::health::is_healthy;
+use crate::lines::health_text;
 use crate::listing::listing_text;
 use keep_moment::Text;
 use keep_words::push_number;
@@ -124,14 +125,14 @@ pub(crate) fn bare(alloc: Global, code: Code) -> Result<Shown, AllocError>
 }
 
 /// What is shown to whoever asks for a page.
-#[tactic(auto, unfolding(crate::specs::Answers::shown_to))]
+#[tactic(auto, unfolding(crate::specs::Answers::IsShown))]
 pub(crate) fn shown_to(
     alloc: Global,
     board: &Board,
     method: Method,
     page: Page,
 ) -> Result<Shown, AllocError>
-    ensures { IfOk result (λ shown. shown ≡ shown_to board.now method page) }
+    ensures { IfOk result (λ shown. IsShown board.now method page shown) }
 {
     match (method, page) {
         (Method::Get | Method::Head, page) => page_of_board(alloc, board, page),
@@ -142,35 +143,52 @@ pub(crate) fn shown_to(
     }
 }
 
-#[tactic(auto, unfolding(crate::specs::Answers::page_of_board))]
-fn page_of_board(alloc: Global, board: &Board, page: Page) -> Result<Shown, AllocError>
-    ensures { IfOk result (λ shown. shown ≡ page_of_board board.now page) }
+/// A page of a board. The only error is out of memory.
+#[tactic(auto, unfolding(crate::specs::Answers::IsPage))]
+pub(crate) fn page_of_board(alloc: Global, board: &Board, page: Page) -> Result<Shown, AllocError>
+    ensures { IfOk result (λ shown. IsPage board.now page shown) }
 {
-    let (code, content, body) = match page {
+    match page {
         Page::Metrics(Format::Prometheus) => {
             let body = metrics_text(alloc, Format::Prometheus, board)?;
-            (Code::Good, Content::Prometheus, body)
+            Ok(shown_well(Content::Prometheus, body))
         }
         Page::Metrics(Format::OpenMetrics) => {
             let body = metrics_text(alloc, Format::OpenMetrics, board)?;
-            (Code::Good, Content::OpenMetrics, body)
+            Ok(shown_well(Content::OpenMetrics, body))
         }
-        Page::Health => (
-            health_code(board),
-            Content::Plain,
-            health_text(alloc, board)?,
-        ),
-        Page::Listing => (Code::Good, Content::Json, listing_text(alloc, board)?),
-        Page::Nowhere => return bare(alloc, Code::NotFound),
-    };
-    Ok(Shown {
-        code,
+        Page::Health => health_page(alloc, board),
+        Page::Listing => {
+            let body = listing_text(alloc, board)?;
+            Ok(shown_well(Content::Json, body))
+        }
+        Page::Nowhere => bare(alloc, Code::NotFound),
+    }
+}
+
+/// A body with the status 200.
+fn shown_well(content: Content, body: Vec<u8>) -> Shown
+    ensures { result ≡ shown_well content body.items }
+{
+    Shown {
+        code: Code::Good,
         content,
+        body: Text::from_vec(body),
+    }
+}
+
+/// Health, with the status that tells whether all that is needed is kept.
+fn health_page(alloc: Global, board: &Board) -> Result<Shown, AllocError>
+    ensures { IfOk result (λ shown. IsHealthPage board.now shown) }
+{
+    let body = health_text(alloc, board)?;
+    Ok(Shown {
+        code: health_code(board),
+        content: Content::Plain,
         body: Text::from_vec(body),
     })
 }
 
-/// The status that tells whether all that is needed is kept.
 fn health_code(board: &Board) -> Code
     ensures { result ≡ health_code board.now }
 {

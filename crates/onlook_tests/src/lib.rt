@@ -1,5 +1,5 @@
-//! Tests alone, of what onlookers are told: metrics, health and status byte for byte, which text a request takes, and what is answered
-//! to whatever is asked. They stand above the crate, so that it is not proved a second time with them.
+//! Tests alone, of what onlookers are told: metrics, health and status byte for byte, which text a request takes, what is answered
+//! to whatever is asked, and what a client is told. They stand above the crate, so that it is not proved a second time with them.
 #![tactic(auto)]
 
 #[cfg(test)]
@@ -12,3 +12,5 @@ mod gathered;
 mod questions;
 #[cfg(test)]
 mod texts;
+#[cfg(test)]
+mod told;
