@@ -1,8 +1,7 @@
 //! The example of docs/watch.md, line by line.
-use crate::loops::{Play, play_of, said};
+use crate::loops::{Step, plays};
+use crate::scenes::{Scene, bare};
 use keep_house::Form;
-use std::alloc::Global;
-use std::process::Abort;
 use std::test::Fail;
 
 /// Two turns at each moment at which something is asked: the request goes out, and its answer is there at once.
@@ -30,22 +29,20 @@ const OBJECTS: &str =
 {"moment": "1970-01-01T00:17:39Z", "level": "info", "event": "next", "words": ["1118", "web"]}
 "#;
 
-fn played(alloc: Global, form: Form) -> Result<Play<'static>, Fail> {
-    let mut play = play_of(alloc, form, &MOMENTS, Vec::new(alloc))?;
-    play.run(alloc, 4);
-    Ok(play)
-}
+const IN_LINES: [Step; 2] = [Step::Turns(4), Step::Said(LINES)];
 
 #[test]
 fn each_event_is_a_line(rt: HostRuntime) -> Result<(), Fail> {
-    let play = played(rt.alloc(), Form::Text)?;
-    assert!(rt; said(&play) == LINES.as_bytes());
-    Ok(())
+    plays(&rt, &bare(&MOMENTS), &IN_LINES)
 }
+
+const IN_OBJECTS: [Step; 2] = [Step::Turns(4), Step::Said(OBJECTS)];
 
 #[test]
 fn each_event_is_an_object(rt: HostRuntime) -> Result<(), Fail> {
-    let play = played(rt.alloc(), Form::Json)?;
-    assert!(rt; said(&play) == OBJECTS.as_bytes());
-    Ok(())
+    let scene = Scene {
+        form: Form::Json,
+        ..bare(&MOMENTS)
+    };
+    plays(&rt, &scene, &IN_OBJECTS)
 }

@@ -1,9 +1,7 @@
 //! Those who follow the log: what each is told, and that the requests and the log are the same whatever they do.
-use crate::loops::{Play, play_with, said};
-use answering_tests::peers::{Part, Seen, control_with, prompt};
-use keep_house::Form;
-use std::alloc::Global;
-use std::process::Abort;
+use crate::loops::{Step, plays};
+use crate::scenes::client;
+use answering_tests::peers::{Part, prompt};
 use std::test::Fail;
 
 const MOMENTS: [u64; 6] = [
@@ -34,95 +32,72 @@ const FOLLOW: &str = "[\"follow\"]\n";
 
 const FOLLOW_ALERTS: &str = "[\"follow\",\"alerts\"]\n";
 
-/// The loop with one that does this.
-fn with_follower<'a>(alloc: Global, part: Part, seen: &'a Seen) -> Result<Play<'a>, Fail> {
-    let control = control_with(alloc, part, seen)?;
-    let answers = Vec::new(alloc);
-    let mut play = play_with(alloc, Form::Text, &MOMENTS, answers, Some(control), None)?;
-    play.run(alloc, 6);
-    Ok(play)
+/// A follower is sent that, and the log is the same.
+fn told(sent: &'static str) -> [Step; 3] {
+    [Step::Turns(6), Step::WasSent(sent), Step::Said(LINES)]
 }
 
 #[test]
 fn it_is_told_the_lines_from_now_on(rt: HostRuntime) -> Result<(), Fail> {
-    let seen = Seen::new();
-    let play = with_follower(rt.alloc(), prompt(FOLLOW, FOLLOWED), &seen)?;
-    assert!(rt; seen.was_sent(FOLLOWED));
-    assert!(rt; said(&play) == LINES.as_bytes());
-    Ok(())
+    let scene = client(&MOMENTS, prompt(FOLLOW, FOLLOWED));
+    plays(&rt, &scene, &told(FOLLOWED))
 }
 
 #[test]
 fn one_of_alerts_is_told_no_other_lines(rt: HostRuntime) -> Result<(), Fail> {
-    let seen = Seen::new();
-    let play = with_follower(rt.alloc(), prompt(FOLLOW_ALERTS, "ok\n"), &seen)?;
-    assert!(rt; seen.was_sent("ok\n"));
-    assert!(rt; said(&play) == LINES.as_bytes());
-    Ok(())
+    let scene = client(&MOMENTS, prompt(FOLLOW_ALERTS, "ok\n"));
+    plays(&rt, &scene, &told("ok\n"))
 }
 
 #[test]
 fn one_that_does_not_read_changes_nothing(rt: HostRuntime) -> Result<(), Fail> {
-    let seen = Seen::new();
     let part = Part {
         takes: 0,
         ..prompt(FOLLOW, "")
     };
-    let play = with_follower(rt.alloc(), part, &seen)?;
-    assert!(rt; said(&play) == LINES.as_bytes());
-    assert!(rt; seen.was_sent(""));
-    Ok(())
+    plays(&rt, &client(&MOMENTS, part), &told(""))
 }
 
-/// Whether the log is the same where the call with this number fails.
-fn is_as_without(alloc: Global, fails: u64) -> Result<bool, Fail> {
-    let seen = Seen::new();
-    let part = Part {
-        fails,
-        ..prompt(FOLLOW, FOLLOWED)
-    };
-    let play = with_follower(alloc, part, &seen)?;
-    Ok(said(&play) == LINES.as_bytes() && seen.calls() == fails.saturating_add(1))
+/// The log is the same where the call with this number fails, the last one of its connection.
+fn fails_at(call: u64) -> [Step; 3] {
+    [
+        Step::Turns(6),
+        Step::Said(LINES),
+        Step::Calls(call.saturating_add(1)),
+    ]
 }
 
 #[test]
 fn one_whose_call_fails_changes_nothing(rt: HostRuntime) -> Result<(), Fail> {
     for fails in 0..5u64 {
-        assert!(rt; is_as_without(rt.alloc(), fails)?, "{fails}");
+        let part = Part {
+            fails,
+            ..prompt(FOLLOW, FOLLOWED)
+        };
+        plays(&rt, &client(&MOMENTS, part), &fails_at(fails))?;
     }
     Ok(())
 }
 
 const NINTH: &str = "error: 8 clients follow the log already\n";
 
-/// Nine that ask one after the other.
-fn with_nine<'a>(alloc: Global, eight: &'a [Seen; 8], ninth: &'a Seen) -> Result<Play<'a>, Fail> {
-    let mut control = control_with(alloc, prompt(FOLLOW, NINTH), ninth)?;
-    for seen in eight.iter() {
-        control.door.bring(prompt(FOLLOW, FOLLOWED), seen)?;
-    }
-    let answers = Vec::new(alloc);
-    let mut play = play_with(alloc, Form::Text, &MOMENTS, answers, Some(control), None)?;
-    play.run(alloc, 6);
-    Ok(play)
-}
+/// Eight come before the one that is told so.
+const NINE: [Step; 12] = [
+    Step::OtherComes(FOLLOW, FOLLOWED),
+    Step::OtherComes(FOLLOW, FOLLOWED),
+    Step::OtherComes(FOLLOW, FOLLOWED),
+    Step::OtherComes(FOLLOW, FOLLOWED),
+    Step::OtherComes(FOLLOW, FOLLOWED),
+    Step::OtherComes(FOLLOW, FOLLOWED),
+    Step::OtherComes(FOLLOW, FOLLOWED),
+    Step::OtherComes(FOLLOW, FOLLOWED),
+    Step::Turns(6),
+    Step::WasSent(NINTH),
+    Step::OthersWereSent(FOLLOWED),
+    Step::Said(LINES),
+];
 
 #[test]
 fn eight_follow_and_the_ninth_is_told_so(rt: HostRuntime) -> Result<(), Fail> {
-    let eight = [
-        Seen::new(),
-        Seen::new(),
-        Seen::new(),
-        Seen::new(),
-        Seen::new(),
-        Seen::new(),
-        Seen::new(),
-        Seen::new(),
-    ];
-    let ninth = Seen::new();
-    let play = with_nine(rt.alloc(), &eight, &ninth)?;
-    assert!(rt; ninth.was_sent(NINTH));
-    assert!(rt; eight.iter().all(|seen| seen.was_sent(FOLLOWED)));
-    assert!(rt; said(&play) == LINES.as_bytes());
-    Ok(())
+    plays(&rt, &client(&MOMENTS, prompt(FOLLOW, NINTH)), &NINE)
 }

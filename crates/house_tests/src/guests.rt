@@ -1,9 +1,7 @@
 //! Clients of the control socket, and onlookers: what each is sent, and that the requests are the same whatever they do.
-use crate::loops::{Play, play_of, play_with, said};
-use answering_tests::peers::{Part, Seen, control_with, onlookers_with, prompt};
-use keep_house::Form;
-use std::alloc::Global;
-use std::process::Abort;
+use crate::loops::{Step, plays};
+use crate::scenes::{Guest, Scene, bare, client};
+use answering_tests::peers::{Part, prompt};
 use std::test::Fail;
 
 /// At the first moment: one turn in which the request goes out and a guest comes in, one in which its answer comes and the guest
@@ -23,29 +21,16 @@ const LINES: &str = "\
 1970-01-01T00:17:39Z next 1970-01-01T00:18:38Z web
 ";
 
-/// The loop with a client of the control socket.
-fn with_client<'a>(alloc: Global, part: Part, seen: &'a Seen) -> Result<Play<'a>, Fail> {
-    let control = control_with(alloc, part, seen)?;
-    let answers = Vec::new(alloc);
-    let mut play = play_with(alloc, Form::Text, &MOMENTS, answers, Some(control), None)?;
-    play.run(alloc, 6);
-    Ok(play)
-}
-
-/// The loop with an onlooker.
-fn with_onlooker<'a>(alloc: Global, part: Part, seen: &'a Seen) -> Result<Play<'a>, Fail> {
-    let onlookers = onlookers_with(alloc, part, seen)?;
-    let answers = Vec::new(alloc);
-    let mut play = play_with(alloc, Form::Text, &MOMENTS, answers, None, Some(onlookers))?;
-    play.run(alloc, 6);
-    Ok(play)
+/// A guest is sent that, and the log's reader that.
+fn told(sent: &'static str, said: &'static str) -> [Step; 3] {
+    [Step::Turns(6), Step::WasSent(sent), Step::Said(said)]
 }
 
 /// What a client asks for that changes nothing, and what it is sent.
 const ASKED: [(&str, &str); 6] = [
     (
         "[\"status\"]\n",
-        "ok\n{\"now\":1000,\"next_wake\":1059,\"beginnings\":1,\"margin\":1,\"entries\":[{\"name\":\"web\",\"kind\":\"token\",\"state\":\"kept\",\"wrong\":null,\"end\":1060,\"need\":1200,\"carried\":1200,\"in_force\":1200,\"last_success\":null,\"granted\":0,\"refused\":0,\"lost\":0}]}\n",
+        "ok\nnext-wake 1970-01-01T00:17:39Z beginnings 1 margin 1\nweb kept end 1970-01-01T00:17:40Z need 1970-01-01T00:20:00Z in-force 1970-01-01T00:20:00Z last-success - wrong -\n",
     ),
     ("[\"health\"]\n", "ok\nevery needed entry is kept\n"),
     (
@@ -69,10 +54,8 @@ const ASKED: [(&str, &str); 6] = [
 #[test]
 fn a_client_is_answered_and_changes_nothing(rt: HostRuntime) -> Result<(), Fail> {
     for (text, expects) in &ASKED {
-        let seen = Seen::new();
-        let play = with_client(rt.alloc(), prompt(text, expects), &seen)?;
-        assert!(rt; seen.was_sent(expects), "{text}");
-        assert!(rt; said(&play) == LINES.as_bytes(), "{text}");
+        let scene = client(&MOMENTS, prompt(text, expects));
+        plays(&rt, &scene, &told(expects, LINES))?;
     }
     Ok(())
 }
@@ -82,13 +65,17 @@ const HEALTH: &str = "GET /health HTTP/1.1\r\nHost: localhost\r\n\r\n";
 const HEALTHY: &str =
     "HTTP/1.1 200 OK\r\nContent-Type: text/plain; charset=utf-8\r\nContent-Length: 27\r\nConnection: close\r\n\r\nevery needed entry is kept\n";
 
+fn onlooker(part: Part) -> Scene {
+    Scene {
+        guest: Guest::Onlooker(part),
+        ..bare(&MOMENTS)
+    }
+}
+
 #[test]
 fn an_onlooker_is_answered_and_changes_nothing(rt: HostRuntime) -> Result<(), Fail> {
-    let seen = Seen::new();
-    let play = with_onlooker(rt.alloc(), prompt(HEALTH, HEALTHY), &seen)?;
-    assert!(rt; seen.was_sent(HEALTHY));
-    assert!(rt; said(&play) == LINES.as_bytes());
-    Ok(())
+    let scene = onlooker(prompt(HEALTH, HEALTHY));
+    plays(&rt, &scene, &told(HEALTHY, LINES))
 }
 
 const NO_NEED: &str = "ok\nweb has no need\n";
@@ -107,15 +94,8 @@ const NEED_LINES: &str = "\
 
 #[test]
 fn what_a_client_no_longer_needs_is_renewed_no_more(rt: HostRuntime) -> Result<(), Fail> {
-    let seen = Seen::new();
-    let play = with_client(
-        rt.alloc(),
-        prompt("[\"need\",\"web\",\"0\"]\n", NO_NEED),
-        &seen,
-    )?;
-    assert!(rt; seen.was_sent(NO_NEED));
-    assert!(rt; said(&play) == NEED_LINES.as_bytes());
-    Ok(())
+    let scene = client(&MOMENTS, prompt("[\"need\",\"web\",\"0\"]\n", NO_NEED));
+    plays(&rt, &scene, &told(NO_NEED, NEED_LINES))
 }
 
 const ALWAYS_LINES: &str = "\
@@ -130,119 +110,86 @@ const ALWAYS_LINES: &str = "\
 1970-01-01T00:17:39Z next 1970-01-01T00:18:38Z web
 ";
 
+const NEED: &str = "[\"need\",\"web\",\"always\"]\n";
+
 #[test]
 fn a_need_that_lasts_is_said_so(rt: HostRuntime) -> Result<(), Fail> {
-    let seen = Seen::new();
-    let play = with_client(
-        rt.alloc(),
-        prompt("[\"need\",\"web\",\"always\"]\n", ALWAYS),
-        &seen,
-    )?;
-    assert!(rt; seen.was_sent(ALWAYS));
-    assert!(rt; said(&play) == ALWAYS_LINES.as_bytes());
-    Ok(())
+    let scene = client(&MOMENTS, prompt(NEED, ALWAYS));
+    plays(&rt, &scene, &told(ALWAYS, ALWAYS_LINES))
 }
 
-/// The loop with two clients of the control socket that ask the same.
-fn with_two_clients<'a>(alloc: Global, part: Part, seen: &'a [Seen; 2]) -> Result<Play<'a>, Fail> {
-    let mut control = control_with(alloc, part, &seen[0])?;
-    control.door.bring(part, &seen[1])?;
-    let answers = Vec::new(alloc);
-    let mut play = play_with(alloc, Form::Text, &MOMENTS, answers, Some(control), None)?;
-    play.run(alloc, 6);
-    Ok(play)
-}
+/// Two clients that ask the same.
+const BOTH: [Step; 4] = [
+    Step::OtherComes(NEED, ALWAYS),
+    Step::Turns(6),
+    Step::WasSent(ALWAYS),
+    Step::OthersWereSent(ALWAYS),
+];
 
 #[test]
 fn two_clients_that_need_are_both_told(rt: HostRuntime) -> Result<(), Fail> {
-    let seen = [Seen::new(), Seen::new()];
-    let need = prompt("[\"need\",\"web\",\"always\"]\n", ALWAYS);
-    let _play = with_two_clients(rt.alloc(), need, &seen)?;
-    assert!(rt; seen[0].was_sent(ALWAYS) && seen[1].was_sent(ALWAYS));
-    Ok(())
+    plays(&rt, &client(&MOMENTS, prompt(NEED, ALWAYS)), &BOTH)
 }
 
-/// Whether the lines are the same where the call with this number fails of a client that asks this.
-fn is_as_without(alloc: Global, text: &'static str, fails: u64) -> Result<bool, Fail> {
-    let seen = Seen::new();
-    let part = Part {
-        fails,
-        ..prompt(text, "")
-    };
-    let play = with_client(alloc, part, &seen)?;
-    Ok(said(&play) == LINES.as_bytes() && seen.calls() == fails.saturating_add(1))
+/// The lines are the same where the call with this number fails, the last one of its connection.
+fn fails_at(call: u64) -> [Step; 3] {
+    [
+        Step::Turns(6),
+        Step::Said(LINES),
+        Step::Calls(call.saturating_add(1)),
+    ]
 }
+
+const STATUS: &str = "[\"status\"]\n";
 
 #[test]
 fn a_client_whose_call_fails_changes_nothing(rt: HostRuntime) -> Result<(), Fail> {
     for fails in 0..2u64 {
-        assert!(rt; is_as_without(rt.alloc(), "[\"status\"]\n", fails)?);
+        let part = Part {
+            fails,
+            ..prompt(STATUS, "")
+        };
+        plays(&rt, &client(&MOMENTS, part), &fails_at(fails))?;
     }
     Ok(())
-}
-
-/// Whether the lines are the same where the call with this number fails of an onlooker.
-fn is_as_unseen(alloc: Global, fails: u64) -> Result<bool, Fail> {
-    let seen = Seen::new();
-    let part = Part {
-        fails,
-        ..prompt(HEALTH, "")
-    };
-    let play = with_onlooker(alloc, part, &seen)?;
-    Ok(said(&play) == LINES.as_bytes() && seen.calls() == fails.saturating_add(1))
 }
 
 #[test]
 fn an_onlooker_whose_call_fails_changes_nothing(rt: HostRuntime) -> Result<(), Fail> {
     for fails in 0..2u64 {
-        assert!(rt; is_as_unseen(rt.alloc(), fails)?);
+        let part = Part {
+            fails,
+            ..prompt(HEALTH, "")
+        };
+        plays(&rt, &onlooker(part), &fails_at(fails))?;
     }
     Ok(())
 }
 
 #[test]
 fn one_that_sends_a_byte_a_turn_changes_nothing(rt: HostRuntime) -> Result<(), Fail> {
-    let seen = Seen::new();
     let part = Part {
         piece: 1,
-        ..prompt("[\"status\"]\n", "")
+        ..prompt(STATUS, "")
     };
-    let play = with_client(rt.alloc(), part, &seen)?;
-    assert!(rt; said(&play) == LINES.as_bytes());
-    assert!(rt; seen.was_sent(""));
-    Ok(())
+    plays(&rt, &client(&MOMENTS, part), &told("", LINES))
 }
 
 #[test]
 fn one_that_does_not_read_changes_nothing(rt: HostRuntime) -> Result<(), Fail> {
-    let seen = Seen::new();
     let part = Part {
         takes: 0,
-        ..prompt("[\"status\"]\n", "")
+        ..prompt(STATUS, "")
     };
-    let play = with_client(rt.alloc(), part, &seen)?;
-    assert!(rt; said(&play) == LINES.as_bytes());
-    assert!(rt; seen.was_sent(""));
-    Ok(())
+    plays(&rt, &client(&MOMENTS, part), &told("", LINES))
 }
 
 const NO_SOCKET: &str =
     "1970-01-01T00:16:40Z alert: socket ./control.sock cannot be used (Permission denied): no command can be given\n";
 
+const SOCKET_LOST: [Step; 2] = [Step::NoSocket, Step::Waits(NO_SOCKET)];
+
 #[test]
 fn a_socket_that_cannot_be_had_is_an_alert(rt: HostRuntime) -> Result<(), Fail> {
-    let alloc = rt.alloc();
-    let mut play = play_of(alloc, Form::Text, &MOMENTS, Vec::new(alloc))?;
-    play.house.desk.hear_no_socket(
-        alloc,
-        keep_clock::Reading {
-            wall: 1_000_000,
-            elapsed: 1_000_000,
-        },
-        b"./control.sock",
-        b"Permission denied",
-        b"no command can be given",
-    );
-    assert!(rt; play.house.desk.room().waiting() == NO_SOCKET.as_bytes());
-    Ok(())
+    plays(&rt, &bare(&MOMENTS), &SOCKET_LOST)
 }

@@ -1,13 +1,7 @@
 //! Clients that change something where changes are kept: what each is told, what the log says, and the rebuilding after it.
-ghost use Rattle.std.specs.Prelude.{IfOk};
-ghost use Rattle.keep_serving.specs.Held.{IsInStep};
-
-use crate::loops::{Kept, Play, WEB, play_keeping, said};
-use crate::notebooks::notebook_over;
-use answering_tests::peers::{Seen, control_with, prompt};
-use keep_house::Form;
-use std::alloc::Global;
-use std::process::Abort;
+use crate::loops::{Step, plays};
+use crate::scenes::{Kept, Scene, client};
+use answering_tests::peers::prompt;
 use std::test::Fail;
 
 /// As for other guests, and five seconds after a change.
@@ -27,52 +21,19 @@ const LATER: &str =
     "[[token]]\nname = \"app\"\nissued = 1000\nend = 1060\nincrement = 60\nneed = 1200\n";
 
 /// A client's line, what it is sent, and what the log says of it at that moment.
-#[derive(Clone, Copy, Debug)]
+#[derive(Clone, Copy)]
 struct Asked {
     line: &'static str,
     sent: &'static str,
     logged: &'static str,
 }
 
-/// A loop of four turns with a client, over what keeps changes and refuses them for this reason.
-fn with_state<'a>(
-    alloc: Global,
-    asked: Asked,
-    refuses: Option<&'static str>,
-    seen: &'a Seen,
-) -> Result<Play<'a>, Fail>
-    ensures { IfOk result (λ play. IsInStep play.lanes.width play.lanes.out play.serving) }
-{
-    let control = control_with(alloc, prompt(asked.line, asked.sent), seen)?;
-    let answers = Vec::new(alloc);
-    let mut state = notebook_over(alloc, WEB, LATER)?;
-    state.refuses = refuses;
-    let kept = Kept {
-        state: Some(state),
-        ends: None,
-    };
-    let mut play = play_keeping(
-        alloc,
-        Form::Text,
-        &MOMENTS,
-        answers,
-        Some(control),
-        None,
-        kept,
-    )?;
-    play.run(alloc, 4);
-    Ok(play)
-}
-
-/// Whether the client was sent that, and the log says that and nothing else.
-fn is_so(alloc: Global, asked: Asked, refuses: Option<&'static str>) -> Result<bool, Fail> {
-    let seen = Seen::new();
-    let play = with_state(alloc, asked, refuses, &seen)?;
-    let logged = match said(&play).strip_prefix(BEGIN.as_bytes()) {
-        Some(logged) => logged,
-        None => return Ok(false),
-    };
-    Ok(seen.was_sent(asked.sent) && logged == asked.logged.as_bytes())
+/// A client that sends this line, where changes are kept.
+fn keeping(asked: &Asked) -> Scene {
+    Scene {
+        kept: Kept::Changes(LATER),
+        ..client(&MOMENTS, prompt(asked.line, asked.sent))
+    }
 }
 
 const CHANGES: [Asked; 7] = [
@@ -113,10 +74,19 @@ const CHANGES: [Asked; 7] = [
     },
 ];
 
+/// The client is sent that, and the log says that and nothing else.
+fn told(asked: &Asked) -> [Step; 3] {
+    [
+        Step::Turns(4),
+        Step::WasSent(asked.sent),
+        Step::SaidAfter(BEGIN, asked.logged),
+    ]
+}
+
 #[test]
 fn a_change_is_told_and_logged(rt: HostRuntime) -> Result<(), Fail> {
     for asked in &CHANGES {
-        assert!(rt; is_so(rt.alloc(), *asked, None)?, "{}", asked.line);
+        plays(&rt, &keeping(asked), &told(asked))?;
     }
     Ok(())
 }
@@ -151,54 +121,40 @@ const REFUSED: [Asked; 5] = [
     },
 ];
 
+/// The same where it is refused.
+fn refused(asked: &Asked) -> [Step; 4] {
+    [
+        Step::Refuses("it cannot be kept: no space is left"),
+        Step::Turns(4),
+        Step::WasSent(asked.sent),
+        Step::SaidAfter(BEGIN, asked.logged),
+    ]
+}
+
 #[test]
 fn a_change_that_is_not_kept_is_refused(rt: HostRuntime) -> Result<(), Fail> {
-    let why = Some("it cannot be kept: no space is left");
     for asked in &REFUSED {
-        assert!(rt; is_so(rt.alloc(), *asked, why)?, "{}", asked.line);
+        plays(&rt, &keeping(asked), &refused(asked))?;
     }
     Ok(())
 }
 
-const REPLACE: Asked = Asked {
+const DROPS: Asked = Asked {
     line: "[\"drop\",\"web\"]\n",
     sent: "ok\nweb is no longer kept, and ends at 1970-01-01T00:17:40Z\n",
     logged: "",
 };
 
+const LATER_ON: [Step; 6] = [
+    Step::Turns(4),
+    Step::Serves(b"web", true),
+    Step::Turns(1),
+    Step::Serves(b"web", false),
+    Step::Serves(b"app", true),
+    Step::NoChangeWaits,
+];
+
 #[test]
 fn five_seconds_after_a_change_another_inventory_is_served(rt: HostRuntime) -> Result<(), Fail> {
-    let seen = Seen::new();
-    let mut play = with_state(rt.alloc(), REPLACE, None, &seen)?;
-    assert!(rt;
-        play.serving
-            .agent()
-            .inventory()
-            .forest()
-            .find(b"web")
-            .is_some()
-    );
-    play.run(rt.alloc(), 1);
-    assert!(rt;
-        play.serving
-            .agent()
-            .inventory()
-            .forest()
-            .find(b"web")
-            .is_none()
-    );
-    assert!(rt;
-        play.serving
-            .agent()
-            .inventory()
-            .forest()
-            .find(b"app")
-            .is_some()
-    );
-    let since = match &play.house.state {
-        None => Some(0),
-        Some(state) => state.since,
-    };
-    assert!(rt; since.is_none());
-    Ok(())
+    plays(&rt, &keeping(&DROPS), &LATER_ON)
 }

@@ -2,9 +2,12 @@
 ghost use Rattle.std.specs.Prelude.{codes};
 
 use keep_change::{Row, Rows, What};
-use keep_house::{Keeping, Reread};
+use keep_clock::Reading;
+use keep_house::{Keeping, LookedUp, Reread};
 use keep_inventory::{Inventory, read, read_served};
 use keep_moment::Text;
+use keep_proving::Verdict;
+use keep_secrets::Looked;
 use std::alloc::{AllocError, Global};
 use std::test::Fail;
 
@@ -17,6 +20,12 @@ pub(crate) struct Notebook {
     /// The text of the inventory that is served from a moment on, where a change waits.
     pub(crate) serves: &'static str,
     pub(crate) since: Option<u64>,
+    /// What the broker says of a credential that is looked up, where one is looked up before it is taken; and after how many questions
+    /// for it.
+    pub(crate) says: Option<Verdict>,
+    pub(crate) after: u32,
+    /// How often it is still asked for, while one is looked up.
+    pub(crate) left: Option<u32>,
 }
 
 /// A notebook over the inventory of this text, which serves that one after a change.
@@ -31,6 +40,9 @@ pub(crate) fn notebook_over(
         refuses: None,
         serves,
         since: None,
+        says: None,
+        after: 0,
+        left: None,
     })
 }
 
@@ -75,6 +87,37 @@ impl Keeping for Notebook {
         }
     }
 
+    fn look_up(
+        &mut self,
+        _alloc: Global,
+        _now: Reading,
+        name: &[u8],
+        what: &What,
+    ) -> Result<LookedUp, AllocError> {
+        if self.says.is_none() || self.rows.refusal(20, name, what).is_some() {
+            return Ok(LookedUp::Nothing);
+        }
+        if self.left.is_some() {
+            return Ok(LookedUp::Later);
+        }
+        self.left = Some(self.after);
+        Ok(LookedUp::Out)
+    }
+
+    fn prove(&mut self, _alloc: Global, _now: u64) -> Result<Option<Verdict>, AllocError> {
+        match self.left {
+            None => Ok(None),
+            Some(0) => {
+                self.left = None;
+                Ok(self.says)
+            }
+            Some(left) => {
+                self.left = Some(left - 1);
+                Ok(None)
+            }
+        }
+    }
+
     fn settle(&mut self, alloc: Global) -> Result<(), Option<Text>> {
         self.answer(alloc)
     }
@@ -114,6 +157,14 @@ impl Keeping for Notebook {
                 }
             }
             _ => Ok(None),
+        }
+    }
+
+    fn look(&mut self, _alloc: Global, _now: Reading) -> Looked {
+        Looked {
+            news: None,
+            goes_on: false,
+            is_enough: true,
         }
     }
 

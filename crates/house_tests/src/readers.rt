@@ -1,9 +1,7 @@
 //! Readers of the log that do not read, or are away.
-use crate::loops::{Play, play_of, said};
-use keep_house::Form;
+use crate::loops::{Step, plays};
+use crate::scenes::{Scene, bare};
 use keep_log::Answer;
-use std::alloc::Global;
-use std::process::Abort;
 use std::test::Fail;
 
 const MOMENTS: [u64; 2] = [1_000_000, 1_000_000];
@@ -15,27 +13,24 @@ const FIRST: &str = "\
 1970-01-01T00:16:40Z next 1970-01-01T00:17:39Z web
 ";
 
-/// Two turns with a reader that gives this answer first.
-fn played(alloc: Global, answer: Answer) -> Result<Play<'static>, Fail> {
-    let mut answers = Vec::new(alloc);
-    answers.push(answer)?;
-    let mut play = play_of(alloc, Form::Text, &MOMENTS, answers)?;
-    play.run(alloc, 2);
-    Ok(play)
+/// A reader that gives this answer first.
+fn answering(answer: Answer) -> Scene {
+    Scene {
+        answer: Some(answer),
+        ..bare(&MOMENTS)
+    }
 }
+
+const WHOLE: [Step; 2] = [Step::Turns(2), Step::Said(FIRST)];
 
 #[test]
 fn what_waits_comes_later_and_in_order(rt: HostRuntime) -> Result<(), Fail> {
-    let play = played(rt.alloc(), Answer::Waits)?;
-    assert!(rt; said(&play) == FIRST.as_bytes());
-    Ok(())
+    plays(&rt, &answering(Answer::Waits), &WHOLE)
 }
 
 #[test]
 fn a_piece_that_was_taken_is_not_given_again(rt: HostRuntime) -> Result<(), Fail> {
-    let play = played(rt.alloc(), Answer::Takes(7))?;
-    assert!(rt; said(&play) == FIRST.as_bytes());
-    Ok(())
+    plays(&rt, &answering(Answer::Takes(7)), &WHOLE)
 }
 
 /// The first two lines are dropped where the reader fails, and the next one tells of them.
@@ -45,10 +40,9 @@ const LATER: &str = "\
 1970-01-01T00:16:40Z next 1970-01-01T00:17:39Z web
 ";
 
+const MISSED: [Step; 3] = [Step::Turns(2), Step::Said(LATER), Step::Dropped(2)];
+
 #[test]
 fn what_a_reader_missed_is_counted(rt: HostRuntime) -> Result<(), Fail> {
-    let play = played(rt.alloc(), Answer::Fails)?;
-    assert!(rt; said(&play) == LATER.as_bytes());
-    assert!(rt; play.house.desk.room().dropped() == 2);
-    Ok(())
+    plays(&rt, &answering(Answer::Fails), &MISSED)
 }

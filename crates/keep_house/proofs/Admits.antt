@@ -3,11 +3,11 @@ use Rattle.std.proofs.Common.{◌≡◌, ◌<◌, ◌≤◌, ℕ, Bool, Option, 
 use Rattle.std.specs.Prelude.{codes}
 use Rattle.keep_answering.specs.declared.control.Control.{Control}
 use Rattle.keep_clock.specs.declared.reading.Reading.{Reading}
-use Rattle.keep_house.specs.Admitting.{AdmitsIf, FollowsLog, IsAdmitted, IsFollowed, asking_in}
+use Rattle.keep_house.specs.Admitting.{AdmitsIf, AnswerBeginsWith, FollowsLog, IsAdmitted, asking_in}
 use Rattle.keep_house.specs.Houses.{WillTell}
 use Rattle.keep_house.specs.Keeping.{Why}
 use Rattle.keep_house.specs.Rooms.{with_follower}
-use Rattle.keep_house.specs.declared.following.TheConstants.{MOST_FOLLOWERS}
+use Rattle.keep_house.specs.declared.follow_command.TheConstants.{MOST_FOLLOWERS}
 use Rattle.keep_house.specs.declared.house.House.{House}
 
 module _ {S T D K E : Type 0} (now : Reading) (alerts : Bool) (old mid new : House S T D K E) where

@@ -5,22 +5,22 @@ use Rattle.keep_agent.specs.Agent.{Agent}
 use Rattle.keep_answering.specs.declared.control.Control.{Control}
 use Rattle.keep_answering.specs.declared.onlookers.Onlookers.{Onlookers}
 use Rattle.keep_answering.specs.declared.went.Went.{Went}
-use Rattle.keep_clients.specs.Doors.{Log}
+use Rattle.keep_clients.specs.Doors.{DoorLog}
 use Rattle.keep_clients.specs.declared.talk.Call.{Call}
 use Rattle.keep_clock.specs.declared.reading.Reading.{Reading}
 use Rattle.keep_log.specs.declared.writing.TheConstants.{MOST_TRIES}
 use Rattle.keep_onlook.specs.declared.board.Surroundings.{Surroundings}
-use Rattle.keep_house.specs.Desks.{Desk, HearsWant, IsGiven}
+use Rattle.keep_house.specs.Desks.{Desk, HearsWant, ReaderIsGiven}
 use Rattle.keep_house.specs.Feeding.{FollowersGoOn}
 use Rattle.keep_house.specs.Houses.{Attends, ClientsGoOn, OnlookersGoOn, around_of}
 use Rattle.keep_house.specs.Lines.{second_of}
 use Rattle.keep_house.specs.declared.house.House.{House}
 use Rattle.keep_house.proofs.Deciding.{follows_by, hears_by}
 
-module _ {S T D K E : Type 0} (given : S → Option (List ℕ)) (failures tries : S → ℕ) (remaining written : T → Option (List ℕ)) (calls : T → Option (List Call)) (log : D → Option (Log T)) where
+module _ {S T D K E : Type 0} (given : S → Option (List ℕ)) (failures tries : S → ℕ) (remaining written : T → Option (List ℕ)) (calls : T → Option (List Call)) (log : D → Option (DoorLog T)) where
   pub attended : (agent : Agent) (now : Reading) (is_more goes_on enough : Bool) (shown answered : Went) (old mid fed : House S T D K E) (around : Surroundings)
       (onlookers : Option (Onlookers T D)) (control : Option (Control T D)) (desk : Desk)
-      → IsGiven old.desk.form (second_of now.wall) old.desk.room.log mid.desk.room.log (given old.sink) (given mid.sink) (failures old.sink) (failures mid.sink) is_more
+      → ReaderIsGiven old.desk.form (second_of now.wall) old.desk.room.log mid.desk.room.log (given old.sink) (given mid.sink) (failures old.sink) (failures mid.sink) is_more
       → tries mid.sink ≤ tries old.sink + MOST_TRIES
       → mid ≡ record old { desk = record old.desk { room = record old.desk.room { log = mid.desk.room.log } }; sink = mid.sink }
       → FollowersGoOn mid.desk.form (second_of now.wall) mid.desk.room fed.desk.room mid.control fed.control
@@ -36,7 +36,7 @@ module _ {S T D K E : Type 0} (given : S → Option (List ℕ)) (failures tries 
       around_is ∙ ap (λ n. around_of n fed.file fed.desk.room.log.dropped now.wall) (ap (λ h. h.next) second ∙ ap (λ h. h.next) first)
       ∙ ap (λ f. around_of old.next f fed.desk.room.log.dropped now.wall) (ap (λ h. h.file) second ∙ ap (λ h. h.file) first) in
       let at_desk : fed.desk ≡ record old.desk { room = fed.desk.room } = ap (λ h. h.desk) second ∙ ap (λ h. record h.desk { room = fed.desk.room }) first in
-      let given_there = subst (λ s. IsGiven old.desk.form (second_of now.wall) old.desk.room.log mid.desk.room.log (given old.sink) (given s) (failures old.sink) (failures s) is_more) (sym sink) gives in
+      let given_there = subst (λ s. ReaderIsGiven old.desk.form (second_of now.wall) old.desk.room.log mid.desk.room.log (given old.sink) (given s) (failures old.sink) (failures s) is_more) (sym sink) gives in
       let few_there = subst (λ s. tries s ≤ tries old.sink + MOST_TRIES) (sym sink) few in
       record {
         room = mid.desk.room.log;

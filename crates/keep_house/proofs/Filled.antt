@@ -2,13 +2,13 @@
 use Rattle.std.proofs.Common.{◌≡◌, ◌∙◌, ◌⊎◌, ℕ, ◌+◌, List, [], ◌∷◌, ◌++◌, Option, Some, None, Ok, Err, IsErr, IsErrAnd, IfErr, IsUtf8, Result, false, true, ap, append-nil, append_assoc, drop, inl, inr, refl, subst, sym, ⊎_elim}
 use Rattle.std.proofs.lemmas.Bool.{false_from_ne_true}
 use Rattle.std.proofs.lemmas.Str.{IsUtf8-from_is_utf8}
-use Rattle.std.proofs.lemmas.Str.Ascii.{trim_ascii_is}
-use Rattle.std.specs.Str.{IsTrimAscii, is_utf8}
+use Rattle.std.specs.Str.{is_utf8}
 use Rattle.keep_change.specs.declared.row.Row.{Row}
 use Rattle.keep_device.specs.declared.fault.InputFault.TheVariants as inputs
-use Rattle.keep_files.specs.Files.{Files, IsRead}
-use Rattle.keep_house.specs.Filling.{AreFilled, CannotFill, Fills, FillsFrom, FirstUnfilled, Wants, placed, stripped}
-use Rattle.keep_house.specs.declared.filling.TheConstants.{MOST_SECRET}
+use Rattle.keep_files.specs.Files.{FileIsRead, Files}
+use Rattle.keep_secrets.specs.Credentials.{placed}
+use Rattle.keep_secrets.specs.declared.credential.TheConstants.{MOST_SECRET}
+use Rattle.keep_house.specs.Filling.{AreFilled, CannotFill, FillingFails, FillsFrom, FillsRow, FirstUnfilled}
 use Rattle.keep_house.specs.declared.fault.StartFault.{StartFault}
 use Rattle.keep_house.specs.declared.fault.StartFault.TheVariants as faults
 
@@ -17,23 +17,20 @@ use Rattle.keep_house.specs.declared.fault.StartFault.TheVariants as faults
 pub not_utf8 : (path : List ℕ) → (IsUtf8 path → ⊥) → is_utf8 path ≡ false
 not_utf8 path fails = false_from_ne_true _ (λ (is : is_utf8 path ≡ true). fails (IsUtf8-from_is_utf8 path is))
 
-pub stripped_is : (text rest : List ℕ) → IsTrimAscii text rest → rest ≡ stripped text
-stripped_is text rest is = trim_ascii_is text rest _ refl is
-
 -- ---- what files say
 
-pub fills_as : (k other : Files) (folder : List ℕ) (r f : Row) → ((p : List ℕ) → k p ≡ other p) → Fills k folder r f → Fills other folder r f
-unfolding Fills
+pub fills_as : (k other : Files) (folder : List ℕ) (r f : Row) → ((p : List ℕ) → k p ≡ other p) → FillsRow k folder r f → FillsRow other folder r f
+unfolding FillsRow
 fills_as k other folder r f same = from r.file where
   from : (file : Option (List ℕ)) → FillsFrom k folder r f file → FillsFrom other folder r f file
   from None h = h
   from (Some path) h =
-      (h.0, ((h.1.0.0, (subst (λ o. IsRead o MOST_SECRET (Ok h.1.0.0)) (same (placed folder path)) h.1.0.1.0, h.1.0.1.1)), h.1.1))
+      (h.0, ((h.1.0.0, (subst (λ o. FileIsRead o MOST_SECRET (Ok h.1.0.0)) (same (placed folder path)) h.1.0.1.0, h.1.0.1.1)), h.1.1))
 
-wants_as : (k other : Files) (path : List ℕ) (i : ℕ) (fault : StartFault) → ((p : List ℕ) → k p ≡ other p) → Wants k path i fault → Wants other path i fault
-wants_as k other path i (faults.NoFile j) same h = (h.0, ⊎_elim (λ untold. inl untold) (λ read. inr (subst (λ o. IsRead o MOST_SECRET (Err inputs.ReadFailed)) (same path) read)) h.1)
+wants_as : (k other : Files) (path : List ℕ) (i : ℕ) (fault : StartFault) → ((p : List ℕ) → k p ≡ other p) → FillingFails k path i fault → FillingFails other path i fault
+wants_as k other path i (faults.NoFile j) same h = (h.0, ⊎_elim (λ untold. inl untold) (λ read. inr (subst (λ o. FileIsRead o MOST_SECRET (Err inputs.ReadFailed)) (same path) read)) h.1)
 wants_as k other path i (faults.NoSecret j) same h =
-    (h.0, ⊎_elim (λ long. inl (subst (λ o. IsRead o MOST_SECRET (Err inputs.TooLong)) (same path) long)) (λ read. inr (read.0, (subst (λ o. IsRead o MOST_SECRET (Ok read.0)) (same path) read.1.0, read.1.1))) h.1)
+    (h.0, ⊎_elim (λ long. inl (subst (λ o. FileIsRead o MOST_SECRET (Err inputs.TooLong)) (same path) long)) (λ read. inr (read.0, (subst (λ o. FileIsRead o MOST_SECRET (Ok read.0)) (same path) read.1.0, read.1.1))) h.1)
 wants_as k other path i (faults.Inventory why) same h = absurd h
 wants_as k other path i faults.NoMargin same h = absurd h
 wants_as k other path i faults.SmallMargin same h = absurd h
@@ -56,7 +53,7 @@ pub record FilledSoFar (k now : Files) (folder : List ℕ) (rows done : List Row
 pub filled_none : (k : Files) (folder : List ℕ) (rows done : List Row) → done ≡ [] → FilledSoFar k k folder rows done 0
 filled_none k folder rows done none = subst (λ (fs : List Row). FilledSoFar k k folder rows fs 0) (sym none) (record { all = λ later are. are; first = λ fault is. is; same = λ path. refl })
 
-pub filled_more : (k now after : Files) (folder : List ℕ) (rows done : List Row) (i : ℕ) (r f : Row) → FilledSoFar k now folder rows done i → drop i rows ≡ r ∷ drop (i + 1) rows → Fills now folder r f →
+pub filled_more : (k now after : Files) (folder : List ℕ) (rows done : List Row) (i : ℕ) (r f : Row) → FilledSoFar k now folder rows done i → drop i rows ≡ r ∷ drop (i + 1) rows → FillsRow now folder r f →
     ((path : List ℕ) → after path ≡ now path) → FilledSoFar k after folder rows (done ++ f ∷ []) (i + 1)
 filled_more k now after folder rows done i r f so here fills same = let filled = fills_as now k folder r f so.same fills in record {
   all = λ later are.

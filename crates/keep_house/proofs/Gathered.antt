@@ -1,16 +1,16 @@
 -- Gathered: what files hold, one after another, and that it is taken. For `gather` and `fill_state`.
-use Rattle.std.proofs.Common.{◌≡◌, ◌∙◌, ◌⊎◌, ℕ, List, [], ◌∷◌, ◌++◌, Option, Some, Ok, inl, inr, refl, slice_index_or, subst, sym}
+use Rattle.std.proofs.Common.{◌≡◌, ◌∙◌, ◌⊎◌, ℕ, List, [], ◌∷◌, ◌++◌, Option, Some, Ok, inl, inr, refl, subst, sym}
 use Rattle.std.proofs.lemmas.List.Elements.{All-nil, All-push}
 use Rattle.std.specs.List.{All}
 use Rattle.std.specs.Prelude.{slice_get}
 use Rattle.keep_change.specs.declared.row.Row.{Row}
-use Rattle.keep_files.specs.Files.{Files, IsRead}
+use Rattle.keep_files.specs.Files.{FileIsRead, Files}
 use Rattle.keep_state.specs.States.{Kept, book_in}
 use Rattle.keep_store.specs.declared.secret.Secret.{Secret}
 use Rattle.keep_house.specs.Ledgers.{FilledWith, IsFilledOn}
-use Rattle.keep_house.specs.Filling.{placed}
+use Rattle.keep_secrets.specs.Credentials.{placed}
 use Rattle.keep_house.specs.Gathering.{IsHeldBy, IsHeldFor, Took}
-use Rattle.keep_house.specs.declared.filling.TheConstants.{MOST_SECRET}
+use Rattle.keep_secrets.specs.declared.credential.TheConstants.{MOST_SECRET}
 
 -- what was taken so far is what files hold, and they still hold what they did
 pub record GatheredSoFar (k now : Files) (folder : List ℕ) (rows : List Row) (secrets : List Secret) : Type 0 where
@@ -21,7 +21,7 @@ held_as : (k now : Files) (folder : List ℕ) (secret : Secret) (row : Row) → 
 held_as k now folder secret row same h = record {
   named = h.named;
   file = h.file;
-  held = (h.held.0, (subst (λ o. IsRead o MOST_SECRET (Ok h.held.0)) (same (placed folder secret.file)) h.held.1.0, h.held.1.1));
+  held = (h.held.0, (subst (λ o. FileIsRead o MOST_SECRET (Ok h.held.0)) (same (placed folder secret.file)) h.held.1.0, h.held.1.1));
 }
 
 pub gathered_none : (k : Files) (folder : List ℕ) (rows : List Row) (secrets : List Secret) → secrets ≡ [] → GatheredSoFar k k folder rows secrets
@@ -38,10 +38,3 @@ gathered_more k now after folder rows i row old new so here (inr one) same = sub
 -- what was gathered of the rows of a state is taken
 pub filled_on : {D : Type 0} (files : Files) (folder : List ℕ) (now : ℕ) (rows : List Row) (secrets : List Secret) (old new : Kept D) → rows ≡ (book_in old).rows → All (IsHeldBy files folder rows) secrets → FilledWith now secrets old new → IsFilledOn files folder now old new
 filled_on files folder now rows secrets old new same held filled = (secrets, (subst (λ rs. All (IsHeldBy files folder rs) secrets) same held, filled))
-
--- and that stays so where the files hold the same
-held_by_as : (k now : Files) (folder : List ℕ) (rows : List Row) (secret : Secret) → ((path : List ℕ) → now path ≡ k path) → IsHeldBy now folder rows secret → IsHeldBy k folder rows secret
-held_by_as k now folder rows secret same h = (h.0, (h.1.0, (h.1.1.0, held_as k now folder secret h.0 same h.1.1.1)))
-
-pub filled_as : {D : Type 0} (k now : Files) (folder : List ℕ) (t : ℕ) (old new : Kept D) → ((path : List ℕ) → now path ≡ k path) → IsFilledOn now folder t old new → IsFilledOn k folder t old new
-filled_as k now folder t old new same h = (h.0, ((λ i d lt. held_by_as k now folder (book_in old).rows (slice_index_or h.0 i d) same (h.1.0 i d lt)), h.1.1))

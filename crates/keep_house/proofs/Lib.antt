@@ -6,6 +6,7 @@ pub mod Pieces
 pub mod Marking
 pub mod Filled
 pub mod Gathered
+pub mod TakenUp
 pub mod Compacting
 pub mod Read
 pub mod Givers
@@ -14,3 +15,5 @@ pub mod EachOne
 pub mod Within
 pub mod Admits
 pub mod Attended
+pub mod WhyUnserved
+pub mod Waits

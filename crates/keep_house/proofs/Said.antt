@@ -1,21 +1,21 @@
 -- Said: lines that are said one after another.
 use Rattle.std.proofs.Common.{◌≡◌, List, [], ◌∷◌, ◌++◌, ℕ, inl, inr, refl, subst, sym}
-use Rattle.keep_house.specs.Lines.{ArePut, AreSaid, IsSaid, IsWritten, Line}
+use Rattle.keep_house.specs.Lines.{ArePut, AreSaid, Line, LineIsSaid, LineIsWritten}
 use Rattle.keep_house.specs.Rooms.{Rooms, missing_in}
 use Rattle.keep_house.specs.declared.form.Form.{Form}
 
 -- a line whose text is put
-pub put_said : (form : Form) (moment : ℕ) (l : Line) (text : List ℕ) (old new : Rooms) → IsWritten form moment l text → ArePut form moment l.level text old new → IsSaid form moment l old new
-unfolding IsSaid
+pub put_said : (form : Form) (moment : ℕ) (l : Line) (text : List ℕ) (old new : Rooms) → LineIsWritten form moment l text → ArePut form moment l.level text old new → LineIsSaid form moment l old new
+unfolding LineIsSaid
 put_said form moment l text old new written put = inl (text, (written, put))
 
 -- a line for which memory was wanting
-pub missed : (form : Form) (moment : ℕ) (l : Line) (old new : Rooms) → new ≡ missing_in l.level old → IsSaid form moment l old new
-unfolding IsSaid
+pub missed : (form : Form) (moment : ℕ) (l : Line) (old new : Rooms) → new ≡ missing_in l.level old → LineIsSaid form moment l old new
+unfolding LineIsSaid
 missed form moment l old new is = inr is
 
 -- one line
-pub one_said : (form : Form) (moment : ℕ) (l : Line) (old new : Rooms) → IsSaid form moment l old new → AreSaid form moment (l ∷ []) old new
+pub one_said : (form : Form) (moment : ℕ) (l : Line) (old new : Rooms) → LineIsSaid form moment l old new → AreSaid form moment (l ∷ []) old new
 one_said form moment l old new said = (new, (said, refl))
 
 -- some, and then others

@@ -2,8 +2,8 @@
 use Rattle.std.proofs.Common.{◌≡◌, ℕ, zero, suc, ◌+◌, ◌*◌, ◌≤◌, Bool, true, false, List, [], ◌∷◌, ◌++◌, Option, None, Some, ap, arith, refl, replicate}
 use Rattle.keep_clock.specs.declared.reading.Reading.{Reading}
 use Rattle.keep_serving.specs.Changes.{Made}
-use Rattle.keep_serving.specs.Neighbours.{AllCalled, Answer, Give, GoOn, Hear, NeighbourCall, Settle, calls_at, changes_in, heard_in, heard_of_time}
-use Rattle.keep_serving.specs.Turns.{Turned}
+use Rattle.keep_serving.specs.Neighbours.{AllCalled, Answer, Give, GoOn, Hear, NeighbourCall, Settle, calls_at, calls_of_hearing, changes_in, heard_of_time}
+use Rattle.keep_serving.specs.Turns.{ServingTurn}
 use Rattle.keep_house.specs.Tried.{DoesToReader, TriesLaw}
 
 -- how often the house goes on
@@ -45,10 +45,10 @@ goes_in_changes zero made = refl
 goes_in_changes (suc most) [] = refl
 goes_in_changes (suc most) (m ∷ made) = goes_in_changes most made
 
-once : (reading : Option Reading) (answers : ℕ) (is_handed : Bool) (t : Turned) → goes_in (calls_at reading answers is_handed t) ≤ 1
+once : (reading : Option Reading) (answers : ℕ) (is_handed : Bool) (t : ServingTurn) → goes_in (calls_at reading answers is_handed t) ≤ 1
 once None answers is_handed t = omega arith
 once (Some r) answers is_handed t =
-    let all = goes_join (heard_in answers is_handed) (GoOn t.is_busy ∷ changes_in 8 t.changes) in
+    let all = goes_join (calls_of_hearing answers is_handed) (GoOn t.is_busy ∷ changes_in 8 t.changes) in
     let heard = goes_join (replicate answers (Hear Answer)) (heard_of_time is_handed) in
     let first = goes_in_answers answers in
     let time = goes_in_time is_handed in

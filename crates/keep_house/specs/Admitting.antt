@@ -7,18 +7,18 @@ use Rattle.keep_clock.specs.declared.reading.Reading.{Reading}
 use Rattle.keep_house.specs.Houses.{WillTell}
 use Rattle.keep_house.specs.Keeping.{Why}
 use Rattle.keep_house.specs.Rooms.{with_follower}
-use Rattle.keep_house.specs.declared.following.TheConstants.{MOST_FOLLOWERS}
+use Rattle.keep_house.specs.declared.follow_command.TheConstants.{MOST_FOLLOWERS}
 use Rattle.keep_house.specs.declared.house.House.{House}
 
 -- the client's answer begins with this, and goes on
-abbrev pub IsFollowed : {T D : Type 0} → List ℕ → Option (Control T D) → Option (Control T D) → Type 0
-IsFollowed answer None new = new ≡ None
-IsFollowed answer (Some old) None = ⊥
-IsFollowed answer (Some old) (Some new) = (number : Option ℕ) × FollowsAsked answer number old new
+abbrev pub AnswerBeginsWith : {T D : Type 0} → List ℕ → Option (Control T D) → Option (Control T D) → Type 0
+AnswerBeginsWith answer None new = new ≡ None
+AnswerBeginsWith answer (Some old) None = ⊥
+AnswerBeginsWith answer (Some old) (Some new) = (number : Option ℕ) × FollowsAsked answer number old new
 
 -- the client of that number follows the log from now on
 pub record IsAdmitted {S T D K E : Type 0} (id : ℕ) (alerts : Bool) (old new : House S T D K E) : Type 0 where
-  pub client : IsFollowed (codes "ok\n") old.control new.control
+  pub client : AnswerBeginsWith (codes "ok\n") old.control new.control
   pub rest : new ≡ record old { desk = record old.desk { room = with_follower id alerts old.desk.room }; control = new.control }
 
 abbrev pub AdmitsIf : {S T D K E : Type 0} → Option ℕ → Bool → House S T D K E → House S T D K E → Type 0

@@ -12,7 +12,7 @@ use Rattle.keep_log.specs.declared.level.Level.{Level}
 use Rattle.keep_log.specs.declared.level.Level.TheVariants.{Info, Note, Warning, Alert}
 use Rattle.keep_log.specs.declared.line.Word.TheVariants as words
 use Rattle.watch_machine.specs.Outlook.{broker_moment, broker_now}
-use Rattle.watch_machine.specs.State.{State}
+use Rattle.watch_machine.specs.State.{WatchState}
 use Rattle.watch_machine.specs.declared.event.Operation.{Operation}
 use Rattle.watch_machine.specs.declared.event.Operation.TheVariants.{Look, Renew}
 use Rattle.watch_machine.specs.declared.event.Reply.{Reply}
@@ -20,7 +20,7 @@ use Rattle.watch_machine.specs.declared.event.Reply.TheVariants.{Told, Refused, 
 use Rattle.watch_machine.specs.declared.notes.Link.{Link}
 use Rattle.watch_machine.specs.declared.notes.Link.TheVariants.{Away, Back}
 use Rattle.watch_machine.specs.declared.notes.Notes.{Notes}
-use Rattle.keep_house.specs.Lines.{Line, cut, line, loss_word, moment_word}
+use Rattle.keep_house.specs.Lines.{Line, loss_word, moment_word, number_held, said_line}
 
 -- ---- how much a trouble matters: what is wrong with an entry is told once, and that it goes on is a note
 
@@ -56,50 +56,50 @@ trouble_after before operation Lost = troubled before troubles.Lost
 -- ---- what came of the request
 
 -- the end that a lookup told, by the broker's clock; the seconds that a renewal did
-abbrev pub told_line : Operation → List ℕ → State → ℕ → Option ℕ → Line
-told_line Look name m seconds date = line Info (codes "entry") (words.Text name ∷ moment_word (cut (unwrap_or date (broker_now m) + seconds)) ∷ [])
-told_line Renew name m seconds date = line Info (codes "told") (words.Text name ∷ words.Number seconds ∷ [])
+abbrev pub told_log_line : Operation → List ℕ → WatchState → ℕ → Option ℕ → Line
+told_log_line Look name m seconds date = said_line Info (codes "entry") (words.Text name ∷ moment_word (number_held (unwrap_or date (broker_now m) + seconds)) ∷ [])
+told_log_line Renew name m seconds date = said_line Info (codes "told") (words.Text name ∷ words.Number seconds ∷ [])
 
-abbrev pub refused_line : List ℕ → Option Trouble → ℕ → Line
-refused_line name before status = line (refused_level before) (codes "refused") (words.Text name ∷ words.Number status ∷ [])
+abbrev pub refused_log_line : List ℕ → Option Trouble → ℕ → Line
+refused_log_line name before status = said_line (refused_level before) (codes "refused") (words.Text name ∷ words.Number status ∷ [])
 
-abbrev pub lost_line : List ℕ → Option Trouble → Loss → Line
-lost_line name before why = line (lost_level before) (codes "lost") (words.Text name ∷ loss_word why ∷ [])
+abbrev pub lost_log_line : List ℕ → Option Trouble → Loss → Line
+lost_log_line name before why = said_line (lost_level before) (codes "lost") (words.Text name ∷ loss_word why ∷ [])
 
-abbrev pub reply_line : List ℕ → State → Operation → Option Trouble → Loss → Reply → Line
-reply_line name m operation before why (Told seconds renewable date) = told_line operation name m seconds date
-reply_line name m operation before why (Refused status date) = refused_line name before status
-reply_line name m operation before why Busy = lost_line name before why
-reply_line name m operation before why Lost = lost_line name before why
+abbrev pub reply_line : List ℕ → WatchState → Operation → Option Trouble → Loss → Reply → Line
+reply_line name m operation before why (Told seconds renewable date) = told_log_line operation name m seconds date
+reply_line name m operation before why (Refused status date) = refused_log_line name before status
+reply_line name m operation before why Busy = lost_log_line name before why
+reply_line name m operation before why Lost = lost_log_line name before why
 
 -- ---- what is noted of it
 
 abbrev pub gone_lines : List ℕ → Option Trouble → Option ℕ → List Line
 gone_lines name before None = []
-gone_lines name before (Some status) = line (gone_level before) (codes "gone") (words.Text name ∷ words.Number status ∷ []) ∷ []
+gone_lines name before (Some status) = said_line (gone_level before) (codes "gone") (words.Text name ∷ words.Number status ∷ []) ∷ []
 
-abbrev pub top_lines : List ℕ → State → Option ℕ → List Line
+abbrev pub top_lines : List ℕ → WatchState → Option ℕ → List Line
 top_lines name m None = []
-top_lines name m (Some end) = line Note (codes "top") (words.Text name ∷ moment_word (broker_moment m end) ∷ []) ∷ []
+top_lines name m (Some end) = said_line Note (codes "top") (words.Text name ∷ moment_word (broker_moment m end) ∷ []) ∷ []
 
 abbrev pub orphan_lines : List ℕ → Bool → List Line
-orphan_lines name is = if is then line Warning (codes "orphan") (words.Text name ∷ []) ∷ [] else []
+orphan_lines name is = if is then said_line Warning (codes "orphan") (words.Text name ∷ []) ∷ [] else []
 
 abbrev pub never_lines : List ℕ → Bool → List Line
-never_lines name is = if is then line Alert (codes "never") (words.Text name ∷ []) ∷ [] else []
+never_lines name is = if is then said_line Alert (codes "never") (words.Text name ∷ []) ∷ [] else []
 
 -- the broker is away, for the reason of this loss; or it is back
 abbrev pub link_lines : Loss → Option Link → List Line
 link_lines why None = []
-link_lines why (Some Away) = line Warning (codes "away") (loss_word why ∷ []) ∷ []
-link_lines why (Some Back) = line Info (codes "back") [] ∷ []
+link_lines why (Some Away) = said_line Warning (codes "away") (loss_word why ∷ []) ∷ []
+link_lines why (Some Back) = said_line Info (codes "back") [] ∷ []
 
-abbrev pub noted_lines : List ℕ → State → Option Trouble → Loss → Notes → List Line
-noted_lines name m before why notes =
+abbrev pub noted_log_lines : List ℕ → WatchState → Option Trouble → Loss → Notes → List Line
+noted_log_lines name m before why notes =
     gone_lines name before notes.gone ++ (top_lines name m notes.top ++ (orphan_lines name notes.orphan ++ (never_lines name notes.endless ++ link_lines why notes.link)))
 
 -- ---- all of it, in the agent after it
 
 unfoldable pub answered_lines : Agent → ℕ → Operation → Said → Notes → Option Trouble → List Line
 answered_lines a i operation said notes before =
-    reply_line (name_of a.inventory.forest i) a.machine operation before said.loss said.reply ∷ noted_lines (name_of a.inventory.forest i) a.machine before said.loss notes
+    reply_line (name_of a.inventory.forest i) a.machine operation before said.loss said.reply ∷ noted_log_lines (name_of a.inventory.forest i) a.machine before said.loss notes

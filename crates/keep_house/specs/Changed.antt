@@ -3,36 +3,36 @@
 use Rattle.std.specs.Prelude.{ℕ, List, [], ◌∷◌, ◌++◌, Option, Some, None, codes, map}
 use Rattle.keep_log.specs.declared.level.Level.TheVariants.{Info, Note, Warning, Alert}
 use Rattle.keep_log.specs.declared.line.Word.TheVariants as words
-use Rattle.keep_house.specs.Lines.{Line, line}
+use Rattle.keep_house.specs.Lines.{Line, said_line}
 use Rattle.keep_house.specs.declared.keeping.Reread.{Reread}
 
 -- an entry has another credential, is added, or is dropped
-abbrev pub entry_line : List ℕ → List ℕ → Line
-entry_line event name = line Info event (words.Text name ∷ [])
+abbrev pub entry_log_line : List ℕ → List ℕ → Line
+entry_log_line event name = said_line Info event (words.Text name ∷ [])
 
 -- the file holds every change
 abbrev pub settled_line : Line
-settled_line = line Info (codes "settle") []
+settled_line = said_line Info (codes "settle") []
 
 -- a change of the journal does not hold any more
-abbrev pub note_line : List ℕ → Line
-note_line why = line Note (codes "journal") (words.Text why ∷ [])
+abbrev pub note_log_line : List ℕ → Line
+note_log_line why = said_line Note (codes "journal") (words.Text why ∷ [])
 
 -- the last good copy of the file could not be kept
 abbrev pub copy_lines : Option (List ℕ) → List Line
 copy_lines None = []
-copy_lines (Some said) = line Warning (codes "copy") (words.Text said ∷ []) ∷ []
+copy_lines (Some said) = said_line Warning (codes "copy") (words.Text said ∷ []) ∷ []
 
 -- the file was read anew, or is not served for this reason
 abbrev pub reread_line : Line
-reread_line = line Info (codes "file") (words.Text (codes "was read anew") ∷ [])
+reread_line = said_line Info (codes "file") (words.Text (codes "was read anew") ∷ [])
 
 abbrev pub file_line : List ℕ → Line
-file_line why = line Alert (codes "file") (words.Text why ∷ [])
+file_line why = said_line Alert (codes "file") (words.Text why ∷ [])
 
 -- all that is said of a file that was read anew
 unfoldable pub reread_lines : Reread → List Line
-reread_lines reread = copy_lines reread.unkept ++ (reread_line ∷ map note_line reread.notes.items)
+reread_lines reread = copy_lines reread.unkept ++ (reread_line ∷ map note_log_line reread.notes.items)
 
 -- and of one that is not served, but for lack of memory
 abbrev pub fault_lines : Option (List ℕ) → List Line

@@ -4,7 +4,7 @@ use Rattle.std.specs.Prelude.{◌≡◌, ◌/◌, ℕ, Bool, true, false, List, 
 use Rattle.std.specs.declared.alloc.AllocError.{AllocError}
 use Rattle.std.specs.declared.alloc.Global.{Global}
 use Rattle.keep_agent.specs.Agent.{Agent}
-use Rattle.keep_agent.specs.Status.{status_of}
+use Rattle.keep_agent.specs.Status.{status_of_entry}
 use Rattle.keep_answering.specs.declared.asked.Asked.{Asked}
 use Rattle.keep_answering.specs.declared.asked.Asked.TheVariants as asked
 use Rattle.keep_answering.specs.declared.control.Control.{Control}
@@ -22,14 +22,15 @@ use Rattle.keep_serving.specs.declared.change.Change.{Change}
 use Rattle.keep_serving.specs.declared.change.Change.TheVariants as changes
 use Rattle.keep_tree.specs.Forest.{index_named}
 use Rattle.keep_house.specs.Admitting.{FollowsLog}
-use Rattle.keep_house.specs.Changed.{entry_line, fault_lines, reread_lines, settled_line}
+use Rattle.keep_house.specs.Awaiting.{HearsVerdict, LooksUpFirst}
+use Rattle.keep_house.specs.Changed.{entry_log_line, fault_lines, reread_lines, settled_line}
 use Rattle.keep_house.specs.Clocked.{marks_anew}
-use Rattle.keep_house.specs.Desks.{Desk, HearsLine, HearsRefusal, Says}
-use Rattle.keep_house.specs.Houses.{ClientIsAnswered, ClientsAsk, Concludes, Sends, WillTell}
-use Rattle.keep_house.specs.Keeping.{Comes, IsNotKept, KeepCall, Outcome, Rebuilt, Reload, Settle, Take, Why}
+use Rattle.keep_house.specs.Desks.{Desk, HearsRefusal, SaysLine, SaysLines}
+use Rattle.keep_house.specs.Houses.{ClientIsAnswered, ClientIsSent, ClientsAsk, Concludes, IsAnsweredAside, SendsAside, WillTell}
+use Rattle.keep_house.specs.Keeping.{IsNotKept, KeepCall, KeeperIsAsked, Outcome, Rebuilt, Reload, Settle, Take, Why}
 use Rattle.keep_house.specs.Marks.{fresh_mark}
-use Rattle.keep_house.specs.Sockets.{need_line}
-use Rattle.keep_house.specs.Telling.{IsAddLine, IsDoneReply, IsDropLine, IsNeedLine, reload_line, replace_line, settle_line}
+use Rattle.keep_house.specs.Sockets.{need_log_line}
+use Rattle.keep_house.specs.Telling.{IsDoneReply, IsDropLine, IsNeedLine, reload_line, settle_line, until_of}
 use Rattle.keep_house.specs.declared.given.Given.{Given}
 use Rattle.keep_house.specs.declared.given.Given.TheVariants as givens
 use Rattle.keep_house.specs.declared.given.GivenNeed.{GivenNeed}
@@ -37,18 +38,13 @@ use Rattle.keep_house.specs.declared.house.House.{House}
 use Rattle.keep_house.specs.declared.keeping.Reread.{Reread}
 use Rattle.keep_house.specs.declared.mark.Mark.{Mark}
 
--- until when that is: 0 where there is none, and the last moment where it always is
-abbrev pub until_of : Need → ℕ
-until_of (needs.Until t) = t
-until_of needs.Always = LAST
-
 -- the end of the entry of that name, where an agent knows it
-abbrev pub end_at : Agent → Option ℕ → Option ℕ
-end_at a None = None
-end_at a (Some i) = (status_of a i).end
+abbrev pub end_known_at : Agent → Option ℕ → Option ℕ
+end_known_at a None = None
+end_known_at a (Some i) = (status_of_entry a i).end
 
 abbrev pub end_named : Agent → List ℕ → Option ℕ
-end_named a name = end_at a (index_named a.inventory.forest.entries name)
+end_named a name = end_known_at a (index_named a.inventory.forest.entries name)
 
 -- the file was read at this moment, in milliseconds of the wall's clock, and was good, or was not
 abbrev pub read_well : Reading → FileReading
@@ -60,27 +56,27 @@ read_badly now before = record before { is_good = false; at = Some (now.wall / 1
 -- ---- need
 
 -- the agent has the entry, where nobody keeps changes
-abbrev pub no_entry : List ℕ
-no_entry = codes "no entry has that name"
+abbrev pub no_entry_text : List ℕ
+no_entry_text = codes "no entry has that name"
 
-abbrev pub IsThere : Option ℕ → Result (Unit {0}) Why → Type 0
-IsThere (Some i) result = result ≡ Ok tt
-IsThere None (Ok x) = ⊥
-IsThere None (Err None) = Unit {0}
-IsThere None (Err (Some why)) = why ≡ no_entry
+abbrev pub EntryIsThere : Option ℕ → Result (Unit {0}) Why → Type 0
+EntryIsThere (Some i) result = result ≡ Ok tt
+EntryIsThere None (Ok x) = ⊥
+EntryIsThere None (Err None) = Unit {0}
+EntryIsThere None (Err (Some why)) = why ≡ no_entry_text
 
 -- the need is kept, where somebody keeps changes
-abbrev pub IsKept : {K : Type 0} → (KeepCall → K → K → Type 0) → Agent → Reading → List ℕ → Need → Result (Unit {0}) Why → Option K → Option K → Type 0
-IsKept does agent now name need result None new = IsThere (index_named agent.inventory.forest.entries name) result × (new ≡ None)
-IsKept does agent now name need result (Some old) None = ⊥
-IsKept does agent now name need result (Some old) (Some new) = does (Take now.elapsed name (what.Need need) result) old new
+abbrev pub NeedIsKept : {K : Type 0} → (KeepCall → K → K → Type 0) → Agent → Reading → List ℕ → Need → Result (Unit {0}) Why → Option K → Option K → Type 0
+NeedIsKept does agent now name need result None new = EntryIsThere (index_named agent.inventory.forest.entries name) result × (new ≡ None)
+NeedIsKept does agent now name need result (Some old) None = ⊥
+NeedIsKept does agent now name need result (Some old) (Some new) = does (Take now.elapsed name (what.Need need) result) old new
 
 -- it is given for the entry that the agent has; one that it is to have holds with a rebuilding, and the log says so
 abbrev pub GivesNeed : {S T D K E : Type 0} → Agent → Reading → List ℕ → ℕ → Option ℕ → Change → House S T D K E → House S T D K E → Type 0
 GivesNeed agent now name until (Some i) change old new =
     (change ≡ changes.Need i until) × (new ≡ record old { given = Some (givens.Need (record { entry = i; until = until; at = now.elapsed })) })
 GivesNeed agent now name until None change old new =
-    (change ≡ changes.Kept) × ((line : Option (List ℕ)) × (IfSome line (IsNeedLine name until) × Concludes agent (need_line name until) (Ok line) now.elapsed old new))
+    (change ≡ changes.Kept) × ((line : Option (List ℕ)) × (IfSome line (IsNeedLine name until) × Concludes agent (need_log_line name until) (Ok line) now.elapsed old new))
 
 abbrev pub NeedsIf : {S T D K E : Type 0} → Agent → Reading → List ℕ → ℕ → Result (Unit {0}) Why → Change → House S T D K E → House S T D K E → Type 0
 NeedsIf agent now name until (Ok x) change old new = GivesNeed agent now name until (index_named agent.inventory.forest.entries name) change old new
@@ -89,27 +85,21 @@ NeedsIf agent now name until (Err why) change old new = (change ≡ changes.Kept
 pub record Needs {S T D K E : Type 0} (does : KeepCall → K → K → Type 0) (agent : Agent) (now : Reading) (name : List ℕ) (need : Need) (change : Change) (old new : House S T D K E) : Type 0 where
   pub result : Result (Unit {0}) Why
   pub state : Option K
-  pub kept : IsKept does agent now name need result old.state state
+  pub kept : NeedIsKept does agent now name need result old.state state
   pub then : NeedsIf agent now name (until_of need) result change (record old { state = state }) new
 
--- ---- replace, drop, settle
+-- ---- drop, settle
 
-pub record Replaces {S T D K E : Type 0} (does : KeepCall → K → K → Type 0) (rows : K → List Row) (agent : Agent) (now : Reading) (name credential : List ℕ) (old new : House S T D K E) : Type 0 where
+pub record DropsEntry {S T D K E : Type 0} (does : KeepCall → K → K → Type 0) (agent : Agent) (now : Reading) (name : List ℕ) (old new : House S T D K E) : Type 0 where
   pub outcome : Outcome
   pub state : Option K
-  pub comes : Comes does (λ done. Take now.elapsed name (what.Replace credential) done) (λ k line. line ≡ replace_line name (named (rows k) name)) outcome old.state state
-  pub concludes : Concludes agent (entry_line (codes "replace") name) outcome now.elapsed (record old { state = state }) new
+  pub comes : KeeperIsAsked does (λ done. Take now.elapsed name what.Drop done) (λ k line. IsDropLine name (end_named agent name) line) outcome old.state state
+  pub concludes : Concludes agent (entry_log_line (codes "drop") name) outcome now.elapsed (record old { state = state }) new
 
-pub record Drops {S T D K E : Type 0} (does : KeepCall → K → K → Type 0) (agent : Agent) (now : Reading) (name : List ℕ) (old new : House S T D K E) : Type 0 where
+pub record SettlesFile {S T D K E : Type 0} (does : KeepCall → K → K → Type 0) (path : K → List ℕ) (agent : Agent) (now : Reading) (old new : House S T D K E) : Type 0 where
   pub outcome : Outcome
   pub state : Option K
-  pub comes : Comes does (λ done. Take now.elapsed name what.Drop done) (λ k line. IsDropLine name (end_named agent name) line) outcome old.state state
-  pub concludes : Concludes agent (entry_line (codes "drop") name) outcome now.elapsed (record old { state = state }) new
-
-pub record Settles {S T D K E : Type 0} (does : KeepCall → K → K → Type 0) (path : K → List ℕ) (agent : Agent) (now : Reading) (old new : House S T D K E) : Type 0 where
-  pub outcome : Outcome
-  pub state : Option K
-  pub comes : Comes does Settle (λ k line. line ≡ settle_line (path k)) outcome old.state state
+  pub comes : KeeperIsAsked does Settle (λ k line. line ≡ settle_line (path k)) outcome old.state state
   pub concludes : Concludes agent settled_line outcome now.elapsed (record old { state = state }) new
 
 -- ---- add
@@ -129,20 +119,15 @@ abbrev pub row_in : Result (List ℕ × Row) Why → Result Row Why
 row_in (Ok named) = Ok named.1
 row_in (Err why) = Err why
 
-pub record AddsRow {S T D K E : Type 0} (does : KeepCall → K → K → Type 0) (agent : Agent) (now : Reading) (row : Row) (old new : House S T D K E) : Type 0 where
-  pub outcome : Outcome
-  pub state : Option K
-  pub comes : Comes does (λ done. Take now.elapsed row.name (what.Add row) done) (λ k line. IsAddLine row.name (until_of row.need) line) outcome old.state state
-  pub concludes : Concludes agent (entry_line (codes "add") row.name) outcome now.elapsed (record old { state = state }) new
+-- it is looked up first
+abbrev pub AddsIf : {S T D K E : Type 0} → (KeepCall → K → K → Type 0) → (K → List Row) → Agent → Reading → Result Row Why → House S T D K E → House S T D K E → Type 0
+AddsIf does rows agent now (Ok row) old new = LooksUpFirst does rows agent now row.name (what.Add row) old new
+AddsIf does rows agent now (Err why) old new = WillTell (Err why) now.elapsed old new
 
-abbrev pub AddsIf : {S T D K E : Type 0} → (KeepCall → K → K → Type 0) → Agent → Reading → Result Row Why → House S T D K E → House S T D K E → Type 0
-AddsIf does agent now (Ok row) old new = AddsRow does agent now row old new
-AddsIf does agent now (Err why) old new = WillTell (Err why) now.elapsed old new
-
-pub record Adds {S T D K E : Type 0} (does : KeepCall → K → K → Type 0) (reads : List ℕ → Result Row Why → Type 0) (agent : Agent) (now : Reading) (table : List ℕ) (old new : House S T D K E) : Type 0 where
+pub record AddsEntry {S T D K E : Type 0} (does : KeepCall → K → K → Type 0) (rows : K → List Row) (reads : List ℕ → Result Row Why → Type 0) (agent : Agent) (now : Reading) (table : List ℕ) (old new : House S T D K E) : Type 0 where
   pub read : Result Row Why
   pub reads_row : ReadsRow reads table read old.state
-  pub then : AddsIf does agent now read old new
+  pub then : AddsIf does rows agent now read old new
 
 -- ---- reload
 
@@ -154,21 +139,21 @@ RereadBy does now (Some result) None new = ⊥
 RereadBy does now (Some result) (Some old) None = ⊥
 RereadBy does now (Some result) (Some old) (Some new) = does (Reload now.elapsed result) old new
 
-abbrev pub path_in : {K : Type 0} → (K → List ℕ) → Option K → List ℕ
-path_in path None = []
-path_in path (Some k) = path k
+abbrev pub path_if_kept : {K : Type 0} → (K → List ℕ) → Option K → List ℕ
+path_if_kept path None = []
+path_if_kept path (Some k) = path k
 
 -- the log says what came of it, and the client is to be told
 pub record TellsReread {S T D K E : Type 0} (path : K → List ℕ) (agent : Agent) (now : Reading) (reread : Reread) (old new : House S T D K E) : Type 0 where
   pub desk : Desk
-  pub heard : Says agent (reread_lines reread) old.desk.marks old.desk desk
+  pub heard : SaysLines agent (reread_lines reread) old.desk.marks old.desk desk
   pub line : Option (List ℕ)
-  pub says : IfSome line (λ l. l ≡ reload_line (path_in path old.state))
+  pub says : IfSome line (λ l. l ≡ reload_line (path_if_kept path old.state))
   pub will : WillTell (Ok line) now.elapsed (record old { desk = desk; file = read_well now }) new
 
 pub record TellsUnread {S T D K E : Type 0} (agent : Agent) (now : Reading) (why : Why) (old new : House S T D K E) : Type 0 where
   pub desk : Desk
-  pub heard : Says agent (fault_lines why) old.desk.marks old.desk desk
+  pub heard : SaysLines agent (fault_lines why) old.desk.marks old.desk desk
   pub will : WillTell (Err why) now.elapsed (record old { desk = desk; file = read_badly now old.file }) new
 
 pub record TellsNotKept {S T D K E : Type 0} (agent : Agent) (now : Reading) (old new : House S T D K E) : Type 0 where
@@ -190,33 +175,33 @@ pub record Reloads {S T D K E : Type 0} (does : KeepCall → K → K → Type 0)
 -- ---- each of them, and a rebuilding
 
 -- a rebuilding is given where it is due, with marks for its entries
-abbrev pub IsDue : {K : Type 0} → (ℕ → Result (Option Inventory) AllocError → K → Type 0) → Reading → Result (Option (Inventory × Vec Mark Global)) AllocError → Option K → Type 0
-IsDue gives now (Err e) state = Unit {0}
-IsDue gives now (Ok None) None = Unit {0}
-IsDue gives now (Ok (Some p)) None = ⊥
-IsDue gives now (Ok None) (Some k) = gives now.elapsed (Ok None) k
-IsDue gives now (Ok (Some p)) (Some k) = gives now.elapsed (Ok (Some p.0)) k × (p.1.items ≡ replicate (length p.0.forest.entries) fresh_mark)
+abbrev pub RebuildingIsDue : {K : Type 0} → (ℕ → Result (Option Inventory) AllocError → K → Type 0) → Reading → Result (Option (Inventory × Vec Mark Global)) AllocError → Option K → Type 0
+RebuildingIsDue gives now (Err e) state = Unit {0}
+RebuildingIsDue gives now (Ok None) None = Unit {0}
+RebuildingIsDue gives now (Ok (Some p)) None = ⊥
+RebuildingIsDue gives now (Ok None) (Some k) = gives now.elapsed (Ok None) k
+RebuildingIsDue gives now (Ok (Some p)) (Some k) = gives now.elapsed (Ok (Some p.0)) k × (p.1.items ≡ replicate (length p.0.forest.entries) fresh_mark)
 
 module _ {S T D K E : Type 0} (does : KeepCall → K → K → Type 0) (rows : K → List Row) (path : K → List ℕ) (reads : List ℕ → Result Row Why → Type 0)
     (gives : ℕ → Result (Option Inventory) AllocError → K → Type 0) (agent : Agent) (now : Reading) where
   abbrev pub CarriesOut : Asked → Change → House S T D K E → House S T D K E → Type 0
   CarriesOut (asked.Need name need) change old new = Needs does agent now name need change old new
-  CarriesOut (asked.Replace name credential) change old new = (change ≡ changes.Kept) × Replaces does rows agent now name credential old new
-  CarriesOut (asked.Add table) change old new = (change ≡ changes.Kept) × Adds does reads agent now table old new
-  CarriesOut (asked.Drop name) change old new = (change ≡ changes.Kept) × Drops does agent now name old new
-  CarriesOut asked.Settle change old new = (change ≡ changes.Kept) × Settles does path agent now old new
+  CarriesOut (asked.Replace name credential) change old new = (change ≡ changes.Kept) × LooksUpFirst does rows agent now name (what.Replace credential) old new
+  CarriesOut (asked.Add table) change old new = (change ≡ changes.Kept) × AddsEntry does rows reads agent now table old new
+  CarriesOut (asked.Drop name) change old new = (change ≡ changes.Kept) × DropsEntry does agent now name old new
+  CarriesOut asked.Settle change old new = (change ≡ changes.Kept) × SettlesFile does path agent now old new
   CarriesOut asked.Reload change old new = (change ≡ changes.Kept) × Reloads does path agent now old new
   CarriesOut (asked.Follow alerts) change old new = (change ≡ changes.Kept) × FollowsLog now alerts old new
 
   -- memory was wanting, and that is said
-  abbrev pub Lacks : Option Change → House S T D K E → House S T D K E → Type 0
-  Lacks change old new = (change ≡ None) × (HearsRefusal agent old.desk new.desk × (new ≡ record old { desk = new.desk }))
+  abbrev pub LacksMemory : Option Change → House S T D K E → House S T D K E → Type 0
+  LacksMemory change old new = (change ≡ None) × (HearsRefusal agent old.desk new.desk × (new ≡ record old { desk = new.desk }))
 
   abbrev pub CarriesIf : Result (Option Asked) AllocError → Option Change → House S T D K E → House S T D K E → Type 0
   CarriesIf (Ok None) change old new = (change ≡ None) × (new ≡ old)
   CarriesIf (Ok (Some asked)) None old new = ⊥
   CarriesIf (Ok (Some asked)) (Some change) old new = CarriesOut asked change old new
-  CarriesIf (Err e) change old new = Lacks change old new
+  CarriesIf (Err e) change old new = LacksMemory change old new
 
   -- what the first of the clients asks for is carried out
   pub record ServesClients (change : Option Change) (old new : House S T D K E) : Type 0 where
@@ -225,14 +210,25 @@ module _ {S T D K E : Type 0} (does : KeepCall → K → K → Type 0) (rows : K
     pub clients : ClientsAsk now asked old.control control
     pub then : CarriesIf asked change (record old { control = control }) new
 
-  -- before anything that clients ask for
+  -- what has waited for the broker's word comes before what the clients ask for
+  abbrev pub GoesOnIf : Bool → Option Change → House S T D K E → House S T D K E → Type 0
+  GoesOnIf true change old new = (change ≡ Some changes.Kept) × (new ≡ old)
+  GoesOnIf false change old new = ServesClients change old new
+
+  pub record GoesOnWithClients (change : Option Change) (old new : House S T D K E) : Type 0 where
+    pub heard : Bool
+    pub mid : House S T D K E
+    pub hears : HearsVerdict does rows agent now heard old mid
+    pub then : GoesOnIf heard change mid new
+
+  -- before all that
   abbrev pub AsksIf : Result (Option (Inventory × Vec Mark Global)) AllocError → Option Change → House S T D K E → House S T D K E → Type 0
-  AsksIf (Ok None) change old new = ServesClients change old new
+  AsksIf (Ok None) change old new = GoesOnWithClients change old new
   AsksIf (Ok (Some p)) change old new = (change ≡ Some (changes.Serve p.0)) × (new ≡ record old { given = Some (givens.Served p.1) })
-  AsksIf (Err e) change old new = Lacks change old new
+  AsksIf (Err e) change old new = LacksMemory change old new
 
   abbrev pub AsksFor : Option Change → House S T D K E → House S T D K E → Type 0
-  AsksFor change old new = (due : Result (Option (Inventory × Vec Mark Global)) AllocError) × (IsDue gives now due old.state × AsksIf due change old new)
+  AsksFor change old new = (due : Result (Option (Inventory × Vec Mark Global)) AllocError) × (RebuildingIsDue gives now due old.state × AsksIf due change old new)
 
 -- ---- what was given is settled
 
@@ -241,17 +237,18 @@ abbrev pub is_served : Option Given → Bool
 is_served None = false
 is_served (Some (givens.Need need)) = false
 is_served (Some (givens.Answer sent now)) = false
+is_served (Some (givens.Aside client sent now)) = false
 is_served (Some (givens.Served marks)) = true
 
 -- the log says that the entry is needed until then, and its client is told
 pub record TellsNeed {S T D K E : Type 0} (agent : Agent) (name : List ℕ) (until now : ℕ) (old new : House S T D K E) : Type 0 where
   pub desk : Desk
-  pub heard : HearsLine agent (need_line name until) old.desk desk
+  pub heard : SaysLine agent (need_log_line name until) old.desk desk
   pub line : Option (List ℕ)
   pub says : IfSome line (IsNeedLine name until)
   pub sent : Option (List ℕ)
   pub reply : IsDoneReply line sent
-  pub sends : Sends agent sent now (record old { desk = desk }) new
+  pub sends : ClientIsSent agent sent now (record old { desk = desk }) new
 
 -- where it was not made, the client is told nothing, and its connection is closed
 abbrev pub ClosesClient : {S T D K E : Type 0} → ℕ → House S T D K E → House S T D K E → Type 0
@@ -262,24 +259,30 @@ SettlesNeed agent true need old new = TellsNeed agent (name_of agent.inventory.f
 SettlesNeed agent false need old new = ClosesClient need.at old new
 
 abbrev pub SettlesAnswer : {S T D K E : Type 0} → Agent → Bool → Option (List ℕ) → ℕ → House S T D K E → House S T D K E → Type 0
-SettlesAnswer agent true sent now old new = Sends agent sent now old new
+SettlesAnswer agent true sent now old new = ClientIsSent agent sent now old new
 SettlesAnswer agent false sent now old new = ClosesClient now old new
 
-abbrev pub IsRebuilt : {K : Type 0} → (KeepCall → K → K → Type 0) → Option K → Option K → Type 0
-IsRebuilt does None new = new ≡ None
-IsRebuilt does (Some old) None = ⊥
-IsRebuilt does (Some old) (Some new) = does Rebuilt old new
+-- a client that was set aside is told
+abbrev pub SettlesAside : {S T D K E : Type 0} → Agent → Bool → Option ℕ → Option (List ℕ) → ℕ → House S T D K E → House S T D K E → Type 0
+SettlesAside agent true client sent now old new = SendsAside agent client sent now old new
+SettlesAside agent false client sent now old new = IsAnsweredAside client [] now old.control new.control × (new ≡ record old { control = new.control })
+
+abbrev pub StateIsRebuilt : {K : Type 0} → (KeepCall → K → K → Type 0) → Option K → Option K → Type 0
+StateIsRebuilt does None new = new ≡ None
+StateIsRebuilt does (Some old) None = ⊥
+StateIsRebuilt does (Some old) (Some new) = does Rebuilt old new
 
 -- the inventory is served, and what was said of its entries is carried over
 abbrev pub SettlesServed : {S T D K E : Type 0} → (KeepCall → K → K → Type 0) → Agent → Bool → List Mark → House S T D K E → House S T D K E → Type 0
 SettlesServed does agent true marks old new =
-    IsRebuilt does old.state new.state × (new ≡ record old { state = new.state; desk = record old.desk { marks = marks_anew agent (length marks) } })
+    StateIsRebuilt does old.state new.state × (new ≡ record old { state = new.state; desk = record old.desk { marks = marks_anew agent (length marks) } })
 SettlesServed does agent false marks old new = new ≡ old
 
 abbrev pub SettlesBy : {S T D K E : Type 0} → (KeepCall → K → K → Type 0) → Agent → Bool → Option Given → House S T D K E → House S T D K E → Type 0
 SettlesBy does agent is_made None old new = new ≡ old
 SettlesBy does agent is_made (Some (givens.Need need)) old new = SettlesNeed agent is_made need old new
 SettlesBy does agent is_made (Some (givens.Answer sent now)) old new = SettlesAnswer agent is_made sent now old new
+SettlesBy does agent is_made (Some (givens.Aside client sent now)) old new = SettlesAside agent is_made client sent now old new
 SettlesBy does agent is_made (Some (givens.Served marks)) old new = SettlesServed does agent is_made marks.items old new
 
 abbrev pub SettlesGiven : {S T D K E : Type 0} → (KeepCall → K → K → Type 0) → Agent → Bool → House S T D K E → House S T D K E → Type 0

@@ -14,13 +14,13 @@ use Rattle.watch_machine.specs.declared.command.Request.{Request}
 use Rattle.watch_machine.specs.declared.event.Operation.{Operation}
 use Rattle.watch_machine.specs.declared.notes.Notes.{Notes}
 use Rattle.keep_house.specs.Answered.{answered_lines, trouble_after}
-use Rattle.keep_house.specs.Clocked.{clocked_lines, marks_clocked, memory_line, short_lines}
-use Rattle.keep_house.specs.Lines.{AreSaid, IsSaid, Line, TellsDropped, line, now_of, second_of}
+use Rattle.keep_house.specs.Clocked.{clocked_lines, marks_clocked, memory_line, short_log_lines}
+use Rattle.keep_house.specs.Lines.{AreSaid, Line, LineIsSaid, TellsDropped, now_of, said_line, second_of}
 use Rattle.keep_house.specs.Marks.{fresh_mark, mark_at, with_trouble}
 use Rattle.keep_house.specs.Rooms.{Rooms, begun_rooms}
-use Rattle.keep_house.specs.Sockets.{socket_line}
+use Rattle.keep_house.specs.Sockets.{socket_log_line}
 use Rattle.keep_house.specs.declared.form.Form.{Form}
-use Rattle.keep_house.specs.declared.giving.TheConstants.{MOST_GIVEN}
+use Rattle.keep_house.specs.declared.log_reader.TheConstants.{MOST_GIVEN}
 use Rattle.keep_house.specs.declared.mark.Mark.{Mark}
 
 -- how lines are written, those that wait, and a mark for each entry
@@ -34,43 +34,43 @@ abbrev pub begun_desk : Form → ℕ → Desk
 begun_desk form count = record { form = form; room = begun_rooms; marks = replicate count fresh_mark }
 
 -- these lines are said of the agent as it is, and these marks are left
-pub record Says (a : Agent) (lines : List Line) (marks : List Mark) (old new : Desk) : Type 0 where
+pub record SaysLines (a : Agent) (lines : List Line) (marks : List Mark) (old new : Desk) : Type 0 where
   pub said : AreSaid old.form (now_of a.machine) lines old.room new.room
   pub rest : new ≡ record { form = old.form; room = new.room; marks = marks }
 
 abbrev pub HearsClock : Agent → Notes → List Request → Desk → Desk → Type 0
-HearsClock a notes requests old new = Says a (clocked_lines a notes requests old.marks) (marks_clocked a old.marks) old new
+HearsClock a notes requests old new = SaysLines a (clocked_lines a notes requests old.marks) (marks_clocked a old.marks) old new
 
 abbrev pub HearsShorts : Agent → List Short → Desk → Desk → Type 0
-HearsShorts a shorts old new = Says a (short_lines a shorts) old.marks old new
+HearsShorts a shorts old new = SaysLines a (short_log_lines a shorts) old.marks old new
 
 abbrev pub HearsAnswer : Agent → ℕ → Operation → Said → Notes → Desk → Desk → Type 0
 HearsAnswer a i operation said notes old new =
-    Says a (answered_lines a i operation said notes (mark_at old.marks i).trouble) (with_trouble i (trouble_after (mark_at old.marks i).trouble operation said.reply) old.marks) old new
+    SaysLines a (answered_lines a i operation said notes (mark_at old.marks i).trouble) (with_trouble i (trouble_after (mark_at old.marks i).trouble operation said.reply) old.marks) old new
 
 abbrev pub HearsRefusal : Agent → Desk → Desk → Type 0
-HearsRefusal a old new = Says a (memory_line ∷ []) old.marks old new
+HearsRefusal a old new = SaysLines a (memory_line ∷ []) old.marks old new
 
 abbrev pub HearsWant : Agent → Bool → Desk → Desk → Type 0
 HearsWant a true old new = new ≡ old
 HearsWant a false old new = HearsRefusal a old new
 
 -- this line alone is said; or it is where something was done
-abbrev pub HearsLine : Agent → Line → Desk → Desk → Type 0
-HearsLine a l old new = Says a (l ∷ []) old.marks old new
+abbrev pub SaysLine : Agent → Line → Desk → Desk → Type 0
+SaysLine a l old new = SaysLines a (l ∷ []) old.marks old new
 
 abbrev pub HearsIf : Bool → Agent → Line → Desk → Desk → Type 0
-HearsIf true a l old new = HearsLine a l old new
+HearsIf true a l old new = SaysLine a l old new
 HearsIf false a l old new = new ≡ old
 
 -- a socket cannot be had, for this reason, and what that costs. The agent may have heard no clock yet
 pub record HearsNoSocket (now : Reading) (socket why cost : List ℕ) (old new : Desk) : Type 0 where
-  pub said : IsSaid old.form (second_of now.wall) (socket_line socket why cost) old.room new.room
+  pub said : LineIsSaid old.form (second_of now.wall) (socket_log_line socket why cost) old.room new.room
   pub rest : new ≡ record old { room = new.room }
 
 -- something is said of the state folder or the file, in one text
 pub record HearsAtStart (now : Reading) (level : Level) (event text : List ℕ) (old new : Desk) : Type 0 where
-  pub said : IsSaid old.form (second_of now.wall) (line level event (words.Text text ∷ [])) old.room new.room
+  pub said : LineIsSaid old.form (second_of now.wall) (said_line level event (words.Text text ∷ [])) old.room new.room
   pub rest : new ≡ record old { room = new.room }
 
 -- ---- what is given to the log's reader
@@ -86,7 +86,7 @@ TellsIf false form moment old new = new ≡ old
 
 -- in a turn the reader took so many bytes from the front of what waits, and then its sink failed or did not; what it was given before
 -- and after, and the failures of its sink. Lines that were dropped may be told of where it took something and its sink did not fail
-pub record IsGiven (form : Form) (moment : ℕ) (old new : Waiting) (before after : Option (List ℕ)) (failures_before failures_after : ℕ) (goes_on : Bool) : Type 0 where
+pub record ReaderIsGiven (form : Form) (moment : ℕ) (old new : Waiting) (before after : Option (List ℕ)) (failures_before failures_after : ℕ) (goes_on : Bool) : Type 0 where
   pub taken : ℕ
   pub failed : Bool
   pub most : taken ≤ min MOST_GIVEN (length old.bytes)

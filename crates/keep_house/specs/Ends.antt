@@ -3,23 +3,23 @@
 use Rattle.std.specs.Prelude.{◌≡◌, ℕ, Bool, true, false, ◌||◌, if◌then◌else◌, List, [], ◌∷◌, Option, Some, None, Result, Ok, Err, codes, option_map}
 use Rattle.keep_agent.specs.Agent.{Agent}
 use Rattle.keep_clock.specs.declared.reading.Reading.{Reading}
-use Rattle.keep_disk.specs.State.{State}
+use Rattle.keep_disk.specs.State.{DiskState}
 use Rattle.keep_disk.specs.declared.fault.DiskFault.{DiskFault}
-use Rattle.keep_ends.specs.Files.{GoesOn, tells_of_end}
+use Rattle.keep_ends.specs.Files.{EndsFileGoesOn, tells_of_end}
 use Rattle.keep_ends.specs.declared.file.EndsFile.{EndsFile}
 use Rattle.keep_log.specs.declared.level.Level.{Level}
 use Rattle.keep_log.specs.declared.level.Level.TheVariants.{Alert, Note}
 use Rattle.keep_log.specs.declared.line.Word.TheVariants as words
 use Rattle.watch_machine.specs.declared.event.Reply.{Reply}
-use Rattle.keep_house.specs.Desks.{Desk, Says}
-use Rattle.keep_house.specs.Lines.{IsSaid, Line, line, second_of}
+use Rattle.keep_house.specs.Desks.{Desk, SaysLines}
+use Rattle.keep_house.specs.Lines.{Line, LineIsSaid, said_line, second_of}
 use Rattle.keep_house.specs.Reasons.{disk_words}
 use Rattle.keep_house.specs.declared.house.House.{House}
 
 -- ---- what is said
 
 abbrev pub ends_line : Level → List ℕ → DiskFault → Line
-ends_line level what fault = line level (codes "ends") (words.Text what ∷ words.Text (disk_words fault) ∷ [])
+ends_line level what fault = said_line level (codes "ends") (words.Text what ∷ words.Text (disk_words fault) ∷ [])
 
 -- the ends from before the start cannot be read
 abbrev pub unread_line : DiskFault → Line
@@ -37,7 +37,7 @@ tried_lines was_failing (Some (Err fault)) = if was_failing then [] else unkept_
 
 -- the agent may have heard no clock yet
 pub record HearsUnread (now : Reading) (fault : DiskFault) (old new : Desk) : Type 0 where
-  pub said : IsSaid old.form (second_of now.wall) (unread_line fault) old.room new.room
+  pub said : LineIsSaid old.form (second_of now.wall) (unread_line fault) old.room new.room
   pub rest : new ≡ record old { room = new.room }
 
 -- ---- what becomes of the file
@@ -46,16 +46,16 @@ abbrev pub is_failing : {E : Type 0} → Option (EndsFile E) → Bool
 is_failing None = false
 is_failing (Some ends) = ends.is_failing
 
-abbrev pub EndsGoOn : {E : Type 0} → Bool → (E → State) → Agent → ℕ → Option (Result (Unit {0}) DiskFault) → Option (EndsFile E) → Option (EndsFile E) → Type 0
+abbrev pub EndsGoOn : {E : Type 0} → Bool → (E → DiskState) → Agent → ℕ → Option (Result (Unit {0}) DiskFault) → Option (EndsFile E) → Option (EndsFile E) → Type 0
 EndsGoOn known state agent now tried None new = (tried ≡ None) × (new ≡ None)
 EndsGoOn known state agent now tried (Some old) None = ⊥
-EndsGoOn known state agent now tried (Some old) (Some new) = GoesOn known state agent now tried old new
+EndsGoOn known state agent now tried (Some old) (Some new) = EndsFileGoesOn known state agent now tried old new
 
 -- in a turn they are kept, where that is due; and that they could not be is said, unless it was so before. Nothing else changes
-pub record KeepsEnds {S T D K E : Type 0} (known : Bool) (state : E → State) (agent : Agent) (now : ℕ) (old new : House S T D K E) : Type 0 where
+pub record KeepsEnds {S T D K E : Type 0} (known : Bool) (state : E → DiskState) (agent : Agent) (now : ℕ) (old new : House S T D K E) : Type 0 where
   pub tried : Option (Result (Unit {0}) DiskFault)
   pub ends : EndsGoOn known state agent now tried old.ends new.ends
-  pub desk : Says agent (tried_lines (is_failing old.ends) tried) old.desk.marks old.desk new.desk
+  pub desk : SaysLines agent (tried_lines (is_failing old.ends) tried) old.desk.marks old.desk new.desk
   pub rest : new ≡ record old { desk = new.desk; ends = new.ends }
 
 -- an answer is heard of

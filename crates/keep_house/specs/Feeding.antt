@@ -4,7 +4,7 @@ use Rattle.std.specs.Prelude.{◌≡◌, ◌≤◌, ℕ, List, [], ◌∷◌, Op
 use Rattle.std.specs.declared.alloc.AllocError.{AllocError}
 use Rattle.keep_answering.specs.declared.control.Control.{Control}
 use Rattle.keep_answering.specs.declared.lines.RequestLines.{RequestLines}
-use Rattle.keep_clients.specs.Tables.{Feeds, Table}
+use Rattle.keep_clients.specs.Tables.{Feeds, GuestTable}
 use Rattle.keep_clients.specs.declared.fed.Fed.{Fed}
 use Rattle.keep_clients.specs.declared.fed.Fed.TheVariants.{Gone, Full, Taken}
 use Rattle.keep_log.specs.Waiting.{giving}
@@ -26,26 +26,26 @@ BecomesFed form moment (Ok (Taken n)) old new = IsGivenOf form moment n old new
 BecomesFed form moment (Err e) old new = new ≡ old
 
 -- no more than that was taken
-abbrev pub IsWithin : ℕ → Result Fed AllocError → Type 0
-IsWithin most (Ok Gone) = Unit {0}
-IsWithin most (Ok Full) = Unit {0}
-IsWithin most (Ok (Taken n)) = n ≤ most
-IsWithin most (Err e) = Unit {0}
+abbrev pub IsFedAtMost : ℕ → Result Fed AllocError → Type 0
+IsFedAtMost most (Ok Gone) = Unit {0}
+IsFedAtMost most (Ok Full) = Unit {0}
+IsFedAtMost most (Ok (Taken n)) = n ≤ most
+IsFedAtMost most (Err e) = Unit {0}
 
 -- its connection is given of what waits for it what one call writes
-pub record IsFed {T : Type 0} (form : Form) (moment : ℕ) (old new : Follower) (before after : Table T RequestLines) : Type 0 where
+pub record FollowerIsFed {T : Type 0} (form : Form) (moment : ℕ) (old new : Follower) (before after : GuestTable T RequestLines) : Type 0 where
   pub fed : Result Fed AllocError
   pub feeds : Feeds old.id old.room.bytes fed before after
   pub becomes : BecomesFed form moment fed old new
 
 -- each is, one after another
-abbrev pub EachIsFed : {T : Type 0} → Form → ℕ → List Follower → List Follower → Table T RequestLines → Table T RequestLines → Type 0
+abbrev pub EachIsFed : {T : Type 0} → Form → ℕ → List Follower → List Follower → GuestTable T RequestLines → GuestTable T RequestLines → Type 0
 EachIsFed form moment [] new before after = (new ≡ []) × (after ≡ before)
 EachIsFed form moment (f ∷ fs) [] before after = ⊥
-EachIsFed {T} form moment (f ∷ fs) (n ∷ ns) before after = (mid : Table T RequestLines) × (IsFed form moment f n before mid × EachIsFed form moment fs ns mid after)
+EachIsFed {T} form moment (f ∷ fs) (n ∷ ns) before after = (mid : GuestTable T RequestLines) × (FollowerIsFed form moment f n before mid × EachIsFed form moment fs ns mid after)
 
 -- and those who have gone follow no more; the log's own room is left alone
-abbrev pub AreFed : {T : Type 0} → Form → ℕ → Rooms → Rooms → Table T RequestLines → Table T RequestLines → Type 0
+abbrev pub AreFed : {T : Type 0} → Form → ℕ → Rooms → Rooms → GuestTable T RequestLines → GuestTable T RequestLines → Type 0
 AreFed form moment old new before after =
     (fed : List Follower) × (EachIsFed form moment old.followers fed before after × (new ≡ record old { followers = filter (λ f. not f.has_gone) fed }))
 

@@ -4,13 +4,14 @@ use Rattle.std.specs.Prelude.{◌≡◌, ◌⊎◌, ℕ, List, [], ◌∷◌, �
 use Rattle.keep_change.specs.declared.row.Row.{Row}
 use Rattle.keep_files.specs.Files.{Files}
 use Rattle.keep_store.specs.declared.secret.Secret.{Secret}
-use Rattle.keep_house.specs.Filling.{Holds, placed}
+use Rattle.keep_secrets.specs.Credentials.{placed}
+use Rattle.keep_house.specs.Filling.{FileHolds}
 
 -- it is what the file holds that the row names
 pub record IsHeldFor (known : Files) (folder : List ℕ) (secret : Secret) (row : Row) : Type 0 where
   pub named : secret.name ≡ row.name
   pub file : row.file ≡ Some secret.file
-  pub held : Holds known (placed folder secret.file) secret.credential
+  pub held : FileHolds known (placed folder secret.file) secret.credential
 
 -- or one of the rows
 abbrev pub IsHeldBy : Files → List ℕ → List Row → Secret → Type 0

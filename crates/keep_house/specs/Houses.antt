@@ -3,13 +3,13 @@
 use Rattle.std.specs.Prelude.{◌≡◌, ℕ, ◌+◌, ◌/◌, ◌≤◌, Bool, true, false, ◌&&◌, ◌||◌, List, [], Option, Some, None, Result, Ok, Err, is_ok, is_some}
 use Rattle.std.specs.declared.alloc.AllocError.{AllocError}
 use Rattle.keep_agent.specs.Agent.{Agent}
-use Rattle.keep_answering.specs.Controlling.{AnswersAsked, ControlGoesOn, Gives}
-use Rattle.keep_answering.specs.Onlooking.{GoesOn}
+use Rattle.keep_answering.specs.Controlling.{AnswersAside, AnswersAsked, ControlGoesOn, GivesAsked}
+use Rattle.keep_answering.specs.Onlooking.{OnlookingGoesOn}
 use Rattle.keep_answering.specs.declared.asked.Asked.{Asked}
 use Rattle.keep_answering.specs.declared.control.Control.{Control}
 use Rattle.keep_answering.specs.declared.onlookers.Onlookers.{Onlookers}
 use Rattle.keep_answering.specs.declared.went.Went.{Went}
-use Rattle.keep_clients.specs.Doors.{Log}
+use Rattle.keep_clients.specs.Doors.{DoorLog}
 use Rattle.keep_clients.specs.declared.talk.Call.{Call}
 use Rattle.keep_clock.specs.declared.reading.Reading.{Reading}
 use Rattle.keep_log.specs.Waiting.{Waiting}
@@ -18,7 +18,7 @@ use Rattle.keep_onlook.specs.declared.board.FileReading.{FileReading}
 use Rattle.keep_onlook.specs.declared.board.Surroundings.{Surroundings}
 use Rattle.keep_serving.specs.declared.change.Change.{Change}
 use Rattle.watch_machine.specs.declared.outlook.Next.{Next}
-use Rattle.keep_house.specs.Desks.{Desk, HearsIf, HearsWant, IsGiven}
+use Rattle.keep_house.specs.Desks.{Desk, HearsIf, HearsWant, ReaderIsGiven}
 use Rattle.keep_house.specs.Feeding.{FollowersGoOn}
 use Rattle.keep_house.specs.Keeping.{Outcome}
 use Rattle.keep_house.specs.Lines.{Line, second_of}
@@ -41,11 +41,11 @@ around_of next file dropped wall = record { wall = wall / 1000; next_wake = next
 abbrev pub idle : Went
 idle = record { is_busy = false; is_enough = true }
 
-module _ {T D : Type 0} (remaining written : T → Option (List ℕ)) (calls : T → Option (List Call)) (log : D → Option (Log T)) (agent : Agent) (around : Surroundings) (now : Reading) (went : Went) where
+module _ {T D : Type 0} (remaining written : T → Option (List ℕ)) (calls : T → Option (List Call)) (log : D → Option (DoorLog T)) (agent : Agent) (around : Surroundings) (now : Reading) (went : Went) where
   abbrev pub OnlookersGoOn : Option (Onlookers T D) → Option (Onlookers T D) → Type 0
   OnlookersGoOn None new = (went ≡ idle) × (new ≡ None)
   OnlookersGoOn (Some old) None = ⊥
-  OnlookersGoOn (Some old) (Some new) = GoesOn remaining written calls log agent around now.elapsed went old new
+  OnlookersGoOn (Some old) (Some new) = OnlookingGoesOn remaining written calls log agent around now.elapsed went old new
 
   abbrev pub ClientsGoOn : Option (Control T D) → Option (Control T D) → Type 0
   ClientsGoOn None new = (went ≡ idle) × (new ≡ None)
@@ -55,7 +55,7 @@ module _ {T D : Type 0} (remaining written : T → Option (List ℕ)) (calls : T
 -- the log's reader is given of what waits, and then each of those who follow the log; then the onlookers and the clients go on, each for
 -- itself, with the agent as it is and what is around it then; and where memory was wanting for one of them, that is said. Nothing else
 -- changes
-pub record Attends {S T D K E : Type 0} (given : S → Option (List ℕ)) (failures tries : S → ℕ) (remaining written : T → Option (List ℕ)) (calls : T → Option (List Call)) (log : D → Option (Log T))
+pub record Attends {S T D K E : Type 0} (given : S → Option (List ℕ)) (failures tries : S → ℕ) (remaining written : T → Option (List ℕ)) (calls : T → Option (List Call)) (log : D → Option (DoorLog T))
     (agent : Agent) (now : Reading) (goes_on : Bool) (old new : House S T D K E) : Type 0 where
   pub room : Waiting
   pub rooms : Rooms
@@ -63,7 +63,7 @@ pub record Attends {S T D K E : Type 0} (given : S → Option (List ℕ)) (failu
   pub is_more : Bool
   pub shown : Went
   pub answered : Went
-  pub gives : IsGiven old.desk.form (second_of now.wall) old.desk.room.log room (given old.sink) (given new.sink) (failures old.sink) (failures new.sink) is_more
+  pub gives : ReaderIsGiven old.desk.form (second_of now.wall) old.desk.room.log room (given old.sink) (given new.sink) (failures old.sink) (failures new.sink) is_more
   pub few : tries new.sink ≤ tries old.sink + MOST_TRIES
   pub follow : FollowersGoOn old.desk.form (second_of now.wall) (record old.desk.room { log = room }) rooms old.control fed
   pub onlookers : OnlookersGoOn remaining written calls log agent (around_of old.next old.file rooms.log.dropped now.wall) now shown old.onlookers new.onlookers
@@ -85,7 +85,7 @@ changes_given control state = given_where (is_some control || is_some state)
 abbrev pub ClientsAsk : {T D : Type 0} → Reading → Result (Option Asked) AllocError → Option (Control T D) → Option (Control T D) → Type 0
 ClientsAsk now result None new = (result ≡ Ok None) × (new ≡ None)
 ClientsAsk now result (Some old) None = ⊥
-ClientsAsk now result (Some old) (Some new) = Gives now old result new
+ClientsAsk now result (Some old) (Some new) = GivesAsked now old result new
 
 abbrev pub ClientIsAnswered : {T D : Type 0} → List ℕ → ℕ → Option (Control T D) → Option (Control T D) → Type 0
 ClientIsAnswered answer now None new = new ≡ None
@@ -97,10 +97,35 @@ bytes_sent None = []
 bytes_sent (Some text) = text
 
 -- the client is sent this, and its connection is closed after it; where memory was wanting for it, that is said
-pub record Sends {S T D K E : Type 0} (agent : Agent) (sent : Option (List ℕ)) (now : ℕ) (old new : House S T D K E) : Type 0 where
+pub record ClientIsSent {S T D K E : Type 0} (agent : Agent) (sent : Option (List ℕ)) (now : ℕ) (old new : House S T D K E) : Type 0 where
   pub client : ClientIsAnswered (bytes_sent sent) now old.control new.control
   pub desk : HearsWant agent (is_some sent) old.desk new.desk
   pub rest : new ≡ record old { desk = new.desk; control = new.control }
+
+-- ---- a client that was set aside
+
+-- its number, where its request was taken last; others may ask then
+abbrev pub ClientIsAside : {T D : Type 0} → Option ℕ → Option (Control T D) → Option (Control T D) → Type 0
+ClientIsAside number None new = (number ≡ None) × (new ≡ None)
+ClientIsAside number (Some old) None = ⊥
+ClientIsAside number (Some old) (Some new) = (number ≡ old.asking) × (new ≡ record old { asking = None })
+
+abbrev pub IsAnsweredAs : {T D : Type 0} → ℕ → List ℕ → ℕ → Option (Control T D) → Option (Control T D) → Type 0
+IsAnsweredAs number answer now None new = new ≡ None
+IsAnsweredAs number answer now (Some old) None = ⊥
+IsAnsweredAs number answer now (Some old) (Some new) = AnswersAside number answer now old new
+
+abbrev pub IsAnsweredAside : {T D : Type 0} → Option ℕ → List ℕ → ℕ → Option (Control T D) → Option (Control T D) → Type 0
+IsAnsweredAside None answer now old new = new ≡ old
+IsAnsweredAside (Some number) answer now old new = IsAnsweredAs number answer now old new
+
+-- it is sent this, and its connection is closed after it; where memory was wanting for it, that is said
+pub record SendsAside {S T D K E : Type 0} (agent : Agent) (client : Option ℕ) (sent : Option (List ℕ)) (now : ℕ) (old new : House S T D K E) : Type 0 where
+  pub answered : IsAnsweredAside client (bytes_sent sent) now old.control new.control
+  pub desk : HearsWant agent (is_some sent) old.desk new.desk
+  pub rest : new ≡ record old { desk = new.desk; control = new.control }
+
+-- ---- what is to be told
 
 -- the client is to be told what came of what it asked for, once that is settled
 pub record WillTell {S T D K E : Type 0} (outcome : Outcome) (now : ℕ) (old new : House S T D K E) : Type 0 where

@@ -7,12 +7,14 @@ pub mod Sockets
 pub mod Changed
 pub mod Keeping
 pub mod Telling
+pub mod VerdictWords
 pub mod Desks
 pub mod Nexts
 pub mod Ends
 pub mod Feeding
 pub mod Houses
 pub mod Admitting
+pub mod Awaiting
 pub mod Commands
 pub mod Faults
 pub mod Starts
@@ -22,6 +24,12 @@ pub mod Refusing
 pub mod Reasons
 pub mod Noting
 pub mod Gathering
+pub mod Untouched
+pub mod Candidates
+pub mod Inquiries
+pub mod Takings
+pub mod SecretLines
+pub mod Rereading
 pub mod Ledgers
 pub mod Tried
 pub mod Alike

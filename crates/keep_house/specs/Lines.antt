@@ -3,7 +3,7 @@
 use Rattle.std.specs.Prelude.{◌≡◌, ◌⊎◌, ℕ, ◌+◌, ◌-◌, ◌/◌, List, [], ◌∷◌, codes, min}
 use Rattle.keep_lanes.specs.declared.loss.Loss.{Loss}
 use Rattle.keep_lanes.specs.declared.loss.Loss.TheVariants as losses
-use Rattle.keep_log.specs.Following.{hearing}
+use Rattle.keep_log.specs.Following.{put_if_heard}
 use Rattle.keep_log.specs.Forms.{IsLineJson, IsLineText}
 use Rattle.keep_log.specs.Waiting.{Waiting, dropping, with_line}
 use Rattle.keep_log.specs.declared.follower.Follower.{Follower}
@@ -12,7 +12,7 @@ use Rattle.keep_log.specs.declared.level.Level.TheVariants.{Warning}
 use Rattle.keep_log.specs.declared.line.Word.{Word}
 use Rattle.keep_log.specs.declared.line.Word.TheVariants as words
 use Rattle.keep_moment.specs.declared.moment.TheConstants.{LAST}
-use Rattle.watch_machine.specs.State.{State}
+use Rattle.watch_machine.specs.State.{WatchState}
 use Rattle.keep_house.specs.Rooms.{Rooms, misses, missing_in}
 use Rattle.keep_house.specs.declared.form.Form.{Form}
 use Rattle.keep_house.specs.declared.form.Form.TheVariants.{Text, Json}
@@ -25,12 +25,12 @@ pub record Line : Type 0 where
   pub event : List ℕ
   pub words : List Word
 
-abbrev pub line : Level → List ℕ → List Word → Line
-line level event ws = record { level = level; event = event; words = ws }
+abbrev pub said_line : Level → List ℕ → List Word → Line
+said_line level event ws = record { level = level; event = event; words = ws }
 
 -- a number as the program holds it: no greater than 2^64 - 1
-abbrev pub cut : ℕ → ℕ
-cut n = min n 18446744073709551615
+abbrev pub number_held : ℕ → ℕ
+number_held n = min n 18446744073709551615
 
 -- a moment, no later than the last one
 abbrev pub moment_word : ℕ → Word
@@ -41,8 +41,8 @@ abbrev pub second_of : ℕ → ℕ
 second_of millis = min (millis / 1000) LAST
 
 -- the moment of a line: what the wall's clock shows, as the machine has it, at the moment that was handed in last
-abbrev pub now_of : State → ℕ
-now_of m = second_of (cut (m.clocks.at + m.clocks.wall.there) - m.clocks.wall.here)
+abbrev pub now_of : WatchState → ℕ
+now_of m = second_of (number_held (m.clocks.at + m.clocks.wall.there) - m.clocks.wall.here)
 
 -- why a request counts as lost
 abbrev pub loss_word : Loss → Word
@@ -54,42 +54,42 @@ loss_word (losses.Status status) = words.Number status
 
 -- ---- what becomes of it
 
-abbrev pub IsWritten : Form → ℕ → Line → List ℕ → Type 0
-IsWritten Text moment l text = IsLineText moment l.level l.event l.words text
-IsWritten Json moment l text = IsLineJson moment l.level l.event l.words text
+abbrev pub LineIsWritten : Form → ℕ → Line → List ℕ → Type 0
+LineIsWritten Text moment l text = IsLineText moment l.level l.event l.words text
+LineIsWritten Json moment l text = IsLineJson moment l.level l.event l.words text
 
 -- the line that tells how many were dropped before it
 abbrev pub dropped_line : ℕ → Line
-dropped_line n = line Warning (codes "log") (words.Text (codes "dropped") ∷ words.Number n ∷ words.Text (codes "lines") ∷ [])
+dropped_line n = said_line Warning (codes "log") (words.Text (codes "dropped") ∷ words.Number n ∷ words.Text (codes "lines") ∷ [])
 
 abbrev pub TellsDropped : Form → ℕ → ℕ → List ℕ → Type 0
-TellsDropped form moment untold notice = (untold ≡ 0) ⊎ IsWritten form moment (dropped_line untold) notice
+TellsDropped form moment untold notice = (untold ≡ 0) ⊎ LineIsWritten form moment (dropped_line untold) notice
 
 -- the text of a line is put where there is room for it, and before it the line that tells of those that were dropped; where memory is
 -- wanting for that one, it is dropped and counted
-abbrev pub IsPut : Form → ℕ → List ℕ → Waiting → Waiting → Type 0
-IsPut form moment text old new =
+abbrev pub TextIsPut : Form → ℕ → List ℕ → Waiting → Waiting → Type 0
+TextIsPut form moment text old new =
     ((notice : List ℕ) × (TellsDropped form moment old.untold notice × (new ≡ with_line notice text old))) ⊎ (new ≡ dropping 1 old)
 
 -- one who follows the log is told of it in the same way, where it is told of that level
-abbrev pub IsTold : Form → ℕ → Level → List ℕ → Follower → Follower → Type 0
-IsTold form moment level text old new =
-    ((notice : List ℕ) × (TellsDropped form moment old.room.untold notice × (new ≡ record old { room = hearing old.alerts_alone level notice text old.room }))) ⊎ (new ≡ misses level old)
+abbrev pub FollowerIsTold : Form → ℕ → Level → List ℕ → Follower → Follower → Type 0
+FollowerIsTold form moment level text old new =
+    ((notice : List ℕ) × (TellsDropped form moment old.room.untold notice × (new ≡ record old { room = put_if_heard old.alerts_alone level notice text old.room }))) ⊎ (new ≡ misses level old)
 
 abbrev pub EachIsTold : Form → ℕ → Level → List ℕ → List Follower → List Follower → Type 0
 EachIsTold form moment level text [] new = new ≡ []
 EachIsTold form moment level text (f ∷ fs) [] = ⊥
-EachIsTold form moment level text (f ∷ fs) (n ∷ ns) = IsTold form moment level text f n × EachIsTold form moment level text fs ns
+EachIsTold form moment level text (f ∷ fs) (n ∷ ns) = FollowerIsTold form moment level text f n × EachIsTold form moment level text fs ns
 
 -- no room changes what comes into another
 abbrev pub ArePut : Form → ℕ → Level → List ℕ → Rooms → Rooms → Type 0
-ArePut form moment level text old new = IsPut form moment text old.log new.log × EachIsTold form moment level text old.followers new.followers
+ArePut form moment level text old new = TextIsPut form moment text old.log new.log × EachIsTold form moment level text old.followers new.followers
 
 -- a line is said at a moment; where memory is wanting for it, it is dropped and counted
-unfoldable pub IsSaid : Form → ℕ → Line → Rooms → Rooms → Type 0
-IsSaid form moment l old new = ((text : List ℕ) × (IsWritten form moment l text × ArePut form moment l.level text old new)) ⊎ (new ≡ missing_in l.level old)
+unfoldable pub LineIsSaid : Form → ℕ → Line → Rooms → Rooms → Type 0
+LineIsSaid form moment l old new = ((text : List ℕ) × (LineIsWritten form moment l text × ArePut form moment l.level text old new)) ⊎ (new ≡ missing_in l.level old)
 
 -- lines are said, one after another
 abbrev pub AreSaid : Form → ℕ → List Line → Rooms → Rooms → Type 0
 AreSaid form moment [] old new = new ≡ old
-AreSaid form moment (l ∷ ls) old new = (mid : Rooms) × (IsSaid form moment l old mid × AreSaid form moment ls mid new)
+AreSaid form moment (l ∷ ls) old new = (mid : Rooms) × (LineIsSaid form moment l old mid × AreSaid form moment ls mid new)

@@ -6,20 +6,20 @@ use Rattle.keep_lines.specs.Text.{name_of}
 use Rattle.keep_log.specs.declared.level.Level.TheVariants.{Info}
 use Rattle.keep_log.specs.declared.line.Word.TheVariants as words
 use Rattle.watch_machine.specs.Outlook.{broker_moment}
-use Rattle.watch_machine.specs.State.{State}
+use Rattle.watch_machine.specs.State.{WatchState}
 use Rattle.watch_machine.specs.declared.outlook.Next.{Next}
-use Rattle.keep_house.specs.Desks.{Says}
-use Rattle.keep_house.specs.Lines.{Line, line, moment_word}
+use Rattle.keep_house.specs.Desks.{SaysLines}
+use Rattle.keep_house.specs.Lines.{Line, moment_word, said_line}
 use Rattle.keep_house.specs.declared.house.House.{House}
 
 -- by the broker's clock
-abbrev pub next_there : State → Option Next → Option Next
+abbrev pub next_there : WatchState → Option Next → Option Next
 next_there m None = None
 next_there m (Some next) = Some (record next { at = broker_moment m next.at })
 
-abbrev pub next_line : Agent → Option Next → Line
-next_line a None = line Info (codes "next") (words.Text (codes "none") ∷ [])
-next_line a (Some next) = line Info (codes "next") (moment_word next.at ∷ words.Text (name_of a.inventory.forest next.entry) ∷ [])
+abbrev pub next_log_line : Agent → Option Next → Line
+next_log_line a None = said_line Info (codes "next") (words.Text (codes "none") ∷ [])
+next_log_line a (Some next) = said_line Info (codes "next") (moment_word next.at ∷ words.Text (name_of a.inventory.forest next.entry) ∷ [])
 
 abbrev pub is_next : Next → Next → Bool
 is_next a b = a.at == b.at && a.entry == b.entry
@@ -33,11 +33,11 @@ was_said (Some (Some last)) None = false
 was_said (Some (Some last)) (Some next) = is_next last next
 
 abbrev pub next_lines : Agent → Option (Option Next) → Option Next → List Line
-next_lines a last next = if was_said last next then [] else next_line a next ∷ []
+next_lines a last next = if was_said last next then [] else next_log_line a next ∷ []
 
 -- it is said where it is another than was said last
 pub record SaysNext {S T D K E : Type 0} (a : Agent) (there : Option Next) (old new : House S T D K E) : Type 0 where
-  pub desk : Says a (next_lines a old.next there) old.desk.marks old.desk new.desk
+  pub desk : SaysLines a (next_lines a old.next there) old.desk.marks old.desk new.desk
   pub rest : new ≡ record old { desk = new.desk; next = Some there }
 
 -- where it was not told nothing is done

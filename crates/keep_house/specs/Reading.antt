@@ -1,7 +1,7 @@
 -- Reading: what is served by the text of an inventory, or the fault of the start.
 -- Source: this project's own; docs/commands/serve.md.
 use Rattle.std.specs.Prelude.{◌≡◌, ◌⊎◌, ◌&&◌, ℕ, ◌∷◌, ◌++◌, Bool, true, false, nat_eq, List, Option, Some, None, Result, Ok, Err, codes}
-use Rattle.keep_change.specs.Listed.{rows_of}
+use Rattle.keep_change.specs.Listed.{rows_of_served}
 use Rattle.keep_change.specs.declared.row.Row.{Row}
 use Rattle.keep_files.specs.Files.{Files}
 use Rattle.keep_inventory.specs.Inventories.{Inventory}
@@ -10,11 +10,11 @@ use Rattle.keep_inventory.specs.Served.{Served}
 use Rattle.keep_inventory.specs.declared.note.Note.{Note}
 use Rattle.keep_inventory.specs.declared.fault.InvFault.{InvFault}
 use Rattle.keep_served.specs.ForGood.{inventory_for_good}
-use Rattle.keep_settle.specs.Settled.{IsSettled}
+use Rattle.keep_settle.specs.Settled.{TextIsSettled}
 use Rattle.keep_settle.specs.declared.fault.SettleFault.{SettleFault}
 use Rattle.keep_spread.specs.Margins.{room_of, wider}
 use Rattle.keep_house.specs.Filling.{AreFilled, FirstUnfilled, names_no_file}
-use Rattle.keep_house.specs.Starts.{first_fault}
+use Rattle.keep_house.specs.Starts.{first_start_fault}
 use Rattle.keep_house.specs.declared.demands.Demands.{Demands}
 use Rattle.keep_house.specs.declared.fault.StartFault.{StartFault}
 use Rattle.keep_house.specs.declared.fault.StartFault.TheVariants as faults
@@ -30,20 +30,20 @@ margin_for earlier v = wider v.inventory.forest.margin earlier (room_of v.invent
 -- a text that says that margin, and what the entries say with what their files hold
 pub record IsFilledText (known : Files) (folder : List ℕ) (earlier : ℕ) (v : Served) (text : List ℕ) : Type 0 where
   pub filled : List Row
-  pub are_filled : AreFilled known folder (rows_of v) filled
+  pub are_filled : AreFilled known folder (rows_of_served v) filled
   pub settled : Served
-  pub is_settled : IsSettled (Some (margin_for earlier v)) None filled text settled
+  pub is_settled : TextIsSettled (Some (margin_for earlier v)) None filled text settled
 
 abbrev pub IsServedText : ℕ → Files → List ℕ → List ℕ → Served → List ℕ → Type 0
 IsServedText earlier known folder bytes v text = ((is_as_written earlier v.notes ≡ true) × (text ≡ bytes)) ⊎ ((is_as_written earlier v.notes ≡ false) × IsFilledText known folder earlier v text)
 
 -- the first entry whose file gives nothing
 abbrev pub IsUnfilled : Files → List ℕ → Served → StartFault → Type 0
-IsUnfilled known folder v fault = FirstUnfilled known folder 0 (rows_of v) fault
+IsUnfilled known folder v fault = FirstUnfilled known folder 0 (rows_of_served v) fault
 
 -- what its files hold does not go together
 abbrev pub NotTogether : Files → List ℕ → Served → StartFault → Type 0
-NotTogether known folder v fault = (why : SettleFault) × ((fault ≡ faults.Together why) × ((filled : List Row) × AreFilled known folder (rows_of v) filled))
+NotTogether known folder v fault = (why : SettleFault) × ((fault ≡ faults.Together why) × ((filled : List Row) × AreFilled known folder (rows_of_served v) filled))
 
 -- ---- the fault of a start
 
@@ -51,18 +51,18 @@ abbrev pub IsNoInventory : List ℕ → StartFault → Type 0
 IsNoInventory bytes fault = (why : InvFault) × ((fault ≡ faults.Inventory why) × (read_served bytes ≡ Err why))
 
 -- what is served has that fault; or it has none, and a file does
-abbrev pub IsFaultOf : Demands → Files → List ℕ → Served → StartFault → Type 0
-IsFaultOf d known folder v fault = (first_fault d v ≡ Some fault) ⊎ ((first_fault d v ≡ None) × (IsUnfilled known folder v fault ⊎ NotTogether known folder v fault))
+abbrev pub IsStartFaultOf : Demands → Files → List ℕ → Served → StartFault → Type 0
+IsStartFaultOf d known folder v fault = (first_start_fault d v ≡ Some fault) ⊎ ((first_start_fault d v ≡ None) × (IsUnfilled known folder v fault ⊎ NotTogether known folder v fault))
 
 abbrev pub IsNotServed : Demands → Files → List ℕ → List ℕ → StartFault → Type 0
-IsNotServed d known folder bytes fault = (v : Served) × ((read_served bytes ≡ Ok v) × IsFaultOf d known folder v fault)
+IsNotServed d known folder bytes fault = (v : Served) × ((read_served bytes ≡ Ok v) × IsStartFaultOf d known folder v fault)
 
 -- ---- what is served
 
 -- the inventory of a text in which files are filled and the margin is as wide as demanded, where a need that is `always` lasts to the last moment; or why there is none
 abbrev pub IsToServe : Demands → Files → List ℕ → List ℕ → Result Inventory StartFault → Type 0
 IsToServe d known folder bytes (Ok inventory) =
-    (v : Served) × ((read_served bytes ≡ Ok v) × ((first_fault d v ≡ None) × ((text : List ℕ) × (IsServedText d.earlier known folder bytes v text × (inventory_for_good text ≡ Ok inventory)))))
+    (v : Served) × ((read_served bytes ≡ Ok v) × ((first_start_fault d v ≡ None) × ((text : List ℕ) × (IsServedText d.earlier known folder bytes v text × (inventory_for_good text ≡ Ok inventory)))))
 IsToServe d known folder bytes (Err fault) = (fault ≡ faults.OutOfMemory) ⊎ (IsNoInventory bytes fault ⊎ IsNotServed d known folder bytes fault)
 
 -- ---- an inventory that is served already, with a wider margin
@@ -72,7 +72,7 @@ pub record IsWideText (earlier : ℕ) (text wide : List ℕ) : Type 0 where
   pub v : Served
   pub reads : read_served text ≡ Ok v
   pub settled : Served
-  pub is_settled : IsSettled (Some (margin_for earlier v)) None (rows_of v) wide settled
+  pub is_settled : TextIsSettled (Some (margin_for earlier v)) None (rows_of_served v) wide settled
 
 -- the inventory of such a text; or as it was, where nothing is demanded, or no text says that
 abbrev pub IsWide : ℕ → List ℕ → Inventory → Inventory → Type 0

@@ -7,7 +7,7 @@ use Rattle.keep_disk.specs.declared.fault.DiskFault.{DiskFault}
 use Rattle.keep_disk.specs.declared.fault.DiskFault.TheVariants as disks
 use Rattle.keep_disk.specs.declared.fault.Why.TheVariants.{Full, ReadOnly, Denied, Missing, Other}
 use Rattle.keep_inventory.specs.Keys.{key_text}
-use Rattle.keep_notes.specs.Lines.{why_text}
+use Rattle.keep_notes.specs.Lines.{change_fault_text}
 use Rattle.keep_report.specs.FaultLine.{inventory_words, tree_word}
 use Rattle.keep_settle.specs.declared.fault.SettleFault.{SettleFault}
 use Rattle.keep_settle.specs.declared.fault.SettleFault.TheVariants as settling
@@ -46,7 +46,7 @@ written_words settling.OutOfMemory = codes "out of memory"
 -- why a change of the entry of that name is not taken
 abbrev pub take_words : ℕ → List ℕ → What → TakeFault → List ℕ
 take_words margin name w takes.NoRecord = codes "no journal can write it"
-take_words margin name w (takes.Refused fault) = why_text margin name w fault
+take_words margin name w (takes.Refused fault) = change_fault_text margin name w fault
 take_words margin name w (takes.Unwritten fault) = written_words fault
 take_words margin name w (takes.Disk fault) = codes "it cannot be kept: " ++ disk_words fault
 take_words margin name w takes.OutOfMemory = codes "out of memory"

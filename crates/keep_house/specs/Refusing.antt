@@ -51,5 +51,5 @@ start_words d g (Together fault) = together_words g fault
 start_words d g OutOfMemory = codes "memory"
 
 -- the line, with the program's name in front
-abbrev pub start_line : List ℕ → Demands → Forest → StartFault → List ℕ
-start_line program d g fault = program ++ (codes ": " ++ (start_words d g fault ++ 10 ∷ []))
+abbrev pub start_refusal_line : List ℕ → Demands → Forest → StartFault → List ℕ
+start_refusal_line program d g fault = program ++ (codes ": " ++ (start_words d g fault ++ 10 ∷ []))

@@ -1,7 +1,7 @@
 -- Rooms: the room of the log, and those who follow it, each with a room of its own.
 -- Source: this project's own.
 use Rattle.std.specs.Prelude.{ℕ, Bool, false, List, [], ◌∷◌, ◌++◌, map}
-use Rattle.keep_log.specs.Following.{missing}
+use Rattle.keep_log.specs.Following.{missed_line}
 use Rattle.keep_log.specs.Waiting.{Waiting, dropping}
 use Rattle.keep_log.specs.declared.follower.Follower.{Follower}
 use Rattle.keep_log.specs.declared.level.Level.{Level}
@@ -21,7 +21,7 @@ begun_rooms = record { log = empty LOG_ROOM; followers = [] }
 
 -- a line of this level that could not be made, for lack of memory, is counted as dropped in each room into which it would have come
 abbrev pub misses : Level → Follower → Follower
-misses level f = record f { room = missing f.alerts_alone level f.room }
+misses level f = record f { room = missed_line f.alerts_alone level f.room }
 
 abbrev pub missing_in : Level → Rooms → Rooms
 missing_in level rooms = record { log = dropping 1 rooms.log; followers = map (misses level) rooms.followers }

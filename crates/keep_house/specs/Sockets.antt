@@ -5,16 +5,16 @@ use Rattle.keep_log.specs.declared.level.Level.TheVariants.{Info, Alert}
 use Rattle.keep_log.specs.declared.line.Word.{Word}
 use Rattle.keep_log.specs.declared.line.Word.TheVariants as words
 use Rattle.keep_moment.specs.declared.moment.TheConstants.{LAST}
-use Rattle.keep_house.specs.Lines.{Line, line, moment_word}
+use Rattle.keep_house.specs.Lines.{Line, moment_word, said_line}
 
 -- until when an entry is needed
-abbrev pub need_word : ℕ → Word
-need_word until = if until == LAST then words.Text (codes "always") else moment_word until
+abbrev pub need_log_word : ℕ → Word
+need_log_word until = if until == LAST then words.Text (codes "always") else moment_word until
 
 -- a client has set another need
-abbrev pub need_line : List ℕ → ℕ → Line
-need_line name until = line Info (codes "need") (words.Text name ∷ need_word until ∷ [])
+abbrev pub need_log_line : List ℕ → ℕ → Line
+need_log_line name until = said_line Info (codes "need") (words.Text name ∷ need_log_word until ∷ [])
 
 -- a socket cannot be had
-abbrev pub socket_line : List ℕ → List ℕ → List ℕ → Line
-socket_line socket why cost = line Alert (codes "socket") (words.Text socket ∷ words.Text (codes "cannot be used (" ++ (why ++ codes "):")) ∷ words.Text cost ∷ [])
+abbrev pub socket_log_line : List ℕ → List ℕ → List ℕ → Line
+socket_log_line socket why cost = said_line Alert (codes "socket") (words.Text socket ∷ words.Text (codes "cannot be used (" ++ (why ++ codes "):")) ∷ words.Text cost ∷ [])

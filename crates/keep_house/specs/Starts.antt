@@ -28,8 +28,8 @@ bare_fault None = None
 bare_fault (Some i) = Some (NoCredential i)
 
 -- the first fault: the margin is not written, or is under four time-outs; or an entry is bare, where its name may not be sent
-unfoldable pub first_fault : Demands → Served → Option StartFault
-first_fault d v =
+unfoldable pub first_start_fault : Demands → Served → Option StartFault
+first_start_fault d v =
     if not v.has_margin then Some NoMargin
     else (if nat_lt v.inventory.forest.margin (4 * d.timeout) then Some SmallMargin
     else (if d.names_are_secrets then None else bare_fault (first_bare v 0 v.notes)))

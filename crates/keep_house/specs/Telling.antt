@@ -3,8 +3,10 @@
 use Rattle.std.specs.Prelude.{◌≡◌, ℕ, ◌==◌, Bool, true, false, if◌then◌else◌, List, [], ◌∷◌, ◌++◌, Option, Some, None, Result, Ok, Err, codes, min}
 use Rattle.keep_change.specs.Rows.{is_lease_if}
 use Rattle.keep_change.specs.declared.row.Row.{Row}
-use Rattle.keep_control.specs.Replies.{reply_text}
+use Rattle.keep_control.specs.Replies.{control_reply_text}
 use Rattle.keep_control.specs.declared.reply.Reply.TheVariants as replies
+use Rattle.keep_inventory.specs.declared.need.Need.{Need}
+use Rattle.keep_inventory.specs.declared.need.Need.TheVariants as needs
 use Rattle.keep_moment.specs.Rfc3339.{IsDateText}
 use Rattle.keep_moment.specs.declared.moment.TheConstants.{LAST}
 use Rattle.keep_house.specs.Keeping.{Outcome, Why}
@@ -15,24 +17,29 @@ use Rattle.keep_house.specs.Keeping.{Outcome, Why}
 abbrev pub IsDated : List ℕ → ℕ → List ℕ → Type 0
 IsDated front moment text = (date : List ℕ) × (IsDateText date (min moment LAST) × (text ≡ front ++ date))
 
+-- until when that is: 0 where there is none, and the last moment where it always is
+abbrev pub until_of : Need → ℕ
+until_of (needs.Until t) = t
+until_of needs.Always = LAST
+
 -- until when an entry is needed: not at all, always, or until a moment
 abbrev pub IsNeededBy : Bool → Bool → ℕ → List ℕ → Type 0
 IsNeededBy true always until text = text ≡ codes "has no need"
 IsNeededBy false true until text = text ≡ codes "is needed always"
 IsNeededBy false false until text = IsDated (codes "is needed until ") until text
 
-unfoldable pub IsNeeded : ℕ → List ℕ → Type 0
-IsNeeded until text = IsNeededBy (until == 0) (until == LAST) until text
+unfoldable pub SaysNeeded : ℕ → List ℕ → Type 0
+SaysNeeded until text = IsNeededBy (until == 0) (until == LAST) until text
 
 -- `NAME is needed until ..`
 abbrev pub IsNeedLine : List ℕ → ℕ → List ℕ → Type 0
-IsNeedLine name until line = (needed : List ℕ) × (IsNeeded until needed × (line ≡ name ++ (codes " " ++ needed)))
+IsNeedLine name until line = (needed : List ℕ) × (SaysNeeded until needed × (line ≡ name ++ (codes " " ++ needed)))
 
 abbrev pub IsAddLine : List ℕ → ℕ → List ℕ → Type 0
-IsAddLine name until line = (needed : List ℕ) × (IsNeeded until needed × (line ≡ name ++ (codes " is kept from now on: it " ++ needed)))
+IsAddLine name until line = (needed : List ℕ) × (SaysNeeded until needed × (line ≡ name ++ (codes " is kept from now on: it " ++ needed)))
 
-abbrev pub replace_line : List ℕ → Option Row → List ℕ
-replace_line name row = name ++ (if is_lease_if row then codes " has a new lease id" else codes " has a new secret")
+abbrev pub replaced_text : List ℕ → Option Row → List ℕ
+replaced_text name row = name ++ (if is_lease_if row then codes " has a new lease id" else codes " has a new secret")
 
 -- and its end, no later than the last moment, where it is known
 abbrev pub IsEndedLine : List ℕ → ℕ → List ℕ → Type 0
@@ -54,12 +61,12 @@ reload_line path = path ++ codes " was read anew"
 abbrev pub IsDoneReply : Option (List ℕ) → Option (List ℕ) → Type 0
 IsDoneReply None sent = sent ≡ None
 IsDoneReply (Some line) None = Unit {0}
-IsDoneReply (Some line) (Some text) = text ≡ reply_text (replies.Done (line ∷ []))
+IsDoneReply (Some line) (Some text) = text ≡ control_reply_text (replies.Done (line ∷ []))
 
 abbrev pub IsRefusedReply : Why → Option (List ℕ) → Type 0
 IsRefusedReply None sent = sent ≡ None
 IsRefusedReply (Some why) None = Unit {0}
-IsRefusedReply (Some why) (Some text) = text ≡ reply_text (replies.Refused why)
+IsRefusedReply (Some why) (Some text) = text ≡ control_reply_text (replies.Refused why)
 
 abbrev pub IsReplyTo : Outcome → Option (List ℕ) → Type 0
 IsReplyTo (Ok line) sent = IsDoneReply line sent

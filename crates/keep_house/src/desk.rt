@@ -1,22 +1,22 @@
 //! Where it is said what happens to an agent.
 ghost use Rattle.std.specs.Prelude.{◌≡◌, IfOk, length};
-ghost use Rattle.keep_house.specs.Changed.{entry_line, fault_lines, reread_lines, settled_line};
+ghost use Rattle.keep_house.specs.Changed.{entry_log_line, fault_lines, reread_lines, settled_line};
 ghost use Rattle.keep_house.specs.Clocked.{marks_anew};
-ghost use Rattle.keep_house.specs.Desks.{HearsAnswer, HearsAtStart, HearsClock, HearsLine, HearsNoSocket, HearsRefusal, HearsShorts, HearsWant, Says, begun_desk};
+ghost use Rattle.keep_house.specs.Desks.{HearsAnswer, HearsAtStart, HearsClock, HearsNoSocket, HearsRefusal, HearsShorts, HearsWant, SaysLine, SaysLines, begun_desk};
 ghost use Rattle.keep_house.specs.Lines.{now_of};
-ghost use Rattle.keep_house.specs.Sockets.{need_line};
+ghost use Rattle.keep_house.specs.Sockets.{need_log_line};
 
-use crate::answered::{say_answered, trouble_after};
-use crate::changed::{say_entry, say_fault, say_reread, say_settled};
-use crate::clocked::{say_clocked, say_memory, say_shorts};
-use crate::ended::{mark_anew, mark_ended};
 use crate::form::Form;
 use crate::keeping::Reread;
+use crate::log_answers::{say_answered, trouble_after};
+use crate::log_changes::{say_entry, say_fault, say_reread, say_settled};
+use crate::log_clock::{say_clocked, say_memory, say_shorts};
+use crate::log_ended::{mark_anew, mark_ended};
+use crate::log_line::{Stamp, say_text};
+use crate::log_sockets::{say_need, say_no_socket};
 use crate::mark::{Mark, fresh_marks, mark_at, set_trouble};
 use crate::moments::{now_of, second_of};
 use crate::rooms::Rooms;
-use crate::saying::{Stamp, say_text};
-use crate::sockets::{say_need, say_no_socket};
 use keep_agent::{Agent, Short};
 use keep_asking::Said;
 use keep_clock::Reading;
@@ -136,7 +136,7 @@ impl Desk {
     /// Says that a client has set another need.
     #[tactic(auto, using(crate::proofs::Said::one_said))]
     pub(crate) fn hear_need(&mut self, alloc: Global, agent: &Agent, name: &[u8], until: u64)
-        ensures { HearsLine agent.now (need_line name.now until) self.old self.new }
+        ensures { SaysLine agent.now (need_log_line name.now until) self.old self.new }
     {
         let stamp = self.stamp(agent);
         say_need(alloc, &stamp, name, until, &mut self.room);
@@ -151,7 +151,7 @@ impl Desk {
         event: &'static str,
         name: &[u8],
     )
-        ensures { HearsLine agent.now (entry_line event.now name.now) self.old self.new }
+        ensures { SaysLine agent.now (entry_log_line event.now name.now) self.old self.new }
     {
         let stamp = self.stamp(agent);
         say_entry(alloc, &stamp, event, name, &mut self.room);
@@ -160,7 +160,7 @@ impl Desk {
     /// Says that the file holds every change.
     #[tactic(auto, using(crate::proofs::Said::one_said))]
     pub(crate) fn hear_settled(&mut self, alloc: Global, agent: &Agent)
-        ensures { HearsLine agent.now settled_line self.old self.new }
+        ensures { SaysLine agent.now settled_line self.old self.new }
     {
         let stamp = self.stamp(agent);
         say_settled(alloc, &stamp, &mut self.room);
@@ -168,7 +168,7 @@ impl Desk {
 
     /// Says that the file was read anew, and which changes do not hold any more.
     pub(crate) fn hear_reread(&mut self, alloc: Global, agent: &Agent, reread: &Reread)
-        ensures { Says agent.now (reread_lines reread.now) self.old.marks self.old self.new }
+        ensures { SaysLines agent.now (reread_lines reread.now) self.old.marks self.old self.new }
     {
         let stamp = self.stamp(agent);
         say_reread(alloc, &stamp, reread, &mut self.room);
@@ -176,7 +176,7 @@ impl Desk {
 
     /// Says why the file is not served, where memory sufficed for the reason.
     pub(crate) fn hear_fault(&mut self, alloc: Global, agent: &Agent, why: &Option<Text>)
-        ensures { Says agent.now (fault_lines why.now) self.old.marks self.old self.new }
+        ensures { SaysLines agent.now (fault_lines why.now) self.old.marks self.old self.new }
     {
         let stamp = self.stamp(agent);
         say_fault(alloc, &stamp, why, &mut self.room);

@@ -1,18 +1,18 @@
 //! Ends that are kept over a restart.
 ghost use Rattle.std.specs.Prelude.{◌≡◌, ◌∷◌, [], IfOk};
 ghost use Rattle.keep_log.specs.declared.line.Word.TheVariants as kinds;
-ghost use Rattle.keep_house.specs.Desks.{Says};
+ghost use Rattle.keep_house.specs.Desks.{SaysLines};
 ghost use Rattle.keep_house.specs.Ends.{EndsGoOn, HearsEnd, HearsServed, HearsUnread, KeepsEnds, ends_line, is_failing, tried_lines, unkept_line, unread_line};
-ghost use Rattle.keep_house.specs.Lines.{IsSaid};
+ghost use Rattle.keep_house.specs.Lines.{LineIsSaid};
 ghost use Rattle.keep_house.specs.Reasons.{disk_words};
 
 use crate::desk::Desk;
 use crate::house::House;
+use crate::log_line::{Stamp, say};
+use crate::log_words::{one_text, text_word};
 use crate::moments::second_of;
 use crate::reasons::disk_words;
 use crate::rooms::Rooms;
-use crate::saying::{Stamp, say};
-use crate::wording::{one_text, text_word};
 use keep_agent::Agent;
 use keep_clock::Reading;
 use keep_disk::{Disk, DiskFault};
@@ -99,7 +99,7 @@ impl Desk {
         was_failing: bool,
         tried: Option<Result<(), DiskFault>>,
     )
-        ensures { Says agent.now (tried_lines was_failing tried) self.old.marks self.old self.new }
+        ensures { SaysLines agent.now (tried_lines was_failing tried) self.old.marks self.old self.new }
     {
         if let Some(Err(fault)) = tried {
             if !was_failing {
@@ -112,14 +112,14 @@ impl Desk {
 
 // Says that the ends from before the start cannot be read.
 fn say_unread(alloc: Global, stamp: &Stamp, fault: DiskFault, room: &mut Rooms)
-    ensures { IsSaid stamp.now.form stamp.now.moment (unread_line fault) room.old room.new }
+    ensures { LineIsSaid stamp.now.form stamp.now.moment (unread_line fault) room.old room.new }
 {
     say_ends(alloc, stamp, Level::Alert, b"cannot be read:", fault, room);
 }
 
 // Says that the ends could not be kept.
 fn say_unkept(alloc: Global, stamp: &Stamp, fault: DiskFault, room: &mut Rooms)
-    ensures { IsSaid stamp.now.form stamp.now.moment (unkept_line fault) room.old room.new }
+    ensures { LineIsSaid stamp.now.form stamp.now.moment (unkept_line fault) room.old room.new }
 {
     say_ends(
         alloc,
@@ -141,7 +141,7 @@ fn say_ends(
     fault: DiskFault,
     room: &mut Rooms,
 )
-    ensures { IsSaid stamp.now.form stamp.now.moment (ends_line level what.now fault) room.old room.new }
+    ensures { LineIsSaid stamp.now.form stamp.now.moment (ends_line level what.now fault) room.old room.new }
 {
     match fault_words(alloc, what, fault) {
         Ok(words) => say(alloc, stamp, level, "ends", words, room),

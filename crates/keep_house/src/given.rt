@@ -1,8 +1,10 @@
 ghost use Rattle.std.specs.Prelude.{◌≡◌};
+ghost use Rattle.keep_house.specs.Awaiting.{addressed};
 ghost use Rattle.keep_house.specs.Commands.{is_served};
 
 use crate::mark::Mark;
-use keep_moment::Text;
+use keep_change::What;
+use keep_moment::{Name, Text};
 
 /// A need that a client gave, as long as it is not settled.
 #[derive(Clone, Copy, Debug, PartialEq, Eq)]
@@ -28,8 +30,27 @@ pub enum Given {
         /// When it was carried out, in milliseconds of the clock that never steps.
         at: u64,
     },
+    /// The same of a client that was set aside.
+    Aside {
+        /// The number of the client, where it is to be told.
+        client: Option<u64>,
+        /// What it is sent then; `None` where memory was wanting for that.
+        sent: Option<Text>,
+        /// When it was carried out, in milliseconds of the clock that never steps.
+        at: u64,
+    },
     /// An inventory, and marks for its entries.
     Served(Vec<Mark>),
+}
+
+/// A change of a client's that is made once the credential was looked up that it brings.
+#[derive(Drop)]
+pub struct Awaited {
+    /// The number of the client, where it is to be told.
+    pub client: Option<u64>,
+    /// The name of the entry.
+    pub name: Name,
+    pub what: What,
 }
 
 /// Whether an inventory was given last.
@@ -38,6 +59,16 @@ pub(crate) fn is_served(given: &Option<Given>) -> bool
 {
     match given {
         Some(Given::Served(_)) => true,
-        Some(Given::Need(_) | Given::Answer { .. }) | None => false,
+        Some(Given::Need(_) | Given::Answer { .. } | Given::Aside { .. }) | None => false,
+    }
+}
+
+/// An answer is for this client, which was set aside.
+pub(crate) fn addressed(given: Option<Given>, client: Option<u64>) -> Option<Given>
+    ensures { result ≡ addressed client given }
+{
+    match given {
+        Some(Given::Answer { sent, at }) => Some(Given::Aside { client, sent, at }),
+        other => other,
     }
 }

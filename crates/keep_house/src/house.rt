@@ -2,7 +2,7 @@
 ghost use Rattle.std.specs.Prelude.{◌≡◌, None};
 
 use crate::desk::Desk;
-use crate::given::{Given, is_served};
+use crate::given::{Awaited, Given, is_served};
 use crate::keeping::Keeping;
 use keep_agent::Agent;
 use keep_answering::{Control, Onlookers};
@@ -34,6 +34,8 @@ pub struct House<S, T, D, K, E> {
     pub state: Option<K>,
     /// What was given to the loop last, as long as it is not settled.
     pub given: Option<Given>,
+    /// The change that waits for the broker's word on its credential, where one does.
+    pub awaited: Option<Awaited>,
     /// What was said last of the next time of an entry, by the broker's clock; `None` where nothing was said yet.
     pub next: Option<Option<Next>>,
     /// Where ends are kept over a restart, if they are.
@@ -43,7 +45,7 @@ pub struct House<S, T, D, K, E> {
 impl<S, T, D, K, E> House<S, T, D, K, E> {
     /// The log alone: with no control socket, none for onlookers, and nothing that is kept.
     pub fn new(desk: Desk, sink: S, file: FileReading) -> House<S, T, D, K, E>
-        ensures { result ≡ record { desk = desk; sink = sink; control = None; onlookers = None; file = file; state = None; given = None; next = None; ends = None } }
+        ensures { result ≡ record { desk = desk; sink = sink; control = None; onlookers = None; file = file; state = None; given = None; awaited = None; next = None; ends = None } }
     {
         House {
             desk,
@@ -53,6 +55,7 @@ impl<S, T, D, K, E> House<S, T, D, K, E> {
             file,
             state: None,
             given: None,
+            awaited: None,
             next: None,
             ends: None,
         }
@@ -92,10 +95,12 @@ impl<S: LogSink, T: Talk, D: Door<T>, K: Keeping, E: Disk> Neighbours for House<
         }
     }
 
-    #[tactic(auto, using(crate::proofs::Givers::none_by_attending, crate::proofs::Givers::reader_by_attending))]
+    #[tactic(auto, using(crate::proofs::Givers::none_by_looking, crate::proofs::Givers::reader_by_looking, crate::proofs::Givers::none_by_attending, crate::proofs::Givers::reader_by_attending))]
     fn go_on(&mut self, alloc: Global, agent: &Agent, now: Reading) -> bool {
         self.keep_ends(alloc, agent, now);
-        self.attend(alloc, agent, now)
+        let goes_on = self.look(alloc, agent, now);
+        let is_busy = self.attend(alloc, agent, now);
+        goes_on || is_busy
     }
 
     #[tactic(auto, using(crate::proofs::Givers::one_by_asking, crate::proofs::Givers::reader_by_asking))]

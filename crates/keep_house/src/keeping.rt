@@ -4,11 +4,14 @@ ghost use Rattle.std.specs.declared.alloc.AllocError.{AllocError};
 ghost use Rattle.keep_change.specs.Rows.{named};
 ghost use Rattle.keep_change.specs.declared.row.Row.{Row};
 ghost use Rattle.keep_inventory.specs.Inventories.{Inventory};
-ghost use Rattle.keep_house.specs.Keeping.{KeepCall, Rebuilt, Reload, Settle, Take, Why};
+ghost use Rattle.keep_house.specs.Keeping.{KeepCall, Look, LookUp, Prove, Rebuilt, Reload, Settle, Take, Why};
 
 use keep_change::{Row, What};
+use keep_clock::Reading;
 use keep_inventory::Inventory;
 use keep_moment::Text;
+use keep_proving::Verdict;
+use keep_secrets::Looked;
 use std::alloc::{AllocError, Global};
 
 /// What is said of a file that was read anew.
@@ -18,6 +21,17 @@ pub struct Reread {
     pub notes: Vec<Text>,
     /// What is said of its copy, where that could not be kept.
     pub unkept: Option<Text>,
+}
+
+/// Whether the credential that a change brings is looked up before it is taken.
+#[derive(Clone, Copy, Debug, PartialEq, Eq)]
+pub enum LookedUp {
+    /// Its lookup is out, and [`Keeping::prove`] gives the verdict.
+    Out,
+    /// Another credential is being looked up.
+    Later,
+    /// There is nothing to be looked up.
+    Nothing,
 }
 
 /// Keeps the changes that clients give, over a restart too. A reason why something was not done is in words for the one who asked,
@@ -44,6 +58,22 @@ pub trait Keeping {
     fn take(&mut self, alloc: Global, now: u64, name: &[u8], what: What) -> Result<(), Option<Text>>
         ensures { Self.does (Take now name.now what result) self.old self.new };
 
+    /// Looks up the credential that this change of the entry of that name brings, where it brings one and may be made. It waits for
+    /// nothing. The only error is lack of memory: nothing is looked up then.
+    fn look_up(
+        &mut self,
+        alloc: Global,
+        now: Reading,
+        name: &[u8],
+        what: &What,
+    ) -> Result<LookedUp, AllocError>
+        ensures { Self.does (LookUp now name.now what.now result) self.old self.new };
+
+    /// The verdict on the credential that is looked up, once the broker's answer is there: then it is looked up no more. `now` is in
+    /// milliseconds of the clock that never steps. It waits for nothing. The only error is lack of memory: it is looked up no more then.
+    fn prove(&mut self, alloc: Global, now: u64) -> Result<Option<Verdict>, AllocError>
+        ensures { Self.does (Prove now result) self.old self.new };
+
     /// Makes the file hold every change.
     fn settle(&mut self, alloc: Global) -> Result<(), Option<Text>>
         ensures { Self.does (Settle result) self.old self.new };
@@ -59,6 +89,11 @@ pub trait Keeping {
     /// The inventory that is to be served from now on, where a rebuilding is due. The only error is out of memory.
     fn due(&self, alloc: Global, now: u64) -> Result<Option<Inventory>, AllocError>
         ensures { Self.gives now result self.now };
+
+    /// Looks at files of credentials, where it is time for that, until one is to be read; and takes what that one holds, once it was
+    /// looked up. While one is looked up no other is looked at. It waits for nothing but the files.
+    fn look(&mut self, alloc: Global, now: Reading) -> Looked
+        ensures { Self.does (Look now result) self.old self.new };
 
     /// The rebuilding was made.
     fn rebuilt(&mut self)

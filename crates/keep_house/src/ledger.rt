@@ -1,49 +1,62 @@
 //! The state of an agent on a disk.
-ghost use Rattle.std.specs.Prelude.{◌≡◌, ◌⊎◌, ◌++◌, ℕ, List, IfErr, IfOk, IfSome, None, OnErr, OnOk, Ok, Some, take, true};
+ghost use Rattle.std.specs.Prelude.{◌≡◌, ◌⊎◌, ◌++◌, ℕ, List, IfErr, IfOk, IfSome, None, OnErr, OnOk, Ok, Option, Some, take, true};
 ghost use Rattle.keep_agent.specs.Waiting.{changed};
 ghost use Rattle.keep_change.specs.declared.replaying.Note.{Note};
 ghost use Rattle.keep_inventory.specs.Inventories.{Inventory};
 ghost use Rattle.keep_inventory.specs.Inventory.{read_served};
 ghost use Rattle.keep_inventory.specs.Served.{Served};
 ghost use Rattle.keep_served.specs.ForGood.{inventory_for_good};
+ghost use Rattle.keep_disk.specs.declared.fault.DiskFault.{DiskFault};
+ghost use Rattle.keep_state.specs.Settles.{IsCopied};
 ghost use Rattle.keep_state.specs.States.{book_in, store_in};
 ghost use Rattle.keep_store.specs.Books.{IsBookIf};
 ghost use Rattle.keep_store.specs.Entering.{IsWhyNot};
 ghost use Rattle.keep_store.specs.Records.{records_in};
 ghost use Rattle.keep_store.specs.Stores.{lines_in};
 ghost use Rattle.keep_waiting.specs.Keepers.{waiting_in};
-ghost use Rattle.keep_house.specs.Ledgers.{AreCompacted, FilledWith, IsAsItWas, IsFilledOn, IsTakenOn};
+ghost use Rattle.keep_house.specs.Ledgers.{AreCompacted, FilledWith, IsFilledOn, IsTakenOn};
 ghost use Rattle.keep_house.specs.Noting.{IsWhyNotServed, left_lines, said_notes};
 ghost use Rattle.keep_house.specs.Reading.{IsToServe, IsWide};
 ghost use Rattle.keep_house.specs.Reasons.{bare_words, file_words, left_words, table_words};
+ghost use Rattle.keep_house.specs.Rereading.{AreBytesOf, IsWhyNotReread, SaysCopy, SaysNoBook, SaysNotes, SaysUnread};
 ghost use Rattle.keep_house.specs.Starts.{is_bare_row};
+ghost use Rattle.keep_house.specs.Untouched.{IsAsItWas};
 
+use crate::asked_file::AskedFile;
+use crate::candidates::candidate_of;
 use crate::demands::Demands;
 use crate::fault::StartFault;
-use crate::gathering::{Gathered, gather};
-use crate::judging::is_bare_row;
-use crate::keeping::{Keeping, Reread};
+use crate::first_fault::is_bare_row;
+use crate::gathered_secrets::{Gathered, gather};
+use crate::inquiry::{ask, hear};
+use crate::keeping::{Keeping, LookedUp, Reread};
 use crate::reading::{read_to_serve, wide};
 use crate::reasons::{
     after, bare_words, book_words, disk_words, file_words, inventory_words, settle_words,
     table_words, take_words, unread_words,
 };
+use keep_asking::SeenLanes;
 use keep_change::{Note, Row, What};
-use keep_disk::Disk;
+use keep_clock::Reading;
+use keep_disk::{Disk, DiskFault};
 use keep_files::Inputs;
 use keep_inventory::{Inventory, read_served};
+use keep_lanes::Lanes;
 use keep_moment::{Name, Text};
+use keep_proving::{Proving, Verdict};
+use keep_secrets::{Looked, Looking, SecretFiles};
 use keep_state::{Reloaded, State, TableFault, read_table};
 use keep_store::{Secret, TakeFault};
 use keep_words::push_number;
 use std::alloc::{AllocError, Global};
+use std::mem;
 
 /// The notes of a file that are said at most; what is left is counted in one more.
 const MOST_NOTES: usize = 100;
 
 /// The state of an agent on a disk, and what is demanded of the file that is served.
 #[derive(Drop)]
-pub struct Ledger<'a, D: Disk, I> {
+pub struct Ledger<'a, D: Disk, I, L: Lanes> {
     /// The changes that clients give.
     pub state: State<'a, D>,
     /// What is demanded of the file.
@@ -52,9 +65,15 @@ pub struct Ledger<'a, D: Disk, I> {
     pub folder: &'a str,
     /// The files of credentials.
     pub inputs: I,
+    /// How far the look at them has come.
+    pub looking: Looking,
+    /// Over which a credential is looked up before it is taken, where that is done.
+    pub proving: Option<Proving<L>>,
+    /// The credential of a file that is looked up, where one is.
+    pub asked: Option<AskedFile>,
 }
 
-impl<'a, D: Disk, I: Inputs> Ledger<'a, D, I> {
+impl<'a, D: Disk, I: Inputs, L: Lanes> Ledger<'a, D, I, L> {
     /// What is served now. The margin is as much wider as it is demanded that the agent wakes up earlier. The only error is out of memory.
     pub fn inventory(&self, alloc: Global) -> Result<Inventory, AllocError>
         ensures { IfOk result (λ inventory. (narrow : Inventory) × ((inventory_for_good (book_in self.now.state).text ≡ Ok narrow) × IsWide self.now.demands.earlier (book_in self.now.state).text narrow inventory)) }
@@ -86,18 +105,35 @@ impl<'a, D: Disk, I: Inputs> Ledger<'a, D, I> {
         Ok(said)
     }
 
-    // The file at its path, where it may be served; otherwise why not, in words.
-    fn judged(&mut self, alloc: Global) -> Result<Text, Option<Text>>
-        ensures served { IfOk result (λ bytes. (inventory : Inventory) × IsToServe self.old.demands (I.bytes_at self.old.inputs) self.old.folder.now bytes (Ok inventory)) }
+    // The bytes of the file; or why it is not read, in words.
+    fn read(&mut self, alloc: Global) -> Result<Text, Option<Text>>
+        ensures stand { IfOk result (λ bytes. AreBytesOf D.is_known D.state self.old.state bytes) }
+        ensures refused { IfErr result (λ why. IfSome why (SaysUnread D.is_known D.state self.old.state)) }
         ensures keeper { self.new.state.keeper ≡ self.old.state.keeper }
+        ensures places { self.new.state.places ≡ self.old.state.places }
+        ensures inputs { self.new.inputs ≡ self.old.inputs }
+        ensures demands { self.new.demands ≡ self.old.demands }
+        ensures folder { self.new.folder ≡ self.old.folder }
+    {
+        match self.state.read_file() {
+            Ok(read) => Ok(read.bytes),
+            Err(fault) => Err(unread_words(alloc, fault).ok()),
+        }
+    }
+
+    // The file at its path, where it may be served; otherwise why not, in words.
+    #[tactic(auto, using(crate::proofs::WhyUnserved::unread_why, crate::proofs::WhyUnserved::unserved_why))]
+    fn judged(&mut self, alloc: Global) -> Result<Text, Option<Text>>
+        ensures stand { IfOk result (λ bytes. AreBytesOf D.is_known D.state self.old.state bytes) }
+        ensures served { IfOk result (λ bytes. (inventory : Inventory) × IsToServe self.old.demands (I.bytes_at self.old.inputs) self.old.folder.now bytes (Ok inventory)) }
+        ensures refused { IfErr result (λ why. IfSome why (IsWhyNotReread D.is_known D.state (I.bytes_at self.old.inputs) self.old.demands self.old.folder.now self.old.state)) }
+        ensures keeper { self.new.state.keeper ≡ self.old.state.keeper }
+        ensures places { self.new.state.places ≡ self.old.state.places }
         ensures same { (path : List ℕ) → I.bytes_at self.new.inputs path ≡ I.bytes_at self.old.inputs path }
         ensures demands { self.new.demands ≡ self.old.demands }
         ensures folder { self.new.folder ≡ self.old.folder }
     {
-        let bytes = match self.state.read_file() {
-            Ok(read) => read.bytes,
-            Err(fault) => return Err(unread_words(alloc, fault).ok()),
-        };
+        let bytes = self.read(alloc)?;
         let demands = self.demands;
         match read_to_serve(alloc, bytes.list(), demands, self.folder, &mut self.inputs) {
             Ok(_) => Ok(bytes),
@@ -116,9 +152,22 @@ impl<'a, D: Disk, I: Inputs> Ledger<'a, D, I> {
         Ok(lines)
     }
 
+    // The same; nothing, where memory is wanting for that.
+    fn notes_said(&self, alloc: Global, notes: &[Note]) -> Vec<Text>
+        ensures { SaysNotes (book_in self.now.state).file.margin (records_in (lines_in (store_in self.now.state))) notes.now result.items }
+    {
+        match self.note_lines(alloc, notes) {
+            Ok(lines) => lines,
+            Err(_) => Vec::new(alloc),
+        }
+    }
+
     // Serves these bytes of the file from now on.
     fn reloaded(&mut self, alloc: Global, now: u64, bytes: &[u8]) -> Result<Reread, Option<Text>>
-        ensures reloaded { IfOk result (λ r. (notes : List Note) × IsBookIf (Some bytes.now) (records_in (lines_in (store_in self.old.state))) (book_in self.old.state).secrets (book_in self.new.state) notes) }
+        ensures reloaded { IfOk result (λ r. (notes : List Note) × (IsBookIf (Some bytes.now) (records_in (lines_in (store_in self.old.state))) (book_in self.old.state).secrets (book_in self.new.state) notes
+            × SaysNotes (book_in self.new.state).file.margin (records_in (lines_in (store_in self.new.state))) notes r.notes.items)) }
+        ensures copied { IfOk result (λ r. (copy : Option DiskFault) × (IsCopied D.is_known self.old.state.places bytes.now copy (D.state self.new.state.disk) × SaysCopy copy r.unkept)) }
+        ensures why { IfErr result (λ why. IfSome why (SaysNoBook bytes.now)) }
         ensures waiting { OnOk result (waiting_in self.new.state.keeper ≡ changed (waiting_in self.old.state.keeper) now) }
         ensures refused { OnErr result (IsAsItWas self.old.state self.new.state) }
         ensures inputs { self.new.inputs ≡ self.old.inputs }
@@ -129,15 +178,19 @@ impl<'a, D: Disk, I: Inputs> Ledger<'a, D, I> {
             Ok(reloaded) => reloaded,
             Err(fault) => return Err(book_words(alloc, fault).ok()),
         };
-        // (Where memory is wanting, nothing is said of them.)
-        let notes = self
-            .note_lines(alloc, &notes)
-            .unwrap_or_else(|_| Vec::new(alloc));
-        let unkept = match copy {
-            None => None,
-            Some(fault) => after(alloc, b"of the file could not be kept: ", disk_words(fault)).ok(),
-        };
+        let notes = self.notes_said(alloc, &notes);
+        let unkept = unkept_words(alloc, copy);
         Ok(Reread { notes, unkept })
+    }
+}
+
+// Why the copy of the file could not be kept, in words; `None` where it was, or memory was wanting for them.
+fn unkept_words(alloc: Global, copy: Option<DiskFault>) -> Option<Text>
+    ensures { SaysCopy copy result }
+{
+    match copy {
+        None => None,
+        Some(fault) => after(alloc, b"of the file could not be kept: ", disk_words(fault)).ok(),
     }
 }
 
@@ -270,19 +323,12 @@ fn push_left(alloc: Global, left: usize, lines: &mut Vec<Text>) -> Result<(), Al
     Ok(())
 }
 
-// Appends texts, where memory suffices.
-fn push_all(mut said: Vec<Text>, notes: &mut Vec<Text>)
-    ensures { (notes.new.items ≡ notes.old.items ++ said.items) ⊎ (notes.new.items ≡ notes.old.items) }
-{
-    let _appended = notes.append(&mut said);
-}
-
-impl<'a, D: Disk, I: Inputs> Keeping for Ledger<'a, D, I> {
+impl<'a, D: Disk, I: Inputs + SecretFiles, L: Lanes> Keeping for Ledger<'a, D, I, L> {
     ghost use Rattle.keep_change.specs.declared.row.Row.{Row};
     ghost use Rattle.keep_house.specs.Ledgers.{DoesLedger, GivesLedger, ReadsTable};
     ghost use Rattle.keep_state.specs.States.{book_in};
 
-    ghost does = { DoesLedger D.is_known D.state I.bytes_at };
+    ghost does = { DoesLedger D.is_known D.state I.bytes_at I.calls ⟦<L as SeenLanes>⟧.seen L.host_port };
 
     ghost rows = { λ l. (book_in l.state).rows };
 
@@ -312,6 +358,24 @@ impl<'a, D: Disk, I: Inputs> Keeping for Ledger<'a, D, I> {
         }
     }
 
+    fn look_up(
+        &mut self,
+        alloc: Global,
+        now: Reading,
+        name: &[u8],
+        what: &What,
+    ) -> Result<LookedUp, AllocError> {
+        let candidate = candidate_of(alloc, &self.state, name, what)?;
+        ask(alloc, &mut self.proving, now, candidate)
+    }
+
+    fn prove(&mut self, alloc: Global, now: u64) -> Result<Option<Verdict>, AllocError> {
+        if self.asked.is_some() {
+            return Ok(None);
+        }
+        hear(alloc, &mut self.proving, now)
+    }
+
     fn settle(&mut self, alloc: Global) -> Result<(), Option<Text>> {
         match self.state.settle() {
             Ok(_) => Ok(()),
@@ -321,11 +385,7 @@ impl<'a, D: Disk, I: Inputs> Keeping for Ledger<'a, D, I> {
 
     fn reload(&mut self, alloc: Global, now: u64) -> Result<Reread, Option<Text>> {
         let bytes = self.judged(alloc)?;
-        let mut reread = self.reloaded(alloc, now, bytes.list())?;
-        if let Ok(said) = self.fill(alloc, now) {
-            push_all(said, &mut reread.notes);
-        }
-        Ok(reread)
+        self.reloaded(alloc, now, bytes.list())
     }
 
     fn read_row(&self, alloc: Global, table: &[u8]) -> Result<Row, Option<Text>> {
@@ -340,6 +400,13 @@ impl<'a, D: Disk, I: Inputs> Keeping for Ledger<'a, D, I> {
             return Ok(None);
         };
         Ok(Some(wide(alloc, self.demands.earlier, self.state.text(), inventory)?))
+    }
+
+    fn look(&mut self, alloc: Global, now: Reading) -> Looked {
+        match mem::replace(&mut self.asked, None) {
+            Some(asked) => self.hear_file(alloc, now, asked),
+            None => self.look_around(alloc, now),
+        }
     }
 
     fn rebuilt(&mut self) {

@@ -5,64 +5,73 @@
 //! The contract for the layers above: [`read_to_serve`] gives what is served by the text of an inventory, or the first fault of the
 //! start (`specs/Reading`, `specs/Starts`); a [`Desk`] says what happens to the agent, line by line (`specs/Desks`), and lack of memory
 //! costs the line alone; and a [`House`] gives each neighbour its bounded part of a turn: [`House::attend`] what each is sent
-//! (`specs/Houses`), [`House::next_change`] carries out what a client asks for, and [`House::settle_given`] tells what came of a change
-//! (`specs/Commands`); [`House::keep_ends`] what the file of the ends keeps (`specs/Ends`), and [`House::hear_next`] what is said of the
-//! next time of an entry (`specs/Nexts`). Begin with `specs/Desks` and `specs/Commands`, then `keeping`, `desk` and `house`.
+//! (`specs/Houses`), [`House::next_change`] carries out what a client asks for, once a credential that it brings was looked up
+//! (`specs/Awaiting`), and [`House::settle_given`] tells what came of a change (`specs/Commands`); [`House::look`] what is read, looked up
+//! and taken of files of credentials (`specs/Takings`, `specs/SecretLines`); [`House::keep_ends`] what the file of the ends keeps (`specs/Ends`),
+//! and [`House::hear_next`] what is said of the next time of an entry (`specs/Nexts`). Begin with `specs/Desks` and `specs/Commands`, then
+//! `keeping`, `desk` and `house`.
 #![tactic(auto)]
 
-mod adding;
-mod answered;
-mod answering;
-mod attending;
-mod changed;
-mod changing;
-mod clocked;
+mod add_command;
+mod asked_file;
+mod candidates;
+mod change_commands;
+mod client_answer;
+mod client_words;
+mod credential_lookup;
 mod demands;
 mod desk;
-mod ended;
 mod ends;
 mod fault;
-mod feeding;
-mod filling;
-mod following;
+mod fault_line;
+mod first_fault;
+mod follow_command;
+mod followers;
 mod form;
-mod gathering;
+mod gathered_secrets;
 mod given;
-mod giving;
+mod guests;
 mod house;
-mod judging;
+mod inquiry;
 mod keeping;
 mod laws;
 mod ledger;
+mod log_answers;
+mod log_changes;
+mod log_clock;
+mod log_ended;
+mod log_line;
+mod log_next;
+mod log_reader;
+mod log_sockets;
+mod log_words;
 mod mark;
 mod moments;
-mod needing;
-mod next;
+mod need_command;
+mod next_change;
 mod reading;
 mod reasons;
-mod refusing;
-mod rereading;
+mod reload_command;
 mod rooms;
-mod saying;
-mod sockets;
-mod taking;
-mod telling;
-mod wording;
+mod secret_changes;
+mod secret_files;
+mod secret_news;
+mod verdict_words;
 
+pub use asked_file::AskedFile;
 pub use demands::Demands;
 pub use desk::Desk;
 pub use fault::StartFault;
-pub use filling::MOST_SECRET;
-pub use following::MOST_FOLLOWERS;
+pub use fault_line::line_of_fault;
+pub use follow_command::MOST_FOLLOWERS;
 pub use form::Form;
-pub use given::{Given, GivenNeed};
-pub use giving::MOST_GIVEN;
+pub use given::{Awaited, Given, GivenNeed};
 pub use house::House;
-pub use keeping::{Keeping, Reread};
+pub use keeping::{Keeping, LookedUp, Reread};
 pub use laws::{a_turn_tries_the_reader_little, no_credential_is_said};
 pub use ledger::{Ledger, why_not_served};
+pub use log_reader::MOST_GIVEN;
 pub use mark::Mark;
 pub use reading::read_to_serve;
 pub use reasons::{disk_words, file_words, unread_words};
-pub use refusing::line_of_fault;
 pub use rooms::Rooms;

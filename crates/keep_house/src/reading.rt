@@ -10,12 +10,12 @@ ghost use Rattle.keep_house.specs.declared.fault.StartFault.TheVariants.{OutOfMe
 
 use crate::demands::Demands;
 use crate::fault::StartFault;
-use crate::filling::fill_all;
-use crate::judging::first_fault;
+use crate::first_fault::first_fault;
+use crate::secret_files::fill_all;
 use keep_change::{Rows, rows_of};
 use keep_files::Inputs;
 use keep_inventory::{Inventory, Note, Served, read_served};
-use keep_served::read_for_good;
+use keep_served::{read_for_good, served_for_good};
 use keep_settle::settle;
 use keep_spread::margin_with;
 use std::alloc::{AllocError, Global};
@@ -28,7 +28,7 @@ use std::alloc::{AllocError, Global};
 /// # Errors
 ///
 /// The first in the order of [`StartFault`], of the first entry that has it.
-#[tactic(auto, using(crate::proofs::Read::no_inventory, crate::proofs::Read::not_served, crate::proofs::Read::served_plain, crate::proofs::Read::served_filled, crate::proofs::Read::not_filled, crate::proofs::Read::none_filled))]
+#[tactic(auto, using(crate::proofs::Read::no_inventory, crate::proofs::Read::not_served, crate::proofs::Read::served_plain, crate::proofs::Read::lacks_memory, crate::proofs::Read::served_filled, crate::proofs::Read::not_filled, crate::proofs::Read::none_filled))]
 pub fn read_to_serve<I: Inputs>(
     alloc: Global,
     bytes: &[u8],
@@ -45,7 +45,7 @@ pub fn read_to_serve<I: Inputs>(
         return Err(fault);
     }
     if is_as_written(earlier, served.notes()) {
-        return serve_text(alloc, bytes);
+        return Ok(served_for_good(alloc, served)?);
     }
     let text = filled_text(alloc, &served, earlier, folder, inputs)?;
     serve_text(alloc, text.as_bytes())

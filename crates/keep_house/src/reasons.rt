@@ -6,7 +6,7 @@ ghost use Rattle.keep_house.specs.Reasons.{bare_word, bare_words, book_words, di
 
 use crate::demands::Demands;
 use crate::fault::StartFault;
-use crate::refusing::push_start;
+use crate::fault_line::push_start;
 use keep_change::{Row, What};
 use keep_disk::{DiskFault, Why};
 use keep_inventory::InvFault;

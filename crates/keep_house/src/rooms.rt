@@ -1,9 +1,9 @@
 //! The room of the log, and a room for each of those who follow it.
 ghost use Rattle.std.specs.Prelude.{◌≡◌, IfOk, OnErr, OnOk, length, map};
-ghost use Rattle.keep_house.specs.Lines.{ArePut, EachIsTold, IsPut, IsTold};
+ghost use Rattle.keep_house.specs.Lines.{ArePut, EachIsTold, FollowerIsTold, TextIsPut};
 ghost use Rattle.keep_house.specs.Rooms.{begun_rooms, misses, missing_in, with_follower};
 
-use crate::saying::{Stamp, notice_of};
+use crate::log_line::{Stamp, notice_of};
 use keep_log::{Follower, LOG_ROOM, Level, LogRoom};
 use std::alloc::{AllocError, Global};
 use std::marker::Model;
@@ -70,7 +70,7 @@ impl Rooms {
 
 // Puts a line's text into the log's room.
 fn put(alloc: Global, stamp: &Stamp, text: &[u8], room: &mut LogRoom)
-    ensures { IsPut stamp.now.form stamp.now.moment text.now room.old room.new }
+    ensures { TextIsPut stamp.now.form stamp.now.moment text.now room.old room.new }
 {
     match notice_of(alloc, stamp, room.untold()) {
         Ok(notice) => room.put(&notice, text),
@@ -90,7 +90,7 @@ fn tell_each(alloc: Global, stamp: &Stamp, level: Level, text: &[u8], followers:
 
 // Tells one of them.
 fn tell(alloc: Global, stamp: &Stamp, level: Level, text: &[u8], follower: &mut Follower)
-    ensures { IsTold stamp.now.form stamp.now.moment level text.now follower.old follower.new }
+    ensures { FollowerIsTold stamp.now.form stamp.now.moment level text.now follower.old follower.new }
 {
     match notice_of(alloc, stamp, follower.room.untold()) {
         Ok(notice) => follower.hear(level, &notice, text),

@@ -8,7 +8,7 @@ use Rattle.keep_tree.specs.declared.entry.Entry.{Entry}
 use Rattle.keep_tree.specs.Forest.{Forest, entry_at, no_entry}
 use Rattle.keep_inventory.specs.declared.note.Note.{Note}
 use Rattle.keep_inventory.specs.Inventories.{Inventory}
-use Rattle.keep_inventory.specs.Served.{IsServed, Served}
+use Rattle.keep_inventory.specs.Served.{IsServedInventory, Served}
 use Rattle.keep_served.specs.ForGood.{marks, need_for_good, needs_for_good}
 
 -- ---- marks
@@ -29,7 +29,7 @@ pub marks_all : (notes : List Note) (i : ℕ) → length notes ≤ i → marks (
 marks_all notes i past = ap marks (take_all i notes past)
 
 -- there is one for each entry
-pub places : (v : Served) → IsServed v → (always : List Bool) (notes : List Note) (inventory : Inventory) → always ≡ marks notes → notes ≡ v.notes → inventory ≡ v.inventory → length always ≡ length inventory.forest.entries
+pub places : (v : Served) → IsServedInventory v → (always : List Bool) (notes : List Note) (inventory : Inventory) → always ≡ marks notes → notes ≡ v.notes → inventory ≡ v.inventory → length always ≡ length inventory.forest.entries
 places v served always notes inventory are from is =
     ap (λ bs. length bs) are ∙ marks_count notes ∙ ap (λ (ns : List Note). length ns) from ∙ served.notes ∙ ap (λ (x : Inventory). length x.forest.entries) (sym is)
 

@@ -9,14 +9,15 @@ use Rattle.keep_inventory.specs.declared.note.Note.{Note}
 use Rattle.keep_inventory.specs.Answers.{◌>>=◌}
 use Rattle.keep_inventory.specs.Inventories.{Inventory}
 use Rattle.keep_inventory.specs.Inventory.{read_served}
+use Rattle.keep_inventory.specs.Served.{Served}
 
 -- which entries are needed as long as they can be kept
 unfoldable pub marks : List Note → List Bool
 marks notes = map (λ note. note.is_always) notes
 
 -- an inventory with these needs
-unfoldable pub with_needs : Inventory → List ℕ → Inventory
-with_needs v needs = record v { forest = record v.forest { entries = map (λ i. record (entry_at v.forest.entries i) { need = slice_index needs i }) (range_with_len 0 (length v.forest.entries)) } }
+unfoldable pub inventory_with_needs : Inventory → List ℕ → Inventory
+inventory_with_needs v needs = record v { forest = record v.forest { entries = map (λ i. record (entry_at v.forest.entries i) { need = slice_index needs i }) (range_with_len 0 (length v.forest.entries)) } }
 
 -- the need of the entry i where one that is needed as long as it can be kept is needed until the last moment
 unfoldable pub need_for_good : Forest → List Bool → ℕ → ℕ
@@ -25,6 +26,10 @@ need_for_good g always i = if slice_index_or always i false then LAST else (entr
 unfoldable pub needs_for_good : Forest → List Bool → List ℕ
 needs_for_good g always = map (need_for_good g always) (range_with_len 0 (length g.entries))
 
+-- what was read of an inventory, for a watch
+unfoldable pub served_for_good : Served → Inventory
+served_for_good v = inventory_with_needs v.inventory (needs_for_good v.inventory.forest (marks v.notes))
+
 -- the inventory of a text, for a watch, which looks each entry up and plans as it goes
 unfoldable pub inventory_for_good : List ℕ → Result Inventory InvFault
-inventory_for_good bytes = read_served bytes >>= λ v. Ok (with_needs v.inventory (needs_for_good v.inventory.forest (marks v.notes)))
+inventory_for_good bytes = read_served bytes >>= λ v. Ok (served_for_good v)

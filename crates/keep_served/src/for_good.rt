@@ -2,9 +2,9 @@
 ghost use Rattle.std.specs.Prelude.{◌≡◌, ◌<◌, IfOk, length};
 ghost use Rattle.keep_tree.specs.Forest.{entry_at};
 ghost use Rattle.keep_inventory.specs.Answers.{Gives};
-ghost use Rattle.keep_served.specs.ForGood.{inventory_for_good, marks, need_for_good, needs_for_good, with_needs};
+ghost use Rattle.keep_served.specs.ForGood.{inventory_for_good, inventory_with_needs, marks, need_for_good, needs_for_good, served_for_good};
 
-use keep_inventory::{InvFault, Inventory, Note, read_served};
+use keep_inventory::{InvFault, Inventory, Note, Served, read_served};
 use keep_moment::{LAST, Moment};
 use keep_tree::Forest;
 use std::alloc::{AllocError, Global};
@@ -16,11 +16,19 @@ use std::alloc::{AllocError, Global};
 /// # Errors
 ///
 /// Those of [`read_served`].
-#[tactic(auto, using(crate::proofs::ForGood::places, crate::proofs::ForGood::good_for_each), unfolding(crate::specs::ForGood::inventory_for_good))]
+#[tactic(auto, unfolding(crate::specs::ForGood::inventory_for_good))]
 pub fn read_for_good(alloc: Global, bytes: &[u8]) -> Result<Inventory, InvFault>
     ensures { Gives (λ inventory. inventory) result (inventory_for_good bytes.now) }
 {
     let served = read_served(alloc, bytes)?;
+    Ok(served_for_good(alloc, served)?)
+}
+
+/// What was read of an inventory, for a watch, as [`read_for_good`] gives it of the bytes. The only error is out of memory.
+#[tactic(auto, using(crate::proofs::ForGood::places, crate::proofs::ForGood::good_for_each), unfolding(crate::specs::ForGood::served_for_good))]
+pub fn served_for_good(alloc: Global, served: Served) -> Result<Inventory, AllocError>
+    ensures { IfOk result (λ inventory. inventory ≡ served_for_good served) }
+{
     let (mut inventory, notes) = served.into_parts();
     let always = marks(alloc, &notes)?;
     let needs = needs_for_good(alloc, inventory.forest(), &always)?;
@@ -43,7 +51,7 @@ pub fn marks(alloc: Global, notes: &[Note]) -> Result<Vec<bool>, AllocError>
 /// Gives the entries these needs, one for each. It takes no memory.
 pub fn set_needs(inventory: &mut Inventory, needs: &[Moment])
     requires { length needs.now ≡ length inventory.old.forest.entries }
-    ensures { inventory.new ≡ with_needs inventory.old needs.now }
+    ensures { inventory.new ≡ inventory_with_needs inventory.old needs.now }
 {
     for index in 0..inventory.forest().len() {
         inventory.set_need(index, needs[index as usize]);

@@ -7,4 +7,4 @@
 
 mod for_good;
 
-pub use for_good::{marks, read_for_good, set_needs};
+pub use for_good::{marks, read_for_good, served_for_good, set_needs};

@@ -1,20 +1,28 @@
 //! The state folder of `serve`: what is served by it, and what is said of it.
 use crate::ends::folder_of;
-use keep_command::SystemFiles;
+use crate::secrets::SystemSecrets;
 use keep_device::Sink;
 use keep_disk::{Disk as _, DiskFault, SystemDisk};
 use keep_engine::{Exit, PROGRAM, Stop, tell};
 use keep_house::{Demands, Ledger, disk_words, read_to_serve, unread_words, why_not_served};
 use keep_inventory::{Inventory, MOST_INVENTORY};
+use keep_lanes::SocketLanes;
 use keep_log::Level;
 use keep_moment::Text;
+use keep_secrets::Looking;
 use keep_state::{OpenFault, Opened, Paths, PathsFault, State, read_file};
 use std::alloc::{AllocError, Global};
 use std::fs::File;
-use std::rt::Files;
+use std::net::Net;
+use std::rt::{Clock, Files};
 
 /// The state of an agent on the disks of the system.
-pub type SystemLedger<'a, R> = Ledger<'a, SystemDisk<'a, R>, SystemFiles<'a, R>>;
+pub type SystemLedger<'a, R> = Ledger<
+    'a,
+    SystemDisk<'a, R>,
+    SystemSecrets<'a, R>,
+    SocketLanes<'a, R>,
+>;
 
 /// What is said of the state folder or the file at the start.
 #[derive(Debug, Drop)]
@@ -26,9 +34,11 @@ pub struct Said {
 
 /// What is served with a state folder.
 #[derive(Drop)]
-pub struct Begun<'a, R: Files<File = File> + AllocGlobal> {
+pub struct Begun<'a, R: Files<File = File> + AllocGlobal + Net + Clock> {
     pub ledger: SystemLedger<'a, R>,
     pub inventory: Inventory,
+    /// The same once more, where the start may wait for its part of a spread.
+    pub again: Option<Inventory>,
     /// Whether the file itself is served, and not its copy.
     pub is_good: bool,
     pub said: Vec<Said>,
@@ -64,7 +74,7 @@ pub fn paths_of(alloc: Global, file: &str, folder: &str) -> Result<Paths, NotBeg
 
 /// What is served with the folder of these paths: the file with every change that it has, or the last good copy with them. The folder is
 /// made where there is none.
-pub fn begin<'a, R: Files<File = File> + AllocGlobal>(
+pub fn begin<'a, R: Files<File = File> + AllocGlobal + Net + Clock>(
     rt: &'a R,
     paths: &'a Paths,
     folder: &str,
@@ -72,7 +82,7 @@ pub fn begin<'a, R: Files<File = File> + AllocGlobal>(
 ) -> Result<Begun<'a, R>, NotBegun> {
     let alloc = rt.alloc();
     let mut disk = SystemDisk::new(rt);
-    let mut files = SystemFiles::new(rt);
+    let mut files = SystemSecrets::new(rt);
     if let Err(fault) = disk.make_folder(folder) {
         return Err(unused_by(alloc, folder, fault)?);
     }
@@ -94,6 +104,7 @@ pub fn begin<'a, R: Files<File = File> + AllocGlobal>(
         Err(OpenFault::OutOfMemory) => return Err(NotBegun::Memory),
     };
     let Opened {
+        lock: _,
         state,
         notes,
         fault,
@@ -109,6 +120,9 @@ pub fn begin<'a, R: Files<File = File> + AllocGlobal>(
         demands,
         folder: base,
         inputs: files,
+        looking: Looking::new(alloc),
+        proving: None,
+        asked: None,
     };
     for note in ledger.note_lines(alloc, &notes)? {
         push(&mut said, Level::Note, "journal", Some(note))?;
@@ -119,9 +133,15 @@ pub fn begin<'a, R: Files<File = File> + AllocGlobal>(
     // What files hold at the start waits for no rebuilding.
     ledger.state.rebuilt();
     let inventory = ledger.inventory(alloc)?;
+    let again = if demands.earlier == 0 {
+        None
+    } else {
+        ledger.inventory(alloc).ok()
+    };
     Ok(Begun {
         ledger,
         inventory,
+        again,
         is_good,
         said,
     })
@@ -141,7 +161,7 @@ fn judged<R: Files<File = File> + AllocGlobal>(
     path: &str,
     demands: Demands,
     base: &str,
-    files: &mut SystemFiles<'_, R>,
+    files: &mut SystemSecrets<'_, R>,
 ) -> Result<Text, Option<Text>> {
     let bytes = match read_file(alloc, disk, path) {
         Ok(read) => read.bytes,
@@ -160,7 +180,7 @@ fn copied<R: Files<File = File> + AllocGlobal>(
     path: &str,
     demands: Demands,
     base: &str,
-    files: &mut SystemFiles<'_, R>,
+    files: &mut SystemSecrets<'_, R>,
 ) -> Option<Text> {
     let bytes = disk.read(alloc, path, MOST_INVENTORY).ok()??;
     match read_to_serve(alloc, bytes.list(), demands, base, files) {

@@ -12,6 +12,7 @@ mod ends;
 mod folder;
 mod live;
 mod parser;
+mod secrets;
 mod serve;
 mod sockets;
 mod watch;

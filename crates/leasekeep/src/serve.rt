@@ -1,6 +1,7 @@
-use crate::apart::earlier_by;
+use crate::apart::{earlier_by, shown_of, wait_first, wait_of};
 use crate::ends::{Room, ends_file, folder_of, taken_over};
 use crate::folder::{NotBegun, Said, SystemLedger, begin, paths_of, refuse_changes, refuse_held};
+use crate::secrets::SystemSecrets;
 use crate::sockets::{CLIENTS, ONLOOKERS, Socket, open_door};
 use keep_answering::{Control, Onlookers};
 use keep_clock::{Clock as _, Reading, SystemClock};
@@ -14,8 +15,10 @@ use keep_lanes::{LanesOver, MOST_WIDTH};
 use keep_log::StandardOutput;
 use keep_moment::Text;
 use keep_onlook::FileReading;
-use keep_serving::Serving;
+use keep_proving::Proving;
+use keep_serving::{EarlyDay, Serving};
 use keep_tree::MARGIN_MAX;
+use std::alloc::{AllocError, Global};
 use std::fs::{self, File};
 use std::io::Stdout;
 use std::net::Net;
@@ -84,9 +87,9 @@ where
 }
 
 /// Serves the file with the changes of a state folder; without it, where that cannot be used.
-fn serve_with_state<R, E>(
-    rt: &R,
-    served: &Served<'_>,
+fn serve_with_state<'a, R, E>(
+    rt: &'a R,
+    served: &Served<'a>,
     demands: Demands,
     folder: &str,
     log: StandardOutput,
@@ -105,7 +108,9 @@ where
         Err(why) => return serve_without(rt, served, demands, why, log, errors),
     };
     let start = Start {
+        part: demands.earlier,
         inventory: begun.inventory,
+        again: begun.again,
         ledger: Some(begun.ledger),
         is_good: begun.is_good,
         said: begun.said,
@@ -150,8 +155,8 @@ where
     R: Files<File = File> + AllocGlobal + Net + Clock,
     E: Sink,
 {
-    let inventory = match read_inventory(rt, served, demands, errors) {
-        Ok(inventory) => inventory,
+    let (inventory, again) = match read_inventory(rt, served, demands, errors) {
+        Ok(read) => read,
         Err(exit) => return exit,
     };
     let mut said = Vec::new(rt.alloc());
@@ -161,7 +166,9 @@ where
         }
     }
     let start = Start {
+        part: demands.earlier,
         inventory,
+        again,
         ledger: None,
         is_good: true,
         said,
@@ -177,13 +184,13 @@ fn ended<E: Sink>(ran: Result<(), Stop>, errors: &mut E) -> Exit {
     }
 }
 
-/// What is served of the file; or the exit, once it was told why the start is refused.
+/// What is served of the file, and the same once more for a start that waits; or the exit, once it was told why the start is refused.
 fn read_inventory<R, E>(
     rt: &R,
     served: &Served<'_>,
     demands: Demands,
     errors: &mut E,
-) -> Result<Inventory, Exit>
+) -> Result<(Inventory, Option<Inventory>), Exit>
 where
     R: Files<File = File> + AllocGlobal,
     E: Sink,
@@ -202,8 +209,12 @@ where
         }
     };
     let folder = folder_of(served.file);
-    match read_to_serve(alloc, bytes.list(), demands, folder, &mut files) {
-        Ok(inventory) => Ok(inventory),
+    let mut secrets = SystemSecrets::new(rt);
+    match read_to_serve(alloc, bytes.list(), demands, folder, &mut secrets) {
+        Ok(inventory) => {
+            let again = read_again(alloc, &bytes, demands, folder, &mut secrets);
+            Ok((inventory, again))
+        }
         Err(StartFault::Inventory(fault)) => {
             let exit = Stop::from(fault).report(PROGRAM, errors);
             files.advise(PROGRAM, exit, served.file, errors);
@@ -211,6 +222,20 @@ where
         }
         Err(fault) => Err(refuse(rt, demands, &bytes, fault, errors)),
     }
+}
+
+/// What is served of these bytes, once more; `None` where a start does not wait, or memory is wanting.
+fn read_again<I: Inputs>(
+    alloc: Global,
+    bytes: &Text,
+    demands: Demands,
+    folder: &str,
+    files: &mut I,
+) -> Option<Inventory> {
+    if demands.earlier == 0 {
+        return None;
+    }
+    read_to_serve(alloc, bytes.list(), demands, folder, files).ok()
 }
 
 /// Refuses a file that is no regular one, or that others may read or write. One that is not there is read, which tells why.
@@ -266,8 +291,12 @@ fn refuse<R: AllocGlobal, E: Sink>(
 
 /// What is served from the start on.
 #[derive(Drop)]
-struct Start<'a, R: Files<File = File> + AllocGlobal> {
+struct Start<'a, R: Files<File = File> + AllocGlobal + Net + Clock> {
+    /// This agent's part of a spread, in seconds.
+    part: u32,
     inventory: Inventory,
+    /// The same once more, where the start may wait for that part: it is shown meanwhile.
+    again: Option<Inventory>,
     ledger: Option<SystemLedger<'a, R>>,
     is_good: bool,
     said: Vec<Said>,
@@ -276,7 +305,7 @@ struct Start<'a, R: Files<File = File> + AllocGlobal> {
 /// Serves it. The only error is lack of memory at the start.
 fn run<'a, R>(
     rt: &'a R,
-    served: &Served<'_>,
+    served: &Served<'a>,
     start: Start<'a, R>,
     log: StandardOutput,
 ) -> Result<(), Stop>
@@ -297,7 +326,9 @@ where
         elapsed: 0,
     });
     let Start {
+        part,
         inventory,
+        again,
         ledger,
         is_good,
         said,
@@ -313,16 +344,59 @@ where
         None => Vec::new(alloc),
         Some(file) => taken_over(alloc, file, &inventory, now, &mut desk)?,
     };
-    let mut house = House::new(desk, log, read_at(now, is_good));
-    house.control = clients.map(|door| Control::new(alloc, door));
-    house.onlookers = onlookers.map(|door| Onlookers::new(alloc, door));
-    house.state = ledger;
-    house.ends = file;
+    let state = proved(rt, served, &clock, ledger)?;
+    let house = House {
+        desk,
+        sink: log,
+        control: clients.map(|door| Control::new(alloc, door)),
+        onlookers: onlookers.map(|door| Onlookers::new(alloc, door)),
+        file: read_at(now, is_good),
+        state,
+        given: None,
+        awaited: None,
+        next: None,
+        ends: file,
+    };
+    let mut neighbours = EarlyDay::new(house, u64::from(part) * 1000);
     let Ok(mut serving) = Serving::resume(alloc, inventory, &lanes, &known) else {
         return Err(Stop::Memory);
     };
-    serving.run(alloc, &mut clock, &mut lanes, &mut house, u64::MAX);
+    let shown = shown_of(alloc, again, &lanes, &known);
+    let desk = &mut neighbours.others.desk;
+    let wait = wait_of(alloc, &serving, shown, now, part, desk);
+    wait_first(
+        alloc,
+        wait,
+        &mut serving,
+        &mut clock,
+        &mut lanes,
+        &mut neighbours,
+    );
+    serving.run(alloc, &mut clock, &mut lanes, &mut neighbours, u64::MAX);
     Ok(())
+}
+
+/// The same ledger, for which a credential is looked up before it is taken, over a lane of its own.
+fn proved<'a, R>(
+    rt: &'a R,
+    served: &Served<'a>,
+    clock: &SystemClock<'_, R>,
+    ledger: Option<SystemLedger<'a, R>>,
+) -> Result<Option<SystemLedger<'a, R>>, AllocError>
+where
+    R: Files<File = File> + AllocGlobal + Net + Clock,
+{
+    let Some(mut ledger) = ledger else {
+        return Ok(None);
+    };
+    let seconds = served.patience.min(60) as u32;
+    let registry = match clock.registry() {
+        None => None,
+        Some(registry) => registry.try_clone().ok(),
+    };
+    let lane = LanesOver::over_registry(rt.alloc(), rt, served.place, seconds, 1, registry)?;
+    ledger.proving = Some(Proving::new(lane));
+    Ok(Some(ledger))
 }
 
 /// The file was read at this moment, and was good or was not.

@@ -4,29 +4,29 @@ use Rattle.keep_agent.specs.Agent.{Agent}
 use Rattle.keep_agent.specs.declared.standing.Standing.{Standing}
 use Rattle.keep_lines.specs.Text.{name_of}
 use Rattle.keep_tree.specs.Forest.{Forest}
-use Rattle.watch_machine.specs.State.{State}
+use Rattle.watch_machine.specs.State.{WatchState}
 use Rattle.watch_machine.specs.declared.command.Request.{Request}
 use Rattle.watch_machine.specs.declared.notes.Notes.{Notes}
-use Rattle.keep_house.specs.Alike.{AreAlike}
+use Rattle.keep_house.specs.Alike.{AgentsAreAlike}
 use Rattle.keep_house.specs.Answered.{answered_lines}
-use Rattle.keep_house.specs.Clocked.{clocked_lines, marks_clocked, short_lines}
+use Rattle.keep_house.specs.Clocked.{clocked_lines, marks_clocked, short_log_lines}
 use Rattle.keep_house.specs.Nexts.{next_lines, next_there}
-use Rattle.keep_house.specs.Sockets.{need_line}
+use Rattle.keep_house.specs.Sockets.{need_log_line}
 use Rattle.keep_house.specs.declared.mark.Mark.{Mark}
 use Rattle.keep_house.proofs.laws.no_credential_is_said.Goals as goal
 
 -- an agent without credentials
-abbrev bare : State → Forest → List Standing → Agent
+abbrev bare : WatchState → Forest → List Standing → Agent
 bare m f xs = record { machine = m; inventory = record { forest = f; credentials = []; terms = [] }; standings = xs; beginnings = zero }
 
-same : {X : Type 0} → (f : State → Forest → List Standing → X) (a b : Agent) → AreAlike a b → f b.machine b.inventory.forest b.standings ≡ f a.machine a.inventory.forest a.standings
+same : {X : Type 0} → (f : WatchState → Forest → List Standing → X) (a b : Agent) → AgentsAreAlike a b → f b.machine b.inventory.forest b.standings ≡ f a.machine a.inventory.forest a.standings
 same f a b h = ap (λ m. f m b.inventory.forest b.standings) h.machine ∙ ap (λ g. f a.machine g b.standings) h.forest ∙ ap (λ xs. f a.machine a.inventory.forest xs) h.standings
 
-clocked_same : (notes : Notes) (requests : List Request) (marks : List Mark) (a b : Agent) → AreAlike a b → clocked_lines b notes requests marks ≡ clocked_lines a notes requests marks
+clocked_same : (notes : Notes) (requests : List Request) (marks : List Mark) (a b : Agent) → AgentsAreAlike a b → clocked_lines b notes requests marks ≡ clocked_lines a notes requests marks
 unfolding clocked_lines
 clocked_same notes requests marks a b h = same (λ m f xs. clocked_lines (bare m f xs) notes requests marks) a b h
 
-marks_same : (marks : List Mark) (a b : Agent) → AreAlike a b → marks_clocked b marks ≡ marks_clocked a marks
+marks_same : (marks : List Mark) (a b : Agent) → AgentsAreAlike a b → marks_clocked b marks ≡ marks_clocked a marks
 unfolding marks_clocked
 marks_same marks a b h = same (λ m f xs. marks_clocked (bare m f xs) marks) a b h
 
@@ -37,11 +37,11 @@ pub returns-clause-next : goal.returns-clause-next
 returns-clause-next c = λ a b h last next. same (λ m f xs. next_lines (bare m f xs) last (next_there m next)) a b h
 
 pub returns-clause-need : goal.returns-clause-need
-returns-clause-need c = λ a b h i until. ap (λ g. need_line (name_of g i) until) h.forest
+returns-clause-need c = λ a b h i until. ap (λ g. need_log_line (name_of g i) until) h.forest
 
 pub returns-clause-shorts : goal.returns-clause-shorts
-unfolding short_lines
-returns-clause-shorts c = λ a b h shorts. same (λ m f xs. short_lines (bare m f xs) shorts) a b h
+unfolding short_log_lines
+returns-clause-shorts c = λ a b h shorts. same (λ m f xs. short_log_lines (bare m f xs) shorts) a b h
 
 pub returns-clause-answered : goal.returns-clause-answered
 unfolding answered_lines

@@ -3,8 +3,8 @@ use Rattle.std.proofs.Common.{◌≡◌, ◌∙◌, ◌<◌, List, ap, arith, ge
 use Rattle.std.proofs.lemmas.List.{get_or_read}
 use Rattle.keep_tree.specs.declared.entry.Entry.{Entry}
 use Rattle.keep_tree.specs.Forest.{Forest, entry_at}
-use Rattle.keep_inventory.specs.Inventories.{Inventory, with_need}
-use Rattle.keep_served.specs.ForGood.{with_needs}
+use Rattle.keep_inventory.specs.Inventories.{Inventory, inventory_with_need}
+use Rattle.keep_served.specs.ForGood.{inventory_with_needs}
 use Rattle.keep_served.proofs.ForGood.{all_set, one_set, so_far_count}
 use Rattle.keep_served.proofs.for_good.set_needs.Goals as goal
 
@@ -21,7 +21,7 @@ set_need-requires c =
     omega (arith, same, size)
 
 pub loop-index-preserved : goal.loop-index-preserved
-unfolding with_need
+unfolding inventory_with_need
 loop-index-preserved c =
     let v = c.args.inventory.now in
     let es = v.forest.entries in
@@ -31,11 +31,11 @@ loop-index-preserved c =
     let all = ap (λ (g : Forest). length g.entries) c.forest.ensures.value in
     let within : i < length es = omega (arith, c.len-index-end.ensures.value, all) in
     let read : c.index-needs-index.result ≡ get_or needs i 0 = get_or_read needs i c.index-needs-index.result (omega (arith, within, c.requires)) c.index-needs-index.is 0 in
-    c.set_need.ensures ∙ ap (λ n. with_need c.loop-index.inventory i n) read ∙ ap next c.loop-index.invariant
+    c.set_need.ensures ∙ ap (λ n. inventory_with_need c.loop-index.inventory i n) read ∙ ap next c.loop-index.invariant
     ∙ ap (λ (fs : List Entry). record v { forest = record { entries = fs; margin = v.forest.margin } }) (one_set es needs i within)
 
 pub returns : goal.returns
-unfolding with_needs
+unfolding inventory_with_needs
 returns c =
     let v = c.args.inventory.now in
     let all = ap (λ (g : Forest). length g.entries) c.forest.ensures.value in

@@ -1,0 +1,56 @@
+-- Rereading: what is said of a file that is read again, or why it is not served.
+-- Source: docs/running.md, "What the operator sees".
+use Rattle.std.specs.Prelude.{◌≡◌, ◌⊎◌, ℕ, Bool, IsTrue, List, [], ◌++◌, Option, Some, None, Err, codes}
+use Rattle.keep_change.specs.declared.change.Record.{Record}
+use Rattle.keep_change.specs.declared.replaying.Note.{Note}
+use Rattle.keep_disk.specs.State.{DiskState}
+use Rattle.keep_disk.specs.declared.fault.DiskFault.{DiskFault}
+use Rattle.keep_files.specs.Files.{Files}
+use Rattle.keep_state.specs.Reading.{IsWhyUnread}
+use Rattle.keep_state.specs.States.{Kept}
+use Rattle.keep_state.specs.declared.fault.ReadFault.{ReadFault}
+use Rattle.keep_store.specs.Books.{IsFileFaultOf}
+use Rattle.keep_store.specs.declared.fault.FileFault.{FileFault}
+use Rattle.keep_house.specs.Noting.{IsWhyNotServed, said_notes}
+use Rattle.keep_house.specs.Reading.{IsToServe}
+use Rattle.keep_house.specs.Reasons.{book_words, disk_words, unread_words}
+use Rattle.keep_house.specs.declared.demands.Demands.{Demands}
+use Rattle.keep_house.specs.declared.fault.StartFault.{StartFault}
+
+-- the file has these bytes
+abbrev pub AreBytesOf : {D : Type 0} → Bool → (D → DiskState) → Kept D → List ℕ → Type 0
+AreBytesOf known seen kept bytes = (mode : ℕ) × (IsTrue known → (seen kept.disk).seen kept.places.file ≡ Some (record { mode = mode; bytes = bytes }))
+
+-- ---- why it is not served
+
+-- it is not read
+abbrev pub SaysUnread : {D : Type 0} → Bool → (D → DiskState) → Kept D → List ℕ → Type 0
+SaysUnread known seen kept why = (fault : ReadFault) × ((IsTrue known → IsWhyUnread kept.places.file (seen kept.disk) fault) × (why ≡ unread_words fault))
+
+-- it may not be served
+abbrev pub SaysNotServed : Files → Demands → List ℕ → List ℕ → List ℕ → Type 0
+SaysNotServed files demands folder bytes why = (fault : StartFault) × (IsToServe demands files folder bytes (Err fault) × IsWhyNotServed demands bytes fault why)
+
+-- it is none with the changes of the journal
+abbrev pub SaysNoBook : List ℕ → List ℕ → Type 0
+SaysNoBook bytes why = (fault : FileFault) × (IsFileFaultOf (Some bytes) fault × (why ≡ book_words fault))
+
+-- what may be wrong with these bytes
+abbrev pub SaysBad : Files → Demands → List ℕ → List ℕ → List ℕ → Type 0
+SaysBad files demands folder bytes why = SaysNotServed files demands folder bytes why ⊎ SaysNoBook bytes why
+
+abbrev pub IsWhyNotReread : {D : Type 0} → Bool → (D → DiskState) → Files → Demands → List ℕ → Kept D → List ℕ → Type 0
+IsWhyNotReread known seen files demands folder kept why =
+    SaysUnread known seen kept why ⊎ ((bytes : List ℕ) × (AreBytesOf known seen kept bytes × SaysBad files demands folder bytes why))
+
+-- ---- what is said where it is served
+
+-- which changes do not hold any more; or nothing, where memory was wanting for that
+abbrev pub SaysNotes : ℕ → List Record → List Note → List (List ℕ) → Type 0
+SaysNotes margin records notes said = (said ≡ said_notes margin records notes) ⊎ (said ≡ [])
+
+-- why its copy could not be kept; or nothing, where memory was wanting for that
+abbrev pub SaysCopy : Option DiskFault → Option (List ℕ) → Type 0
+SaysCopy None said = said ≡ None
+SaysCopy (Some fault) None = Unit {0}
+SaysCopy (Some fault) (Some said) = said ≡ codes "of the file could not be kept: " ++ disk_words fault

@@ -1,0 +1,76 @@
+-- SecretLines: what is said of files of credentials.
+-- Source: docs/running.md, "Secrets by file".
+use Rattle.std.specs.Prelude.{◌≡◌, ℕ, Bool, true, false, if◌then◌else◌, List, [], ◌∷◌, ◌++◌, Option, Some, None, codes}
+use Rattle.keep_agent.specs.Agent.{Agent}
+use Rattle.keep_clock.specs.declared.reading.Reading.{Reading}
+use Rattle.keep_log.specs.declared.level.Level.{Level}
+use Rattle.keep_log.specs.declared.level.Level.TheVariants.{Info, Warning, Alert}
+use Rattle.keep_log.specs.declared.line.Word.TheVariants as words
+use Rattle.keep_house.specs.Clocked.{memory_line}
+use Rattle.keep_house.specs.Desks.{SaysLines}
+use Rattle.keep_house.specs.Keeping.{KeepCall, Look}
+use Rattle.keep_house.specs.Lines.{Line, said_line}
+use Rattle.keep_house.specs.Takings.{quiet}
+use Rattle.keep_house.specs.VerdictWords.{endless_words, status_words}
+use Rattle.keep_house.specs.declared.house.House.{House}
+use Rattle.keep_secrets.specs.declared.looking.SecretTrouble.{SecretTrouble}
+use Rattle.keep_secrets.specs.declared.looking.SecretTrouble.TheVariants.{Unread, NotRegular, NoSecret, Another, TooLong, Endless, Refused}
+use Rattle.keep_secrets.specs.declared.news.Looked.{Looked}
+use Rattle.keep_secrets.specs.declared.news.SecretNews.{SecretNews}
+use Rattle.keep_secrets.specs.declared.news.SecretWord.{SecretWord}
+use Rattle.keep_secrets.specs.declared.news.SecretWord.TheVariants.{Taken, Kept, Without}
+
+-- ---- the line
+
+abbrev pub trouble_text : SecretTrouble → List ℕ
+trouble_text Unread = codes "cannot be read"
+trouble_text NotRegular = codes "is not a regular file"
+trouble_text NoSecret = codes "holds no secret of 1 to 256 printable ASCII characters"
+trouble_text Another = codes "holds what another entry has"
+trouble_text TooLong = codes "makes the inventory over 1048576 bytes"
+trouble_text Endless = endless_words
+trouble_text (Refused status) = status_words status
+
+abbrev pub level_of : SecretWord → Level
+level_of Taken = Info
+level_of (Kept trouble) = Warning
+level_of (Without trouble) = Alert
+
+abbrev pub event_of : SecretWord → List ℕ
+event_of Taken = codes "replace"
+event_of (Kept trouble) = codes "secret-file"
+event_of (Without trouble) = codes "secret-file"
+
+abbrev pub text_of : SecretWord → List ℕ
+text_of Taken = codes "by its file"
+text_of (Kept trouble) = trouble_text trouble ++ codes ": it keeps the old one"
+text_of (Without trouble) = trouble_text trouble ++ codes ": it is not kept until the file holds its secret"
+
+abbrev pub news_line : List ℕ → SecretWord → Line
+news_line name what = said_line (level_of what) (event_of what) (words.Text name ∷ words.Text (text_of what) ∷ [])
+
+abbrev pub news_lines : Option SecretNews → List Line
+news_lines None = []
+news_lines (Some news) = news_line news.name news.what ∷ []
+
+abbrev pub want_lines : Bool → List Line
+want_lines is_enough = if is_enough then [] else memory_line ∷ []
+
+-- all that is said of a look
+unfoldable pub look_lines : Looked → List Line
+look_lines looked = news_lines looked.news ++ want_lines looked.is_enough
+
+-- ---- a turn
+
+abbrev pub AsksToLook : {K : Type 0} → (KeepCall → K → K → Type 0) → Reading → Looked → Option K → Option K → Type 0
+AsksToLook does now looked None new = (looked ≡ quiet false) × (new ≡ None)
+AsksToLook does now looked (Some old) None = ⊥
+AsksToLook does now looked (Some old) (Some new) = does (Look now looked) old new
+
+-- whoever keeps changes looks at files of credentials, and what came of it is said. Nothing else changes
+pub record LooksAround {S T D K E : Type 0} (does : KeepCall → K → K → Type 0) (agent : Agent) (now : Reading) (goes_on : Bool) (old new : House S T D K E) : Type 0 where
+  pub looked : Looked
+  pub asks : AsksToLook does now looked old.state new.state
+  pub desk : SaysLines agent (look_lines looked) old.desk.marks old.desk new.desk
+  pub rest : new ≡ record old { desk = new.desk; state = new.state }
+  pub more : goes_on ≡ looked.goes_on

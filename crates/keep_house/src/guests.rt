@@ -1,0 +1,102 @@
+//! What each neighbour is given of a turn.
+ghost use Rattle.std.specs.Prelude.{◌≡◌, ◌&&◌, ◌||◌};
+ghost use Rattle.keep_house.specs.Houses.{Attends, ClientsGoOn, OnlookersGoOn, around_of, idle};
+
+use crate::house::House;
+use crate::log_next::next_wake_of;
+use keep_agent::Agent;
+use keep_answering::{Control, Onlookers, Went};
+use keep_clients::{Door, Talk};
+use keep_clock::Reading;
+use keep_log::LogSink;
+use keep_onlook::Surroundings;
+use std::alloc::Global;
+
+impl<S: LogSink, T: Talk, D: Door<T>, K, E> House<S, T, D, K, E> {
+    /// Gives the log's reader what it takes, and those who follow the log what waits for them; then goes on with each onlooker and each
+    /// client by one call of its connection at most, and answers one of each. The agent is read alone. Where memory was wanting for an
+    /// onlooker or a client, that is said. Whether more could be done at once.
+    pub fn attend(&mut self, alloc: Global, agent: &Agent, now: Reading) -> bool
+        ensures { Attends S.written S.failures S.tries T.remaining T.written T.calls D.log agent.now now result self.old self.new }
+    {
+        let is_more = self.give(alloc, now);
+        self.feed(alloc, now);
+        let around = self.around(now);
+        let shown = show(alloc, &mut self.onlookers, agent, around, now);
+        let answered = answer(alloc, &mut self.control, agent, around, now);
+        self.desk
+            .hear_want(alloc, agent, both(shown.is_enough, answered.is_enough));
+        any_of(is_more, shown.is_busy, answered.is_busy)
+    }
+}
+
+impl<S, T, D, K, E> House<S, T, D, K, E> {
+    /// What is around the agent at a moment.
+    fn around(&self, now: Reading) -> Surroundings
+        ensures { result ≡ around_of self.now.next self.now.file self.now.desk.room.log.dropped now.wall }
+    {
+        Surroundings {
+            wall: now.wall / 1000,
+            next_wake: next_wake_of(self.next),
+            file: self.file,
+            dropped_lines: self.desk.room().dropped(),
+            dropped_alerts: 0,
+        }
+    }
+}
+
+// Goes on with the onlookers, where there is a socket for them.
+fn show<T: Talk, D: Door<T>>(
+    alloc: Global,
+    onlookers: &mut Option<Onlookers<T, D>>,
+    agent: &Agent,
+    around: Surroundings,
+    now: Reading,
+) -> Went
+    ensures { OnlookersGoOn T.remaining T.written T.calls D.log agent.now around now result onlookers.old onlookers.new }
+{
+    match onlookers {
+        None => idle(),
+        Some(onlookers) => onlookers.go_on(alloc, agent, around, now.elapsed),
+    }
+}
+
+// Goes on with the clients, where there is a control socket.
+fn answer<T: Talk, D: Door<T>>(
+    alloc: Global,
+    control: &mut Option<Control<T, D>>,
+    agent: &Agent,
+    around: Surroundings,
+    now: Reading,
+) -> Went
+    ensures { ClientsGoOn T.remaining T.written T.calls D.log agent.now around now result control.old control.new }
+{
+    match control {
+        None => idle(),
+        Some(control) => control.go_on(alloc, agent, around, now),
+    }
+}
+
+// Nothing was to be done.
+fn idle() -> Went
+    ensures { result ≡ idle }
+{
+    Went {
+        is_busy: false,
+        is_enough: true,
+    }
+}
+
+// Whether one of them could go on at once.
+fn any_of(is_more: bool, is_shown: bool, is_answered: bool) -> bool
+    ensures { result ≡ (is_more || (is_shown || is_answered)) }
+{
+    is_more || is_shown || is_answered
+}
+
+// Whether memory sufficed twice.
+fn both(first: bool, second: bool) -> bool
+    ensures { result ≡ (first && second) }
+{
+    first && second
+}
