@@ -1,8 +1,8 @@
 // The broker of bench/abreast, and one of the clients that it compares. Standard library only: rustc -O bench/abreast.rs.
 //
-// abreast broker MILLISECONDS: answers every renewal so late, and every lookup at once, on connections that live as long as the
-// client wants. It prints its port; when its input ends, how many renewals there were, when the first and the last came (nanoseconds
-// since 1970), and how many were under way at once at most.
+// abreast broker MILLISECONDS [EVERY:MILLISECONDS ..]: answers every renewal so late (each 100th one after a second with `100:1000`),
+// and every lookup at once, on connections that live as long as the client wants. It prints its port; when its input ends, how many
+// renewals there were, when the first and the last came (nanoseconds since 1970), and how many were under way at once at most.
 //
 // abreast client PORT K FILE: K threads with a connection each send the requests of FILE (a line each: method, path, token, body),
 // once a line comes in, and read each reply whole. It prints how many were granted.
@@ -122,12 +122,34 @@ struct Seen {
     most: usize,
 }
 
-fn serve(stream: TcpStream, delay: Duration, seen: &Mutex<Seen>) -> Option<()> {
+/// How late a renewal is answered: every one, and each so-many-th one instead.
+struct Delays {
+    each: Duration,
+    some: Vec<(usize, Duration)>,
+}
+
+impl Delays {
+    fn read(words: &[String]) -> Option<Delays> {
+        let (each, some) = words.split_first()?;
+        let millis = |word: &str| word.parse().ok().map(Duration::from_millis);
+        let pair = |word: &String| word.split_once(':').and_then(|(every, late)| Some((every.parse().ok()?, millis(late)?)));
+        Some(Delays { each: millis(each)?, some: some.iter().map(pair).collect::<Option<_>>()? })
+    }
+
+    /// That of the renewal with this number; where several hold, the longest.
+    fn of(&self, number: usize) -> Duration {
+        let some = self.some.iter().filter(|(every, _)| *every > 0 && number % every == 0).map(|(_, late)| *late);
+        some.max().unwrap_or(self.each)
+    }
+}
+
+fn serve(stream: TcpStream, delays: &Delays, seen: &Mutex<Seen>) -> Option<()> {
     stream.set_nodelay(true).ok()?;
     let mut writer = stream.try_clone().ok()?;
     let mut reader = BufReader::new(stream);
     while let Some(request) = read(&mut reader) {
         let is_renewal = request.first.contains("/renew");
+        let mut delay = Duration::ZERO;
         if is_renewal {
             let mut seen = seen.lock().ok()?;
             seen.last = now();
@@ -137,8 +159,9 @@ fn serve(stream: TcpStream, delay: Duration, seen: &Mutex<Seen>) -> Option<()> {
             seen.count += 1;
             seen.open += 1;
             seen.most = seen.most.max(seen.open);
+            delay = delays.of(seen.count);
         }
-        if is_renewal && !delay.is_zero() {
+        if !delay.is_zero() {
             std::thread::sleep(delay);
         }
         if is_renewal {
@@ -160,15 +183,16 @@ fn serve(stream: TcpStream, delay: Duration, seen: &Mutex<Seen>) -> Option<()> {
     Some(())
 }
 
-fn broker(delay: Duration) -> std::io::Result<()> {
+fn broker(delays: Delays) -> std::io::Result<()> {
+    let delays = Arc::new(delays);
     let listener = TcpListener::bind("127.0.0.1:0")?;
     println!("{}", listener.local_addr()?.port());
     let seen = Arc::new(Mutex::new(Seen::default()));
     let theirs = seen.clone();
     std::thread::spawn(move || {
         for stream in listener.incoming().flatten() {
-            let seen = theirs.clone();
-            std::thread::spawn(move || serve(stream, delay, &seen));
+            let (delays, seen) = (delays.clone(), theirs.clone());
+            std::thread::spawn(move || serve(stream, &delays, &seen));
         }
     });
     std::io::stdin().read_to_end(&mut Vec::new())?;
@@ -224,11 +248,12 @@ fn client(port: u16, threads: usize, file: &str) -> std::io::Result<()> {
 fn main() -> std::io::Result<()> {
     let words: Vec<String> = std::env::args().skip(1).collect();
     let number = |word: &String| word.parse().unwrap_or(0);
-    match words.iter().map(String::as_str).collect::<Vec<_>>()[..] {
-        ["broker", _] => broker(Duration::from_millis(number(&words[1]))),
-        ["client", _, _, file] => client(number(&words[1]) as u16, number(&words[2]) as usize, file),
+    let delays = words.get(1..).and_then(Delays::read);
+    match (words.iter().map(String::as_str).collect::<Vec<_>>().as_slice(), delays) {
+        (["broker", ..], Some(delays)) => broker(delays),
+        (["client", _, _, file], _) => client(number(&words[1]) as u16, number(&words[2]) as usize, file),
         _ => {
-            eprintln!("usage: abreast broker MILLISECONDS | abreast client PORT K FILE");
+            eprintln!("usage: abreast broker MILLISECONDS [EVERY:MILLISECONDS ..] | abreast client PORT K FILE");
             std::process::exit(2)
         }
     }
