@@ -12,7 +12,7 @@ const NEED: Ask<'static> = Ask::Need {
 };
 
 /// What is asked, what the agent answers, what is shown, what is told, and the exit.
-const ANSWERS: [(Ask<'static>, &str, &str, &str, u8); 19] = [
+const ANSWERS: [(Ask<'static>, &str, &str, &str, u8); 20] = [
     (
         NEED,
         "ok\nweb is needed until 2026-11-22T09:00:00Z\n",
@@ -60,6 +60,13 @@ const ANSWERS: [(Ask<'static>, &str, &str, &str, u8); 19] = [
         "leasekeep: reload: the commands are: need NAME WHEN\n",
         1,
     ),
+    (
+        Ask::Reload,
+        "error: margin: is not written\nweb: secret: is not written\n\n",
+        "",
+        "leasekeep: reload: margin: is not written\nleasekeep: reload: web: secret: is not written\nleasekeep: reload: \n",
+        1,
+    ),
     (Ask::Health, "ok\n", KEPT, "", 0),
     (Ask::Health, "ok\nevery needed entry is kept\n", KEPT, "", 0),
     (Ask::Health, "ok\nweb gone: x\n", "web gone: x\n", "", 1),
@@ -74,7 +81,7 @@ const ANSWERS: [(Ask<'static>, &str, &str, &str, u8); 19] = [
     (NEED, "", "", "leasekeep: need: /run/k: no answer\n", 1),
     (
         NEED,
-        "error: x\ny\n",
+        "error: x\ny",
         "",
         "leasekeep: need: /run/k: the answer is cut short\n",
         1,

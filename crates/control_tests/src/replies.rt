@@ -5,25 +5,31 @@ use std::alloc::Global;
 use std::process::Abort;
 use std::test::Fail;
 
-/// A reply with these lines, which part it by `|`; one that begins with `!` is refused.
-fn reply_of(alloc: Global, words: &str) -> Result<Reply, Fail> {
-    if let Some(why) = words.strip_prefix('!') {
-        return Ok(Reply::Refused(Text::of(alloc, why.as_bytes())?));
-    }
+/// The lines that `|` parts; none where there is nothing.
+fn lines_of(alloc: Global, words: &str) -> Result<Lines, Fail> {
     let mut lines = Vec::new(alloc);
     if !words.is_empty() {
         for line in words.split('|') {
             lines.push(Text::of(alloc, line.as_bytes())?)?;
         }
     }
-    Ok(Reply::Done(Lines::of(lines)))
+    Ok(Lines::of(lines))
+}
+
+/// A reply with these lines, which `|` parts; one that begins with `!` is refused, and `!` parts its first reason from the others.
+fn reply_of(alloc: Global, words: &str) -> Result<Reply, Fail> {
+    let Some(reasons) = words.strip_prefix('!') else {
+        return Ok(Reply::Done(lines_of(alloc, words)?));
+    };
+    let (why, more) = reasons.split_once('!').unwrap_or((reasons, ""));
+    Ok(Reply::Refused(Text::of(alloc, why.as_bytes())?, lines_of(alloc, more)?))
 }
 
 fn is_refused(reply: &Reply) -> bool {
-    matches!(reply, Reply::Refused(_))
+    matches!(reply, Reply::Refused(_, _))
 }
 
-const REPLIES: [(&str, &str); 8] = [
+const REPLIES: [(&str, &str); 11] = [
     ("", "ok\n"),
     (
         "web is needed until 2026-11-22T09:00:00Z",
@@ -35,6 +41,9 @@ const REPLIES: [(&str, &str); 8] = [
     ("!no entry has that name", "error: no entry has that name\n"),
     ("!", "error: \n"),
     ("!error: twice", "error: error: twice\n"),
+    ("!why!more", "error: why\nmore\n"),
+    ("!why!more|error: again", "error: why\nmore\nerror: again\n"),
+    ("!!||ok", "error: \n\n\nok\n"),
 ];
 
 fn is_both_ways(alloc: Global, words: &str, text: &str) -> Result<bool, Fail> {
@@ -64,7 +73,7 @@ const NONE: [&str; 12] = [
     "error\n",
     "error:\n",
     "error: why",
-    "error: why\nmore\n",
+    "error: why\nmore",
     "no\nok\n",
 ];
 

@@ -25,6 +25,11 @@ socket_rest socket words = before_colon socket ++ (words ++ 10 ∷ [])
 unfoldable pub call_line : Call → List ℕ → List ℕ
 call_line call words = call_front call ++ (words ++ 10 ∷ [])
 
+-- a line for each reason
+abbrev pub call_lines : Call → List (List ℕ) → List ℕ
+call_lines call [] = []
+call_lines call (why ∷ more) = call_line call why ++ call_lines call more
+
 -- `PROGRAM: COMMAND: SOCKET: WHY`
 unfoldable pub socket_line : Call → List ℕ → List ℕ
 socket_line call words = call_front call ++ socket_rest call.socket.now words

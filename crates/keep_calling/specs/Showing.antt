@@ -1,6 +1,6 @@
 -- Showing: what a call shows of an answer, and what it tells where there is none.
 -- Source: this project's own; the words are those of leasekeepd's commands where these have some.
-use Rattle.std.specs.Prelude.{◌≡◌, ◌⊎◌, ℕ, ◌==◌, List, Bool, not, ◌&&◌, ◌||◌, if◌then◌else◌, Option, Some, None, Result, Ok, Err, bytes_eq, codes, length}
+use Rattle.std.specs.Prelude.{◌≡◌, ◌⊎◌, ℕ, ◌==◌, List, ◌∷◌, Bool, not, ◌&&◌, ◌||◌, if◌then◌else◌, Option, Some, None, Result, Ok, Err, bytes_eq, codes, length}
 use Rattle.keep_control.specs.Replies.{lines_text}
 use Rattle.keep_control.specs.declared.reply.Reply.{Reply}
 use Rattle.keep_control.specs.declared.reply.Reply.TheVariants as replies
@@ -12,7 +12,7 @@ use Rattle.keep_report.specs.declared.stop.Stop.{Stop}
 use Rattle.keep_calling.specs.Asking.{is_health}
 use Rattle.keep_calling.specs.Ending.{ended_of}
 use Rattle.keep_calling.specs.Hearing.{HearsReply}
-use Rattle.keep_calling.specs.Lines.{TellsOf, call_line}
+use Rattle.keep_calling.specs.Lines.{TellsOf, call_lines}
 use Rattle.keep_calling.specs.declared.ask.Ask.{Ask}
 use Rattle.keep_calling.specs.declared.call.Call.{Call}
 use Rattle.keep_calling.specs.declared.ended.Ended.{Ended}
@@ -56,7 +56,7 @@ fault_words faults.Memory = None
 -- what is shown and told, by the call and the answer alone
 abbrev pub ShowsAnswer : Call → Result Reply CallFault → Ended → Change → Change → Type 0
 ShowsAnswer call (Ok (replies.Done lines)) ended out errors = PrintsLines call (lines_text lines) ended out errors
-ShowsAnswer call (Ok (replies.Refused why)) ended out errors = IsUntouched out × Reports (call_line call why) errors × (ended ≡ endings.Refused)
+ShowsAnswer call (Ok (replies.Refused why more)) ended out errors = IsUntouched out × Reports (call_lines call (why ∷ more)) errors × (ended ≡ endings.Refused)
 ShowsAnswer call (Err fault) ended out errors = IsUntouched out × TellsOf call (fault_words fault) ended errors
 
 -- a request is sent, and what is heard is shown

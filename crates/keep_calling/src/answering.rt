@@ -7,7 +7,7 @@ use crate::ask::Ask;
 use crate::call::Call;
 use crate::ended::Ended;
 use crate::hearing::Heard;
-use crate::telling::tell_of_call;
+use crate::telling::tell_of_refusal;
 use keep_control::{Reply, replies_are_read_back};
 use keep_device::{Sink, Watched};
 use keep_report::{Stop, send};
@@ -26,8 +26,8 @@ pub(crate) fn show<W: Sink, E: Sink>(
 {
     match &heard.reply {
         Reply::Done(_) => print(call, lines_of(heard), out, errors),
-        Reply::Refused(why) => {
-            tell_of_call(errors, call, why.list());
+        Reply::Refused(why, more) => {
+            tell_of_refusal(errors, call, why.list(), more.list());
             Ended::Refused
         }
     }

@@ -2,11 +2,12 @@
 ghost use Rattle.std.specs.Prelude.{◌++◌, ◌∷◌, [], option_map};
 ghost use Rattle.keep_report.specs.Sent.{Puts};
 ghost use Rattle.keep_report.specs.Told.{Reports};
-ghost use Rattle.keep_calling.specs.Lines.{TellsOf, before_colon, call_front, call_line, socket_line, socket_rest};
+ghost use Rattle.keep_calling.specs.Lines.{TellsOf, before_colon, call_front, call_line, call_lines, socket_line, socket_rest};
 
 use crate::call::Call;
 use crate::ended::Ended;
 use keep_device::{Sink, SinkFault, Watched, write_all};
+use keep_moment::Text;
 use keep_report::Stop;
 
 /// Tells why a call was refused.
@@ -14,6 +15,14 @@ pub(crate) fn tell_of_call<E: Sink>(errors: &mut E, call: &Call<'_>, words: &[u8
     ensures { Reports (call_line call.now words.now) (⟦<E as Watched>⟧.change errors.old errors.new) }
 {
     let _ = put_call_line(errors, call, words);
+    let _ = errors.flush();
+}
+
+/// Tells why an agent refused a call, a line for each reason.
+pub(crate) fn tell_of_refusal<E: Sink>(errors: &mut E, call: &Call<'_>, why: &[u8], more: &[Text])
+    ensures { Reports (call_lines call.now (why.now ∷ more.now)) (⟦<E as Watched>⟧.change errors.old errors.new) }
+{
+    let _ = put_reasons(errors, call, why, more);
     let _ = errors.flush();
 }
 
@@ -38,6 +47,35 @@ fn tell_at_socket<E: Sink>(errors: &mut E, call: &Call<'_>, words: &[u8])
 {
     let _ = put_socket_line(errors, call, words);
     let _ = errors.flush();
+}
+
+#[tactic(auto, using(keep_report::proofs::Pieces::piece_cut, keep_report::proofs::Pieces::piece_more))]
+fn put_reasons<E: Sink>(
+    errors: &mut E,
+    call: &Call<'_>,
+    why: &[u8],
+    more: &[Text],
+) -> Result<(), SinkFault>
+    ensures { Puts result (call_lines call.now (why.now ∷ more.now)) (⟦<E as Watched>⟧.change errors.old errors.new) }
+{
+    put_call_line(errors, call, why)?;
+    put_call_lines(errors, call, more)
+}
+
+// A line for each of these reasons.
+fn put_call_lines<E: Sink>(errors: &mut E, call: &Call<'_>, whys: &[Text]) -> Result<(), SinkFault>
+    ensures { Puts result (call_lines call.now whys.now) (⟦<E as Watched>⟧.change errors.old errors.new) }
+{
+    for why in whys {
+        put_reason(errors, call, why)?;
+    }
+    Ok(())
+}
+
+fn put_reason<E: Sink>(errors: &mut E, call: &Call<'_>, why: &Text) -> Result<(), SinkFault>
+    ensures { Puts result (call_line call.now why.now) (⟦<E as Watched>⟧.change errors.old errors.new) }
+{
+    put_call_line(errors, call, why.list())
 }
 
 #[tactic(auto, using(keep_report::proofs::Pieces::piece_cut, keep_report::proofs::Pieces::piece_more), unfolding(crate::specs::Lines::call_line))]

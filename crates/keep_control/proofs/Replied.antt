@@ -91,12 +91,12 @@ lines_only text lines e =
 
 reply_lines_lack : (reply : Reply) → IsControlReply reply → AllLack 10 (reply_lines reply)
 reply_lines_lack (Done lines) h = (refl, h)
-reply_lines_lack (Refused why) h = (lacks_append 10 (codes "error: ") why refl h, tt)
+reply_lines_lack (Refused why more) h = (lacks_append 10 (codes "error: ") why refl h.0, h.1)
 
 lines_are_reply : (reply : Reply) → reply_in_lines (reply_lines reply) ≡ Some reply
 unfolding refusal_of
 lines_are_reply (Done lines) = refl
-lines_are_reply (Refused why) = refl
+lines_are_reply (Refused why more) = refl
 
 pub reply_found : ReplyFound
 unfolding reply_in_text control_reply_text
@@ -119,13 +119,11 @@ refusal_is line why e =
     let rest : drop 7 line ≡ why = some_same _ _ p.1 in
     sym (taken_apart 7 line) ∙ ap (λ l. l ++ drop 7 line) front ∙ ap (λ l. codes "error: " ++ l) rest
 
-refused_is : (lines : List (List ℕ)) (reply : Reply) → AllLack 10 lines → refused_in lines ≡ Some reply → IsControlReply reply × (lines ≡ reply_lines reply)
-refused_is [] reply h e = cc
-refused_is (line ∷ []) reply h e =
-    let m = mapped (λ why. Refused why) (refusal_of line) reply e in
+refused_is : (line : List ℕ) (more : List (List ℕ)) (reply : Reply) → AllLack 10 (line ∷ more) → refused_in line more ≡ Some reply → IsControlReply reply × (line ∷ more ≡ reply_lines reply)
+refused_is line more reply h e =
+    let m = mapped (λ why. Refused why more) (refusal_of line) reply e in
     let is = refusal_is line m.0 m.1 in
-    rw m.2 (append_lacks (codes "error: ") m.0 (subst (Lacks 10) is h.0), ap (λ l. l ∷ []) is)
-refused_is (line ∷ next ∷ lines) reply h e = cc
+    rw m.2 ((append_lacks (codes "error: ") m.0 (subst (Lacks 10) is h.0), h.1), ap (λ l. l ∷ more) is)
 
 reply_is : (lines : List (List ℕ)) (reply : Reply) → AllLack 10 lines → reply_in_lines lines ≡ Some reply → IsControlReply reply × (lines ≡ reply_lines reply)
 reply_is [] reply h e = cc
@@ -134,7 +132,7 @@ reply_is (line ∷ lines) reply h e =
       | inl holds ↦
           let is : Done lines ≡ reply = some_same _ _ (sym (cond-true (bytes_eq line (codes "ok")) _ _ holds) ∙ e) in
           rw (sym is) (h.1, ap (λ l. l ∷ lines) ((bytes_decides line (codes "ok")).0 holds))
-      | inr fails ↦ refused_is (line ∷ lines) reply h (sym (cond-false (bytes_eq line (codes "ok")) _ _ fails) ∙ e)
+      | inr fails ↦ refused_is line lines reply h (sym (cond-false (bytes_eq line (codes "ok")) _ _ fails) ∙ e)
     ]
 
 lines_there : (o : Option (List (List ℕ))) (reply : Reply) → reply_if o ≡ Some reply → (lines : List (List ℕ)) × (o ≡ Some lines) × (reply_in_lines lines ≡ Some reply)
@@ -151,10 +149,10 @@ reply_only text reply e =
 
 pub why_is_line : WhyIsLine
 unfolding request_fault_text
-why_is_line faults.TooLong = refl
-why_is_line faults.NotWords = refl
-why_is_line faults.NoCommand = refl
-why_is_line faults.BadName = refl
-why_is_line faults.BadWhen = refl
-why_is_line faults.BadCredential = refl
-why_is_line faults.OutOfMemory = refl
+why_is_line faults.TooLong = (refl, tt)
+why_is_line faults.NotWords = (refl, tt)
+why_is_line faults.NoCommand = (refl, tt)
+why_is_line faults.BadName = (refl, tt)
+why_is_line faults.BadWhen = (refl, tt)
+why_is_line faults.BadCredential = (refl, tt)
+why_is_line faults.OutOfMemory = (refl, tt)

@@ -100,4 +100,4 @@ ReplyOnly = (text : List ℕ) (reply : Reply) → reply_in_text text ≡ Some re
 
 -- a refused request is answered in one line
 abbrev pub WhyIsLine : Type 0
-WhyIsLine = (fault : RequestFault) → IsControlReply (replies.Refused (request_fault_text fault))
+WhyIsLine = (fault : RequestFault) → IsControlReply (replies.Refused (request_fault_text fault) [])

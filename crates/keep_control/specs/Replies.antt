@@ -17,7 +17,7 @@ lines_text (line ∷ lines) = line ++ 10 ∷ lines_text lines
 
 abbrev pub reply_lines : Reply → List (List ℕ)
 reply_lines (Done lines) = codes "ok" ∷ lines
-reply_lines (Refused why) = (codes "error: " ++ why) ∷ []
+reply_lines (Refused why more) = (codes "error: " ++ why) ∷ more
 
 unfoldable pub control_reply_text : Reply → List ℕ
 control_reply_text reply = lines_text (reply_lines reply)
@@ -34,17 +34,17 @@ closed_lines (piece ∷ next ∷ pieces) = option_map (λ lines. piece ∷ lines
 unfoldable pub lines_of_text : List ℕ → Option (List (List ℕ))
 lines_of_text text = closed_lines (pieces 10 text)
 
--- the reason on the one line of a refusal
+-- the reason on the first line of a refusal
 unfoldable pub refusal_of : List ℕ → Option (List ℕ)
 refusal_of line = if bytes_eq (take 7 line) (codes "error: ") then Some (drop 7 line) else None
 
-abbrev pub refused_in : List (List ℕ) → Option Reply
-refused_in (line ∷ []) = option_map (λ why. Refused why) (refusal_of line)
-refused_in lines = None
+-- the lines after it are further reasons
+abbrev pub refused_in : List ℕ → List (List ℕ) → Option Reply
+refused_in line more = option_map (λ why. Refused why more) (refusal_of line)
 
 abbrev pub reply_in_lines : List (List ℕ) → Option Reply
 reply_in_lines [] = None
-reply_in_lines (line ∷ lines) = if bytes_eq line (codes "ok") then Some (Done lines) else refused_in (line ∷ lines)
+reply_in_lines (line ∷ lines) = if bytes_eq line (codes "ok") then Some (Done lines) else refused_in line lines
 
 abbrev pub reply_if : Option (List (List ℕ)) → Option Reply
 reply_if None = None
@@ -59,7 +59,7 @@ reply_in_text text = reply_if (lines_of_text text)
 -- each line is one line
 abbrev pub IsControlReply : Reply → Type 0
 IsControlReply (Done lines) = AllLack 10 lines
-IsControlReply (Refused why) = Lacks 10 why
+IsControlReply (Refused why more) = Lacks 10 why × AllLack 10 more
 
 -- ---- why a request was not read
 

@@ -40,11 +40,11 @@ impl Lines {
 pub enum Reply {
     /// It was done; these lines tell more.
     Done(Lines),
-    /// It was not, for this reason, in one line.
-    Refused(Text),
+    /// It was not, for this reason, in one line; these lines give further reasons.
+    Refused(Text, Lines),
 }
 
-/// The lines of a reply: `ok` and the lines that tell more, or `error: WHY`, each with its line feed.
+/// The lines of a reply: `ok` and the lines that tell more, or `error: WHY` and the further reasons, each with its line feed.
 ///
 /// The only error is out of memory.
 #[tactic(auto, unfolding(crate::specs::Replies::control_reply_text))]
@@ -65,9 +65,10 @@ fn push_reply(reply: &Reply, text: &mut Vec<u8>) -> Result<(), AllocError>
             push_line(b"ok", text)?;
             push_lines(lines.list(), text)
         }
-        Reply::Refused(why) => {
+        Reply::Refused(why, more) => {
             text.extend_from_slice(b"error: ")?;
-            push_line(why.list(), text)
+            push_line(why.list(), text)?;
+            push_lines(more.list(), text)
         }
     }
 }

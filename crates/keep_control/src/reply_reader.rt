@@ -27,23 +27,20 @@ fn said(alloc: Global, mut lines: Vec<Text>) -> Result<Option<Reply>, AllocError
     if lines.is_empty() {
         return Ok(None);
     }
-    if lines[0].list() == b"ok".as_slice() {
-        lines.remove(0);
+    let first = lines.remove(0);
+    if first.list() == b"ok".as_slice() {
         return Ok(Some(Reply::Done(Lines::of(lines))));
     }
-    refused(alloc, &lines)
+    refused(alloc, first.list(), Lines::of(lines))
 }
 
-// The refusal that one line is.
-fn refused(alloc: Global, lines: &[Text]) -> Result<Option<Reply>, AllocError>
-    ensures { IfOk result (λ reply. reply ≡ refused_in lines.now) }
+// The refusal that a line is, with the lines after it.
+fn refused(alloc: Global, line: &[u8], more: Lines) -> Result<Option<Reply>, AllocError>
+    ensures { IfOk result (λ reply. reply ≡ refused_in line.now more) }
 {
-    if lines.len() != 1 {
-        return Ok(None);
-    }
-    match refusal(lines[0].list()) {
+    match refusal(line) {
         None => Ok(None),
-        Some(why) => Ok(Some(Reply::Refused(Text::of(alloc, why)?))),
+        Some(why) => Ok(Some(Reply::Refused(Text::of(alloc, why)?, more))),
     }
 }
 
