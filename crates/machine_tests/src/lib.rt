@@ -12,6 +12,8 @@ mod outages;
 #[cfg(test)]
 mod plays;
 #[cfg(test)]
+mod rounds;
+#[cfg(test)]
 mod sick_brokers;
 #[cfg(test)]
 mod tokens;

@@ -186,7 +186,7 @@ impl Play {
 }
 
 /// The requests that go out.
-fn requests_of(command: &Command) -> &[Request] {
+pub(crate) fn requests_of(command: &Command) -> &[Request] {
     match command {
         Command::Go { requests, .. } => requests.list(),
         Command::Taken => &[],

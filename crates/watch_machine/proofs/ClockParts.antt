@@ -1,6 +1,5 @@
 -- ClockParts: the parts of a clock are together the step of the definitions. For `clock`.
-use Rattle.std.proofs.Common.{◌≡◌, ◌∙◌, ℕ, ◌+◌, ◌-◌, ◌<◌, ◌++◌, Bool, List, [], Option, Some, None, length, map, refl, sym, ap, subst}
-use Rattle.std.specs.List.{range_with_len}
+use Rattle.std.proofs.Common.{◌≡◌, ◌∙◌, ℕ, ◌-◌, ◌<◌, ◌++◌, Bool, List, [], Option, Some, None, length, map, sym, ap, subst}
 use Rattle.keep_tree.specs.Forest.{Forest, entry_at}
 use Rattle.watch_machine.specs.declared.clocks.Clocks.{Clocks}
 use Rattle.watch_machine.specs.declared.command.Command.TheVariants.{Go}

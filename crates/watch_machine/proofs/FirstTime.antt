@@ -3,7 +3,7 @@ use Rattle.std.proofs.Common.{◌≡◌, ◌∙◌, ℕ, ◌+◌, ◌<◌, ◌�
 use Rattle.std.proofs.lemmas.Bool.{cases_eq}
 use Rattle.std.proofs.lemmas.Bool.Decides.{nat_tests}
 use Rattle.watch_machine.specs.declared.outlook.Next.{Next}
-use Rattle.watch_machine.specs.Outlook.{IsFirstTime, IsNextOf, is_timed_at, time_of}
+use Rattle.watch_machine.specs.Outlook.{IsNextOf, is_timed_at, time_of}
 use Rattle.watch_machine.specs.State.{WatchState}
 use Rattle.watch_machine.specs.code.Outlook.{earlier_next}
 use Rattle.watch_machine.proofs.Cases.{if_cases}

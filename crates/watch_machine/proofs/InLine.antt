@@ -77,7 +77,7 @@ line_is p at xs ps qs are all sorted = record {
       (subst (λ b. is_before b (place_is (get_or qs k e)) ≡ false) (sym (get_or-map place_is qs (k + 1) e d next)) (sorted k e (omega arith) next));
 }
 
-each_place : (g : Sending.Place → Request) (qs : List Place) → map (λ q. g (place_is q)) qs ≡ map g (map place_is qs)
+pub each_place : (g : Sending.Place → Request) (qs : List Place) → map (λ q. g (place_is q)) qs ≡ map g (map place_is qs)
 each_place g [] = refl
 each_place g (q ∷ qs) = ap (λ rs. g (place_is q) ∷ rs) (each_place g qs)
 

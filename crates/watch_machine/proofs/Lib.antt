@@ -2,6 +2,7 @@ pub mod Cases
 pub mod Tests
 pub mod Written
 pub mod Marked
+pub mod Members
 pub mod InLine
 pub mod Steps
 pub mod View
@@ -21,3 +22,9 @@ pub mod Carries
 pub mod Quiet
 pub mod Lulls
 pub mod QuietClock
+pub mod InRound
+pub mod LineClock
+pub mod LineSent
+pub mod LineAnswer
+pub mod LineMade
+pub mod RoundClock

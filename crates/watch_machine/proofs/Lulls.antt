@@ -33,7 +33,7 @@ use Rattle.watch_machine.proofs.Seeing.{each_id}
 use Rattle.watch_machine.proofs.Written.{each_same, range_same}
 
 -- tracks that are left as they are
-each_kept : (f : ℕ → Track → Track) (xs : List Track) → ((i : ℕ) → i < length xs → f i (track_in xs i) ≡ track_in xs i) → each f xs ≡ xs
+pub each_kept : (f : ℕ → Track → Track) (xs : List Track) → ((i : ℕ) → i < length xs → f i (track_in xs i) ≡ track_in xs i) → each f xs ≡ xs
 each_kept f xs same = each_same f (λ i x. x) xs same ∙ each_id (λ i x. x) xs (λ i x. refl)
 
 -- numbers of which none passes a test
@@ -126,7 +126,7 @@ known_on g xs old new p pace alike None is = tt
 known_on g xs old new p pace alike (Some lull) is = goes_on g xs old new p pace lull alike is
 
 -- answers of which none says that the broker is busy, and none is silent while it is away, change only how long answers take
-paced_alone :
+pub paced_alone :
     (margin at : ℕ) (xs : List Track) (answers : List Answer) (p : Presence) → list_any (λ (a : Answer). is_busy a.reply) answers || (p.away && list_any is_silent answers) ≡ false →
     presence_after margin at xs answers p ≡ record p { pace = pace_after at p.pace answers }
 unfolding presence_after held_back
@@ -139,7 +139,7 @@ paced_alone margin at xs answers p none =
     ∙ ap (λ n. record p { free = n; pace = pace_after at p.pace answers }) (cond-false busy (at + 1000) p.free two.0)
 
 -- before a second that is no later than an end which was ahead, it is ahead
-alive_alike : (s t b l : ℕ) → s ≤ t → t < l → (s < b → l ≤ b) → nat_lt t b ≡ nat_lt s b
+pub alive_alike : (s t b l : ℕ) → s ≤ t → t < l → (s < b → l ≤ b) → nat_lt t b ≡ nat_lt s b
 alive_alike s t b l later early far =
     elim (cases_lt s b) as (λ _. nat_lt t b ≡ nat_lt s b) [
       | inl living ↦
@@ -153,7 +153,7 @@ alive_alike s t b l later early far =
           now ∙ sym before
     ]
 
-later : {new old : Clocks} → GoesOn new old → sec old.at ≤ sec new.at
+pub later : {new old : Clocks} → GoesOn new old → sec old.at ≤ sec new.at
 unfolding sec
 later on = let h = on.at in omega (arith, h)
 

@@ -1,8 +1,7 @@
 -- Owing: by the loads that the entries carry, those are called who are called by the definition; and so with who is pressed. For the steps 3
 -- and 4 of a clock.
-use Rattle.std.proofs.Common.{◌≡◌, ◌∙◌, ◌<◌, ℕ, List, [], length, refl, sym, ap, ap₂, subst}
+use Rattle.std.proofs.Common.{◌≡◌, ◌∙◌, ◌<◌, List, [], length, refl, sym, ap, ap₂, subst}
 use Rattle.keep_needs.specs.Carried.{CarriedNeed, IsCarried, load_at}
-use Rattle.keep_tree.specs.Carried.{carried}
 use Rattle.keep_tree.specs.Forest.{Forest, entry_at}
 use Rattle.watch_machine.specs.declared.clocks.Clocks.{Clocks}
 use Rattle.watch_machine.specs.declared.track.Track.{Track}
@@ -11,7 +10,7 @@ use Rattle.watch_machine.specs.Press.{pressed_alone, pressed_track, pressed_trac
 use Rattle.watch_machine.specs.State.{each, track_in}
 use Rattle.watch_machine.specs.Wanted.{HasNeeds, need_of}
 use Rattle.watch_machine.specs.code.View.{Sees}
-use Rattle.watch_machine.proofs.Seeing.{SameSeen, each_id, has_needs, sees_same}
+use Rattle.watch_machine.proofs.Seeing.{each_id, has_needs, sees_same}
 use Rattle.watch_machine.proofs.Unseen.{owing_seen}
 use Rattle.watch_machine.proofs.Written.{each_same}
 

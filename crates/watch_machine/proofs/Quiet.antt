@@ -1,5 +1,5 @@
 -- Quiet: before the moment at which something is to be done of an entry a clock leaves it as it is. For a clock at which all is quiet.
-use Rattle.std.proofs.Common.{◌≡◌, ◌∙◌, ℕ, ◌*◌, ◌/◌, ◌<◌, ◌≤◌, Bool, true, false, min, not, ◌&&◌, ◌||◌, if◌then◌else◌, Option, Some, None, nat_le, nat_lt, refl, sym, ap, ap₂, subst, arith, inl, inr}
+use Rattle.std.proofs.Common.{◌≡◌, ◌∙◌, ℕ, ◌/◌, ◌<◌, ◌≤◌, Bool, true, false, min, not, ◌&&◌, ◌||◌, if◌then◌else◌, Option, Some, None, nat_lt, refl, sym, ap, ap₂, subst, arith, inl, inr}
 use Rattle.std.proofs.lemmas.Bool.{and_from, and_parts, cases_Bool, cond-false, cond-true}
 use Rattle.std.proofs.lemmas.Bool.Decides.{nat_tests}
 use Rattle.keep_tree.specs.declared.entry.Entry.{Entry}
@@ -42,7 +42,7 @@ module _ (margin : ℕ) (e : Entry) (need : ℕ) (p : Presence) (at : ℕ) (x : 
   try_settled None h = refl
   try_settled (Some t) h = cond-false t.failed (Some _) (Some t) h
 
-  is_settled : is_failed x.attempt ≡ false → settled_track margin at x ≡ x
+  pub is_settled : is_failed x.attempt ≡ false → settled_track margin at x ≡ x
   unfolding settled_track
   is_settled h = ap (λ o. record x { attempt = o }) (try_settled x.attempt h)
 
@@ -50,11 +50,11 @@ module _ (margin : ℕ) (e : Entry) (need : ℕ) (p : Presence) (at : ℕ) (x : 
   abbrev fresh : Bool
   fresh = is_fresh margin e x need (sec at)
 
-  unwanted_fresh : wants x need ≡ false → fresh ≡ false
+  pub unwanted_fresh : wants x need ≡ false → fresh ≡ false
   unfolding is_fresh
   unwanted_fresh h = ap (λ b. b && (has_come margin e x (sec at) && (not (is_pressed x) && not x.out))) h
 
-  out_fresh : x.out ≡ true → fresh ≡ false
+  pub out_fresh : x.out ≡ true → fresh ≡ false
   unfolding is_fresh
   out_fresh h =
       and_no (wants x need) (has_come margin e x (sec at) && (not (is_pressed x) && not x.out))
@@ -76,7 +76,7 @@ module _ (margin : ℕ) (e : Entry) (need : ℕ) (p : Presence) (at : ℕ) (x : 
       and_no (wants x need) (has_come margin e x (sec at) && (not (is_pressed x) && not x.out)) (ap (λ b. b && (not (is_pressed x) && not x.out)) (early h))
 
   -- where it is not, it stays as it is, while it is wanted or out
-  stays : fresh ≡ false → wants x need || x.out ≡ true → pressed_track margin e need at x ≡ x
+  pub stays : fresh ≡ false → wants x need || x.out ≡ true → pressed_track margin e need at x ≡ x
   unfolding pressed_track
   stays not_fresh kept =
       cond-false fresh (record x { attempt = Some (press at false x) }) (if wants x need || x.out then x else record x { attempt = dropped x x.attempt }) not_fresh
@@ -90,19 +90,19 @@ module _ (margin : ℕ) (e : Entry) (need : ℕ) (p : Presence) (at : ℕ) (x : 
       let loose : t.pressed || not x.owes ≡ false = ap₂ (λ b d. b || not d) (not_true t.pressed two.0) two.1 in
       cond-false (t.pressed || not x.owes) (let_go x t) (Some t) loose
 
-  is_kept : fresh ≡ false → wants x need || x.out ≡ false → is_owed_alone x.owes x.attempt ≡ true → pressed_track margin e need at x ≡ x
+  pub is_kept : fresh ≡ false → wants x need || x.out ≡ false → is_owed_alone x.owes x.attempt ≡ true → pressed_track margin e need at x ≡ x
   unfolding pressed_track
   is_kept not_fresh left alone =
       cond-false fresh (record x { attempt = Some (press at false x) }) (if wants x need || x.out then x else record x { attempt = dropped x x.attempt }) not_fresh
       ∙ cond-false (wants x need || x.out) x (record x { attempt = dropped x x.attempt }) left ∙ ap (λ o. record x { attempt = o }) (try_kept x.attempt alone)
 
   -- it opens no round
-  opens_none : fresh ≡ false → opens margin e x need (sec at) ≡ false
+  pub opens_none : fresh ≡ false → opens margin e x need (sec at) ≡ false
   unfolding opens
   opens_none h = ap (λ b. b && (is_in_plan margin e x && is_alive (sec at) x)) h
 
   -- its try does not go out
-  out_due : x.out ≡ true → is_due p at x ≡ false
+  pub out_due : x.out ≡ true → is_due p at x ≡ false
   unfolding is_due
   out_due h = ap (λ b. not b && is_due_try p at x x.attempt) h
 
@@ -116,7 +116,7 @@ module _ (margin : ℕ) (e : Entry) (need : ℕ) (p : Presence) (at : ℕ) (x : 
 
   -- what it waits for
   module _ (low : at ≤ READING_MAX) where
-    never_waits : min last last ≡ min last NEVER
+    pub never_waits : min last last ≡ min last NEVER
     never_waits = let l = latest_low margin at low in omega (arith, l)
 
     try_waits : (o : Option Try) → at < try_due p x o → min last (try_at p at last x o) ≡ min last (try_due p x o)
@@ -125,7 +125,7 @@ module _ (margin : ℕ) (e : Entry) (need : ℕ) (p : Presence) (at : ℕ) (x : 
         let test : nat_lt at (ready p x t) ≡ true = grind (arith, nat_tests) in
         ap (min last) (cond-true (nat_lt at (ready p x t)) (ready p x t) last test)
 
-    time_waits : wants x need ≡ true → min last (time_at margin e x need last) ≡ min last (time_due margin e x)
+    pub time_waits : wants x need ≡ true → min last (time_at margin e x need last) ≡ min last (time_due margin e x)
     time_waits wanted =
         elim (cases_Bool (is_pressed x)) as (λ _. min last (time_at margin e x need last) ≡ min last (time_due margin e x)) [
           | inl is ↦
@@ -136,14 +136,14 @@ module _ (margin : ℕ) (e : Entry) (need : ℕ) (p : Presence) (at : ℕ) (x : 
               ∙ sym (ap (min last) (cond-false (is_pressed x) NEVER (ms (time margin e x)) loose))
         ]
 
-    idle_time : wants x need ≡ false → time_at margin e x need last ≡ last
+    pub idle_time : wants x need ≡ false → time_at margin e x need last ≡ last
     idle_time unwanted = cond-false (wants x need && not (is_pressed x)) (ms (time margin e x)) last (ap (λ b. b && not (is_pressed x)) unwanted)
 
-    next_free : x.out ≡ false → next_of margin e need p at x ≡ min (try_at p at last x x.attempt) (time_at margin e x need last)
+    pub next_free : x.out ≡ false → next_of margin e need p at x ≡ min (try_at p at last x x.attempt) (time_at margin e x need last)
     unfolding next_of
     next_free free = cond-false x.out last (min (try_at p at last x x.attempt) (time_at margin e x need last)) free
 
-    next_out : x.out ≡ true → next_of margin e need p at x ≡ last
+    pub next_out : x.out ≡ true → next_of margin e need p at x ≡ last
     unfolding next_of
     next_out out = cond-true x.out last (min (try_at p at last x x.attempt) (time_at margin e x need last)) out
 
@@ -161,7 +161,7 @@ module _ (margin : ℕ) (e : Entry) (need : ℕ) (p : Presence) (at : ℕ) (x : 
       or_true false = refl
 
     -- it is wanted, and neither its try may go out nor has its time come
-    not_yet : at < time_due margin e x → fresh ≡ false
+    pub not_yet : at < time_due margin e x → fresh ≡ false
     not_yet h =
         elim (cases_Bool (is_pressed x)) as (λ _. fresh ≡ false) [
           | inl is ↦ pressed_fresh is

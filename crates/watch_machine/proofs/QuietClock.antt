@@ -1,5 +1,5 @@
 -- QuietClock: a clock at which nothing is to be done is a step of the definitions. For `clock`.
-use Rattle.std.proofs.Common.{◌≡◌, ◌∙◌, ℕ, zero, suc, ◌++◌, ◌-◌, Bool, List, [], ◌∷◌, None, IsPermutation, length, take, refl, sym, ap, subst, arith}
+use Rattle.std.proofs.Common.{◌≡◌, ◌∙◌, ℕ, zero, suc, ◌-◌, Bool, List, [], None, IsPermutation, length, take, refl, sym, ap, subst, arith}
 use Rattle.std.proofs.lemmas.List.{append-nil}
 use Rattle.std.proofs.lemmas.List.Sorted.{IsPermutation-refl}
 use Rattle.watch_machine.specs.declared.clocks.Clocks.{Clocks}

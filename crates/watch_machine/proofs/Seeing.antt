@@ -1,12 +1,12 @@
 -- Seeing: what is seen of entries, and what they carry, depends on their believed ends, on which of them are renewable, and on which are at their
 -- top. For the steps of a clock that write none of these.
-use Rattle.std.proofs.Common.{◌≡◌, ◌∙◌, ℕ, ◌<◌, ◌≤◌, List, Option, get_or, filter, length, map, refl, sym, ap, arith, inl, inr}
+use Rattle.std.proofs.Common.{◌≡◌, ◌∙◌, ℕ, ◌<◌, ◌≤◌, List, filter, length, map, sym, ap, arith, inl, inr}
 use Rattle.std.proofs.Math.Path.{fun_ext}
 use Rattle.std.proofs.lemmas.Bool.{cases_lt}
 use Rattle.std.proofs.lemmas.List.{ext_get_or, get_or_past}
 use Rattle.std.proofs.lemmas.List.FromFn.{get_or-map-range_with_len, length-map-range_with_len}
 use Rattle.std.specs.List.{range_with_len}
-use Rattle.keep_needs.specs.Carried.{CarriedNeed, IsCarried}
+use Rattle.keep_needs.specs.Carried.{CarriedNeed}
 use Rattle.keep_tree.specs.declared.entry.Entry.{Entry}
 use Rattle.keep_tree.specs.declared.forest.TheConstants.{END_MAX}
 use Rattle.keep_tree.specs.Carried.{carried}

@@ -1,12 +1,10 @@
 -- Taking: what the parts of a step say of it is a turn of the definitions. For `step`.
-use Rattle.std.proofs.Common.{◌≡◌, ◌≢◌, ℕ, Option, Some, None, Result, Ok, Err, IfErr, IfOk, OnErr, refl}
+use Rattle.std.proofs.Common.{◌≡◌, ℕ, Option, Some, None, Result, Ok, Err, IfErr, IfOk, OnErr, refl}
 use Rattle.watch_machine.specs.declared.command.Output.{Output}
 use Rattle.watch_machine.specs.declared.event.Event.{Event}
 use Rattle.watch_machine.specs.declared.event.Event.TheVariants.{Clock, Looked, Renewed, Need, Begin, Known}
 use Rattle.watch_machine.specs.declared.event.Operation.{Operation}
 use Rattle.watch_machine.specs.declared.event.Operation.TheVariants.{Look, Renew}
-use Rattle.watch_machine.specs.declared.event.Reply.{Reply}
-use Rattle.watch_machine.specs.declared.event.Terms.{Terms}
 use Rattle.watch_machine.specs.declared.fault.WatchFault.{WatchFault}
 use Rattle.watch_machine.specs.declared.fault.WatchFault.TheVariants.{NotAsked, BadIndex, OutOfMemory}
 use Rattle.watch_machine.specs.declared.lanes.Out.{Out}

@@ -1,5 +1,5 @@
 -- Within: an event that is not refused is of an entry of the forest, and an answer is to a request that is out. For `step`.
-use Rattle.std.proofs.Common.{◌≡◌, ◌≢◌, ◌∙◌, ◌<◌, ℕ, suc, Bool, true, false, ◌==◌, ◌&&◌, if◌then◌else◌, List, [], ◌∷◌, Option, Some, None, IfSome, length, arith, inl, inr, nat_le, refl, sym, ap, subst}
+use Rattle.std.proofs.Common.{◌≡◌, ◌≢◌, ◌∙◌, ◌<◌, ℕ, suc, Bool, true, ◌==◌, ◌&&◌, List, [], ◌∷◌, Option, Some, None, IfSome, length, arith, inl, inr, nat_le, sym, ap, subst}
 use Rattle.std.proofs.lemmas.Bool.{and_parts, cases_Bool, cases_lt, cond-true, cond-false, eqb-true}
 use Rattle.std.proofs.lemmas.Bool.Decides.{nat_tests}
 use Rattle.std.specs.List.{All, find}

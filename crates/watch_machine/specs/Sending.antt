@@ -1,11 +1,10 @@
 -- Sending: which requests go out at a clock, and how long each may take.
 -- Source: this project's own.
-use Rattle.std.specs.Prelude.{◌≡◌, ◌==◌, ℕ, ◌+◌, ◌-◌, ◌*◌, ◌^◌, Bool, true, false, ◌&&◌, ◌||◌, if◌then◌else◌, List, ◌++◌, Option, Some, None, IsPermutation, IsSortedBy, filter, length, map, max, min, nat_lt, take}
+use Rattle.std.specs.Prelude.{◌≡◌, ◌==◌, ℕ, ◌-◌, ◌*◌, ◌^◌, Bool, true, false, ◌&&◌, ◌||◌, if◌then◌else◌, List, ◌++◌, Option, Some, None, IsPermutation, IsSortedBy, filter, length, map, max, min, nat_lt, take}
 use Rattle.std.specs.List.{list_any, range_with_len}
 use Rattle.watch_machine.specs.declared.command.Patience.{Patience}
 use Rattle.watch_machine.specs.declared.command.Patience.TheVariants.{Full, AtMost}
 use Rattle.watch_machine.specs.declared.command.Request.{Request}
-use Rattle.watch_machine.specs.declared.event.Operation.{Operation}
 use Rattle.watch_machine.specs.declared.event.Operation.TheVariants.{Look}
 use Rattle.watch_machine.specs.declared.lanes.Out.{Out}
 use Rattle.watch_machine.specs.declared.lanes.Presence.{Presence}

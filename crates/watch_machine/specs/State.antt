@@ -1,6 +1,6 @@
 -- State: what a watch holds between two events.
 -- Source: this project's own.
-use Rattle.std.specs.Prelude.{ℕ, Bool, true, false, List, [], Option, Some, None, length, map, slice_index_or}
+use Rattle.std.specs.Prelude.{ℕ, Bool, true, false, List, [], Option, None, length, map, slice_index_or}
 use Rattle.std.specs.List.{range_with_len}
 use Rattle.keep_tree.specs.declared.entry.Entry.{Entry}
 use Rattle.keep_tree.specs.Forest.{Forest, entry_at}

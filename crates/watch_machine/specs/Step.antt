@@ -1,6 +1,6 @@
 -- Step: what one event does that is not refused.
 -- Source: this project's own.
-use Rattle.std.specs.Prelude.{◌≡◌, ℕ, Bool, true, false, not, ◌&&◌, if◌then◌else◌, List, Option, Some, None, min, slice_set}
+use Rattle.std.specs.Prelude.{◌≡◌, ℕ, Bool, true, false, not, ◌&&◌, List, Option, Some, None, min, slice_set}
 use Rattle.keep_moment.specs.declared.moment.TheConstants.{LAST}
 use Rattle.keep_tree.specs.declared.forest.TheConstants.{END_MAX}
 use Rattle.watch_machine.specs.declared.command.Command.{Command}

@@ -1,6 +1,6 @@
 -- Wait: until when nothing is to be done but to take answers.
 -- Source: this project's own.
-use Rattle.std.specs.Prelude.{ℕ, ◌+◌, ◌*◌, not, ◌&&◌, if◌then◌else◌, Option, Some, None, List, length, map, max, min, nat_lt}
+use Rattle.std.specs.Prelude.{ℕ, ◌+◌, ◌*◌, not, ◌&&◌, if◌then◌else◌, Option, Some, None, length, map, max, min, nat_lt}
 use Rattle.std.specs.List.{range_with_len}
 use Rattle.keep_tree.specs.declared.entry.Entry.{Entry}
 use Rattle.watch_machine.specs.declared.lanes.Presence.{Presence}

@@ -4,4 +4,5 @@ pub mod Rounds
 pub mod Places
 pub mod Outlook
 pub mod Lull
+pub mod Line
 pub mod Watching

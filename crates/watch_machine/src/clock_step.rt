@@ -17,12 +17,13 @@ use crate::clocks::{Clocks, goes_on};
 use crate::command::{Command, Output, Requests};
 use crate::fault::WatchFault;
 use crate::lanes::Presence;
+use crate::line::Line;
 use crate::lull::Lull;
 use crate::notes::{Notes, Why};
 use crate::press::{press_alone, press_round};
 use crate::reading::{Millis, moment_at, reading, second};
 use crate::round::round;
-use crate::sending::{going, out_with, send_all};
+use crate::sending::{Front, going, out_with, send_all};
 use crate::settling::{dated_by_all, is_holding, pace_after, presence_after, settled_tracks};
 use crate::track::Track;
 use crate::waiting::{latest, wait};
@@ -34,10 +35,10 @@ use std::alloc::Global;
 
 /// The clocks at later readings, whether the wall has jumped, and whether the broker's clock was set on since the last beginning.
 #[derive(Clone, Copy, Debug)]
-struct Shown {
-    clocks: Clocks,
-    jumped: bool,
-    stepped: bool,
+pub(crate) struct Shown {
+    pub(crate) clocks: Clocks,
+    pub(crate) jumped: bool,
+    pub(crate) stepped: bool,
 }
 
 impl Watch {
@@ -66,7 +67,7 @@ impl Watch {
 
     /// Why everything is looked up anew, `None` where it is not.
     #[tactic(auto, unfolding(crate::specs::Beginning::beginning))]
-    fn reason(&self, timed: Shown, tracks: &[Track]) -> Option<Why>
+    pub(crate) fn reason(&self, timed: Shown, tracks: &[Track]) -> Option<Why>
         ensures { result ≡ beginning self.now.begun self.now.asked timed.stepped timed.jumped timed.clocks.at tracks.now }
     {
         let at = timed.clocks.at;
@@ -95,9 +96,13 @@ impl Watch {
         ensures unchanged { OnErr result (self.new ≡ self.old) }
     {
         let timed = self.timed(wall, elapsed);
-        match self.quiet_until(timed) {
+        if let Some(until) = self.quiet_until(timed) {
+            return Ok(self.quiet_clock(alloc, timed, until));
+        }
+        let line = self.take_line(alloc);
+        match self.round_until(&line, timed) {
             None => self.whole_clock(alloc, wall, elapsed),
-            Some(until) => Ok(self.quiet_clock(alloc, timed, until)),
+            Some(until) => self.line_clock(alloc, timed, line, until),
         }
     }
 
@@ -181,11 +186,27 @@ impl Watch {
             &needs,
         )?;
         let lanes = (self.width as usize).saturating_sub(self.out.len());
-        let requests = going(alloc, presence, at, &tracks, self.forest.len(), lanes)?;
+        let Front { requests, line } = going(
+            alloc,
+            presence,
+            at,
+            &tracks,
+            self.forest.len(),
+            lanes,
+        )?;
         let out = out_with(alloc, &self.out, at, &requests)?;
         send_all(&mut tracks, at, &requests);
         let until = wait(&self.forest, &tracks, &needs, presence, at);
         let lull = Lull::after(&requests, &self.forest, &tracks, &needs, clocks, presence);
+        let line = Line::of(
+            line,
+            requests.len(),
+            &self.forest,
+            &tracks,
+            &needs,
+            clocks,
+            presence,
+        );
         self.tracks = tracks;
         self.out = out;
         self.answers.clear();
@@ -193,6 +214,7 @@ impl Watch {
         self.presence = presence;
         self.stepped = timed.stepped;
         self.lull = lull;
+        self.line = line;
         self.note_begun(why);
         Ok(Output {
             command: Command::Go {

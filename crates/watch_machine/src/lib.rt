@@ -18,6 +18,8 @@ mod command;
 mod event;
 mod fault;
 mod lanes;
+mod line;
+mod line_clock;
 mod lines;
 mod looked;
 mod lull;

@@ -230,6 +230,7 @@ impl Watch {
         let before = self.track(entry);
         let track = told_track(before, request.since, seconds, renewable, terms.endless);
         self.lull = None;
+        self.line.known = false;
         take_terms(&mut self.forest, entry, terms);
         take_orphan(&mut self.view, entry, terms);
         self.tracks[entry as usize] = track;

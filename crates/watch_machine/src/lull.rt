@@ -36,7 +36,7 @@ pub(crate) struct Lull {
 }
 
 /// Whether its try failed since the last clock, so that the next one sets its pause.
-fn is_failed(track: Track) -> bool
+pub(crate) fn is_failed(track: Track) -> bool
     ensures { result ≡ is_failed track.attempt }
 {
     match track.attempt {
@@ -46,7 +46,7 @@ fn is_failed(track: Track) -> bool
 }
 
 /// Whether nothing is to be asked of it, or only the lookup that it owes.
-fn is_owed_alone(track: Track) -> bool
+pub(crate) fn is_owed_alone(track: Track) -> bool
     ensures { result ≡ is_owed_alone track.owes track.attempt }
 {
     match track.attempt {
@@ -67,7 +67,7 @@ fn try_due(presence: Presence, track: Track) -> Millis
 }
 
 /// The moment at which its time comes, [`NEVER`] where it is pressed.
-fn time_due(margin: u32, entry: &Entry, track: Track) -> Millis
+pub(crate) fn time_due(margin: u32, entry: &Entry, track: Track) -> Millis
     requires { IsTrack track }
     ensures { result ≡ time_due margin entry.now track }
 {
@@ -135,7 +135,7 @@ fn lasting_with(lasting: Seconds, need: u64, track: Track, now: u64) -> Seconds
 }
 
 /// The first second in which one of the needs that these `count` entries carry, or one of their ends that is ahead, is past.
-fn first_past(tracks: &[Track], needs: &Carried, count: u32, now: u64) -> Seconds
+pub(crate) fn first_past(tracks: &[Track], needs: &Carried, count: u32, now: u64) -> Seconds
     requires tracks { count ≡ length tracks.now }
     requires needs { count ≡ length needs.now }
     ensures need { (i : ℕ) → i < count → 0 < (load_at needs.now i).need → result ≤ (load_at needs.now i).need }

@@ -211,7 +211,7 @@ fn ungranted(track: Track, reply: Reply, at: Millis, heard: bool) -> Track
 
 /// A track after the answer to a renewal, with that margin and step.
 #[tactic(auto, unfolding(crate::specs::Renewed::renewed_track))]
-fn renewed_track(
+pub(crate) fn renewed_track(
     margin: u32,
     step: u32,
     at: Millis,

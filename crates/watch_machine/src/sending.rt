@@ -8,7 +8,9 @@ ghost use Rattle.watch_machine.specs.Sending as Sending;
 ghost use Rattle.watch_machine.specs.Sending.{IsGoing, is_alone, is_before, is_partial, out_at, patience, place_of, request, request_of, sent_in, sent_track};
 ghost use Rattle.watch_machine.specs.State.{each, track_in};
 ghost use Rattle.watch_machine.specs.declared.lanes.Presence.{Presence};
+ghost use Rattle.watch_machine.specs.code.Line.{IsFrontOf};
 ghost use Rattle.watch_machine.specs.code.Places.{place_is};
+ghost use Rattle.watch_machine.specs.declared.sending.Place.{Place};
 
 use crate::command::{Patience, Request};
 use crate::event::Operation;
@@ -21,7 +23,7 @@ use std::alloc::{AllocError, Global};
 
 /// Where an entry stands in the line.
 #[derive(Clone, Copy, Debug, PartialEq, Eq, PartialOrd, Ord)]
-struct Place {
+pub(crate) struct Place {
     part: u32,
     rank: u64,
     entry: u32,
@@ -131,17 +133,16 @@ fn request_of(presence: Presence, partial: bool, entry: u32, track: Track) -> Re
     }
 }
 
-/// The requests of these places. The only error is lack of memory.
-fn requests(
+/// The requests of these places; somebody is asked alone, `partial`, or nobody. The only error is lack of memory.
+pub(crate) fn requests_by(
     alloc: Global,
     presence: Presence,
-    now: u64,
+    partial: bool,
     tracks: &[Track],
     picked: &[Place],
 ) -> Result<Vec<Request>, AllocError>
-    ensures { IfOk result (λ requests. requests.items ≡ map (λ p. request presence now tracks.now (place_is p)) picked.now) }
+    ensures { IfOk result (λ requests. requests.items ≡ map (λ (q : Place). request_of presence.away partial presence.pace q.entry (track_in tracks.now q.entry).attempt) picked.now) }
 {
-    let partial = is_partial(tracks, now);
     let mut requests = Vec::with_capacity(alloc, picked.len())?;
     for place in picked {
         let track = track_in(tracks, place.entry);
@@ -160,6 +161,28 @@ fn track_in(tracks: &[Track], index: u32) -> Track
     }
 }
 
+/// The requests of these places. The only error is lack of memory.
+#[tactic(auto, unfolding(crate::specs::Sending::request))]
+fn requests(
+    alloc: Global,
+    presence: Presence,
+    now: u64,
+    tracks: &[Track],
+    picked: &[Place],
+) -> Result<Vec<Request>, AllocError>
+    ensures { IfOk result (λ requests. requests.items ≡ map (λ p. request presence now tracks.now (place_is p)) picked.now) }
+{
+    let partial = is_partial(tracks, now);
+    requests_by(alloc, presence, partial, tracks, picked)
+}
+
+/// The requests that go out at a clock, and the line in whose front they stood.
+#[derive(Debug, Drop)]
+pub(crate) struct Front {
+    pub(crate) requests: Vec<Request>,
+    pub(crate) line: Vec<Place>,
+}
+
 /// The requests that go out at a clock: of those of `count` entries that are due as many as lanes are free. The only error is want
 /// of memory.
 pub(crate) fn going(
@@ -169,14 +192,16 @@ pub(crate) fn going(
     tracks: &[Track],
     count: u32,
     lanes: usize,
-) -> Result<Vec<Request>, AllocError>
+) -> Result<Front, AllocError>
     requires count { count ≡ length tracks.now }
     requires tracks { All IsTrack tracks.now }
-    ensures { IfOk result (λ requests. IsGoing presence at tracks.now lanes requests.items) }
+    ensures going { IfOk result (λ going. IsGoing presence at tracks.now lanes going.requests.items) }
+    ensures line { IfOk result (λ going. IsFrontOf presence at tracks.now going.requests.items going.line.items) }
 {
     let line = in_order(due(alloc, presence, at, tracks, count)?);
     let picked = lanes.min(line.len());
-    requests(alloc, presence, second(at), tracks, &line[..picked])
+    let requests = requests(alloc, presence, second(at), tracks, &line[..picked])?;
+    Ok(Front { requests, line })
 }
 
 /// An entry whose request goes out.

@@ -50,7 +50,7 @@ impl Watch {
                 reply,
                 terms,
             } => self.take_looked(entry, reply, terms),
-            Event::Renewed { entry, reply } => self.take_renewed(entry, reply),
+            Event::Renewed { entry, reply } => self.take_renewed(alloc, entry, reply),
             Event::Need { entry, until } => {
                 self.need(entry, until);
                 Ok(taken(Notes::none()))
@@ -87,7 +87,12 @@ impl Watch {
     }
 
     /// Takes the answer to a renewal. The only error is lack of memory, where the request is out.
-    fn take_renewed(&mut self, entry: u32, reply: Reply) -> Result<Output, WatchFault>
+    fn take_renewed(
+        &mut self,
+        alloc: Global,
+        entry: u32,
+        reply: Reply,
+    ) -> Result<Output, WatchFault>
         requires { entry < length self.old.forest.entries }
         ensures step { IfOk result (λ output. StepRenewed self.old (request_out self.old.out entry Renew) reply output self.new) }
         ensures refused { request_out self.old.out entry Renew ≢ None → IfErr result (λ fault. fault ≡ OutOfMemory) }
@@ -97,8 +102,10 @@ impl Watch {
             return Err(WatchFault::NotAsked);
         };
         self.note(request, reply)?;
+        let line = self.line_renewed(alloc, request, reply);
         let top = self.renewed(request, reply);
         let link = self.replied(request, reply);
+        self.keep_line(line);
         Ok(taken(Notes {
             top,
             link,
@@ -127,6 +134,7 @@ impl Watch {
     {
         let was_away = self.presence.away;
         self.lull = None;
+        self.line.known = false;
         take_out(&mut self.out, request.entry);
         if is_real(reply) {
             self.answers_all();
@@ -144,6 +152,7 @@ impl Watch {
         ensures { self.new ≡ answers_all self.old }
     {
         self.lull = None;
+        self.line.known = false;
         hear_all(&mut self.out);
         if self.presence.away {
             back_all(&mut self.tracks);

@@ -12,6 +12,7 @@ ghost use Rattle.watch_machine.specs.Step.{known, with_need_until};
 use crate::clocks::Clocks;
 use crate::fault::WatchFault;
 use crate::lanes::{Answer, Out, Presence};
+use crate::line::Line;
 use crate::lull::Lull;
 use crate::reading::{Millis, moment_at};
 use crate::track::{End, Track};
@@ -44,6 +45,8 @@ pub struct Watch {
     pub(crate) stepped: bool,
     // how long nothing is to be done but to take answers, where that is known
     pub(crate) lull: Option<Lull>,
+    // those that wait for a lane, where they are known
+    pub(crate) line: Line,
 }
 
 impl Model for Watch {
@@ -54,7 +57,7 @@ impl Model for Watch {
 
     ghost view = { λ w. record { forest = w.forest; width = w.width; tracks = w.tracks.items; out = w.out.items; answers = w.answers.items; clocks = w.clocks; presence = w.presence; begun = w.begun; asked = w.asked; stepped = w.stepped } };
 
-    ghost invariant = { λ w. IsWatch w.forest w.view w.tracks.items w.out.items w.clocks w.presence w.lull };
+    ghost invariant = { λ w. IsWatch w.forest w.view w.tracks.items w.out.items w.clocks w.presence w.lull w.line };
 }
 
 /// What is known of an entry that is watched from now on.
@@ -134,6 +137,7 @@ impl Watch {
             asked: false,
             stepped: false,
             lull: None,
+            line: Line::none(alloc),
         })
     }
 
@@ -143,6 +147,7 @@ impl Watch {
         ensures { self.new ≡ with_need_until self.old entry until }
     {
         self.lull = None;
+        self.line.known = false;
         self.forest.set_need(entry, moment_at(LAST.min(until)));
     }
 
@@ -199,6 +204,7 @@ impl Watch {
         ensures { self.new ≡ with_track self.old entry track }
     {
         self.lull = None;
+        self.line.known = false;
         self.tracks[entry as usize] = track;
     }
 }

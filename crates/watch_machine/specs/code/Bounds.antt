@@ -1,6 +1,6 @@
 -- Bounds: what keeps the numbers of a watch small. No public clause cites it.
 -- Source: this project's own.
-use Rattle.std.specs.Prelude.{ℕ, ◌≤◌, IfSome}
+use Rattle.std.specs.Prelude.{◌≤◌, IfSome}
 use Rattle.keep_moment.specs.declared.moment.TheConstants.{LAST}
 use Rattle.keep_tree.specs.declared.forest.TheConstants.{END_MAX}
 use Rattle.watch_machine.specs.declared.clocks.Clocks.{Clocks}

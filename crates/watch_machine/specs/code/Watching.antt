@@ -6,17 +6,20 @@ use Rattle.keep_tree.specs.Forest.{Forest}
 use Rattle.watch_machine.specs.declared.clocks.Clocks.{Clocks}
 use Rattle.watch_machine.specs.declared.lanes.Out.{Out}
 use Rattle.watch_machine.specs.declared.lanes.Presence.{Presence}
+use Rattle.watch_machine.specs.declared.line.Line.{Line}
 use Rattle.watch_machine.specs.declared.lull.Lull.{Lull}
 use Rattle.watch_machine.specs.declared.track.Track.{Track}
 use Rattle.watch_machine.specs.code.Bounds.{IsClocks, IsTrack, WentOutAtReading}
+use Rattle.watch_machine.specs.code.Line.{IsKnown}
 use Rattle.watch_machine.specs.code.Lull.{IsLull}
 use Rattle.watch_machine.specs.code.View.{IsView}
 
--- a track for each entry of the forest, a view of it, numbers within bounds, and what is known of a lull, if anything
-pub record IsWatch (forest view : Forest) (xs : List Track) (os : List Out) (c : Clocks) (p : Presence) (known : Option Lull) : Type 0 where
+-- a track for each entry of the forest, a view of it, numbers within bounds, and what is known of a lull and of a line, if anything
+pub record IsWatch (forest view : Forest) (xs : List Track) (os : List Out) (c : Clocks) (p : Presence) (known : Option Lull) (waiting : Line) : Type 0 where
   pub count : length xs ≡ length forest.entries
   pub is_view : IsView view forest
   pub tracks : All IsTrack xs
   pub out : All WentOutAtReading os
   pub clocks : IsClocks c
   pub lull : IfSome known (IsLull forest xs c p)
+  pub line : IsKnown forest xs p waiting

@@ -1,5 +1,5 @@
 -- The requests before the index have heard of it.
-use Rattle.std.proofs.Common.{◌≡◌, ◌++◌, drop, length, map, take}
+use Rattle.std.proofs.Common.{◌≡◌, ◌++◌, drop, map, take}
 use Rattle.std.specs.List.{All}
 use Rattle.watch_machine.specs.Answers.{heard}
 use Rattle.watch_machine.specs.code.Bounds.{WentOutAtReading}

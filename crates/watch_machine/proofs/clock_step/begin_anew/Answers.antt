@@ -1,7 +1,7 @@
 -- By what the entries carry, everybody who is called owes a lookup.
 use Rattle.std.proofs.Common.{◌≡◌, ◌∙◌, ap, length, subst}
 use Rattle.keep_needs.specs.Carried.{IsCarried}
-use Rattle.watch_machine.specs.Beginning.{owing_all, untopped}
+use Rattle.watch_machine.specs.Beginning.{owing_all}
 use Rattle.watch_machine.proofs.Owing.{owed_are, owed_sees}
 use Rattle.watch_machine.proofs.Written.{each_length}
 use Rattle.watch_machine.proofs.clock_step.begin_anew.Goals as goal

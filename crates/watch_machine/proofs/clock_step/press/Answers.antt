@@ -1,7 +1,6 @@
 -- By what the entries carry, those are pressed whose time has come, and those whom a round asks.
-use Rattle.std.proofs.Common.{◌≡◌, ◌∙◌, List, [], ap, sym}
+use Rattle.std.proofs.Common.{◌≡◌, ◌∙◌, ap, sym}
 use Rattle.keep_tree.specs.Forest.{entry_at}
-use Rattle.watch_machine.specs.declared.track.Track.{Track}
 use Rattle.watch_machine.specs.Press.{pressed_alone, pressed_tracks, track_asked_in}
 use Rattle.watch_machine.specs.Round.{asked_by_round}
 use Rattle.watch_machine.specs.State.{each}

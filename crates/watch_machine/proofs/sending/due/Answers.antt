@@ -1,5 +1,5 @@
 -- Each entry that is due is gathered after those before it.
-use Rattle.std.proofs.Common.{◌≡◌, ◌∙◌, ℕ, ◌<◌, Bool, true, false, ap, arith, length, map, sym}
+use Rattle.std.proofs.Common.{◌≡◌, ◌∙◌, ℕ, ◌<◌, Bool, ap, arith, length, map, sym}
 use Rattle.std.proofs.lemmas.List.{get_or_default}
 use Rattle.watch_machine.specs.declared.track.Track.{Track}
 use Rattle.watch_machine.specs.Lines.{is_due}

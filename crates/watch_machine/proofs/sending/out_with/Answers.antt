@@ -1,6 +1,6 @@
 -- Each request is out after those before it.
-use Rattle.std.proofs.Common.{◌≡◌, ◌∙◌, ℕ, ◌<◌, ◌++◌, ◌∷◌, [], ap, arith, length, map, subst, sym, take}
-use Rattle.std.proofs.lemmas.List.{append-nil, append_assoc, map_more, take_all}
+use Rattle.std.proofs.Common.{◌∙◌, ◌<◌, ◌++◌, ◌∷◌, [], ap, arith, length, map, subst, sym, take}
+use Rattle.std.proofs.lemmas.List.{append_assoc, map_more, take_all}
 use Rattle.std.proofs.lemmas.List.Elements.{All-push}
 use Rattle.std.specs.List.{All}
 use Rattle.watch_machine.specs.Sending.{out_at}

@@ -1,5 +1,5 @@
 -- By what the view carries, an entry is wanted where it is by the definitions.
-use Rattle.std.proofs.Common.{◌≡◌, ◌∙◌, ℕ, ap, subst}
+use Rattle.std.proofs.Common.{◌≡◌, ◌∙◌, ap, subst}
 use Rattle.keep_tree.specs.Carried.{carried}
 use Rattle.watch_machine.specs.declared.track.Track.{Track}
 use Rattle.watch_machine.specs.State.{WatchState}

@@ -1,5 +1,5 @@
 -- A new need leaves the forest and its view as they have to be.
-use Rattle.std.proofs.Common.{◌∙◌, ap, length, refl, sym}
+use Rattle.std.proofs.Common.{◌∙◌, ◌≡◌, ap, false, length, refl, sym, true}
 use Rattle.std.proofs.lemmas.List.{length-set}
 use Rattle.keep_tree.specs.Forest.{Forest}
 use Rattle.watch_machine.proofs.View.{view_of_set}
@@ -16,4 +16,5 @@ invariant_of-self c =
       out = kept.out;
       clocks = kept.clocks;
       lull = tt;
+      line = λ known. absurd (let bad : false ≡ true = known in cc);
     }

@@ -18,4 +18,5 @@ invariant_of-self c =
       out = kept.out;
       clocks = c.requires.clocks;
       lull = known_on w.forest w.tracks.items w.clocks t.clocks w.presence c.pace_after-pace.result (λ i within. (quiet.needs i within, quiet.alive i within)) w.lull kept.lull;
+      line = kept.line;
     }

@@ -1,5 +1,5 @@
 -- What a lookup told makes of its entry, and of the forest, is what the definitions say.
-use Rattle.std.proofs.Common.{◌≡◌, ◌∙◌, ◌<◌, length, set, subst, sym, ap}
+use Rattle.std.proofs.Common.{◌<◌, ◌∙◌, ◌≡◌, ap, false, length, set, subst, sym, true}
 use Rattle.std.proofs.lemmas.List.{length-set}
 use Rattle.std.proofs.lemmas.List.Elements.{All-set}
 use Rattle.keep_tree.specs.Forest.{Forest}
@@ -26,6 +26,7 @@ invariant_of-self c =
       out = kept.out;
       clocks = kept.clocks;
       lull = tt;
+      line = λ known. absurd (let bad : false ≡ true = known in cc);
     }
 
 pub returns : goal.returns

@@ -1,13 +1,12 @@
 -- The parts of a clock are together the step of the definitions.
-use Rattle.std.proofs.Common.{◌≡◌, ◌∙◌, ◌-◌, ◌++◌, ℕ, IfSome, List, [], Option, ap, length, map, refl, subst, sym}
+use Rattle.std.proofs.Common.{◌≡◌, ◌∙◌, ◌-◌, ◌++◌, IfSome, List, [], ap, drop, length, map, subst, sym}
 use Rattle.std.specs.List.{All}
-use Rattle.keep_needs.specs.Carried.{CarriedNeed, load_at}
+use Rattle.keep_needs.specs.Carried.{load_at}
 use Rattle.watch_machine.specs.declared.command.Command.TheVariants.{Go}
 use Rattle.watch_machine.specs.declared.command.Output.{Output}
 use Rattle.watch_machine.specs.declared.lanes.Answer.{Answer}
 use Rattle.watch_machine.specs.declared.lanes.Out.{Out}
 use Rattle.watch_machine.specs.declared.notes.Notes.{Notes}
-use Rattle.watch_machine.specs.declared.notes.Why.{Why}
 use Rattle.watch_machine.specs.declared.track.Track.{Track}
 use Rattle.watch_machine.specs.Beginning.{beginning, begun_tracks, noted_begun}
 use Rattle.watch_machine.specs.Press.{pressed_tracks}
@@ -15,12 +14,16 @@ use Rattle.watch_machine.specs.Round.{IsRound, asked_by_round}
 use Rattle.watch_machine.specs.Sending.{IsGoing, out_at, sent_in}
 use Rattle.watch_machine.specs.Settling.{clocks_after, has_jumped, has_stepped, presence_after, settled_track}
 use Rattle.watch_machine.specs.State.{WatchState, each}
-use Rattle.watch_machine.specs.Step.{StepClock, nothing_noted}
+use Rattle.watch_machine.specs.Step.{StepClock}
 use Rattle.watch_machine.specs.Wanted.{HasNeeds}
-use Rattle.watch_machine.specs.code.Bounds.{IsTrack, WentOutAtReading}
+use Rattle.watch_machine.specs.code.Bounds.{IsTrack}
 use Rattle.watch_machine.specs.code.Lull.{IsLull, wait_by}
 use Rattle.watch_machine.specs.code.View.{Sees}
+use Rattle.watch_machine.specs.Clocks.{sec}
+use Rattle.watch_machine.specs.code.Line.{IsFrontOf, IsInLine, IsKnown, calm}
 use Rattle.watch_machine.proofs.ClockParts.{clock_step, needs_after}
+use Rattle.watch_machine.proofs.LineMade.{line_in_order}
+use Rattle.watch_machine.proofs.LineSent.{asked_are, left_in_line}
 use Rattle.watch_machine.proofs.Lulls.{some_lull}
 use Rattle.watch_machine.proofs.Rewritten.{once, thrice, twice}
 use Rattle.watch_machine.proofs.Seeing.{has_needs}
@@ -114,14 +117,14 @@ lanes_are c = c.saturating_sub-lanes.ensures ∙ ap (λ n. c.self.inside.width -
 
 goes :
     (c : After-drop-needs-inside-2) →
-    IsGoing c.presence_after-presence.result c.timed-timed.result.clocks.at (pressed_of c) ((before c).width - length (before c).out) c.in_ok-requests.requests.items
+    IsGoing c.presence_after-presence.result c.timed-timed.result.clocks.at (pressed_of c) ((before c).width - length (before c).out) c.in_ok-requests.field-0.requests.items
 goes c =
     let p = c.presence_after-presence.result in
     let at = c.timed-timed.result.clocks.at in
-    let requests = c.in_ok-requests.requests.items in
-    subst (λ n. IsGoing p at (pressed_of c) n requests) (lanes_are c) (subst (λ xs. IsGoing p at xs c.saturating_sub-lanes.result requests) (read_pressed c) c.in_ok-requests.ensures)
+    let requests = c.in_ok-requests.field-0.requests.items in
+    subst (λ n. IsGoing p at (pressed_of c) n requests) (lanes_are c) (subst (λ xs. IsGoing p at xs c.saturating_sub-lanes.result requests) (read_pressed c) c.in_ok-requests.ensures.going)
 
-out_are : (c : After-drop-needs-inside-2) → c.in_ok-out.out.items ≡ (before c).out ++ map (out_at c.timed-timed.result.clocks.at) c.in_ok-requests.requests.items
+out_are : (c : After-drop-needs-inside-2) → c.in_ok-out.out.items ≡ (before c).out ++ map (out_at c.timed-timed.result.clocks.at) c.in_ok-requests.field-0.requests.items
 out_are c =
     let at = c.timed-timed.result.clocks.at in
     c.in_ok-out.ensures.value ∙ ap (λ os. os ++ map (out_at at) c.deref-7.result.now) c.deref-6.ensures.value
@@ -129,13 +132,13 @@ out_are c =
 
 -- the tracks in which it is noted who goes out
 abbrev sent_of : After-drop-needs-inside-2 → List Track
-sent_of c = each (sent_in c.timed-timed.result.clocks.at c.in_ok-requests.requests.items) (pressed_of c)
+sent_of c = each (sent_in c.timed-timed.result.clocks.at c.in_ok-requests.field-0.requests.items) (pressed_of c)
 
 sends : (c : After-drop-needs-inside-2) → c.send_all.new.tracks ≡ sent_of c
 sends c =
     let at = c.timed-timed.result.clocks.at in
     c.send_all.ensures.value ∙ ap (λ rs. each (sent_in at rs) c.deref_mut-3.result.now) c.deref-8.ensures.value
-    ∙ ap (each (sent_in at c.in_ok-requests.requests.items))
+    ∙ ap (each (sent_in at c.in_ok-requests.field-0.requests.items))
     (c.deref_mut-3.ensures.value
     ∙ twice c.in_ok-tracks.tracks c.deref_mut.result.now c.begin.new.tracks c.deref_mut.ensures.value c.begin.auto.tracks c.press.new.tracks (pressed_count c) ∙ presses c)
 
@@ -167,7 +170,7 @@ after c xs os as' =
       stepped = c.timed-timed.result.stepped;
     }
 
-leaves : (c : After-drop-needs-inside-2) → c.note_begun.new.self ≡ noted_begun (after c (sent_of c) ((before c).out ++ map (out_at c.timed-timed.result.clocks.at) c.in_ok-requests.requests.items) []) c.reason-why.result
+leaves : (c : After-drop-needs-inside-2) → c.note_begun.new.self ≡ noted_begun (after c (sent_of c) ((before c).out ++ map (out_at c.timed-timed.result.clocks.at) c.in_ok-requests.field-0.requests.items) []) c.reason-why.result
 leaves c =
     let why = c.reason-why.result in
     c.note_begun.ensures
@@ -175,11 +178,11 @@ leaves c =
     (thrice c.in_ok-tracks.tracks c.deref_mut.result.now c.begin.new.tracks c.deref_mut.ensures.value c.begin.auto.tracks c.press.new.tracks (pressed_count c) c.send_all.new.tracks (sent_count c)
     ∙ sends c)
     ∙ ap (λ os. noted_begun (after c (sent_of c) os c.clear.new.self.items) why) (out_are c)
-    ∙ ap (λ (ys : List Answer). noted_begun (after c (sent_of c) ((before c).out ++ map (out_at c.timed-timed.result.clocks.at) c.in_ok-requests.requests.items) ys) why) c.clear.ensures.items
+    ∙ ap (λ (ys : List Answer). noted_begun (after c (sent_of c) ((before c).out ++ map (out_at c.timed-timed.result.clocks.at) c.in_ok-requests.field-0.requests.items) ys) why) c.clear.ensures.items
 
 -- what is given
 abbrev said : After-drop-needs-inside-2 → Output
-said c = record { command = Go c.in_ok-requests.requests.items c.wait-until.result; notes = record c.none.result { began = c.reason-why.result; round = c.in_ok-round.round } }
+said c = record { command = Go c.in_ok-requests.field-0.requests.items c.wait-until.result; notes = record c.none.result { began = c.reason-why.result; round = c.in_ok-round.round } }
 
 pub returns-clause-step : goal.returns-clause-step
 returns-clause-step c =
@@ -190,7 +193,7 @@ returns-clause-step c =
     let why = c.reason-why.result in
     subst (λ (s : WatchState). StepClock s wall elapsed (said c) c.note_begun.new.self) (before_is c)
     (clock_step (before c) c.note_begun.new.self wall elapsed t.clocks t.stepped t.jumped c.in_ok-tracks.tracks.items c.presence_after-presence.result why c.begin.new.tracks
-    round c.in_ok-requests.requests.items c.wait-until.result (λ i. (load_at c.in_ok-needs.needs i).need) (record c.none.result { began = why; round = round })
+    round c.in_ok-requests.field-0.requests.items c.wait-until.result (λ i. (load_at c.in_ok-needs.needs i).need) (record c.none.result { began = why; round = round })
     (clocks_are c) (stepped_is c) (jumped_is c) (tracks_are c) (presence_is c) (why_is c) (begun_are c) (has c) (rounds c) (goes c) (waits c)
     (ap (λ (n : Notes). record n { began = why; round = round }) c.none.ensures) (leaves c))
 
@@ -223,6 +226,14 @@ after-lull-requires-clause-tracks c =
     subst (All IsTrack)
     (sym (c.deref-11.ensures.value ∙ thrice v c.deref_mut.result.now c.begin.new.tracks c.deref_mut.ensures.value c.begin.auto.tracks c.press.new.tracks still c.send_all.new.tracks kept)) c.send_all.ensures.bounds
 
+pub of-line-requires-clause-tracks : goal.of-line-requires-clause-tracks
+of-line-requires-clause-tracks c =
+    let v = c.in_ok-tracks.tracks in
+    let still = c.press.auto.tracks ∙ ap length (c.deref_mut-2.ensures.value ∙ once v c.deref_mut.result.now c.begin.new.tracks c.deref_mut.ensures.value c.begin.auto.tracks) in
+    let kept = c.send_all.auto.tracks ∙ ap length (c.deref_mut-3.ensures.value ∙ twice v c.deref_mut.result.now c.begin.new.tracks c.deref_mut.ensures.value c.begin.auto.tracks c.press.new.tracks still) in
+    subst (All IsTrack)
+    (sym (c.deref-12.ensures.value ∙ thrice v c.deref_mut.result.now c.begin.new.tracks c.deref_mut.ensures.value c.begin.auto.tracks c.press.new.tracks still c.send_all.new.tracks kept)) c.send_all.ensures.bounds
+
 pub invariant_of-self-2 : goal.invariant_of-self-2
 invariant_of-self-2 c =
     let v = c.in_ok-tracks.tracks in
@@ -233,7 +244,7 @@ invariant_of-self-2 c =
     let k = c.timed-timed.result.clocks in
     let p = c.presence_after-presence.result in
     let round = asked_by_round c.in_ok-round.round in
-    let requests = c.in_ok-requests.requests.items in
+    let requests = c.in_ok-requests.field-0.requests.items in
     let needs = c.in_ok-needs.needs in
     let again = once v c.deref_mut.result.now c.begin.new.tracks c.deref_mut.ensures.value c.begin.auto.tracks in
     let presses : c.press.new.tracks ≡ pressed_tracks g k round c.begin.new.tracks = c.in_ok-round.ensures.tracks ∙ ap (pressed_tracks g k round) (c.deref_mut-2.ensures.value ∙ again) in
@@ -241,15 +252,28 @@ invariant_of-self-2 c =
     c.send_all.ensures.value ∙ ap (λ rs. each (sent_in k.at rs) c.deref_mut-3.result.now) c.deref-8.ensures.value
     ∙ ap (each (sent_in k.at requests))
     (c.deref_mut-3.ensures.value ∙ twice v c.deref_mut.result.now c.begin.new.tracks c.deref_mut.ensures.value c.begin.auto.tracks c.press.new.tracks still ∙ presses) in
-    let has : HasNeeds g.entries c.deref-11.result.now k needs =
-    subst (λ xs. HasNeeds g.entries xs k needs) (sym (c.deref-11.ensures.value ∙ written ∙ sends))
-    (needs_after g k round requests (λ i. (load_at needs i).need) c.begin.new.tracks (has_needs c.begin.new.view g c.begin.new.tracks k needs c.in_ok-needs.ensures.needs)) in
+    let pressed = pressed_tracks g k round c.begin.new.tracks in
+    let had : HasNeeds g.entries (each (sent_in k.at requests) pressed) k needs =
+    needs_after g k round requests (λ i. (load_at needs i).need) c.begin.new.tracks (has_needs c.begin.new.view g c.begin.new.tracks k needs c.in_ok-needs.ensures.needs) in
+    let has : HasNeeds g.entries c.deref-11.result.now k needs = subst (λ xs. HasNeeds g.entries xs k needs) (sym (c.deref-11.ensures.value ∙ written ∙ sends)) had in
+    let qs = c.in_ok-requests.field-0.line.items in
+    let reads : c.deref-5.result.now ≡ pressed =
+    c.deref-5.ensures.value ∙ twice v c.deref_mut.result.now c.begin.new.tracks c.deref_mut.ensures.value c.begin.auto.tracks c.press.new.tracks still ∙ presses in
+    let front : IsFrontOf p k.at pressed requests qs = subst (λ ys. IsFrontOf p k.at ys requests qs) reads c.in_ok-requests.ensures.line in
+    let in_line : IsInLine (calm p) k.at (each (sent_in k.at requests) pressed) (drop (length requests) qs) =
+    left_in_line (calm p) k.at pressed qs (line_in_order p k.at pressed qs front.order) k.at (length requests) requests
+    (λ i. asked_are p (sec k.at) pressed (length requests) i qs requests front.front) in
     record {
       count = ap length written ∙ kept ∙ c.press.ensures.count;
       is_view = c.press.ensures.view;
       tracks = subst (All IsTrack) (sym written) c.send_all.ensures.bounds;
       out = c.in_ok-out.ensures.bounds;
       clocks = c.timed-timed.ensures.bounds;
+      line =
+          subst (λ xs. IsKnown g xs p c.of-line.result) c.deref-12.ensures.value
+          (c.of-line.ensures (subst (λ xs. HasNeeds g.entries xs k needs) (sym (c.deref-12.ensures.value ∙ written ∙ sends)) had)
+          (subst (λ n. IsInLine (calm p) k.at c.deref-12.result.now (drop n c.in_ok-requests.field-0.line.items)) (sym (c.len-3.ensures ∙ c.in_ok-requests.field-0.requests.ok.0))
+          (subst (λ xs. IsInLine (calm p) k.at xs (drop (length requests) c.in_ok-requests.field-0.line.items)) (sym (c.deref-12.ensures.value ∙ written ∙ sends)) in_line)));
       lull = subst (λ xs. IfSome c.after-lull.result (IsLull g xs k p)) c.deref-11.ensures.value (some_lull (HasNeeds g.entries c.deref-11.result.now k needs) (IsLull g c.deref-11.result.now k p) c.after-lull.result has c.after-lull.ensures);
     }
 
