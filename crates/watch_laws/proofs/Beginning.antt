@@ -1,8 +1,10 @@
 -- Beginning: what every turn keeps of the last beginning, and when the next one comes. For the law of beginnings.
-use Rattle.std.proofs.Common.{◌≡◌, ◌⊎◌, ◌∙◌, ℕ, ◌+◌, ◌≤◌, Bool, true, false, not, ◌&&◌, ◌||◌, if◌then◌else◌, List, [], ◌∷◌, ◌++◌, Option, Some, None, Result, Ok, Err, is_none, is_some, nat_le, refl, sym, ap, subst, arith, inl, inr}
+use Rattle.std.proofs.Common.{◌≡◌, ◌⊎◌, ◌∙◌, ℕ, ◌+◌, ◌<◌, ◌≤◌, Bool, true, false, min, not, ◌&&◌, ◌||◌, if◌then◌else◌, List, [], ◌∷◌, ◌++◌, Option, Some, None, Result, Ok, Err, is_none, is_some, nat_le, nat_lt, refl, sym, ap, subst, arith, inl, inr}
 use Rattle.std.proofs.lemmas.Bool.{and_parts, cases_Bool, cond-false, or_left, or_right}
 use Rattle.std.proofs.lemmas.Bool.Decides.{nat_tests}
 use Rattle.std.specs.List.{list_any}
+use Rattle.keep_tree.proofs.Carrying.{or_parts}
+use Rattle.watch_machine.specs.declared.clocks.Clocks.{Clocks}
 use Rattle.watch_machine.specs.declared.command.Output.{Output}
 use Rattle.watch_machine.specs.declared.command.Request.{Request}
 use Rattle.watch_machine.specs.declared.event.Event.{Event}
@@ -15,21 +17,22 @@ use Rattle.watch_machine.specs.declared.lanes.Out.{Out}
 use Rattle.watch_machine.specs.declared.notes.Notes.{Notes}
 use Rattle.watch_machine.specs.declared.notes.Why.{Why}
 use Rattle.watch_machine.specs.declared.notes.Why.TheVariants.{Asked, Jump, Day}
+use Rattle.watch_machine.specs.declared.reading.TheConstants.{READING_MAX}
 use Rattle.watch_machine.specs.declared.track.Track.{Track}
 use Rattle.watch_machine.specs.Answers.{noted}
 use Rattle.watch_machine.specs.Beginning.{beginning, begun, is_past, is_urgent}
-use Rattle.watch_machine.specs.Clocks.{sec}
+use Rattle.watch_machine.specs.Clocks.{is_stepped, moment_at_reading, reading, sec, to_wall}
 use Rattle.watch_machine.specs.History.{History, Turn, Turned, after_all}
 use Rattle.watch_machine.specs.Press.{pressed}
 use Rattle.watch_machine.specs.Refusal.{request_out}
 use Rattle.watch_machine.specs.Round.{asked_by_round}
 use Rattle.watch_machine.specs.Sending.{sent}
-use Rattle.watch_machine.specs.Settling.{has_jumped, settled, timed}
+use Rattle.watch_machine.specs.Settling.{at_reading, has_jumped, settled, timed}
 use Rattle.watch_machine.specs.State.{WatchState}
 use Rattle.watch_machine.specs.Step.{Step, StepClock, StepLooked, StepRenewed, readied, why}
-use Rattle.watch_laws.specs.Beginnings.{FewLaw, IsBeginning, Jumps, asks_beginning, is_begin, why_begun}
+use Rattle.watch_laws.specs.Beginnings.{FewLaw, HasParted, IsBeginning, Jumps, asks_beginning, is_begin, why_begun}
 use Rattle.watch_laws.proofs.Answering.{looked_begins, looked_leaves, renewed_begins, renewed_leaves, rest_of}
-use Rattle.watch_laws.proofs.Clocking.{clock_rises, readied_clocks, refused_stays, sent_by}
+use Rattle.watch_laws.proofs.Clocking.{clock_at, clock_rises, readied_clocks, refused_stays, sent_by}
 
 -- the last beginning was at that clock or later, and is past; and came says whether a Begin came since that clock, as it did where
 -- one is still asked for
@@ -129,10 +132,22 @@ reasons b at asked stepped false xs yes' =
           ]
     ]
 
+-- a wall that has stepped has parted from what it was expected to show
+parted : (c : Clocks) (wall : ℕ) → is_stepped c wall ≡ true → HasParted c.wall c.at wall
+unfolding is_stepped to_wall
+parted c wall is =
+    or_parts (nat_lt (to_wall c.wall c.at + 2000) wall) (nat_lt (wall + 2000) (to_wall c.wall c.at)) (HasParted c.wall c.at wall) is
+    (λ ahead. let more : to_wall c.wall c.at + 2000 < wall = grind (arith, nat_tests) in inl (omega (arith, more)))
+    (λ behind. let less : wall + 2000 < to_wall c.wall c.at = grind (arith, nat_tests) in inr (omega (arith, less)))
+
+jumps : (s : WatchState) (wall elapsed at : ℕ) → at ≡ moment_at_reading s.clocks elapsed → has_jumped s wall elapsed ≡ true → HasParted s.clocks.wall at (min wall READING_MAX)
+unfolding has_jumped
+jumps s wall elapsed at is jumped = subst (λ n. HasParted s.clocks.wall n (min wall READING_MAX)) (sym is) (parted (at_reading s.clocks elapsed) (reading wall) jumped)
+
 -- a beginning after that
 clock_begins :
     (at : ℕ) (came : Bool) (old new : WatchState) (wall elapsed : ℕ) (output : Output) → StepClock old wall elapsed output new → is_some output.notes.began ≡ true → Since at came old →
-    (has_jumped old wall elapsed ≡ true) ⊎ ((came ≡ true) ⊎ (at + 600000 ≤ new.clocks.at))
+    Jumps old (Clock wall elapsed) new ⊎ ((came ≡ true) ⊎ (at + 600000 ≤ new.clocks.at))
 unfolding why
 clock_begins at came old new wall elapsed output step begins h =
     let t = settled (timed old wall elapsed) in
@@ -143,7 +158,7 @@ clock_begins at came old new wall elapsed output step begins h =
     let late = h.from in
     elim (reasons h.begun t.clocks.at t.asked t.stepped (has_jumped old wall elapsed) t.tracks
     (subst (λ o. is_some (beginning o t.asked t.stepped (has_jumped old wall elapsed) t.clocks.at t.tracks) ≡ true) h.begun_is noted')) [
-      | inl jumped ↦ inl jumped
+      | inl jumped ↦ inl (jumps old wall elapsed new.clocks.at (clock ∙ clock_at old wall elapsed (some_begun old.begun h.begun h.begun_is)) jumped)
       | inr rest ↦ elim rest [ inl begs ↦ inr (inl (h.asked begs)) | inr long ↦ inr (inr (omega (arith, clock, late, long))) ]
     ]
 
@@ -159,7 +174,7 @@ renewed_none old new None reply output step begins = absurd step
 renewed_none old new (Some r) reply output step begins = no_beginning output _ step.0 (renewed_begins (noted old r reply) r reply) begins
 
 abbrev Few : ℕ → Bool → WatchState → Event → WatchState → Type 0
-Few at came old event new = Jumps old event ⊎ ((came ≡ true) ⊎ (at + 600000 ≤ new.clocks.at))
+Few at came old event new = Jumps old event new ⊎ ((came ≡ true) ⊎ (at + 600000 ≤ new.clocks.at))
 
 step_begins : (at : ℕ) (came : Bool) (old new : WatchState) (event : Event) (output : Output) → Step old event output new → is_some output.notes.began ≡ true → Since at came old → Few at came old event new
 step_begins at came old new (Clock wall elapsed) output step begins h = clock_begins at came old new wall elapsed output step begins h

@@ -51,15 +51,18 @@ walled_at : (c : Clocks) (wall : ℕ) → (walled c wall).at ≡ c.at
 unfolding walled
 walled_at c wall = if_both (λ (x : Clocks). x.at ≡ c.at) (is_stepped c wall) _ c refl refl
 
--- this clock does not fall
-pub clock_rises : (s : WatchState) (wall elapsed : ℕ) → is_none s.begun ≡ false → s.clocks.at ≤ (timed s wall elapsed).clocks.at
-unfolding clocks_after moment_at_reading
-clock_rises s wall elapsed begun' =
-    let later = le-max_left s.clocks.at (reading (elapsed + s.clocks.phase)) in
-    let is =
+-- this clock shows the reading, if there was a clock before, and does not fall
+pub clock_at : (s : WatchState) (wall elapsed : ℕ) → is_none s.begun ≡ false → (timed s wall elapsed).clocks.at ≡ moment_at_reading s.clocks elapsed
+unfolding clocks_after
+clock_at s wall elapsed begun' =
     ap (λ (x : Clocks). x.at) (cond-false (is_none s.begun) (first_clocks wall elapsed) (dated_by_all (read s.clocks wall elapsed) s.answers) begun')
-    ∙ all_dated_at (read s.clocks wall elapsed) s.answers ∙ walled_at (at_reading s.clocks elapsed) (reading wall) in
-    let m : s.clocks.at ≤ (at_reading s.clocks elapsed).at = later in
+    ∙ all_dated_at (read s.clocks wall elapsed) s.answers ∙ walled_at (at_reading s.clocks elapsed) (reading wall)
+
+pub clock_rises : (s : WatchState) (wall elapsed : ℕ) → is_none s.begun ≡ false → s.clocks.at ≤ (timed s wall elapsed).clocks.at
+unfolding moment_at_reading
+clock_rises s wall elapsed begun' =
+    let m : s.clocks.at ≤ moment_at_reading s.clocks elapsed = le-max_left s.clocks.at (reading (elapsed + s.clocks.phase)) in
+    let is = clock_at s wall elapsed begun' in
     omega (arith, is, m)
 
 -- nothing after the first step moves the clocks

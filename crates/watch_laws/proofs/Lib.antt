@@ -3,6 +3,10 @@ pub mod Clocking
 pub mod Tracking
 pub mod Beginning
 pub mod Needing
+pub mod Timing
+pub mod Granting
+pub mod Pausing
+pub mod Failing
 pub mod Topping
 pub mod Ceiling
 pub mod Resting
@@ -14,6 +18,9 @@ pub mod Width
 pub mod Holding
 pub mod Alone
 pub mod Sparing
+pub mod Away
+pub mod Dating
+pub mod Pacing
 pub mod Opener
 pub mod Reasons
 pub mod Minding

@@ -1,26 +1,30 @@
--- Needing: an entry that may be led on and is needed is wanted. For the law of needs.
-use Rattle.std.proofs.Common.{◌≡◌, ◌∙◌, ℕ, zero, suc, ◌<◌, ◌≤◌, true, false, not, ◌&&◌, ◌||◌, ◌==◌, List, [], ◌∷◌, Option, Some, None, filter, fold, length, map, min, nat_lt, refl, sym, ap, arith, inl, inr}
-use Rattle.std.proofs.lemmas.Bool.{and_from, cases_lt, or_left, or_right}
+-- Needing: an entry that has to be led on is wanted, and no other; it would not be so if a need were dropped or added. For the laws of needs.
+use Rattle.std.proofs.Common.{◌≡◌, ◌⊎◌, ◌∙◌, ℕ, zero, suc, ◌+◌, ◌-◌, ◌<◌, ◌≤◌, Bool, true, false, not, ◌&&◌, ◌||◌, ◌==◌, List, [], ◌∷◌, Option, Some, None, filter, fold, length, map, min, nat_lt, refl, sym, ap, arith, inl, inr}
+use Rattle.std.proofs.lemmas.Bool.{and_from, cases_Bool, cases_lt, or_left, or_right}
 use Rattle.std.proofs.lemmas.Bool.Decides.{nat_tests}
-use Rattle.std.proofs.lemmas.List.FromFn.{length-map-range_with_len}
-use Rattle.std.specs.List.{list_any}
+use Rattle.std.proofs.lemmas.List.FromFn.{get_or-map-range_with_len, length-map-range_with_len}
+use Rattle.std.specs.List.{list_any, range_with_len}
 use Rattle.keep_moment.specs.declared.moment.TheConstants.{LAST}
 use Rattle.keep_tree.specs.declared.entry.Entry.{Entry}
+use Rattle.keep_tree.specs.declared.entry.Kind.TheVariants.{Token}
 use Rattle.keep_tree.specs.declared.forest.TheConstants.{END_MAX}
-use Rattle.keep_tree.specs.Forest.{entry_at}
+use Rattle.keep_tree.specs.Carried.{carried}
+use Rattle.keep_tree.specs.Forest.{entry_at, no_entry}
 use Rattle.keep_tree.specs.Over.{Over, chain, chain_of, is_over}
-use Rattle.keep_tree.proofs.Carrying.{carried_at_least}
+use Rattle.keep_tree.proofs.Carrying.{and_left, and_right, carried_at_least, carried_is_of, or_parts}
 use Rattle.keep_tree.proofs.Entries.{entry_at_past}
 use Rattle.watch_machine.specs.declared.clocks.Clocks.{Clocks}
 use Rattle.watch_machine.specs.declared.track.End.{End}
 use Rattle.watch_machine.specs.declared.track.End.TheVariants.{Unknown, At, Never}
 use Rattle.watch_machine.specs.declared.track.Track.{Track}
-use Rattle.watch_machine.specs.Clocks.{sec}
-use Rattle.watch_machine.specs.State.{WatchState, entry_of, second, track_at, track_in}
-use Rattle.watch_machine.specs.Wanted.{believed, fixed_ends, is_fixed, is_never, is_unknown, least, least_over, limit, need_here, need_of, seen_entry, view, wants}
-use Rattle.watch_machine.proofs.Cases.{if_cases}
+use Rattle.watch_machine.specs.Beginning.{is_called}
+use Rattle.watch_machine.specs.Clocks.{sec, to_here}
+use Rattle.watch_machine.specs.State.{WatchState, entry_of, opened, second, track_at, track_in}
+use Rattle.watch_machine.specs.Wanted.{believed, fixed_ends, is_fixed, is_known, is_never, is_unknown, is_wanted, least, least_over, limit, need_here, need_of, seen_entry, view, wanted_need, wants}
+use Rattle.watch_machine.proofs.Cases.{if_cases, not_both}
+use Rattle.watch_machine.proofs.Leasts.{least_start}
 use Rattle.watch_machine.proofs.Opening.{seen_at}
-use Rattle.watch_laws.specs.Needs.{NeededLaw, need_on_clock}
+use Rattle.watch_laws.specs.Needs.{CalledLaw, HasToBeLed, IsEndToBeLed, IsNeedUntil, IsNeeded, IsNeededBy, IsOpenUntil, MayBeNeeded, NeededBy, NeededLaw, NoneAddedLaw, NoneDroppedLaw, WantedLaw, is_wanted_by, seen_by}
 
 -- the chain above an entry, by its parent
 abbrev up : ℕ → List Entry → Option ℕ → List ℕ
@@ -75,23 +79,54 @@ limit_at_least :
 unfolding least_over is_over
 limit_at_least es xs until j low open' = least_at_least xs until END_MAX (chain es j) low open'
 
--- a need is no later than the last moment, and there is none past the last entry
-need_within : (c : Clocks) (need : ℕ) → need_here c need ≤ LAST
-unfolding need_here
-need_within c need = if_cases (λ n. n ≤ LAST) (need == 0) 0 _ (λ e. omega arith) (λ e. omega arith)
-
-need_none : (c : Clocks) → need_here c 0 ≡ 0
-unfolding need_here
-need_none c = refl
-
-need_inside : (s : WatchState) (j until : ℕ) → until ≤ need_on_clock s j → second s < until → j < length s.forest.entries
-need_inside s j until low ahead =
-    elim (cases_lt j (length s.forest.entries)) [
+-- there is no need past the last entry
+need_inside : (es : List Entry) (j : ℕ) → 0 < (entry_at es j).need → j < length es
+need_inside es j some =
+    elim (cases_lt j (length es)) [
       | inl within ↦ within
-      | inr past ↦
-          let none = ap (λ (e : Entry). need_here s.clocks e.need) (entry_at_past s.forest.entries j past) ∙ need_none s.clocks in
-          absurd (omega (arith, none, low, ahead))
+      | inr past ↦ let none = ap (λ (e : Entry). e.need) (entry_at_past es j past) in absurd (omega (arith, none, some))
     ]
+
+-- and a need that is ahead by a clock is so here
+need_ahead : (c : Clocks) (need until : ℕ) → IsNeedUntil c need until → until ≤ need_here c need
+unfolding need_here to_here
+need_ahead c need until h =
+    let some = h.some in
+    let shown = h.shown in
+    if_cases (λ n. until ≤ n) (need == 0) 0 _ (λ none. absurd (let is : need ≡ 0 = grind (arith, nat_tests) in omega (arith, is, some)))
+    (λ other. elim (h.by_a_clock) [ inl by ↦ omega (arith, by, shown) | inr by ↦ omega (arith, by, shown) ])
+
+-- nothing over j is fixed before that second, by the machine's words
+not_before : (x : Track) (until end : ℕ) → x.end ≡ At end → (end < until → (x.renewable ≡ true) × (x.top ≡ false)) → is_fixed x ≡ true → until ≤ end
+not_before x until end is may fixed =
+    elim (cases_lt end until) [
+      | inr after ↦ after
+      | inl before ↦
+          let leads = (may before).0 in
+          let led = (may before).1 in
+          absurd (led_on x leads led fixed)
+    ] where
+      by : (known renewable top : Bool) → renewable ≡ true → top ≡ false → known && (not renewable || top) ≡ true → ⊥
+      by true true false leads led yes' = absurd cc
+      by false true false leads led yes' = absurd cc
+      by known false top leads led yes' = absurd cc
+      by known true true leads led yes' = absurd cc
+
+      led_on : (x : Track) → x.renewable ≡ true → x.top ≡ false → is_fixed x ≡ true → ⊥
+      led_on x leads led yes' = by (is_known x.end) x.renewable x.top leads led yes'
+
+open_to : (x : Track) (until : ℕ) → until ≤ LAST → ((end : ℕ) → x.end ≡ At end → end < until → (x.renewable ≡ true) × (x.top ≡ false)) → is_fixed x ≡ true → until ≤ believed x.end
+open_to x until shown may fixed = by x.end refl where
+  by : (it : End) → x.end ≡ it → until ≤ believed x.end
+  by Unknown is = absurd (let none : is_known x.end ≡ false = ap is_known is in let some : is_known x.end ≡ true = and_left (is_known x.end) (not x.renewable || x.top) fixed in grind (arith, none, some))
+  by (At end) is =
+      let here : believed x.end ≡ end = ap believed is in
+      let late = not_before x until end is (may end is) fixed in
+      omega (arith, here, late)
+  by Never is = let here : believed x.end ≡ END_MAX = ap believed is in omega (arith, here, shown)
+
+open_here : (s : WatchState) (j until : ℕ) → until ≤ LAST → IsOpenUntil s j until → (a : ℕ) → Over s.forest.entries a j → is_fixed (track_at s a) ≡ true → until ≤ believed (track_at s a).end
+open_here s j until shown open' a over fixed = open_to (track_at s a) until shown (λ end is before. open' a end over is before) fixed
 
 seen_need : (es : List Entry) (xs : List Track) (c : Clocks) (j : ℕ) → (seen_entry es xs c j).need ≡ min (need_here c (entry_at es j).need) (limit es xs j)
 unfolding seen_entry
@@ -109,23 +144,307 @@ carries es xs c i j until within over needed limited ahead =
     let least = carried_at_least v (sec c.at) i j (over_same es v (view_parent es xs c) i j ∙ over) (omega (arith, high, ahead)) in
     omega (arith, least, high)
 
--- an end before a moment is one
-not_never : (end : End) (until : ℕ) → believed end < until → until ≤ LAST → not (is_never end) ≡ true
-not_never Unknown until before low = refl
-not_never (At end) until before low = refl
-not_never Never until before low = absurd (omega arith)
-
-wanted_by : (x : Track) (need until : ℕ) → (x.renewable || is_unknown x.end) ≡ true → x.top ≡ false → until ≤ LAST → believed x.end < until → until ≤ need → wants x need ≡ true
+-- who has to be led on to a need is wanted
+wanted_by : (x : Track) (need until : ℕ) → IsEndToBeLed until x.renewable x.end → x.top ≡ false → 0 < until → until ≤ need → wants x need ≡ true
 unfolding wants
-wanted_by x need until leads led low before carried' =
-    and_from (x.renewable || is_unknown x.end) (not x.top && (not (is_never x.end) && nat_lt (believed x.end) need)) leads
-    (and_from (not x.top) (not (is_never x.end) && nat_lt (believed x.end) need) (ap not led)
-    (and_from (not (is_never x.end)) (nat_lt (believed x.end) need) (not_never x.end until before low) (let after : believed x.end < need = omega (arith, before, carried') in grind (arith, nat_tests))))
+wanted_by x need until ends led some carried' = of x.end refl ends where
+  by :
+      (x.renewable || is_unknown x.end) ≡ true → not (is_never x.end) ≡ true → believed x.end < need →
+      ((x.renewable || is_unknown x.end) && (not x.top && (not (is_never x.end) && nat_lt (believed x.end) need))) ≡ true
+  by leads ended after =
+      and_from (x.renewable || is_unknown x.end) (not x.top && (not (is_never x.end) && nat_lt (believed x.end) need)) leads
+      (and_from (not x.top) (not (is_never x.end) && nat_lt (believed x.end) need) (ap not led) (and_from (not (is_never x.end)) (nat_lt (believed x.end) need) ended (grind (arith, nat_tests))))
+
+  of : (it : End) → x.end ≡ it → IsEndToBeLed until x.renewable it → ((x.renewable || is_unknown x.end) && (not x.top && (not (is_never x.end) && nat_lt (believed x.end) need))) ≡ true
+  of Unknown is h =
+      let here : believed x.end ≡ 0 = ap believed is in
+      by (or_right x.renewable (is_unknown x.end) (ap is_unknown is)) (ap (λ e. not (is_never e)) is) (omega (arith, here, some, carried'))
+  of (At end) is h =
+      let here : believed x.end ≡ end = ap believed is in
+      let before = h.1 in
+      by (or_left x.renewable (is_unknown x.end) h.0) (ap (λ e. not (is_never e)) is) (omega (arith, here, before, carried'))
+  of Never is h = absurd h
 
 pub needed : NeededLaw
-needed s i j until led over low ahead before open' =
+needed s i j until h =
     let es = s.forest.entries in
-    let last = need_within s.clocks ((entry_of s j).need) in
-    let limited = limit_at_least es s.tracks until j (omega (arith, last, low)) open' in
-    wanted_by (track_at s i) (need_of es s.tracks s.clocks i) until led.leads led.not_topped (omega (arith, last, low)) before
-    (carries es s.tracks s.clocks i j until (need_inside s j until low ahead) over low limited ahead)
+    let ahead = h.ahead in
+    let shown = h.needed.shown in
+    let limited = limit_at_least es s.tracks until j (omega (arith, shown)) (open_here s j until shown h.open_until) in
+    wanted_by (track_at s i) (need_of es s.tracks s.clocks i) until h.ends h.not_topped (omega (arith, ahead))
+    (carries es s.tracks s.clocks i j until (need_inside es j h.needed.some) h.over (need_ahead s.clocks ((entry_of s j).need) until h.needed) limited ahead)
+
+ours : (s : WatchState) (i : ℕ) → is_wanted_by need_here s i ≡ is_wanted s i
+unfolding need_of seen_entry
+ours s i = refl
+
+-- one entry alone, renewable, with that need and that end
+abbrev lone_entry : ℕ → Entry
+lone_entry need = record { name = []; kind = Token; parent = None; end = 0; renewable = true; step = 0; ceiling = None; need = need }
+
+abbrev lone_track : ℕ → Track
+lone_track end = record { end = At end; renewable = true; top = false; grant = None; owes = false; attempt = None; last = None; out = false }
+
+abbrev alone : Clocks → ℕ → ℕ → WatchState
+alone c need end = record (opened (record { entries = lone_entry need ∷ []; margin = 0 }) 1) { tracks = lone_track end ∷ []; clocks = c }
+
+-- has to be led on to a need that is ahead
+alone_open : (c : Clocks) (need end a e : ℕ) → (track_at (alone c need end) a).end ≡ At e → ((track_at (alone c need end) a).renewable ≡ true) × ((track_at (alone c need end) a).top ≡ false)
+alone_open c need end zero e is = (refl, refl)
+alone_open c need end (suc a) e is = absurd cc
+
+alone_led : (c : Clocks) (need until : ℕ) → IsNeedUntil c need until → sec c.at < until → HasToBeLed (alone c need (until - 1)) 0 0 until
+unfolding is_over chain chain_of entry_at
+alone_led c need until h ahead = record {
+  ends = (refl, omega arith);
+  not_topped = refl;
+  over = refl;
+  needed = h;
+  ahead = ahead;
+  open_until = λ a end over is before. alone_open c need (until - 1) a end is;
+}
+
+-- and carries no more than what its need is brought to
+alone_need : (here : Clocks → ℕ → ℕ) (c : Clocks) (need end k : ℕ) → (entry_at (map (seen_by here (alone c need end)) (range_with_len 0 1)) k).need ≤ here c need
+unfolding entry_at
+alone_need here c need end zero =
+    let is = ap (λ (e : Entry). e.need) (get_or-map-range_with_len (seen_by here (alone c need end)) 0 1 0 0 no_entry (omega arith) (omega arith)) in
+    omega (arith, is)
+alone_need here c need end (suc k) =
+    let es = map (seen_by here (alone c need end)) (range_with_len 0 1) in
+    let count = length-map-range_with_len (seen_by here (alone c need end)) 0 1 in
+    let none = ap (λ (e : Entry). e.need) (entry_at_past es (suc k) (omega (arith, count))) in
+    omega (arith, none)
+
+after_end : (x : Track) (need end : ℕ) → x.end ≡ At end → wants x need ≡ true → end < need
+unfolding wants
+after_end x need end is wanted =
+    let rest = and_right (x.renewable || is_unknown x.end) (not x.top && (not (is_never x.end) && nat_lt (believed x.end) need)) wanted in
+    let last = and_right (not (is_never x.end)) (nat_lt (believed x.end) need) (and_right (not x.top) (not (is_never x.end) && nat_lt (believed x.end) need) rest) in
+    let here : believed x.end ≡ end = ap believed is in
+    let after : believed x.end < need = grind (arith, nat_tests) in
+    omega (arith, here, after)
+
+no_less : (here : Clocks → ℕ → ℕ) → NeededBy here → (c : Clocks) (need until : ℕ) → IsNeedUntil c need until → sec c.at < until → until ≤ here c need
+no_less here law c need until h ahead =
+    let s = alone c need (until - 1) in
+    let v = map (seen_by here s) (range_with_len 0 1) in
+    let wanted = law s 0 0 until (alone_led c need until h ahead) in
+    let f = carried_is_of v (sec c.at) 0 (until - 1) (after_end (lone_track (until - 1)) (carried v (sec c.at) 0) (until - 1) refl wanted) in
+    let more = f.3 in
+    let most = alone_need here c need (until - 1) f.0 in
+    omega (arith, more, most)
+
+pub none_dropped : NoneDroppedLaw
+none_dropped = record { ours = ours; no_less = no_less }
+
+-- the contrary: a second that a need reaches here is no later than it by one of the clocks
+need_is : (c : Clocks) (need until : ℕ) → 0 < until → until ≤ need_here c need → IsNeedUntil c need until
+unfolding need_here to_here
+need_is c need until some reaches =
+    if_cases (λ n. until ≤ n → IsNeedUntil c need until) (need == 0) 0 _ (λ none high. absurd (omega (arith, some, high)))
+    (λ other high. let asks : 0 < need = grind (arith, nat_tests, other) in
+    elim (cases_lt (to_here c.broker need) until) [
+      | inr by ↦ record { some = asks; by_a_clock = inl (omega (arith, by, some)); shown = omega (arith, high) }
+      | inl less ↦ record { some = asks; by_a_clock = inr (omega (arith, less, high, some)); shown = omega (arith, high) }
+    ])
+    reaches
+
+-- no limit is after an end over it that is fixed
+least_at_most :
+    (xs : List Track) (m : ℕ) (is : List ℕ) (a : ℕ) → list_any (λ b. b == a) is ≡ true → is_fixed (track_in xs a) ≡ true → least m (fixed_ends xs is) ≤ believed (track_in xs a).end
+least_at_most xs m [] a there fixed = absurd cc
+least_at_most xs m (i ∷ is) a there fixed =
+    if_cases (λ (ys : List ℕ). fold min m (map (λ b. believed (track_in xs b).end) ys) ≤ believed (track_in xs a).end) (is_fixed (track_in xs i))
+    (i ∷ filter (λ b. is_fixed (track_in xs b)) is) (filter (λ b. is_fixed (track_in xs b)) is)
+    (λ yes'. or_parts (i == a) (list_any (λ b. b == a) is) _ there
+    (λ same. let is_i : i ≡ a = grind (arith, nat_tests, same) in
+    let end_is : believed (track_in xs i).end ≡ believed (track_in xs a).end = ap (λ k. believed (track_in xs k).end) is_i in
+    let start = least_start (min m (believed (track_in xs i).end)) (fixed_ends xs is) in
+    omega (arith, end_is, start))
+    (λ later. least_at_most xs (min m (believed (track_in xs i).end)) is a later fixed))
+    (λ no'. or_parts (i == a) (list_any (λ b. b == a) is) _ there
+    (λ same. let is_i : i ≡ a = grind (arith, nat_tests, same) in absurd (not_both fixed (ap (λ k. is_fixed (track_in xs k)) (sym is_i) ∙ no')))
+    (λ later. least_at_most xs m is a later fixed))
+
+limit_at_most : (es : List Entry) (xs : List Track) (a j : ℕ) → Over es a j → is_fixed (track_in xs a) ≡ true → limit es xs j ≤ believed (track_in xs a).end
+unfolding least_over is_over
+limit_at_most es xs a j over fixed = least_at_most xs END_MAX (chain es j) a over fixed
+
+-- who is not fixed, and ends, is renewable and not at its top
+not_fixed : (x : Track) (end : ℕ) → x.end ≡ At end → is_fixed x ≡ false → (x.renewable ≡ true) × (x.top ≡ false)
+not_fixed x end is open' = by x.renewable x.top (ap (λ e. is_known e && (not x.renewable || x.top)) (sym is) ∙ open') where
+  by : (renewable top : Bool) → (not renewable || top) ≡ false → (renewable ≡ true) × (top ≡ false)
+  by true false leads = (refl, refl)
+  by true true leads = absurd cc
+  by false top leads = absurd cc
+
+-- so nothing over it is fixed before its limit
+open_before : (s : WatchState) (j until : ℕ) → until ≤ limit s.forest.entries s.tracks j → IsOpenUntil s j until
+open_before s j until low a end over is before =
+    elim (cases_Bool (is_fixed (track_at s a))) [
+      | inl fixed ↦
+          let most = limit_at_most s.forest.entries s.tracks a j over fixed in
+          let here : believed (track_at s a).end ≡ end = ap believed is in
+          absurd (omega (arith, low, most, here, before))
+      | inr open' ↦ not_fixed (track_at s a) end is open'
+    ]
+
+-- an entry that is wanted has an end that has to be led on, is not at its top, and its end is before what it carries
+end_led : (until : ℕ) (renewable : Bool) (it : End) → (renewable || is_unknown it) ≡ true → not (is_never it) ≡ true → believed it < until → IsEndToBeLed until renewable it
+end_led until renewable Unknown leads ended before = tt
+end_led until true (At end) leads ended before = (refl, before)
+end_led until false (At end) leads ended before = absurd cc
+end_led until renewable Never leads ended before = absurd cc
+
+is_not : (b : Bool) → not b ≡ true → b ≡ false
+is_not true h = absurd cc
+is_not false h = refl
+
+wants_parts : (x : Track) (need : ℕ) → wants x need ≡ true → ((x.renewable || is_unknown x.end) ≡ true) × ((x.top ≡ false) × ((not (is_never x.end) ≡ true) × (believed x.end < need)))
+unfolding wants
+wants_parts x need wanted =
+    let leads = and_left (x.renewable || is_unknown x.end) (not x.top && (not (is_never x.end) && nat_lt (believed x.end) need)) wanted in
+    let rest = and_right (x.renewable || is_unknown x.end) (not x.top && (not (is_never x.end) && nat_lt (believed x.end) need)) wanted in
+    let led = and_left (not x.top) (not (is_never x.end) && nat_lt (believed x.end) need) rest in
+    let last = and_right (not x.top) (not (is_never x.end) && nat_lt (believed x.end) need) rest in
+    let ended = and_left (not (is_never x.end)) (nat_lt (believed x.end) need) last in
+    let test = and_right (not (is_never x.end)) (nat_lt (believed x.end) need) last in
+    let after : believed x.end < need = grind (arith, nat_tests, test) in
+    (leads, (is_not x.top led, (ended, after)))
+
+-- and what it carries is the need of one that it is over
+needed_past : (s : WatchState) (i b : ℕ) → b < wanted_need s i → (j : ℕ) × ((until : ℕ) × ((b < until) × IsNeededBy s i j until))
+unfolding need_of
+needed_past s i b more =
+    let es = s.forest.entries in
+    let v = view es s.tracks s.clocks in
+    let f = carried_is_of v (second s) i b more in
+    let j = f.0 in
+    let until = (entry_at v j).need in
+    let ahead : second s < until = f.2 in
+    let count = length-map-range_with_len (seen_entry es s.tracks s.clocks) 0 (length es) in
+    let some : 0 < until = omega (arith, ahead) in
+    let within : j < length es = let inside = need_inside v j some in omega (arith, count, inside) in
+    let is = ap (λ (e : Entry). e.need) (seen_at es s.tracks s.clocks j within) ∙ seen_need es s.tracks s.clocks j in (
+      j,
+      (
+        until,
+        (
+          f.3,
+          record {
+            over = sym (over_same es v (view_parent es s.tracks s.clocks) i j) ∙ f.1;
+            needed = need_is s.clocks (entry_of s j).need until some (omega (arith, is));
+            ahead = ahead;
+            open_until = open_before s j until (omega (arith, is));
+          },
+        ),
+      ),
+    )
+
+pub only_needed : WantedLaw
+only_needed s i wanted =
+    let parts = wants_parts (track_at s i) (wanted_need s i) wanted in
+    let f = needed_past s i (believed (track_at s i).end) parts.1.1.1 in
+    let until = f.1.0 in
+    let h = f.1.1.1 in (
+      f.0,
+      (
+        until,
+        record {
+          ends = end_led until (track_at s i).renewable (track_at s i).end parts.0 parts.1.1.0 f.1.1.0;
+          not_topped = parts.1.0;
+          over = h.over;
+          needed = h.needed;
+          ahead = h.ahead;
+          open_until = h.open_until;
+        },
+      ),
+    )
+
+-- who is looked up at a beginning
+called_by_need : (s : WatchState) (i j until : ℕ) → IsNeededBy s i j until → 0 < wanted_need s i
+called_by_need s i j until h =
+    let es = s.forest.entries in
+    let ahead = h.ahead in
+    let shown = h.needed.shown in
+    let limited = limit_at_least es s.tracks until j (omega (arith, shown)) (open_here s j until shown h.open_until) in
+    let least = carries es s.tracks s.clocks i j until (need_inside es j h.needed.some) h.over (need_ahead s.clocks ((entry_of s j).need) until h.needed) limited ahead in
+    omega (arith, least, ahead)
+
+is_called_by : (s : WatchState) (i : ℕ) → IsNeeded s i ⊎ MayBeNeeded s i → is_called s.forest s.tracks s.clocks i ≡ true
+is_called_by s i (inl h) =
+    let some = called_by_need s i h.0 h.1.0 h.1.1 in
+    or_left (nat_lt 0 (wanted_need s i)) (not s.clocks.dated && nat_lt 0 (carried s.forest.entries 0 i)) (grind (arith, nat_tests, some))
+is_called_by s i (inr h) =
+    let needed' = h.1.1.1 in
+    let least = carried_at_least s.forest.entries 0 i h.1.0 h.1.1.0 needed' in
+    let some : 0 < carried s.forest.entries 0 i = omega (arith, least, needed') in
+    or_right (nat_lt 0 (wanted_need s i)) (not s.clocks.dated && nat_lt 0 (carried s.forest.entries 0 i))
+    (and_from (not s.clocks.dated) (nat_lt 0 (carried s.forest.entries 0 i)) (ap not h.0) (grind (arith, nat_tests, some)))
+
+may_be_needed : (s : WatchState) (i : ℕ) → not s.clocks.dated && nat_lt 0 (carried s.forest.entries 0 i) ≡ true → MayBeNeeded s i
+may_be_needed s i test =
+    let undated = is_not s.clocks.dated (and_left (not s.clocks.dated) (nat_lt 0 (carried s.forest.entries 0 i)) test) in
+    let more = and_right (not s.clocks.dated) (nat_lt 0 (carried s.forest.entries 0 i)) test in
+    let some : 0 < carried s.forest.entries 0 i = grind (arith, nat_tests, more) in
+    let f = carried_is_of s.forest.entries 0 i 0 some in
+    (undated, (f.0, (f.1, f.3)))
+
+needed_so : (s : WatchState) (i : ℕ) → nat_lt 0 (wanted_need s i) ≡ true → IsNeeded s i
+needed_so s i test =
+    let some : 0 < wanted_need s i = grind (arith, nat_tests, test) in
+    let f = needed_past s i 0 some in
+    (f.0, (f.1.0, f.1.1.1))
+
+pub called_so : CalledLaw
+called_so s i = (
+  (λ called. or_parts (nat_lt 0 (wanted_need s i)) (not s.clocks.dated && nat_lt 0 (carried s.forest.entries 0 i)) (IsNeeded s i ⊎ MayBeNeeded s i) called
+      (λ test. inl (needed_so s i test)) (λ test. inr (may_be_needed s i test))),
+  (λ h. is_called_by s i h),
+)
+
+-- one entry alone, renewable, has no limit
+lone_limit : (need end j : ℕ) → limit (lone_entry need ∷ []) (lone_track end ∷ []) 0 ≡ END_MAX
+unfolding least_over chain chain_of entry_at
+lone_limit need end j = refl
+
+-- and carries what its need is brought to
+alone_carries : (here : Clocks → ℕ → ℕ) (c : Clocks) (need until : ℕ) → sec c.at < until → until ≤ LAST → until ≤ here c need → is_wanted_by here (alone c need (until - 1)) 0 ≡ true
+unfolding entry_at is_over chain chain_of
+alone_carries here c need until ahead low reaches =
+    let s = alone c need (until - 1) in
+    let v = map (seen_by here s) (range_with_len 0 1) in
+    let limited = lone_limit need (until - 1) 0 in
+    let is : (entry_at v 0).need ≡ min (here c need) (limit s.forest.entries s.tracks 0) = ap (λ (e : Entry). e.need) (get_or-map-range_with_len (seen_by here s) 0 1 0 0 no_entry (omega arith) (omega arith)) in
+    let high : until ≤ (entry_at v 0).need = omega (arith, is, limited, low, reaches) in
+    let least = carried_at_least v (sec c.at) 0 0 refl (omega (arith, high, ahead)) in
+    wanted_by (lone_track (until - 1)) (carried v (sec c.at) 0) until (refl, omega (arith, ahead)) refl (omega (arith, ahead)) (omega (arith, least, high))
+
+-- only the entry itself has a need there
+alone_at : (c : Clocks) (need end j : ℕ) → 0 < (entry_of (alone c need end) j).need → (entry_of (alone c need end) j).need ≡ need
+unfolding entry_at
+alone_at c need end zero some = refl
+alone_at c need end (suc j) some = absurd (omega (arith, some))
+
+-- what has to be led on there to a second has to be led on to any before it
+shorter : (c : Clocks) (need end j until further : ℕ) → end < further → until ≤ end + 1 → HasToBeLed (alone c need end) 0 j further → IsNeedUntil c need until
+shorter c need end j until further after low h =
+    let is = alone_at c need end j h.needed.some in
+    let some = h.needed.some in
+    let shown = h.needed.shown in
+    record {
+      some = omega (arith, is, some);
+      by_a_clock =
+          elim (h.needed.by_a_clock) [
+            | inl by ↦ inl (omega (arith, is, by, after, low))
+            | inr by ↦ inr (omega (arith, is, by, after, low))
+          ];
+      shown = omega (arith, shown, after, low);
+    }
+
+pub none_added : NoneAddedLaw
+none_added here law c need until ahead low reaches =
+    let f = law (alone c need (until - 1)) 0 (alone_carries here c need until ahead low reaches) in
+    let h = f.1.1 in
+    shorter c need (until - 1) f.0 until f.1.0 (h.ends.1) (omega arith) h

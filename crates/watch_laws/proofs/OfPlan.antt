@@ -192,7 +192,7 @@ module _ (s : WatchState) (forest : IsForest s.forest) (calm : IsCalm s) where
         ],
       )
 
-  -- the bounds behind a wake-up
+  -- the bounds after a wake-up
   bound_taken : (t i : ℕ) → i < length s.forest.entries → is_wanted s i ≡ true → bound fs (end_of fs) (Some t) i ≡ bound es (ends s) (Some t) i
   unfolding bound latest_end renewal
   bound_taken t i within wanted =

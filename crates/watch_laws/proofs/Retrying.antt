@@ -38,6 +38,7 @@ use Rattle.watch_machine.specs.Step.{Step, StepClock, StepLooked, StepRenewed, k
 use Rattle.watch_machine.specs.Wanted.{is_open, least, need_of, wants}
 use Rattle.watch_machine.proofs.Cases.{if_both, not_both}
 use Rattle.watch_machine.proofs.Leasts.{least_start}
+use Rattle.watch_laws.specs.Failures.{AllKeepLoss, StaysLostLaw}
 use Rattle.watch_laws.specs.Waiting.{AllRetried, IsHeldBack, IsSoon, RetryLaw, TryFails}
 use Rattle.watch_laws.proofs.Answering.{looked_leaves, renewed_leaves, rest_of}
 use Rattle.watch_laws.proofs.Clocking.{begun_some, clock_rises, readied_clocks, refused_stays, sent_by}
@@ -571,7 +572,45 @@ first_past [] i = omega arith
 first_past (e ∷ es) zero = omega arith
 first_past (e ∷ es) (suc i) = first_past es i
 
+opened_past : (g : Forest) (width : ℕ) → IsPast (opened g width)
+opened_past g width = record { start = λ none. refl; free = omega arith; hold = λ there. refl; last = λ i. let l = first_past g.entries i in omega (arith, l) }
+
 pub retried : RetryLaw
-retried g width turns run =
-    let s = opened g width in
-    ran turns s run (record { start = λ none. refl; free = omega arith; hold = λ there. refl; last = λ i. let l = first_past g.entries i in omega (arith, l) })
+retried g width turns run = ran turns (opened g width) run (opened_past g width)
+
+-- and the clock leaves it as lost as it was, unless it is pressed anew. For the law of failures
+clock_keeps :
+    (old new : WatchState) (wall elapsed : ℕ) (output : Output) (i : ℕ) (t u : Try) → StepClock old wall elapsed output new → IsPast old → attempt_at old i ≡ Some t → t.failed ≡ true →
+    attempt_at new i ≡ Some u → u.pressed ≡ true → (u.lost ≡ t.lost) ⊎ (u.at ≤ new.clocks.at + 1000)
+clock_keeps old new wall elapsed output i t u step past is failed after pressed' =
+    let ready' = readied old wall elapsed in
+    let go = sent_by (pressed ready' (round_of step.round)) new output.command step.command in
+    let n = sent (pressed ready' (round_of step.round)) go.0 in
+    let three = readied_retried old wall elapsed (round_of step.round) go.0 i t is failed past in
+    let clock : new.clocks.at ≡ (timed old wall elapsed).clocks.at = ap (λ (x : WatchState). x.clocks.at) go.1 ∙ ap (λ c. c.at) (readied_clocks old wall elapsed) in
+    let there : attempt_at n i ≡ Some u = ap (λ (x : WatchState). attempt_at x i) (sym go.1) ∙ after in
+    elim (three.0.comes u there pressed') as (λ _. (u.lost ≡ t.lost) ⊎ (u.at ≤ new.clocks.at + 1000)) [
+      | inl first ↦ (let l = first.0 in inr (omega (arith, l, clock)))
+      | inr kept ↦ inl kept.0
+    ]
+
+turn_keeps :
+    (old new : WatchState) (event : Event) (result : Result Output WatchFault) (i : ℕ) (t u : Try) → Turn old event result new → IsPast old →
+    TryFails old (record { event = event; result = result; state = new }) i t u → (u.lost ≡ t.lost) ⊎ (u.at ≤ new.clocks.at + 1000)
+turn_keeps old new (Clock wall elapsed) (Ok output) i t u turn past h = clock_keeps old new wall elapsed output i t u turn.1 past h.before h.failed h.after h.pressed
+turn_keeps old new (Looked j reply terms) (Ok output) i t u turn past h = absurd (let e = h.clock in cc)
+turn_keeps old new (Renewed j reply) (Ok output) i t u turn past h = absurd (let e = h.clock in cc)
+turn_keeps old new (Need j until) (Ok output) i t u turn past h = absurd (let e = h.clock in cc)
+turn_keeps old new Begin (Ok output) i t u turn past h = absurd (let e = h.clock in cc)
+turn_keeps old new (Known j end renewable) (Ok output) i t u turn past h = absurd (let e = h.clock in cc)
+turn_keeps old new event (Err fault) i t u turn past h = absurd (let e = h.taken in cc)
+
+ran_lost : (turns : List Turned) (old : WatchState) → History old turns → IsPast old → AllKeepLoss old turns
+ran_lost [] old h past = tt
+ran_lost (turn ∷ turns) old h past = (
+  (λ i t u fails. turn_keeps old turn.state turn.event turn.result i t u h.0 past fails),
+  ran_lost turns turn.state h.1 (turn_past old turn.state turn.event turn.result h.0 past),
+)
+
+pub stays_lost : StaysLostLaw
+stays_lost g width turns run = ran_lost turns (opened g width) run (opened_past g width)

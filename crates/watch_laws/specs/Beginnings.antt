@@ -1,9 +1,10 @@
 -- Beginnings: how often everything is looked up anew, and how often an entry is after that. Each law is the contract of a public function
 -- without a body.
 -- Source: this project's own.
-use Rattle.std.specs.Prelude.{◌≡◌, ◌⊎◌, ◌==◌, ℕ, ◌+◌, ◌<◌, ◌≤◌, Bool, true, false, ◌&&◌, List, [], ◌∷◌, ◌++◌, Option, None, Result, Ok, Err, filter, is_some, length}
+use Rattle.std.specs.Prelude.{◌≡◌, ◌⊎◌, ◌==◌, ℕ, ◌+◌, ◌<◌, ◌≤◌, Bool, true, false, ◌&&◌, List, [], ◌∷◌, ◌++◌, Option, None, Result, Ok, Err, filter, is_some, length, min}
 use Rattle.std.specs.List.{list_any}
 use Rattle.keep_tree.specs.Forest.{Forest}
+use Rattle.watch_machine.specs.declared.clocks.WallOffset.{WallOffset}
 use Rattle.watch_machine.specs.declared.command.Output.{Output}
 use Rattle.watch_machine.specs.declared.command.Request.{Request}
 use Rattle.watch_machine.specs.declared.event.Event.{Event}
@@ -14,10 +15,10 @@ use Rattle.watch_machine.specs.declared.event.Reply.TheVariants.{Told, Refused, 
 use Rattle.watch_machine.specs.declared.fault.WatchFault.{WatchFault}
 use Rattle.watch_machine.specs.declared.lanes.Out.{Out}
 use Rattle.watch_machine.specs.declared.notes.Why.{Why}
+use Rattle.watch_machine.specs.declared.reading.TheConstants.{READING_MAX}
 use Rattle.watch_machine.specs.Beginning.{is_called}
 use Rattle.watch_machine.specs.History.{History, IsWatchRun, Turned, after_all}
 use Rattle.watch_machine.specs.Refusal.{is_same}
-use Rattle.watch_machine.specs.Settling.{has_jumped}
 use Rattle.watch_machine.specs.State.{WatchState, opened, second, track_at}
 use Rattle.watch_machine.specs.Wanted.{is_alive, is_open, is_wanted}
 use Rattle.watch_laws.specs.Load.{requests_of}
@@ -44,16 +45,21 @@ is_begin (Known i end renewable) = false
 abbrev pub asks_beginning : Turned → Bool
 asks_beginning turn = is_begin turn.event
 
--- the wall has jumped at a clock: it parted by more than two seconds from what it was expected to show
-abbrev pub Jumps : WatchState → Event → Type 0
-Jumps s (Clock wall elapsed) = has_jumped s wall elapsed ≡ true
-Jumps s event = ⊥
+-- the wall shows at a moment what it was not expected to, by more than two seconds: it was expected to show what it showed as it was last
+-- set, and as much more as has passed since
+abbrev pub HasParted : WallOffset → ℕ → ℕ → Type 0
+HasParted set at wall = (set.there + at + 2000 < wall + set.here) ⊎ (wall + set.here + 2000 < set.there + at)
+
+-- so at a clock, by the reading that is handed in: there the wall has jumped
+abbrev pub Jumps : WatchState → Event → WatchState → Type 0
+Jumps old (Clock wall elapsed) new = HasParted old.clocks.wall new.clocks.at (min wall READING_MAX)
+Jumps old event new = ⊥
 
 -- between two beginnings lies a jump of the wall, a Begin, or ten minutes (a day is longer)
 abbrev pub FewLaw : Type 0
 FewLaw =
     (old : WatchState) (first second : Turned) (between : List Turned) → History old (first ∷ (between ++ second ∷ [])) → IsBeginning first → IsBeginning second →
-    Jumps (after_all first.state between) second.event ⊎ ((list_any asks_beginning between ≡ true) ⊎ (first.state.clocks.at + 600000 ≤ second.state.clocks.at))
+    Jumps (after_all first.state between) second.event second.state ⊎ ((list_any asks_beginning between ≡ true) ⊎ (first.state.clocks.at + 600000 ≤ second.state.clocks.at))
 
 -- how many lookups of i go out
 abbrev pub is_lookup : ℕ → Request → Bool

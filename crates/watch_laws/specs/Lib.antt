@@ -3,6 +3,9 @@ pub mod Needs
 pub mod Tops
 pub mod Load
 pub mod Absence
+pub mod Presence
+pub mod Clocks
+pub mod Pace
 pub mod Time
 pub mod Waiting
 pub mod Ends
@@ -11,3 +14,7 @@ pub mod Recovery
 pub mod Partial
 pub mod Starts
 pub mod Calm
+pub mod Margins
+pub mod Pauses
+pub mod Failures
+pub mod Grants
