@@ -3,8 +3,7 @@
 use Rattle.std.specs.Prelude.{◌≡◌, ℕ, ◌+◌, ◌-◌, ◌≤◌, Bool, true, List, [], ◌∷◌, Some, length}
 use Rattle.std.specs.List.{All}
 use Rattle.keep_clock.specs.declared.reading.Reading.{Reading}
-use Rattle.watch_machine.specs.History.{History, after_all}
-use Rattle.watch_machine.specs.History as histories
+use Rattle.watch_machine.specs.History.{History, Turned, after_all}
 use Rattle.watch_machine.specs.State.{WatchState}
 use Rattle.watch_machine.specs.declared.command.Request.{Request}
 use Rattle.keep_serving.specs.Changes.{Made}
@@ -12,6 +11,7 @@ use Rattle.keep_serving.specs.Held.{Held, ServingSide}
 use Rattle.keep_serving.specs.Neighbours.{calls_in}
 use Rattle.keep_serving.specs.Runs.{AreTurns}
 use Rattle.keep_serving.specs.Turns.{IsServingTurn, ServingTurn}
+use Rattle.keep_serving.specs.TurnsOfWatch.{turns_of}
 use Rattle.keep_serving.specs.Words.{AllAreWordsOf, AllFollow, Suffices, Words}
 use Rattle.keep_serving.specs.declared.change.Change.{Change}
 use Rattle.keep_serving.specs.declared.change.Change.TheVariants.{Need, Begin, Serve, Kept}
@@ -31,14 +31,16 @@ abbrev pub IsStretch : List ServingTurn → Type 0
 IsStretch [] = Unit {0}
 IsStretch (t ∷ rest) = KeepInventory t.changes × IsStretch rest
 
--- some events, handed in one after another, lead from the one state to the other
-abbrev pub LeadsTo : WatchState → WatchState → Type 0
-LeadsTo old new = (turns : List histories.Turned) × (History old turns × (after_all old turns ≡ new))
+-- the turns of a Watch lead from the one state to the other
+abbrev pub Lead : WatchState → List Turned → WatchState → Type 0
+Lead old turns new = History old turns × (after_all old turns ≡ new)
 
--- in turns that serve one inventory the Watch was handed events, one after another, and nothing else was done to it: so each law of
--- all such runs holds of it, whatever the neighbours do
+-- in turns that serve one inventory the Watch was handed what the readings, the answers, the needs and the beginnings say, in their
+-- order, and nothing else was done to it: so each law of all such runs holds of these very turns of it, whatever the neighbours do
 abbrev pub StretchLaw : Type 0
-StretchLaw = (port : ℕ) (old new : ServingSide) (turns : List ServingTurn) → AreTurns port old turns new → IsStretch turns → LeadsTo old.held.agent.machine new.held.agent.machine
+StretchLaw =
+    (port : ℕ) (old new : ServingSide) (turns : List ServingTurn) (are : AreTurns port old turns new) → IsStretch turns →
+    Lead old.held.agent.machine (turns_of port old turns new are) new.held.agent.machine
 
 -- turns for which memory sufficed are what follows from words: their readings and changes, and the answers that came in them
 abbrev pub WordsLaw : Type 0

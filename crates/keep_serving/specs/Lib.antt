@@ -10,5 +10,6 @@ pub mod Days
 pub mod Runs
 pub mod Words
 pub mod code
+pub mod TurnsOfWatch
 pub mod Laws
 pub mod Alike

@@ -3,7 +3,8 @@ ghost use Rattle.keep_serving.specs.Alike.{AlikeLaw, RebuiltAlikeLaw};
 ghost use Rattle.keep_serving.specs.Laws.{CallsLaw, OneWayLaw, StretchLaw, WaitLaw, WordsLaw};
 
 /// The law that a stretch of turns in which one inventory is served is a run of its Watch: whatever the neighbours do, it was handed
-/// events, one after another, and nothing else was done to it.
+/// what the readings, the answers, the needs and the beginnings say, in their order, and nothing else was done to it. `turns_of` has
+/// each of these events, with what it gave.
 pub fn a_stretch_is_a_run()
     ensures { StretchLaw }
 {}

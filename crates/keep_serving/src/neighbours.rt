@@ -36,7 +36,8 @@ pub enum Happened<'a> {
     Refused,
 }
 
-/// Clients, onlookers, the log and the disk. None of their calls waits, but that of a disk where a change is made.
+/// Clients, onlookers, the log and the disk. None of their calls waits, but those of a disk: where a change is made, where ends are
+/// kept, and where files of credentials are looked at.
 ///
 /// To contracts they are the changes that they have given, and what a call may do to them.
 pub trait Neighbours {

@@ -105,7 +105,7 @@ module _ (g : Forest) (cs ds : List (List ℕ)) (ts : List Terms) (one : IsInven
   abbrev holds : Inventory → WatchState → List (Option ℕ) → Option (Option Next) → Watching
   holds v k said next = record { machine = k; inventory = v; said = said; next = next }
 
-  -- two states and lanes behind a line
+  -- two states and lanes after a line
   record AreLeftAlike (new last : WatchState) (after behind : Lanes) : Type 0 where
     machine : last ≡ new
     kept : KeepsSupplied g new.forest

@@ -10,6 +10,7 @@ pub mod WatchFrom
 pub mod code
 pub mod Listening
 pub mod StopsAfter
+pub mod TurnsOfLines
 pub mod LawsOfWatching
 pub mod Secrecy
 pub mod Alike

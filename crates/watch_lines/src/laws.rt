@@ -3,8 +3,9 @@ ghost use Rattle.watch_lines.specs.LawsOfWatching.{RunOfMachineLaw};
 ghost use Rattle.watch_lines.specs.Alike.{AlikeWatchesLaw, FreshAlikeLaw};
 ghost use Rattle.watch_lines.specs.Secrecy.{SecretsLaw};
 
-/// The law of the machine in a watch: whatever the lines are and whatever is answered, it was handed events one after another
-/// from its making on. So each law of `watch_machine` over all such runs holds of it.
+/// The law of the machine in a watch: whatever the lines are and whatever is answered, it was handed the events that they say, in
+/// their order, from its making on, and is as those leave it. `turns_of` has each, with what it gave. So each law of `watch_laws`
+/// over all such runs holds of these very turns.
 pub fn run_of_machine_law()
     ensures { RunOfMachineLaw }
 {}

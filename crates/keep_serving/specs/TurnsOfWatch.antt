@@ -1,0 +1,102 @@
+-- TurnsOfWatch: the turns of the Watch in turns of the loop. The readings, each answer that is handed in, and each need and beginning
+-- that is taken, are handed in as the event that they say; nothing else is an event.
+-- Source: this project's own.
+use Rattle.std.proofs.Common.{inl, inr}
+use Rattle.std.specs.Prelude.{ℕ, Bool, true, false, List, [], ◌∷◌, ◌++◌, Option, Some, None, Result, Ok}
+use Rattle.keep_agent.specs.Agent.{Agent}
+use Rattle.keep_asking.specs.Told.{event_as, reply_as, terms_as}
+use Rattle.keep_clock.specs.declared.reading.Reading.{Reading}
+use Rattle.keep_inventory.specs.Inventories.{Inventory}
+use Rattle.keep_lanes.specs.declared.lanes.Answered.{Answered}
+use Rattle.watch_machine.specs.declared.command.Command.TheVariants.{Go}
+use Rattle.watch_machine.specs.declared.command.Output.{Output}
+use Rattle.watch_machine.specs.declared.event.Event.{Event}
+use Rattle.watch_machine.specs.declared.event.Event.TheVariants as events
+use Rattle.watch_machine.specs.declared.event.Operation.{Operation}
+use Rattle.watch_machine.specs.declared.fault.WatchFault.{WatchFault}
+use Rattle.watch_machine.specs.History.{Turned}
+use Rattle.keep_serving.specs.Changes.{AreMade, ChangeIsMade, Made}
+use Rattle.keep_serving.specs.Held.{ServingSide}
+use Rattle.keep_serving.specs.Runs.{AreTurns}
+use Rattle.keep_serving.specs.Stages.{AnswerIsTaken, AnswersAreTaken, AnswersCome, Commands, HandsInAnswers, LeftOverGoesFirst, OnHeld, SendsRequests, TakesAnswers, TakesReadings, TakesUp, Then}
+use Rattle.keep_serving.specs.Turns.{IsServingTurn, ServingTurn, TurnHears}
+use Rattle.keep_serving.specs.declared.change.Change.{Change}
+use Rattle.keep_serving.specs.declared.change.Change.TheVariants.{Need, Begin, Serve, Kept}
+
+-- the event was handed in, and this came of it
+abbrev pub turned : Event → Result Output WatchFault → Agent → Turned
+turned event result new = record { event = event; result = result; state = new.machine }
+
+-- ---- answers
+
+-- the event that an answer says, where that was asked of its entry: the reply, and the terms that a lookup tells
+abbrev pub event_of_answer : Inventory → Operation → Answered → Event
+event_of_answer s operation a = event_as operation a.index (reply_as operation s a.index a.answer) (terms_as operation s a.index a.answer)
+
+-- an answer, as that to the request that was out of its entry
+abbrev pub turn_of_answer : (a : Answered) (old new : Agent) → AnswerIsTaken a old new → Turned
+turn_of_answer a old new h = turned (event_of_answer old.inventory h.request.operation a) (Ok h.output) new
+
+abbrev pub turns_of_answers : (answers : List Answered) (old new : Agent) → AnswersAreTaken answers old new → List Turned
+turns_of_answers [] old new h = []
+turns_of_answers (a ∷ rest) old new h = turn_of_answer a old h.0 h.1.0 ∷ turns_of_answers rest h.0 new h.1.1
+
+-- ---- stages
+
+-- the turns of a stage
+abbrev pub TurnsOf : (ServingSide → Bool → ServingSide → Type 0) → Type 0
+TurnsOf stage = (old : ServingSide) (is_whole : Bool) (new : ServingSide) → stage old is_whole new → List Turned
+
+abbrev pub no_turns : (stage : ServingSide → Bool → ServingSide → Type 0) → TurnsOf stage
+no_turns stage old is_whole new h = []
+
+abbrev pub one_and_then : (first second : ServingSide → Bool → ServingSide → Type 0) → TurnsOf first → TurnsOf second → TurnsOf (Then first second)
+one_and_then first second turns more old is_whole new (inl h) = turns old true h.0 h.1.0 ++ more h.0 is_whole new h.1.1
+one_and_then first second turns more old is_whole new (inr h) = turns old false new h.0
+
+-- the answers that are handed in
+abbrev pub turns_of_taking : TurnsOf (OnHeld TakesAnswers)
+turns_of_taking old true new h = turns_of_answers h.0.0.taken old.held.agent new.held.agent h.0.0.agent
+turns_of_taking old false new h = turns_of_answers h.0.0.taken old.held.agent new.held.agent h.0.0.agent
+
+-- the readings of the clocks
+abbrev pub turns_of_readings : (r : Reading) → TurnsOf (OnHeld (TakesReadings r))
+turns_of_readings r old true new h = turned (events.Clock r.wall r.elapsed) (Ok (record { command = Go new.held.unsent h.0.until; notes = h.0.notes })) h.0.mid ∷ []
+turns_of_readings r old false new h = []
+
+-- the answers that were left over, those that came, and the readings
+abbrev pub turns_of_stages : (port : ℕ) (r : Reading) → TurnsOf (LeftOverGoesFirst port r)
+turns_of_stages port r =
+    one_and_then (SendsRequests port) (Then (OnHeld TakesAnswers) (TakesUp port r)) (no_turns (SendsRequests port))
+    (one_and_then (OnHeld TakesAnswers) (TakesUp port r) turns_of_taking
+    (one_and_then (AnswersCome r.elapsed) (HandsInAnswers port r) (no_turns (AnswersCome r.elapsed))
+    (one_and_then (OnHeld TakesAnswers) (Commands port r) turns_of_taking
+    (one_and_then (OnHeld (TakesReadings r)) (SendsRequests port) (turns_of_readings r) (no_turns (SendsRequests port))))))
+
+abbrev pub turns_of_hearing : (port : ℕ) (reading : Option Reading) (old : ServingSide) (is_whole : Bool) (new : ServingSide) → TurnHears port reading old is_whole new → List Turned
+turns_of_hearing port None old is_whole new h = []
+turns_of_hearing port (Some r) old is_whole new h = turns_of_stages port r old is_whole new h
+
+-- ---- changes
+
+-- a change that memory sufficed to make; one that the Watch refuses is an event, too. Another inventory is no event
+abbrev pub turns_of_change : (c : Change) (is_made : Bool) (old new : ServingSide) → ChangeIsMade c is_made old new → List Turned
+turns_of_change c false old new h = []
+turns_of_change (Need i until) true old new h = turned (events.Need i until) h.result new.held.agent ∷ []
+turns_of_change Begin true old new h = turned events.Begin h.result new.held.agent ∷ []
+turns_of_change (Serve s) true old new h = []
+turns_of_change Kept true old new h = []
+
+abbrev pub turns_of_changes : (made : List Made) (old new : ServingSide) → AreMade made old new → List Turned
+turns_of_changes [] old new h = []
+turns_of_changes (m ∷ rest) old new h = turns_of_change m.change m.is_made old h.0 h.1.0 ++ turns_of_changes rest h.0 new h.1.1
+
+-- ---- turns of the loop
+
+-- one, and one after another
+abbrev pub turns_in : (port : ℕ) (old : ServingSide) (t : ServingTurn) (new : ServingSide) → IsServingTurn port old t new → List Turned
+turns_in port old t new h = turns_of_hearing port t.reading old t.is_whole h.mid h.hears ++ turns_of_changes t.changes h.mid new h.made
+
+abbrev pub turns_of : (port : ℕ) (old : ServingSide) (turns : List ServingTurn) (new : ServingSide) → AreTurns port old turns new → List Turned
+turns_of port old [] new h = []
+turns_of port old (t ∷ rest) new h = turns_in port old t h.0 h.1.0 ++ turns_of port h.0 rest new h.1.1
