@@ -1,16 +1,16 @@
 -- Saying: standings that are made anew one after another, and what is told in a list of news. For `say_all`, `shorts_of` and `say_shorts`.
-use Rattle.std.proofs.Common.{◌≡◌, ◌∙◌, ℕ, ◌+◌, ◌<◌, ◌≤◌, List, [], ◌∷◌, ◌++◌, All, flat_map, get_or, length, map, set, take, refl, sym, ap, subst, arith, inl, inr}
+use Rattle.std.proofs.Common.{◌≡◌, ◌∙◌, ℕ, zero, suc, ◌+◌, ◌<◌, ◌≤◌, List, [], ◌∷◌, ◌++◌, Option, Some, None, All, flat_map, get_or, length, map, set, take, refl, sym, ap, subst, arith, inl, inr}
 use Rattle.std.proofs.lemmas.Bool.{cases_lt}
 use Rattle.std.proofs.lemmas.Grind.{flat_map-append}
 use Rattle.std.proofs.lemmas.List.{append-nil, get_or_past, get_or-set_other, length-set, take_all, take_more_set}
-use Rattle.std.proofs.lemmas.List.FromFn.{get_or-map-range_with_len, length-map-range_with_len, map-range_with_len_more}
+use Rattle.std.proofs.lemmas.List.FromFn.{fill_by_all, get_or-map-range_with_len, length-map-range_with_len, map-range_with_len_more}
 use Rattle.std.specs.List.{range_with_len}
 use Rattle.keep_tree.proofs.Ranges.{range_more}
 use Rattle.watch_machine.specs.State.{WatchState, track_at}
 use Rattle.keep_agent.specs.declared.shorts.Short.{Short}
 use Rattle.keep_agent.specs.declared.standing.Standing.{Standing}
 use Rattle.keep_agent.specs.Agent.{Agent, Believes, IsAgent, IsStanding}
-use Rattle.keep_agent.specs.Shorts.{all_said, said_standing, said_standings}
+use Rattle.keep_agent.specs.Shorts.{all_said, news_in, said_short, said_standing, said_standings, short_at, shorts_in}
 use Rattle.keep_agent.specs.Standings.{fresh_standing, standing_in}
 
 -- those before k are made by f, the others are as they were
@@ -39,6 +39,33 @@ said_all f old now k so whole =
 pub news_more : (f : ℕ → List Short) (n : ℕ) → flat_map f (range_with_len 0 n) ++ f n ≡ flat_map f (range_with_len 0 (n + 1))
 news_more f n =
     ap (λ xs. flat_map f (range_with_len 0 n) ++ xs) (sym (append-nil (f n))) ∙ sym (flat_map-append f (range_with_len 0 n) (n ∷ [])) ∙ ap (flat_map f) (sym (range_more 0 n n (omega arith)))
+
+-- ---- where there is no news, all is said
+
+nil_parts : (xs ys : List Short) → xs ++ ys ≡ [] → (xs ≡ []) × (ys ≡ [])
+nil_parts [] ys none = (refl, none)
+nil_parts (x ∷ xs) ys none = let long : suc (length (xs ++ ys)) ≡ zero = ap length none in absurd (omega (arith, long))
+
+no_piece : (f : ℕ → List Short) (a n : ℕ) → flat_map f (range_with_len a n) ≡ [] → (i : ℕ) → i < n → f (a + i) ≡ []
+no_piece f a zero none i within = absurd (omega (arith, within))
+no_piece f a (suc n) none zero within = ap f (let e : a + 0 ≡ a = omega arith in e) ∙ (nil_parts (f a) (flat_map f (range_with_len (a + 1) n)) none).0
+no_piece f a (suc n) none (suc i) within =
+    ap f (let e : a + suc i ≡ a + 1 + i = omega arith in e) ∙ no_piece f (a + 1) n (nil_parts (f a) (flat_map f (range_with_len (a + 1) n)) none).1 i (omega (arith, within))
+
+unsaid : (i : ℕ) (news : Option ℕ) → short_at i news ≡ [] → news ≡ None
+unsaid i None none = refl
+unsaid i (Some reach) none = let long : suc zero ≡ zero = ap length none in absurd (omega (arith, long))
+
+as_said : (m : WatchState) (i : ℕ) (x : Standing) → news_in m i x.short ≡ None → x ≡ said_standing m i x
+unfolding said_standing
+as_said m i x none = ap (λ news. record x { short = said_short x.short news }) (sym none)
+
+pub nothing_said : (m : WatchState) (xs : List Standing) → shorts_in m xs ≡ [] → xs ≡ said_standings m xs
+unfolding said_standings shorts_in
+nothing_said m xs none =
+    let f : ℕ → List Short = λ i. short_at i (news_in m i (standing_in xs i).short) in
+    fill_by_all (λ i. said_standing m i (standing_in xs i)) xs (length xs) fresh_standing refl
+    (λ k within. as_said m k (standing_in xs k) (unsaid k (news_in m k (standing_in xs k).short) (subst (λ j. f j ≡ []) (let e : 0 + k ≡ k = omega arith in e) (no_piece f 0 (length xs) none k within))))
 
 -- ---- what is said leaves what was told
 
