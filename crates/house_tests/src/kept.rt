@@ -139,6 +139,24 @@ fn a_change_that_is_not_kept_is_refused(rt: HostRuntime) -> Result<(), Fail> {
     Ok(())
 }
 
+const FAULTY: Asked = Asked {
+    line: "[\"reload\"]\n",
+    sent: "error: margin: is not written\nweb: secret: is not written\n",
+    logged: "1970-01-01T00:16:40Z alert: file margin: is not written\n1970-01-01T00:16:40Z alert: file web: secret: is not written\n",
+};
+
+#[test]
+fn each_reason_of_a_reload_is_told_and_logged(rt: HostRuntime) -> Result<(), Fail> {
+    let steps = [
+        Step::Refuses("margin: is not written|web: secret: is not written"),
+        Step::Turns(4),
+        Step::WasSent(FAULTY.sent),
+        Step::SaidAfter(BEGIN, FAULTY.logged),
+    ];
+    plays(&rt, &keeping(&FAULTY), &steps)?;
+    Ok(())
+}
+
 const DROPS: Asked = Asked {
     line: "[\"drop\",\"web\"]\n",
     sent: "ok\nweb is no longer kept, and ends at 1970-01-01T00:17:40Z\n",

@@ -15,7 +15,7 @@ use std::test::Fail;
 #[derive(Drop)]
 pub(crate) struct Notebook {
     pub(crate) rows: Rows,
-    /// Why each change is refused, where it is.
+    /// Why each change is refused, where it is; `|` parts the reasons of a reload.
     pub(crate) refuses: Option<&'static str>,
     /// The text of the inventory that is served from a moment on, where a change waits.
     pub(crate) serves: &'static str,
@@ -53,6 +53,17 @@ impl Notebook {
             Some(why) => Err(Text::of(alloc, why.as_bytes()).ok()),
         }
     }
+}
+
+/// The reasons that `|` parts.
+fn reasons(alloc: Global, whys: &str) -> Vec<Text> {
+    let mut reasons = Vec::new(alloc);
+    for why in whys.split('|') {
+        if let Ok(why) = Text::of(alloc, why.as_bytes()) {
+            let _put = reasons.push(why);
+        }
+    }
+    reasons
 }
 
 impl Keeping for Notebook {
@@ -122,8 +133,10 @@ impl Keeping for Notebook {
         self.answer(alloc)
     }
 
-    fn reload(&mut self, alloc: Global, now: u64) -> Result<Reread, Option<Text>> {
-        self.answer(alloc)?;
+    fn reload(&mut self, alloc: Global, now: u64) -> Result<Reread, Vec<Text>> {
+        if let Some(whys) = self.refuses {
+            return Err(reasons(alloc, whys));
+        }
         self.since = Some(now);
         let mut notes = Vec::new(alloc);
         if let Ok(note) = Text::of(alloc, b"need web: the file has changed since, and wins") {

@@ -3,7 +3,9 @@ ghost use Rattle.std.specs.Prelude.{None, Some};
 
 use keep_device::InputFault;
 use keep_files::Inputs;
-use keep_house::{Demands, StartFault, line_of_fault, read_to_serve};
+use keep_house::{
+    Demands, StartFault, faults_to_serve, line_of_fault, read_to_serve, why_not_served,
+};
 use keep_inventory::{Inventory, read_served};
 use keep_moment::Text;
 use std::alloc::Global;
@@ -79,6 +81,84 @@ fn a_file_that_holds_nothing_is_a_fault(rt: HostRuntime) {
     let alloc = rt.alloc();
     assert!(rt; fault_of(alloc, OF_NONE) == Some(StartFault::NoFile(0)));
     assert!(rt; fault_of(alloc, OF_BLANKS) == Some(StartFault::NoSecret(0)));
+}
+
+/// No margin, two entries without a secret, and one whose file is not there.
+const FAULTY: &str =
+    "[[token]]\nname = \"web\"\n[[token]]\nname = \"app\"\nsecret_file = \"none\"\n[[token]]\nname = \"own\"\nsecret = \"s\"\n[[token]]\nname = \"job\"\n";
+
+/// Two tokens whose files hold the same.
+const ALIKE: &str =
+    "margin = 20\n[[token]]\nname = \"web\"\nsecret_file = \"one\"\n[[token]]\nname = \"app\"\nsecret_file = \"one\"\n";
+
+fn faults_of(alloc: Global, text: &str) -> Result<Vec<StartFault>, Fail> {
+    let faults = faults_to_serve(
+        alloc,
+        text.as_bytes(),
+        demands(false),
+        "folder/",
+        &mut Paths,
+    )?;
+    Ok(faults)
+}
+
+#[test]
+fn all_faults_are_told(rt: HostRuntime) -> Result<(), Fail> {
+    let faults = faults_of(rt.alloc(), FAULTY)?;
+    let all = [
+        StartFault::NoMargin,
+        StartFault::NoCredential(0),
+        StartFault::NoCredential(3),
+        StartFault::NoFile(1),
+    ];
+    assert!(rt; faults.as_slice() == all.as_slice());
+    Ok(())
+}
+
+#[test]
+fn what_is_served_has_none(rt: HostRuntime) -> Result<(), Fail> {
+    assert!(rt; faults_of(rt.alloc(), OF_FILE)?.is_empty());
+    Ok(())
+}
+
+#[test]
+fn what_is_no_inventory_has_one(rt: HostRuntime) -> Result<(), Fail> {
+    let faults = faults_of(rt.alloc(), "margin = \n")?;
+    assert!(rt; matches!(faults.as_slice(), [StartFault::Inventory(_)]));
+    Ok(())
+}
+
+#[test]
+fn files_go_together_or_do_not(rt: HostRuntime) -> Result<(), Fail> {
+    let faults = faults_of(rt.alloc(), ALIKE)?;
+    assert!(rt; matches!(faults.as_slice(), [StartFault::Together(_)]));
+    Ok(())
+}
+
+/// So many entries without a secret.
+fn bare_entries(alloc: Global, count: u32) -> Result<String, Fail> {
+    let mut text = String::new(alloc);
+    text.push_str("margin = 20\n")?;
+    for number in 0..count {
+        let table = format!(in alloc; "[[token]]\nname = \"t{number}\"\n")?;
+        text.push_str(&table)?;
+    }
+    Ok(text)
+}
+
+#[test]
+fn a_hundred_faults_are_said(rt: HostRuntime) -> Result<(), Fail> {
+    let alloc = rt.alloc();
+    let text = bare_entries(alloc, 142)?;
+    let whys = why_not_served(
+        alloc,
+        text.as_bytes(),
+        demands(false),
+        "folder/",
+        &mut Paths,
+    );
+    assert!(rt; whys.len() == 101 && whys[100].list() == b"and 42 more".as_slice());
+    Ok(())
 }
 
 #[test]

@@ -27,8 +27,8 @@ use Rattle.keep_house.specs.Admitting.{AdmitsIf, AnswerBeginsWith, FollowsLog, a
 use Rattle.keep_house.specs.Awaiting.{AddsRow, HearsFor, HearsOf, HearsVerdict, IsRefusedFor, Judges, LooksUpBy, LooksUpFirst, LooksUpIf, Makes, ProvesBy, Replaces, SetsAside, VerdictIs, addressed}
 use Rattle.keep_house.specs.Commands.{AddsEntry, AddsIf, AsksFor, AsksIf, CarriesIf, CarriesOut, ClosesClient, DropsEntry, GivesNeed, RebuildingIsDue, NeedIsKept, StateIsRebuilt, GoesOnIf, GoesOnWithClients, LacksMemory, Needs, NeedsIf, Reloads, RereadBy, ServesClients, SettlesFile, SettlesAnswer, SettlesAside, SettlesBy, SettlesGiven, SettlesNeed, SettlesServed, TellsNeed, TellsReload, end_named}
 use Rattle.keep_house.specs.Feeding.{FollowersGoOn}
-use Rattle.keep_house.specs.Houses.{Attends, ClientIsAnswered, ClientIsAside, ClientIsSent, ClientsAsk, ClientsGoOn, Concludes, IsAnsweredAs, IsAnsweredAside, SendsAside, WillTell, bytes_sent, changes_given, given_where}
-use Rattle.keep_house.specs.Keeping.{KeepCall, KeeperIsAsked, Outcome, Settle, Take, Why}
+use Rattle.keep_house.specs.Houses.{Attends, ClientIsAnswered, ClientIsAside, ClientIsSent, ClientsAsk, ClientsGoOn, Concludes, IsAnsweredAs, IsAnsweredAside, SendsAside, WillRefuse, WillTell, bytes_sent, changes_given, given_where}
+use Rattle.keep_house.specs.Keeping.{KeepCall, KeeperIsAsked, Outcome, Settle, Take, Why, Whys}
 use Rattle.keep_house.specs.Telling.{IsDropLine, replaced_text, settle_line, until_of}
 use Rattle.keep_house.specs.VerdictWords.{IsAddedLine, noted}
 use Rattle.keep_house.specs.Lines.{Line}
@@ -76,7 +76,7 @@ kept does agent now name need result None new h = ap is_some h.1
 kept does agent now name need result (Some old) None h = absurd h
 kept does agent now name need result (Some old) (Some new) h = refl
 
-reread : {K : Type 0} (does : KeepCall → K → K → Type 0) (now : Reading) (result : Option (Result Reread Why)) (old new : Option K) → RereadBy does now result old new → is_some new ≡ is_some old
+reread : {K : Type 0} (does : KeepCall → K → K → Type 0) (now : Reading) (result : Option (Result Reread Whys)) (old new : Option K) → RereadBy does now result old new → is_some new ≡ is_some old
 reread does now None None new h = ap is_some h
 reread does now None (Some old) new h = absurd h
 reread does now (Some result) None new h = absurd h
@@ -144,6 +144,9 @@ module _ {S T D K E : Type 0} where
 
   will_tell : (outcome : Outcome) (now : ℕ) (old new : House S T D K E) → WillTell outcome now old new → AreSame old new
   will_tell outcome now old new h = record { sink = ap (λ x. x.sink) h.rest; control = ap (λ x. is_some x.control) h.rest; state = ap (λ x. is_some x.state) h.rest }
+
+  will_refuse : (whys : List (List ℕ)) (now : ℕ) (old new : House S T D K E) → WillRefuse whys now old new → AreSame old new
+  will_refuse whys now old new h = record { sink = ap (λ x. x.sink) h.rest; control = ap (λ x. is_some x.control) h.rest; state = ap (λ x. is_some x.state) h.rest }
 
   concluded : (agent : Agent) (l : Line) (outcome : Outcome) (now : ℕ) (old new : House S T D K E) → Concludes agent l outcome now old new → AreSame old new
   concluded agent l outcome now old new h = let all = will_tell outcome now (record old { desk = h.desk }) new h.will in record { sink = all.sink; control = all.control; state = all.state }
@@ -217,10 +220,10 @@ module _ {S T D K E : Type 0} where
   add_if does rows agent now (Ok row) old new h = looked_up does rows agent now row.name (what.Add row) old new h
   add_if does rows agent now (Err why) old new h = will_tell (Err why) now.elapsed old new h
 
-  reload_told : (path : K → List ℕ) (agent : Agent) (now : Reading) (result : Option (Result Reread Why)) (old new : House S T D K E) → TellsReload path agent now result old new → AreSame old new
+  reload_told : (path : K → List ℕ) (agent : Agent) (now : Reading) (result : Option (Result Reread Whys)) (old new : House S T D K E) → TellsReload path agent now result old new → AreSame old new
   reload_told path agent now None old new h = will_tell (Err h.why) now.elapsed old new h.will
   reload_told path agent now (Some (Ok r)) old new h = let all = will_tell (Ok h.line) now.elapsed _ new h.will in record { sink = all.sink; control = all.control; state = all.state }
-  reload_told path agent now (Some (Err why)) old new h = let all = will_tell (Err why) now.elapsed _ new h.will in record { sink = all.sink; control = all.control; state = all.state }
+  reload_told path agent now (Some (Err whys)) old new h = let all = will_refuse whys.items now.elapsed _ new h.will in record { sink = all.sink; control = all.control; state = all.state }
 
   -- ---- the log is followed
 

@@ -17,3 +17,5 @@ pub mod Admits
 pub mod Attended
 pub mod WhyUnserved
 pub mod Waits
+pub mod Unfilled
+pub mod Faulty

@@ -1,6 +1,6 @@
--- WhyUnserved: why a file that is read again is not served, or that it is. For `judged` and `reload`.
-use Rattle.std.proofs.Common.{◌≡◌, ◌∙◌, ℕ, Bool, List, Option, Some, None, Result, Ok, Err, IfSome, ap, inl, inr, subst}
-use Rattle.std.specs.Prelude.{IfErr, IfOk, OnErr, OnOk}
+-- WhyUnserved: why a file that is read again is not served, or that it is. For `judge`, `judged` and `reload`.
+use Rattle.std.proofs.Common.{◌≡◌, ◌∙◌, ℕ, Bool, List, Option, Some, None, Ok, Err, IfSome, ap, inl, inr, subst, sym}
+use Rattle.std.proofs.Math.Path.{fun_ext}
 use Rattle.keep_agent.specs.Waiting.{changed}
 use Rattle.keep_change.specs.declared.replaying.Note.{Note}
 use Rattle.keep_disk.specs.State.{DiskState}
@@ -13,41 +13,41 @@ use Rattle.keep_store.specs.Books.{IsBookIf}
 use Rattle.keep_store.specs.Records.{records_in}
 use Rattle.keep_store.specs.Stores.{book_of, lines_in}
 use Rattle.keep_waiting.specs.Keepers.{store_of, waiting_in}
-use Rattle.keep_house.specs.Keeping.{Why}
+use Rattle.keep_house.specs.Keeping.{Whys}
 use Rattle.keep_house.specs.Ledgers.{ReloadsOn}
-use Rattle.keep_house.specs.Noting.{IsWhyNotServed}
 use Rattle.keep_house.specs.Reading.{IsToServe}
-use Rattle.keep_house.specs.Rereading.{AreBytesOf, IsWhyNotReread, SaysCopy, SaysNoBook, SaysNotes, SaysUnread}
+use Rattle.keep_house.specs.Rereading.{AreBytesOf, IsAtMost, IsOneWhy, IsWhyNotReread, SaysCopy, SaysFaults, SaysNoBook, SaysNotes, SaysUnread}
 use Rattle.keep_house.specs.declared.demands.Demands.{Demands}
 use Rattle.keep_house.specs.Untouched.{IsAsItWas}
-use Rattle.keep_house.specs.declared.fault.StartFault.{StartFault}
 use Rattle.keep_house.specs.declared.keeping.Reread.{Reread}
 
-pub unread_why : {D : Type 0} (known : Bool) (seen : D → DiskState) (files : Files) (demands : Demands) (folder : List ℕ) (kept : Kept D) (why : Option (List ℕ)) → IfSome why (SaysUnread known seen kept)
-    → IfSome why (IsWhyNotReread known seen files demands folder kept)
-unread_why known seen files demands folder kept None h = tt
-unread_why known seen files demands folder kept (Some why) h = inl h
+-- the one reason says so
+one_says : (P : List ℕ → Type 0) (why : Option (List ℕ)) (whys : List (List ℕ)) → IfSome why P → IsAtMost why whys → IsOneWhy P whys
+one_says P None whys h none = subst (IsOneWhy P) (sym none) tt
+one_says P (Some why) whys h (inl none) = subst (IsOneWhy P) (sym none) tt
+one_says P (Some why) whys h (inr one) = subst (IsOneWhy P) (sym one) h
 
-pub unserved_why : {D : Type 0} (known : Bool) (seen : D → DiskState) (files : Files) (demands : Demands) (folder : List ℕ) (kept : Kept D) (bytes : List ℕ) (fault : StartFault) (why : Option (List ℕ))
-    → AreBytesOf known seen kept bytes → IsToServe demands files folder bytes (Err fault) → IfSome why (IsWhyNotServed demands bytes fault) → IfSome why (IsWhyNotReread known seen files demands folder kept)
-unserved_why known seen files demands folder kept bytes fault None stand is h = tt
-unserved_why known seen files demands folder kept bytes fault (Some why) stand is h = inr (bytes, (stand, inl (fault, (is, h))))
+-- what files say that others say too
+pub says_as : (k other : Files) (demands : Demands) (folder bytes : List ℕ) (whys : List (List ℕ)) → ((path : List ℕ) → other path ≡ k path) → SaysFaults other demands folder bytes whys → SaysFaults k demands folder bytes whys
+says_as k other demands folder bytes whys same says = subst (λ (f : Files). SaysFaults f demands folder bytes whys) (fun_ext same) says
 
-pub no_book_why : {D : Type 0} (known : Bool) (seen : D → DiskState) (files : Files) (demands : Demands) (folder : List ℕ) (kept : Kept D) (bytes : List ℕ) (why : Option (List ℕ))
-    → AreBytesOf known seen kept bytes → IfSome why (SaysNoBook bytes) → IfSome why (IsWhyNotReread known seen files demands folder kept)
-no_book_why known seen files demands folder kept bytes None stand h = tt
-no_book_why known seen files demands folder kept bytes (Some why) stand h = inr (bytes, (stand, inr h))
+pub unread_why : {D : Type 0} (known : Bool) (seen : D → DiskState) (files : Files) (demands : Demands) (folder : List ℕ) (kept : Kept D) (why : Option (List ℕ)) (whys : List (List ℕ)) → IfSome why (SaysUnread known seen kept)
+    → IsAtMost why whys → IsWhyNotReread known seen files demands folder kept whys
+unread_why known seen files demands folder kept why whys says most = inl (one_says (SaysUnread known seen kept) why whys says most)
 
--- one that is read again is served with every change, or is not served
+pub unserved_why : {D : Type 0} (known : Bool) (seen : D → DiskState) (files : Files) (demands : Demands) (folder : List ℕ) (kept : Kept D) (bytes : List ℕ) (whys : List (List ℕ))
+    → AreBytesOf known seen kept bytes → SaysFaults files demands folder bytes whys → IsWhyNotReread known seen files demands folder kept whys
+unserved_why known seen files demands folder kept bytes whys stand says = inr (bytes, (stand, inl says))
+
+-- one that is read again is served with every change
 pub reread_as :
-    {D : Type 0} → (known : Bool) (seen : D → DiskState) (files : Files) (demands : Demands) (folder : List ℕ) (now : ℕ) (bytes : List ℕ) (inventory : Inventory) (result : Result Reread Why) (old mid new : Kept D) →
+    {D : Type 0} → (known : Bool) (seen : D → DiskState) (files : Files) (demands : Demands) (folder : List ℕ) (now : ℕ) (bytes : List ℕ) (inventory : Inventory) (r : Reread) (old mid new : Kept D) →
     AreBytesOf known seen old bytes → IsToServe demands files folder bytes (Ok inventory) → mid.keeper ≡ old.keeper → mid.places ≡ old.places →
-    IfOk result (λ r. (notes : List Note) × (IsBookIf (Some bytes) (records_in (lines_in (store_in mid))) (book_in mid).secrets (book_in new) notes
-    × SaysNotes (book_in new).file.margin (records_in (lines_in (store_in new))) notes r.notes.items)) →
-    IfOk result (λ r. (copy : Option DiskFault) × (IsCopied known mid.places bytes copy (seen new.disk) × SaysCopy copy r.unkept)) →
-    IfErr result (λ why. IfSome why (SaysNoBook bytes)) → OnOk result (waiting_in new.keeper ≡ changed (waiting_in mid.keeper) now) → OnErr result (IsAsItWas mid new) →
-    ReloadsOn known seen files demands folder now result old new
-reread_as known seen files demands folder now bytes inventory (Ok r) old mid new stand served keeper places reloaded copied why waiting refused = record {
+    (notes : List Note) × (IsBookIf (Some bytes) (records_in (lines_in (store_in mid))) (book_in mid).secrets (book_in new) notes
+    × SaysNotes (book_in new).file.margin (records_in (lines_in (store_in new))) notes r.notes.items) →
+    (copy : Option DiskFault) × (IsCopied known mid.places bytes copy (seen new.disk) × SaysCopy copy r.unkept) →
+    waiting_in new.keeper ≡ changed (waiting_in mid.keeper) now → ReloadsOn known seen files demands folder now (Ok r) old new
+reread_as known seen files demands folder now bytes inventory r old mid new stand served keeper places reloaded copied waiting = record {
   bytes = bytes;
   stand = stand;
   inventory = inventory;
@@ -60,11 +60,16 @@ reread_as known seen files demands folder now bytes inventory (Ok r) old mid new
   copied = subst (λ p. IsCopied known p bytes copied.0 (seen new.disk)) places copied.1.0;
   unkept = copied.1.1;
 }
-reread_as known seen files demands folder now bytes inventory (Err why) old mid new stand served keeper places reloaded copied says waiting refused = (
+
+-- or is none with them, and all is as it was
+pub none_as :
+    {D : Type 0} → (known : Bool) (seen : D → DiskState) (files : Files) (demands : Demands) (folder : List ℕ) (now : ℕ) (bytes : List ℕ) (why : Option (List ℕ)) (whys : Whys) (old mid new : Kept D) →
+    AreBytesOf known seen old bytes → mid.keeper ≡ old.keeper → IfSome why (SaysNoBook bytes) → IsAtMost why whys.items → IsAsItWas mid new → ReloadsOn known seen files demands folder now (Err whys) old new
+none_as known seen files demands folder now bytes why whys old mid new stand keeper says most same = (
   record {
-    book = refused.book ∙ ap (λ k. book_of (store_of k)) keeper;
-    lines = refused.lines ∙ ap (λ k. lines_in (store_of k)) keeper;
-    waiting = refused.waiting ∙ ap (λ k. waiting_in k) keeper;
+    book = same.book ∙ ap (λ k. book_of (store_of k)) keeper;
+    lines = same.lines ∙ ap (λ k. lines_in (store_of k)) keeper;
+    waiting = same.waiting ∙ ap (λ k. waiting_in k) keeper;
   },
-  no_book_why known seen files demands folder old bytes why stand says,
+  inr (bytes, (stand, inr (one_says (SaysNoBook bytes) why whys.items says most))),
 )

@@ -34,7 +34,6 @@ file_line why = said_line Alert (codes "file") (words.Text why ∷ [])
 unfoldable pub reread_lines : Reread → List Line
 reread_lines reread = copy_lines reread.unkept ++ (reread_line ∷ map note_log_line reread.notes.items)
 
--- and of one that is not served, but for lack of memory
-abbrev pub fault_lines : Option (List ℕ) → List Line
-fault_lines None = []
-fault_lines (Some why) = file_line why ∷ []
+-- and of one that is not served, for each of these reasons
+abbrev pub fault_lines : List (List ℕ) → List Line
+fault_lines whys = map file_line whys

@@ -26,8 +26,8 @@ use Rattle.keep_house.specs.Awaiting.{HearsVerdict, LooksUpFirst}
 use Rattle.keep_house.specs.Changed.{entry_log_line, fault_lines, reread_lines, settled_line}
 use Rattle.keep_house.specs.Clocked.{marks_anew}
 use Rattle.keep_house.specs.Desks.{Desk, HearsRefusal, SaysLine, SaysLines}
-use Rattle.keep_house.specs.Houses.{ClientIsAnswered, ClientIsSent, ClientsAsk, Concludes, IsAnsweredAside, SendsAside, WillTell}
-use Rattle.keep_house.specs.Keeping.{IsNotKept, KeepCall, KeeperIsAsked, Outcome, Rebuilt, Reload, Settle, Take, Why}
+use Rattle.keep_house.specs.Houses.{ClientIsAnswered, ClientIsSent, ClientsAsk, Concludes, IsAnsweredAside, SendsAside, WillRefuse, WillTell}
+use Rattle.keep_house.specs.Keeping.{IsNotKept, KeepCall, KeeperIsAsked, Outcome, Rebuilt, Reload, Settle, Take, Why, Whys}
 use Rattle.keep_house.specs.Marks.{fresh_mark}
 use Rattle.keep_house.specs.Sockets.{need_log_line}
 use Rattle.keep_house.specs.Telling.{IsDoneReply, IsDropLine, IsNeedLine, reload_line, settle_line, until_of}
@@ -132,7 +132,7 @@ pub record AddsEntry {S T D K E : Type 0} (does : KeepCall → K → K → Type 
 -- ---- reload
 
 -- the file is read anew, where somebody keeps changes
-abbrev pub RereadBy : {K : Type 0} → (KeepCall → K → K → Type 0) → Reading → Option (Result Reread Why) → Option K → Option K → Type 0
+abbrev pub RereadBy : {K : Type 0} → (KeepCall → K → K → Type 0) → Reading → Option (Result Reread Whys) → Option K → Option K → Type 0
 RereadBy does now None None new = new ≡ None
 RereadBy does now None (Some old) new = ⊥
 RereadBy does now (Some result) None new = ⊥
@@ -151,23 +151,23 @@ pub record TellsReread {S T D K E : Type 0} (path : K → List ℕ) (agent : Age
   pub says : IfSome line (λ l. l ≡ reload_line (path_if_kept path old.state))
   pub will : WillTell (Ok line) now.elapsed (record old { desk = desk; file = read_well now }) new
 
-pub record TellsUnread {S T D K E : Type 0} (agent : Agent) (now : Reading) (why : Why) (old new : House S T D K E) : Type 0 where
+pub record TellsUnread {S T D K E : Type 0} (agent : Agent) (now : Reading) (whys : List (List ℕ)) (old new : House S T D K E) : Type 0 where
   pub desk : Desk
-  pub heard : SaysLines agent (fault_lines why) old.desk.marks old.desk desk
-  pub will : WillTell (Err why) now.elapsed (record old { desk = desk; file = read_badly now old.file }) new
+  pub heard : SaysLines agent (fault_lines whys) old.desk.marks old.desk desk
+  pub will : WillRefuse whys now.elapsed (record old { desk = desk; file = read_badly now old.file }) new
 
 pub record TellsNotKept {S T D K E : Type 0} (agent : Agent) (now : Reading) (old new : House S T D K E) : Type 0 where
   pub why : Why
   pub is_not : IsNotKept {X = Unit {0}} (Err why)
   pub will : WillTell (Err why) now.elapsed old new
 
-abbrev pub TellsReload : {S T D K E : Type 0} → (K → List ℕ) → Agent → Reading → Option (Result Reread Why) → House S T D K E → House S T D K E → Type 0
+abbrev pub TellsReload : {S T D K E : Type 0} → (K → List ℕ) → Agent → Reading → Option (Result Reread Whys) → House S T D K E → House S T D K E → Type 0
 TellsReload path agent now None old new = TellsNotKept agent now old new
 TellsReload path agent now (Some (Ok reread)) old new = TellsReread path agent now reread old new
-TellsReload path agent now (Some (Err why)) old new = TellsUnread agent now why old new
+TellsReload path agent now (Some (Err whys)) old new = TellsUnread agent now whys.items old new
 
 pub record Reloads {S T D K E : Type 0} (does : KeepCall → K → K → Type 0) (path : K → List ℕ) (agent : Agent) (now : Reading) (old new : House S T D K E) : Type 0 where
-  pub result : Option (Result Reread Why)
+  pub result : Option (Result Reread Whys)
   pub state : Option K
   pub asks : RereadBy does now result old.state state
   pub tells : TellsReload path agent now result (record old { state = state }) new

@@ -1,6 +1,6 @@
 -- Filling: entries whose credentials stand in files, with what these files hold.
 -- Source: this project's own; docs/inventory.md, "Secrets in files".
-use Rattle.std.specs.Prelude.{◌≡◌, ◌⊎◌, ℕ, ◌+◌, Bool, true, false, List, [], ◌∷◌, Option, Some, None, Ok, Err, is_none}
+use Rattle.std.specs.Prelude.{◌≡◌, ◌⊎◌, ℕ, ◌+◌, Bool, true, false, List, [], ◌∷◌, ◌++◌, Option, Some, None, Ok, Err, is_none}
 use Rattle.std.specs.List.{list_all}
 use Rattle.std.specs.Str.{is_utf8}
 use Rattle.keep_change.specs.declared.row.Row.{Row}
@@ -10,6 +10,7 @@ use Rattle.keep_inventory.specs.Values.{is_credential}
 use Rattle.keep_inventory.specs.declared.note.Note.{Note}
 use Rattle.keep_secrets.specs.Credentials.{placed, stripped}
 use Rattle.keep_secrets.specs.declared.credential.TheConstants.{MOST_SECRET}
+use Rattle.keep_house.specs.Starts.{fault_list}
 use Rattle.keep_house.specs.declared.fault.StartFault.{StartFault}
 use Rattle.keep_house.specs.declared.fault.StartFault.TheVariants as faults
 
@@ -55,6 +56,17 @@ AreFilled known folder (r ∷ rs) [] = ⊥
 abbrev pub FirstUnfilled : Files → List ℕ → ℕ → List Row → StartFault → Type 0
 FirstUnfilled known folder i [] fault = ⊥
 FirstUnfilled known folder i (r ∷ rs) fault = CannotFill known folder i r fault ⊎ ((f : Row) × (FillsRow known folder r f × FirstUnfilled known folder (i + 1) rs fault))
+
+-- the fault of a row, where it cannot be filled
+abbrev pub IsFaultOfRow : Files → List ℕ → ℕ → Row → Option StartFault → Type 0
+IsFaultOfRow known folder i r None = (f : Row) × FillsRow known folder r f
+IsFaultOfRow known folder i r (Some fault) = CannotFill known folder i r fault
+
+-- the fault of each row that cannot be filled, from this index on; the others can
+abbrev pub AreUnfilled : Files → List ℕ → ℕ → List Row → List StartFault → Type 0
+AreUnfilled known folder i [] faults = faults ≡ []
+AreUnfilled known folder i (r ∷ rs) faults =
+    (fault : Option StartFault) × (IsFaultOfRow known folder i r fault × ((rest : List StartFault) × (AreUnfilled known folder (i + 1) rs rest × (faults ≡ fault_list fault ++ rest))))
 
 -- no entry names a file
 abbrev pub names_no_file : List Note → Bool

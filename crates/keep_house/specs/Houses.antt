@@ -24,7 +24,7 @@ use Rattle.keep_house.specs.Keeping.{Outcome}
 use Rattle.keep_house.specs.Lines.{Line, second_of}
 use Rattle.keep_house.specs.Nexts.{next_wake_of}
 use Rattle.keep_house.specs.Rooms.{Rooms}
-use Rattle.keep_house.specs.Telling.{IsReplyTo}
+use Rattle.keep_house.specs.Telling.{IsRefusalFor, IsReplyTo}
 use Rattle.keep_house.specs.declared.given.Given.TheVariants as givens
 use Rattle.keep_house.specs.declared.house.House.{House}
 
@@ -131,6 +131,12 @@ pub record SendsAside {S T D K E : Type 0} (agent : Agent) (client : Option ℕ)
 pub record WillTell {S T D K E : Type 0} (outcome : Outcome) (now : ℕ) (old new : House S T D K E) : Type 0 where
   pub sent : Option (List ℕ)
   pub reply : IsReplyTo outcome sent
+  pub rest : new ≡ record old { given = Some (givens.Answer sent now) }
+
+-- or why it was not, for each of these reasons
+pub record WillRefuse {S T D K E : Type 0} (whys : List (List ℕ)) (now : ℕ) (old new : House S T D K E) : Type 0 where
+  pub sent : Option (List ℕ)
+  pub reply : IsRefusalFor whys sent
   pub rest : new ≡ record old { given = Some (givens.Answer sent now) }
 
 -- where it was done the log says so

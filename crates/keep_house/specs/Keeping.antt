@@ -1,7 +1,8 @@
 -- Keeping: what is asked of whoever keeps the changes that clients give, and what comes of it.
 -- Source: this project's own.
-use Rattle.std.specs.Prelude.{◌≡◌, ℕ, List, [], ◌∷◌, ◌++◌, Option, Some, None, Result, Ok, Err, codes}
+use Rattle.std.specs.Prelude.{◌≡◌, ℕ, List, [], ◌∷◌, ◌++◌, Option, Some, None, Vec, Result, Ok, Err, codes}
 use Rattle.std.specs.declared.alloc.AllocError.{AllocError}
+use Rattle.std.specs.declared.alloc.Global.{Global}
 use Rattle.keep_change.specs.declared.change.What.{What}
 use Rattle.keep_clock.specs.declared.reading.Reading.{Reading}
 use Rattle.keep_proving.specs.declared.verdict.Verdict.{Verdict}
@@ -13,6 +14,10 @@ use Rattle.keep_house.specs.declared.keeping.Reread.{Reread}
 abbrev pub Why : Type 0
 Why = Option (List ℕ)
 
+-- why the file is not served, a reason a line; none where memory was wanting for them
+abbrev pub Whys : Type 0
+Whys = Vec (List ℕ) Global
+
 -- at a moment of the clock that never steps, in milliseconds, a change of the entry of that name is to be made, and was or was not; at a
 -- reading the credential that it brings is to be looked up, and at a moment the verdict on it is asked for; the file is to hold every
 -- change; at a moment it is to be read anew; at a reading files of credentials are to be looked at; a rebuilding was made
@@ -21,7 +26,7 @@ pub data KeepCall : Type 0 where
   LookUp : Reading → List ℕ → What → Result LookedUp AllocError → KeepCall
   Prove : ℕ → Result (Option Verdict) AllocError → KeepCall
   Settle : Result (Unit {0}) Why → KeepCall
-  Reload : ℕ → Result Reread Why → KeepCall
+  Reload : ℕ → Result Reread Whys → KeepCall
   Look : Reading → Looked → KeepCall
   Rebuilt : KeepCall
 

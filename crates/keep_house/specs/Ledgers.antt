@@ -1,6 +1,6 @@
 -- Ledgers: the state of an agent on a disk, and what the calls of its house do to it.
 -- Source: this project's own; what is on the disk is keep_state's.
-use Rattle.std.specs.Prelude.{◌≡◌, ◌⊎◌, ℕ, Bool, true, false, IsTrue, List, Option, Some, None, IfSome, Result, Ok, Err, if◌then◌else◌}
+use Rattle.std.specs.Prelude.{◌≡◌, ◌⊎◌, ℕ, Bool, true, false, IsTrue, List, Option, Some, None, Result, Ok, Err, if◌then◌else◌}
 use Rattle.std.specs.List.{All}
 use Rattle.std.specs.declared.alloc.AllocError.{AllocError}
 use Rattle.keep_agent.specs.Waiting.{changed, is_rebuilding_due}
@@ -34,7 +34,7 @@ use Rattle.keep_secrets.specs.declared.news.Looked.{Looked}
 use Rattle.keep_house.specs.Candidates.{IsCandidateFor}
 use Rattle.keep_house.specs.Gathering.{IsHeldBy}
 use Rattle.keep_house.specs.Inquiries.{LooksUp, ProvesOn, asked_in}
-use Rattle.keep_house.specs.Keeping.{KeepCall, Look, LookUp, Prove, Rebuilt, Reload, Settle, Take, Why}
+use Rattle.keep_house.specs.Keeping.{KeepCall, Look, LookUp, Prove, Rebuilt, Reload, Settle, Take, Why, Whys}
 use Rattle.keep_house.specs.Reading.{IsToServe, IsWide}
 use Rattle.keep_house.specs.Reasons.{bare_words, settle_words, table_words, take_words}
 use Rattle.keep_house.specs.Rereading.{AreBytesOf, IsWhyNotReread, SaysCopy, SaysNotes}
@@ -101,10 +101,10 @@ pub record IsReloadedOn {D : Type 0} (known : Bool) (seen : D → DiskState) (fi
   pub copied : IsCopied known old.places bytes copy (seen new.disk)
   pub unkept : SaysCopy copy reread.unkept
 
--- one that may not leaves all as it was, and the words say why, unless memory was wanting for them
-abbrev pub ReloadsOn : {D : Type 0} → Bool → (D → DiskState) → Files → Demands → List ℕ → ℕ → Result Reread Why → Kept D → Kept D → Type 0
+-- one that may not leaves all as it was, and the lines say why, unless memory was wanting for them
+abbrev pub ReloadsOn : {D : Type 0} → Bool → (D → DiskState) → Files → Demands → List ℕ → ℕ → Result Reread Whys → Kept D → Kept D → Type 0
 ReloadsOn known seen files demands folder now (Ok reread) old new = IsReloadedOn known seen files demands folder now reread old new
-ReloadsOn known seen files demands folder now (Err why) old new = IsAsItWas old new × IfSome why (IsWhyNotReread known seen files demands folder old)
+ReloadsOn known seen files demands folder now (Err whys) old new = IsAsItWas old new × IsWhyNotReread known seen files demands folder old whys.items
 
 -- a verdict on what a file holds is none of a client's
 abbrev pub ProvesIf : {L : Type 0} → (L → Lanes) → Option AskedFile → ℕ → Result (Option Verdict) AllocError → Option (Inquiry L) → Option (Inquiry L) → Type 0

@@ -1,6 +1,6 @@
 -- Reading: what is served by the text of an inventory, or the fault of the start.
 -- Source: this project's own; docs/commands/serve.md.
-use Rattle.std.specs.Prelude.{◌≡◌, ◌⊎◌, ◌&&◌, ℕ, ◌∷◌, ◌++◌, Bool, true, false, nat_eq, List, Option, Some, None, Result, Ok, Err, codes}
+use Rattle.std.specs.Prelude.{◌≡◌, ◌⊎◌, ◌&&◌, ℕ, ◌∷◌, ◌++◌, Bool, true, false, nat_eq, List, [], Option, Some, None, Result, Ok, Err, codes}
 use Rattle.keep_change.specs.Listed.{rows_of_served}
 use Rattle.keep_change.specs.declared.row.Row.{Row}
 use Rattle.keep_files.specs.Files.{Files}
@@ -13,8 +13,8 @@ use Rattle.keep_served.specs.ForGood.{inventory_for_good}
 use Rattle.keep_settle.specs.Settled.{TextIsSettled}
 use Rattle.keep_settle.specs.declared.fault.SettleFault.{SettleFault}
 use Rattle.keep_spread.specs.Margins.{room_of, wider}
-use Rattle.keep_house.specs.Filling.{AreFilled, FirstUnfilled, names_no_file}
-use Rattle.keep_house.specs.Starts.{first_start_fault}
+use Rattle.keep_house.specs.Filling.{AreFilled, AreUnfilled, FirstUnfilled, names_no_file}
+use Rattle.keep_house.specs.Starts.{first_start_fault, written_faults}
 use Rattle.keep_house.specs.declared.demands.Demands.{Demands}
 use Rattle.keep_house.specs.declared.fault.StartFault.{StartFault}
 use Rattle.keep_house.specs.declared.fault.StartFault.TheVariants as faults
@@ -64,6 +64,33 @@ abbrev pub IsToServe : Demands → Files → List ℕ → List ℕ → Result In
 IsToServe d known folder bytes (Ok inventory) =
     (v : Served) × ((read_served bytes ≡ Ok v) × ((first_start_fault d v ≡ None) × ((text : List ℕ) × (IsServedText d.earlier known folder bytes v text × (inventory_for_good text ≡ Ok inventory)))))
 IsToServe d known folder bytes (Err fault) = (fault ≡ faults.OutOfMemory) ⊎ (IsNoInventory bytes fault ⊎ IsNotServed d known folder bytes fault)
+
+-- ---- all faults of a start
+
+-- where there is no other: what its files hold does not go together (or one whose bytes are not known gives nothing any more); or it is served
+abbrev pub AreLast : Demands → Files → List ℕ → List ℕ → List StartFault → Type 0
+AreLast d known folder bytes [] = (inventory : Inventory) × IsToServe d known folder bytes (Ok inventory)
+AreLast d known folder bytes (fault ∷ []) = IsNotServed d known folder bytes fault
+AreLast d known folder bytes (fault ∷ next ∷ faults) = ⊥
+
+abbrev pub AreAllOr : (List StartFault → Type 0) → List StartFault → List StartFault → Type 0
+AreAllOr Last [] faults = Last faults
+AreAllOr Last (first ∷ more) faults = faults ≡ first ∷ more
+
+-- those of what is written, and then those of the files that give nothing, each
+abbrev pub AreFaultsOf : Demands → Files → List ℕ → List ℕ → Served → List StartFault → Type 0
+AreFaultsOf d known folder bytes v faults =
+    (unfilled : List StartFault) × (AreUnfilled known folder 0 (rows_of_served v) unfilled × AreAllOr (AreLast d known folder bytes) (written_faults d v ++ unfilled) faults)
+
+-- a text that is no inventory has one
+abbrev pub AreFaults : Demands → Files → List ℕ → List ℕ → List StartFault → Type 0
+AreFaults d known folder bytes faults =
+    ((fault : StartFault) × (IsNoInventory bytes fault × (faults ≡ fault ∷ []))) ⊎ ((v : Served) × ((read_served bytes ≡ Ok v) × AreFaultsOf d known folder bytes v faults))
+
+-- the first is why it is not served; where there is none, it is
+abbrev pub FirstIsWhy : Demands → Files → List ℕ → List ℕ → List StartFault → Type 0
+FirstIsWhy d known folder bytes [] = (inventory : Inventory) × IsToServe d known folder bytes (Ok inventory)
+FirstIsWhy d known folder bytes (fault ∷ faults) = IsToServe d known folder bytes (Err fault)
 
 -- ---- an inventory that is served already, with a wider margin
 

@@ -97,6 +97,10 @@ book_words (files.Faulty fault) = inventory_words fault
 book_words (files.Unwritten fault) = codes "with the changes of the journal: " ++ written_words fault
 book_words files.OutOfMemory = codes "out of memory"
 
+-- how many more faults FILE has
+abbrev pub more_words : ℕ → List ℕ
+more_words left = codes "and " ++ (decimal left ++ codes " more")
+
 -- how many more changes of the journal are not made any more
 abbrev pub left_words : ℕ → List ℕ
 left_words left = decimal left ++ codes " more changes do not hold"

@@ -1,6 +1,6 @@
 -- Rereading: what is said of a file that is read again, or why it is not served.
 -- Source: docs/running.md, "What the operator sees".
-use Rattle.std.specs.Prelude.{◌≡◌, ◌⊎◌, ℕ, Bool, IsTrue, List, [], ◌++◌, Option, Some, None, Err, codes}
+use Rattle.std.specs.Prelude.{◌≡◌, ◌⊎◌, ℕ, Bool, IsTrue, List, [], ◌∷◌, ◌++◌, Option, Some, None, codes}
 use Rattle.keep_change.specs.declared.change.Record.{Record}
 use Rattle.keep_change.specs.declared.replaying.Note.{Note}
 use Rattle.keep_disk.specs.State.{DiskState}
@@ -11,8 +11,8 @@ use Rattle.keep_state.specs.States.{Kept}
 use Rattle.keep_state.specs.declared.fault.ReadFault.{ReadFault}
 use Rattle.keep_store.specs.Books.{IsFileFaultOf}
 use Rattle.keep_store.specs.declared.fault.FileFault.{FileFault}
-use Rattle.keep_house.specs.Noting.{IsWhyNotServed, said_notes}
-use Rattle.keep_house.specs.Reading.{IsToServe}
+use Rattle.keep_house.specs.Noting.{AreWhysNotServed, said_notes}
+use Rattle.keep_house.specs.Reading.{AreFaults}
 use Rattle.keep_house.specs.Reasons.{book_words, disk_words, unread_words}
 use Rattle.keep_house.specs.declared.demands.Demands.{Demands}
 use Rattle.keep_house.specs.declared.fault.StartFault.{StartFault}
@@ -27,21 +27,32 @@ AreBytesOf known seen kept bytes = (mode : ℕ) × (IsTrue known → (seen kept.
 abbrev pub SaysUnread : {D : Type 0} → Bool → (D → DiskState) → Kept D → List ℕ → Type 0
 SaysUnread known seen kept why = (fault : ReadFault) × ((IsTrue known → IsWhyUnread kept.places.file (seen kept.disk) fault) × (why ≡ unread_words fault))
 
--- it may not be served
-abbrev pub SaysNotServed : Files → Demands → List ℕ → List ℕ → List ℕ → Type 0
-SaysNotServed files demands folder bytes why = (fault : StartFault) × (IsToServe demands files folder bytes (Err fault) × IsWhyNotServed demands bytes fault why)
+-- it may not be served, for each of these reasons; none is said where memory was wanting for them
+abbrev pub SaysFaults : Files → Demands → List ℕ → List ℕ → List (List ℕ) → Type 0
+SaysFaults files demands folder bytes whys = (whys ≡ []) ⊎ ((faults : List StartFault) × (AreFaults demands files folder bytes faults × AreWhysNotServed demands bytes faults whys))
 
 -- it is none with the changes of the journal
 abbrev pub SaysNoBook : List ℕ → List ℕ → Type 0
 SaysNoBook bytes why = (fault : FileFault) × (IsFileFaultOf (Some bytes) fault × (why ≡ book_words fault))
 
--- what may be wrong with these bytes
-abbrev pub SaysBad : Files → Demands → List ℕ → List ℕ → List ℕ → Type 0
-SaysBad files demands folder bytes why = SaysNotServed files demands folder bytes why ⊎ SaysNoBook bytes why
+-- the reason, where there is one; or none, where memory was wanting for it
+abbrev pub IsAtMost : Option (List ℕ) → List (List ℕ) → Type 0
+IsAtMost None whys = whys ≡ []
+IsAtMost (Some why) whys = (whys ≡ []) ⊎ (whys ≡ why ∷ [])
 
-abbrev pub IsWhyNotReread : {D : Type 0} → Bool → (D → DiskState) → Files → Demands → List ℕ → Kept D → List ℕ → Type 0
-IsWhyNotReread known seen files demands folder kept why =
-    SaysUnread known seen kept why ⊎ ((bytes : List ℕ) × (AreBytesOf known seen kept bytes × SaysBad files demands folder bytes why))
+-- there is one reason, or none where memory was wanting for it
+abbrev pub IsOneWhy : (List ℕ → Type 0) → List (List ℕ) → Type 0
+IsOneWhy Says [] = Unit {0}
+IsOneWhy Says (why ∷ []) = Says why
+IsOneWhy Says (why ∷ next ∷ whys) = ⊥
+
+-- what may be wrong with these bytes
+abbrev pub SaysBad : Files → Demands → List ℕ → List ℕ → List (List ℕ) → Type 0
+SaysBad files demands folder bytes whys = SaysFaults files demands folder bytes whys ⊎ IsOneWhy (SaysNoBook bytes) whys
+
+abbrev pub IsWhyNotReread : {D : Type 0} → Bool → (D → DiskState) → Files → Demands → List ℕ → Kept D → List (List ℕ) → Type 0
+IsWhyNotReread known seen files demands folder kept whys =
+    IsOneWhy (SaysUnread known seen kept) whys ⊎ ((bytes : List ℕ) × (AreBytesOf known seen kept bytes × SaysBad files demands folder bytes whys))
 
 -- ---- what is said where it is served
 

@@ -18,18 +18,31 @@ is_bare v i note = is_none note.file && bytes_eq (credential_at v.inventory.cred
 abbrev pub is_bare_row : Row → Bool
 is_bare_row row = is_none row.file && bytes_eq row.credential row.name
 
--- the first of these entries, which are those from this index on, that is bare
-abbrev pub first_bare : Served → ℕ → List Note → Option ℕ
-first_bare v i [] = None
-first_bare v i (note ∷ notes) = if is_bare v i note then Some i else first_bare v (i + 1) notes
+-- the fault of the margin: it is not written, or is under four time-outs
+abbrev pub margin_fault : Demands → Served → Option StartFault
+margin_fault d v = if not v.has_margin then Some NoMargin else (if nat_lt v.inventory.forest.margin (4 * d.timeout) then Some SmallMargin else None)
 
-abbrev pub bare_fault : Option ℕ → Option StartFault
-bare_fault None = None
-bare_fault (Some i) = Some (NoCredential i)
+-- the fault of each of these entries, which are those from this index on, that is bare
+abbrev pub bare_at : Served → ℕ → Note → List StartFault
+bare_at v i note = if is_bare v i note then NoCredential i ∷ [] else []
 
--- the first fault: the margin is not written, or is under four time-outs; or an entry is bare, where its name may not be sent
+abbrev pub bare_faults : Served → ℕ → List Note → List StartFault
+bare_faults v i [] = []
+bare_faults v i (note ∷ notes) = bare_at v i note ++ bare_faults v (i + 1) notes
+
+-- a fault, where there is one
+abbrev pub fault_list : Option StartFault → List StartFault
+fault_list None = []
+fault_list (Some fault) = fault ∷ []
+
+-- all faults of what is written: that of the margin; and that of each entry that is bare, where its name may not be sent
+unfoldable pub written_faults : Demands → Served → List StartFault
+written_faults d v = fault_list (margin_fault d v) ++ (if d.names_are_secrets then [] else bare_faults v 0 v.notes)
+
+-- the first of them
+abbrev pub first_of : List StartFault → Option StartFault
+first_of [] = None
+first_of (fault ∷ faults) = Some fault
+
 unfoldable pub first_start_fault : Demands → Served → Option StartFault
-first_start_fault d v =
-    if not v.has_margin then Some NoMargin
-    else (if nat_lt v.inventory.forest.margin (4 * d.timeout) then Some SmallMargin
-    else (if d.names_are_secrets then None else bare_fault (first_bare v 0 v.notes)))
+first_start_fault d v = first_of (written_faults d v)

@@ -66,7 +66,13 @@ IsDoneReply (Some line) (Some text) = text ≡ control_reply_text (replies.Done 
 abbrev pub IsRefusedReply : Why → Option (List ℕ) → Type 0
 IsRefusedReply None sent = sent ≡ None
 IsRefusedReply (Some why) None = Unit {0}
-IsRefusedReply (Some why) (Some text) = text ≡ control_reply_text (replies.Refused why)
+IsRefusedReply (Some why) (Some text) = text ≡ control_reply_text (replies.Refused why [])
+
+-- why it was not done, a reason a line
+abbrev pub IsRefusalFor : List (List ℕ) → Option (List ℕ) → Type 0
+IsRefusalFor [] sent = sent ≡ None
+IsRefusalFor (why ∷ more) None = Unit {0}
+IsRefusalFor (why ∷ more) (Some text) = text ≡ control_reply_text (replies.Refused why more)
 
 abbrev pub IsReplyTo : Outcome → Option (List ℕ) → Type 0
 IsReplyTo (Ok line) sent = IsDoneReply line sent

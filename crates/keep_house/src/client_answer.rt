@@ -1,8 +1,8 @@
 //! The client whose request was taken last is answered.
 ghost use Rattle.std.specs.Prelude.{◌≡◌};
-ghost use Rattle.keep_house.specs.Houses.{ClientIsAnswered, ClientIsAside, ClientIsSent, IsAnsweredAside, SendsAside, WillTell, bytes_sent};
+ghost use Rattle.keep_house.specs.Houses.{ClientIsAnswered, ClientIsAside, ClientIsSent, IsAnsweredAside, SendsAside, WillRefuse, WillTell, bytes_sent};
 
-use crate::client_words::reply_to;
+use crate::client_words::{refusal_for, reply_to};
 use crate::given::Given;
 use crate::house::House;
 use keep_agent::Agent;
@@ -24,6 +24,16 @@ impl<S, T: Talk, D: Door<T>, K, E> House<S, T, D, K, E> {
     {
         self.given = Some(Given::Answer {
             sent: reply_to(alloc, outcome),
+            at: now,
+        });
+    }
+
+    /// The same, where it was not done for these reasons; there are none where memory was wanting for them.
+    pub(crate) fn will_refuse(&mut self, alloc: Global, whys: Vec<Text>, now: u64)
+        ensures { WillRefuse whys.items now self.old self.new }
+    {
+        self.given = Some(Given::Answer {
+            sent: refusal_for(alloc, whys),
             at: now,
         });
     }

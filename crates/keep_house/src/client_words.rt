@@ -4,7 +4,7 @@ ghost use Rattle.keep_moment.specs.Rfc3339.{IsDateText};
 ghost use Rattle.keep_moment.specs.declared.moment.TheConstants.{LAST};
 ghost use Rattle.keep_change.specs.Rows.{is_lease_if};
 ghost use Rattle.keep_house.specs.Keeping.{nothing_kept};
-ghost use Rattle.keep_house.specs.Telling.{IsAddLine, IsDated, IsDoneReply, IsDropLine, IsEndedLine, IsNeedLine, IsRefusedReply, IsReplyTo, SaysNeeded, reload_line, replaced_text, settle_line};
+ghost use Rattle.keep_house.specs.Telling.{IsAddLine, IsDated, IsDoneReply, IsDropLine, IsEndedLine, IsNeedLine, IsRefusalFor, IsRefusedReply, IsReplyTo, SaysNeeded, reload_line, replaced_text, settle_line};
 
 use keep_change::Row;
 use keep_control::{Lines, Reply, write_reply};
@@ -178,5 +178,16 @@ fn refused_reply(alloc: Global, why: Option<Text>) -> Option<Text>
     ensures { IsRefusedReply why result }
 {
     let why = why?;
-    write_reply(alloc, &Reply::Refused(why)).ok()
+    write_reply(alloc, &Reply::Refused(why, Lines::of(Vec::new(alloc)))).ok()
+}
+
+/// The lines of the answer to what was not done for these reasons; `None` where there are none, or memory was wanting.
+pub(crate) fn refusal_for(alloc: Global, mut whys: Vec<Text>) -> Option<Text>
+    ensures { IsRefusalFor whys.items result }
+{
+    if whys.is_empty() {
+        return None;
+    }
+    let why = whys.remove(0);
+    write_reply(alloc, &Reply::Refused(why, Lines::of(whys))).ok()
 }

@@ -9,7 +9,7 @@ ghost use Rattle.keep_house.specs.Sockets.{need_log_line};
 use crate::form::Form;
 use crate::keeping::Reread;
 use crate::log_answers::{say_answered, trouble_after};
-use crate::log_changes::{say_entry, say_fault, say_reread, say_settled};
+use crate::log_changes::{say_entry, say_faults, say_reread, say_settled};
 use crate::log_clock::{say_clocked, say_memory, say_shorts};
 use crate::log_ended::{mark_anew, mark_ended};
 use crate::log_line::{Stamp, say_text};
@@ -174,12 +174,12 @@ impl Desk {
         say_reread(alloc, &stamp, reread, &mut self.room);
     }
 
-    /// Says why the file is not served, where memory sufficed for the reason.
-    pub(crate) fn hear_fault(&mut self, alloc: Global, agent: &Agent, why: &Option<Text>)
-        ensures { SaysLines agent.now (fault_lines why.now) self.old.marks self.old self.new }
+    /// Says why the file is not served, a line for each reason.
+    pub(crate) fn hear_faults(&mut self, alloc: Global, agent: &Agent, whys: &[Text])
+        ensures { SaysLines agent.now (fault_lines whys.now) self.old.marks self.old self.new }
     {
         let stamp = self.stamp(agent);
-        say_fault(alloc, &stamp, why, &mut self.room);
+        say_faults(alloc, &stamp, whys, &mut self.room);
     }
 
     /// The agent serves another inventory from now on: these marks are made those of its entries.

@@ -78,8 +78,8 @@ pub trait Keeping {
     fn settle(&mut self, alloc: Global) -> Result<(), Option<Text>>
         ensures { Self.does (Settle result) self.old self.new };
 
-    /// Reads the file anew.
-    fn reload(&mut self, alloc: Global, now: u64) -> Result<Reread, Option<Text>>
+    /// Reads the file anew. The error is why that is not served, a reason a line; none where memory was wanting for them.
+    fn reload(&mut self, alloc: Global, now: u64) -> Result<Reread, Vec<Text>>
         ensures { Self.does (Reload now result) self.old self.new };
 
     /// The row that a table `[[token]]` or `[[lease]]` in TOML writes.

@@ -3,8 +3,6 @@ ghost use Rattle.std.specs.Prelude.{◌≡◌, ◌⊎◌, ◌++◌, ℕ, List, I
 ghost use Rattle.keep_agent.specs.Waiting.{changed};
 ghost use Rattle.keep_change.specs.declared.replaying.Note.{Note};
 ghost use Rattle.keep_inventory.specs.Inventories.{Inventory};
-ghost use Rattle.keep_inventory.specs.Inventory.{read_served};
-ghost use Rattle.keep_inventory.specs.Served.{Served};
 ghost use Rattle.keep_served.specs.ForGood.{inventory_for_good};
 ghost use Rattle.keep_disk.specs.declared.fault.DiskFault.{DiskFault};
 ghost use Rattle.keep_state.specs.Settles.{IsCopied};
@@ -15,32 +13,31 @@ ghost use Rattle.keep_store.specs.Records.{records_in};
 ghost use Rattle.keep_store.specs.Stores.{lines_in};
 ghost use Rattle.keep_waiting.specs.Keepers.{waiting_in};
 ghost use Rattle.keep_house.specs.Ledgers.{AreCompacted, FilledWith, IsFilledOn, IsTakenOn};
-ghost use Rattle.keep_house.specs.Noting.{IsWhyNotServed, left_lines, said_notes};
+ghost use Rattle.keep_house.specs.Noting.{left_lines, said_notes};
 ghost use Rattle.keep_house.specs.Reading.{IsToServe, IsWide};
-ghost use Rattle.keep_house.specs.Reasons.{bare_words, file_words, left_words, table_words};
-ghost use Rattle.keep_house.specs.Rereading.{AreBytesOf, IsWhyNotReread, SaysCopy, SaysNoBook, SaysNotes, SaysUnread};
+ghost use Rattle.keep_house.specs.Reasons.{bare_words, left_words, table_words};
+ghost use Rattle.keep_house.specs.Rereading.{AreBytesOf, IsAtMost, IsWhyNotReread, SaysCopy, SaysFaults, SaysNoBook, SaysNotes, SaysUnread};
 ghost use Rattle.keep_house.specs.Starts.{is_bare_row};
 ghost use Rattle.keep_house.specs.Untouched.{IsAsItWas};
 
 use crate::asked_file::AskedFile;
 use crate::candidates::candidate_of;
 use crate::demands::Demands;
-use crate::fault::StartFault;
 use crate::first_fault::is_bare_row;
 use crate::gathered_secrets::{Gathered, gather};
 use crate::inquiry::{ask, hear};
 use crate::keeping::{Keeping, LookedUp, Reread};
 use crate::reading::{read_to_serve, wide};
 use crate::reasons::{
-    after, bare_words, book_words, disk_words, file_words, inventory_words, settle_words,
-    table_words, take_words, unread_words,
+    after, bare_words, book_words, disk_words, settle_words, table_words, take_words, unread_words,
 };
+use crate::unserved::why_not_served;
 use keep_asking::SeenLanes;
 use keep_change::{Note, Row, What};
 use keep_clock::Reading;
 use keep_disk::{Disk, DiskFault};
 use keep_files::Inputs;
-use keep_inventory::{Inventory, read_served};
+use keep_inventory::Inventory;
 use keep_lanes::Lanes;
 use keep_moment::{Name, Text};
 use keep_proving::{Proving, Verdict};
@@ -121,23 +118,42 @@ impl<'a, D: Disk, I: Inputs, L: Lanes> Ledger<'a, D, I, L> {
         }
     }
 
-    // The file at its path, where it may be served; otherwise why not, in words.
-    #[tactic(auto, using(crate::proofs::WhyUnserved::unread_why, crate::proofs::WhyUnserved::unserved_why))]
-    fn judged(&mut self, alloc: Global) -> Result<Text, Option<Text>>
+    // The file at its path, where it may be served; otherwise why not, a reason a line.
+    #[tactic(auto, using(crate::proofs::WhyUnserved::unread_why))]
+    fn judged(&mut self, alloc: Global) -> Result<Text, Vec<Text>>
         ensures stand { IfOk result (λ bytes. AreBytesOf D.is_known D.state self.old.state bytes) }
         ensures served { IfOk result (λ bytes. (inventory : Inventory) × IsToServe self.old.demands (I.bytes_at self.old.inputs) self.old.folder.now bytes (Ok inventory)) }
-        ensures refused { IfErr result (λ why. IfSome why (IsWhyNotReread D.is_known D.state (I.bytes_at self.old.inputs) self.old.demands self.old.folder.now self.old.state)) }
+        ensures refused { IfErr result (λ whys. IsWhyNotReread D.is_known D.state (I.bytes_at self.old.inputs) self.old.demands self.old.folder.now self.old.state whys.items) }
         ensures keeper { self.new.state.keeper ≡ self.old.state.keeper }
         ensures places { self.new.state.places ≡ self.old.state.places }
         ensures same { (path : List ℕ) → I.bytes_at self.new.inputs path ≡ I.bytes_at self.old.inputs path }
         ensures demands { self.new.demands ≡ self.old.demands }
         ensures folder { self.new.folder ≡ self.old.folder }
     {
-        let bytes = self.read(alloc)?;
+        let bytes = match self.read(alloc) {
+            Ok(bytes) => bytes,
+            Err(why) => return Err(one_why(alloc, why)),
+        };
+        match self.judge(alloc, bytes.list()) {
+            Ok(()) => Ok(bytes),
+            Err(whys) => Err(whys),
+        }
+    }
+
+    // Whether these bytes of the file may be served; otherwise why not, a reason a line.
+    #[tactic(auto, using(crate::proofs::WhyUnserved::says_as))]
+    fn judge(&mut self, alloc: Global, bytes: &[u8]) -> Result<(), Vec<Text>>
+        ensures served { OnOk result ((inventory : Inventory) × IsToServe self.old.demands (I.bytes_at self.old.inputs) self.old.folder.now bytes.now (Ok inventory)) }
+        ensures refused { IfErr result (λ whys. SaysFaults (I.bytes_at self.old.inputs) self.old.demands self.old.folder.now bytes.now whys.items) }
+        ensures same { (path : List ℕ) → I.bytes_at self.new.inputs path ≡ I.bytes_at self.old.inputs path }
+        ensures state { self.new.state ≡ self.old.state }
+        ensures demands { self.new.demands ≡ self.old.demands }
+        ensures folder { self.new.folder ≡ self.old.folder }
+    {
         let demands = self.demands;
-        match read_to_serve(alloc, bytes.list(), demands, self.folder, &mut self.inputs) {
-            Ok(_) => Ok(bytes),
-            Err(fault) => Err(why_not_served(alloc, demands, bytes.list(), fault)),
+        match read_to_serve(alloc, bytes, demands, self.folder, &mut self.inputs) {
+            Ok(_) => Ok(()),
+            Err(_) => { Err(why_not_served(alloc, bytes, demands, self.folder, &mut self.inputs)) }
         }
     }
 
@@ -182,6 +198,17 @@ impl<'a, D: Disk, I: Inputs, L: Lanes> Ledger<'a, D, I, L> {
         let unkept = unkept_words(alloc, copy);
         Ok(Reread { notes, unkept })
     }
+}
+
+// The one reason, where there is one, in a line of its own; none where memory is wanting for that.
+fn one_why(alloc: Global, why: Option<Text>) -> Vec<Text>
+    ensures { IsAtMost why result.items }
+{
+    let mut whys = Vec::new(alloc);
+    if let Some(why) = why {
+        let _put = whys.push(why);
+    }
+    whys
 }
 
 // Why the copy of the file could not be kept, in words; `None` where it was, or memory was wanting for them.
@@ -267,29 +294,6 @@ fn why_no_row(alloc: Global, fault: TableFault) -> Option<Text>
         TableFault::OutOfMemory => None,
         _ => table_words(alloc, fault).ok(),
     }
-}
-
-/// Why a file with these bytes is not served, in words; `None` where memory was wanting for them.
-pub fn why_not_served(
-    alloc: Global,
-    demands: Demands,
-    bytes: &[u8],
-    fault: StartFault,
-) -> Option<Text>
-    ensures { IfSome result (λ text. IsWhyNotServed demands bytes.now fault text) }
-{
-    match fault {
-        StartFault::Inventory(fault) => inventory_words(alloc, fault).ok(),
-        _ => demanded_words(alloc, demands, bytes, fault),
-    }
-}
-
-// What is demanded of a file with these bytes, in words; `None` where memory was wanting for them.
-fn demanded_words(alloc: Global, demands: Demands, bytes: &[u8], fault: StartFault) -> Option<Text>
-    ensures { IfSome result (λ text. (v : Served) × ((read_served bytes.now ≡ Ok v) × (text ≡ file_words demands v.inventory.forest fault))) }
-{
-    let served = read_served(alloc, bytes).ok()?;
-    file_words(alloc, demands, served.inventory().forest(), fault).ok()
 }
 
 // How many notes are left where no more are said than may be, in words.
@@ -383,9 +387,12 @@ impl<'a, D: Disk, I: Inputs + SecretFiles, L: Lanes> Keeping for Ledger<'a, D, I
         }
     }
 
-    fn reload(&mut self, alloc: Global, now: u64) -> Result<Reread, Option<Text>> {
+    fn reload(&mut self, alloc: Global, now: u64) -> Result<Reread, Vec<Text>> {
         let bytes = self.judged(alloc)?;
-        self.reloaded(alloc, now, bytes.list())
+        match self.reloaded(alloc, now, bytes.list()) {
+            Ok(reread) => Ok(reread),
+            Err(why) => Err(one_why(alloc, why)),
+        }
     }
 
     fn read_row(&self, alloc: Global, table: &[u8]) -> Result<Row, Option<Text>> {

@@ -3,7 +3,7 @@
 //! a restart.
 //!
 //! The contract for the layers above: [`read_to_serve`] gives what is served by the text of an inventory, or the first fault of the
-//! start (`specs/Reading`, `specs/Starts`); a [`Desk`] says what happens to the agent, line by line (`specs/Desks`), and lack of memory
+//! start, and [`faults_to_serve`] all of them (`specs/Reading`, `specs/Starts`); a [`Desk`] says what happens to the agent, line by line (`specs/Desks`), and lack of memory
 //! costs the line alone; and a [`House`] gives each neighbour its bounded part of a turn: [`House::attend`] what each is sent
 //! (`specs/Houses`), [`House::next_change`] carries out what a client asks for, once a credential that it brings was looked up
 //! (`specs/Awaiting`), and [`House::settle_given`] tells what came of a change (`specs/Commands`); [`House::look`] what is read, looked up
@@ -13,6 +13,7 @@
 #![tactic(auto)]
 
 mod add_command;
+mod all_faults;
 mod asked_file;
 mod candidates;
 mod change_commands;
@@ -56,8 +57,10 @@ mod rooms;
 mod secret_changes;
 mod secret_files;
 mod secret_news;
+mod unserved;
 mod verdict_words;
 
+pub use all_faults::faults_to_serve;
 pub use asked_file::AskedFile;
 pub use demands::Demands;
 pub use desk::Desk;
@@ -69,9 +72,10 @@ pub use given::{Awaited, Given, GivenNeed};
 pub use house::House;
 pub use keeping::{Keeping, LookedUp, Reread};
 pub use laws::{a_turn_tries_the_reader_little, no_credential_is_said};
-pub use ledger::{Ledger, why_not_served};
+pub use ledger::Ledger;
 pub use log_reader::MOST_GIVEN;
 pub use mark::Mark;
 pub use reading::read_to_serve;
 pub use reasons::{disk_words, file_words, unread_words};
 pub use rooms::Rooms;
+pub use unserved::why_not_served;

@@ -71,12 +71,17 @@ fn say_note(alloc: Global, stamp: &Stamp, note: &Text, room: &mut Rooms)
     say_text(alloc, stamp, Level::Note, "journal", note.list(), room);
 }
 
-/// Says why the file is not served, where memory sufficed for the reason.
-#[tactic(auto, using(crate::proofs::Said::one_said))]
-pub(crate) fn say_fault(alloc: Global, stamp: &Stamp, why: &Option<Text>, room: &mut Rooms)
-    ensures { AreSaid stamp.now.form stamp.now.moment (fault_lines why.now) room.old room.new }
+/// Says why the file is not served, a line for each reason.
+pub(crate) fn say_faults(alloc: Global, stamp: &Stamp, whys: &[Text], room: &mut Rooms)
+    ensures { AreSaid stamp.now.form stamp.now.moment (fault_lines whys.now) room.old room.new }
 {
-    if let Some(why) = why {
-        say_text(alloc, stamp, Level::Alert, "file", why.list(), room);
+    for why in whys {
+        say_fault(alloc, stamp, why, room);
     }
+}
+
+fn say_fault(alloc: Global, stamp: &Stamp, why: &Text, room: &mut Rooms)
+    ensures { LineIsSaid stamp.now.form stamp.now.moment (file_line why.now) room.old room.new }
+{
+    say_text(alloc, stamp, Level::Alert, "file", why.list(), room);
 }

@@ -14,14 +14,14 @@ use keep_onlook::FileReading;
 use std::alloc::Global;
 
 impl<S, T: Talk, D: Door<T>, K: Keeping, E> House<S, T, D, K, E> {
-    /// The file is read anew, and served from then on; or it stays as it was, with an alert.
+    /// The file is read anew, and served from then on; or it stays as it was, with an alert for each reason.
     pub(crate) fn reload(&mut self, alloc: Global, agent: &Agent, now: Reading)
         ensures { Reloads K.does K.path agent.now now self.old self.new }
     {
         match reread_by(alloc, &mut self.state, now) {
             None => self.tell_not_kept(alloc, agent, now),
             Some(Ok(reread)) => self.tell_reread(alloc, agent, now, &reread),
-            Some(Err(why)) => self.tell_unread(alloc, agent, now, why),
+            Some(Err(whys)) => self.tell_unread(alloc, agent, now, whys),
         }
     }
 
@@ -41,12 +41,12 @@ impl<S, T: Talk, D: Door<T>, K: Keeping, E> House<S, T, D, K, E> {
         self.will_tell(alloc, Ok(line), now.elapsed);
     }
 
-    fn tell_unread(&mut self, alloc: Global, agent: &Agent, now: Reading, why: Option<Text>)
-        ensures { TellsUnread agent.now now why self.old self.new }
+    fn tell_unread(&mut self, alloc: Global, agent: &Agent, now: Reading, whys: Vec<Text>)
+        ensures { TellsUnread agent.now now whys.items self.old self.new }
     {
-        self.desk.hear_fault(alloc, agent, &why);
+        self.desk.hear_faults(alloc, agent, &whys);
         self.file = read_badly(now, self.file);
-        self.will_tell(alloc, Err(why), now.elapsed);
+        self.will_refuse(alloc, whys, now.elapsed);
     }
 }
 
@@ -55,7 +55,7 @@ fn reread_by<K: Keeping>(
     alloc: Global,
     state: &mut Option<K>,
     now: Reading,
-) -> Option<Result<Reread, Option<Text>>>
+) -> Option<Result<Reread, Vec<Text>>>
     ensures { RereadBy K.does now result state.old state.new }
 {
     let Some(state) = state else {

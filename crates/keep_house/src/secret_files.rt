@@ -1,17 +1,19 @@
 //! Entries whose credentials stand in files are filled with what these hold.
-ghost use Rattle.std.specs.Prelude.{◌≡◌, ◌⊎◌, List, ℕ, IfErr, IfOk, true, false};
+ghost use Rattle.std.specs.Prelude.{◌≡◌, ◌⊎◌, ◌++◌, List, ℕ, IfErr, IfOk, OnOk, true, false};
 ghost use Rattle.keep_inventory.specs.Values.{is_credential};
-ghost use Rattle.keep_house.specs.Filling.{AreFilled, CannotFill, FileHolds, FillingFails, FillsRow, FirstUnfilled};
+ghost use Rattle.keep_house.specs.Filling.{AreFilled, AreUnfilled, CannotFill, FileHolds, FillingFails, FillsRow, FirstUnfilled, IsFaultOfRow};
 ghost use Rattle.keep_secrets.specs.Credentials.{placed, stripped};
+ghost use Rattle.keep_house.specs.declared.fault.StartFault.{StartFault};
 ghost use Rattle.keep_house.specs.declared.fault.StartFault.TheVariants.{NoSecret, OutOfMemory};
 
 use crate::fault::StartFault;
+use crate::first_fault::push_if;
 use keep_change::Row;
 use keep_device::InputFault;
 use keep_files::Inputs;
 use keep_moment::Text;
 use keep_secrets::{MOST_SECRET, placed};
-use std::alloc::Global;
+use std::alloc::{AllocError, Global};
 
 /// The rows with what their files hold. A path that does not begin with `/` starts at `folder`, which ends in one, or is empty.
 ///
@@ -31,6 +33,43 @@ pub(crate) fn fill_all<I: Inputs>(
         filled.push(fill(alloc, entry, &rows[entry], folder, inputs)?)?;
     }
     Ok(filled)
+}
+
+/// Appends the fault of each row whose file gives nothing. The only error is out of memory.
+pub(crate) fn push_unfilled<I: Inputs>(
+    alloc: Global,
+    rows: &[Row],
+    folder: &[u8],
+    inputs: &mut I,
+    faults: &mut Vec<StartFault>,
+) -> Result<(), AllocError>
+    ensures faults { OnOk result ((unfilled : List StartFault) × (AreUnfilled (I.bytes_at inputs.old) folder.now 0 rows.now unfilled × (faults.new.items ≡ faults.old.items ++ unfilled))) }
+    ensures same { (path : List ℕ) → I.bytes_at inputs.new path ≡ I.bytes_at inputs.old path }
+{
+    for entry in 0..rows.len() {
+        let fault = unfilled(alloc, entry, &rows[entry], folder, inputs)?;
+        push_if(fault, faults)?;
+    }
+    Ok(())
+}
+
+// The fault of a row whose file gives nothing.
+#[tactic(auto, using(crate::proofs::Unfilled::row_fault))]
+fn unfilled<I: Inputs>(
+    alloc: Global,
+    entry: usize,
+    row: &Row,
+    folder: &[u8],
+    inputs: &mut I,
+) -> Result<Option<StartFault>, AllocError>
+    ensures fault { IfOk result (IsFaultOfRow (I.bytes_at inputs.old) folder.now entry row.now) }
+    ensures same { (path : List ℕ) → I.bytes_at inputs.new path ≡ I.bytes_at inputs.old path }
+{
+    match fill(alloc, entry, row, folder, inputs) {
+        Ok(_) => Ok(None),
+        Err(StartFault::OutOfMemory) => Err(AllocError),
+        Err(fault) => Ok(Some(fault)),
+    }
 }
 
 // The row of an entry with what its file holds, in the place of the file.

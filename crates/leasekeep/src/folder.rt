@@ -90,8 +90,8 @@ pub fn begin<'a, R: Files<File = File> + AllocGlobal + Net + Clock>(
     let mut said = Vec::new(alloc);
     let file = match judged(alloc, &mut disk, paths.file(), demands, base, &mut files) {
         Ok(bytes) => Some(bytes),
-        Err(why) => {
-            push(&mut said, Level::Alert, "file", why)?;
+        Err(whys) => {
+            push_each(&mut said, whys)?;
             None
         }
     };
@@ -154,7 +154,7 @@ fn bytes_of(text: &Option<Text>) -> Option<&[u8]> {
     }
 }
 
-/// The file at a path, where it may be served; otherwise why not, in words, `None` where memory was wanting for them.
+/// The file at a path, where it may be served; otherwise why not, a reason a line, none where memory was wanting for them.
 fn judged<R: Files<File = File> + AllocGlobal>(
     alloc: Global,
     disk: &mut SystemDisk<'_, R>,
@@ -162,15 +162,24 @@ fn judged<R: Files<File = File> + AllocGlobal>(
     demands: Demands,
     base: &str,
     files: &mut SystemSecrets<'_, R>,
-) -> Result<Text, Option<Text>> {
+) -> Result<Text, Vec<Text>> {
     let bytes = match read_file(alloc, disk, path) {
         Ok(read) => read.bytes,
-        Err(fault) => return Err(unread_words(alloc, fault).ok()),
+        Err(fault) => return Err(one_why(alloc, unread_words(alloc, fault))),
     };
     match read_to_serve(alloc, bytes.list(), demands, base, files) {
         Ok(_) => Ok(bytes),
-        Err(fault) => Err(why_not_served(alloc, demands, bytes.list(), fault)),
+        Err(_) => Err(why_not_served(alloc, bytes.list(), demands, base, files)),
     }
+}
+
+/// The one reason, where memory suffices for it.
+fn one_why(alloc: Global, why: Result<Text, AllocError>) -> Vec<Text> {
+    let mut whys = Vec::new(alloc);
+    if let Ok(why) = why {
+        let _put = whys.push(why);
+    }
+    whys
 }
 
 /// The last good copy, where there is one that may be served.
@@ -245,6 +254,14 @@ fn push(
 ) -> Result<(), AllocError> {
     if let Some(text) = text {
         said.push(Said { level, event, text })?;
+    }
+    Ok(())
+}
+
+/// Appends why the file is not served, for each reason.
+fn push_each(said: &mut Vec<Said>, whys: Vec<Text>) -> Result<(), AllocError> {
+    for why in whys {
+        push(said, Level::Alert, "file", Some(why))?;
     }
     Ok(())
 }

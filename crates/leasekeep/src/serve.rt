@@ -9,7 +9,9 @@ use keep_command::SystemFiles;
 use keep_device::{Place, Sink};
 use keep_engine::{Exit, PROGRAM, Stop, tell};
 use keep_files::Inputs;
-use keep_house::{Demands, Desk, Form, House, StartFault, line_of_fault, read_to_serve};
+use keep_house::{
+    Demands, Desk, Form, House, StartFault, faults_to_serve, line_of_fault, read_to_serve,
+};
 use keep_inventory::{Inventory, MOST_INVENTORY, read_served};
 use keep_lanes::{LanesOver, MOST_WIDTH};
 use keep_log::StandardOutput;
@@ -220,7 +222,10 @@ where
             files.advise(PROGRAM, exit, served.file, errors);
             Err(exit)
         }
-        Err(fault) => Err(refuse(rt, demands, &bytes, fault, errors)),
+        Err(_) => {
+            let lines = refusal(alloc, &bytes, demands, folder, &mut secrets);
+            Err(refuse(lines, errors))
+        }
     }
 }
 
@@ -268,25 +273,47 @@ fn refuse_mode<R: Files + AllocGlobal, E: Sink>(
 }
 
 /// Tells why the start is refused.
-fn refuse<R: AllocGlobal, E: Sink>(
-    rt: &R,
-    demands: Demands,
-    bytes: &Text,
-    fault: StartFault,
-    errors: &mut E,
-) -> Exit {
-    let alloc = rt.alloc();
-    let Ok(read) = read_served(alloc, bytes.list()) else {
-        return Stop::Memory.report(PROGRAM, errors);
-    };
-    let forest = read.inventory().forest();
-    match line_of_fault(alloc, PROGRAM, demands, forest, fault) {
-        Ok(line) if fault != StartFault::OutOfMemory => {
-            tell(errors, &line);
+fn refuse<E: Sink>(lines: Result<Vec<u8>, AllocError>, errors: &mut E) -> Exit {
+    match lines {
+        Ok(lines) => {
+            tell(errors, &lines);
             Exit::Inventory
         }
-        _ => Stop::Memory.report(PROGRAM, errors),
+        Err(AllocError) => Stop::Memory.report(PROGRAM, errors),
     }
+}
+
+/// Why the start is refused, a line for each fault. The only error is lack of memory; that there is no fault means it, too.
+fn refusal<I: Inputs>(
+    alloc: Global,
+    bytes: &Text,
+    demands: Demands,
+    folder: &str,
+    files: &mut I,
+) -> Result<Vec<u8>, AllocError> {
+    let faults = faults_to_serve(alloc, bytes.list(), demands, folder, files)?;
+    if faults.is_empty() {
+        return Err(AllocError);
+    }
+    lines_of(alloc, demands, bytes, &faults)
+}
+
+/// A line for each of these faults of an inventory that can be read. The only error is lack of memory.
+fn lines_of(
+    alloc: Global,
+    demands: Demands,
+    bytes: &Text,
+    faults: &[StartFault],
+) -> Result<Vec<u8>, AllocError> {
+    let Ok(read) = read_served(alloc, bytes.list()) else {
+        return Err(AllocError);
+    };
+    let forest = read.inventory().forest();
+    let mut lines = Vec::new(alloc);
+    for fault in faults {
+        lines.extend_from_slice(&line_of_fault(alloc, PROGRAM, demands, forest, *fault)?)?;
+    }
+    Ok(lines)
 }
 
 /// What is served from the start on.

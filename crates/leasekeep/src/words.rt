@@ -245,7 +245,7 @@ fn place<'a>(matches: &ArgMatches<'a>) -> Result<Place<'a>, Unread> {
     place_to_ask(word).ok_or(Unread::Place(PlaceWord::Port))
 }
 
-/// The command, with all its values. Behind this nothing asks for a value by its name.
+/// The command, with all its values. After this nothing asks for a value by its name.
 fn command_of(alloc: Global, matches: &ArgMatches<'_>) -> Result<Command, Unread> {
     match matches.subcommand() {
         Some(("ends", matches)) => Ok(Command::Ends {

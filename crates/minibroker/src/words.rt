@@ -58,7 +58,7 @@ pub fn read_command<'a, R: AllocGlobal + Print, E: Sink>(
     }
 }
 
-/// The command, with all its values; or the mistake of the first that is none. Behind this nothing asks for a value by its name.
+/// The command, with all its values; or the mistake of the first that is none. After this nothing asks for a value by its name.
 fn command_of<'a>(matches: &ArgMatches<'a>) -> Result<Command<'a>, &'static str> {
     let file = matches.get_str("FILE").ok_or(FILE_MISTAKE)?;
     let place = matches.get_str("PORT").ok_or(PORT_MISTAKE)?;

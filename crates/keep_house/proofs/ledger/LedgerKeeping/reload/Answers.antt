@@ -2,11 +2,11 @@
 use Rattle.std.proofs.Common.{ℕ, List, Ok, subst, sym}
 use Rattle.keep_house.specs.Reading.{IsToServe}
 use Rattle.keep_house.specs.Rereading.{AreBytesOf}
-use Rattle.keep_house.proofs.WhyUnserved.{reread_as}
+use Rattle.keep_house.proofs.WhyUnserved.{none_as, reread_as}
 use Rattle.keep_house.proofs.ledger.LedgerKeeping.reload.Goals as goal
 
-pub returns : goal.returns
-returns g c =
+pub returns-in-Ok : goal.returns-in-Ok
+returns-in-Ok g c =
     let known = g.D.Disk.is_known in
     let files = g.I.Inputs.bytes_at c.args.self.now.inputs in
     let demands = c.args.self.now.demands in
@@ -14,7 +14,17 @@ returns g c =
     let old = c.args.self.now.state in
     let told = c.in_ok-bytes.ensures in
     let is = c.list.ensures in
-    let did = c.reloaded.ensures in
-    reread_as known g.D.Disk.state files demands folder c.args.now c.list.result.now told.served.0 c.reloaded.result old c.judged.new.self.state c.reloaded.new.self.state
+    let did = c.in-Ok.ensures in
+    reread_as known g.D.Disk.state files demands folder c.args.now c.list.result.now told.served.0 c.in-Ok.reread old c.judged.new.self.state c.reloaded.new.self.state
     (subst (λ (b : List ℕ). AreBytesOf known g.D.Disk.state old b) (sym is) told.stand) (subst (λ (b : List ℕ). IsToServe demands files folder b (Ok told.served.0)) (sym is) told.served.1)
-    told.keeper told.places did.reloaded did.copied did.why did.waiting did.refused
+    told.keeper told.places did.reloaded did.copied did.waiting
+
+pub returns : goal.returns
+returns g c =
+    let known = g.D.Disk.is_known in
+    let files = g.I.Inputs.bytes_at c.args.self.now.inputs in
+    let old = c.args.self.now.state in
+    let told = c.in_ok-bytes.ensures in
+    let did = c.in-Err.ensures in
+    none_as known g.D.Disk.state files c.args.self.now.demands c.args.self.now.folder.now c.args.now c.list.result.now c.in-Err.why c.one_why.result old c.judged.new.self.state c.reloaded.new.self.state
+    (subst (λ (b : List ℕ). AreBytesOf known g.D.Disk.state old b) (sym c.list.ensures) told.stand) told.keeper did.why c.one_why.ensures did.refused
