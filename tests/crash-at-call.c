@@ -6,7 +6,12 @@
      mixed   so too, but CRASH_SEED says which of the calls are undone, and of a write which piece of its bytes
      fail    the call fails (EIO), and the program goes on
    Disk calls: what makes, writes, cuts, syncs, moves or removes a file or a folder; standard streams are none. Where CRASH_LOG
-   names a file, each is written there, a word and a line feed. */
+   names a file, each is written there, a word and a line feed.
+
+   Where CRASH_WHILE names a file, disk calls go, as long as it is there, as the word in it says:
+     full       what needs room fails (ENOSPC): to make or write a file, to make a folder
+     read-only  each fails (EROFS), and so it does to open a file for writing
+     stalls     each waits */
 #define _GNU_SOURCE
 #include <errno.h>
 #include <fcntl.h>
@@ -209,8 +214,29 @@ static int is_turn(const char *word) {
     return text && next_number == atol(text);
 }
 
-/* What happens before the call whose turn it is; 1 where it is to fail. */
-static int stops(int turn) {
+/* The word in the file that CRASH_WHILE names; none where it is not there. */
+static const char *present_word(void) {
+    static char word[16];
+    const char *name = getenv("CRASH_WHILE");
+    int fd = name ? syscall(SYS_openat, AT_FDCWD, name, O_RDONLY | O_CLOEXEC, 0) : -1;
+    ssize_t count = fd < 0 ? 0 : syscall(SYS_read, fd, word, sizeof word - 1);
+    if (fd >= 0) syscall(SYS_close, fd);
+    word[count > 0 ? count : 0] = 0;
+    return word;
+}
+
+/* 1 where the disk takes no such call at present; one that stalls takes it later. */
+static int is_refused(int needs_room) {
+    while (strcmp(present_word(), "stalls") == 0) usleep(10000);
+    int is_full = needs_room && strcmp(present_word(), "full") == 0;
+    int is_read_only = strcmp(present_word(), "read-only") == 0;
+    if (is_full || is_read_only) errno = is_full ? ENOSPC : EROFS;
+    return is_full || is_read_only;
+}
+
+/* What happens before the call whose turn it is; 1 where it is to fail, or the disk takes no such call. */
+static int stops(int turn, int needs_room) {
+    if (is_refused(needs_room)) return 1;
     if (!turn) return 0;
     if (is_how("lost") || is_how("mixed")) lose();
     if (is_how("before") || is_how("half") || is_how("lost") || is_how("mixed")) die();
@@ -233,7 +259,7 @@ static ssize_t write_bytes(int fd, const void *bytes, size_t count, off_t at, in
         syscall(SYS_pwrite64, fd, bytes, count / 2, at);
         die();
     }
-    if (stops(turn)) return -1;
+    if (stops(turn, 1)) return -1;
     keep_bytes(fd, at, count);
     ssize_t n = is_at_place ? syscall(SYS_pwrite64, fd, bytes, count, at) : syscall(SYS_write, fd, bytes, count);
     ended(turn);
@@ -261,7 +287,7 @@ ssize_t pwrite64(int fd, const void *bytes, size_t count, off_t at) {
 int ftruncate(int fd, off_t size) {
     struct stat seen;
     int turn = is_turn("cut");
-    if (stops(turn)) return -1;
+    if (stops(turn, 0)) return -1;
     if (fstat(fd, &seen) == 0) keep_bytes(fd, size, seen.st_size > size ? seen.st_size - size : 0);
     int done = syscall(SYS_ftruncate, fd, size);
     ended(turn);
@@ -274,7 +300,7 @@ int ftruncate64(int fd, off_t size) {
 
 int fsync(int fd) {
     int turn = is_turn("sync");
-    if (stops(turn)) return -1;
+    if (stops(turn, 0)) return -1;
     int done = syscall(SYS_fsync, fd);
     if (done == 0) synced(fd);
     ended(turn);
@@ -287,7 +313,7 @@ int fdatasync(int fd) {
 
 int rename(const char *from, const char *path) {
     int turn = is_turn("move");
-    if (stops(turn)) return -1;
+    if (stops(turn, 0)) return -1;
     keep_moved(from, path);
     int done = syscall(SYS_renameat, AT_FDCWD, from, AT_FDCWD, path);
     ended(turn);
@@ -296,7 +322,7 @@ int rename(const char *from, const char *path) {
 
 int unlink(const char *path) {
     int turn = is_turn("remove");
-    if (stops(turn)) return -1;
+    if (stops(turn, 0)) return -1;
     int done = syscall(SYS_unlinkat, AT_FDCWD, path, 0);
     int error = errno;
     ended(turn);
@@ -306,7 +332,7 @@ int unlink(const char *path) {
 
 int fchmod(int fd, mode_t mode) {
     int turn = is_turn("mode");
-    if (stops(turn)) return -1;
+    if (stops(turn, 0)) return -1;
     int done = syscall(SYS_fchmod, fd, mode);
     ended(turn);
     return done;
@@ -314,7 +340,7 @@ int fchmod(int fd, mode_t mode) {
 
 int mkdir(const char *path, mode_t mode) {
     int turn = is_turn("folder");
-    if (stops(turn)) return -1;
+    if (stops(turn, 1)) return -1;
     int done = syscall(SYS_mkdirat, AT_FDCWD, path, mode);
     int error = errno;
     ended(turn);
@@ -322,11 +348,20 @@ int mkdir(const char *path, mode_t mode) {
     return done;
 }
 
+/* Whether a file that is there is opened to be written. */
+static int is_to_write(int folder, const char *path, int flags) {
+    struct stat seen;
+    return (flags & O_ACCMODE) != O_RDONLY && fstatat(folder, path, &seen, 0) == 0 && S_ISREG(seen.st_mode);
+}
+
 static int open_file(int folder, const char *path, int flags, mode_t mode) {
-    if (!(flags & O_CREAT)) return syscall(SYS_openat, folder, path, flags, mode);
+    if (!(flags & O_CREAT)) {
+        if (is_to_write(folder, path, flags) && is_refused(0)) return -1;
+        return syscall(SYS_openat, folder, path, flags, mode);
+    }
     int was = faccessat(folder, path, F_OK, AT_SYMLINK_NOFOLLOW);
     int turn = is_turn("make");
-    if (stops(turn)) return -1;
+    if (stops(turn, was < 0)) return -1;
     int fd = syscall(SYS_openat, folder, path, flags, mode);
     int error = errno;
     if (fd >= 0 && was < 0) keep_made(path);

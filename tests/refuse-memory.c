@@ -1,19 +1,50 @@
-/* Preloaded into a program, refuses the allocation whose number, from 1, stands in REFUSE_AT; all others are served. Where
-   REFUSE_COUNT names a file, the number of allocations is written to it when the program ends. */
+/* Preloaded into a program, refuses the allocation whose number, from 1, stands in REFUSE_AT, and each that comes within
+   REFUSE_FOR milliseconds after it, where that is given; all others are served. Where REFUSE_COUNT names a file, the number of
+   allocations so far stands in it. */
 #define _GNU_SOURCE
 #include <dlfcn.h>
+#include <fcntl.h>
 #include <stdio.h>
 #include <stdlib.h>
+#include <time.h>
+#include <unistd.h>
 
-static long next_number, refused;
+static long next_number, refused, refused_for;
+static struct timespec since;
+static int count_file;
+
+static long number_of(const char *name) {
+    const char *text = getenv(name);
+    return text ? atol(text) : 0;
+}
+
+static void begin(void) {
+    const char *name = getenv("REFUSE_COUNT");
+    count_file = name ? open(name, O_WRONLY | O_CREAT | O_CLOEXEC, 0600) : -1;
+    refused = number_of("REFUSE_AT");
+    refused_for = number_of("REFUSE_FOR");
+}
+
+static void count(void) {
+    char line[32];
+    next_number += 1;
+    if (count_file < 0) return;
+    int size = snprintf(line, sizeof line, "%ld\n", next_number);
+    if (pwrite(count_file, line, size, 0) != size) abort();
+}
+
+/* Whether so many milliseconds have not passed since the allocation that was refused first. */
+static int is_still_refused(void) {
+    struct timespec now;
+    clock_gettime(CLOCK_MONOTONIC, &now);
+    return (now.tv_sec - since.tv_sec) * 1000 + (now.tv_nsec - since.tv_nsec) / 1000000 < refused_for;
+}
 
 static int refuses(void) {
-    if (next_number == 0) {
-        const char *text = getenv("REFUSE_AT");
-        refused = text ? atol(text) : 0;
-    }
-    next_number += 1;
-    return next_number == refused;
+    if (next_number == 0) begin();
+    count();
+    if (next_number == refused) clock_gettime(CLOCK_MONOTONIC, &since);
+    return next_number == refused || (refused_for && next_number > refused && is_still_refused());
 }
 
 void *malloc(size_t size) {
@@ -26,13 +57,4 @@ void *realloc(void *old, size_t size) {
     static void *(*real)(void *, size_t);
     if (!real) real = (void *(*)(void *, size_t))dlsym(RTLD_NEXT, "realloc");
     return refuses() ? NULL : real(old, size);
-}
-
-__attribute__((destructor)) static void report(void) {
-    long count = next_number;
-    const char *name = getenv("REFUSE_COUNT");
-    FILE *file = name ? fopen(name, "w") : NULL;
-    if (!file) return;
-    fprintf(file, "%ld\n", count);
-    fclose(file);
 }

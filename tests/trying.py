@@ -3,16 +3,19 @@ replies are written by hand."""
 
 from __future__ import annotations
 
+import importlib.machinery
+import importlib.util
 import os
 import re
 import socket
 import struct
 import subprocess
+import sys
 import threading
 from collections.abc import Callable
 from dataclasses import dataclass
 from pathlib import Path
-from types import TracebackType
+from types import ModuleType, TracebackType
 
 TOP = Path(__file__).resolve().parent.parent
 SLOWER = int(os.environ.get("SLOWER", "1"))
@@ -32,6 +35,17 @@ def built(words: list[str]) -> tuple[Path, Path]:
     """leasekeep and minibroker: those named, else the ones that `rt ci` or `rt run` has built."""
     paths = [Path(word).resolve() for word in words] or [TOP / f"crates/{name}/out/{name}" for name in ("leasekeep", "minibroker")]
     return paths[0], paths[1]
+
+
+def suite(name: str) -> ModuleType:
+    """Another script of this folder as a module."""
+    loader = importlib.machinery.SourceFileLoader(name, str(TOP / "tests" / name))
+    spec = importlib.util.spec_from_loader(name, loader)
+    assert spec is not None
+    module = importlib.util.module_from_spec(spec)
+    sys.modules[name] = module
+    loader.exec_module(module)
+    return module
 
 
 def secret_web(secret: str) -> bytes:
