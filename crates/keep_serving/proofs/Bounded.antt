@@ -1,10 +1,10 @@
 -- Bounded: a turn waits for a second at most, and calls its neighbours so often at most. For `a_turn_is_bounded`.
-use Rattle.std.proofs.Common.{◌∙◌, ℕ, zero, suc, ◌+◌, ◌-◌, ◌≤◌, Bool, true, false, ◌||◌, List, [], ◌∷◌, Option, None, Some, length, replicate, ap, arith}
+use Rattle.std.proofs.Common.{◌≡◌, ◌∙◌, ℕ, zero, suc, ◌+◌, ◌-◌, ◌≤◌, Bool, true, false, ◌||◌, List, [], ◌∷◌, ◌++◌, Option, None, Some, length, replicate, ap, arith}
 use Rattle.std.proofs.lemmas.List.{length-append, length-replicate}
 use Rattle.keep_clock.specs.declared.reading.Reading.{Reading}
 use Rattle.keep_serving.specs.Changes.{Made}
 use Rattle.keep_serving.specs.Laws.{CallsLaw, WaitLaw}
-use Rattle.keep_serving.specs.Neighbours.{Answer, GoOn, Hear, calls_at, calls_of_hearing, changes_in, heard_of_time}
+use Rattle.keep_serving.specs.Neighbours.{Answer, GoOn, Hear, NeighbourCall, calls_at, calls_of_hearing, changes_in, heard_of_time, heard_of_want}
 use Rattle.keep_serving.specs.Turns.{ServingTurn, is_some_change, wait_by}
 
 -- ---- the wait
@@ -50,13 +50,28 @@ few_changes zero made = omega arith
 few_changes (suc most) [] = omega arith
 few_changes (suc most) (m ∷ made) = (let rest = few_changes most made in omega (arith, rest))
 
-few_calls : (reading : Option Reading) (answers : ℕ) (is_handed : Bool) (t : ServingTurn) → length (calls_at reading answers is_handed t) ≤ answers + 19
+few_of_want : (is_whole : Bool) → length (heard_of_want is_whole) ≤ 1
+few_of_want true = omega arith
+few_of_want false = omega arith
+
+-- but for the call that tells of a want
+few_at : (answers : ℕ) (is_handed is_whole : Bool) (rest : List NeighbourCall) → length rest ≤ 17 → length (calls_of_hearing answers is_handed ++ (heard_of_want is_whole ++ rest)) ≤ answers + 19 + length (heard_of_want is_whole)
+few_at answers is_handed is_whole rest last =
+    let all = length-append (calls_of_hearing answers is_handed) (heard_of_want is_whole ++ rest) in
+    let want = length-append (heard_of_want is_whole) rest in
+    let first = few_heard answers is_handed in
+    omega (arith, all, want, first, last)
+
+few_calls : (reading : Option Reading) (answers : ℕ) (is_handed : Bool) (t : ServingTurn) → length (calls_at reading answers is_handed t) ≤ answers + 19 + length (heard_of_want t.is_whole)
 few_calls None answers is_handed t = omega arith
 few_calls (Some r) answers is_handed t =
-    let all = length-append (calls_of_hearing answers is_handed) (GoOn t.is_busy ∷ changes_in 8 t.changes) in
-    let first = few_heard answers is_handed in
     let last = few_changes 8 t.changes in
-    omega (arith, all, first, last)
+    few_at answers is_handed t.is_whole (GoOn t.is_busy ∷ changes_in 8 t.changes) (omega (arith, last))
 
 pub calls_law : CallsLaw
-calls_law answers is_handed t = few_calls t.reading answers is_handed t
+calls_law answers is_handed t =
+    let few = few_calls t.reading answers is_handed t in
+    let want = few_of_want t.is_whole in (
+      omega (arith, few, want),
+      λ whole. (let none : length (heard_of_want t.is_whole) ≡ 0 = ap (λ w. length (heard_of_want w)) whole in omega (arith, few, none)),
+    )

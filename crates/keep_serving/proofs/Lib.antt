@@ -8,6 +8,7 @@ pub mod Read
 pub mod Turned
 pub mod Run
 pub mod Stretch
+pub mod RunsOfWatch
 pub mod Heard
 pub mod OneWay
 pub mod Called

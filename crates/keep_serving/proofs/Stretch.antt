@@ -24,7 +24,7 @@ use Rattle.keep_serving.specs.declared.change.Change.{Change}
 use Rattle.keep_serving.specs.declared.change.Change.TheVariants.{Need, Begin, Serve, Kept}
 use Rattle.keep_serving.proofs.InStep.{said_machine}
 
-nowhere : (old new : WatchState) → new ≡ old → Lead old [] new
+pub nowhere : (old new : WatchState) → new ≡ old → Lead old [] new
 nowhere old new same = (tt, sym same)
 
 by_turn : (old new : Agent) (event : Event) (result : Result Output WatchFault) → Turn old.machine event result new.machine → Lead old.machine (turned event result new ∷ []) new.machine
@@ -34,7 +34,7 @@ history_then : (old : WatchState) (first more : List Turned) → History old fir
 history_then old [] more h k = (k, refl)
 history_then old (turn ∷ first) more h k = (let rest = history_then turn.state first more h.1 k in ((h.0, rest.0), rest.1))
 
-and_then : (old mid new : WatchState) (first more : List Turned) → Lead old first mid → Lead mid more new → Lead old (first ++ more) new
+pub and_then : (old mid new : WatchState) (first more : List Turned) → Lead old first mid → Lead mid more new → Lead old (first ++ more) new
 and_then old mid new first more h k =
     let all = history_then old first more h.0 (subst (λ s. History s more) (sym h.1) k.0) in
     (all.0, all.1 ∙ ap (λ s. after_all s more) h.1 ∙ k.1)
@@ -93,17 +93,17 @@ by_goes port r =
     (by_then (OnHeld TakesAnswers) (Commands port r) turns_of_taking reads by_takes
     (by_then (OnHeld (TakesReadings r)) (SendsRequests port) (turns_of_readings r) (no_turns (SendsRequests port)) (by_reads r) (by_sends port)))))
 
-by_hears : (port : ℕ) (reading : Option Reading) (old : ServingSide) (is_whole : Bool) (new : ServingSide) (h : TurnHears port reading old is_whole new) → Lead old.held.agent.machine (turns_of_hearing port reading old is_whole new h) new.held.agent.machine
+pub by_hears : (port : ℕ) (reading : Option Reading) (old : ServingSide) (is_whole : Bool) (new : ServingSide) (h : TurnHears port reading old is_whole new) → Lead old.held.agent.machine (turns_of_hearing port reading old is_whole new h) new.held.agent.machine
 by_hears port None old is_whole new h = nowhere old.held.agent.machine new.held.agent.machine (ap (λ (s : ServingSide). s.held.agent.machine) h.1)
 by_hears port (Some r) old is_whole new h = by_goes port r old new is_whole h
 
 -- ---- by change
 
-by_event : (event : Event) (old new : Agent) (result : Result Output WatchFault) → AgentTurn old event result new → Lead old.machine (turned event result new ∷ []) new.machine
+pub by_event : (event : Event) (old new : Agent) (result : Result Output WatchFault) → AgentTurn old event result new → Lead old.machine (turned event result new ∷ []) new.machine
 by_event event old new (Ok output) turn = by_turn old new event (Ok output) turn.machine
 by_event event old new (Err fault) turn = by_turn old new event (Err fault) (subst (λ (a : Agent). Turn old.machine event (Err fault) a.machine) (sym turn.1) turn.0)
 
-by_change : (c : Change) (is_made : Bool) (old new : ServingSide) → KeepsInventory c → (h : ChangeIsMade c is_made old new) → Lead old.held.agent.machine (turns_of_change c is_made old new h) new.held.agent.machine
+pub by_change : (c : Change) (is_made : Bool) (old new : ServingSide) → KeepsInventory c → (h : ChangeIsMade c is_made old new) → Lead old.held.agent.machine (turns_of_change c is_made old new h) new.held.agent.machine
 by_change c false old new keeps h = nowhere old.held.agent.machine new.held.agent.machine (ap (λ (s : ServingSide). s.held.agent.machine) h)
 by_change (Need i until) true old new keeps h = by_event (events.Need i until) old.held.agent new.held.agent h.result h.turn
 by_change Begin true old new keeps h = by_event events.Begin old.held.agent new.held.agent h.result h.turn

@@ -58,6 +58,9 @@ WaitLaw =
     (port : ℕ) (old new : ServingSide) (t : ServingTurn) → IsServingTurn port old t new →
     (t.millis ≤ 1000) × ((r : Reading) → t.reading ≡ Some r → t.is_whole ≡ true → t.millis ≤ new.held.until - r.elapsed)
 
--- and it calls its neighbours 19 times at most, and once more for each answer of which they hear
+-- and it calls its neighbours 19 times at most, and once more where memory was wanting, and once more for each answer of which they
+-- hear
 abbrev pub CallsLaw : Type 0
-CallsLaw = (answers : ℕ) (is_handed : Bool) (t : ServingTurn) → length (calls_in answers is_handed t) ≤ answers + 19
+CallsLaw =
+    (answers : ℕ) (is_handed : Bool) (t : ServingTurn) →
+    (length (calls_in answers is_handed t) ≤ answers + 20) × (t.is_whole ≡ true → length (calls_in answers is_handed t) ≤ answers + 19)

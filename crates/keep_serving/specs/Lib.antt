@@ -12,4 +12,5 @@ pub mod Words
 pub mod code
 pub mod TurnsOfWatch
 pub mod Laws
+pub mod RunsOfWatch
 pub mod Alike

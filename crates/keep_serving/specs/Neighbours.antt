@@ -10,11 +10,12 @@ use Rattle.keep_serving.specs.declared.neighbours.Happened.TheVariants as happen
 
 -- ---- one call
 
--- what they may hear of: an answer that was handed in, the time that was, and which needs are short then
+-- what they may hear of: an answer that was handed in, the time that was, which needs are short then, and that memory was wanting
 pub data Thing : Type 0 where
   Answer : Thing
   Time : Thing
   Needs : Thing
+  Want : Thing
 
 -- where memory is wanting to say which needs are short, that is heard
 abbrev pub thing_of : Happened → Thing
@@ -22,6 +23,7 @@ thing_of (happened.Clocked notes requests next) = Time
 thing_of (happened.Shorts shorts) = Needs
 thing_of (happened.Answered entry operation said notes) = Answer
 thing_of happened.Refused = Needs
+thing_of happened.Wanting = Want
 
 -- they hear of something; they go on, and could do more at once or not; they are asked for a change, and give one or none; they are
 -- told whether it was made
@@ -46,6 +48,11 @@ heard_of_time false = []
 abbrev pub calls_of_hearing : ℕ → Bool → List NeighbourCall
 calls_of_hearing answers is_handed = replicate answers (Hear Answer) ++ heard_of_time is_handed
 
+-- and then that memory was wanting, where it was
+abbrev pub heard_of_want : Bool → List NeighbourCall
+heard_of_want true = []
+heard_of_want false = Hear Want ∷ []
+
 -- they are asked for changes until they give none, so many times at most, and told of each that they gave whether it was made
 abbrev pub changes_in : ℕ → List Made → List NeighbourCall
 changes_in zero made = []
@@ -56,7 +63,7 @@ changes_in (suc most) (m ∷ made) = Give (Some m.change) ∷ Settle m.is_made �
 -- not called
 abbrev pub calls_at : Option Reading → ℕ → Bool → ServingTurn → List NeighbourCall
 calls_at None answers is_handed t = []
-calls_at (Some r) answers is_handed t = calls_of_hearing answers is_handed ++ GoOn t.is_busy ∷ changes_in 8 t.changes
+calls_at (Some r) answers is_handed t = calls_of_hearing answers is_handed ++ (heard_of_want t.is_whole ++ GoOn t.is_busy ∷ changes_in 8 t.changes)
 
 abbrev pub calls_in : ℕ → Bool → ServingTurn → List NeighbourCall
 calls_in answers is_handed t = calls_at t.reading answers is_handed t

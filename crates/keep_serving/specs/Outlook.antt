@@ -17,3 +17,4 @@ IsToldNext s (happened.Clocked notes requests next) = IfSome next (IsOutlook s)
 IsToldNext s (happened.Shorts shorts) = Unit {0}
 IsToldNext s (happened.Answered entry operation said notes) = Unit {0}
 IsToldNext s happened.Refused = Unit {0}
+IsToldNext s happened.Wanting = Unit {0}

@@ -1,12 +1,23 @@
 //! Laws of the loop.
 ghost use Rattle.keep_serving.specs.Alike.{AlikeLaw, RebuiltAlikeLaw};
 ghost use Rattle.keep_serving.specs.Laws.{CallsLaw, OneWayLaw, StretchLaw, WaitLaw, WordsLaw};
+ghost use Rattle.keep_serving.specs.RunsOfWatch.{CarriedLaw, OneRunLaw, ResumedLaw, ServingLaw};
 
 /// The law that a stretch of turns in which one inventory is served is a run of its Watch: whatever the neighbours do, it was handed
 /// what the readings, the answers, the needs and the beginnings say, in their order, and nothing else was done to it. `turns_of` has
 /// each of these events, with what it gave.
 pub fn a_stretch_is_a_run()
     ensures { StretchLaw }
+{}
+
+/// The law that all that its Watches were handed from a start on is a run of each, from its making on. At a start the ends that were told
+/// before come first; a start may wait, and a change may end its wait; then come turns. Where another inventory is served, another run
+/// begins, with the ends that are carried over. In turns that serve one inventory the run goes on by the events of [`a_stretch_is_a_run`].
+pub fn a_serving_is_a_run()
+    ensures runs { ServingLaw }
+    ensures start { ResumedLaw }
+    ensures rebuilding { CarriedLaw }
+    ensures stretch { OneRunLaw }
 {}
 
 /// The law that no neighbour is heard but by its words: what goes out in turns for which memory sufficed, and what is held after them,
@@ -17,8 +28,8 @@ pub fn nothing_else_is_heard()
 {}
 
 /// The law that a turn is bounded: it makes one wait, of at most a second and, where the time was handed in, never past the Watch's
-/// moment; and it calls its neighbours 19 times at most, and once more for each answer of which they hear. Those are no more than there
-/// are lanes.
+/// moment; and it calls its neighbours 19 times at most, once more where memory was wanting, and once more for each answer of which they
+/// hear. Those are no more than there are lanes.
 pub fn a_turn_is_bounded()
     ensures wait { WaitLaw }
     ensures calls { CallsLaw }

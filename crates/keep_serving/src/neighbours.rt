@@ -32,8 +32,11 @@ pub enum Happened<'a> {
         said: Said,
         notes: &'a Notes,
     },
-    /// Memory was refused.
+    /// Memory was refused for a look at which needs are past what their entries reach.
     Refused,
+    /// Memory was wanting to send a request, or to take or hand in an answer, or to hand in the time. The next turn goes on with what
+    /// is left over.
+    Wanting,
 }
 
 /// Clients, onlookers, the log and the disk. None of their calls waits, but those of a disk: where a change is made, where ends are

@@ -3,11 +3,11 @@ ghost use Rattle.std.specs.Prelude.{◌≡◌, ◌+◌, ◌||◌, [], Some, is_o
 ghost use Rattle.keep_clock.specs.Seen.{AllMade};
 ghost use Rattle.keep_serving.specs.Changes.{AllGiven, changes_of};
 ghost use Rattle.keep_serving.specs.Held.{IsInStep, serving_side};
-ghost use Rattle.keep_serving.specs.Neighbours.{AnswersAreHeardOf, AreCalled};
+ghost use Rattle.keep_serving.specs.Neighbours.{AllCalled, AnswersAreHeardOf, AreCalled, heard_of_want};
 ghost use Rattle.keep_serving.specs.Stages.{Commands, HandsInAnswers, LeftOverGoesFirst, OnHeld, TakesAnswers, TakesUp, Then};
 ghost use Rattle.keep_serving.specs.Turns.{IsServingTurn, ServingTurn, calls_of_turn, wait_at, wait_by};
 
-use crate::neighbours::Neighbours;
+use crate::neighbours::{Happened, Neighbours};
 use crate::serving::Serving;
 use keep_asking::SeenLanes;
 use keep_clock::{Clock, Reading};
@@ -59,10 +59,21 @@ impl Serving {
         ensures port { L.host_port lanes.new ≡ L.host_port lanes.old }
     {
         let is_whole = self.hand_in(alloc, reading, lanes, neighbours).is_ok();
+        self.tell_want(alloc, is_whole, neighbours);
         let is_busy = neighbours.go_on(alloc, &self.agent, reading);
         let is_changed = self.make_changes(alloc, reading, lanes, neighbours);
         let due = lanes.due(reading.elapsed, self.until);
         wait_of(is_changed, is_busy, is_whole, self.until, due, reading)
+    }
+
+    /// Tells the neighbours that memory was wanting, where it was.
+    fn tell_want<N: Neighbours>(&self, alloc: Global, is_whole: bool, neighbours: &mut N)
+        ensures given { N.given neighbours.new ≡ N.given neighbours.old }
+        ensures heard { AllCalled N.does (heard_of_want is_whole) neighbours.old neighbours.new }
+    {
+        if !is_whole {
+            neighbours.hear(alloc, &self.agent, &Happened::Wanting);
+        }
     }
 
     /// Hands in what has come and the time, and sends what is commanded. The only error is out of memory: what is left over is

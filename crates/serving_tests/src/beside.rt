@@ -68,7 +68,7 @@ impl Neighbours for Beside {
                 self.look_ahead(*next);
             }
             Happened::Answered { .. } => self.answers = self.answers.saturating_add(1),
-            Happened::Shorts(_) | Happened::Refused => {}
+            Happened::Shorts(_) | Happened::Refused | Happened::Wanting => {}
         }
         self.calls = calls.saturating_add(1);
     }

@@ -1,9 +1,9 @@
 -- The time was handed in, and then changes were made.
-use Rattle.std.proofs.Common.{◌≡◌, ◌∙◌, ◌∷◌, ◌||◌, Some, ap, is_ok, refl, subst, sym}
+use Rattle.std.proofs.Common.{◌≡◌, ◌∙◌, ◌++◌, ◌∷◌, ◌||◌, Some, ap, is_ok, refl, subst, sym}
 use Rattle.keep_asking.specs.Sending.{Lanes, lanes_of}
 use Rattle.keep_serving.specs.Changes.{AllGiven, changes_of}
 use Rattle.keep_serving.specs.Held.{Held, IsInStep, serving_side}
-use Rattle.keep_serving.specs.Neighbours.{GoOn, calls_of_hearing, changes_in}
+use Rattle.keep_serving.specs.Neighbours.{AllCalled, GoOn, calls_of_hearing, changes_in, heard_of_want}
 use Rattle.keep_serving.specs.Turns.{is_some_change, wait_by}
 use Rattle.keep_serving.proofs.Called.{called_join}
 use Rattle.keep_serving.proofs.Changed.{made_keeps}
@@ -23,6 +23,8 @@ returns-clause-turn g c =
     let due = c.due-due.result in
     let held = c.make_changes-is_changed.new.self in
     let heard = c.hand_in.ensures.heard in
+    let told : AllCalled g.N.Neighbours.does (heard_of_want whole) c.hand_in.new.neighbours c.tell_want.new.neighbours =
+    subst (λ w. AllCalled g.N.Neighbours.does (heard_of_want w) c.hand_in.new.neighbours c.tell_want.new.neighbours) c.is_ok-is_whole.ensures.value c.tell_want.ensures.heard in
     let waits : c.wait_of.result ≡ wait_by (is_some_change made.0 || busy) whole held.until due (Some r) =
     c.wait_of.ensures ∙ ap (λ b. wait_by (b || busy) c.is_ok-is_whole.result c.self-2.inside.until due (Some r)) made.1.1.1.0
     ∙ ap (λ w. wait_by (is_some_change made.0 || busy) w c.self-2.inside.until due (Some r)) c.is_ok-is_whole.ensures.value
@@ -35,14 +37,15 @@ returns-clause-turn g c =
           (
             whole_turn (g.L.Lanes.host_port c.args.lanes.now) r whole busy made.0 due c.wait_of.result (serving_side c.args.self.now old) (serving_side c.hand_in.new.self mid) (serving_side held new) c.hand_in.ensures.goes made.1.0 made.1.1.0 waits,
             (
-              subst (λ a. AllGiven (changes_of made.0) a (g.N.Neighbours.given c.make_changes-is_changed.new.neighbours)) (c.go_on-is_busy.ensures.given ∙ c.hand_in.ensures.given) made.1.1.1.1.0,
+              subst (λ a. AllGiven (changes_of made.0) a (g.N.Neighbours.given c.make_changes-is_changed.new.neighbours)) (c.go_on-is_busy.ensures.given ∙ c.tell_want.ensures.given ∙ c.hand_in.ensures.given) made.1.1.1.1.0,
               record {
                 answers = heard.answers;
                 few = heard.few;
                 is_handed = heard.is_handed;
                 whole = heard.whole;
-                called = called_join g.N.Neighbours.does (calls_of_hearing heard.answers heard.is_handed) (GoOn busy ∷ changes_in 8 made.0) c.args.neighbours.now c.hand_in.new.neighbours c.make_changes-is_changed.new.neighbours heard.called
-                    (c.go_on-is_busy.new.self, (c.go_on-is_busy.ensures.does, made.1.1.1.1.1));
+                called = called_join g.N.Neighbours.does (calls_of_hearing heard.answers heard.is_handed) (heard_of_want whole ++ GoOn busy ∷ changes_in 8 made.0) c.args.neighbours.now c.hand_in.new.neighbours c.make_changes-is_changed.new.neighbours heard.called
+                    (called_join g.N.Neighbours.does (heard_of_want whole) (GoOn busy ∷ changes_in 8 made.0) c.hand_in.new.neighbours c.tell_want.new.neighbours c.make_changes-is_changed.new.neighbours told
+                    (c.go_on-is_busy.new.self, (c.go_on-is_busy.ensures.does, made.1.1.1.1.1)));
               },
             ),
           ),
