@@ -12,7 +12,7 @@ use keep_inventory::read;
 use keep_lanes::{LaneFault, MemoryLanes};
 use keep_log::MemorySink;
 use keep_proving::Verdict;
-use keep_serving::Serving;
+use keep_serving::{Happened, Neighbours, Serving};
 use std::alloc::{AllocError, Global};
 use std::process::Abort;
 use std::test::Fail;
@@ -38,6 +38,8 @@ pub(crate) enum Step {
     NoSocket,
     /// It is said that the ends cannot be read, for this reason.
     Unread(DiskFault),
+    /// The loop tells that memory was wanting.
+    Wants,
     /// So many turns.
     Turns(u64),
     /// One turn, in which nothing is asked of the disk with the ends, of which something was asked before.
@@ -118,6 +120,7 @@ impl<'a> Play<'a> {
             Step::Loses(number) => self.loses(number),
             Step::NoSocket => Ok(self.hears_no_socket()),
             Step::Unread(fault) => Ok(self.hears_unread(fault)),
+            Step::Wants => Ok(self.wants()),
             Step::Turns(count) => Ok(self.turns(count)),
             Step::IdleTurn => Ok(self.idles()),
             Step::Said(text) => Ok(self.said() == text.as_bytes()),
@@ -209,6 +212,15 @@ impl<'a> Play<'a> {
         ensures { IsInStep self.new.lanes.width self.new.lanes.out self.new.serving }
     {
         self.house.desk.hear_unread(self.alloc, START, fault);
+        true
+    }
+
+    fn wants(&mut self) -> bool
+        requires { IsInStep self.old.lanes.width self.old.lanes.out self.old.serving }
+        ensures { IsInStep self.new.lanes.width self.new.lanes.out self.new.serving }
+    {
+        self.house
+            .hear(self.alloc, self.serving.agent(), &Happened::Wanting);
         true
     }
 

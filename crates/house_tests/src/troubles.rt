@@ -1,4 +1,4 @@
-//! What goes wrong is a warning once, and then a note; an end that is past is an alert once.
+//! What goes wrong is a warning once, and then a note; an end that is past is an alert once, and a lack of memory a warning.
 use crate::loops::{Step, plays};
 use crate::scenes::bare;
 use std::test::Fail;
@@ -28,4 +28,28 @@ const GOES_ON: [Step; 4] = [
 #[test]
 fn that_it_goes_on_is_a_note(rt: HostRuntime) -> Result<(), Fail> {
     plays(&rt, &bare(&MOMENTS), &GOES_ON)
+}
+
+const REFUSED: &str = "1970-01-01T00:16:40Z warning: memory refused\n";
+
+const REFUSED_AGAIN: &str = "1970-01-01T00:16:41Z warning: memory refused\n";
+
+/// Memory is wanting in two turns one after the other, and then after one with enough.
+const WANTS: [Step; 11] = [
+    Step::Turns(1),
+    Step::Wants,
+    Step::Waits(REFUSED),
+    Step::Wants,
+    Step::Waits(REFUSED),
+    Step::Turns(1),
+    Step::Wants,
+    Step::Waits(""),
+    Step::Turns(2),
+    Step::Wants,
+    Step::Waits(REFUSED_AGAIN),
+];
+
+#[test]
+fn a_want_that_goes_on_is_said_once(rt: HostRuntime) -> Result<(), Fail> {
+    plays(&rt, &bare(&MOMENTS), &WANTS)
 }

@@ -1,6 +1,5 @@
--- Givers: which changes are given in a turn: none but those that clients ask for and that are kept; and when the log's reader is
--- tried. For the impl of Neighbours.
-use Rattle.std.proofs.Common.{◌≡◌, ◌∙◌, ◌⊎◌, ℕ, ◌+◌, ◌≤◌, Bool, true, false, inl, inr, List, [], Option, Some, None, Result, Ok, Err, ap, refl, subst, sym}
+-- Givers: which changes are given in a turn: none but those that clients ask for and that are kept. For the impl of Neighbours.
+use Rattle.std.proofs.Common.{◌≡◌, ◌∙◌, ◌⊎◌, ℕ, Bool, true, false, inl, inr, List, [], Option, Some, None, Result, Ok, Err, ap, refl, subst, sym}
 use Rattle.std.proofs.lemmas.Bool.{true≢false}
 use Rattle.std.specs.Prelude.{◌||◌, Vec, is_some, option_to_list}
 use Rattle.std.specs.declared.alloc.AllocError.{AllocError}
@@ -18,7 +17,6 @@ use Rattle.keep_clients.specs.declared.talk.Call.{Call}
 use Rattle.keep_clock.specs.declared.reading.Reading.{Reading}
 use Rattle.keep_inventory.specs.Inventories.{Inventory}
 use Rattle.keep_inventory.specs.declared.need.Need.{Need}
-use Rattle.keep_log.specs.declared.writing.TheConstants.{MOST_TRIES}
 use Rattle.keep_onlook.specs.declared.board.Surroundings.{Surroundings}
 use Rattle.keep_secrets.specs.declared.news.Looked.{Looked}
 use Rattle.keep_serving.specs.Changes.{AllGiven}
@@ -51,10 +49,10 @@ use Rattle.keep_house.specs.declared.mark.Mark.{Mark}
 
 -- ---- who is there stays there, and the log's reader is left alone
 
-record AreSame {S T D K E : Type 0} (old new : House S T D K E) : Type 0 where
-  sink : new.sink ≡ old.sink
-  control : is_some new.control ≡ is_some old.control
-  state : is_some new.state ≡ is_some old.state
+pub record AreSame {S T D K E : Type 0} (old new : House S T D K E) : Type 0 where
+  pub sink : new.sink ≡ old.sink
+  pub control : is_some new.control ≡ is_some old.control
+  pub state : is_some new.state ≡ is_some old.state
 
 answered : {T D : Type 0} (answer : List ℕ) (now : ℕ) (old new : Option (Control T D)) → ClientIsAnswered answer now old new → is_some new ≡ is_some old
 answered answer now None new h = ap is_some h
@@ -275,7 +273,7 @@ module _ {S T D K E : Type 0} (does : KeepCall → K → K → Type 0) (rows : K
   gone_on : (change : Option Change) (old new : House S T D K E) → GoesOnWithClients does rows path reads gives agent now change old new → AreSame old new
   gone_on change old new h = both_same does rows agent now old h.mid new (heard_for does rows agent now old.awaited h.heard old h.mid h.hears) (goes_on_if h.heard change h.mid new h.then)
 
-  asked_for : (due : Result (Option (Inventory × Vec Mark Global)) AllocError) (change : Option Change) (old new : House S T D K E) → AsksIf does rows path reads gives agent now due change old new → AreSame old new
+  pub asked_for : (due : Result (Option (Inventory × Vec Mark Global)) AllocError) (change : Option Change) (old new : House S T D K E) → AsksIf does rows path reads gives agent now due change old new → AreSame old new
   asked_for (Ok None) change old new h = gone_on change old new h
   asked_for (Ok (Some p)) change old new h = record { sink = ap (λ x. x.sink) h.1; control = ap (λ x. is_some x.control) h.1; state = ap (λ x. is_some x.state) h.1 }
   asked_for (Err e) change old new h = lacked change old new h
@@ -343,9 +341,6 @@ none_by_looking does agent now goes_on old new h =
     ap (λ x. given_where (is_some x.control || is_some new.state)) h.rest
     ∙ ap (λ b. given_where (is_some old.control || b)) (looked_at does now h.looked old.state new.state h.asks)
 
-pub reader_by_looking : {S T D K E : Type 0} (does : KeepCall → K → K → Type 0) (agent : Agent) (now : Reading) (goes_on : Bool) (old new : House S T D K E) → LooksAround does agent now goes_on old new → new.sink ≡ old.sink
-reader_by_looking does agent now goes_on old new h = ap (λ x. x.sink) h.rest
-
 -- ---- a client gives one, or a rebuilding is given
 
 pub one_by_asking : {S T D K E : Type 0} (does : KeepCall → K → K → Type 0) (rows : K → List Row) (path : K → List ℕ) (reads : List ℕ → Result Row Why → Type 0) (gives : ℕ → Result (Option Inventory) AllocError → K → Type 0)
@@ -369,21 +364,8 @@ settled_by does agent false (Some (givens.Aside client text at)) old new h = rec
 settled_by does agent true (Some (givens.Served marks)) old new h = record { sink = ap (λ x. x.sink) h.1; control = ap (λ x. is_some x.control) h.1; state = rebuilt does old.state new.state h.0 }
 settled_by does agent false (Some (givens.Served marks)) old new h = same old new h
 
-settled_given : {S T D K E : Type 0} (does : KeepCall → K → K → Type 0) (agent : Agent) (is_made : Bool) (old new : House S T D K E) → SettlesGiven does agent is_made old new → AreSame old new
+pub settled_given : {S T D K E : Type 0} (does : KeepCall → K → K → Type 0) (agent : Agent) (is_made : Bool) (old new : House S T D K E) → SettlesGiven does agent is_made old new → AreSame old new
 settled_given does agent is_made old new h = let all = settled_by does agent is_made old.given (record old { given = None }) new h in record { sink = all.sink; control = all.control; state = all.state }
 
 pub none_by_settling : {S T D K E : Type 0} (does : KeepCall → K → K → Type 0) (agent : Agent) (is_made : Bool) (old new : House S T D K E) → SettlesGiven does agent is_made old new → changes_given new.control new.state ≡ changes_given old.control old.state
 none_by_settling does agent is_made old new h = given_as old new (settled_given does agent is_made old new h)
-
--- ---- the log's reader is tried in a turn, and left alone by a change and its settling
-
-pub reader_by_attending : {S T D K E : Type 0} (given : S → Option (List ℕ)) (failures tries : S → ℕ) (remaining written : T → Option (List ℕ)) (calls : T → Option (List Call)) (log : D → Option (DoorLog T))
-    (agent : Agent) (now : Reading) (goes_on : Bool) (old new : House S T D K E) → Attends given failures tries remaining written calls log agent now goes_on old new → tries new.sink ≤ tries old.sink + MOST_TRIES
-reader_by_attending given failures tries remaining written calls log agent now goes_on old new h = h.few
-
-pub reader_by_asking : {S T D K E : Type 0} (does : KeepCall → K → K → Type 0) (rows : K → List Row) (path : K → List ℕ) (reads : List ℕ → Result Row Why → Type 0) (gives : ℕ → Result (Option Inventory) AllocError → K → Type 0)
-    (agent : Agent) (now : Reading) (change : Option Change) (old new : House S T D K E) → AsksFor does rows path reads gives agent now change old new → new.sink ≡ old.sink
-reader_by_asking does rows path reads gives agent now change old new h = (asked_for does rows path reads gives agent now h.0 change old new h.1.1).sink
-
-pub reader_by_settling : {S T D K E : Type 0} (does : KeepCall → K → K → Type 0) (agent : Agent) (is_made : Bool) (old new : House S T D K E) → SettlesGiven does agent is_made old new → new.sink ≡ old.sink
-reader_by_settling does agent is_made old new h = (settled_given does agent is_made old new h).sink

@@ -10,6 +10,7 @@ pub mod TakenUp
 pub mod Compacting
 pub mod Read
 pub mod Givers
+pub mod Reached
 pub mod Deciding
 pub mod EachOne
 pub mod Within

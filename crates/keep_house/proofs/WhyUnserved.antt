@@ -20,6 +20,7 @@ use Rattle.keep_house.specs.Rereading.{AreBytesOf, IsAtMost, IsOneWhy, IsWhyNotR
 use Rattle.keep_house.specs.declared.demands.Demands.{Demands}
 use Rattle.keep_house.specs.Untouched.{IsAsItWas}
 use Rattle.keep_house.specs.declared.keeping.Reread.{Reread}
+use Rattle.keep_house.specs.declared.ledger.Ledger.{Ledger}
 
 -- the one reason says so
 one_says : (P : List ℕ → Type 0) (why : Option (List ℕ)) (whys : List (List ℕ)) → IfSome why P → IsAtMost why whys → IsOneWhy P whys
@@ -73,3 +74,9 @@ none_as known seen files demands folder now bytes why whys old mid new stand kee
   },
   inr (bytes, (stand, inr (one_says (SaysNoBook bytes) why whys.items says most))),
 )
+
+-- both steps of a reload touch the state and the files of credentials alone
+module _ {D I L : Type 0} where
+  pub touched : (old mid new : Ledger D I L) → mid ≡ record old { state = mid.state; inputs = mid.inputs } → new ≡ record mid { state = new.state } → new ≡ record old { state = new.state; inputs = new.inputs }
+  touched old mid new first second =
+      second ∙ ap (λ (l : Ledger D I L). record l { state = new.state }) first ∙ ap (λ (i : I). record old { state = new.state; inputs = i }) (sym (ap (λ (l : Ledger D I L). l.inputs) second))

@@ -1,5 +1,5 @@
 -- Desks: where it is said what happens to an agent: the rooms of its log and of those who follow it, and what was said
--- last of each entry.
+-- last of each entry, and of a lack of memory.
 -- Source: this project's own; docs/running.md, "What the operator sees".
 use Rattle.std.specs.Prelude.{◌≡◌, ◌⊎◌, ◌≤◌, ℕ, Bool, true, false, not, ◌&&◌, List, [], ◌∷◌, Option, length, min, nat_eq, nat_lt, replicate, take}
 use Rattle.std.specs.Io.KnownBytes.{Appends}
@@ -22,21 +22,24 @@ use Rattle.keep_house.specs.Sockets.{socket_log_line}
 use Rattle.keep_house.specs.declared.form.Form.{Form}
 use Rattle.keep_house.specs.declared.log_reader.TheConstants.{MOST_GIVEN}
 use Rattle.keep_house.specs.declared.mark.Mark.{Mark}
+use Rattle.keep_house.specs.declared.mark.Want.{Want}
+use Rattle.keep_house.specs.declared.mark.Want.TheVariants.{Over}
 
--- how lines are written, those that wait, and a mark for each entry
+-- how lines are written, those that wait, a mark for each entry, and what was said of a lack of memory
 pub record Desk : Type 0 where
   pub form : Form
   pub room : Rooms
   pub marks : List Mark
+  pub want : Want
 
 -- nothing was said yet of so many entries
 abbrev pub begun_desk : Form → ℕ → Desk
-begun_desk form count = record { form = form; room = begun_rooms; marks = replicate count fresh_mark }
+begun_desk form count = record { form = form; room = begun_rooms; marks = replicate count fresh_mark; want = Over }
 
 -- these lines are said of the agent as it is, and these marks are left
 pub record SaysLines (a : Agent) (lines : List Line) (marks : List Mark) (old new : Desk) : Type 0 where
   pub said : AreSaid old.form (now_of a.machine) lines old.room new.room
-  pub rest : new ≡ record { form = old.form; room = new.room; marks = marks }
+  pub rest : new ≡ record old { room = new.room; marks = marks }
 
 abbrev pub HearsClock : Agent → Notes → List Request → Desk → Desk → Type 0
 HearsClock a notes requests old new = SaysLines a (clocked_lines a notes requests old.marks) (marks_clocked a old.marks) old new

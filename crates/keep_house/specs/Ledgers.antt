@@ -118,14 +118,16 @@ module _ {D I L : Type 0} (known : Bool) (seen : D → DiskState) (files : I →
       (c : Option Candidate) × (IsCandidateFor (book_in old.state).file.margin (book_in old.state).rows (book_in old.state).text name w c × LooksUp lanes_seen port now c (Ok result) old.proving new.proving)
   LooksUpOn now name w (Err e) old new = asked_in new.proving ≡ asked_in old.proving
 
+  -- nothing else changes
   abbrev pub DoesLedger : KeepCall → Ledger D I L → Ledger D I L → Type 0
   DoesLedger (LookUp now name w result) old new = LooksUpOn now name w result old new × (new ≡ record old { proving = new.proving })
   DoesLedger (Prove now result) old new = ProvesIf lanes_seen old.asked now result old.proving new.proving × (new ≡ record old { proving = new.proving })
-  DoesLedger (Take now name w result) old new = TakesOn known seen now name w result old.state new.state
-  DoesLedger (Settle result) old new = SettlesOn known seen result old.state new.state
-  DoesLedger (Reload now result) old new = ReloadsOn known seen (files old.inputs) old.demands old.folder.now now result old.state new.state
+  DoesLedger (Take now name w result) old new = TakesOn known seen now name w result old.state new.state × (new ≡ record old { state = new.state })
+  DoesLedger (Settle result) old new = SettlesOn known seen result old.state new.state × (new ≡ record old { state = new.state })
+  DoesLedger (Reload now result) old new =
+      ReloadsOn known seen (files old.inputs) old.demands old.folder.now now result old.state new.state × (new ≡ record old { state = new.state; inputs = new.inputs })
   DoesLedger (Look now looked) old new = LooksOrHears calls lanes_seen port now looked old new
-  DoesLedger Rebuilt old new = (waiting_in new.state.keeper ≡ None) × (store_in new.state ≡ store_in old.state)
+  DoesLedger Rebuilt old new = (waiting_in new.state.keeper ≡ None) × ((store_in new.state ≡ store_in old.state) × (new ≡ record old { state = new.state }))
 
 -- the row of a table, unless its entry has no credential; or why there is none
 abbrev pub ReadsTable : List ℕ → Result Row Why → Type 0

@@ -9,6 +9,7 @@ pub mod Keeping
 pub mod Telling
 pub mod VerdictWords
 pub mod Desks
+pub mod Wants
 pub mod Nexts
 pub mod Ends
 pub mod Feeding
@@ -31,5 +32,6 @@ pub mod Takings
 pub mod SecretLines
 pub mod Rereading
 pub mod Ledgers
+pub mod Doing
 pub mod Tried
 pub mod Alike

@@ -1,6 +1,6 @@
 -- Lines: what is said of an agent, and what becomes of it in the room of its log, and in the room of each of those who follow it.
 -- Source: docs/running.md, "What the operator sees".
-use Rattle.std.specs.Prelude.{◌≡◌, ◌⊎◌, ℕ, ◌+◌, ◌-◌, ◌/◌, List, [], ◌∷◌, codes, min}
+use Rattle.std.specs.Prelude.{◌≡◌, ◌⊎◌, ℕ, ◌+◌, ◌-◌, ◌/◌, Bool, true, false, List, [], ◌∷◌, codes, min}
 use Rattle.keep_lanes.specs.declared.loss.Loss.{Loss}
 use Rattle.keep_lanes.specs.declared.loss.Loss.TheVariants as losses
 use Rattle.keep_log.specs.Following.{put_if_heard}
@@ -88,6 +88,11 @@ ArePut form moment level text old new = TextIsPut form moment text old.log new.l
 -- a line is said at a moment; where memory is wanting for it, it is dropped and counted
 unfoldable pub LineIsSaid : Form → ℕ → Line → Rooms → Rooms → Type 0
 LineIsSaid form moment l old new = ((text : List ℕ) × (LineIsWritten form moment l text × ArePut form moment l.level text old new)) ⊎ (new ≡ missing_in l.level old)
+
+-- the same of a line that is not counted where memory is wanting for it, but to be said again
+abbrev pub IsSaid : Bool → Form → ℕ → Line → Rooms → Rooms → Type 0
+IsSaid true form moment l old new = (text : List ℕ) × (LineIsWritten form moment l text × ArePut form moment l.level text old new)
+IsSaid false form moment l old new = new ≡ old
 
 -- lines are said, one after another
 abbrev pub AreSaid : Form → ℕ → List Line → Rooms → Rooms → Type 0

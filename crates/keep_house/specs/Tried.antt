@@ -1,20 +1,31 @@
--- Tried: how often the log's reader is tried in a turn.
+-- Tried: how often the log's reader is tried in a turn. Each law is the contract of a public function without a body.
 -- Source: this project's own.
-use Rattle.std.specs.Prelude.{◌≡◌, ◌+◌, ◌≤◌, ℕ}
+use Rattle.std.specs.Prelude.{◌+◌, ◌≤◌, ℕ, Bool, List, Option, Result}
+use Rattle.std.specs.declared.alloc.AllocError.{AllocError}
+use Rattle.keep_change.specs.declared.row.Row.{Row}
+use Rattle.keep_clients.specs.Doors.{DoorLog}
+use Rattle.keep_clients.specs.declared.talk.Call.{Call}
+use Rattle.keep_disk.specs.State.{DiskState}
+use Rattle.keep_inventory.specs.Inventories.{Inventory}
 use Rattle.keep_log.specs.declared.writing.TheConstants.{MOST_TRIES}
-use Rattle.keep_serving.specs.Neighbours.{AreCalled, Give, GoOn, Hear, NeighbourCall, Settle}
+use Rattle.keep_serving.specs.Days.{PassesOn}
+use Rattle.keep_serving.specs.Neighbours.{AreCalled, NeighbourCall}
 use Rattle.keep_serving.specs.Turns.{ServingTurn}
+use Rattle.keep_serving.specs.declared.day.EarlyDay.{EarlyDay}
+use Rattle.keep_house.specs.Doing.{DoesToHouse}
+use Rattle.keep_house.specs.Keeping.{KeepCall, Why}
+use Rattle.keep_house.specs.declared.house.House.{House}
 
--- what a call of the loop does to the log's reader: where the house goes on it is tried 16 times at most, and else left alone
-abbrev pub DoesToReader : {S : Type 0} → (S → ℕ) → NeighbourCall → S → S → Type 0
-DoesToReader tries (Hear thing) old new = new ≡ old
-DoesToReader tries (GoOn is_busy) old new = tries new ≤ tries old + MOST_TRIES
-DoesToReader tries (Give change) old new = new ≡ old
-DoesToReader tries (Settle is_made) old new = new ≡ old
+-- in a turn of neighbours to which each call does this, the reader that they hold is tried 16 times at most
+abbrev pub IsTriedLittle : {S N : Type 0} → (NeighbourCall → N → N → Type 0) → (S → ℕ) → (N → S) → Type 0
+IsTriedLittle {S} {N} does tries reader = (width : ℕ) (t : ServingTurn) (old new : N) → AreCalled does width t old new → tries (reader new) ≤ tries (reader old) + MOST_TRIES
 
--- ---- a law: the contract of a public function without a body
+-- these may be a house; or a house, and one more, who asks that everything is looked up anew
+module _ {S T D K E : Type 0} (given : S → Option (List ℕ)) (failures tries : S → ℕ) (remaining written : T → Option (List ℕ)) (calls : T → Option (List Call)) (log : D → Option (DoorLog T))
+    (does : KeepCall → K → K → Type 0) (rows : K → List Row) (path : K → List ℕ) (reads : List ℕ → Result Row Why → Type 0) (gives : ℕ → Result (Option Inventory) AllocError → K → Type 0)
+    (known : Bool) (state : E → DiskState) where
+  abbrev pub TriesLaw : Type 0
+  TriesLaw = IsTriedLittle (λ (call : NeighbourCall) (old new : House S T D K E). DoesToHouse given failures tries remaining written calls log does rows path reads gives known state call old new) tries (λ (h : House S T D K E). h.sink)
 
--- whoever holds the reader, and does that to it in each call: in a turn it is tried 16 times at most
-abbrev pub TriesLaw : {S H : Type 0} → (S → ℕ) → (H → S) → Type 0
-TriesLaw {S} {H} tries reader =
-    (width : ℕ) (t : ServingTurn) (old new : H) → AreCalled (λ (call : NeighbourCall) (a b : H). DoesToReader tries call (reader a) (reader b)) width t old new → tries (reader new) ≤ tries (reader old) + MOST_TRIES
+  abbrev pub DayTriesLaw : Type 0
+  DayTriesLaw = IsTriedLittle (λ (call : NeighbourCall) (old new : EarlyDay (House S T D K E)). PassesOn (DoesToHouse given failures tries remaining written calls log does rows path reads gives known state) call old new) tries (λ (d : EarlyDay (House S T D K E)). d.others.sink)

@@ -14,7 +14,7 @@ use crate::log_clock::{say_clocked, say_memory, say_shorts};
 use crate::log_ended::{mark_anew, mark_ended};
 use crate::log_line::{Stamp, say_text};
 use crate::log_sockets::{say_need, say_no_socket};
-use crate::mark::{Mark, fresh_marks, mark_at, set_trouble};
+use crate::mark::{Mark, Want, fresh_marks, mark_at, set_trouble};
 use crate::moments::{now_of, second_of};
 use crate::rooms::Rooms;
 use keep_agent::{Agent, Short};
@@ -26,13 +26,14 @@ use std::alloc::{AllocError, Global};
 use std::marker::Model;
 use watch_machine::{Notes, Operation, Request};
 
-/// How lines are written, those that wait, and what was said last of each entry. Lack of memory costs the line for which it is
+/// How lines are written, those that wait, and what was said last of each entry, and of a lack of memory. Lack of memory costs the line for which it is
 /// wanting: that is dropped and counted.
 #[derive(Debug, Drop)]
 pub struct Desk {
     pub(crate) form: Form,
     pub(crate) room: Rooms,
     pub(crate) marks: Vec<Mark>,
+    pub(crate) want: Want,
 }
 
 impl Model for Desk {
@@ -40,7 +41,7 @@ impl Model for Desk {
 
     ghost Value = { Desk };
 
-    ghost view = { λ d. record { form = d.form; room = d.room; marks = d.marks.items } };
+    ghost view = { λ d. record { form = d.form; room = d.room; marks = d.marks.items; want = d.want } };
 }
 
 impl Desk {
@@ -52,6 +53,7 @@ impl Desk {
             form,
             room: Rooms::new(alloc)?,
             marks: fresh_marks(alloc, count)?,
+            want: Want::Over,
         })
     }
 

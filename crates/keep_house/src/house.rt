@@ -63,12 +63,12 @@ impl<S, T, D, K, E> House<S, T, D, K, E> {
 }
 
 impl<S: LogSink, T: Talk, D: Door<T>, K: Keeping, E: Disk> Neighbours for House<S, T, D, K, E> {
+    ghost use Rattle.keep_house.specs.Doing.{DoesToHouse};
     ghost use Rattle.keep_house.specs.Houses.{changes_given};
-    ghost use Rattle.keep_house.specs.Tried.{DoesToReader};
 
     ghost given = { λ h. changes_given h.control h.state };
 
-    ghost does = { λ call old new. DoesToReader S.tries call old.sink new.sink };
+    ghost does = { λ call old new. DoesToHouse S.written S.failures S.tries T.remaining T.written T.calls D.log K.does K.rows K.path K.reads K.gives E.is_known E.state call old new };
 
     fn hear(&mut self, alloc: Global, agent: &Agent, happened: &Happened<'_>) {
         match happened {
@@ -77,6 +77,7 @@ impl<S: LogSink, T: Talk, D: Door<T>, K: Keeping, E: Disk> Neighbours for House<
                 requests,
                 next,
             } => {
+                self.desk.hear_time(alloc, agent);
                 self.desk.hear_clock(alloc, agent, notes, requests);
                 self.hear_next(alloc, agent, *next);
             }
@@ -91,11 +92,11 @@ impl<S: LogSink, T: Talk, D: Door<T>, K: Keeping, E: Disk> Neighbours for House<
                 self.desk
                     .hear_answer(alloc, agent, *entry, *operation, *said, notes);
             }
-            Happened::Refused => self.desk.hear_refusal(alloc, agent),
+            Happened::Refused | Happened::Wanting => self.desk.hear_wanting(alloc, agent),
         }
     }
 
-    #[tactic(auto, using(crate::proofs::Givers::none_by_looking, crate::proofs::Givers::reader_by_looking, crate::proofs::Givers::none_by_attending, crate::proofs::Givers::reader_by_attending))]
+    #[tactic(auto, using(crate::proofs::Givers::none_by_looking, crate::proofs::Givers::none_by_attending))]
     fn go_on(&mut self, alloc: Global, agent: &Agent, now: Reading) -> bool {
         self.keep_ends(alloc, agent, now);
         let goes_on = self.look(alloc, agent, now);
@@ -103,16 +104,17 @@ impl<S: LogSink, T: Talk, D: Door<T>, K: Keeping, E: Disk> Neighbours for House<
         goes_on || is_busy
     }
 
-    #[tactic(auto, using(crate::proofs::Givers::one_by_asking, crate::proofs::Givers::reader_by_asking))]
+    #[tactic(auto, using(crate::proofs::Givers::one_by_asking))]
     fn change(&mut self, alloc: Global, agent: &Agent, now: Reading) -> Option<Change> {
         self.next_change(alloc, agent, now)
     }
 
-    #[tactic(auto, using(crate::proofs::Givers::none_by_settling, crate::proofs::Givers::reader_by_settling))]
+    #[tactic(auto, using(crate::proofs::Givers::none_by_settling))]
     fn settle(&mut self, alloc: Global, agent: &Agent, is_made: bool) {
         if is_made && is_served(&self.given) {
             self.hear_served();
         }
-        self.settle_given(alloc, agent, is_made)
+        self.settle_given(alloc, agent, is_made);
+        self.desk.hear_unmade(alloc, agent, is_made);
     }
 }

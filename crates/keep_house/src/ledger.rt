@@ -108,9 +108,7 @@ impl<'a, D: Disk, I: Inputs, L: Lanes> Ledger<'a, D, I, L> {
         ensures refused { IfErr result (λ why. IfSome why (SaysUnread D.is_known D.state self.old.state)) }
         ensures keeper { self.new.state.keeper ≡ self.old.state.keeper }
         ensures places { self.new.state.places ≡ self.old.state.places }
-        ensures inputs { self.new.inputs ≡ self.old.inputs }
-        ensures demands { self.new.demands ≡ self.old.demands }
-        ensures folder { self.new.folder ≡ self.old.folder }
+        ensures rest { self.new ≡ record self.old { state = self.new.state } }
     {
         match self.state.read_file() {
             Ok(read) => Ok(read.bytes),
@@ -127,8 +125,7 @@ impl<'a, D: Disk, I: Inputs, L: Lanes> Ledger<'a, D, I, L> {
         ensures keeper { self.new.state.keeper ≡ self.old.state.keeper }
         ensures places { self.new.state.places ≡ self.old.state.places }
         ensures same { (path : List ℕ) → I.bytes_at self.new.inputs path ≡ I.bytes_at self.old.inputs path }
-        ensures demands { self.new.demands ≡ self.old.demands }
-        ensures folder { self.new.folder ≡ self.old.folder }
+        ensures rest { self.new ≡ record self.old { state = self.new.state; inputs = self.new.inputs } }
     {
         let bytes = match self.read(alloc) {
             Ok(bytes) => bytes,
@@ -146,9 +143,7 @@ impl<'a, D: Disk, I: Inputs, L: Lanes> Ledger<'a, D, I, L> {
         ensures served { OnOk result ((inventory : Inventory) × IsToServe self.old.demands (I.bytes_at self.old.inputs) self.old.folder.now bytes.now (Ok inventory)) }
         ensures refused { IfErr result (λ whys. SaysFaults (I.bytes_at self.old.inputs) self.old.demands self.old.folder.now bytes.now whys.items) }
         ensures same { (path : List ℕ) → I.bytes_at self.new.inputs path ≡ I.bytes_at self.old.inputs path }
-        ensures state { self.new.state ≡ self.old.state }
-        ensures demands { self.new.demands ≡ self.old.demands }
-        ensures folder { self.new.folder ≡ self.old.folder }
+        ensures rest { self.new ≡ record self.old { inputs = self.new.inputs } }
     {
         let demands = self.demands;
         match read_to_serve(alloc, bytes, demands, self.folder, &mut self.inputs) {
@@ -186,9 +181,7 @@ impl<'a, D: Disk, I: Inputs, L: Lanes> Ledger<'a, D, I, L> {
         ensures why { IfErr result (λ why. IfSome why (SaysNoBook bytes.now)) }
         ensures waiting { OnOk result (waiting_in self.new.state.keeper ≡ changed (waiting_in self.old.state.keeper) now) }
         ensures refused { OnErr result (IsAsItWas self.old.state self.new.state) }
-        ensures inputs { self.new.inputs ≡ self.old.inputs }
-        ensures demands { self.new.demands ≡ self.old.demands }
-        ensures folder { self.new.folder ≡ self.old.folder }
+        ensures rest { self.new ≡ record self.old { state = self.new.state } }
     {
         let Reloaded { notes, copy } = match self.state.reload(now, bytes) {
             Ok(reloaded) => reloaded,

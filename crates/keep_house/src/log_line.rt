@@ -1,7 +1,7 @@
 //! A line is said: written, and put into the room of the log, and that of each of those who follow it.
 ghost use Rattle.std.specs.Prelude.{◌≡◌, ◌∷◌, [], IfOk, codes};
 ghost use Rattle.keep_log.specs.declared.line.Word.TheVariants as words;
-ghost use Rattle.keep_house.specs.Lines.{AreSaid, LineIsSaid, LineIsWritten, TellsDropped, dropped_line, said_line};
+ghost use Rattle.keep_house.specs.Lines.{AreSaid, IsSaid, LineIsSaid, LineIsWritten, TellsDropped, dropped_line, said_line};
 
 use crate::form::Form;
 use crate::log_words::{name_and, one_text, text_word};
@@ -92,6 +92,46 @@ pub(crate) fn say_of(
         Ok(words) => say(alloc, stamp, level, event, words, room),
         Err(_) => room.miss(level),
     }
+}
+
+/// Says a line of one text, unless memory is wanting for it: then it is not counted as dropped, but to be said again. Whether it was
+/// said.
+pub(crate) fn try_text(
+    alloc: Global,
+    stamp: &Stamp,
+    level: Level,
+    event: &'static str,
+    text: &[u8],
+    room: &mut Rooms,
+) -> bool
+    ensures { IsSaid result stamp.now.form stamp.now.moment (said_line level event.now (words.Text text.now ∷ [])) room.old room.new }
+{
+    match written_text(alloc, stamp, level, event, text) {
+        Ok(written) => {
+            room.put(alloc, stamp, level, &written);
+            true
+        }
+        Err(_) => false,
+    }
+}
+
+// A line of one text, as it is written.
+fn written_text(
+    alloc: Global,
+    stamp: &Stamp,
+    level: Level,
+    event: &'static str,
+    text: &[u8],
+) -> Result<Vec<u8>, AllocError>
+    ensures { IfOk result (λ written. LineIsWritten stamp.now.form stamp.now.moment (said_line level event.now (words.Text text.now ∷ [])) written.items) }
+{
+    let line = LogLine {
+        moment: stamp.moment,
+        level,
+        event,
+        words: one_text(alloc, text)?,
+    };
+    written(alloc, stamp.form, &line)
 }
 
 /// Says a line of one text, a name for example.

@@ -13,6 +13,19 @@ pub struct Mark {
     pub is_ended: bool,
 }
 
+/// What was said of a lack of memory that costs turns of the loop, so that it is said once as long as it goes on.
+#[derive(Clone, Copy, Debug)]
+pub enum Want {
+    /// There is none.
+    Over,
+    /// There is, and memory was wanting for the line, too.
+    Unsaid,
+    /// There is, and that was said.
+    Said,
+    /// It was said, and the time was handed in since.
+    Passing,
+}
+
 /// Nothing was said yet.
 pub(crate) fn fresh_mark() -> Mark
     ensures { result ≡ fresh_mark }

@@ -1,5 +1,5 @@
 -- The bytes that were read may not be served.
-use Rattle.std.proofs.Common.{◌≡◌, ◌∙◌, List, ℕ, ap, subst, sym}
+use Rattle.std.proofs.Common.{subst, sym}
 use Rattle.keep_house.specs.Rereading.{AreBytesOf, SaysFaults}
 use Rattle.keep_house.proofs.WhyUnserved.{unserved_why}
 use Rattle.keep_house.proofs.ledger.Ledger.judged.Goals as goal
@@ -7,13 +7,10 @@ use Rattle.keep_house.proofs.ledger.Ledger.judged.Goals as goal
 pub returns-in-Err-judge-clause-refused : goal.returns-in-Err-judge-clause-refused
 returns-in-Err-judge-clause-refused g c =
     let old = c.args.self.now in
-    let read = c.read.new.self in
     let told = c.in-Ok.ensures in
     let whys = c.in-Err-judge.whys.items in
     let bytes = c.list.result.now in
     let files = g.I.Inputs.bytes_at in
-    let says = subst (λ d. SaysFaults (files old.inputs) d old.folder.now bytes whys) told.demands
-    (subst (λ (f : List ℕ). SaysFaults (files old.inputs) read.demands f bytes whys) (ap (λ f. f.now) told.folder)
-    (subst (λ i. SaysFaults (files i) read.demands read.folder.now bytes whys) told.inputs c.in-Err-judge.ensures.refused)) in
+    let says = subst (λ l. SaysFaults (files l.inputs) l.demands l.folder.now bytes whys) told.rest c.in-Err-judge.ensures.refused in
     unserved_why g.D.Disk.is_known g.D.Disk.state (files old.inputs) old.demands old.folder.now old.state bytes whys
     (subst (AreBytesOf g.D.Disk.is_known g.D.Disk.state old.state) (sym c.list.ensures) told.stand) says

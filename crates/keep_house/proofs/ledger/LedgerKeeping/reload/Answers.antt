@@ -2,7 +2,7 @@
 use Rattle.std.proofs.Common.{ℕ, List, Ok, subst, sym}
 use Rattle.keep_house.specs.Reading.{IsToServe}
 use Rattle.keep_house.specs.Rereading.{AreBytesOf}
-use Rattle.keep_house.proofs.WhyUnserved.{none_as, reread_as}
+use Rattle.keep_house.proofs.WhyUnserved.{none_as, reread_as, touched}
 use Rattle.keep_house.proofs.ledger.LedgerKeeping.reload.Goals as goal
 
 pub returns-in-Ok : goal.returns-in-Ok
@@ -14,10 +14,12 @@ returns-in-Ok g c =
     let old = c.args.self.now.state in
     let told = c.in_ok-bytes.ensures in
     let is = c.list.ensures in
-    let did = c.in-Ok.ensures in
-    reread_as known g.D.Disk.state files demands folder c.args.now c.list.result.now told.served.0 c.in-Ok.reread old c.judged.new.self.state c.reloaded.new.self.state
-    (subst (λ (b : List ℕ). AreBytesOf known g.D.Disk.state old b) (sym is) told.stand) (subst (λ (b : List ℕ). IsToServe demands files folder b (Ok told.served.0)) (sym is) told.served.1)
-    told.keeper told.places did.reloaded did.copied did.waiting
+    let did = c.in-Ok.ensures in (
+      reread_as known g.D.Disk.state files demands folder c.args.now c.list.result.now told.served.0 c.in-Ok.reread old c.judged.new.self.state c.reloaded.new.self.state
+          (subst (λ (b : List ℕ). AreBytesOf known g.D.Disk.state old b) (sym is) told.stand) (subst (λ (b : List ℕ). IsToServe demands files folder b (Ok told.served.0)) (sym is) told.served.1)
+          told.keeper told.places did.reloaded did.copied did.waiting,
+      touched c.args.self.now c.judged.new.self c.reloaded.new.self told.rest did.rest,
+    )
 
 pub returns : goal.returns
 returns g c =
@@ -25,6 +27,8 @@ returns g c =
     let files = g.I.Inputs.bytes_at c.args.self.now.inputs in
     let old = c.args.self.now.state in
     let told = c.in_ok-bytes.ensures in
-    let did = c.in-Err.ensures in
-    none_as known g.D.Disk.state files c.args.self.now.demands c.args.self.now.folder.now c.args.now c.list.result.now c.in-Err.why c.one_why.result old c.judged.new.self.state c.reloaded.new.self.state
-    (subst (λ (b : List ℕ). AreBytesOf known g.D.Disk.state old b) (sym c.list.ensures) told.stand) told.keeper did.why c.one_why.ensures did.refused
+    let did = c.in-Err.ensures in (
+      none_as known g.D.Disk.state files c.args.self.now.demands c.args.self.now.folder.now c.args.now c.list.result.now c.in-Err.why c.one_why.result old c.judged.new.self.state c.reloaded.new.self.state
+          (subst (λ (b : List ℕ). AreBytesOf known g.D.Disk.state old b) (sym c.list.ensures) told.stand) told.keeper did.why c.one_why.ensures did.refused,
+      touched c.args.self.now c.judged.new.self c.reloaded.new.self told.rest did.rest,
+    )

@@ -1,0 +1,84 @@
+-- Doing: what each call of the loop does to a house.
+-- Source: this project's own; what each neighbour is given of it is specs/Houses, specs/Commands, specs/SecretLines and specs/Ends.
+use Rattle.std.specs.Prelude.{◌≡◌, ℕ, Bool, true, false, ◌&&◌, ◌||◌, List, Option, Result, option_map}
+use Rattle.std.specs.declared.alloc.AllocError.{AllocError}
+use Rattle.keep_agent.specs.Agent.{Agent}
+use Rattle.keep_change.specs.declared.row.Row.{Row}
+use Rattle.keep_clients.specs.Doors.{DoorLog}
+use Rattle.keep_clients.specs.declared.talk.Call.{Call}
+use Rattle.keep_clock.specs.declared.reading.Reading.{Reading}
+use Rattle.keep_disk.specs.State.{DiskState}
+use Rattle.keep_inventory.specs.Inventories.{Inventory}
+use Rattle.keep_serving.specs.Neighbours.{Give, GoOn, Hear, NeighbourCall, Settle, thing_of}
+use Rattle.keep_serving.specs.declared.neighbours.Happened.{Happened}
+use Rattle.keep_serving.specs.declared.neighbours.Happened.TheVariants as happened
+use Rattle.watch_machine.specs.declared.command.Request.{Request}
+use Rattle.watch_machine.specs.declared.notes.Notes.{Notes}
+use Rattle.watch_machine.specs.declared.outlook.Next.{Next}
+use Rattle.keep_house.specs.Commands.{AsksFor, SettlesGiven, is_served}
+use Rattle.keep_house.specs.Desks.{Desk, HearsAnswer, HearsClock, HearsShorts}
+use Rattle.keep_house.specs.Ends.{HearsServed, KeepsEnds, after_answer}
+use Rattle.keep_house.specs.Houses.{Attends}
+use Rattle.keep_house.specs.Keeping.{KeepCall, Why}
+use Rattle.keep_house.specs.Nexts.{HearsNext}
+use Rattle.keep_house.specs.SecretLines.{LooksAround}
+use Rattle.keep_house.specs.Wants.{HearsTime, HearsUnmade, HearsWanting}
+use Rattle.keep_house.specs.declared.house.House.{House}
+
+-- ---- what is heard of
+
+-- the time is handed in, by which a lack of memory passes; then what is noted of it is said, and then the next time of an entry, where
+-- it is told
+pub record HearsOfTime {S T D K E : Type 0} (agent : Agent) (notes : Notes) (requests : List Request) (next : Option (Option Next)) (old new : House S T D K E) : Type 0 where
+  pub timed : Desk
+  pub desk : Desk
+  pub time : HearsTime agent old.desk timed
+  pub clock : HearsClock agent notes requests timed desk
+  pub then : HearsNext agent next (record old { desk = desk }) new
+
+-- an answer is said, and the ends are to be kept anew where it tells of one. Nothing else changes
+abbrev pub HearsOf : {S T D K E : Type 0} → Agent → Happened → House S T D K E → House S T D K E → Type 0
+HearsOf agent (happened.Clocked notes requests next) old new = HearsOfTime agent notes.now requests.now next old new
+HearsOf agent (happened.Shorts shorts) old new = HearsShorts agent shorts.now old.desk new.desk × (new ≡ record old { desk = new.desk })
+HearsOf agent (happened.Answered entry operation said notes) old new =
+    HearsAnswer agent entry operation said notes.now old.desk new.desk × (new ≡ record old { desk = new.desk; ends = option_map (after_answer said.reply) old.ends })
+HearsOf agent happened.Refused old new = HearsWanting agent old.desk new.desk × (new ≡ record old { desk = new.desk })
+HearsOf agent happened.Wanting old new = HearsWanting agent old.desk new.desk × (new ≡ record old { desk = new.desk })
+
+-- ---- a change is settled
+
+-- where an inventory is served from now on
+abbrev pub HearsServedIf : {S T D K E : Type 0} → Bool → House S T D K E → House S T D K E → Type 0
+HearsServedIf true old new = HearsServed old new
+HearsServedIf false old new = new ≡ old
+
+pub record SettlesChange {S T D K E : Type 0} (does : KeepCall → K → K → Type 0) (agent : Agent) (is_made : Bool) (old new : House S T D K E) : Type 0 where
+  pub heard : House S T D K E
+  pub settled : House S T D K E
+  pub served : HearsServedIf (is_made && is_served old.given) old heard
+  pub settles : SettlesGiven does agent is_made heard settled
+  pub unmade : HearsUnmade is_made agent settled.desk new.desk
+  pub rest : new ≡ record settled { desk = new.desk }
+
+-- ---- each call
+
+module _ {S T D K E : Type 0} (given : S → Option (List ℕ)) (failures tries : S → ℕ) (remaining written : T → Option (List ℕ)) (calls : T → Option (List Call)) (log : D → Option (DoorLog T))
+    (does : KeepCall → K → K → Type 0) (rows : K → List Row) (path : K → List ℕ) (reads : List ℕ → Result Row Why → Type 0) (gives : ℕ → Result (Option Inventory) AllocError → K → Type 0)
+    (known : Bool) (state : E → DiskState) where
+  -- the ends are kept, then files of credentials are looked at, and then the log's reader, the onlookers and the clients are attended to
+  pub record GoesOn (agent : Agent) (now : Reading) (is_busy : Bool) (old new : House S T D K E) : Type 0 where
+    pub kept : House S T D K E
+    pub looked : House S T D K E
+    pub goes_on : Bool
+    pub is_more : Bool
+    pub ends : KeepsEnds known state agent now.elapsed old kept
+    pub look : LooksAround does agent now goes_on kept looked
+    pub attend : Attends given failures tries remaining written calls log agent now is_more looked new
+    pub busy : is_busy ≡ (goes_on || is_more)
+
+  -- for some agent, at some reading; what is heard of is such a thing
+  abbrev pub DoesToHouse : NeighbourCall → House S T D K E → House S T D K E → Type 0
+  DoesToHouse (Hear thing) old new = (agent : Agent) × ((h : Happened) × ((thing ≡ thing_of h) × HearsOf agent h old new))
+  DoesToHouse (GoOn is_busy) old new = (agent : Agent) × ((now : Reading) × GoesOn agent now is_busy old new)
+  DoesToHouse (Give change) old new = (agent : Agent) × ((now : Reading) × AsksFor does rows path reads gives agent now change old new)
+  DoesToHouse (Settle is_made) old new = (agent : Agent) × SettlesChange does agent is_made old new
