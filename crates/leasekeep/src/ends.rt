@@ -64,6 +64,7 @@ pub fn ends_file<'a, R: Files<File = File> + AllocGlobal>(
             let path = room.path(alloc)?;
             Ok(Some(EndsFile::new(path, boot, disk)))
         }
+        Err(DiskFault::OutOfMemory) => Err(AllocError),
         Err(fault) => {
             desk.hear_unread(alloc, now, fault);
             Ok(None)
@@ -93,6 +94,7 @@ pub fn taken_over<R: Files<File = File> + AllocGlobal>(
 ) -> Result<Vec<Event>, AllocError> {
     match load_ends(alloc, &mut file.disk, file.path.as_str(), file.boot.list()) {
         Ok(ends) => known_events(alloc, inventory, &ends),
+        Err(DiskFault::OutOfMemory) => Err(AllocError),
         Err(fault) => {
             desk.hear_unread(alloc, now, fault);
             Ok(Vec::new(alloc))

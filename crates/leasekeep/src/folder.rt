@@ -1,16 +1,20 @@
 //! The state folder of `serve`: what is served by it, and what is said of it.
+ghost use Rattle.leasekeep.specs.Ends.{RefusesStart};
+
 use crate::ends::folder_of;
+use crate::found::{Found, find};
+use crate::reading::Inventories;
 use crate::secrets::SystemSecrets;
-use keep_device::Sink;
-use keep_disk::{Disk as _, DiskFault, SystemDisk};
+use keep_change::Note;
+use keep_device::{Sink, Watched};
+use keep_disk::{Disk, DiskFault, SystemDisk};
 use keep_engine::{Exit, PROGRAM, Stop, tell};
-use keep_house::{Demands, Ledger, disk_words, read_to_serve, unread_words, why_not_served};
-use keep_inventory::{Inventory, MOST_INVENTORY};
+use keep_house::{Demands, Ledger, disk_words};
 use keep_lanes::SocketLanes;
 use keep_log::Level;
 use keep_moment::Text;
 use keep_secrets::Looking;
-use keep_state::{OpenFault, Opened, Paths, PathsFault, State, read_file};
+use keep_state::{OpenFault, Opened, Paths, PathsFault, State};
 use std::alloc::{AllocError, Global};
 use std::fs::File;
 use std::net::Net;
@@ -36,9 +40,7 @@ pub struct Said {
 #[derive(Drop)]
 pub struct Begun<'a, R: Files<File = File> + AllocGlobal + Net + Clock> {
     pub ledger: SystemLedger<'a, R>,
-    pub inventory: Inventory,
-    /// The same once more, where the start may wait for its part of a spread.
-    pub again: Option<Inventory>,
+    pub inventories: Inventories,
     /// Whether the file itself is served, and not its copy.
     pub is_good: bool,
     pub said: Vec<Said>,
@@ -83,68 +85,45 @@ pub fn begin<'a, R: Files<File = File> + AllocGlobal + Net + Clock>(
     let alloc = rt.alloc();
     let mut disk = SystemDisk::new(rt);
     let mut files = SystemSecrets::new(rt);
-    if let Err(fault) = disk.make_folder(folder) {
-        return Err(unused_by(alloc, folder, fault)?);
+    make_folder(alloc, &mut disk, folder)?;
+    let found = find(alloc, &mut disk, paths, demands, &mut files)?;
+    let opened = open(alloc, disk, paths, folder, &found)?;
+    Ok(begin_with(alloc, paths, demands, files, opened, found.said)?)
+}
+
+/// Makes the folder, where there is none.
+fn make_folder<R: Files<File = File> + AllocGlobal>(
+    alloc: Global,
+    disk: &mut SystemDisk<'_, R>,
+    folder: &str,
+) -> Result<(), NotBegun> {
+    match disk.make_folder(folder) {
+        Ok(_) => Ok(()),
+        Err(fault) => Err(unused_by(alloc, folder, fault)?),
     }
-    let base = folder_of(paths.file());
-    let mut said = Vec::new(alloc);
-    let file = match judged(alloc, &mut disk, paths.file(), demands, base, &mut files) {
-        Ok(bytes) => Some(bytes),
-        Err(whys) => {
-            push_each(&mut said, whys)?;
-            None
-        }
-    };
-    let copy = copied(alloc, &mut disk, paths.copy(), demands, base, &mut files);
-    let opened = match State::open(alloc, disk, paths, bytes_of(&file), bytes_of(&copy)) {
-        Ok(opened) => opened,
-        Err(OpenFault::Held) => return Err(NotBegun::Held),
-        Err(OpenFault::File(_)) => return Err(NotBegun::Refused),
-        Err(OpenFault::Disk(fault)) => return Err(unused_by(alloc, folder, fault)?),
-        Err(OpenFault::OutOfMemory) => return Err(NotBegun::Memory),
-    };
-    let Opened {
-        lock: _,
-        state,
-        notes,
-        fault,
-        damaged,
-        aside,
-        copy: unkept,
-    } = opened;
-    let is_good = fault.is_none();
-    say_folder(alloc, is_good, unkept, &mut said)?;
-    say_damaged(alloc, paths, damaged, aside, &mut said)?;
-    let mut ledger = Ledger {
-        state,
-        demands,
-        folder: base,
-        inputs: files,
-        looking: Looking::new(alloc),
-        proving: None,
-        asked: None,
-    };
-    for note in ledger.note_lines(alloc, &notes)? {
-        push(&mut said, Level::Note, "journal", Some(note))?;
+}
+
+/// The state of the folder with what was found, from its start on.
+fn open<'a, R: Files<File = File> + AllocGlobal>(
+    alloc: Global,
+    disk: SystemDisk<'a, R>,
+    paths: &'a Paths,
+    folder: &str,
+    found: &Found,
+) -> Result<Opened<'a, SystemDisk<'a, R>>, NotBegun> {
+    match State::open(
+        alloc,
+        disk,
+        paths,
+        bytes_of(&found.file),
+        bytes_of(&found.copy),
+    ) {
+        Ok(opened) => Ok(opened),
+        Err(OpenFault::Held) => Err(NotBegun::Held),
+        Err(OpenFault::File(_)) => Err(NotBegun::Refused),
+        Err(OpenFault::Disk(fault)) => Err(unused_by(alloc, folder, fault)?),
+        Err(OpenFault::OutOfMemory) => Err(NotBegun::Memory),
     }
-    for text in ledger.fill(alloc, 0)? {
-        push(&mut said, Level::Alert, "secret-file", Some(text))?;
-    }
-    // What files hold at the start waits for no rebuilding.
-    ledger.state.rebuilt();
-    let inventory = ledger.inventory(alloc)?;
-    let again = if demands.earlier == 0 {
-        None
-    } else {
-        ledger.inventory(alloc).ok()
-    };
-    Ok(Begun {
-        ledger,
-        inventory,
-        again,
-        is_good,
-        said,
-    })
 }
 
 fn bytes_of(text: &Option<Text>) -> Option<&[u8]> {
@@ -154,48 +133,85 @@ fn bytes_of(text: &Option<Text>) -> Option<&[u8]> {
     }
 }
 
-/// The file at a path, where it may be served; otherwise why not, a reason a line, none where memory was wanting for them.
-fn judged<R: Files<File = File> + AllocGlobal>(
+/// What is served by a state that was opened, after what was said before. The only error is lack of memory.
+fn begin_with<'a, R: Files<File = File> + AllocGlobal + Net + Clock>(
     alloc: Global,
-    disk: &mut SystemDisk<'_, R>,
-    path: &str,
+    paths: &'a Paths,
     demands: Demands,
-    base: &str,
-    files: &mut SystemSecrets<'_, R>,
-) -> Result<Text, Vec<Text>> {
-    let bytes = match read_file(alloc, disk, path) {
-        Ok(read) => read.bytes,
-        Err(fault) => return Err(one_why(alloc, unread_words(alloc, fault))),
+    files: SystemSecrets<'a, R>,
+    opened: Opened<'a, SystemDisk<'a, R>>,
+    said: Vec<Said>,
+) -> Result<Begun<'a, R>, AllocError> {
+    let mut said = said;
+    say_opened(alloc, paths, &opened, &mut said)?;
+    let Opened {
+        lock: _,
+        state,
+        notes,
+        fault,
+        ..
+    } = opened;
+    let mut ledger = Ledger {
+        state,
+        demands,
+        folder: folder_of(paths.file()),
+        inputs: files,
+        looking: Looking::new(alloc),
+        proving: None,
+        asked: None,
     };
-    match read_to_serve(alloc, bytes.list(), demands, base, files) {
-        Ok(_) => Ok(bytes),
-        Err(_) => Err(why_not_served(alloc, bytes.list(), demands, base, files)),
-    }
+    let inventories = filled(alloc, &mut ledger, &notes, &mut said)?;
+    Ok(Begun {
+        ledger,
+        inventories,
+        is_good: fault.is_none(),
+        said,
+    })
 }
 
-/// The one reason, where memory suffices for it.
-fn one_why(alloc: Global, why: Result<Text, AllocError>) -> Vec<Text> {
-    let mut whys = Vec::new(alloc);
-    if let Ok(why) = why {
-        let _put = whys.push(why);
-    }
-    whys
-}
-
-/// The last good copy, where there is one that may be served.
-fn copied<R: Files<File = File> + AllocGlobal>(
+/// What is served by a ledger, once it has what the files of credentials hold; what is to be said of that and of its changes is said. The
+/// only error is lack of memory.
+fn filled<R: Files<File = File> + AllocGlobal + Net + Clock>(
     alloc: Global,
-    disk: &mut SystemDisk<'_, R>,
-    path: &str,
-    demands: Demands,
-    base: &str,
-    files: &mut SystemSecrets<'_, R>,
-) -> Option<Text> {
-    let bytes = disk.read(alloc, path, MOST_INVENTORY).ok()??;
-    match read_to_serve(alloc, bytes.list(), demands, base, files) {
-        Ok(_) => Some(bytes),
-        Err(_) => None,
-    }
+    ledger: &mut SystemLedger<'_, R>,
+    notes: &[Note],
+    said: &mut Vec<Said>,
+) -> Result<Inventories, AllocError> {
+    push_each(
+        said,
+        Level::Note,
+        "journal",
+        ledger.note_lines(alloc, notes)?,
+    )?;
+    push_each(said, Level::Alert, "secret-file", ledger.fill(alloc, 0)?)?;
+    // What files hold at the start waits for no rebuilding.
+    ledger.state.rebuilt();
+    inventories_of(alloc, ledger)
+}
+
+/// What is served by a ledger. The only error is lack of memory.
+fn inventories_of<R: Files<File = File> + AllocGlobal + Net + Clock>(
+    alloc: Global,
+    ledger: &SystemLedger<'_, R>,
+) -> Result<Inventories, AllocError> {
+    let served = ledger.inventory(alloc)?;
+    let again = if ledger.demands.earlier == 0 {
+        None
+    } else {
+        ledger.inventory(alloc).ok()
+    };
+    Ok(Inventories { served, again })
+}
+
+/// Says what is to be said of a state that was opened.
+fn say_opened<D: Disk>(
+    alloc: Global,
+    paths: &Paths,
+    opened: &Opened<'_, D>,
+    said: &mut Vec<Said>,
+) -> Result<(), AllocError> {
+    say_folder(alloc, opened.fault.is_none(), opened.copy, said)?;
+    say_damaged(alloc, paths, opened.damaged, opened.aside, said)
 }
 
 /// Says whether the file is served, and why its copy could not be kept.
@@ -207,12 +223,12 @@ fn say_folder(
 ) -> Result<(), AllocError> {
     if !is_good {
         let text = Text::of(alloc, b"is not served: the last good copy is")?;
-        push(said, Level::Alert, "file", Some(text))?;
+        push(said, Level::Alert, "file", text)?;
     }
     if let Some(fault) = unkept {
         let mut text = Vec::from_slice(alloc, b"of the file could not be kept: ")?;
         text.extend_from_slice(disk_words(fault))?;
-        push(said, Level::Warning, "copy", Some(Text::from_vec(text)))?;
+        push(said, Level::Warning, "copy", Text::from_vec(text))?;
     }
     Ok(())
 }
@@ -241,27 +257,29 @@ fn say_damaged(
         said,
         Level::Alert,
         "journal",
-        Some(Text::from_vec(text.into_bytes())),
+        Text::from_vec(text.into_bytes()),
     )
 }
 
-/// Appends what is said, where memory sufficed for it.
+/// Appends what is said.
 fn push(
     said: &mut Vec<Said>,
     level: Level,
     event: &'static str,
-    text: Option<Text>,
+    text: Text,
 ) -> Result<(), AllocError> {
-    if let Some(text) = text {
-        said.push(Said { level, event, text })?;
-    }
-    Ok(())
+    Ok(said.push(Said { level, event, text })?)
 }
 
-/// Appends why the file is not served, for each reason.
-fn push_each(said: &mut Vec<Said>, whys: Vec<Text>) -> Result<(), AllocError> {
-    for why in whys {
-        push(said, Level::Alert, "file", Some(why))?;
+/// Appends each of these texts.
+pub fn push_each(
+    said: &mut Vec<Said>,
+    level: Level,
+    event: &'static str,
+    texts: Vec<Text>,
+) -> Result<(), AllocError> {
+    for text in texts {
+        push(said, level, event, text)?;
     }
     Ok(())
 }
@@ -286,7 +304,9 @@ fn unused(alloc: Global, folder: &str, why: &str) -> Result<NotBegun, AllocError
 }
 
 /// Tells that another agent holds the folder.
-pub fn refuse_held<E: Sink>(alloc: Global, folder: &str, errors: &mut E) -> Exit {
+pub fn refuse_held<E: Sink>(alloc: Global, folder: &str, errors: &mut E) -> Exit
+    ensures { RefusesStart result (⟦<E as Watched>⟧.change errors.old errors.new) }
+{
     refuse(
         alloc,
         folder,
@@ -296,7 +316,9 @@ pub fn refuse_held<E: Sink>(alloc: Global, folder: &str, errors: &mut E) -> Exit
 }
 
 /// Tells that the file cannot be served with the changes of the folder.
-pub fn refuse_changes<E: Sink>(alloc: Global, folder: &str, errors: &mut E) -> Exit {
+pub fn refuse_changes<E: Sink>(alloc: Global, folder: &str, errors: &mut E) -> Exit
+    ensures { RefusesStart result (⟦<E as Watched>⟧.change errors.old errors.new) }
+{
     refuse(
         alloc,
         folder,
@@ -305,7 +327,9 @@ pub fn refuse_changes<E: Sink>(alloc: Global, folder: &str, errors: &mut E) -> E
     )
 }
 
-fn refuse<E: Sink>(alloc: Global, folder: &str, why: &str, errors: &mut E) -> Exit {
+fn refuse<E: Sink>(alloc: Global, folder: &str, why: &str, errors: &mut E) -> Exit
+    ensures { RefusesStart result (⟦<E as Watched>⟧.change errors.old errors.new) }
+{
     match format!(in alloc; "{PROGRAM}: {folder}: {why}\n") {
         Ok(line) => {
             tell(errors, line.as_bytes());

@@ -137,7 +137,7 @@ The last line of an answer is `clock`, hand in the clocks at once, or `wait ELAP
   begin WHY              everything is looked up, because of the start, asked, jump or day
   wake T NAME..          a round of renewals opens
   look NAME.., renew NAME..    these requests go out, side by side
-  entry NAME END, told NAME SECONDS, refused NAME STATUS, lost NAME    what came of each
+  entry NAME END, told NAME SECONDS, refused NAME STATUS, lost NAME WHY    what came of each
   end NAME END yes|no    the end, in milliseconds of the second clock, and whether NAME can be renewed
   gone NAME STATUS, top NAME T, orphan NAME, never NAME, away, back    what was found out
   short NAME T           NAME cannot be kept past T

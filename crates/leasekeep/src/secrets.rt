@@ -5,6 +5,7 @@ use keep_moment::Text;
 use keep_secrets::{FileStamp, SecretFiles};
 use std::alloc::Global;
 use std::fs::{self, Metadata};
+use std::io::ErrorKind;
 use std::os::unix::fs::MetadataExt;
 use std::rt::Files;
 
@@ -30,6 +31,7 @@ impl<'a, R: Files + AllocGlobal> Inputs for SystemSecrets<'a, R> {
     fn read(&mut self, _alloc: Global, path: &str, max: usize) -> Result<Text, InputFault> {
         match fs::metadata(self.rt, path) {
             Ok(found) if found.is_file() => read_file(self.rt, path, max),
+            Err(error) if error.kind() == ErrorKind::OutOfMemory => Err(InputFault::OutOfMemory),
             Ok(_) | Err(_) => Err(InputFault::ReadFailed),
         }
     }

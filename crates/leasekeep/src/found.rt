@@ -1,0 +1,125 @@
+//! What a start with a state folder finds of the file that is to be served, and of its last good copy.
+use crate::ends::folder_of;
+use crate::folder::{Said, push_each};
+use crate::secrets::SystemSecrets;
+use keep_disk::{Disk as _, DiskFault, SystemDisk};
+use keep_house::{Demands, StartFault, read_to_serve, unread_words, why_not_served};
+use keep_inventory::MOST_INVENTORY;
+use keep_log::Level;
+use keep_moment::Text;
+use keep_state::{Paths, ReadFault, read_file};
+use std::alloc::{AllocError, Global};
+use std::fs::File;
+use std::rt::Files;
+
+/// What a start finds. It has no `Debug`: the bytes may hold secrets.
+#[derive(Drop)]
+pub struct Found {
+    /// The file, where it may be served.
+    pub file: Option<Text>,
+    /// Its last good copy, where there is one that may be served.
+    pub copy: Option<Text>,
+    /// Why the file is not served.
+    pub said: Vec<Said>,
+}
+
+/// Why a file is not served.
+#[derive(Drop)]
+enum Unserved {
+    /// For these reasons, a line each.
+    Whys(Vec<Text>),
+    /// Memory was refused: it may be served, or may not.
+    Memory,
+}
+
+impl From<AllocError> for Unserved {
+    fn from(_e: AllocError) -> Unserved {
+        Unserved::Memory
+    }
+}
+
+/// What the file and its copy at these paths are found to be. The only error is lack of memory.
+pub fn find<R: Files<File = File> + AllocGlobal>(
+    alloc: Global,
+    disk: &mut SystemDisk<'_, R>,
+    paths: &Paths,
+    demands: Demands,
+    files: &mut SystemSecrets<'_, R>,
+) -> Result<Found, AllocError> {
+    let base = folder_of(paths.file());
+    let mut said = Vec::new(alloc);
+    let file = match judged(alloc, disk, paths.file(), demands, base, files) {
+        Ok(bytes) => Some(bytes),
+        Err(Unserved::Whys(whys)) => {
+            push_each(&mut said, Level::Alert, "file", whys)?;
+            None
+        }
+        Err(Unserved::Memory) => return Err(AllocError),
+    };
+    let copy = copied(alloc, disk, paths.copy(), demands, base, files)?;
+    Ok(Found { file, copy, said })
+}
+
+/// The file at a path, where it may be served; otherwise why not.
+fn judged<R: Files<File = File> + AllocGlobal>(
+    alloc: Global,
+    disk: &mut SystemDisk<'_, R>,
+    path: &str,
+    demands: Demands,
+    base: &str,
+    files: &mut SystemSecrets<'_, R>,
+) -> Result<Text, Unserved> {
+    let bytes = match read_file(alloc, disk, path) {
+        Ok(read) => read.bytes,
+        Err(ReadFault::OutOfMemory) => return Err(Unserved::Memory),
+        Err(fault) => return Err(alone(alloc, unread_words(alloc, fault)?)?),
+    };
+    match read_to_serve(alloc, bytes.list(), demands, base, files) {
+        Ok(_) => Ok(bytes),
+        Err(StartFault::OutOfMemory) => Err(Unserved::Memory),
+        Err(_) => Err(reasons(alloc, bytes.list(), demands, base, files)),
+    }
+}
+
+/// The one reason, in a line of its own.
+fn alone(alloc: Global, why: Text) -> Result<Unserved, AllocError> {
+    let mut whys = Vec::new(alloc);
+    whys.push(why)?;
+    Ok(Unserved::Whys(whys))
+}
+
+/// Why a file of these bytes is not served. That there is no reason means that memory was wanting for them.
+fn reasons<R: Files + AllocGlobal>(
+    alloc: Global,
+    bytes: &[u8],
+    demands: Demands,
+    base: &str,
+    files: &mut SystemSecrets<'_, R>,
+) -> Unserved {
+    let whys = why_not_served(alloc, bytes, demands, base, files);
+    if whys.is_empty() {
+        return Unserved::Memory;
+    }
+    Unserved::Whys(whys)
+}
+
+/// The last good copy, where there is one that may be served. The only error is lack of memory.
+fn copied<R: Files<File = File> + AllocGlobal>(
+    alloc: Global,
+    disk: &mut SystemDisk<'_, R>,
+    path: &str,
+    demands: Demands,
+    base: &str,
+    files: &mut SystemSecrets<'_, R>,
+) -> Result<Option<Text>, AllocError> {
+    let bytes = match disk.read(alloc, path, MOST_INVENTORY) {
+        Ok(Some(bytes)) => bytes,
+        Err(DiskFault::OutOfMemory) => return Err(AllocError),
+        Ok(None) | Err(_) => return Ok(None),
+    };
+    match read_to_serve(alloc, bytes.list(), demands, base, files) {
+        Ok(_) => Ok(Some(bytes)),
+        Err(StartFault::OutOfMemory) => Err(AllocError),
+        Err(_) => Ok(None),
+    }
+}
