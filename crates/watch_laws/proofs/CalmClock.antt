@@ -39,12 +39,12 @@ use Rattle.watch_machine.specs.Sending.{RequestsAreSent as IsSending, sent}
 use Rattle.watch_machine.specs.State.{WatchState, attempt_at, entry_of, second, track_at}
 use Rattle.watch_machine.specs.Wanted.{believed, is_alive, is_wanted, wanted_need}
 use Rattle.watch_machine.proofs.Cases.{value_is}
-use Rattle.watch_laws.specs.Calm.{IsCalm, IsCalmSecond, IsKeepable, IsPlanNow, NonePassed, asks_now, believed_forest, ends, in_plan_at, terms}
+use Rattle.watch_laws.specs.Calm.{IsCalm, IsCalmSecond, IsKeepable, IsPlanNow, NonePassed, asks_now, believed_forest, ends, in_plan_at, leads_to, terms}
 use Rattle.watch_laws.proofs.Believed.{believed_at, believed_count, believed_is_forest, believed_margin, carried_believed}
 use Rattle.watch_laws.proofs.Calming.{AreAlike, IsIdle, IsKept, ends_alike, forest_alike, idle_on, kept_same, lead_alike, led_parts, need_kept, need_less, plan_alike, terms_alike, unpressed}
 use Rattle.watch_laws.proofs.Foreseen.{led_by, short_led, time_is, wanted_short}
 use Rattle.watch_laws.proofs.OfPlan.{come_asked, come_at, none_opens, of_plan, opens_at, opens_now, some_opens}
-use Rattle.watch_laws.proofs.OnPlan.{Goes, IsOn, IsTimed, IsTried, attempt_sent, bears_alike, end_pressed, leads_is, mid_read, need_alike, new_count, none_passed, out_idle, out_pressed, owes_kept, past_kept, plan_keepable, plan_schedule, rise_behind, rise_later, sends, some_not_none, stays, timed_alike, tried_on, waits_new, wanted_alike}
+use Rattle.watch_laws.proofs.OnPlan.{Goes, IsOn, IsTimed, IsTried, attempt_sent, bears_alike, end_pressed, mid_read, need_alike, new_count, none_passed, out_idle, out_pressed, owes_kept, past_kept, plan_keepable, plan_schedule, rise_behind, rise_later, sends, some_not_none, stays, timed_alike, tried_on, waits_new, wanted_alike}
 use Rattle.watch_laws.proofs.Opener.{bearing, mid_bears}
 
 -- ---- a clock that opens nothing
@@ -170,7 +170,7 @@ has_try : (s : WatchState) (e : ℕ → ℕ) (last : Wake) (ts : List ℕ) (i : 
 has_try s e last ts i tried = ap is_none tried.is
 
 -- before any round can open nobody's time has come who is not asked
-none_fresh : (s r : WatchState) (g : Forest) (e : ℕ → ℕ) (last : Wake) (ts : List ℕ) → Goes s g e last ts → IsTimed r s → IsCalmSecond s (second r) → (i : ℕ) → fresh_at r i ≡ false
+none_fresh : (s r : WatchState) (g : Forest) (e : ℕ → ℕ) (last : Wake) (ts : List ℕ) → Goes s g e last ts → IsTimed r s → IsCalmSecond s last.at (second r) → (i : ℕ) → fresh_at r i ≡ false
 none_fresh s r g e last ts goes timed' between i =
     elim (cases_Bool (fresh_at r i)) as (λ _. fresh_at r i ≡ false) [
       | inr no' ↦ no'
@@ -194,7 +194,7 @@ none_fresh s r g e last ts goes timed' between i =
     ]
 
 -- nor has the next moment of the plan come
-next_ahead : (s : WatchState) (g : Forest) (e : ℕ → ℕ) (last : Wake) (ts : List ℕ) → Goes s g e last ts → (now : ℕ) → IsCalmSecond s now → (u : ℕ) → first_of ts ≡ Some u → now < u
+next_ahead : (s : WatchState) (g : Forest) (e : ℕ → ℕ) (last : Wake) (ts : List ℕ) → Goes s g e last ts → (now : ℕ) → IsCalmSecond s last.at now → (u : ℕ) → first_of ts ≡ Some u → now < u
 next_ahead s g e last ts goes now between u first = comes ts first (plan_schedule g (forest_of s g e last ts goes) (second s) e ts goes.plan).0 where
   comes : (ts' : List ℕ) → first_of ts' ≡ Some u → IsSchedule g.entries g.margin (second s) e None ts' → now < u
   comes [] first' schedule = absurd cc
@@ -216,7 +216,7 @@ next_ahead s g e last ts goes now between u first = comes ts first (plan_schedul
             let l = between.others k led.within led.wanted (unpressed s k idle.none) in
             omega arith
         | inr tried ↦
-            let to = leads_is s e last ts k tried in
+            let to : leads_to s last.at k ≡ e k = sym tried.gains in
             let l = between.own k tried.within (has_try s e last ts k tried) (omega arith) in
             omega arith
       ]
@@ -228,7 +228,7 @@ opens_fresh s i h = and_left (fresh_at s i) (in_plan_at s i && is_alive (second 
 pub going_on :
     (s r : WatchState) (g : Forest) (e : ℕ → ℕ) (last : Wake) (wakes : List Wake) (ts : List ℕ) (s0 : ℕ) (requests : List Request) (round : Option (List ℕ)) →
     Goes s g e last ts → IsStep s r (asked_by_round round) requests → wakes ≡ with_asks g.entries g.margin s0 e ts → s0 ≤ second s → IsRound r.forest r.tracks r.clocks round →
-    IsCalmSecond s (second r) → IsOn (after_clock r (asked_by_round round) requests) g s0 e last wakes round requests
+    IsCalmSecond s last.at (second r) → IsOn (after_clock r (asked_by_round round) requests) g s0 e last wakes round requests
 going_on s r g e last wakes ts s0 requests (Some asked) goes step to_come from round between =
     let some = some_opens r round.0 in
     let fresh = opens_fresh r some.0 some.1.1 in

@@ -29,7 +29,7 @@ use Rattle.watch_machine.specs.Settling.{timed}
 use Rattle.watch_machine.specs.State.{WatchState, attempt_at, second}
 use Rattle.watch_machine.specs.Step.{Step, StepClock, StepCommand, StepRenewed, readied}
 use Rattle.watch_machine.proofs.Cases.{if_both}
-use Rattle.watch_laws.specs.Calm.{AreCalm, CalmLaw, EndAs, GoBy, GrantIsByRule, IsCalmClock, IsCalmEvent, IsCalmSecond, IsCalmTurn, NonePassed, StateIsAtRest, believed_forest, ends, ends_left_by}
+use Rattle.watch_laws.specs.Calm.{AreCalm, CalmLaw, EndAs, GoBy, GrantIsByRule, IsCalmClock, IsCalmEvent, IsCalmSecond, IsCalmTurn, NonePassed, OpensNextWakeUp, StateIsAtRest, believed_forest, ends, ends_left_by, began_after}
 use Rattle.watch_laws.specs.Load.{requests_asked_by as asked_for, requests_of}
 use Rattle.watch_laws.specs.Time.{round_of}
 use Rattle.watch_laws.proofs.CalmClock.{IsStep, after_clock, forest_of, going_on, resting_on}
@@ -80,7 +80,7 @@ stays_on s new g e last wakes ts s0 goes to_come from now = record {
 -- a clock
 clock_to :
     (s new : WatchState) (wall elapsed : ℕ) (output : Output) (command : Command) (g : Forest) (e : ℕ → ℕ) (last : Wake) (wakes : List Wake) (ts : List ℕ) (s0 : ℕ) → Goes s g e last ts → wakes ≡ with_asks g.entries g.margin s0 e ts → s0 ≤ second s →
-    (step : StepClock s wall elapsed output new) → StepCommand (pressed (readied s wall elapsed) (asked_by_round step.round)) command new → IsCalmClock s wall elapsed → IsOn new g s0 e last wakes step.round (asked_for command)
+    (step : StepClock s wall elapsed output new) → StepCommand (pressed (readied s wall elapsed) (asked_by_round step.round)) command new → IsCalmClock s last.at wall elapsed → IsOn new g s0 e last wakes step.round (asked_for command)
 clock_to s new wall elapsed output Taken g e last wakes ts s0 goes to_come from step h clock = absurd h
 clock_to s new wall elapsed output (Go requests until) g e last wakes ts s0 goes to_come from step h clock =
     let r = readied s wall elapsed in
@@ -91,7 +91,7 @@ clock_to s new wall elapsed output (Go requests until) g e last wakes ts s0 goes
       | inr tried ↦ if_some (λ t. t.failed ≡ false) (attempt_at s i) tried.try tried.is tried.failed
     ] in
     let is : IsStep s r round requests = record {
-      timed = readied_timed s wall elapsed goes.begun clock whole;
+      timed = readied_timed s last.at wall elapsed goes.begun clock whole;
       begun = begun_some s wall elapsed;
       going = (h.0.0, refl);
     } in
@@ -109,13 +109,13 @@ clock_to s new wall elapsed output (Go requests until) g e last wakes ts s0 goes
           let i = one'.0 in
           elim (goes.each i) as (λ _. IsOn (after_clock r round requests) g s0 e last wakes step.round requests) [
             | inl idle ↦ absurd (let a : is_none (attempt_at s i) ≡ false = one'.1.1 in let b : is_none (attempt_at s i) ≡ true = ap is_none idle.none in cc)
-            | inr tried ↦ going_on s r g e last wakes ts s0 requests step.round goes is to_come from step.is_round (subst (IsCalmSecond s) (sym now) (clock.answered i one'.1.0 one'.1.1))
+            | inr tried ↦ going_on s r g e last wakes ts s0 requests step.round goes is to_come from step.is_round (subst (IsCalmSecond s last.at) (sym now) (clock.answered i one'.1.0 one'.1.1))
           ]
     ])
 
 clock_on :
     (s new : WatchState) (wall elapsed : ℕ) (output : Output) (g : Forest) (e : ℕ → ℕ) (last : Wake) (wakes : List Wake) (ts : List ℕ) (s0 : ℕ) → Goes s g e last ts → wakes ≡ with_asks g.entries g.margin s0 e ts → s0 ≤ second s →
-    StepClock s wall elapsed output new → IsCalmClock s wall elapsed → IsOn new g s0 e last wakes output.notes.round (asked_for output.command)
+    StepClock s wall elapsed output new → IsCalmClock s last.at wall elapsed → IsOn new g s0 e last wakes output.notes.round (asked_for output.command)
 clock_on s new wall elapsed output g e last wakes ts s0 goes to_come from step clock =
     subst (λ o. IsOn new g s0 e last wakes o (asked_for output.command)) (sym (ap (λ (x : Notes). x.round) step.notes))
     (clock_to s new wall elapsed output output.command g e last wakes ts s0 goes to_come from step step.command clock)
@@ -125,7 +125,7 @@ second_replied s q seconds date = if_both (λ (t : WatchState). second t ≡ sec
 
 renewed_on :
     (s new : WatchState) (i seconds : ℕ) (date : Option ℕ) (found : Option Out) (output : Output) (g : Forest) (e : ℕ → ℕ) (last : Wake) (wakes : List Wake) (ts : List ℕ) (s0 : ℕ) → Goes s g e last ts → wakes ≡ with_asks g.entries g.margin s0 e ts → s0 ≤ second s →
-    request_out s.out i Renew ≡ found → StepRenewed s found (Told seconds true date) output new → IfSome found (GrantIsByRule s i seconds) →
+    request_out s.out i Renew ≡ found → StepRenewed s found (Told seconds true date) output new → IfSome found (GrantIsByRule s last.at i seconds) →
     IsOn new g s0 e last wakes output.notes.round (asked_for output.command)
 renewed_on s new i seconds date None output g e last wakes ts s0 goes to_come from is step rule = absurd step
 renewed_on s new i seconds date (Some q) output g e last wakes ts s0 goes to_come from is step rule =
@@ -136,7 +136,7 @@ renewed_on s new i seconds date (Some q) output g e last wakes ts s0 goes to_com
 
 step_on :
     (s new : WatchState) (event : Event) (output : Output) (g : Forest) (e : ℕ → ℕ) (last : Wake) (wakes : List Wake) (ts : List ℕ) (s0 : ℕ) → Goes s g e last ts → wakes ≡ with_asks g.entries g.margin s0 e ts → s0 ≤ second s →
-    Step s event output new → IsCalmEvent s event → IsOn new g s0 e last wakes output.notes.round (asked_for output.command)
+    Step s event output new → IsCalmEvent s last.at event → IsOn new g s0 e last wakes output.notes.round (asked_for output.command)
 step_on s new (Clock wall elapsed) output g e last wakes ts s0 goes to_come from step calm = clock_on s new wall elapsed output g e last wakes ts s0 goes to_come from step calm
 step_on s new (Renewed i (Told seconds renewable date)) output g e last wakes ts s0 goes to_come from step calm =
     renewed_on s new i seconds date (request_out s.out i Renew) output g e last wakes ts s0 goes to_come from refl
@@ -151,7 +151,7 @@ step_on s new (Known i end renewable) output g e last wakes ts s0 goes to_come f
 
 turn_on :
     (s new : WatchState) (event : Event) (result : Result Output WatchFault) (g : Forest) (e : ℕ → ℕ) (last : Wake) (wakes : List Wake) (ts : List ℕ) (s0 : ℕ) → Goes s g e last ts → wakes ≡ with_asks g.entries g.margin s0 e ts → s0 ≤ second s →
-    Turn s event result new → IsCalmTurn s event result → IsOn new g s0 e last wakes (round_of result) (requests_of result)
+    Turn s event result new → IsCalmTurn s last.at event result → IsOn new g s0 e last wakes (round_of result) (requests_of result)
 turn_on s new event (Ok output) g e last wakes ts s0 goes to_come from turn calm = step_on s new event output g e last wakes ts s0 goes to_come from turn.1 calm
 turn_on s new event (Err fault) g e last wakes ts s0 goes to_come from turn calm =
     subst (λ x. IsOn x g s0 e last wakes None []) (sym (refused_stays s new event fault turn)) (stays_on s s g e last wakes ts s0 goes to_come from refl)
@@ -164,15 +164,20 @@ as_it_should s g e last ts goes i none =
       | inr tried ↦ absurd (some_not_none (attempt_at s i) tried.try tried.is none)
     ]
 
+-- the second of the wake-up before is that in which the last round opened
+opened_at : (new : WatchState) (round : Option (List ℕ)) (last : Wake) (wakes : List Wake) (now : Wake) (next : List Wake) → OpensNextWakeUp new round last wakes now next → began_after round last.at (second new) ≡ now.at
+opened_at new None last wakes now next h = sym (ap (λ (w : Wake). w.at) h.0)
+opened_at new (Some asked) last wakes now next h = sym (ap (λ (w : Wake). w.at) h.0)
+
 goes_by :
     (turns : List Turned) (s : WatchState) (g : Forest) (e : ℕ → ℕ) (last : Wake) (wakes : List Wake) (ts : List ℕ) (s0 : ℕ) → Goes s g e last ts → wakes ≡ with_asks g.entries g.margin s0 e ts → s0 ≤ second s →
-    History s turns → AreCalm s turns → GoBy g e last wakes turns
+    History s turns → AreCalm last.at s turns → GoBy g e last wakes turns
 goes_by [] s g e last wakes ts s0 goes to_come from h calm = tt
 goes_by (turn ∷ turns) s g e last wakes ts s0 goes to_come from h calm =
     let on = turn_on s turn.state turn.event turn.result g e last wakes ts s0 goes to_come from h.0 calm.0 in
     let d = ends_left_by g e (round_of turn.result) on.now in
     let ends' : EndAs d turn.state = subst (λ f. EndAs f turn.state) on.so (as_it_should turn.state g on.e on.now on.ts on.goes) in
-    let rest : GoBy g d on.now on.next turns = subst (λ f. GoBy g f on.now on.next turns) on.so (goes_by turns turn.state g on.e on.now on.next on.ts s0 on.goes on.to_come on.from h.1 calm.1) in
+    let rest : GoBy g d on.now on.next turns = subst (λ f. GoBy g f on.now on.next turns) on.so (goes_by turns turn.state g on.e on.now on.next on.ts s0 on.goes on.to_come on.from h.1 (subst (λ n. AreCalm n turn.state turns) (opened_at turn.state (round_of turn.result) last wakes on.now on.next on.opens) calm.1)) in
     (on.now, (on.next, (on.opens, (on.sends, (ends', rest)))))
 
 -- a watch at rest

@@ -1,5 +1,5 @@
 -- CalmGrant: a renewal that is granted by the rule keeps a watch on its plan. For the law of calm.
-use Rattle.std.proofs.Common.{◌≡◌, ◌≢◌, ◌⊎◌, ◌∙◌, ℕ, ◌+◌, ◌<◌, Bool, true, false, cond, not, ◌&&◌, ◌||◌, ◌==◌, if◌then◌else◌, List, [], ◌∷◌, Option, Some, None, filter, map, min, nat_le, nat_lt, refl, sym, ap, ap₂, subst, arith, inl, inr}
+use Rattle.std.proofs.Common.{◌≡◌, ◌≢◌, ◌⊎◌, ◌∙◌, ℕ, ◌+◌, ◌-◌, ◌<◌, Bool, true, false, cond, not, ◌&&◌, ◌||◌, ◌==◌, if◌then◌else◌, List, [], ◌∷◌, Option, Some, None, filter, map, min, nat_le, nat_lt, refl, sym, ap, ap₂, subst, arith, inl, inr}
 use Rattle.std.proofs.lemmas.Bool.{and_parts, cases_Bool, cases_eq, cases_lt, cond-false, cond-true, or_left}
 use Rattle.std.proofs.lemmas.Bool.Decides.{nat_tests}
 use Rattle.std.proofs.lemmas.List.{get_or-set_other, get_or-set_same, length-set}
@@ -22,17 +22,43 @@ use Rattle.watch_machine.specs.Beginning.{owed}
 use Rattle.watch_machine.specs.Clocks.{sec}
 use Rattle.watch_machine.specs.Margins.{lead}
 use Rattle.watch_machine.specs.Refusal.{is_same, request_out}
-use Rattle.watch_machine.specs.Renewed.{from_try, granted, granted_from, granted_try, is_no_further, renewed_track, state_renewed}
+use Rattle.watch_machine.specs.Renewed.{from_base, from_try, granted, granted_from, granted_try, is_no_further, renewed_track, state_renewed, time_from}
 use Rattle.watch_machine.specs.State.{WatchState, attempt_at, entry_of, no_track, track_at}
 use Rattle.watch_machine.specs.Wanted.{believed, is_fixed, is_wanted, seen_entry}
+use Rattle.watch_machine.proofs.Cases.{if_both}
 use Rattle.watch_machine.proofs.Within.{out_entry}
-use Rattle.watch_laws.specs.Calm.{GrantIsByRule, end_granted, ends, in_plan_at, lead_at, terms}
+use Rattle.watch_laws.specs.Calm.{GrantIsByRule, ends, in_plan_at, lead_at, terms}
 use Rattle.watch_laws.proofs.Calming.{AreAlike, IsIdle, entry_step, forest_alike, idle_on, kept_same, plan_alike}
 use Rattle.watch_laws.proofs.CalmClock.{keepable_of}
 use Rattle.watch_laws.proofs.Foreseen.{wanted_short}
-use Rattle.watch_laws.proofs.OnPlan.{Goes, IsTried, began_is, leads_is, need_alike, tried_on}
+use Rattle.watch_laws.proofs.OnPlan.{Goes, IsTried, need_alike, tried_on}
 
 -- ---- what a grant comes to
+
+-- the second from which a grant of so many seconds to this request counts, and the end to which it leads
+abbrev counts_from : WatchState → Out → ℕ → ℕ
+counts_from s q seconds = sec (from_try s.forest.margin (entry_of s q.entry).step seconds s.clocks.at q.since (attempt_at s q.entry))
+
+abbrev end_granted : WatchState → Out → ℕ → ℕ
+end_granted s q seconds = counts_from s q seconds + seconds
+
+-- by the rule it counts from the second of the round
+from_round :
+    (margin step seconds at since base opened : ℕ) → sec base ≡ opened → (sec since ≡ opened) ⊎ (sec at + 1 < time_from margin step seconds opened) →
+    sec (from_base margin step seconds at since (Some base)) ≡ opened
+from_round margin step seconds at since base opened is (inl same) = if_both (λ n. sec n ≡ opened) (nat_lt (sec at + 1) (time_from margin step seconds (sec base))) base since is same
+from_round margin step seconds at since base opened is (inr ahead) =
+    let late : nat_lt (sec at + 1) (time_from margin step seconds opened) ≡ true = grind (arith, nat_tests, ahead) in
+    let test : nat_lt (sec at + 1) (time_from margin step seconds (sec base)) ≡ true = subst (λ n. nat_lt (sec at + 1) (time_from margin step seconds n) ≡ true) (sym is) late in
+    ap sec (cond-true (nat_lt (sec at + 1) (time_from margin step seconds (sec base))) base since test) ∙ is
+
+counts_is :
+    (s : WatchState) (e : ℕ → ℕ) (last : Wake) (ts : List ℕ) (q : Out) (seconds : ℕ) → IsTried s e last ts q.entry → GrantIsByRule s last.at q.entry seconds q → counts_from s q seconds ≡ last.at
+counts_is s e last ts q seconds tried rule =
+    let margin = s.forest.margin in
+    let step = (entry_of s q.entry).step in
+    ap (λ o. sec (from_try margin step seconds s.clocks.at q.since o)) tried.is ∙ ap (λ b. sec (from_base margin step seconds s.clocks.at q.since b)) tried.base_is
+    ∙ from_round margin step seconds s.clocks.at q.since tried.base last.at tried.base_now rule.in_time
 
 -- a grant by the rule is of a whole step, or up to the ceiling
 by_rule : (ceiling : Option ℕ) (now step seconds : ℕ) → now + seconds ≡ capped ceiling (now + step) → (seconds ≡ step) ⊎ ((seconds < step) × (ceiling ≡ Some (now + seconds)))
@@ -56,7 +82,7 @@ not_topped step seconds from (Some before) (At end) h =
       never true false c h = refl
       never false b c h = refl
 
-no_try : (at end : ℕ) (owes : Bool) (o : Option Try) → sec at < end → owes ≡ false → granted_try at owes end o ≡ None
+pub no_try : (at end : ℕ) (owes : Bool) (o : Option Try) → sec at < end → owes ≡ false → granted_try at owes end o ≡ None
 no_try at end owes None ahead none = refl
 no_try at end owes (Some t) ahead none =
     let test : nat_lt (sec at) end ≡ true = grind (arith, nat_tests) in
@@ -130,7 +156,7 @@ left_out (x ∷ xs) i j h =
       later true b h = refl
       later false b h = h
 
-module _ (s : WatchState) (g : Forest) (e : ℕ → ℕ) (last : Wake) (ts : List ℕ) (goes : Goes s g e last ts) (q : Out) (seconds : ℕ) (tried : IsTried s e last ts q.entry) (rule : GrantIsByRule s q.entry seconds q) (answers : List Answer) where
+module _ (s : WatchState) (g : Forest) (e : ℕ → ℕ) (last : Wake) (ts : List ℕ) (goes : Goes s g e last ts) (q : Out) (seconds : ℕ) (tried : IsTried s e last ts q.entry) (rule : GrantIsByRule s last.at q.entry seconds q) (answers : List Answer) where
   abbrev j : ℕ
   j = q.entry
 
@@ -143,8 +169,11 @@ module _ (s : WatchState) (g : Forest) (e : ℕ → ℕ) (last : Wake) (ts : Lis
   abbrev new : WatchState
   new = granted_state
 
+  counted : end_granted s q seconds ≡ last.at + seconds
+  counted = ap (λ n. n + seconds) (counts_is s e last ts q seconds tried rule)
+
   granted_is : IsGranted s x j (e j) seconds
-  granted_is = is_granted s e last ts q seconds tried (rule.1 ∙ leads_is s e last ts j tried)
+  granted_is = is_granted s e last ts q seconds tried (counted ∙ rule.leads ∙ sym tried.gains)
 
   own : track_at new j ≡ x
   own = get_or-set_same s.tracks j x no_track (let c = goes.count in let w = tried.within in omega (arith, c, w))
@@ -191,9 +220,8 @@ module _ (s : WatchState) (g : Forest) (e : ℕ → ℕ) (last : Wake) (ts : Lis
   unfolding renewal
   idle_own =
       let now = last.at in
-      let began = began_is s e last ts j tried in
-      let from : end_granted s q seconds ≡ now + seconds = ap (λ n. n + seconds) (rule.0 ∙ began) in
-      let to : end_granted s q seconds ≡ renewal (terms s j) now = rule.1 ∙ ap (λ n. renewal (terms s j) n) began in
+      let from : end_granted s q seconds ≡ now + seconds = counted in
+      let to : end_granted s q seconds ≡ renewal (terms s j) now = counted ∙ rule.leads in
       let is : now + seconds ≡ capped (terms s j).ceiling (now + (entry_of s j).step) = sym from ∙ to ∙ ap (λ n. capped (terms s j).ceiling (now + n)) step_is in
       let need = need_alike new s goes.forest goes.forest alike refl j in
       let owes = ap (λ (y : Track). y.owes) own ∙ granted_is.owes in
@@ -271,12 +299,12 @@ asked_any out i q is = found_any (λ (r : Out). r.entry == i && is_same r.operat
 -- the state after an answer by the rule
 pub answer_goes :
     (s : WatchState) (g : Forest) (e : ℕ → ℕ) (last : Wake) (ts : List ℕ) → Goes s g e last ts → (q : Out) (i seconds : ℕ) (date : Option ℕ) → request_out s.out i Renew ≡ Some q →
-    GrantIsByRule s i seconds q → Goes (replied (state_renewed (noted s q (Told seconds true date)) q (Told seconds true date)) q (Told seconds true date)) g e last ts
+    GrantIsByRule s last.at i seconds q → Goes (replied (state_renewed (noted s q (Told seconds true date)) q (Told seconds true date)) q (Told seconds true date)) g e last ts
 unfolding renewed_track
 answer_goes s g e last ts goes q i seconds date is rule =
     let own : q.entry ≡ i = out_entry s.out i Renew q is in
     let named : list_any (λ (r : Out). r.entry == q.entry) s.out ≡ true = subst (λ k. list_any (λ (r : Out). r.entry == k) s.out ≡ true) (sym own) (asked_any s.out i q is) in
-    let rule' = subst (λ k. GrantIsByRule s k seconds q) (sym own) rule in
+    let rule' = subst (λ k. GrantIsByRule s last.at k seconds q) (sym own) rule in
     let tried : IsTried s e last ts q.entry = elim (goes.each q.entry) as (λ _. IsTried s e last ts q.entry) [
       | inl idle ↦ absurd (goes.waits q.entry named idle.none)
       | inr tried' ↦ tried'

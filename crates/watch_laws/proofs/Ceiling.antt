@@ -13,26 +13,25 @@ append_one : (earlier : List Granted) (first second : Granted) → earlier ++ fi
 append_one [] first second = refl
 append_one (g ∷ earlier) first second = ap (λ gs. g ∷ gs) (append_one earlier first second)
 
-cut : (most ceiling : ℕ) (first second : Granted) → IsRuled most ceiling first → IsRuled most ceiling second → IsNoFurther first second → (ceiling ≤ end second + 1) × (end second ≤ ceiling)
-cut most ceiling first second one two less =
-    let a = one.soon in
-    let b = one.left in
-    let c = one.granted in
-    let d = two.soon in
-    let e = two.left in
-    let f = two.granted in
-    let g = less.apart in
-    let h = less.no_further in
-    (omega (arith, a, b, c, d, e, f, g, h), omega (arith, a, b, c, d, e, f, g, h))
+cut : (most ceiling within : ℕ) (first second : Granted) → IsRuled most ceiling within first → IsRuled most ceiling within second → IsNoFurther first second → (ceiling ≤ end second + within) × (end second ≤ ceiling)
+cut most ceiling within first second one two less =
+    let a = one.left in
+    let b = one.granted in
+    let c = two.soon in
+    let d = two.left in
+    let e = two.granted in
+    let f = less.apart in
+    let g = less.no_further in
+    (omega (arith, a, b, c, d, e, f, g), omega (arith, a, b, c, d, e, f, g))
 
-at_ceiling : (most ceiling : ℕ) (gs : List Granted) → All (IsRuled most ceiling) gs → EndNoFurther gs → EndAtCeiling ceiling gs
-at_ceiling most ceiling gs all less =
+at_ceiling : (most ceiling within : ℕ) (gs : List Granted) → All (IsRuled most ceiling within) gs → EndNoFurther gs → EndAtCeiling ceiling within gs
+at_ceiling most ceiling within gs all less =
     let earlier = less.0 in
     let first = less.1.0 in
     let second = less.1.1.0 in
     let is = less.1.1.1.0 in
-    let both = last_two (IsRuled most ceiling) earlier first second (subst (All (IsRuled most ceiling)) is all) in
-    (earlier ++ first ∷ [], (second, (is ∙ append_one earlier first second, cut most ceiling first second both.0 both.1 less.1.1.1.1)))
+    let both = last_two (IsRuled most ceiling within) earlier first second (subst (All (IsRuled most ceiling within)) is all) in
+    (earlier ++ first ∷ [], (second, (is ∙ append_one earlier first second, cut most ceiling within first second both.0 both.1 less.1.1.1.1)))
 
 pub ceiling_reached : CeilingLaw
-ceiling_reached g width turns run i most ceiling within all top = at_ceiling most ceiling (grants i turns) all (topped g width turns run i within top)
+ceiling_reached g width turns run i most ceiling within is_there all top = at_ceiling most ceiling within (grants i turns) all (topped g width turns run i is_there top)

@@ -34,7 +34,7 @@ sent_by mid new (Go requests until) h = (requests, h.0.1)
 sent_by mid new Taken h = absurd h
 
 -- dates and the wall leave this clock
-dated_at : (since : ℕ) (c : Clocks) (date : ℕ) → (dated_by since c date).at ≡ c.at
+pub dated_at : (since : ℕ) (c : Clocks) (date : ℕ) → (dated_by since c date).at ≡ c.at
 unfolding dated_by
 dated_at since c date =
     if_both (λ (x : Clocks). x.at ≡ c.at) (is_ahead c date || is_behind c since date) (record c { broker = record { here = c.at; there = date }; dated = true }) (record c { dated = true }) refl refl

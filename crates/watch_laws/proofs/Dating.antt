@@ -62,11 +62,11 @@ all_frame c [] = refl
 all_frame c (a ∷ answers) = all_frame (dated c a) answers ∙ dated_on_frame a.since c (date_of a.reply)
 
 -- no clock was set ahead of this one, and until a date is taken the broker's is the wall's
-record IsSet (c : Clocks) : Type 0 where
-  phase : c.phase < 1000
-  wall : c.wall.here ≤ c.at
-  broker : c.broker.here ≤ c.at
-  undated : c.dated ≡ false → c.broker ≡ of_wall c.wall
+pub record IsSet (c : Clocks) : Type 0 where
+  pub phase : c.phase < 1000
+  pub wall : c.wall.here ≤ c.at
+  pub broker : c.broker.here ≤ c.at
+  pub undated : c.dated ≡ false → c.broker ≡ of_wall c.wall
 
 set_first : (wall elapsed : ℕ) → IsSet (first_clocks wall elapsed)
 unfolding first_clocks phase_of
@@ -110,7 +110,7 @@ set_after s wall elapsed h =
     (set_all (read s.clocks wall elapsed) s.answers (set_read s.clocks wall elapsed h))
 
 -- the readings are shown
-not_parted : (c : Clocks) (wall : ℕ) → c.wall.here ≤ c.at → is_stepped c wall ≡ false → HasParted c.wall c.at wall → ⊥
+pub not_parted : (c : Clocks) (wall : ℕ) → c.wall.here ≤ c.at → is_stepped c wall ≡ false → HasParted c.wall c.at wall → ⊥
 unfolding is_stepped to_wall
 not_parted c wall here no' parted =
     let parts = neither (nat_lt (to_wall c.wall c.at + 2000) wall) (nat_lt (wall + 2000) (to_wall c.wall c.at)) no' in
@@ -298,10 +298,10 @@ does old new Begin output step = keeps_by old new _ step.1 refl refl refl
 does old new (Known i end renewable) output step = keeps_by old new _ step.1 refl refl refl
 
 -- before the first clock nothing is out, and no clock is set; and no request went out after now
-record Clocked (s : WatchState) : Type 0 where
-  fresh : is_none s.begun ≡ true → (s.out ≡ []) × ((s.answers ≡ []) × (s.clocks ≡ unset))
-  since : All (λ (q : Out). q.since ≤ s.clocks.at) s.out
-  set : IsSet s.clocks
+pub record Clocked (s : WatchState) : Type 0 where
+  pub fresh : is_none s.begun ≡ true → (s.out ≡ []) × ((s.answers ≡ []) × (s.clocks ≡ unset))
+  pub since : All (λ (q : Out). q.since ≤ s.clocks.at) s.out
+  pub set : IsSet s.clocks
 
 goes_up : (s : WatchState) (wall elapsed : ℕ) → Clocked s → s.clocks.at ≤ (clocks_after s wall elapsed).at
 goes_up s wall elapsed h =
@@ -353,11 +353,11 @@ turn_clocked : (old new : WatchState) (event : Event) (result : Result Output Wa
 turn_clocked old new event (Ok output) turn o = does_clocked old new event (requests_asked_by output.command) (does old new event output turn.1) o
 turn_clocked old new event (Err fault) turn o = subst Clocked (sym (refused_stays old new event fault turn)) o
 
-ran_clocked : (turns : List Turned) (old : WatchState) → History old turns → Clocked old → Clocked (after_all old turns)
+pub ran_clocked : (turns : List Turned) (old : WatchState) → History old turns → Clocked old → Clocked (after_all old turns)
 ran_clocked [] old h o = o
 ran_clocked (turn ∷ turns) old h o = ran_clocked turns turn.state h.1 (turn_clocked old turn.state turn.event turn.result h.0 o)
 
-opened_clocked : (g : Forest) (width : ℕ) → Clocked (opened g width)
+pub opened_clocked : (g : Forest) (width : ℕ) → Clocked (opened g width)
 unfolding sec
 opened_clocked g width = record {
   fresh = λ none. (refl, (refl, refl));

@@ -24,7 +24,7 @@ use Rattle.watch_machine.specs.Lines.{is_due, is_first}
 use Rattle.watch_machine.specs.Margins.{has_come, time}
 use Rattle.watch_machine.specs.Press.{pressed}
 use Rattle.watch_machine.specs.Refusal.{request_out}
-use Rattle.watch_machine.specs.Sending.{sent, sent_in}
+use Rattle.watch_machine.specs.Sending.{is_before, place, sent, sent_in}
 use Rattle.watch_machine.specs.State.{WatchState, entry_of, opened, second, track_at}
 use Rattle.watch_machine.specs.Step.{Step, StepLooked, StepRenewed, readied}
 use Rattle.watch_machine.specs.Wait.{wait}
@@ -90,6 +90,17 @@ module _ (old new : WatchState) (wall elapsed : ℕ) (output : Output) (h : Tick
         | inl none ↦ omega (arith, none)
         | inr some ↦ absurd (not_both (ap (list_any (λ (r : Request). r.entry == i)) h.going.requests_are ∙ some_named mid.presence (sec at) at mid.tracks i gone some) other)
       ]
+
+  -- whoever goes out is another, and stands no further behind
+  pub none_behind : MayGo left i → All (λ k. (k ≢ i) × (is_before (place mid.presence.away (sec at) mid.tracks i) (place mid.presence.away (sec at) mid.tracks k) ≡ false)) gone
+  none_behind may =
+      let within = within_mid may in
+      let same = passed_over mid h.requests i (not_named mid h.requests i within may.free) in
+      let due : is_due mid.presence at (track_at mid i) ≡ true = subst (λ x. is_due mid.presence at x ≡ true) same (due_so mid.presence at (track_at left i) may.attempt may.free may.attempt_is may.due) in
+      let none = none_of may in
+      let apart = absent i gone none in
+      let order = h.going.order i within due none in
+      λ k d below. (apart k d below, order k d below)
 
   -- while the broker is there, whoever goes out stands before a first try that is an entry's own and does not
   pub all_front : MayGo left i → left.presence.away ≡ false → own_at (sec at) left.tracks i ≡ true → All (λ k. front_at (sec at) mid.tracks i k ≡ true) gone

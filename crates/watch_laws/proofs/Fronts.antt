@@ -75,7 +75,7 @@ fronts p at xs i k there own due other h =
 abbrev Stays : Track → Track → Type 0
 Stays y x = (y.attempt ≡ x.attempt) × (y.end ≡ x.end)
 
-sent_stays : (s : WatchState) (rs : List Request) (j : ℕ) → Stays (track_at (sent s rs) j) (track_at s j)
+pub sent_stays : (s : WatchState) (rs : List Request) (j : ℕ) → Stays (track_at (sent s rs) j) (track_at s j)
 sent_stays s rs j =
     each_kept Stays (refl, refl) (sent_in s.clocks.at rs) s.tracks
     (λ k x. if_both (λ y. Stays y x) (list_any (λ (r : Request). r.entry == k) rs) (sent_track s.clocks.at x) x (refl, refl) (refl, refl)) j
@@ -97,7 +97,7 @@ sent_front s rs now i k =
     ∙ ap (λ x. test (own_at now s.tracks k) (track_at s k).end x) e.1
 
 -- somebody is alone before the requests go out, if so after it
-alone_index : (test : Track → Bool) (xs : List Track) → list_any test xs ≡ true → (j : ℕ) × ((j < length xs) × (test (track_in xs j) ≡ true))
+pub alone_index : (test : Track → Bool) (xs : List Track) → list_any test xs ≡ true → (j : ℕ) × ((j < length xs) × (test (track_in xs j) ≡ true))
 alone_index test [] h = absurd cc
 alone_index test (x ∷ xs) h =
     elim (cases_Bool (test x)) [
@@ -108,7 +108,7 @@ alone_index test (x ∷ xs) h =
           (suc rest.0, (omega (arith, within), rest.1.1))
     ]
 
-index_alone : (test : Track → Bool) (xs : List Track) (j : ℕ) → j < length xs → test (track_in xs j) ≡ true → list_any test xs ≡ true
+pub index_alone : (test : Track → Bool) (xs : List Track) (j : ℕ) → j < length xs → test (track_in xs j) ≡ true → list_any test xs ≡ true
 index_alone test [] j within h = absurd (omega (arith, within))
 index_alone test (x ∷ xs) zero within h = or_left (test x) (list_any test xs) h
 index_alone test (x ∷ xs) (suc j) within h = or_right (test x) (list_any test xs) (index_alone test xs j (omega (arith, within)) h)

@@ -5,7 +5,10 @@ pub mod Beginning
 pub mod Needing
 pub mod Timing
 pub mod Granting
+pub mod GrantedFrom
 pub mod Pausing
+pub mod Tries
+pub mod Doubling
 pub mod Failing
 pub mod Topping
 pub mod Ceiling
@@ -24,8 +27,13 @@ pub mod Pacing
 pub mod Opener
 pub mod Reasons
 pub mod Minding
+pub mod Waits
 pub mod Owed
+pub mod Failures
+pub mod Told
 pub mod Retrying
+pub mod Holds
+pub mod Backs
 pub mod Basing
 pub mod Ends
 pub mod Counting
@@ -40,6 +48,7 @@ pub mod Outliving
 pub mod Recovering
 pub mod Fronts
 pub mod Foremost
+pub mod Patience
 pub mod Spans
 pub mod Held
 pub mod Once
@@ -51,6 +60,10 @@ pub mod Foreseen
 pub mod OfPlan
 pub mod Calming
 pub mod OnPlan
+pub mod Presses
+pub mod Line
+pub mod Begins
+pub mod Dates
 pub mod CalmClock
 pub mod CalmGrant
 pub mod CalmDay

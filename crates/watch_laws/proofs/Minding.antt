@@ -54,16 +54,16 @@ latest_after : (margin at : ℕ) → at < latest margin at
 unfolding latest
 latest_after margin at = let m = le-max_left 1000 (min 30000 (margin * 250)) in omega (arith, m)
 
-abbrev next_at : WatchState → ℕ → ℕ
+abbrev pub next_at : WatchState → ℕ → ℕ
 next_at s i = next_of s.forest.margin (entry_of s i) (wanted_need s i) s.presence s.clocks.at (track_at s i)
 
-wait_each : (s : WatchState) (i : ℕ) → i < length s.forest.entries → wait s ≤ next_at s i
+pub wait_each : (s : WatchState) (i : ℕ) → i < length s.forest.entries → wait s ≤ next_at s i
 unfolding wait
 wait_each s i within = least_each (next_at s) (latest s.forest.margin s.clocks.at) 0 (length s.forest.entries) i (omega arith) (omega (arith, within))
 
 -- what an entry that is not out has to be done
 module _ (margin : ℕ) (e : Entry) (need : ℕ) (p : Presence) (at : ℕ) (x : Track) (free : x.out ≡ false) where
-  by_try : (t : Try) → x.attempt ≡ Some t → at < ready p x t → next_of margin e need p at x ≤ ready p x t
+  pub by_try : (t : Try) → x.attempt ≡ Some t → at < ready p x t → next_of margin e need p at x ≤ ready p x t
   unfolding next_of
   by_try t is ahead =
       let last = latest margin at in
@@ -73,7 +73,7 @@ module _ (margin : ℕ) (e : Entry) (need : ℕ) (p : Presence) (at : ℕ) (x : 
       let that = cond-true (nat_lt at (ready p x t)) (ready p x t) last test in
       omega (arith, kept, there, that)
 
-  by_time : wants x need ≡ true → is_pressed x ≡ false → next_of margin e need p at x ≤ ms (time margin e x)
+  pub by_time : wants x need ≡ true → is_pressed x ≡ false → next_of margin e need p at x ≤ ms (time margin e x)
   unfolding next_of
   by_time wanted loose =
       let last = latest margin at in

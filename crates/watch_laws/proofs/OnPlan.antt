@@ -40,7 +40,7 @@ use Rattle.watch_machine.specs.Wanted.{believed, is_fixed, is_wanted, need_of, w
 use Rattle.watch_machine.proofs.Cases.{if_both, value_is}
 use Rattle.watch_machine.proofs.Seeing.{each_past, each_read}
 use Rattle.watch_machine.proofs.Written.{each_length}
-use Rattle.watch_laws.specs.Calm.{IsCalmClock, NonePassed, OpensNextWakeUp, began_at, began_by, began_in, believed_forest, ends, ends_left_by, in_plan_at, lead_at, leads_to, terms}
+use Rattle.watch_laws.specs.Calm.{IsCalmClock, NonePassed, OpensNextWakeUp, believed_forest, ends, ends_left_by, in_plan_at, lead_at, terms}
 use Rattle.watch_laws.proofs.Believed.{carried_believed}
 use Rattle.watch_laws.proofs.Calming.{AreAlike, IsIdle, IsKept, ends_alike, entry_step, forest_alike, lead_alike, need_kept, plan_alike, terms_alike}
 use Rattle.watch_laws.proofs.Clocking.{clock_rises}
@@ -127,9 +127,9 @@ pub presence_away : (margin at : ℕ) (xs : List Track) (answers : List Answer) 
 unfolding presence_after held_back
 presence_away margin at xs answers p = if_both (λ (q : Presence). q.away ≡ p.away) _ _ p refl refl
 
-pub readied_timed : (s : WatchState) (wall elapsed : ℕ) → is_none s.begun ≡ false → IsCalmClock s wall elapsed → ((i : ℕ) → IfSome (attempt_at s i) (λ t. t.failed ≡ false)) → IsTimed (readied s wall elapsed) s
+pub readied_timed : (s : WatchState) (began wall elapsed : ℕ) → is_none s.begun ≡ false → IsCalmClock s began wall elapsed → ((i : ℕ) → IfSome (attempt_at s i) (λ t. t.failed ≡ false)) → IsTimed (readied s wall elapsed) s
 unfolding readied
-readied_timed s wall elapsed begun' clock whole =
+readied_timed s began wall elapsed begun' clock whole =
     let t = timed s wall elapsed in
     let r = settled t in
     let rises = clock_rises s wall elapsed begun' in
@@ -176,13 +176,6 @@ pub record IsTried (s : WatchState) (e : ℕ → ℕ) (last : Wake) (ts : List �
   pub top : (track_at s i).top ≡ false
   pub more : (c : ℕ) → (terms s i).ceiling ≡ Some c → wanted_need s i ≤ c
   pub owes : (track_at s i).owes ≡ false
-
--- its renewal counts from the second of the round, and leads as far as it should
-pub began_is : (s : WatchState) (e : ℕ → ℕ) (last : Wake) (ts : List ℕ) (i : ℕ) → IsTried s e last ts i → began_at s i ≡ last.at
-began_is s e last ts i h = ap began_by h.is ∙ ap began_in h.base_is ∙ h.base_now
-
-pub leads_is : (s : WatchState) (e : ℕ → ℕ) (last : Wake) (ts : List ℕ) (i : ℕ) → IsTried s e last ts i → leads_to s i ≡ e i
-leads_is s e last ts i h = ap (λ t. renewal (terms s i) t) (began_is s e last ts i h) ∙ sym h.gains
 
 pub need_alike : (new old : WatchState) → IsForest new.forest → IsForest old.forest → AreAlike new old → second new ≡ second old → (i : ℕ) → wanted_need new i ≡ wanted_need old i
 need_alike new old forest forest' a now i =

@@ -43,7 +43,7 @@ bearing x = record no_track { end = x.end; renewable = x.renewable; top = x.top;
 abbrev Bears : Track → Track → Type 0
 Bears y x = bearing y ≡ bearing x
 
-pressed_bears : (margin : ℕ) (e : Entry) (need at : ℕ) (x : Track) → Bears (pressed_track margin e need at x) x
+pub pressed_bears : (margin : ℕ) (e : Entry) (need at : ℕ) (x : Track) → Bears (pressed_track margin e need at x) x
 unfolding pressed_track
 pressed_bears margin e need at x =
     if_both (λ y. Bears y x) (is_fresh margin e x need (sec at)) (record x { attempt = Some (press at false x) }) (if wants x need || x.out then x else record x { attempt = dropped x x.attempt }) refl
@@ -86,7 +86,7 @@ come_same margin e y x now same = sym (come_bears margin e y now) ∙ ap (λ z. 
 plan_same : (margin : ℕ) (e : Entry) (y x : Track) → bearing y ≡ bearing x → is_in_plan margin e y ≡ is_in_plan margin e x
 plan_same margin e y x same = sym (plan_bears margin e y) ∙ ap (is_in_plan margin e) same ∙ plan_bears margin e x
 
-wants_same : (y x : Track) (need : ℕ) → bearing y ≡ bearing x → wants y need ≡ wants x need
+pub wants_same : (y x : Track) (need : ℕ) → bearing y ≡ bearing x → wants y need ≡ wants x need
 wants_same y x need same = sym (wants_bears y need) ∙ ap (λ z. wants z need) same ∙ wants_bears x need
 
 -- one of those that a test finds

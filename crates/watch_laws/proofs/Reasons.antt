@@ -219,7 +219,7 @@ back_bears : (x : Track) → bearing (back_track x) ≡ bearing x
 unfolding back_track
 back_bears x = refl
 
-told_come : (mid : WatchState) (q : Out) (reply : Reply) (i : ℕ) → is_come (replied (with_told_try mid i) q reply) i ≡ is_come mid i
+pub told_come : (mid : WatchState) (q : Out) (reply : Reply) (i : ℕ) → is_come (replied (with_told_try mid i) q reply) i ≡ is_come mid i
 told_come mid q reply i =
     let by = with_told_try mid i in
     let new = replied by q reply in

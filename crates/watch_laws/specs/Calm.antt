@@ -1,6 +1,6 @@
 -- Calm: how what a watch asks goes with the least and latest plan. Each law is the contract of a public function without a body.
 -- Source: this project's own.
-use Rattle.std.specs.Prelude.{◌≡◌, ℕ, ◌+◌, ◌-◌, ◌<◌, ◌≤◌, true, false, not, ◌&&◌, Bool, List, [], ◌∷◌, Option, Some, None, IfSome, Result, Ok, Err, is_none, length, map}
+use Rattle.std.specs.Prelude.{◌≡◌, ◌⊎◌, ℕ, ◌+◌, ◌-◌, ◌<◌, ◌≤◌, true, false, not, ◌&&◌, Bool, List, [], ◌∷◌, Option, Some, None, IfSome, Result, Ok, Err, is_none, length, map}
 use Rattle.std.specs.List.{All, range_with_len}
 use Rattle.keep_tree.specs.declared.entry.Entry.{Entry}
 use Rattle.keep_tree.specs.Forest.{Forest}
@@ -18,18 +18,17 @@ use Rattle.watch_machine.specs.declared.event.Operation.TheVariants.{Renew}
 use Rattle.watch_machine.specs.declared.event.Reply.TheVariants.{Told}
 use Rattle.watch_machine.specs.declared.fault.WatchFault.{WatchFault}
 use Rattle.watch_machine.specs.declared.lanes.Out.{Out}
-use Rattle.watch_machine.specs.declared.track.Try.{Try}
 use Rattle.watch_machine.specs.Beginning.{is_pressed}
 use Rattle.watch_machine.specs.Clocks.{sec}
 use Rattle.watch_machine.specs.History.{History, IsWatchRun, Turned}
 use Rattle.watch_machine.specs.Margins.{is_in_plan, lead}
 use Rattle.watch_machine.specs.Outlook.{time_of}
 use Rattle.watch_machine.specs.Refusal.{request_out}
-use Rattle.watch_machine.specs.Renewed.{from_try}
 use Rattle.watch_machine.specs.Settling.{timed}
 use Rattle.watch_machine.specs.State.{WatchState, attempt_at, entry_of, opened, second, track_at}
 use Rattle.watch_machine.specs.Step.{readied, why}
 use Rattle.watch_machine.specs.Wanted.{believed, is_wanted, seen_entry, wanted_need}
+use Rattle.watch_laws.specs.Grants.{time_left}
 use Rattle.watch_laws.specs.Load.{requests_of}
 use Rattle.watch_laws.specs.Time.{round_of}
 
@@ -127,64 +126,53 @@ pub record StateIsAtRest (s : WatchState) : Type 0 where
   pub owes : (i : ℕ) → (track_at s i).owes ≡ false
   pub calm : IsCalm s
 
--- the second in which the try of an entry began: that of its round. 0 where it has none, and where it failed since
-abbrev pub began_in : Option ℕ → ℕ
-began_in None = 0
-began_in (Some base) = sec base
+-- the end to which a renewal by the rule leads an entry that counts from the second of a round
+abbrev pub leads_to : WatchState → ℕ → ℕ → ℕ
+leads_to s began i = renewal (terms s i) began
 
-abbrev pub began_by : Option Try → ℕ
-began_by None = 0
-began_by (Some t) = began_in t.base
-
-abbrev pub began_at : WatchState → ℕ → ℕ
-began_at s i = began_by (attempt_at s i)
-
--- the end to which a renewal by the rule leads that counts from there
-abbrev pub leads_to : WatchState → ℕ → ℕ
-leads_to s i = renewal (terms s i) (began_at s i)
-
--- a second in which no round can open: it comes before the time of each entry that is wanted and not pressed yet; and before the end of
--- each that has a try, and before the time to which its renewal leads, where that end is before its need
-pub record IsCalmSecond (s : WatchState) (now : ℕ) : Type 0 where
+-- a second in which no round can open, where the last one opened in the second `began`: it comes before the time of each entry that is wanted
+-- and not pressed yet; and before the end of each that has a try, and before the time to which its renewal leads, where that end is before
+-- its need
+pub record IsCalmSecond (s : WatchState) (began now : ℕ) : Type 0 where
   pub others : (i : ℕ) → i < length s.forest.entries → is_wanted s i ≡ true → is_pressed (track_at s i) ≡ false → now < time_of s i
   pub alive : (i : ℕ) → i < length s.forest.entries → is_none (attempt_at s i) ≡ false → now < ends s i
-  pub own : (i : ℕ) → i < length s.forest.entries → is_none (attempt_at s i) ≡ false → leads_to s i < wanted_need s i → now < leads_to s i - s.forest.margin
+  pub own : (i : ℕ) → i < length s.forest.entries → is_none (attempt_at s i) ≡ false → leads_to s began i < wanted_need s i → now < leads_to s began i - s.forest.margin
 
 -- a clock at which nothing begins anew and no clock is set: it comes in the second of the least time of an entry that is not pressed
 -- yet, or before; and before any round could open while anybody has a try
-pub record IsCalmClock (s : WatchState) (wall elapsed : ℕ) : Type 0 where
+pub record IsCalmClock (s : WatchState) (began wall elapsed : ℕ) : Type 0 where
   pub goes_on : why s wall elapsed ≡ None
   pub broker_stays : (timed s wall elapsed).clocks.broker ≡ s.clocks.broker
   pub wall_stays : (timed s wall elapsed).clocks.wall ≡ s.clocks.wall
   pub in_time : (i : ℕ) → i < length s.forest.entries → is_wanted s i ≡ true → is_pressed (track_at s i) ≡ false → second (timed s wall elapsed) ≤ time_of s i
-  pub answered : (i : ℕ) → i < length s.forest.entries → is_none (attempt_at s i) ≡ false → IsCalmSecond s (second (timed s wall elapsed))
+  pub answered : (i : ℕ) → i < length s.forest.entries → is_none (attempt_at s i) ≡ false → IsCalmSecond s began (second (timed s wall elapsed))
 
--- the second from which a grant of so many seconds to this request counts, and the end to which it leads
-abbrev pub counts_from : WatchState → Out → ℕ → ℕ
-counts_from s r seconds = sec (from_try s.forest.margin (entry_of s r.entry).step seconds s.clocks.at r.since (attempt_at s r.entry))
-
-abbrev pub end_granted : WatchState → Out → ℕ → ℕ
-end_granted s r seconds = counts_from s r seconds + seconds
-
--- a grant by the rule: it counts from the second of the round, and leads as far as a renewal in that second
-abbrev pub GrantIsByRule : WatchState → ℕ → ℕ → Out → Type 0
-GrantIsByRule s i seconds r = (counts_from s r seconds ≡ began_at s i) × (end_granted s r seconds ≡ leads_to s i)
+-- a grant of so many seconds by the rule: counted from the second of the round it leads as far as a renewal in that second. And its request
+-- went out in that second, or it is told more than a second before the time that it leaves
+pub record GrantIsByRule (s : WatchState) (began i seconds : ℕ) (q : Out) : Type 0 where
+  pub leads : began + seconds ≡ leads_to s began i
+  pub in_time : (sec q.since ≡ began) ⊎ (second s + 1 < time_left s.forest.margin (entry_of s i).step seconds began)
 
 -- such a clock, or the answer to a renewal by the rule
-abbrev pub IsCalmEvent : WatchState → Event → Type 0
-IsCalmEvent s (Clock wall elapsed) = IsCalmClock s wall elapsed
-IsCalmEvent s (Renewed i (Told seconds renewable date)) = (renewable ≡ true) × IfSome (request_out s.out i Renew) (GrantIsByRule s i seconds)
-IsCalmEvent s (Renewed i reply) = ⊥
-IsCalmEvent s event = ⊥
+abbrev pub IsCalmEvent : WatchState → ℕ → Event → Type 0
+IsCalmEvent s began (Clock wall elapsed) = IsCalmClock s began wall elapsed
+IsCalmEvent s began (Renewed i (Told seconds renewable date)) = (renewable ≡ true) × IfSome (request_out s.out i Renew) (GrantIsByRule s began i seconds)
+IsCalmEvent s began (Renewed i reply) = ⊥
+IsCalmEvent s began event = ⊥
 
-abbrev pub IsCalmTurn : WatchState → Event → Result Output WatchFault → Type 0
-IsCalmTurn s event (Ok output) = IsCalmEvent s event
-IsCalmTurn s event (Err fault) = Unit {0}
+abbrev pub IsCalmTurn : WatchState → ℕ → Event → Result Output WatchFault → Type 0
+IsCalmTurn s began event (Ok output) = IsCalmEvent s began event
+IsCalmTurn s began event (Err fault) = Unit {0}
 
--- each event that is taken is such a one
-abbrev pub AreCalm : WatchState → List Turned → Type 0
-AreCalm s [] = Unit {0}
-AreCalm s (turn ∷ turns) = IsCalmTurn s turn.event turn.result × AreCalm turn.state turns
+-- the second in which the last round opened, after a turn that opens one or none
+abbrev pub began_after : Option (List ℕ) → ℕ → ℕ → ℕ
+began_after None began now = began
+began_after (Some asked) began now = now
+
+-- each event that is taken is such a one, where the last round before began in that second
+abbrev pub AreCalm : ℕ → WatchState → List Turned → Type 0
+AreCalm began s [] = Unit {0}
+AreCalm began s (turn ∷ turns) = IsCalmTurn s began turn.event turn.result × AreCalm (began_after (round_of turn.result) began (second turn.state)) turn.state turns
 
 -- no wake-up of a list has passed
 abbrev pub NonePassed : WatchState → List Wake → Type 0
@@ -223,5 +211,5 @@ GoBy g e last wakes (turn ∷ turns) =
 -- plan does, and nothing else is asked
 abbrev pub CalmLaw : Type 0
 CalmLaw =
-    (s : WatchState) (turns : List Turned) → StateIsAtRest s → History s turns → AreCalm s turns →
+    (s : WatchState) (turns : List Turned) → StateIsAtRest s → History s turns → AreCalm (second s) s turns →
     (ts : List ℕ) × (IsPlanNow s ts × GoBy (believed_forest s) (ends s) (record { at = second s; asked = [] }) (with_asks (believed_forest s).entries s.forest.margin (second s) (ends s) ts) turns)

@@ -1,16 +1,24 @@
 -- Failures: which answers count as failures of their entry. The laws are the contract of a public function without a body.
 -- Source: this project's own.
-use Rattle.std.specs.Prelude.{◌≡◌, ◌⊎◌, ℕ, ◌+◌, ◌≤◌, Bool, true, false, List, [], ◌∷◌, Option, Result, Ok, Err, IfSome}
+use Rattle.std.specs.Prelude.{◌≡◌, ◌⊎◌, ℕ, ◌+◌, ◌≤◌, Bool, true, false, not, ◌&&◌, ◌||◌, if◌then◌else◌, List, [], ◌∷◌, Option, Some, None, Result, Ok, Err, IfSome, min}
 use Rattle.keep_tree.specs.Forest.{Forest}
 use Rattle.watch_machine.specs.declared.command.Output.{Output}
 use Rattle.watch_machine.specs.declared.event.Event.{Event}
 use Rattle.watch_machine.specs.declared.event.Event.TheVariants.{Clock, Looked, Renewed, Need, Begin, Known}
+use Rattle.watch_machine.specs.declared.event.Operation.{Operation}
+use Rattle.watch_machine.specs.declared.event.Operation.TheVariants.{Look, Renew}
 use Rattle.watch_machine.specs.declared.event.Reply.{Reply}
 use Rattle.watch_machine.specs.declared.event.Reply.TheVariants.{Told, Refused, Busy, Lost}
+use Rattle.watch_machine.specs.declared.event.Terms.{Terms}
 use Rattle.watch_machine.specs.declared.fault.WatchFault.{WatchFault}
+use Rattle.watch_machine.specs.declared.lanes.Out.{Out}
 use Rattle.watch_machine.specs.declared.track.Try.{Try}
-use Rattle.watch_machine.specs.History.{IsWatchRun, Turned}
-use Rattle.watch_machine.specs.State.{WatchState, attempt_at, opened}
+use Rattle.watch_machine.specs.History.{History, IsWatchRun, Turned}
+use Rattle.watch_machine.specs.Refusal.{request_out}
+use Rattle.watch_machine.specs.State.{WatchState, attempt_at, opened, second, track_at}
+use Rattle.watch_machine.specs.Wanted.{is_alive, is_open}
+use Rattle.watch_laws.specs.Absence.{is_event_taken}
+use Rattle.watch_laws.specs.Holds.{is_too_busy}
 use Rattle.watch_laws.specs.Waiting.{TryFails}
 
 -- the try of an entry, if it has one, has failed, by a loss or by a refusal
@@ -69,3 +77,51 @@ AllKeepLoss old (turn ∷ turns) = KeepsLoss old turn × AllKeepLoss turn.state 
 -- a loss stays one until the entry is asked again
 abbrev pub StaysLostLaw : Type 0
 StaysLostLaw = (g : Forest) (width : ℕ) (turns : List Turned) → IsWatchRun g width turns → AllKeepLoss (opened g width) turns
+
+-- what came of a request
+abbrev pub is_told : Reply → Bool
+is_told (Told seconds renewable date) = true
+is_told (Refused status date) = false
+is_told Busy = false
+is_told Lost = false
+
+abbrev pub is_refused : Reply → Bool
+is_refused (Told seconds renewable date) = false
+is_refused (Refused status date) = true
+is_refused Busy = false
+is_refused Lost = false
+
+abbrev pub is_lost : Reply → Bool
+is_lost (Told seconds renewable date) = false
+is_lost (Refused status date) = false
+is_lost Busy = false
+is_lost Lost = true
+
+-- the try u that a reply which tells nothing leaves of t, to a request that had heard of an answer to another or not: it has failed once
+-- more, 20 times at most, or for the first time where the broker was busy; nothing counts from when it began; and it is alone where no
+-- reply came though others were answered. It asks this next
+pub record IsFailure (t u : Try) (reply : Reply) (heard : Bool) (next : Operation) : Type 0 where
+  pub fails : u.fails ≡ (if is_too_busy reply then 1 else min 20 (t.fails + 1))
+  pub base : u.base ≡ None
+  pub alone : u.alone ≡ is_lost reply && heard
+  pub pressed : u.pressed ≡ t.pressed
+  pub operation : u.operation ≡ next
+
+-- after a renewal: a lookup where it was refused, where one is owed, or where the end is not ahead; else the renewal again
+abbrev pub asked_after_renewal : Reply → Bool → Bool → Operation
+asked_after_renewal reply owes ahead = if is_refused reply || (owes || not ahead) then Look else Renew
+
+-- after a lookup: a renewal where the end is ahead or unknown and the lookup was refused, or the entry is to be kept alive; else the lookup again
+abbrev pub asked_after_lookup : Reply → Bool → Bool → Operation
+asked_after_lookup reply pressed lives = if (is_refused reply || pressed) && lives then Renew else Look
+
+-- so after each reply that tells nothing. And a lookup is owed until it is told or refused
+pub record FailureLaw : Type 0 where
+  pub renewal :
+      (old : WatchState) (turn : Turned) (i : ℕ) (reply : Reply) (t u : Try) (q : Out) → History old (turn ∷ []) → turn.event ≡ Renewed i reply → is_event_taken turn.result ≡ true → is_told reply ≡ false →
+      request_out old.out i Renew ≡ Some q → attempt_at old i ≡ Some t → attempt_at turn.state i ≡ Some u →
+      IsFailure t u reply q.heard (asked_after_renewal reply (track_at old i).owes (is_alive (second old) (track_at old i)))
+  pub lookup :
+      (old : WatchState) (turn : Turned) (i : ℕ) (reply : Reply) (terms : Terms) (t u : Try) (q : Out) → History old (turn ∷ []) → turn.event ≡ Looked i reply terms → is_event_taken turn.result ≡ true →
+      is_told reply ≡ false → request_out old.out i Look ≡ Some q → attempt_at old i ≡ Some t → attempt_at turn.state i ≡ Some u →
+      IsFailure t u reply q.heard (asked_after_lookup reply t.pressed (is_open (second old) (track_at old i))) × ((track_at turn.state i).owes ≡ (track_at old i).owes && not (is_refused reply))

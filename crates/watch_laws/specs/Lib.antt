@@ -18,3 +18,13 @@ pub mod Margins
 pub mod Pauses
 pub mod Failures
 pub mod Grants
+pub mod Holds
+pub mod Patience
+pub mod Presses
+pub mod Backs
+pub mod Line
+pub mod AtTop
+pub mod Told
+pub mod Waits
+pub mod Begins
+pub mod Dates

@@ -61,20 +61,21 @@ ToppedLaw =
     (g : Forest) (width : ℕ) (turns : List Turned) → IsWatchRun g width turns → (i : ℕ) → i < length g.entries → (track_at (after_all (opened g width) turns) i).top ≡ true →
     EndNoFurther (grants i turns)
 
--- the broker's rule: a grant is the lesser of some seconds and of what is left to a ceiling when it reads the request, which is in the
--- second from which the grant counts or the next one
-pub record IsRuled (most ceiling : ℕ) (g : Granted) : Type 0 where
+-- the broker's rule: a grant is the lesser of some seconds and of what is left to a ceiling when it reads the request, which is no more
+-- than so many seconds after the one from which the grant counts
+pub record IsRuled (most ceiling within : ℕ) (g : Granted) : Type 0 where
   pub late : ℕ
-  pub soon : late ≤ 1
+  pub soon : late ≤ within
   pub left : g.from + late ≤ ceiling
   pub granted : g.seconds ≡ min most (ceiling - (g.from + late))
 
--- the last of some grants led to the ceiling, or to a second before it
-abbrev pub EndAtCeiling : ℕ → List Granted → Type 0
-EndAtCeiling ceiling gs = (earlier : List Granted) × ((last : Granted) × ((gs ≡ earlier ++ last ∷ []) × ((ceiling ≤ end last + 1) × (end last ≤ ceiling))))
+-- the last of some grants led to the ceiling, or to no more than so many seconds before it
+abbrev pub EndAtCeiling : ℕ → ℕ → List Granted → Type 0
+EndAtCeiling ceiling within gs = (earlier : List Granted) × ((last : Granted) × ((gs ≡ earlier ++ last ∷ []) × ((ceiling ≤ end last + within) × (end last ≤ ceiling))))
 
--- where all grants of an entry are by that rule, and it is called topped, its last grant led to the ceiling, or to a second before it
+-- where all grants of an entry are by that rule, and it is called topped, its last grant led to the ceiling, or to no more seconds before
+-- it than the broker may read a request late
 abbrev pub CeilingLaw : Type 0
 CeilingLaw =
-    (g : Forest) (width : ℕ) (turns : List Turned) → IsWatchRun g width turns → (i most ceiling : ℕ) → i < length g.entries → All (IsRuled most ceiling) (grants i turns) →
-    (track_at (after_all (opened g width) turns) i).top ≡ true → EndAtCeiling ceiling (grants i turns)
+    (g : Forest) (width : ℕ) (turns : List Turned) → IsWatchRun g width turns → (i most ceiling within : ℕ) → i < length g.entries → All (IsRuled most ceiling within) (grants i turns) →
+    (track_at (after_all (opened g width) turns) i).top ≡ true → EndAtCeiling ceiling within (grants i turns)

@@ -1,4 +1,4 @@
-ghost use Rattle.watch_laws.specs.Grants.{GrantedLaw};
+ghost use Rattle.watch_laws.specs.Grants.{CountedLaw, GrantedLaw};
 ghost use Rattle.watch_laws.specs.Margins.{InPlanLaw, TimeLaw};
 
 /// The law of the time: in every state the time of an entry comes so long before its end as the margin, or as three quarters of the
@@ -17,4 +17,10 @@ pub fn in_plan_law()
 /// told. The entry ends so long after the second from which that counts, and is as renewable as it was told to be.
 pub fn granted_law()
     ensures { GrantedLaw }
+{}
+
+/// The law of the second from which a grant counts: that in which the entry's try began, if this leaves a time which is more than a
+/// second ahead; else, and after a failure, that in which its request went out.
+pub fn counted_law()
+    ensures { CountedLaw }
 {}

@@ -1,4 +1,5 @@
 ghost use Rattle.watch_laws.specs.Partial.{HungLaw, OnceInFrontLaw, PartialLaw};
+ghost use Rattle.watch_laws.specs.Patience.{AloneLaw, PatienceLaw};
 
 /// The law of partial outages: while the broker is there and a request of somebody had no answer while others were answered, an entry
 /// whose own time has come goes out no later than the lanes have served what was out by then, for the time-out at most, and those that
@@ -18,4 +19,13 @@ pub fn once_law()
 /// its patience, and each other one that stands before it or comes to, for its answer.
 pub fn hung_law()
     ensures { HungLaw }
+{}
+
+/// The law of patience. The broker counts as silent in part just where somebody is alone: a request of an entry was lost though others
+/// were answered, and its end is ahead or unknown. A request asks what the try of its entry asks, and may take a quarter of a second for
+/// a first try while the broker is away; else, while somebody is alone, twice as long as answers take, but a second at least, doubled by
+/// each failure after the first; else as long as its sender allows.
+pub fn patience_law()
+    ensures alone { AloneLaw }
+    ensures patience { PatienceLaw }
 {}

@@ -1,3 +1,4 @@
+ghost use Rattle.watch_laws.specs.Line.{LineLaw, ReadyLaw};
 ghost use Rattle.watch_laws.specs.Starts.{KnownFirstLaw, SoonLaw, StartLaw};
 
 /// The law of a start: from a beginning, or any other clock, on, while the broker is there and an entry is being asked or waits for a
@@ -19,4 +20,14 @@ pub fn soon_law()
 /// those of known end whose time has come are renewed before anything is looked up.
 pub fn known_first_law()
     ensures { KnownFirstLaw }
+{}
+
+/// The law of the line: whatever goes out at a clock stands in front of each entry that may go out and does not. First tries whose ends are
+/// ahead come before the other first tries, these before later tries, and these before lookups that are only owed; while the broker is away
+/// the later tries and the owed lookups come before the first. First tries that a round asked along come last. First tries stand by the
+/// ends of their entries, any others by when they were last asked. A first try may go out from its own moment on, any other not before the
+/// hold is over either; nothing goes out for a second after the broker was busy.
+pub fn line_law()
+    ensures line { LineLaw }
+    ensures ready { ReadyLaw }
 {}

@@ -1,3 +1,4 @@
+ghost use Rattle.watch_laws.specs.AtTop.{TopLaw};
 ghost use Rattle.watch_laws.specs.Tops.{CeilingLaw, ToppedLaw};
 
 /// The law of the top: of an entry that is called topped, the last grant counts from a second that is two later, or more, than that
@@ -7,7 +8,14 @@ pub fn topped_law()
 {}
 
 /// The law of the ceiling: if each grant of an entry is the lesser of some seconds and of what is left to a ceiling, both fixed, then
-/// where it is called topped its last grant led to the ceiling, or to a second before it.
+/// where it is called topped its last grant led to the ceiling, or to no more seconds before it than the broker may read a request after
+/// the one from which its grant counts.
 pub fn ceiling_law()
     ensures { CeilingLaw }
+{}
+
+/// The law of grants at the top: a grant leaves its entry at the top just where it and the one before it, which count from seconds two
+/// apart or more, are both less than the step, and it leads more than a second further neither than that one nor than the believed end.
+pub fn top_law()
+    ensures { TopLaw }
 {}

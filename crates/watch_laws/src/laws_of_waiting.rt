@@ -1,4 +1,5 @@
 ghost use Rattle.watch_laws.specs.Waiting.{MindedLaw, OwedLaw, RetryLaw};
+ghost use Rattle.watch_laws.specs.Waits.{WaitLaw};
 
 /// The law of nobody forgotten: after every clock each entry that is wanted, in the plan or not, with an end or without, is out, or
 /// is pressed, or its time is ahead. The wait ends later than now, and passes neither the moment from which its try may go out,
@@ -18,4 +19,11 @@ pub fn owed_law()
 /// Where every request that had no answer had heard of one to another, it waits no longer than the hold that stands.
 pub fn retry_law()
     ensures { RetryLaw }
+{}
+
+/// The law of the wait: it ends at the first moment at which something is to be done of an entry that is not out (its try may go out, or
+/// it is wanted, not pressed, and its time comes), but half a minute from now at the latest, or a quarter of the margin if that is less; in
+/// a second, if that is more.
+pub fn wait_law()
+    ensures { WaitLaw }
 {}

@@ -1,0 +1,217 @@
+-- Line: what goes out stands in front of what may and does not. For the law of the line.
+use Rattle.std.proofs.Common.{◌≡◌, ◌≢◌, ◌⊎◌, ◌∙◌, ℕ, ◌+◌, ◌<◌, Bool, true, false, not, ◌&&◌, ◌||◌, ◌==◌, if◌then◌else◌, List, [], ◌∷◌, Option, Some, None, All, Result, Ok, Err, get_or, is_some, max, min, nat_lt, refl, sym, ap, subst, arith, inl, inr}
+use Rattle.std.proofs.lemmas.Bool.{cases_lt}
+use Rattle.std.proofs.lemmas.Bool.Decides.{nat_tests}
+use Rattle.std.proofs.lemmas.List.Elements.{All-map, All-nil}
+use Rattle.std.specs.List.{list_any}
+use Rattle.keep_tree.specs.declared.entry.Entry.{Entry}
+use Rattle.keep_tree.specs.Forest.{entry_at}
+use Rattle.watch_machine.specs.declared.command.Command.TheVariants.{Taken}
+use Rattle.watch_machine.specs.declared.command.Output.{Output}
+use Rattle.watch_machine.specs.declared.command.Request.{Request}
+use Rattle.watch_machine.specs.declared.event.Event.{Event}
+use Rattle.watch_machine.specs.declared.event.Event.TheVariants.{Clock, Looked, Renewed, Need, Begin, Known}
+use Rattle.watch_machine.specs.declared.event.Operation.TheVariants.{Look, Renew}
+use Rattle.watch_machine.specs.declared.event.Reply.{Reply}
+use Rattle.watch_machine.specs.declared.event.Terms.{Terms}
+use Rattle.watch_machine.specs.declared.fault.WatchFault.{WatchFault}
+use Rattle.watch_machine.specs.declared.lanes.Out.{Out}
+use Rattle.watch_machine.specs.declared.track.End.{End}
+use Rattle.watch_machine.specs.declared.track.Track.{Track}
+use Rattle.watch_machine.specs.declared.track.Try.{Try}
+use Rattle.watch_machine.specs.Clocks.{sec}
+use Rattle.watch_machine.specs.History.{Turn, Turned}
+use Rattle.watch_machine.specs.Lines.{asked_rank, is_first, part, rank, ready}
+use Rattle.watch_machine.specs.Margins.{has_come}
+use Rattle.watch_machine.specs.Press.{asked_track, press, pressed, pressed_alone, pressed_track, track_asked_in}
+use Rattle.watch_machine.specs.Refusal.{request_out}
+use Rattle.watch_machine.specs.Sending.{is_before, place, place_of, sent}
+use Rattle.watch_machine.specs.State.{WatchState, attempt_at, second, track_at, track_in}
+use Rattle.watch_machine.specs.Step.{Step, StepLooked, StepRenewed, readied}
+use Rattle.watch_machine.specs.Wanted.{believed, is_alive, need_of}
+use Rattle.watch_machine.proofs.Cases.{if_both}
+use Rattle.watch_laws.specs.Line.{IsInFront, LineLaw, ReadyLaw, StandsInFront, by_last, part_in_line, place_in_part}
+use Rattle.watch_laws.specs.Load.{requests_asked_by, requests_of}
+use Rattle.watch_laws.specs.Recovery.{MayGo}
+use Rattle.watch_laws.proofs.Foremost.{none_behind}
+use Rattle.watch_laws.proofs.Fronts.{sent_stays}
+use Rattle.watch_laws.proofs.Going.{entry_by, request_at}
+use Rattle.watch_laws.proofs.Lanes.{Ticks, ticks}
+use Rattle.watch_laws.proofs.Owed.{due_some}
+use Rattle.watch_laws.proofs.Presses.{Keeps, again_is, pressed_last, readied_keeps}
+use Rattle.watch_laws.proofs.Tracking.{each_kept}
+
+-- what is not behind another one is in front of it
+in_front :
+    (a b c a' b' c' : ℕ) → c' ≢ c → nat_lt a a' || (a == a' && (nat_lt b b' || (b == b' && nat_lt c c'))) ≡ false → IsInFront a' b' c' a b c
+in_front a b c a' b' c' apart h =
+    elim (cases_lt a' a) as (λ _. IsInFront a' b' c' a b c) [
+      | inl low ↦ inl low
+      | inr high ↦
+          let same : a' ≡ a = grind (arith, nat_tests) in
+          elim (cases_lt b' b) as (λ _. IsInFront a' b' c' a b c) [
+            | inl low ↦ inr (same, inl low)
+            | inr more ↦
+                let even : b' ≡ b = grind (arith, nat_tests) in
+                let first : c' < c = grind (arith, nat_tests) in
+                inr (same, inr (even, first))
+          ]
+    ]
+
+-- the parts are those of the machine
+part_is :
+    (f along away l p : Bool) →
+    (if f then (if along then 5 else (if l then (if away then 3 else 1) else (if away then 4 else 2))) else (if p then (if away then 1 else 3) else (if away then 2 else 4)))
+    ≡ (if f then (if along then 4 else ((if away then 2 else 0) + (if l then 0 else 1))) else ((if away then 0 else 2) + (if p then 0 else 1))) + 1
+part_is true true away l p = omega arith
+part_is true false true true p = omega arith
+part_is true false true false p = omega arith
+part_is true false false true p = omega arith
+part_is true false false false p = omega arith
+part_is false along true l true = omega arith
+part_is false along true l false = omega arith
+part_is false along false l true = omega arith
+part_is false along false l false = omega arith
+
+last_is : (last : Option ℕ) → asked_rank last ≡ by_last last
+last_is None = refl
+last_is (Some last) = refl
+
+-- a place after the clock, where the track was last asked before it
+place_is : (away : Bool) (now : ℕ) (x : Track) (t : Try) → part_in_line away (is_alive now x) t ≡ part away now x t + 1
+place_is away now x t = part_is (is_first t) t.along away (is_alive now x) t.pressed
+
+rank_is : (x : Track) (t : Try) (last : Option ℕ) → x.last ≡ last → place_in_part last x.end t ≡ rank x t
+rank_is x t last same = ap (λ n. if is_first t then believed x.end else n) (sym (ap asked_rank same ∙ last_is last))
+
+asked_last : (margin : ℕ) (e : Entry) (at : ℕ) (round : List ℕ) (i : ℕ) (x : Track) → (track_asked_in margin e at round i x).last ≡ x.last
+unfolding asked_track
+asked_last margin e at round i x =
+    if_both (λ (y : Track). y.last ≡ x.last) (list_any (λ j. j == i) round) (asked_track margin e at x) x
+    (if_both (λ (y : Track). y.last ≡ x.last) x.out x (record x { attempt = Some (press at (not (has_come margin e x (sec at))) x) }) refl refl) refl
+
+-- pressing leaves when an entry was asked
+mid_last : (s : WatchState) (round : List ℕ) (i : ℕ) → (track_at (pressed s round) i).last ≡ (track_at s i).last
+mid_last s round i =
+    let g = s.forest in
+    let c = s.clocks in
+    let R : Track → Track → Type 0 = λ y x. y.last ≡ x.last in
+    each_kept R refl (λ j. track_asked_in g.margin (entry_at g.entries j) c.at round j) (pressed_alone g c s.tracks) (λ j x. asked_last g.margin (entry_at g.entries j) c.at round j x) i
+    ∙ each_kept R refl (λ j. pressed_track g.margin (entry_at g.entries j) (need_of g.entries s.tracks c j) c.at) s.tracks
+    (λ j x. pressed_last g.margin (entry_at g.entries j) (need_of g.entries s.tracks c j) c.at x) i
+
+-- the order of two places, in words of what is known after the clock
+ordered :
+    (away : Bool) (now i j : ℕ) (x y : Track) (t u : Try) (last other : Option ℕ) → i ≢ j → x.last ≡ last → y.last ≡ other →
+    is_before (place_of away now j y (Some u)) (place_of away now i x (Some t)) ≡ false →
+    IsInFront (part_in_line away (is_alive now x) t) (place_in_part last x.end t) i (part_in_line away (is_alive now y) u) (place_in_part other y.end u) j
+ordered away now i j x y t u last other apart asked asked' h =
+    let p = place_is away now x t in
+    let q = place_is away now y u in
+    let r = rank_is x t last asked in
+    let s = rank_is y u other asked' in
+    elim (in_front (part away now y u) (rank y u) j (part away now x t) (rank x t) i apart h)
+    as (λ _. IsInFront (part_in_line away (is_alive now x) t) (place_in_part last x.end t) i (part_in_line away (is_alive now y) u) (place_in_part other y.end u) j) [
+      | inl low ↦ inl (omega (arith, p, q, low))
+      | inr same ↦
+          let even = same.0 in
+          inr (
+            omega (arith, p, q, even),
+            elim same.1 as (λ _. (place_in_part last x.end t < place_in_part other y.end u) ⊎ ((place_in_part last x.end t ≡ place_in_part other y.end u) × (i < j))) [
+              | inl low ↦ inl (omega (arith, r, s, low))
+              | inr more ↦ (let e = more.0 in inr (omega (arith, r, s, e), more.1))
+            ],
+          )
+    ]
+
+module _ (old new : WatchState) (wall elapsed : ℕ) (output : Output) (h : Ticks old new wall elapsed output) (j : ℕ) where
+  abbrev mid : WatchState
+  mid = pressed (readied old wall elapsed) h.round
+
+  abbrev left : WatchState
+  left = sent mid h.requests
+
+  asked_before : (k : ℕ) → (track_at mid k).last ≡ (track_at old k).last
+  asked_before k = mid_last (readied old wall elapsed) h.round k ∙ (readied_keeps old wall elapsed k).last
+
+  -- by the tries of both
+  by_tries :
+      (k : ℕ) (o v : Option Try) → attempt_at mid k ≡ o → attempt_at mid j ≡ v → is_some o ≡ true → is_some v ≡ true → k ≢ j →
+      is_before (place_of mid.presence.away (second mid) j (track_at mid j) v) (place_of mid.presence.away (second mid) k (track_at mid k) o) ≡ false → StandsInFront old left k j
+  by_tries k None v is is' some some' apart before = absurd cc
+  by_tries k (Some t) None is is' some some' apart before = absurd cc
+  by_tries k (Some t) (Some u) is is' some some' apart before =
+      let one = sent_stays mid h.requests k in
+      let two = sent_stays mid h.requests j in
+      let away = mid.presence.away in
+      let now = second mid in
+      let place : End → Option ℕ → Try → ℕ = λ e last v. place_in_part last e v in
+      let part' : End → Try → ℕ = λ e v. part_in_line away (nat_lt now (believed e)) v in
+      record {
+        first = t;
+        first_is = one.0 ∙ is;
+        other = u;
+        other_is = two.0 ∙ is';
+        in_front =
+            subst (λ (e : End). IsInFront (part' e t) (place e (track_at old k).last t) k (part' (track_at left j).end u) (place (track_at left j).end (track_at old j).last u) j) (sym one.1)
+            (subst (λ (e : End). IsInFront (part' (track_at mid k).end t) (place (track_at mid k).end (track_at old k).last t) k (part' e u) (place e (track_at old j).last u) j) (sym two.1)
+            (ordered away now k j (track_at mid k) (track_at mid j) t u (track_at old k).last (track_at old j).last apart (asked_before k) (asked_before j) before));
+      }
+
+  clock_line : MayGo left j → All (λ (r : Request). StandsInFront old left r.entry j) h.requests
+  clock_line may =
+      let gone = h.going.entries in
+      let due = h.going.due in
+      let behind = none_behind old new wall elapsed output h j may in
+      let same = (sent_stays mid h.requests j).0 in
+      let some' : is_some (attempt_at mid j) ≡ true = ap is_some (sym same ∙ may.attempt_is) in
+      let rq = request_at mid.presence (second mid) mid.tracks in
+      subst (All (λ (r : Request). StandsInFront old left r.entry j)) (sym h.going.requests_are)
+      (All-map (λ (r : Request). StandsInFront old left r.entry j) rq gone
+      (λ k d below.
+      (let m = get_or gone k d in
+      subst (λ n. StandsInFront old left n j) (sym (entry_by mid.presence (second mid) mid.tracks m))
+      (by_tries m (attempt_at mid m) (attempt_at mid j) refl refl (due_some mid.presence mid.clocks.at (track_at mid m) (due k d below).1) some' (behind k d below).0 (behind k d below).1))))
+
+  pub new_line : MayGo new j → All (λ (r : Request). StandsInFront old new r.entry j) h.requests
+  new_line may = subst (λ (x : WatchState). All (λ (r : Request). StandsInFront old x r.entry j) h.requests) (sym h.new_is) (clock_line (subst (λ (x : WatchState). MayGo x j) h.new_is may))
+
+-- a step, a turn
+abbrev Ordered : WatchState → WatchState → ℕ → Output → Type 0
+Ordered old new j output = All (λ (r : Request). StandsInFront old new r.entry j) (requests_asked_by output.command)
+
+none_goes : (old new : WatchState) (j : ℕ) (output out : Output) → output ≡ out → out.command ≡ Taken → Ordered old new j output
+none_goes old new j output out is taken' =
+    subst (λ c. All (λ (r : Request). StandsInFront old new r.entry j) (requests_asked_by c)) (sym (ap (λ (x : Output). x.command) is ∙ taken')) (All-nil (λ (r : Request). StandsInFront old new r.entry j))
+
+looked_line : (old new : WatchState) (j : ℕ) (found : Option Out) (reply : Reply) (terms : Terms) (output : Output) → StepLooked old found reply terms output new → Ordered old new j output
+looked_line old new j None reply terms output step = absurd step
+looked_line old new j (Some q) reply terms output step = none_goes old new j output _ step.0 refl
+
+renewed_line : (old new : WatchState) (j : ℕ) (found : Option Out) (reply : Reply) (output : Output) → StepRenewed old found reply output new → Ordered old new j output
+renewed_line old new j None reply output step = absurd step
+renewed_line old new j (Some q) reply output step = none_goes old new j output _ step.0 refl
+
+step_line : (old new : WatchState) (event : Event) (output : Output) (j : ℕ) → Step old event output new → MayGo new j → Ordered old new j output
+step_line old new (Clock wall elapsed) output j step may =
+    let h = ticks old new wall elapsed output step in
+    subst (λ c. All (λ (r : Request). StandsInFront old new r.entry j) (requests_asked_by c)) (sym h.command) (new_line old new wall elapsed output h j may)
+step_line old new (Looked i reply terms) output j step may = looked_line old new j (request_out old.out i Look) reply terms output step
+step_line old new (Renewed i reply) output j step may = renewed_line old new j (request_out old.out i Renew) reply output step
+step_line old new (Need i until) output j step may = none_goes old new j output _ step.0 refl
+step_line old new Begin output j step may = none_goes old new j output _ step.0 refl
+step_line old new (Known i end renewable) output j step may = none_goes old new j output _ step.0 refl
+
+turn_line : (old new : WatchState) (event : Event) (result : Result Output WatchFault) (j : ℕ) → Turn old event result new → MayGo new j → All (λ (r : Request). StandsInFront old new r.entry j) (requests_of result)
+turn_line old new event (Ok output) j turn may = step_line old new event output j turn.1 may
+turn_line old new event (Err fault) j turn may = All-nil (λ (r : Request). StandsInFront old new r.entry j)
+
+pub line_so : LineLaw
+line_so old turn j h may = turn_line old turn.state turn.event turn.result j h.0 may
+
+-- from when on a try may go out
+pub ready_so : ReadyLaw
+unfolding ready
+ready_so s i t =
+    let p = s.presence in
+    ap (λ n. max p.free (if t.pressed && t.fails == 0 then t.at else max p.hold (if p.away && t.lost then min t.at n else t.at))) (again_is (track_at s i).last)

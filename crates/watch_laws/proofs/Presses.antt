@@ -1,0 +1,263 @@
+-- Presses: whom a clock presses, and whom it lets go. For the law of presses.
+use Rattle.std.proofs.Common.{◌≡◌, ◌∙◌, ℕ, ◌+◌, ◌<◌, Bool, true, false, not, ◌&&◌, ◌||◌, ◌==◌, if◌then◌else◌, List, [], ◌∷◌, Option, Some, None, Result, Ok, Err, length, max, nat_le, nat_lt, refl, sym, ap, subst, arith, true≢false}
+use Rattle.std.proofs.lemmas.Bool.{and_from, cond-false, cond-true}
+use Rattle.std.specs.List.{list_any}
+use Rattle.keep_tree.specs.declared.entry.Entry.{Entry}
+use Rattle.keep_tree.specs.Forest.{entry_at}
+use Rattle.watch_machine.specs.declared.command.Output.{Output}
+use Rattle.watch_machine.specs.declared.command.Request.{Request}
+use Rattle.watch_machine.specs.declared.event.Event.{Event}
+use Rattle.watch_machine.specs.declared.event.Event.TheVariants.{Clock}
+use Rattle.watch_machine.specs.declared.event.Operation.TheVariants.{Look, Renew}
+use Rattle.watch_machine.specs.declared.fault.WatchFault.{WatchFault}
+use Rattle.watch_machine.specs.declared.notes.Notes.{Notes}
+use Rattle.watch_machine.specs.declared.notes.Why.{Why}
+use Rattle.watch_machine.specs.declared.track.End.{End}
+use Rattle.watch_machine.specs.declared.track.Track.{Track}
+use Rattle.watch_machine.specs.declared.track.Try.{Try}
+use Rattle.watch_machine.specs.Beginning.{begun, is_called, is_pressed, is_pressed_try, owing, owing_lookup, soon, sooner_try, untopped, untopped_track}
+use Rattle.watch_machine.specs.Clocks.{sec}
+use Rattle.watch_machine.specs.History.{Turn, Turned}
+use Rattle.watch_machine.specs.Lines.{rested}
+use Rattle.watch_machine.specs.Margins.{has_come}
+use Rattle.watch_machine.specs.Pauses.{pause}
+use Rattle.watch_machine.specs.Press.{asked_track, dropped, is_fresh, let_go, press, pressed, pressed_track, track_asked_in}
+use Rattle.watch_machine.specs.Round.{asked_by_round}
+use Rattle.watch_machine.specs.Sending.{sent}
+use Rattle.watch_machine.specs.Settling.{settled, settled_track, settled_try, timed}
+use Rattle.watch_machine.specs.State.{WatchState, attempt_at, entry_of, no_track, second, track_at, track_in}
+use Rattle.watch_machine.specs.Step.{Step, StepClock, readied, why}
+use Rattle.watch_machine.specs.Wanted.{believed, is_open, is_wanted, need_of, wanted_need, wants}
+use Rattle.watch_machine.proofs.Cases.{if_both, if_cases, not_both, value_is}
+use Rattle.watch_machine.proofs.Seeing.{SameSeen, both_seen, need_same}
+use Rattle.watch_machine.proofs.Unseen.{pressed_seen, sent_seen}
+use Rattle.watch_laws.specs.Absence.{is_event_taken}
+use Rattle.watch_laws.specs.Presses.{HasPressed, IsPressedNow, PressLaw, asked_again_at}
+use Rattle.watch_laws.specs.Time.{is_come, is_named_in_round, round_of}
+use Rattle.watch_laws.proofs.Clocking.{sent_by}
+use Rattle.watch_laws.proofs.Minding.{some_within}
+use Rattle.watch_laws.proofs.OnPlan.{attempt_sent, end_pressed, mid_read, new_count, out_pressed, owes_kept}
+use Rattle.watch_laws.proofs.Opener.{bearing, come_same, mid_bears, pressed_bears, wants_same}
+use Rattle.watch_laws.proofs.Topping.{readied_count}
+use Rattle.watch_laws.proofs.Tracking.{each_kept}
+
+-- until all are pressed, a clock leaves when an entry was asked, its end, whether it is out, and whether it is pressed
+pub record Keeps (y x : Track) : Type 0 where
+  pub last : y.last ≡ x.last
+  pub end : y.end ≡ x.end
+  pub out : y.out ≡ x.out
+  pub pressed : is_pressed y ≡ is_pressed x
+
+keeps_same : (x : Track) → Keeps x x
+keeps_same x = record { last = refl; end = refl; out = refl; pressed = refl }
+
+keeps_both : (z y x : Track) → Keeps z y → Keeps y x → Keeps z x
+keeps_both z y x h k = record { last = h.last ∙ k.last; end = h.end ∙ k.end; out = h.out ∙ k.out; pressed = h.pressed ∙ k.pressed }
+
+settled_is : (margin at : ℕ) (x : Track) (o : Option Try) → is_pressed_try (settled_try margin at x o) ≡ is_pressed_try o
+settled_is margin at x None = refl
+settled_is margin at x (Some t) =
+    if_both (λ o. is_pressed_try o ≡ t.pressed) t.failed (Some (record t { at = at + pause margin at x t; alone = t.alone && nat_le (rested x.last) at; failed = false })) (Some t) refl refl
+
+pub settled_keeps : (margin at : ℕ) (x : Track) → Keeps (settled_track margin at x) x
+unfolding settled_track
+settled_keeps margin at x = record { last = refl; end = refl; out = refl; pressed = settled_is margin at x x.attempt }
+
+sooner_is : (from : ℕ) (o : Option Try) → (sooner_try from o).pressed ≡ is_pressed_try o
+sooner_is from None = refl
+sooner_is from (Some t) = refl
+
+owing_keeps : (at : ℕ) (called : Bool) (x : Track) → Keeps (owing at called x) x
+unfolding owing
+owing_keeps at called x =
+    if_both (λ y. Keeps y x) (called && is_open (sec at) x) (owing_lookup at x) x
+    (if_both (λ y. Keeps y x) x.out (record x { owes = true }) (record x { owes = true; attempt = Some (sooner_try (soon at x) x.attempt) }) (record { last = refl; end = refl; out = refl; pressed = refl })
+    (record { last = refl; end = refl; out = refl; pressed = sooner_is (soon at x) x.attempt })) (keeps_same x)
+
+begun_keeps : (s : WatchState) (w : Option Why) (i : ℕ) → Keeps (track_at (begun s w) i) (track_at s i)
+begun_keeps s None i = keeps_same (track_at s i)
+begun_keeps s (Some w) i =
+    let xs = untopped s.tracks in
+    keeps_both (track_at (begun s (Some w)) i) (track_in xs i) (track_at s i)
+    (each_kept Keeps (keeps_same no_track) (λ j. owing s.clocks.at (is_called s.forest xs s.clocks j)) xs (λ j x. owing_keeps s.clocks.at (is_called s.forest xs s.clocks j) x) i)
+    (each_kept Keeps (keeps_same no_track) (λ j. untopped_track) s.tracks (λ j x. record { last = refl; end = refl; out = refl; pressed = refl }) i)
+
+pub readied_keeps : (s : WatchState) (wall elapsed i : ℕ) → Keeps (track_at (readied s wall elapsed) i) (track_at s i)
+unfolding readied
+readied_keeps s wall elapsed i =
+    let t = timed s wall elapsed in
+    keeps_both (track_at (begun (settled t) (why s wall elapsed)) i) (track_at (settled t) i) (track_at s i) (begun_keeps (settled t) (why s wall elapsed) i)
+    (each_kept Keeps (keeps_same no_track) (λ j. settled_track t.forest.margin t.clocks.at) s.tracks (λ j x. settled_keeps t.forest.margin t.clocks.at x) i)
+
+-- the try of one that is pressed
+pub again_is : (last : Option ℕ) → rested last ≡ asked_again_at last
+again_is None = refl
+again_is (Some last) = refl
+
+press_is : (old new : WatchState) (i : ℕ) (along : Bool) (y : Track) → y.last ≡ (track_at old i).last → (track_at new i).end ≡ y.end → IsPressedNow old new i along (press new.clocks.at along y)
+unfolding press
+press_is old new i along y last end = record {
+  at = ap (λ l. max new.clocks.at (rested l)) last ∙ ap (max new.clocks.at) (again_is (track_at old i).last);
+  operation = ap (λ (e : End). if nat_lt (second new) (believed e) then Renew else Look) (sym end);
+  pressed = refl;
+  asked_along = refl;
+  base = refl;
+  fails = refl;
+}
+
+pub pressed_last : (margin : ℕ) (e : Entry) (need at : ℕ) (x : Track) → (pressed_track margin e need at x).last ≡ x.last
+unfolding pressed_track
+pressed_last margin e need at x =
+    if_both (λ (y : Track). y.last ≡ x.last) (is_fresh margin e x need (sec at)) (record x { attempt = Some (press at false x) }) (if wants x need || x.out then x else record x { attempt = dropped x x.attempt }) refl
+    (if_both (λ (y : Track). y.last ≡ x.last) (wants x need || x.out) x (record x { attempt = dropped x x.attempt }) refl refl)
+
+-- one whose time has come
+module _ (margin : ℕ) (e : Entry) (at : ℕ) (round : List ℕ) (i : ℕ) where
+  named_try : (y : Track) → y.out ≡ false → list_any (λ j. j == i) round ≡ true → (track_asked_in margin e at round i y).attempt ≡ Some (press at (not (has_come margin e y (sec at))) y)
+  unfolding asked_track
+  named_try y free named =
+      ap (λ (z : Track). z.attempt) (cond-true (list_any (λ j. j == i) round) (asked_track margin e at y) y named)
+      ∙ ap (λ (z : Track). z.attempt) (cond-false y.out y (record y { attempt = Some (press at (not (has_come margin e y (sec at))) y) }) free)
+
+  other_track : (y : Track) → list_any (λ j. j == i) round ≡ false → track_asked_in margin e at round i y ≡ y
+  other_track y other = cond-false (list_any (λ j. j == i) round) (asked_track margin e at y) y other
+
+  fresh_track : (x : Track) (need : ℕ) → wants x need ≡ true → has_come margin e x (sec at) ≡ true → is_pressed x ≡ false → x.out ≡ false → pressed_track margin e need at x ≡ record x { attempt = Some (press at false x) }
+  unfolding pressed_track is_fresh
+  fresh_track x need wanted come loose free =
+      cond-true (wants x need && (has_come margin e x (sec at) && (not (is_pressed x) && not x.out))) (record x { attempt = Some (press at false x) })
+      (if wants x need || x.out then x else record x { attempt = dropped x x.attempt })
+      (and_from (wants x need) (has_come margin e x (sec at) && (not (is_pressed x) && not x.out)) wanted
+      (and_from (has_come margin e x (sec at)) (not (is_pressed x) && not x.out) come (and_from (not (is_pressed x)) (not x.out) (ap not loose) (ap not free))))
+
+  again_same : (x : Track) (o : Option Try) (along : Bool) → press at along (record x { attempt = o }) ≡ press at along x
+  unfolding press
+  again_same x o along = refl
+
+  come_try : (x : Track) (need : ℕ) → wants x need ≡ true → has_come margin e x (sec at) ≡ true → is_pressed x ≡ false → x.out ≡ false →
+      (track_asked_in margin e at round i (pressed_track margin e need at x)).attempt ≡ Some (press at false x)
+  come_try x need wanted come loose free =
+      let y : Track = record x { attempt = Some (press at false x) } in
+      ap (λ (z : Track). (track_asked_in margin e at round i z).attempt) (fresh_track x need wanted come loose free)
+      ∙ if_cases (λ (z : Track). z.attempt ≡ Some (press at false x)) (list_any (λ j. j == i) round) (asked_track margin e at y) y
+      (λ named.
+      ap (λ (z : Track). z.attempt) (sym (cond-true (list_any (λ j. j == i) round) (asked_track margin e at y) y named)) ∙ named_try y free named
+      ∙ ap (λ b. Some (press at (not b) y)) (come_same margin e y x (sec at) refl ∙ come) ∙ ap (λ t. Some t) (again_same x (Some (press at false x)) false)) (λ _. refl)
+
+  -- one that is wanted no more
+  gone_track : (x : Track) (need : ℕ) → wants x need ≡ false → x.out ≡ false → pressed_track margin e need at x ≡ record x { attempt = dropped x x.attempt }
+  unfolding pressed_track is_fresh
+  gone_track x need unwanted free =
+      let rest = has_come margin e x (sec at) && (not (is_pressed x) && not x.out) in
+      let keep = if wants x need || x.out then x else record x { attempt = dropped x x.attempt } in
+      cond-false (wants x need && rest) (record x { attempt = Some (press at false x) }) keep (ap (λ b. b && rest) unwanted)
+      ∙ cond-false (wants x need || x.out) x (record x { attempt = dropped x x.attempt }) (ap (λ b. b || x.out) unwanted ∙ free)
+
+left_over : (x : Track) (o : Option Try) (u : Try) → dropped x o ≡ Some u → (u.pressed ≡ false) × (x.owes ≡ true)
+left_over x None u is = absurd cc
+left_over x (Some t) u is = by t.pressed x.owes refl refl is where
+  by : (p w : Bool) → t.pressed ≡ p → x.owes ≡ w → (if p || not w then (if w then Some (record t { at = max t.at (rested x.last); operation = Look; pressed = false }) else None) else Some t) ≡ Some u → (u.pressed ≡ false) × (x.owes ≡ true)
+  by true true p w is' = (ap (λ (v : Try). v.pressed) (sym (value_is (record t { at = max t.at (rested x.last); operation = Look; pressed = false }) u is')), w)
+  by true false p w is' = absurd cc
+  by false true p w is' = (ap (λ (v : Try). v.pressed) (sym (value_is t u is')) ∙ p, w)
+  by false false p w is' = absurd cc
+
+-- a clock
+named_is : (round : Option (List ℕ)) (i : ℕ) → list_any (λ j. j == i) (asked_by_round round) ≡ is_named_in_round round i
+named_is None i = refl
+named_is (Some asked) i = refl
+
+module _ (old : WatchState) (wall elapsed : ℕ) (round : List ℕ) (requests : List Request) (i : ℕ) where
+  abbrev r : WatchState
+  r = readied old wall elapsed
+
+  abbrev n : WatchState
+  n = sent (pressed r round) requests
+
+  abbrev x : Track
+  x = track_at r i
+
+  abbrev y : Track
+  y = pressed_track r.forest.margin (entry_of r i) (wanted_need r i) r.clocks.at x
+
+  keeps : Keeps x (track_at old i)
+  keeps = readied_keeps old wall elapsed i
+
+  end_is : (track_at n i).end ≡ x.end
+  end_is = ap (λ (z : Track). z.end) (mid_bears r round requests i)
+
+  wanted_is : is_wanted n i ≡ wants x (wanted_need r i)
+  wanted_is =
+      let g = r.forest in
+      let c = r.clocks in
+      let seen : SameSeen n.tracks r.tracks = both_seen n.tracks (pressed r round).tracks r.tracks (sent_seen c.at requests (pressed r round).tracks) (pressed_seen g c round r.tracks) in
+      ap (wants (track_at n i)) (need_same n.tracks r.tracks seen g.entries c i) ∙ wants_same (track_at n i) x (wanted_need r i) (mid_bears r round requests i)
+
+  come_is : is_come n i ≡ has_come r.forest.margin (entry_of r i) x (second r)
+  come_is = come_same r.forest.margin (entry_of r i) (track_at n i) x (second r) (mid_bears r round requests i)
+
+  within_r : i < length old.tracks → i < length r.tracks
+  within_r within = let count = readied_count old wall elapsed in omega (arith, within, count)
+
+  try_is : i < length r.tracks → attempt_at n i ≡ (track_asked_in r.forest.margin (entry_of r i) r.clocks.at round i y).attempt
+  try_is within = attempt_sent r round requests i ∙ ap (λ (z : Track). z.attempt) (mid_read r round requests i within)
+
+  come_pressed : i < length old.tracks → (track_at old i).out ≡ false → is_pressed (track_at old i) ≡ false → is_wanted n i ≡ true → is_come n i ≡ true → HasPressed old n i false
+  come_pressed within free loose wanted come = (
+    press r.clocks.at false x,
+    (
+      try_is (within_r within)
+          ∙ come_try r.forest.margin (entry_of r i) r.clocks.at round i x (wanted_need r i) (sym wanted_is ∙ wanted) (sym come_is ∙ come) (keeps.pressed ∙ loose) (keeps.out ∙ free),
+      press_is old n i false x keeps.last end_is,
+    ),
+  )
+
+  named_pressed : i < length old.tracks → (track_at old i).out ≡ false → list_any (λ j. j == i) round ≡ true → HasPressed old n i (not (is_come n i))
+  named_pressed within free named =
+      let m = r.forest.margin in
+      let e = entry_of r i in
+      let need = wanted_need r i in
+      let at = r.clocks.at in
+      let come : has_come m e y (sec at) ≡ is_come n i = come_same m e y x (sec at) (pressed_bears m e need at x) ∙ sym come_is in
+      let along = not (is_come n i) in (
+        press at along y,
+        (
+          try_is (within_r within) ∙ named_try m e at round i y (out_pressed m e need at x ∙ keeps.out ∙ free) named ∙ ap (λ b. Some (press at (not b) y)) come,
+          press_is old n i along y (pressed_last m e need at x ∙ keeps.last) (end_is ∙ sym (end_pressed m e need at x)),
+        ),
+      )
+
+  let_go_so : (u : Try) → (track_at old i).out ≡ false → is_wanted n i ≡ false → list_any (λ j. j == i) round ≡ false → attempt_at n i ≡ Some u → (u.pressed ≡ false) × ((track_at n i).owes ≡ true)
+  let_go_so u free unwanted other is =
+      let m = r.forest.margin in
+      let e = entry_of r i in
+      let need = wanted_need r i in
+      let at = r.clocks.at in
+      let within : i < length r.tracks = (let low = some_within n.tracks i u is in let count = new_count r round requests in omega (arith, low, count)) in
+      let gone = gone_track m e at round i x need (sym wanted_is ∙ unwanted) (keeps.out ∙ free) in
+      let there : dropped x x.attempt ≡ Some u = ap (λ (z : Track). z.attempt) (sym gone) ∙ ap (λ (z : Track). z.attempt) (sym (other_track m e at round i y other)) ∙ sym (try_is within) ∙ is in
+      let left = left_over x x.attempt u there in
+      (left.0, owes_kept r round requests i ∙ left.1)
+
+-- a turn
+clock_of :
+    (P : WatchState → Option (List ℕ) → Type 0) (old new : WatchState) (event : Event) (result : Result Output WatchFault) (wall elapsed : ℕ) → Turn old event result new → event ≡ Clock wall elapsed → is_event_taken result ≡ true →
+    ((round : Option (List ℕ)) (requests : List Request) → P (sent (pressed (readied old wall elapsed) (asked_by_round round)) requests) round) → P new (round_of result)
+clock_of P old new event (Err fault) wall elapsed turn is taken' all = absurd (true≢false (sym taken'))
+clock_of P old new event (Ok output) wall elapsed turn is taken' all =
+    let step : StepClock old wall elapsed output new = subst (λ e. Step old e output new) is turn.1 in
+    let go = sent_by (pressed (readied old wall elapsed) (asked_by_round step.round)) new output.command step.command in
+    subst (P new) (sym (ap (λ (o : Notes). o.round) step.notes)) (subst (λ x. P x step.round) (sym go.1) (all step.round go.0))
+
+pub presses_so : PressLaw
+presses_so = record {
+  come = λ old turn wall elapsed i h clock within free loose.
+      clock_of (λ n round. is_wanted n i ≡ true → is_come n i ≡ true → HasPressed old n i false) old turn.state turn.event turn.result wall elapsed h.0 clock.0 clock.1
+      (λ round requests. come_pressed old wall elapsed (asked_by_round round) requests i within free loose);
+  named = λ old turn wall elapsed i h clock within free.
+      clock_of (λ n round. is_named_in_round round i ≡ true → HasPressed old n i (not (is_come n i))) old turn.state turn.event turn.result wall elapsed h.0 clock.0 clock.1
+      (λ round requests named. named_pressed old wall elapsed (asked_by_round round) requests i within free (named_is round i ∙ named));
+  dropped = λ old turn wall elapsed i u h clock free.
+      clock_of (λ n round. is_wanted n i ≡ false → is_named_in_round round i ≡ false → attempt_at n i ≡ Some u → (u.pressed ≡ false) × ((track_at n i).owes ≡ true)) old turn.state turn.event turn.result wall elapsed h.0 clock.0
+      clock.1 (λ round requests unwanted other. let_go_so old wall elapsed (asked_by_round round) requests i u free unwanted (named_is round i ∙ other));
+}

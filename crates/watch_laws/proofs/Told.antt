@@ -1,0 +1,405 @@
+-- Told: what a lookup that tells makes of its entry, and what writes the forest. For the laws of what is told.
+use Rattle.std.proofs.Common.{◌≡◌, ◌≢◌, ◌∙◌, ℕ, ◌+◌, ◌<◌, ◌≤◌, Bool, true, false, not, ◌&&◌, if◌then◌else◌, List, [], ◌∷◌, Option, Some, None, Result, Ok, Err, is_some, length, min, nat_lt, option_map, refl, slice_set, sym, ap, subst, arith, true≢false}
+use Rattle.std.proofs.lemmas.Bool.{cond-false, cond-true}
+use Rattle.std.proofs.lemmas.Bool.Decides.{nat_tests}
+use Rattle.std.proofs.lemmas.List.{get_or-set_same, length-set}
+use Rattle.keep_moment.specs.declared.moment.TheConstants.{LAST}
+use Rattle.keep_tree.specs.declared.entry.Entry.{Entry}
+use Rattle.keep_tree.specs.declared.forest.TheConstants.{END_MAX}
+use Rattle.keep_tree.specs.Forest.{Forest, entry_at}
+use Rattle.keep_tree.proofs.Entries.{entry_at_set_other, entry_at_set_same}
+use Rattle.watch_machine.specs.declared.clocks.Clocks.{Clocks}
+use Rattle.watch_machine.specs.declared.command.Output.{Output}
+use Rattle.watch_machine.specs.declared.event.Event.{Event}
+use Rattle.watch_machine.specs.declared.event.Event.TheVariants.{Clock, Looked, Renewed, Need, Begin, Known}
+use Rattle.watch_machine.specs.declared.event.Operation.TheVariants.{Look, Renew}
+use Rattle.watch_machine.specs.declared.event.Reply.{Reply}
+use Rattle.watch_machine.specs.declared.event.Reply.TheVariants.{Told, Refused, Busy, Lost}
+use Rattle.watch_machine.specs.declared.event.Terms.{Terms}
+use Rattle.watch_machine.specs.declared.fault.WatchFault.{WatchFault}
+use Rattle.watch_machine.specs.declared.lanes.Out.{Out}
+use Rattle.watch_machine.specs.declared.notes.Why.{Why}
+use Rattle.watch_machine.specs.declared.track.Track.{Track}
+use Rattle.watch_machine.specs.declared.track.Try.{Try}
+use Rattle.watch_machine.specs.declared.track.End.TheVariants.{At, Never}
+use Rattle.watch_machine.specs.Answers.{back_track, back_try, failing, noted, replied, with_track}
+use Rattle.watch_machine.specs.Beginning.{begun, hastened, owed}
+use Rattle.watch_machine.specs.Clocks.{sec}
+use Rattle.watch_machine.specs.History.{Turn, Turned}
+use Rattle.watch_machine.specs.Lines.{rested}
+use Rattle.watch_machine.specs.Looked.{at_once, by_terms, is_called_for, looked, step_told, told_state, told_track, told_try, with_told_try}
+use Rattle.watch_machine.specs.Press.{pressed}
+use Rattle.watch_machine.specs.Refusal.{request_out}
+use Rattle.watch_machine.specs.Renewed.{granted_from, granted_try, state_renewed}
+use Rattle.watch_machine.specs.Round.{asked_by_round}
+use Rattle.watch_machine.specs.Settling.{settled, timed}
+use Rattle.watch_machine.specs.State.{WatchState, attempt_at, entry_of, no_track, second, track_at, track_in}
+use Rattle.watch_machine.specs.Step.{Step, StepClock, StepLooked, StepRenewed, readied, why}
+use Rattle.watch_machine.specs.Wanted.{believed, is_alive, is_wanted, need_of, wanted_need, wants}
+use Rattle.watch_machine.proofs.Cases.{if_both, if_cases, value_is}
+use Rattle.watch_machine.proofs.Seeing.{SameSeen, need_same, sight}
+use Rattle.watch_machine.proofs.Within.{out_entry}
+use Rattle.watch_laws.specs.Absence.{is_event_taken}
+use Rattle.watch_laws.specs.Time.{is_come}
+use Rattle.watch_laws.specs.Told.{DoneLaw, EndsTooSoon, GoesOn, IsTold, OneIs, OwesLater, ToldLaw, WrittenLaw, ceiling_by, entry_by, step_by, writes}
+use Rattle.watch_laws.proofs.Answering.{replied_rest}
+use Rattle.watch_laws.proofs.CalmGrant.{no_try}
+use Rattle.watch_laws.proofs.Clocking.{refused_stays, sent_by}
+use Rattle.watch_laws.proofs.Failures.{Free, back_free, set_free}
+use Rattle.watch_laws.proofs.GrantedFrom.{back_end, counts_from, made, turn_holds}
+use Rattle.watch_laws.proofs.Opener.{bearing, wants_same}
+use Rattle.watch_laws.proofs.Reasons.{told_come}
+use Rattle.watch_laws.proofs.Tracking.{back_kept, replied_forest, set_kept}
+
+-- what is wanted and whose time has come is so with or without a try
+back_sight : (x : Track) → sight (back_track x) ≡ sight x
+unfolding back_track
+back_sight x = refl
+
+back_bears : (x : Track) → bearing (back_track x) ≡ bearing x
+unfolding back_track
+back_bears x = refl
+
+module _ (mid : WatchState) (q : Out) (reply : Reply) (i : ℕ) where
+  abbrev tried : WatchState
+  tried = with_told_try mid i
+
+  abbrev replied_to : WatchState
+  replied_to = replied tried q reply
+
+  seen : SameSeen replied_to.tracks mid.tracks
+  seen = record {
+    tracks = λ j. back_kept (λ y x. sight y ≡ sight x) (λ x. refl) (λ x. back_sight x) tried q reply j ∙ set_kept (λ y x. sight y ≡ sight x) (λ x. refl) mid.tracks i _ refl j;
+  }
+
+  bears : bearing (track_at replied_to i) ≡ bearing (track_at mid i)
+  bears = back_kept (λ y x. bearing y ≡ bearing x) (λ x. refl) (λ x. back_bears x) tried q reply i ∙ set_kept (λ y x. bearing y ≡ bearing x) (λ x. refl) mid.tracks i _ refl i
+
+  told_clocks : replied_to.clocks ≡ mid.clocks
+  told_clocks = ap (λ (x : WatchState). x.clocks) (replied_rest tried q reply)
+
+  told_wanted : is_wanted replied_to i ≡ is_wanted mid i
+  told_wanted =
+      ap (λ (g : Forest). wants (track_at replied_to i) (need_of g.entries replied_to.tracks replied_to.clocks i)) (replied_forest tried q reply)
+      ∙ ap (λ c. wants (track_at replied_to i) (need_of mid.forest.entries replied_to.tracks c i)) told_clocks
+      ∙ ap (wants (track_at replied_to i)) (need_same replied_to.tracks mid.tracks seen mid.forest.entries mid.clocks i) ∙ wants_same (track_at replied_to i) (track_at mid i) (wanted_need mid i) bears
+
+  told_due : is_wanted replied_to i && is_come replied_to i ≡ is_called_for mid i
+  told_due = ap (λ b. b && is_come replied_to i) told_wanted ∙ ap (λ b. is_wanted mid i && b) (told_come mid q reply i)
+
+  told_alive : is_alive (second replied_to) (track_at replied_to i) ≡ is_alive (second mid) (track_at mid i)
+  told_alive = ap (λ (c : Clocks). is_alive (sec c.at) (track_at replied_to i)) told_clocks ∙ ap (is_alive (second mid)) bears
+
+-- the try after it
+goes_on_hastened : (now : ℕ) (t u : Try) (from : ℕ) → GoesOn now t u → GoesOn now t (hastened u from)
+goes_on_hastened now t u from h = let l = h.at in record { at = omega (arith, l); operation = h.operation; pressed = h.pressed; same = h.same; anew = h.anew }
+
+past_hastened : (t u : Try) (from : ℕ) → EndsTooSoon t u → EndsTooSoon t (hastened u from)
+past_hastened t u from h = record { failed = h.failed; operation = h.operation; fails = h.fails }
+
+once_goes : (now : ℕ) (t : Try) → GoesOn now t (at_once now t)
+unfolding at_once
+once_goes now t = by t.pressed refl where
+  by : (b : Bool) → t.pressed ≡ b → GoesOn now t (if b then record t { at = now; operation = Renew } else record { at = now; operation = Renew; pressed = true; along = false; base = Some now; fails = 0; lost = false; alone = false; failed = false })
+  by true is = record { at = omega arith; operation = refl; pressed = is; same = λ yes'. (refl, refl); anew = λ no'. absurd (true≢false (sym is ∙ no')) }
+  by false is = record { at = omega arith; operation = refl; pressed = refl; same = λ yes'. absurd (true≢false (sym yes' ∙ is)); anew = λ no'. (refl, refl) }
+
+due_try : (now : ℕ) (due : Bool) (x : Track) (t : Try) → due ≡ true → told_try now due x (Some t) ≡ Some (at_once now t)
+due_try now due x t yes' = cond-true due (Some (at_once now t)) (if is_alive (sec now) x then None else Some (failing t Look false false)) yes'
+
+done_try : (now : ℕ) (due : Bool) (x : Track) (o : Option Try) → due ≡ false → is_alive (sec now) x ≡ true → told_try now due x o ≡ None
+done_try now due x None no' alive = refl
+done_try now due x (Some t) no' alive =
+    cond-false due (Some (at_once now t)) (if is_alive (sec now) x then None else Some (failing t Look false false)) no'
+    ∙ cond-true (is_alive (sec now) x) None (Some (failing t Look false false)) alive
+
+past_try : (now : ℕ) (due : Bool) (x : Track) (t : Try) → due ≡ false → is_alive (sec now) x ≡ false → told_try now due x (Some t) ≡ Some (failing t Look false false)
+past_try now due x t no' past =
+    cond-false due (Some (at_once now t)) (if is_alive (sec now) x then None else Some (failing t Look false false)) no'
+    ∙ cond-false (is_alive (sec now) x) None (Some (failing t Look false false)) past
+
+back_some : (x : Track) (o : Option Try) → is_some (back_try x o) ≡ is_some o
+back_some x None = refl
+back_some x (Some t) =
+    if_both (λ (o : Option Try). is_some o ≡ true) x.out (Some (record t { fails = 0 })) (if t.lost then Some (hastened t (rested x.last)) else Some t) refl
+    (if_both (λ (o : Option Try). is_some o ≡ true) t.lost (Some (hastened t (rested x.last))) (Some t) refl refl)
+
+back_is_some : (x : Track) → is_some x.attempt ≡ true → is_some (back_track x).attempt ≡ true
+unfolding back_track
+back_is_some x h = back_some x x.attempt ∙ h
+
+back_is_none : (x : Track) → x.attempt ≡ None → (back_track x).attempt ≡ None
+unfolding back_track
+back_is_none x h = ap (back_try x) h
+
+-- what is told of the entry
+record Says (seconds since : ℕ) (renewable endless : Bool) (x : Track) : Type 0 where
+  end : x.end ≡ (if endless then Never else At (sec since + seconds))
+  goes_on : x.renewable ≡ renewable
+  owes : x.owes ≡ false
+  out : x.out ≡ false
+
+told_says : (since seconds : ℕ) (renewable endless : Bool) (x : Track) → Says seconds since renewable endless (told_track since seconds renewable endless x)
+unfolding told_track
+told_says since seconds renewable endless x = record { end = refl; goes_on = refl; owes = refl; out = refl }
+
+told_attempt : (since seconds : ℕ) (renewable endless : Bool) (x : Track) → (told_track since seconds renewable endless x).attempt ≡ x.attempt
+unfolding told_track
+told_attempt since seconds renewable endless x = refl
+
+back_says : (seconds since : ℕ) (renewable endless : Bool) (x : Track) → Says seconds since renewable endless x → Says seconds since renewable endless (back_track x)
+unfolding back_track
+back_says seconds since renewable endless x h = record { end = h.end; goes_on = h.goes_on; owes = h.owes; out = h.out }
+
+module _ (old : WatchState) (q : Out) (seconds : ℕ) (renewable : Bool) (date : Option ℕ) (terms : Terms) (within : q.entry < length old.tracks) where
+  abbrev i : ℕ
+  i = q.entry
+
+  abbrev telling : Reply
+  telling = Told seconds renewable date
+
+  abbrev s : WatchState
+  s = noted old q telling
+
+  abbrev told_mid : WatchState
+  told_mid = told_state s i q.since seconds renewable terms
+
+  abbrev y : Track
+  y = told_track q.since seconds renewable terms.endless (track_at old i)
+
+  abbrev last : WatchState
+  last = replied (looked s q telling terms) q telling
+
+  abbrev z : Track
+  z = record (track_at told_mid i) { attempt = told_try told_mid.clocks.at (is_called_for told_mid i) (track_at told_mid i) (track_at told_mid i).attempt }
+
+  there : track_at told_mid i ≡ y
+  there = get_or-set_same s.tracks i y no_track within
+
+  many : i < length told_mid.tracks
+  many = let count = length-set s.tracks i y in omega (arith, count, within)
+
+  final : track_at (with_told_try told_mid i) i ≡ z
+  final = get_or-set_same told_mid.tracks i z no_track many
+
+  kept : (P : Track → Type 0) → ((x : Track) → P x → P (back_track x)) → P z → P (track_at last i)
+  kept P back h = back_kept (λ w v. P v → P w) (λ v k. k) (λ v. back v) (with_told_try told_mid i) q telling i (subst P (sym final) h)
+
+  says : Says seconds q.since renewable terms.endless (track_at last i)
+  says =
+      let h = subst (Says seconds q.since renewable terms.endless) (sym there) (told_says q.since seconds renewable terms.endless (track_at old i)) in
+      kept (Says seconds q.since renewable terms.endless) (λ x. back_says seconds q.since renewable terms.endless x) (record { end = h.end; goes_on = h.goes_on; owes = h.owes; out = h.out })
+
+  z_out : z.out ≡ false
+  z_out = ap (λ (x : Track). x.out) there ∙ (told_says q.since seconds renewable terms.endless (track_at old i)).out
+
+  z_try : (o : Option Try) → attempt_at old i ≡ o → z.attempt ≡ told_try told_mid.clocks.at (is_called_for told_mid i) (track_at told_mid i) o
+  z_try o is = ap (told_try told_mid.clocks.at (is_called_for told_mid i) (track_at told_mid i)) (ap (λ (x : Track). x.attempt) there ∙ told_attempt q.since seconds renewable terms.endless (track_at old i) ∙ is)
+
+  -- by what the answer leaves of its try
+  try_holds : (Q : Try → Type 0) → ((v : Try) (from : ℕ) → Q v → Q (hastened v from)) → (v : Try) → z.attempt ≡ Some v → Q v → (u : Try) → attempt_at last i ≡ Some u → Q u
+  try_holds Q hasten v is h = (set_free Q hasten told_mid q telling z (z_out, λ w some. subst Q (value_is v w (sym is ∙ some)) h)).1
+
+  is_told : IsTold old last i seconds renewable terms q
+  is_told =
+      let due = told_due told_mid q telling i in
+      let alive = told_alive told_mid q telling i in
+      let clock = ap (λ (c : Clocks). c.at) (told_clocks told_mid q telling i) in
+      record {
+        end = says.end;
+        goes_on = says.goes_on;
+        owes = says.owes;
+        tried = λ yes' t is.
+            kept (λ (x : Track). is_some x.attempt ≡ true) (λ x. back_is_some x)
+            (ap is_some (z_try (Some t) is ∙ due_try told_mid.clocks.at (is_called_for told_mid i) (track_at told_mid i) t (sym due ∙ yes')));
+        renews = λ yes' t u is after.
+            subst (λ n. GoesOn n t u) (sym clock)
+            (try_holds (GoesOn told_mid.clocks.at t) (goes_on_hastened told_mid.clocks.at t) (at_once told_mid.clocks.at t) (z_try (Some t) is ∙ due_try told_mid.clocks.at (is_called_for told_mid i) (track_at told_mid i) t (sym due ∙ yes'))
+            (once_goes told_mid.clocks.at t) u after);
+        done = λ no' ahead.
+            kept (λ (x : Track). x.attempt ≡ None) (λ x. back_is_none x)
+            (z_try (attempt_at old i) refl ∙ done_try told_mid.clocks.at (is_called_for told_mid i) (track_at told_mid i) (attempt_at old i) (sym due ∙ no') (sym alive ∙ ahead));
+        past = λ no' over t u is after.
+            try_holds (EndsTooSoon t) (past_hastened t) (failing t Look false false) (z_try (Some t) is ∙ past_try told_mid.clocks.at (is_called_for told_mid i) (track_at told_mid i) t (sym due ∙ no') (sym alive ∙ over))
+            (record { failed = refl; operation = refl; fails = refl }) u after;
+      }
+
+told_turn :
+    (old new : WatchState) (event : Event) (result : Result Output WatchFault) (i seconds : ℕ) (renewable : Bool) (date : Option ℕ) (terms : Terms) (q : Out) → Turn old event result new → i < length old.tracks →
+    event ≡ Looked i (Told seconds renewable date) terms → is_event_taken result ≡ true → request_out old.out i Look ≡ Some q → IsTold old new i seconds renewable terms q
+told_turn old new event (Err fault) i seconds renewable date terms q turn within is taken' asked = absurd (true≢false (sym taken'))
+told_turn old new event (Ok output) i seconds renewable date terms q turn within is taken' asked =
+    let step : StepLooked old (request_out old.out i Look) (Told seconds renewable date) terms output new = subst (λ e. Step old e output new) is turn.1 in
+    let step' : StepLooked old (Some q) (Told seconds renewable date) terms output new = subst (λ o. StepLooked old o (Told seconds renewable date) terms output new) asked step in
+    let own = out_entry old.out i Look q asked in
+    subst (λ k. IsTold old new k seconds renewable terms q) own
+    (subst (λ x. IsTold old x q.entry seconds renewable terms q) (sym step'.1) (is_told old q seconds renewable date terms (omega (arith, own, within))))
+
+pub told_so : ToldLaw
+told_so old turn i seconds renewable date terms q h within is taken' asked = told_turn old turn.state turn.event turn.result i seconds renewable date terms q h.0 within is taken' asked
+
+-- what a grant leaves to be asked
+later_hastened : (now : ℕ) (u : Try) (from : ℕ) → OwesLater now u → OwesLater now (hastened u from)
+later_hastened now u from h = let l = h.at in record { at = omega (arith, l); operation = h.operation; pressed = h.pressed }
+
+owed_try : (at end : ℕ) (o : Option Try) (u : Try) → sec at < end → granted_try at true end o ≡ Some u → OwesLater at u
+owed_try at end None u ahead is = absurd cc
+owed_try at end (Some t) u ahead is =
+    let test : nat_lt (sec at) end ≡ true = grind (arith, nat_tests, ahead) in
+    let same = value_is (owed (at + 30000)) u (sym (cond-true (nat_lt (sec at) end) (Some (owed (at + 30000))) (Some (failing t Look false false)) test) ∙ is) in
+    subst (OwesLater at) same (record { at = omega arith; operation = refl; pressed = refl })
+
+over_try : (at end : ℕ) (owes : Bool) (t u : Try) → end ≤ sec at → granted_try at owes end (Some t) ≡ Some u → EndsTooSoon t u
+over_try at end owes t u over is =
+    let test : nat_lt (sec at) end ≡ false = grind (arith, nat_tests, over) in
+    let same = value_is (failing t Look false false) u (sym (cond-false (nat_lt (sec at) end) (if owes then Some (owed (at + 30000)) else None) (Some (failing t Look false false)) test) ∙ is) in
+    subst (EndsTooSoon t) same (record { failed = refl; operation = refl; fails = refl })
+
+module _ (old : WatchState) (i seconds : ℕ) (renewable : Bool) where
+  record IsLeft (q : Out) (x : Track) : Type 0 where
+    end : x.end ≡ At (sec (counts_from old i seconds q) + seconds)
+    done : second old < sec (counts_from old i seconds q) + seconds → (track_at old i).owes ≡ false → x.attempt ≡ None
+    owes : second old < sec (counts_from old i seconds q) + seconds → (track_at old i).owes ≡ true → Free (OwesLater old.clocks.at) (later_hastened old.clocks.at) x
+    past : sec (counts_from old i seconds q) + seconds ≤ second old → (t : Try) → attempt_at old i ≡ Some t → Free (EndsTooSoon t) (past_hastened t) x
+
+  left_made : (q : Out) → IsLeft q (made old i seconds renewable q)
+  unfolding granted_from
+  left_made q =
+      let at = old.clocks.at in
+      let end = sec (counts_from old i seconds q) + seconds in
+      record {
+        end = refl;
+        done = λ ahead none. no_try at end (track_at old i).owes (attempt_at old i) ahead none;
+        owes = λ ahead some. (refl, λ u is. owed_try at end (attempt_at old i) u ahead (ap (λ b. granted_try at b end (attempt_at old i)) (sym some) ∙ is));
+        past = λ over t there. (refl, λ u is. over_try at end (track_at old i).owes t u over (ap (granted_try at (track_at old i).owes end) (sym there) ∙ is));
+      }
+
+  back_left : (q : Out) (x : Track) → IsLeft q x → IsLeft q (back_track x)
+  back_left q x h = record {
+    end = back_end (At (sec (counts_from old i seconds q) + seconds)) x h.end;
+    done = λ ahead none. back_is_none x (h.done ahead none);
+    owes = λ ahead some. back_free (OwesLater old.clocks.at) (later_hastened old.clocks.at) x (h.owes ahead some);
+    past = λ over t is. back_free (EndsTooSoon t) (past_hastened t) x (h.past over t is);
+  }
+
+pub done_so : DoneLaw
+done_so old turn i seconds renewable date h within is taken' =
+    let there =
+    turn_holds (IsLeft old i seconds renewable) (back_left old i seconds renewable) old turn.state turn.event turn.result i seconds renewable date h.0 within is taken' (left_made old i seconds renewable) in
+    let left = there.1.1 in
+    let end = ap believed left.end in
+    record {
+      done = λ ahead none. left.done (omega (arith, ahead, end)) none;
+      owes = λ ahead some u after. (left.owes (omega (arith, ahead, end)) some).1 u after;
+      past = λ over t u before after. (left.past (omega (arith, over, end)) t before).1 u after;
+    }
+
+-- what writes the forest
+ceiling_is : (o : Option ℕ) → option_map (λ t. min END_MAX t) o ≡ ceiling_by o
+ceiling_is None = refl
+ceiling_is (Some ceiling) = refl
+
+step_is : (margin step : ℕ) (o : Option ℕ) → step_told margin step o ≡ step_by margin step o
+step_is margin step None = refl
+step_is margin step (Some told) = refl
+
+terms_is : (margin : ℕ) (terms : Terms) (e : Entry) → by_terms margin terms e ≡ entry_by margin terms e
+unfolding by_terms
+terms_is margin terms e =
+    ap (λ n. record (entry_by margin terms e) { step = n; ceiling = option_map (λ t. min END_MAX t) terms.ceiling }) (step_is margin e.step terms.step)
+    ∙ ap (λ o. record (entry_by margin terms e) { ceiling = o }) (ceiling_is terms.ceiling)
+
+one_is : (old new : WatchState) (i : ℕ) (e : Entry) → i < length old.forest.entries → new.forest ≡ record old.forest { entries = slice_set old.forest.entries i e } → OneIs old new i e
+one_is old new i e within is = record {
+  own = ap (λ (g : Forest). entry_at g.entries i) is ∙ entry_at_set_same old.forest.entries i e within;
+  others = λ j apart. ap (λ (g : Forest). entry_at g.entries j) is ∙ entry_at_set_other old.forest.entries i j e apart;
+  margin = ap (λ (g : Forest). g.margin) is;
+}
+
+terms_turn :
+    (old new : WatchState) (event : Event) (result : Result Output WatchFault) (i seconds : ℕ) (renewable : Bool) (date : Option ℕ) (terms : Terms) → Turn old event result new → i < length old.forest.entries →
+    event ≡ Looked i (Told seconds renewable date) terms → is_event_taken result ≡ true → OneIs old new i (entry_by old.forest.margin terms (entry_of old i))
+terms_turn old new event (Err fault) i seconds renewable date terms turn within is taken' = absurd (true≢false (sym taken'))
+terms_turn old new event (Ok output) i seconds renewable date terms turn within is taken' = by (request_out old.out i Look) refl (subst (λ e. Step old e output new) is turn.1) where
+  by : (found : Option Out) → request_out old.out i Look ≡ found → StepLooked old found (Told seconds renewable date) terms output new → OneIs old new i (entry_by old.forest.margin terms (entry_of old i))
+  by None asked step = absurd step
+  by (Some q) asked step =
+      let reply = Told seconds renewable date in
+      let s = noted old q reply in
+      let own = out_entry old.out i Look q asked in
+      let e : ℕ → Entry = λ k. by_terms old.forest.margin terms (entry_of old k) in
+      let forest : new.forest ≡ record old.forest { entries = slice_set old.forest.entries q.entry (e q.entry) } =
+      ap (λ (x : WatchState). x.forest) step.1 ∙ replied_forest (looked s q reply terms) q reply in
+      one_is old new i (entry_by old.forest.margin terms (entry_of old i)) within
+      (subst (λ k. new.forest ≡ record old.forest { entries = slice_set old.forest.entries k (e k) }) own forest
+      ∙ ap (λ v. record old.forest { entries = slice_set old.forest.entries i v }) (terms_is old.forest.margin terms (entry_of old i)))
+
+need_turn :
+    (old new : WatchState) (event : Event) (result : Result Output WatchFault) (i until : ℕ) → Turn old event result new → i < length old.forest.entries → event ≡ Need i until → is_event_taken result ≡ true →
+    OneIs old new i (record (entry_of old i) { need = min LAST until })
+need_turn old new event (Err fault) i until turn within is taken' = absurd (true≢false (sym taken'))
+need_turn old new event (Ok output) i until turn within is taken' =
+    let step = subst (λ e. Step old e output new) is turn.1 in
+    one_is old new i (record (entry_of old i) { need = min LAST until }) within (ap (λ (x : WatchState). x.forest) step.1)
+
+begun_forest : (s : WatchState) (w : Option Why) → (begun s w).forest ≡ s.forest
+begun_forest s None = refl
+begun_forest s (Some w) = refl
+
+clock_forest : (old new : WatchState) (wall elapsed : ℕ) (output : Output) → StepClock old wall elapsed output new → new.forest ≡ old.forest
+unfolding readied
+clock_forest old new wall elapsed output step =
+    ap (λ (x : WatchState). x.forest) (sent_by (pressed (readied old wall elapsed) (asked_by_round step.round)) new output.command step.command).1
+    ∙ begun_forest (settled (timed old wall elapsed)) (why old wall elapsed)
+
+untold_forest : (s : WatchState) (q : Out) (reply : Reply) (terms : Terms) → writes (Looked q.entry reply terms) ≡ false → (looked s q reply terms).forest ≡ s.forest
+untold_forest s q (Told seconds renewable date) terms none = absurd cc
+untold_forest s q (Refused status date) terms none = refl
+untold_forest s q Busy terms none = refl
+untold_forest s q Lost terms none = refl
+
+no_writing : (i j : ℕ) (reply : Reply) (terms : Terms) → writes (Looked i reply terms) ≡ false → writes (Looked j reply terms) ≡ false
+no_writing i j (Told seconds renewable date) terms none = none
+no_writing i j (Refused status date) terms none = refl
+no_writing i j Busy terms none = refl
+no_writing i j Lost terms none = refl
+
+looked_forest : (old new : WatchState) (i : ℕ) (found : Option Out) (reply : Reply) (terms : Terms) (output : Output) → StepLooked old found reply terms output new → writes (Looked i reply terms) ≡ false → new.forest ≡ old.forest
+looked_forest old new i None reply terms output step none = absurd step
+looked_forest old new i (Some q) reply terms output step none =
+    let s = noted old q reply in
+    ap (λ (x : WatchState). x.forest) step.1 ∙ replied_forest (looked s q reply terms) q reply ∙ untold_forest s q reply terms (no_writing i q.entry reply terms none)
+
+renewed_forest : (old new : WatchState) (found : Option Out) (reply : Reply) (output : Output) → StepRenewed old found reply output new → new.forest ≡ old.forest
+renewed_forest old new None reply output step = absurd step
+renewed_forest old new (Some q) reply output step = ap (λ (x : WatchState). x.forest) step.1 ∙ replied_forest (state_renewed (noted old q reply) q reply) q reply
+
+step_forest : (old new : WatchState) (event : Event) (output : Output) → Step old event output new → writes event ≡ false → new.forest ≡ old.forest
+step_forest old new (Clock wall elapsed) output step none = clock_forest old new wall elapsed output step
+step_forest old new (Looked i reply terms) output step none = looked_forest old new i (request_out old.out i Look) reply terms output step none
+step_forest old new (Renewed i reply) output step none = renewed_forest old new (request_out old.out i Renew) reply output step
+step_forest old new (Need i until) output step none = absurd cc
+step_forest old new Begin output step none = ap (λ (x : WatchState). x.forest) step.1
+step_forest old new (Known i end renewable) output step none = ap (λ (x : WatchState). x.forest) step.1
+
+turn_forest : (old new : WatchState) (event : Event) (result : Result Output WatchFault) → Turn old event result new → is_event_taken result && writes event ≡ false → new.forest ≡ old.forest
+turn_forest old new event (Ok output) turn none = step_forest old new event output turn.1 none
+turn_forest old new event (Err fault) turn none = ap (λ (x : WatchState). x.forest) (refused_stays old new event fault turn)
+
+known_turn :
+    (old new : WatchState) (event : Event) (result : Result Output WatchFault) (i end : ℕ) (renewable : Bool) → Turn old event result new → i < length old.tracks → event ≡ Known i end renewable → is_event_taken result ≡ true →
+    ((track_at new i).end ≡ At (min END_MAX end)) × ((track_at new i).renewable ≡ renewable)
+known_turn old new event (Err fault) i end renewable turn within is taken' = absurd (true≢false (sym taken'))
+known_turn old new event (Ok output) i end renewable turn within is taken' =
+    let step = subst (λ e. Step old e output new) is turn.1 in
+    let made : Track = record (track_at old i) { end = At (min END_MAX end); renewable = renewable } in
+    let there : track_at new i ≡ made = ap (λ (x : WatchState). track_at x i) step.1 ∙ get_or-set_same old.tracks i made no_track within in
+    (ap (λ (x : Track). x.end) there, ap (λ (x : Track). x.renewable) there)
+
+pub written_so : WrittenLaw
+written_so = record {
+  terms = λ old turn i seconds renewable date terms h within is taken'. terms_turn old turn.state turn.event turn.result i seconds renewable date terms h.0 within is taken';
+  need = λ old turn i until h within is taken'. need_turn old turn.state turn.event turn.result i until h.0 within is taken';
+  others = λ old turn h none. turn_forest old turn.state turn.event turn.result h.0 none;
+  known = λ old turn i end renewable h within is taken'. known_turn old turn.state turn.event turn.result i end renewable h.0 within is taken';
+}

@@ -1,0 +1,10 @@
+-- doubled_law: the laws as they are proved in Pausing and Doubling.
+use Rattle.watch_laws.proofs.Doubling.{pauses_double}
+use Rattle.watch_laws.proofs.Pausing.{longest_so}
+use Rattle.watch_laws.proofs.laws_of_pauses.doubled_law.Goals as goal
+
+pub returns-clause-longest : goal.returns-clause-longest
+returns-clause-longest c = longest_so
+
+pub returns-clause-doubled : goal.returns-clause-doubled
+returns-clause-doubled c = pauses_double

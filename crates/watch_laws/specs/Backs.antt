@@ -1,0 +1,39 @@
+-- Backs: what a reply leaves of the entries that it is not for, and what the first answer after an absence makes of them. The law is the contract of
+-- a public function without a body.
+-- Source: this project's own.
+use Rattle.std.specs.Prelude.{◌≡◌, ◌≢◌, ◌==◌, ℕ, Bool, true, false, ◌&&◌, [], ◌∷◌, Some, min}
+use Rattle.watch_machine.specs.declared.event.Event.{Event}
+use Rattle.watch_machine.specs.declared.event.Event.TheVariants.{Clock, Looked, Renewed, Need, Begin, Known}
+use Rattle.watch_machine.specs.declared.track.Try.{Try}
+use Rattle.watch_machine.specs.History.{History, Turned}
+use Rattle.watch_machine.specs.State.{WatchState, attempt_at, track_at}
+use Rattle.watch_laws.specs.Absence.{is_event_taken}
+use Rattle.watch_laws.specs.Presence.{is_answer}
+use Rattle.watch_laws.specs.Presses.{asked_again_at}
+
+-- a reply to a request of i is taken
+abbrev pub replies_to : ℕ → Event → Bool
+replies_to i (Clock wall elapsed) = false
+replies_to i (Looked j reply terms) = j == i
+replies_to i (Renewed j reply) = j == i
+replies_to i (Need j until) = false
+replies_to i Begin = false
+replies_to i (Known j end renewable) = false
+
+abbrev pub is_reply_to : ℕ → Turned → Bool
+is_reply_to i turn = is_event_taken turn.result && replies_to i turn.event
+
+-- what a reply to i leaves of the try t of another entry. If it is an answer and the broker was away: one that was lost is due at once, or a
+-- second after the entry was last asked; and of one that is out no failure counts, since it was asked in the absence. Else it stays
+pub record BackLaw : Type 0 where
+  pub out :
+      (old : WatchState) (turn : Turned) (i j : ℕ) (t : Try) → History old (turn ∷ []) → is_reply_to i turn ≡ true → is_answer turn ≡ true → old.presence.away ≡ true → j ≢ i → attempt_at old j ≡ Some t →
+      (track_at old j).out ≡ true → attempt_at turn.state j ≡ Some (record t { fails = 0 })
+  pub lost :
+      (old : WatchState) (turn : Turned) (i j : ℕ) (t : Try) → History old (turn ∷ []) → is_reply_to i turn ≡ true → is_answer turn ≡ true → old.presence.away ≡ true → j ≢ i → attempt_at old j ≡ Some t →
+      (track_at old j).out ≡ false → t.lost ≡ true → attempt_at turn.state j ≡ Some (record t { at = min t.at (asked_again_at (track_at old j).last) })
+  pub other :
+      (old : WatchState) (turn : Turned) (i j : ℕ) (t : Try) → History old (turn ∷ []) → is_reply_to i turn ≡ true → is_answer turn ≡ true → old.presence.away ≡ true → j ≢ i → attempt_at old j ≡ Some t →
+      (track_at old j).out ≡ false → t.lost ≡ false → attempt_at turn.state j ≡ Some t
+  pub stays :
+      (old : WatchState) (turn : Turned) (i j : ℕ) → History old (turn ∷ []) → is_reply_to i turn ≡ true → is_answer turn && old.presence.away ≡ false → j ≢ i → track_at turn.state j ≡ track_at old j

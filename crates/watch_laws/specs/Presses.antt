@@ -1,0 +1,44 @@
+-- Presses: what a clock makes of an entry whose time has come, of one that a round names, and of one that is wanted no more. The law is the
+-- contract of a public function without a body.
+-- Source: this project's own.
+use Rattle.std.specs.Prelude.{◌≡◌, ℕ, ◌+◌, ◌<◌, Bool, true, false, not, if◌then◌else◌, [], ◌∷◌, Option, Some, None, length, max}
+use Rattle.watch_machine.specs.declared.event.Operation.TheVariants.{Look, Renew}
+use Rattle.watch_machine.specs.declared.track.Try.{Try}
+use Rattle.watch_machine.specs.Beginning.{is_pressed}
+use Rattle.watch_machine.specs.History.{History, Turned}
+use Rattle.watch_machine.specs.State.{WatchState, attempt_at, second, track_at}
+use Rattle.watch_machine.specs.Wanted.{is_alive, is_wanted}
+use Rattle.watch_laws.specs.Clocks.{IsClock}
+use Rattle.watch_laws.specs.Time.{is_come, is_named_in_round, round_of}
+
+-- the moment from which an entry may be asked again that was last asked at such a clock, or never
+abbrev pub asked_again_at : Option ℕ → ℕ
+asked_again_at None = 0
+asked_again_at (Some last) = last + 1000
+
+-- the try u of an entry that is pressed at a clock: it may go out now, or a second after the entry was last asked; it asks for a renewal where
+-- the end is ahead, else for a lookup; a grant counts from now; and it has not failed
+pub record IsPressedNow (old new : WatchState) (i : ℕ) (along : Bool) (u : Try) : Type 0 where
+  pub at : u.at ≡ max new.clocks.at (asked_again_at (track_at old i).last)
+  pub operation : u.operation ≡ (if is_alive (second new) (track_at new i) then Renew else Look)
+  pub pressed : u.pressed ≡ true
+  pub asked_along : u.along ≡ along
+  pub base : u.base ≡ Some new.clocks.at
+  pub fails : u.fails ≡ 0
+
+abbrev pub HasPressed : WatchState → WatchState → ℕ → Bool → Type 0
+HasPressed old new i along = (u : Try) × ((attempt_at new i ≡ Some u) × IsPressedNow old new i along u)
+
+-- at a clock, of the entries that are not out: each that is wanted, whose time has come, and that is not pressed, is pressed; so is each that
+-- a round names, along with others where its own time has not come; and of one that is wanted no more, and not named, no more is left than
+-- the lookup that it owes, if any
+pub record PressLaw : Type 0 where
+  pub come :
+      (old : WatchState) (turn : Turned) (wall elapsed i : ℕ) → History old (turn ∷ []) → IsClock wall elapsed turn → i < length old.tracks → (track_at old i).out ≡ false → is_pressed (track_at old i) ≡ false →
+      is_wanted turn.state i ≡ true → is_come turn.state i ≡ true → HasPressed old turn.state i false
+  pub named :
+      (old : WatchState) (turn : Turned) (wall elapsed i : ℕ) → History old (turn ∷ []) → IsClock wall elapsed turn → i < length old.tracks → (track_at old i).out ≡ false →
+      is_named_in_round (round_of turn.result) i ≡ true → HasPressed old turn.state i (not (is_come turn.state i))
+  pub dropped :
+      (old : WatchState) (turn : Turned) (wall elapsed i : ℕ) (u : Try) → History old (turn ∷ []) → IsClock wall elapsed turn → (track_at old i).out ≡ false → is_wanted turn.state i ≡ false →
+      is_named_in_round (round_of turn.result) i ≡ false → attempt_at turn.state i ≡ Some u → (u.pressed ≡ false) × ((track_at turn.state i).owes ≡ true)
