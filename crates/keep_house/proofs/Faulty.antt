@@ -1,5 +1,5 @@
 -- Faulty: all faults of a start, and that the first of them is why it is refused. For `faults_to_serve`, `faults_of` and `last_fault`.
-use Rattle.std.proofs.Common.{◌≡◌, ◌∙◌, ◌⊎◌, ◌==◌, ℕ, List, [], ◌∷◌, ◌++◌, Bool, false, true, Some, None, Result, Ok, Err, IfOk, ap, arith, inl, inr, length, refl, subst, sym}
+use Rattle.std.proofs.Common.{◌≡◌, ◌∙◌, ◌==◌, ℕ, List, [], ◌∷◌, ◌++◌, Bool, false, true, Result, Ok, Err, IfOk, ap, arith, inl, inr, length, refl, subst, sym}
 use Rattle.std.proofs.lemmas.Bool.{eqb-false, eqb-true}
 use Rattle.std.specs.Prelude.{Vec}
 use Rattle.std.specs.declared.alloc.AllocError.{AllocError}
@@ -15,7 +15,7 @@ use Rattle.keep_inventory.specs.Served.{Served}
 use Rattle.keep_inventory.specs.declared.fault.InvFault.{InvFault}
 use Rattle.keep_inventory.specs.declared.fault.InvFault.TheVariants as inventories
 use Rattle.keep_house.specs.Filling.{AreUnfilled}
-use Rattle.keep_house.specs.Reading.{AreAllOr, AreFaults, AreFaultsOf, AreLast, FirstIsWhy, IsNoInventory, IsNotServed, IsStartFaultOf, IsToServe}
+use Rattle.keep_house.specs.Reading.{AreAllOr, AreFaults, AreFaultsOf, AreLast, FirstIsWhy, IsStartFaultOf}
 use Rattle.keep_house.specs.Starts.{first_of, first_start_fault, written_faults}
 use Rattle.keep_house.specs.declared.demands.Demands.{Demands}
 use Rattle.keep_house.specs.declared.fault.StartFault.{StartFault}
@@ -68,20 +68,6 @@ module _ (d : Demands) (known : Files) (folder named bytes : List ℕ) (v : Serv
       → IfOk result (λ l. AreFaultsOf d known folder bytes v l.items)
   are_last now (Ok l) none same left = left_so now l.items (nil_of fs none) same left
   are_last now (Err e) none same left = tt
-
--- ---- what is left
-
-is_no_fault : {X : Type 0} (x : X) (fault : InvFault) → Ok x ≡ Err fault → ⊥
-is_no_fault x fault bad = cc
-
-left_of : (d : Demands) (known : Files) (folder bytes : List ℕ) (v : Served) (fault : StartFault) → read_served bytes ≡ Ok v → (fault ≡ faults.OutOfMemory → ⊥) → IsToServe d known folder bytes (Err fault) → IsNotServed d known folder bytes fault
-left_of d known folder bytes v fault reads other (inl memory) = absurd (other memory)
-left_of d known folder bytes v fault reads other (inr (inl none)) = absurd (is_no_fault v none.0 (sym reads ∙ none.1.1))
-left_of d known folder bytes v fault reads other (inr (inr not)) = not
-
-pub one_left : (d : Demands) (known : Files) (folder bytes : List ℕ) (fault : StartFault) (fs : List StartFault) → (v : Served) × (read_served bytes ≡ Ok v) → (fault ≡ faults.OutOfMemory → ⊥) → IsToServe d known folder bytes (Err fault) →
-    fs ≡ fault ∷ [] → AreLast d known folder bytes fs
-one_left d known folder bytes fault fs read other is one = subst (AreLast d known folder bytes) (sym one) (left_of d known folder bytes read.0 fault read.1 other is)
 
 -- ---- the first
 

@@ -1,6 +1,6 @@
 -- Gathered: what files hold, one after another, and that it is taken. For `gather` and `fill_state`.
 use Rattle.std.proofs.Common.{◌≡◌, ◌∙◌, ◌⊎◌, ℕ, List, [], ◌∷◌, ◌++◌, Option, Some, Ok, inl, inr, refl, subst, sym}
-use Rattle.std.proofs.lemmas.List.Elements.{All-nil, All-push}
+use Rattle.std.proofs.lemmas.List.Elements.{All-push}
 use Rattle.std.specs.List.{All}
 use Rattle.std.specs.Prelude.{slice_get}
 use Rattle.keep_change.specs.declared.row.Row.{Row}
@@ -23,9 +23,6 @@ held_as k now folder secret row same h = record {
   file = h.file;
   held = (h.held.0, (subst (λ o. FileIsRead o MOST_SECRET (Ok h.held.0)) (same (placed folder secret.file)) h.held.1.0, h.held.1.1));
 }
-
-pub gathered_none : (k : Files) (folder : List ℕ) (rows : List Row) (secrets : List Secret) → secrets ≡ [] → GatheredSoFar k k folder rows secrets
-gathered_none k folder rows secrets none = subst (λ (s : List Secret). GatheredSoFar k k folder rows s) (sym none) (record { held = All-nil (IsHeldBy k folder rows); same = λ path. refl })
 
 pub gathered_more : (k now after : Files) (folder : List ℕ) (rows : List Row) (i : ℕ) (row : Row) (old new : List Secret) → GatheredSoFar k now folder rows old → slice_get rows i ≡ Some row → Took now folder row old new →
     ((path : List ℕ) → after path ≡ now path) → GatheredSoFar k after folder rows new

@@ -26,8 +26,8 @@ use std::alloc::{AllocError, Global};
 use std::marker::Model;
 use watch_machine::{Notes, Operation, Request};
 
-/// How lines are written, those that wait, and what was said last of each entry, and of a lack of memory. Lack of memory costs the line for which it is
-/// wanting: that is dropped and counted.
+/// How lines are written, those that wait, and what was said last of each entry, and of a lack of memory. Lack of memory costs the
+/// line for which it is wanting: that is dropped and counted.
 #[derive(Debug, Drop)]
 pub struct Desk {
     pub(crate) form: Form,

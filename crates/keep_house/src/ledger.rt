@@ -42,6 +42,7 @@ use keep_lanes::Lanes;
 use keep_moment::{Name, Text};
 use keep_proving::{Proving, Verdict};
 use keep_secrets::{Looked, Looking, SecretFiles};
+use keep_settle::SettleFault;
 use keep_state::{Reloaded, State, TableFault, read_table};
 use keep_store::{Secret, TakeFault};
 use keep_words::push_number;
@@ -93,7 +94,7 @@ impl<'a, D: Disk, I: Inputs, L: Lanes> Ledger<'a, D, I, L> {
             &mut self.inputs,
             now,
         )?;
-        if !is_taken {
+        if !is_taken? {
             said.push(Text::of(
                 alloc,
                 b"what the files of credentials hold does not go together: the old ones stay",
@@ -214,7 +215,8 @@ fn unkept_words(alloc: Global, copy: Option<DiskFault>) -> Option<Text>
     }
 }
 
-// Has from now on what the files of credentials hold; what is said of those that hold none, and whether it can be handed on.
+// Has from now on what the files of credentials hold; what is said of those that hold none, and whether it can be handed on, where memory
+// sufficed for that.
 #[tactic(auto, using(crate::proofs::Gathered::filled_on))]
 fn fill_state<D: Disk, I: Inputs>(
     alloc: Global,
@@ -222,7 +224,7 @@ fn fill_state<D: Disk, I: Inputs>(
     folder: &str,
     inputs: &mut I,
     now: u64,
-) -> Result<(Vec<Text>, bool), AllocError>
+) -> Result<(Vec<Text>, Result<bool, AllocError>), AllocError>
     ensures { IsFilledOn (I.bytes_at inputs.old) folder.now now state.old state.new }
 {
     let Gathered { secrets, said } = gather(alloc, state.rows().list(), folder.as_bytes(), inputs)?;
@@ -230,14 +232,22 @@ fn fill_state<D: Disk, I: Inputs>(
     Ok((said, is_taken))
 }
 
-// Has from now on what files have given, where they have given anything. Whether that can be handed on.
-fn fill_with<D: Disk>(state: &mut State<'_, D>, now: u64, secrets: Vec<Secret>) -> bool
+// Has from now on what files have given, where they have given anything. Whether that can be handed on; the only error is out of memory.
+fn fill_with<D: Disk>(
+    state: &mut State<'_, D>,
+    now: u64,
+    secrets: Vec<Secret>,
+) -> Result<bool, AllocError>
     ensures { FilledWith now secrets.items state.old state.new }
 {
     if secrets.is_empty() {
-        return true;
+        return Ok(true);
     }
-    state.take_secrets(now, secrets).is_ok()
+    match state.take_secrets(now, secrets) {
+        Ok(()) => Ok(true),
+        Err(SettleFault::OutOfMemory) => Err(AllocError),
+        Err(_) => Ok(false),
+    }
 }
 
 // Takes the records out of the journal that are void, where that is worth while. (Where it fails, the journal has more records than it

@@ -5,7 +5,7 @@ use Rattle.keep_clock.specs.declared.reading.Reading.{Reading}
 use Rattle.keep_serving.specs.Changes.{Made}
 use Rattle.keep_serving.specs.Laws.{CallsLaw, WaitLaw}
 use Rattle.keep_serving.specs.Neighbours.{Answer, GoOn, Hear, NeighbourCall, calls_at, calls_of_hearing, changes_in, heard_of_time, heard_of_want}
-use Rattle.keep_serving.specs.Turns.{ServingTurn, is_some_change, wait_by}
+use Rattle.keep_serving.specs.Turns.{ServingTurn, is_some_made, wait_by}
 
 -- ---- the wait
 
@@ -21,7 +21,7 @@ in_time false until due r = omega arith
 
 pub wait_law : WaitLaw
 wait_law port old new t h =
-    let is_more = is_some_change t.changes || t.is_busy in
+    let is_more = is_some_made t.changes || t.is_busy in
     let until = new.held.until in
     let waits = h.waits in
     let most = a_second is_more t.is_whole until t.due t.reading in (

@@ -1,5 +1,5 @@
 -- Changed: changes are made one after another, and each leaves what is held in step with the lanes. For `make_changes` and the turn.
-use Rattle.std.proofs.Common.{◌≡◌, ◌∙◌, ℕ, zero, suc, ◌+◌, ◌≤◌, Bool, true, false, List, [], ◌∷◌, ◌++◌, Option, Some, None, Result, Ok, Err, append_assoc, length, map, refl, sym, ap, subst, arith}
+use Rattle.std.proofs.Common.{◌≡◌, ◌∙◌, ℕ, zero, suc, ◌+◌, ◌≤◌, Bool, true, false, ◌||◌, List, [], ◌∷◌, ◌++◌, Option, Some, None, Result, Ok, Err, append_assoc, length, map, refl, sym, ap, subst, arith}
 use Rattle.std.proofs.lemmas.List.{length-append}
 use Rattle.keep_agent.specs.declared.standing.Told.{Told}
 use Rattle.keep_agent.specs.Agent.{Agent}
@@ -18,7 +18,7 @@ use Rattle.watch_machine.specs.declared.lanes.Out.{Out}
 use Rattle.watch_machine.specs.State.{WatchState, opened}
 use Rattle.keep_serving.specs.Changes.{AllGiven, AreMade, ChangeIsMade, InventoryIsServed, Made, changes_of}
 use Rattle.keep_serving.specs.Held.{Held, IsInStep, ServingSide}
-use Rattle.keep_serving.specs.Turns.{is_some_change}
+use Rattle.keep_serving.specs.Turns.{is_some_made}
 use Rattle.keep_serving.specs.declared.change.Change.{Change}
 use Rattle.keep_serving.specs.declared.change.Change.TheVariants.{Need, Begin, Serve, Kept}
 
@@ -28,9 +28,17 @@ pub made_on : (made : List Made) (c : Change) (is_made : Bool) (old mid new : Se
 made_on [] c is_made old mid new h one = (new, (subst (λ (s : ServingSide). ChangeIsMade c is_made s new) h one, refl))
 made_on (m ∷ rest) c is_made old mid new h one = (h.0, (h.1.0, made_on rest c is_made h.0 mid new h.1.1 one))
 
-pub some_made : (made : List Made) (m : Made) → true ≡ is_some_change (made ++ m ∷ [])
-some_made [] m = refl
-some_made (x ∷ xs) m = refl
+or_none : (b : Bool) → false || b ≡ b || false
+or_none true = refl
+or_none false = refl
+
+or_on : (b p q r : Bool) → p || q ≡ r → (b || p) || q ≡ b || r
+or_on true p q r same = refl
+or_on false p q r same = same
+
+pub some_made : (made : List Made) (m : Made) → is_some_made made || m.is_made ≡ is_some_made (made ++ m ∷ [])
+some_made [] m = or_none m.is_made
+some_made (x ∷ xs) m = or_on x.is_made (is_some_made xs) m.is_made (is_some_made (xs ++ m ∷ [])) (some_made xs m)
 
 changes_on : (made : List Made) (m : Made) → changes_of (made ++ m ∷ []) ≡ changes_of made ++ m.change ∷ []
 changes_on [] m = refl

@@ -4,7 +4,7 @@ use Rattle.keep_clock.specs.declared.reading.Reading.{Reading}
 use Rattle.keep_serving.specs.Changes.{AllGiven, AreMade, Made}
 use Rattle.keep_serving.specs.Held.{ServingSide}
 use Rattle.keep_serving.specs.Stages.{LeftOverGoesFirst}
-use Rattle.keep_serving.specs.Turns.{IsServingTurn, ServingTurn, is_some_change, wait_by}
+use Rattle.keep_serving.specs.Turns.{IsServingTurn, ServingTurn, is_some_made, wait_by}
 use Rattle.keep_serving.specs.declared.change.Change.{Change}
 
 -- no clock could be read
@@ -27,5 +27,5 @@ turned r is_whole made is_busy due millis = record { reading = Some r; is_whole 
 
 pub whole_turn :
     (port : ℕ) (r : Reading) (is_whole is_busy : Bool) (made : List Made) (due millis : ℕ) (old mid new : ServingSide) → LeftOverGoesFirst port r old is_whole mid → AreMade made mid new → length made ≤ 8 →
-    millis ≡ wait_by (is_some_change made || is_busy) is_whole new.held.until due (Some r) → IsServingTurn port old (turned r is_whole made is_busy due millis) new
+    millis ≡ wait_by (is_some_made made || is_busy) is_whole new.held.until due (Some r) → IsServingTurn port old (turned r is_whole made is_busy due millis) new
 whole_turn port r is_whole is_busy made due millis old mid new goes are few waits = record { mid = mid; hears = goes; made = are; few = few; waits = waits }

@@ -24,11 +24,11 @@ abbrev pub TurnHears : ℕ → Option Reading → ServingSide → Bool → Servi
 TurnHears port None old is_whole new = (is_whole ≡ false) × (new ≡ old)
 TurnHears port (Some r) old is_whole new = LeftOverGoesFirst port r old is_whole new
 
-abbrev pub is_some_change : List Made → Bool
-is_some_change [] = false
-is_some_change (m ∷ rest) = true
+abbrev pub is_some_made : List Made → Bool
+is_some_made [] = false
+is_some_made (m ∷ rest) = m.is_made || is_some_made rest
 
--- no wait where something is to be handed in at once. Else until the Watch's moment, or until a lane has to be looked at, or a
+-- no wait where a change was made, or a neighbour can go on. Else until the Watch's moment, or until a lane has to be looked at, or a
 -- second; a tenth of one where memory is wanting or no clock is read
 abbrev pub wait_at : ℕ → ℕ → Reading → ℕ
 wait_at until due r = min 1000 (min until due - r.elapsed)
@@ -41,7 +41,7 @@ abbrev pub wait_by : Bool → Bool → ℕ → ℕ → Option Reading → ℕ
 wait_by is_more is_whole until due reading = if is_more then 0 else wait_after is_whole until due reading
 
 abbrev pub wait_of : ServingTurn → ℕ → ℕ
-wait_of t until = wait_by (is_some_change t.changes || t.is_busy) t.is_whole until t.due t.reading
+wait_of t until = wait_by (is_some_made t.changes || t.is_busy) t.is_whole until t.due t.reading
 
 pub record IsServingTurn (port : ℕ) (old : ServingSide) (t : ServingTurn) (new : ServingSide) : Type 0 where
   pub mid : ServingSide

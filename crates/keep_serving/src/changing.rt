@@ -7,7 +7,7 @@ ghost use Rattle.keep_serving.specs.Neighbours.{AllCalled, changes_in};
 ghost use Rattle.keep_serving.specs.declared.change.Change.TheVariants.{Serve};
 ghost use Rattle.watch_machine.specs.declared.command.Output.{Output};
 ghost use Rattle.watch_machine.specs.declared.fault.WatchFault.{WatchFault};
-ghost use Rattle.keep_serving.specs.Turns.{is_some_change};
+ghost use Rattle.keep_serving.specs.Turns.{is_some_made};
 
 use crate::change::Change;
 use crate::neighbours::Neighbours;
@@ -23,7 +23,7 @@ use watch_machine::Event;
 const MOST_CHANGES: u32 = 8;
 
 impl Serving {
-    /// Takes as many changes as a turn may, and makes each. Whether there was one.
+    /// Takes as many changes as a turn may, and makes each. Whether one was made.
     pub(crate) fn make_changes<L: Lanes, N: Neighbours>(
         &mut self,
         alloc: Global,
@@ -31,7 +31,7 @@ impl Serving {
         lanes: &mut L,
         neighbours: &mut N,
     ) -> bool
-        ensures made { (made : List Made) × ((AreMade made (serving_side self.old (⟦<L as SeenLanes>⟧.seen lanes.old)) (serving_side self.new (⟦<L as SeenLanes>⟧.seen lanes.new))) × ((length made ≤ 8) × ((result ≡ is_some_change made) × (AllGiven (changes_of made) (N.given neighbours.old) (N.given neighbours.new) × AllCalled N.does (changes_in 8 made) neighbours.old neighbours.new)))) }
+        ensures made { (made : List Made) × ((AreMade made (serving_side self.old (⟦<L as SeenLanes>⟧.seen lanes.old)) (serving_side self.new (⟦<L as SeenLanes>⟧.seen lanes.new))) × ((length made ≤ 8) × ((result ≡ is_some_made made) × (AllGiven (changes_of made) (N.given neighbours.old) (N.given neighbours.new) × AllCalled N.does (changes_in 8 made) neighbours.old neighbours.new)))) }
         ensures width { L.width lanes.new ≡ L.width lanes.old }
         ensures port { L.host_port lanes.new ≡ L.host_port lanes.old }
     {
@@ -40,9 +40,9 @@ impl Serving {
             let Some(change) = neighbours.change(alloc, &self.agent, now) else {
                 return is_changed;
             };
-            is_changed = true;
             let is_made = self.make(alloc, lanes, change);
             neighbours.settle(alloc, &self.agent, is_made);
+            is_changed |= is_made;
         }
         is_changed
     }

@@ -178,7 +178,8 @@ impl Serving {
     }
 }
 
-/// For how long is waited: not at all where something is to be handed in at once.
+/// For how long is waited: not at all where a change was made, or a neighbour can go on. (A change that lacked memory is tried again
+/// after a wait, and not in a loop without one.)
 fn wait_of(
     is_changed: bool,
     is_busy: bool,

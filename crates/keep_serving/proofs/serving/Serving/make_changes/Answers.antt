@@ -1,5 +1,5 @@
 -- One change more is made.
-use Rattle.std.proofs.Common.{◌∙◌, ◌++◌, ◌∷◌, [], arith, refl}
+use Rattle.std.proofs.Common.{◌∙◌, ◌++◌, ◌∷◌, ◌||◌, Bool, [], ap, arith, refl}
 use Rattle.keep_asking.specs.Sending.{Lanes, lanes_of}
 use Rattle.keep_serving.specs.Changes.{Made, changes_of}
 use Rattle.keep_serving.specs.Held.{serving_side}
@@ -27,7 +27,7 @@ loop-preserved g c =
           (
             one_more made m c.loop.counter all.1.1.0,
             (
-              some_made made m,
+              ap (λ (b : Bool). b || c.make-is_made.result) all.1.1.1.0 ∙ some_made made m,
               (
                 given_on made c.in-Some.change c.make-is_made.result _ _ _ _ all.1.1.1.1.0 c.in-Some.ensures.given c.settle.ensures.given,
                 (

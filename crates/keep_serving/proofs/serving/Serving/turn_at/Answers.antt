@@ -4,7 +4,7 @@ use Rattle.keep_asking.specs.Sending.{Lanes, lanes_of}
 use Rattle.keep_serving.specs.Changes.{AllGiven, changes_of}
 use Rattle.keep_serving.specs.Held.{Held, IsInStep, serving_side}
 use Rattle.keep_serving.specs.Neighbours.{AllCalled, GoOn, calls_of_hearing, changes_in, heard_of_want}
-use Rattle.keep_serving.specs.Turns.{is_some_change, wait_by}
+use Rattle.keep_serving.specs.Turns.{is_some_made, wait_by}
 use Rattle.keep_serving.proofs.Called.{called_join}
 use Rattle.keep_serving.proofs.Changed.{made_keeps}
 use Rattle.keep_serving.proofs.Staged.{goes_keeps}
@@ -25,10 +25,10 @@ returns-clause-turn g c =
     let heard = c.hand_in.ensures.heard in
     let told : AllCalled g.N.Neighbours.does (heard_of_want whole) c.hand_in.new.neighbours c.tell_want.new.neighbours =
     subst (λ w. AllCalled g.N.Neighbours.does (heard_of_want w) c.hand_in.new.neighbours c.tell_want.new.neighbours) c.is_ok-is_whole.ensures.value c.tell_want.ensures.heard in
-    let waits : c.wait_of.result ≡ wait_by (is_some_change made.0 || busy) whole held.until due (Some r) =
+    let waits : c.wait_of.result ≡ wait_by (is_some_made made.0 || busy) whole held.until due (Some r) =
     c.wait_of.ensures ∙ ap (λ b. wait_by (b || busy) c.is_ok-is_whole.result c.self-2.inside.until due (Some r)) made.1.1.1.0
-    ∙ ap (λ w. wait_by (is_some_change made.0 || busy) w c.self-2.inside.until due (Some r)) c.is_ok-is_whole.ensures.value
-    ∙ ap (λ (h : Held). wait_by (is_some_change made.0 || busy) whole h.until due (Some r)) c.self-2.view_is in (
+    ∙ ap (λ w. wait_by (is_some_made made.0 || busy) w c.self-2.inside.until due (Some r)) c.is_ok-is_whole.ensures.value
+    ∙ ap (λ (h : Held). wait_by (is_some_made made.0 || busy) whole h.until due (Some r)) c.self-2.view_is in (
       turned r whole made.0 busy due c.wait_of.result,
       (
         refl,
