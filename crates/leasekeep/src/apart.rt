@@ -92,7 +92,7 @@ pub fn shown_of<L: Lanes>(
 }
 
 /// Waits before the first turn, where there is a wait.
-pub fn wait_first<C: Clock, L: Lanes, N: Neighbours>(
+fn wait_first<C: Clock, L: Lanes, N: Neighbours>(
     alloc: Global,
     wait: Option<Wait>,
     serving: &mut Serving,
@@ -106,4 +106,20 @@ pub fn wait_first<C: Clock, L: Lanes, N: Neighbours>(
     if let Some(Wait { until, mut shown }) = wait {
         serving.wait_apart(alloc, &mut shown, clock, lanes, neighbours, until, u64::MAX);
     }
+}
+
+/// Waits where there is a wait, and then makes one turn after another.
+pub fn serve_by<C: Clock, L: Lanes, N: Neighbours>(
+    alloc: Global,
+    wait: Option<Wait>,
+    serving: Serving,
+    clock: &mut C,
+    lanes: &mut L,
+    neighbours: &mut N,
+)
+    requires in_step { IsInStep (L.width lanes.old) (L.out lanes.old) serving }
+{
+    let mut serving = serving;
+    wait_first(alloc, wait, &mut serving, clock, lanes, neighbours);
+    serving.run(alloc, clock, lanes, neighbours, u64::MAX);
 }

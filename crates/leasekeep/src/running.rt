@@ -1,7 +1,7 @@
 //! An agent from its start to its last turn: its clock, its lanes, its log and doors, and what serves.
 ghost use Rattle.std.specs.Prelude.{◌≡◌, [], IfOk, max, min};
 
-use crate::apart::{shown_of, wait_first, wait_of};
+use crate::apart::{serve_by, shown_of, wait_of};
 use crate::ends::{ends_file, taken_over};
 use crate::folder::{Said, SystemLedger};
 use crate::reading::Inventories;
@@ -11,6 +11,7 @@ use keep_answering::{Control, Onlookers};
 use keep_clients::{SocketDoor, SocketTalk};
 use keep_clock::{Clock as _, Reading, SystemClock};
 use keep_disk::SystemDisk;
+use keep_ends::EndsFile;
 use keep_house::{Desk, Form, House};
 use keep_inventory::Inventory;
 use keep_lanes::{Lanes, LanesOver, MOST_WIDTH, SocketLanes};
@@ -87,22 +88,38 @@ where
     R: Files<File = File> + AllocGlobal + Net + Clock,
     requires free { ⟦<SocketLanes<'a, R> as Lanes>⟧.out lanes.old ≡ [] }
 {
+    let mut start = start;
     let now = clock.read().unwrap_or(Reading {
         wall: 0,
         elapsed: 0,
     });
+    let Ready {
+        desk,
+        known,
+        ends,
+        control,
+        onlookers,
+    } = make_ready(rt, served, clock, now, &mut start)?;
     let Start {
         part,
         inventories,
         ledger,
         is_good,
-        said,
+        ..
     } = start;
-    let count = inventories.served.forest().len();
-    let desk = desk_of(rt.alloc(), served.form, count, now, said)?;
-    let mut house = house_of(desk, log, read_at(now, is_good), ledger);
-    let known = furnish(rt, served, clock, &inventories.served, now, &mut house)?;
     let first = First { now, part, known };
+    let house = House {
+        desk,
+        sink: log,
+        control,
+        onlookers,
+        file: read_at(now, is_good),
+        state: ledger,
+        given: None,
+        awaited: None,
+        next: None,
+        ends,
+    };
     let mut neighbours = EarlyDay::new(house, u64::from(part) * 1000);
     serve_on(
         rt.alloc(),
@@ -138,15 +155,56 @@ where
     requires free { ⟦<SocketLanes<'a, R> as Lanes>⟧.out lanes.old ≡ [] }
 {
     let Inventories { served, again } = inventories;
-    let Ok(mut serving) = Serving::resume(alloc, served, lanes, &first.known) else {
+    let Ok(serving) = Serving::resume(alloc, served, lanes, &first.known) else {
         return Err(AllocError);
     };
     let shown = shown_of(alloc, again, lanes, &first.known);
     let desk = &mut neighbours.others.desk;
     let wait = wait_of(alloc, &serving, shown, first.now, first.part, desk);
-    wait_first(alloc, wait, &mut serving, clock, lanes, neighbours);
-    serving.run(alloc, clock, lanes, neighbours, u64::MAX);
+    serve_by(alloc, wait, serving, clock, lanes, neighbours);
     Ok(())
+}
+
+/// What a house is made of, beside its ledger and who reads its log.
+#[derive(Drop)]
+struct Ready<'a, R: Files<File = File> + AllocGlobal + Net + Clock> {
+    desk: Desk,
+    /// The events that hand in the ends that were told before.
+    known: Vec<Event>,
+    /// The file that keeps the ends.
+    ends: Option<EndsFile<SystemDisk<'a, R>>>,
+    control: Option<Control<SocketTalk, SocketDoor>>,
+    onlookers: Option<Onlookers<SocketTalk, SocketDoor>>,
+}
+
+/// Gives the ledger of a start a lane, opens the log and the doors, and takes over the ends that a file keeps. The only error is lack of
+/// memory.
+fn make_ready<'a, R>(
+    rt: &'a R,
+    served: &Served<'a>,
+    clock: &SystemClock<'_, R>,
+    now: Reading,
+    start: &mut Start<'a, R>,
+) -> Result<Ready<'a, R>, AllocError>
+where
+    R: Files<File = File> + AllocGlobal + Net + Clock,
+{
+    let alloc = rt.alloc();
+    if let Some(ledger) = &mut start.ledger {
+        prove_over_lane(rt, served, clock, ledger)?;
+    }
+    let count = start.inventories.served.forest().len();
+    let mut desk = desk_of(alloc, served.form, count, now, &start.said)?;
+    let (ends, known) = take_over(rt, served, &start.inventories.served, now, &mut desk)?;
+    let clients = open_door(rt, clock, now, served.control, CLIENTS, &mut desk);
+    let onlookers = open_door(rt, clock, now, served.listen, ONLOOKERS, &mut desk);
+    Ok(Ready {
+        desk,
+        known,
+        ends,
+        control: clients.map(|door| Control::new(alloc, door)),
+        onlookers: onlookers.map(|door| Onlookers::new(alloc, door)),
+    })
 }
 
 /// The log, with what is said at the start. The only error is lack of memory.
@@ -155,7 +213,7 @@ fn desk_of(
     form: Form,
     count: u32,
     now: Reading,
-    said: Vec<Said>,
+    said: &[Said],
 ) -> Result<Desk, AllocError> {
     let mut desk = Desk::new(alloc, form, count)?;
     for line in said {
@@ -164,87 +222,23 @@ fn desk_of(
     Ok(desk)
 }
 
-/// A house with no doors, and no file of the ends.
-fn house_of<'a, R>(
-    desk: Desk,
-    log: StandardOutput,
-    file: FileReading,
-    ledger: Option<SystemLedger<'a, R>>,
-) -> SystemHouse<'a, R>
-where
-    R: Files<File = File> + AllocGlobal + Net + Clock,
-{
-    House {
-        desk,
-        sink: log,
-        control: None,
-        onlookers: None,
-        file,
-        state: ledger,
-        given: None,
-        awaited: None,
-        next: None,
-        ends: None,
-    }
-}
-
-/// Opens the doors of a house, gives it the file of the ends, and its ledger a lane. What hands in the ends that the file keeps. The
-/// only error is lack of memory.
-fn furnish<'a, R>(
-    rt: &'a R,
-    served: &Served<'a>,
-    clock: &SystemClock<'_, R>,
-    inventory: &Inventory,
-    now: Reading,
-    house: &mut SystemHouse<'a, R>,
-) -> Result<Vec<Event>, AllocError>
-where
-    R: Files<File = File> + AllocGlobal + Net + Clock,
-{
-    open_doors(rt, served, clock, now, house);
-    let known = take_over(rt, served, inventory, now, house)?;
-    if let Some(ledger) = &mut house.state {
-        prove_over_lane(rt, served, clock, ledger)?;
-    }
-    Ok(known)
-}
-
-/// Opens the doors that are asked for.
-fn open_doors<'a, R>(
-    rt: &'a R,
-    served: &Served<'a>,
-    clock: &SystemClock<'_, R>,
-    now: Reading,
-    house: &mut SystemHouse<'a, R>,
-)
-where
-    R: Files<File = File> + AllocGlobal + Net + Clock,
-{
-    let alloc = rt.alloc();
-    let desk = &mut house.desk;
-    let clients = open_door(rt, clock, now, served.control, CLIENTS, desk);
-    let onlookers = open_door(rt, clock, now, served.listen, ONLOOKERS, desk);
-    house.control = clients.map(|door| Control::new(alloc, door));
-    house.onlookers = onlookers.map(|door| Onlookers::new(alloc, door));
-}
-
-/// Gives a house the file of the ends, where there is room for one. What hands in the ends that it keeps.
+/// The file of the ends, where there is room for one, and what hands in the ends that it keeps. The only error is lack of memory.
 fn take_over<'a, R>(
     rt: &'a R,
     served: &Served<'a>,
     inventory: &Inventory,
     now: Reading,
-    house: &mut SystemHouse<'a, R>,
-) -> Result<Vec<Event>, AllocError>
+    desk: &mut Desk,
+) -> Result<(Option<EndsFile<SystemDisk<'a, R>>>, Vec<Event>), AllocError>
 where
     R: Files<File = File> + AllocGlobal + Net + Clock,
 {
     let alloc = rt.alloc();
-    house.ends = ends_file(rt, served.room, now, &mut house.desk)?;
-    match &mut house.ends {
-        None => Ok(Vec::new(alloc)),
-        Some(file) => taken_over(alloc, file, inventory, now, &mut house.desk),
-    }
+    let Some(mut file) = ends_file(rt, served.room, now, desk)? else {
+        return Ok((None, Vec::new(alloc)));
+    };
+    let known = taken_over(alloc, &mut file, inventory, now, desk)?;
+    Ok((Some(file), known))
 }
 
 /// Has a credential looked up over a lane of its own before a ledger takes it.
