@@ -5,16 +5,16 @@ use keep_agent::Agent;
 use keep_clock::Reading;
 use keep_serving::{Change, Happened, Neighbours};
 use std::alloc::Global;
-use watch_machine::Next;
+use watch_machine::{Next, Operation, Request};
 
-/// What was heard, the changes to come, the last of them first, and how often they were called.
-#[derive(Drop)]
-pub(crate) struct Beside {
-    pub(crate) changes: Vec<Change>,
+/// What was heard.
+#[derive(Clone, Copy, Debug, PartialEq, Eq)]
+pub(crate) struct Heard {
     pub(crate) looks: u32,
     pub(crate) renewals: u32,
     pub(crate) answers: u32,
     pub(crate) made: u32,
+    /// How often they were called.
     pub(crate) calls: u64,
     /// The next time that was told last; `None` where none was told yet.
     pub(crate) next: Option<Option<Next>>,
@@ -22,31 +22,16 @@ pub(crate) struct Beside {
     pub(crate) outlooks: u32,
 }
 
-impl Beside {
-    pub(crate) fn with(changes: Vec<Change>) -> Beside {
-        Beside {
-            changes,
-            looks: 0,
-            renewals: 0,
-            answers: 0,
-            made: 0,
-            calls: 0,
-            next: None,
-            outlooks: 0,
-        }
-    }
-
-    fn count(&mut self, requests: &[watch_machine::Request]) {
+impl Heard {
+    fn count(&mut self, requests: &[Request]) {
         for request in requests {
             match request.operation {
-                watch_machine::Operation::Look => self.looks = self.looks.saturating_add(1),
-                watch_machine::Operation::Renew => self.renewals = self.renewals.saturating_add(1),
+                Operation::Look => self.looks = self.looks.saturating_add(1),
+                Operation::Renew => self.renewals = self.renewals.saturating_add(1),
             }
         }
     }
-}
 
-impl Beside {
     fn look_ahead(&mut self, next: Option<Option<Next>>) {
         if let Some(next) = next {
             self.next = Some(next);
@@ -55,38 +40,62 @@ impl Beside {
     }
 }
 
+/// What was heard, and the changes to come, the last of them first.
+#[derive(Drop)]
+pub(crate) struct Beside {
+    pub(crate) changes: Vec<Change>,
+    pub(crate) heard: Heard,
+}
+
+impl Beside {
+    pub(crate) fn with(changes: Vec<Change>) -> Beside {
+        Beside {
+            changes,
+            heard: Heard {
+                looks: 0,
+                renewals: 0,
+                answers: 0,
+                made: 0,
+                calls: 0,
+                next: None,
+                outlooks: 0,
+            },
+        }
+    }
+}
+
 impl Neighbours for Beside {
     ghost given = { λ _. None };
 
-    ghost does = { λ _ old new. new.calls ≡ min (old.calls + 1) 18446744073709551615 };
+    ghost does = { λ _ old new. new.heard.calls ≡ min (old.heard.calls + 1) 18446744073709551615 };
 
     fn hear(&mut self, _alloc: Global, _agent: &Agent, happened: &Happened<'_>) {
-        let calls = self.calls;
+        let calls = self.heard.calls;
         match happened {
             Happened::Clocked { requests, next, .. } => {
-                self.count(requests);
-                self.look_ahead(*next);
+                self.heard.count(requests);
+                self.heard.look_ahead(*next);
             }
-            Happened::Answered { .. } => self.answers = self.answers.saturating_add(1),
+            Happened::Answered { .. } => self.heard.answers = self.heard.answers.saturating_add(1),
             Happened::Shorts(_) | Happened::Refused | Happened::Wanting => {}
         }
-        self.calls = calls.saturating_add(1);
+        self.heard.calls = calls.saturating_add(1);
     }
 
     fn go_on(&mut self, _alloc: Global, _agent: &Agent, _now: Reading) -> bool {
-        self.calls = self.calls.saturating_add(1);
+        self.heard.calls = self.heard.calls.saturating_add(1);
         false
     }
 
     fn change(&mut self, _alloc: Global, _agent: &Agent, _now: Reading) -> Option<Change> {
-        self.calls = self.calls.saturating_add(1);
+        self.heard.calls = self.heard.calls.saturating_add(1);
         self.changes.pop()
     }
 
     fn settle(&mut self, _alloc: Global, _agent: &Agent, is_made: bool) {
-        self.calls = self.calls.saturating_add(1);
+        self.heard.calls = self.heard.calls.saturating_add(1);
         if is_made {
-            self.made = self.made.saturating_add(1);
+            self.heard.made = self.heard.made.saturating_add(1);
         }
     }
 }

@@ -1,6 +1,5 @@
 //! The example of docs/watch.md.
-use crate::loops::{Play, WEB, play_of, waited};
-use keep_lanes::LaneFault;
+use crate::loops::{PLAIN, Played, Script, perform};
 use std::alloc::Global;
 use std::process::Abort;
 use std::test::Fail;
@@ -13,62 +12,71 @@ const MOMENTS: [u64; 8] = [
 /// How long each turn waits: not at all for an answer that is there, and a second for anything later.
 const WAITS: [u64; 8] = [0, 1000, 0, 1000, 0, 1000, 0, 1000];
 
-fn played(alloc: Global) -> Result<Play, Fail> {
-    let mut play = play_of(alloc, WEB, &MOMENTS, Vec::new(alloc))?;
-    play.serving.run(alloc, &mut play.clock, &mut play.lanes, &mut play.beside, 8);
-    Ok(play)
+fn example(alloc: Global) -> Result<Played, Fail> {
+    let script = Script {
+        moments: &MOMENTS,
+        turns: (8, 0),
+        ..PLAIN
+    };
+    perform(alloc, &script, Vec::new(alloc))
 }
 
 #[test]
 fn it_asks_at_the_moments_of_the_example(rt: HostRuntime) -> Result<(), Fail> {
-    let play = played(rt.alloc())?;
-    assert!(rt; play.beside.looks == 1);
-    assert!(rt; play.beside.renewals == 3);
-    assert!(rt; play.beside.answers == 4);
+    let heard = example(rt.alloc())?.last.heard;
+    assert!(rt; heard.looks == 1);
+    assert!(rt; heard.renewals == 3);
+    assert!(rt; heard.answers == 4);
     // In each turn the time and what is short are heard of, they go on once, and no change is given; and four answers are heard of.
-    assert!(rt; play.beside.calls == 8 * 4 + 4);
+    assert!(rt; heard.calls == 8 * 4 + 4);
     Ok(())
 }
 
 #[test]
 fn it_waits_a_second_at_most(rt: HostRuntime) -> Result<(), Fail> {
-    let play = played(rt.alloc())?;
-    assert!(rt; play.clock.is_whole());
-    for turn in 0..8usize {
-        assert!(rt; waited(&play, turn) == Some(WAITS[turn]), "{turn}");
-    }
+    let play = example(rt.alloc())?;
+    assert!(rt; play.is_whole);
+    assert!(rt; play.waits.as_slice() == WAITS.as_slice());
     Ok(())
 }
 
 #[test]
 fn the_broker_grants_what_was_asked(rt: HostRuntime) -> Result<(), Fail> {
-    let play = played(rt.alloc())?;
-    assert!(rt; play.lanes.table().end_of(b"web") == Some(1237));
+    let play = example(rt.alloc())?;
+    assert!(rt; play.end == Some(1237));
     Ok(())
 }
 
 #[test]
 fn a_clock_that_cannot_be_read_costs_a_tenth_of_a_second(rt: HostRuntime) -> Result<(), Fail> {
-    let alloc = rt.alloc();
-    let mut play = play_of(alloc, WEB, &[0, 1_000_000, 1_000_000], Vec::new(alloc))?;
-    play.serving.run(alloc, &mut play.clock, &mut play.lanes, &mut play.beside, 3);
-    assert!(rt; waited(&play, 0) == Some(100));
-    assert!(rt; play.beside.looks == 1 && play.beside.answers == 1);
-    assert!(rt; play.beside.calls == 2 * 4 + 1);
+    let script = Script {
+        moments: &[0, 1_000_000, 1_000_000],
+        turns: (3, 0),
+        ..PLAIN
+    };
+    let play = perform(rt.alloc(), &script, Vec::new(rt.alloc()))?;
+    assert!(rt; play.waits.first() == Some(&100));
+    let heard = play.last.heard;
+    assert!(rt; heard.looks == 1 && heard.answers == 1);
+    assert!(rt; heard.calls == 2 * 4 + 1);
     Ok(())
 }
 
 #[test]
 fn a_lost_request_is_sent_again(rt: HostRuntime) -> Result<(), Fail> {
-    let alloc = rt.alloc();
-    let moments = [
-        1_000_000, 1_000_000, 1_001_000, 1_001_000, 1_002_000, 1_002_000,
-    ];
-    let mut play = play_of(alloc, WEB, &moments, Vec::new(alloc))?;
-    play.set_fault(1, LaneFault::Lose)?;
-    play.serving.run(alloc, &mut play.clock, &mut play.lanes, &mut play.beside, 6);
+    let script = Script {
+        moments: &[
+            1_000_000, 1_000_000, 1_001_000, 1_001_000, 1_002_000, 1_002_000,
+        ],
+        lost: Some(1),
+        turns: (6, 0),
+        ..PLAIN
+    };
+    let heard = perform(rt.alloc(), &script, Vec::new(rt.alloc()))?
+        .last
+        .heard;
     // A renewal comes after a lost look-up: it keeps the token alive, and tells as much.
-    assert!(rt; play.beside.looks == 1 && play.beside.renewals == 1);
-    assert!(rt; play.beside.answers == 2);
+    assert!(rt; heard.looks == 1 && heard.renewals == 1);
+    assert!(rt; heard.answers == 2);
     Ok(())
 }
