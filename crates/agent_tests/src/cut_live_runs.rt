@@ -1,7 +1,7 @@
 //! Live runs whose writer fails: who was asked by then, the exit, the fault line, and what `out` holds.
 use crate::inventories::WEB;
 use crate::live::ONCE_RENEWED;
-use crate::moments::moment;
+use crate::moments::at;
 use crate::outcomes::{Outcome, streams_to};
 use crate::sources::{source, table_of};
 use keep_device::MemorySink;
@@ -28,11 +28,10 @@ fn is_cut_off<R: AllocGlobal + Abort>(
     text: &str,
 ) -> Result<(), Fail> {
     let alloc = rt.alloc();
-    let mut exchange = MemoryExchange::new(alloc, table_of(rt, WEB, None)?);
     let events = source(alloc, "tick 1059\n", &[], None)?;
+    let mut exchange = MemoryExchange::new(alloc, table_of(rt, WEB, None)?);
     let mut streams = streams_to(alloc, events, MemorySink::new(alloc, Some(calls)));
-    let start = moment(1000)?;
-    let exit = run_live(alloc, WEB.as_bytes(), start, &mut exchange, &mut streams);
+    let exit = run_live(alloc, WEB.as_bytes(), at(1000), &mut exchange, &mut streams);
     assert!(rt; exchange.table().end_of(b"web") == Some(end), "{calls}");
     let outcome = Outcome::of(exit, streams);
     assert!(rt;

@@ -1,6 +1,6 @@
 //! Live runs in memory: exit, output and fault line, however the event lines come.
 use crate::inventories::{TOKEN_AND_LEASE, WEB};
-use crate::moments::moment;
+use crate::moments::at;
 use crate::outcomes::{Outcome, streams_to};
 use crate::sources::{source, table_of};
 use broker_table::{Fault, Table};
@@ -8,7 +8,7 @@ use keep_device::{MemorySink, MemorySource};
 use keep_exchange::MemoryExchange;
 use keep_report::Exit;
 use keep_run::run_live;
-use std::alloc::Global;
+use std::alloc::{AllocError, Global};
 use std::process::Abort;
 use std::test::Fail;
 
@@ -116,41 +116,42 @@ const HEARD: [Heard; 11] = [
     ),
 ];
 
-// A run from 1000 on over the inventory's own table, with a fault at the first renewal, if there is one; and how many reads
-// it made.
-fn runs_over<R: AllocGlobal + Abort>(
-    rt: &R,
-    inventory: &str,
-    table: Table,
-    events: MemorySource,
-) -> Result<(Outcome, u64), Fail> {
-    let alloc = rt.alloc();
+// A run from 1000 on over this table, and how many reads it made.
+fn runs_over(alloc: Global, inventory: &str, table: Table, events: MemorySource) -> (Outcome, u64) {
     let mut exchange = MemoryExchange::new(alloc, table);
     let mut streams = streams_to(alloc, events, MemorySink::new(alloc, None));
-    let start = moment(1000)?;
     let exit = run_live(
         alloc,
         inventory.as_bytes(),
-        start,
+        at(1000),
         &mut exchange,
         &mut streams,
     );
     let reads = streams.lines.reads();
-    Ok((Outcome::of(exit, streams), reads))
+    (Outcome::of(exit, streams), reads)
 }
 
-// The same against the inventory's own table.
+// The same against the inventory's own table, with a fault at the first renewal, if there is one.
 fn runs<R: AllocGlobal + Abort>(
     rt: &R,
     inventory: &str,
     fault: Option<Fault>,
     events: MemorySource,
 ) -> Result<(Outcome, u64), Fail> {
-    runs_over(rt, inventory, table_of(rt, inventory, fault)?, events)
+    let table = table_of(rt, inventory, fault)?;
+    Ok(runs_over(rt.alloc(), inventory, table, events))
 }
 
-fn is_written<R: AllocGlobal + Abort>(rt: &R, row: &Heard) -> Result<(), Fail> {
-    let (inventory, lines, before_failure, exit, text, fault) = *row;
+// A run over the inventory's own table, of which so many reads go well.
+fn is_written<R: AllocGlobal + Abort>(
+    rt: &R,
+    inventory: &str,
+    lines: &str,
+    before_failure: Option<u64>,
+    exit: Exit,
+    text: &str,
+    fault: &str,
+) -> Result<(), Fail> {
     let events = source(rt.alloc(), lines, &[], before_failure)?;
     let (outcome, _) = runs(rt, inventory, None, events)?;
     assert!(rt; outcome.is(exit, text, fault), "{text}{fault}");
@@ -159,8 +160,8 @@ fn is_written<R: AllocGlobal + Abort>(rt: &R, row: &Heard) -> Result<(), Fail> {
 
 #[test]
 fn live_runs_are_written(rt: HostRuntime) -> Result<(), Fail> {
-    for row in &HEARD {
-        is_written(&rt, row)?;
+    for (inventory, lines, before_failure, exit, text, fault) in &HEARD {
+        is_written(&rt, inventory, lines, *before_failure, *exit, text, fault)?;
     }
     Ok(())
 }
@@ -173,7 +174,8 @@ const UNTOLD: &str =
 #[test]
 fn live_runs_look_up_what_is_left_open(rt: HostRuntime) -> Result<(), Fail> {
     let events = source(rt.alloc(), TWO_TICKS, &[], None)?;
-    let (outcome, _) = runs_over(&rt, UNTOLD, table_of(&rt, WEB, None)?, events)?;
+    let table = table_of(&rt, WEB, None)?;
+    let (outcome, _) = runs_over(rt.alloc(), UNTOLD, table, events);
     let text =
         "entry web 1060\nwake 1059 web\ntold web 60\nnext 1118\nwake 1118 web\ntold web 60\nnext none\n";
     assert!(rt; outcome.is(Exit::Done, text, ""));
@@ -237,17 +239,23 @@ fn live_runs_tell_what_a_broker_answers(rt: HostRuntime) -> Result<(), Fail> {
     Ok(())
 }
 
-// So many lines `need NAME 5` with a name of so many bytes, which nobody has.
-fn needs_of(alloc: Global, lines: usize, name: usize) -> Result<Vec<u8>, Fail> {
+// A line `need NAME 5` with a name of so many bytes, which nobody has.
+fn need_of(alloc: Global, name: usize) -> Result<Vec<u8>, AllocError> {
     let mut line = Vec::from_slice(alloc, b"need ")?;
     for _ in 0..name {
         line.push(b'x')?;
     }
     line.extend_from_slice(b" 5\n")?;
+    Ok(line)
+}
+
+// So many such lines, and what comes after them.
+fn needs_of(alloc: Global, lines: usize, line: &[u8], behind: &str) -> Result<Vec<u8>, AllocError> {
     let mut events = Vec::new(alloc);
     for _ in 0..lines {
-        events.extend_from_slice(&line)?;
+        events.extend_from_slice(line)?;
     }
+    events.extend_from_slice(behind.as_bytes())?;
     Ok(events)
 }
 
@@ -264,12 +272,27 @@ const LIMITS: [Limit; 6] = [
     (4096, 8, "", 65536, 77839, "leasekeep: read\n"),
 ];
 
-fn is_limited<R: AllocGlobal + Abort>(rt: &R, row: &Limit) -> Result<(), Fail> {
-    let (lines, name, behind, ones, written, fault) = *row;
-    let mut bytes = needs_of(rt.alloc(), lines, name)?;
-    bytes.extend_from_slice(behind.as_bytes())?;
-    let pieces = vec![in rt.alloc(); 1usize; ones]?;
-    let (outcome, _) = runs(rt, WEB, None, MemorySource::new(bytes, pieces, None))?;
+// Such lines in so many pieces of one byte, and then whole.
+fn limited(
+    alloc: Global,
+    lines: usize,
+    name: usize,
+    behind: &str,
+    ones: usize,
+) -> Result<MemorySource, AllocError> {
+    let line = need_of(alloc, name)?;
+    let bytes = needs_of(alloc, lines, &line, behind)?;
+    let pieces = vec![in alloc; 1usize; ones]?;
+    Ok(MemorySource::new(bytes, pieces, None))
+}
+
+fn is_limited<R: AllocGlobal + Abort>(
+    rt: &R,
+    events: MemorySource,
+    written: usize,
+    fault: &str,
+) -> Result<(), Fail> {
+    let (outcome, _) = runs(rt, WEB, None, events)?;
     let wanted = if fault.is_empty() {
         Exit::Done
     } else {
@@ -283,8 +306,9 @@ fn is_limited<R: AllocGlobal + Abort>(rt: &R, row: &Limit) -> Result<(), Fail> {
 
 #[test]
 fn live_runs_know_their_limits(rt: HostRuntime) -> Result<(), Fail> {
-    for row in &LIMITS {
-        is_limited(&rt, row)?;
+    for (lines, name, behind, ones, written, fault) in &LIMITS {
+        let events = limited(rt.alloc(), *lines, *name, behind, *ones)?;
+        is_limited(&rt, events, *written, fault)?;
     }
     Ok(())
 }

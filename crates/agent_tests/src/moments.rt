@@ -7,3 +7,8 @@ use std::test::Fail;
 pub fn moment(seconds: u64) -> Result<Moment, Fail> {
     Ok(Moment::new(seconds).ok_or("a moment")?)
 }
+
+/// The same of a moment that there is, which so cannot fail.
+pub(crate) fn at(seconds: u64) -> Moment {
+    Moment::new(seconds).unwrap_or(Moment::new(0).unwrap())
+}

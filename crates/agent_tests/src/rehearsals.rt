@@ -2,7 +2,7 @@
 use crate::inventories::{
     FOR_GOOD, LOW_CEILING, PAY, TOKEN_AND_LEASE, WEB, WEB_BASE_AND_BIG, WITH_MARGIN,
 };
-use crate::moments::moment;
+use crate::moments::at;
 use crate::outcomes::Outcome;
 use broker_table::Table;
 use keep_device::{MemorySink, MemorySource};
@@ -11,10 +11,10 @@ use keep_inventory::read;
 use keep_moment::Text;
 use keep_report::Exit;
 use keep_run::{Script, run_rehearse};
-use std::alloc::Global;
+use std::alloc::{AllocError, Global};
 use std::process::Abort;
 use std::test::Fail;
-use vault_http::{read_reply, read_request};
+use vault_http::{Request, read_reply, read_request};
 
 // Token and lease, of which the token is longer alive.
 const TOKEN_LATER: &str =
@@ -166,12 +166,17 @@ const BAD_WORDS: [(&str, u64); 17] = [
     ("1=drop x 1=drop", 2),
 ];
 
+fn push_word(alloc: Global, words: &mut Vec<Text>, word: &[u8]) -> Result<(), AllocError> {
+    words.push(Text::of(alloc, word)?)?;
+    Ok(())
+}
+
 // The words of a line, one after another.
-pub(crate) fn words_of(alloc: Global, line: &str) -> Result<Vec<Text>, Fail> {
+pub(crate) fn words_of(alloc: Global, line: &str) -> Result<Vec<Text>, AllocError> {
     let mut words = Vec::new(alloc);
     if !line.is_empty() {
         for word in line.as_bytes().split(|byte| *byte == b' ') {
-            words.push(Text::of(alloc, word)?)?;
+            push_word(alloc, &mut words, word)?;
         }
     }
     Ok(words)
@@ -183,19 +188,18 @@ pub(crate) fn nobody(alloc: Global) -> Result<MemoryExchange, Fail> {
     Ok(MemoryExchange::new(alloc, Table::load(alloc, &inventory)?))
 }
 
-/// `rehearse` from 1000 on through this exchange.
+/// `rehearse` from 1000 on through this exchange, with these FAULT words.
 pub(crate) fn rehearses(
     alloc: Global,
     inventory: &str,
-    words: &str,
+    faults: &[Text],
     exchange: &mut MemoryExchange,
-) -> Result<Outcome, Fail> {
+) -> Outcome {
     let mut out = MemorySink::new(alloc, None);
     let mut errors = MemorySink::new(alloc, None);
-    let faults = words_of(alloc, words)?;
     let script = Script {
-        start: moment(1000)?,
-        faults: &faults,
+        start: at(1000),
+        faults,
     };
     let exit = run_rehearse(
         alloc,
@@ -205,31 +209,56 @@ pub(crate) fn rehearses(
         &mut errors,
         exchange,
     );
-    Ok(Outcome { exit, out, errors })
+    Outcome { exit, out, errors }
 }
 
-fn rehearse_all<R: AllocGlobal + Abort>(rt: &R, rows: &[(&str, &str, &str)]) -> Result<(), Fail> {
-    let alloc = rt.alloc();
-    for (inventory, words, text) in rows {
-        let outcome = rehearses(alloc, inventory, words, &mut nobody(alloc)?)?;
-        assert!(rt; outcome.is(Exit::Done, text, ""), "{text}");
-    }
-    Ok(())
+/// What `rehearse` from 1000 on comes to, with the FAULT words of this line.
+pub(crate) fn rehearsed(alloc: Global, inventory: &str, words: &str) -> Result<Outcome, Fail> {
+    let faults = words_of(alloc, words)?;
+    let mut exchange = nobody(alloc)?;
+    Ok(rehearses(alloc, inventory, &faults, &mut exchange))
+}
+
+// Whether it ends and writes so.
+fn is_so(
+    alloc: Global,
+    inventory: &str,
+    words: &str,
+    exit: Exit,
+    text: &str,
+    fault: &str,
+) -> Result<bool, Fail> {
+    Ok(rehearsed(alloc, inventory, words)?.is(exit, text, fault))
 }
 
 #[test]
 fn rehearsals_are_written(rt: HostRuntime) -> Result<(), Fail> {
-    rehearse_all(&rt, &REHEARSED)
+    for (inventory, words, text) in &REHEARSED {
+        assert!(rt;
+            is_so(rt.alloc(), inventory, words, Exit::Done, text, "")?,
+            "{text}"
+        );
+    }
+    Ok(())
+}
+
+fn fault_of(alloc: Global, place: u64) -> Result<String, Fail> {
+    Ok(format!(in alloc; "leasekeep: fault word {place}\n")?)
 }
 
 #[test]
 fn a_fault_word_at_fault_is_told(rt: HostRuntime) -> Result<(), Fail> {
-    let alloc = rt.alloc();
     for (words, place) in &BAD_WORDS {
-        let fault = format!(in alloc; "leasekeep: fault word {place}\n")?;
-        let outcome = rehearses(alloc, WEB, words, &mut nobody(alloc)?)?;
+        let fault = fault_of(rt.alloc(), *place)?;
         assert!(rt;
-            outcome.is(Exit::CommandLine, "", fault.as_str()),
+            is_so(
+                rt.alloc(),
+                WEB,
+                words,
+                Exit::CommandLine,
+                "",
+                fault.as_str()
+            )?,
             "{fault}"
         );
     }
@@ -239,9 +268,8 @@ fn a_fault_word_at_fault_is_told(rt: HostRuntime) -> Result<(), Fail> {
 // The inventory is judged before the FAULT words.
 #[test]
 fn an_inventory_at_fault_is_told_first(rt: HostRuntime) -> Result<(), Fail> {
-    let alloc = rt.alloc();
-    let outcome = rehearses(alloc, "x", "drop", &mut nobody(alloc)?)?;
-    assert!(rt; outcome.is(Exit::Inventory, "", "leasekeep: inventory: not-toml\n"));
+    let fault = "leasekeep: inventory: not-toml\n";
+    assert!(rt; is_so(rt.alloc(), "x", "drop", Exit::Inventory, "", fault)?);
     Ok(())
 }
 
@@ -250,20 +278,29 @@ const REQUEST: &[u8] =
     b"POST /v1/auth/token/renew-self HTTP/1.1\r\nHost: 127.0.0.1:8200\r\nX-Vault-Token: web\r\n\
     Content-Type: application/json\r\nContent-Length: 16\r\nConnection: close\r\n\r\n{\"increment\":60}";
 
+const GRANT: &[u8] = b"{\"auth\":{\"lease_duration\":60,\"renewable\":true}}";
+
 const REPLY: &[u8] =
     b"HTTP/1.1 200 OK\r\nContent-Type: application/json\r\nContent-Length: 47\r\nConnection: close\r\n\r\n\
     {\"auth\":{\"lease_duration\":60,\"renewable\":true}}";
 
+// The wire of a rehearsal is its last exchange.
+fn leaves_the_wire<R: AllocGlobal + Abort>(rt: &R) -> Result<(), Fail> {
+    let mut exchange = nobody(rt.alloc())?;
+    let outcome = rehearses(rt.alloc(), WEB, &[], &mut exchange);
+    assert!(rt; outcome.is(Exit::Done, AS_PLANNED, ""));
+    assert!(rt; exchange.table().end_of(b"web") == Some(1237), "the end");
+    is_the_wire(rt, exchange.wire());
+    Ok(())
+}
+
 // The wire is the last request and its reply; each is read as it was meant.
 #[test]
 fn the_wire_of_a_rehearsal_is_its_last_exchange(rt: HostRuntime) -> Result<(), Fail> {
-    let mut exchange = nobody(rt.alloc())?;
-    let outcome = rehearses(rt.alloc(), WEB, "", &mut exchange)?;
-    assert!(rt; outcome.is(Exit::Done, AS_PLANNED, ""));
-    assert!(rt; exchange.table().end_of(b"web") == Some(1237), "the end");
-    is_the_wire(&rt, exchange.wire());
-    is_asked(&rt, REQUEST)?;
-    is_answered(&rt, REPLY)
+    leaves_the_wire(&rt)?;
+    assert!(rt; is_asked(rt.alloc(), REQUEST)?);
+    assert!(rt; is_answered(rt.alloc(), REPLY)?);
+    Ok(())
 }
 
 fn is_the_wire<R: Abort>(rt: &R, wire: &[u8]) {
@@ -271,37 +308,37 @@ fn is_the_wire<R: Abort>(rt: &R, wire: &[u8]) {
     assert!(rt; wire.get(REQUEST.len()..) == Some(REPLY), "the reply");
 }
 
-// The request of these bytes is the renewal of `web`.
-fn is_asked<R: AllocGlobal + Abort>(rt: &R, bytes: &[u8]) -> Result<(), Fail> {
-    let alloc = rt.alloc();
-    let mut source = source_of(alloc, bytes)?;
-    let request = read_request(alloc, &mut source, 1048576)?;
-    assert!(rt;
-        request.method.as_str() == "POST"
-            && request.path.list() == b"/v1/auth/token/renew-self".as_slice()
-    );
-    assert!(rt;
-        request
-            .token
-            .is_some_and(|token| token.list() == b"web".as_slice())
-    );
-    assert!(rt; request.body.list() == b"{\"increment\":60}".as_slice());
-    Ok(())
+// Whether a request is the renewal of `web`.
+fn is_renewal(request: &Request) -> bool {
+    let is_web = match &request.token {
+        Some(token) => token.list() == b"web".as_slice(),
+        None => false,
+    };
+    is_web
+        && request.method.as_str() == "POST"
+        && request.path.list() == b"/v1/auth/token/renew-self".as_slice()
+        && request.body.list() == b"{\"increment\":60}".as_slice()
 }
 
-// The reply of these bytes is the answer to it.
-fn is_answered<R: AllocGlobal + Abort>(rt: &R, bytes: &[u8]) -> Result<(), Fail> {
-    let alloc = rt.alloc();
+// Whether these bytes are that request.
+fn is_asked(alloc: Global, bytes: &[u8]) -> Result<bool, AllocError> {
     let mut source = source_of(alloc, bytes)?;
-    let reply = read_reply(alloc, &mut source, 1048576)?;
-    assert!(rt; reply.status == 200);
-    assert!(rt;
-        reply.body.list() == b"{\"auth\":{\"lease_duration\":60,\"renewable\":true}}".as_slice()
-    );
-    Ok(())
+    match read_request(alloc, &mut source, 1048576) {
+        Ok(request) => Ok(is_renewal(&request)),
+        Err(_) => Ok(false),
+    }
+}
+
+// Whether these bytes are the answer to it.
+fn is_answered(alloc: Global, bytes: &[u8]) -> Result<bool, AllocError> {
+    let mut source = source_of(alloc, bytes)?;
+    match read_reply(alloc, &mut source, 1048576) {
+        Ok(reply) => Ok(reply.status == 200 && reply.body.list() == GRANT),
+        Err(_) => Ok(false),
+    }
 }
 
 // A source of these bytes, whole.
-fn source_of(alloc: Global, bytes: &[u8]) -> Result<MemorySource, Fail> {
+fn source_of(alloc: Global, bytes: &[u8]) -> Result<MemorySource, AllocError> {
     Ok(MemorySource::new(Vec::from_slice(alloc, bytes)?, Vec::new(alloc), None))
 }

@@ -1,5 +1,5 @@
 //! No secret shows: inventories that differ in secrets and lease ids alone are rehearsed alike, whatever goes wrong.
-use crate::rehearsals::{nobody, rehearses};
+use crate::rehearsals::{nobody, rehearsed, rehearses, words_of};
 use keep_device::MemorySink;
 use keep_exchange::MemoryExchange;
 use keep_report::Exit;
@@ -52,30 +52,44 @@ const FAULTS: [&str; 12] = [
     "5=short:20 6=drop 7=deny",
 ];
 
-// What the rehearsal of the family with these secrets writes.
-fn rehearsed<R: AllocGlobal + Abort>(
+// What the rehearsal of this inventory writes.
+fn written<R: AllocGlobal + Abort>(
     rt: &R,
     words: &str,
-    secrets: &(&str, &str, &str),
+    inventory: &str,
 ) -> Result<MemorySink, Fail> {
-    let alloc = rt.alloc();
-    let (token, lease, child) = *secrets;
-    let inventory = family(alloc, token, lease, child)?;
-    let outcome = rehearses(alloc, inventory.as_str(), words, &mut nobody(alloc)?)?;
-    assert!(rt; outcome.exit == Exit::Done, "{words} {token}");
-    assert!(rt; outcome.errors.bytes().is_empty(), "{words} {token}");
-    assert!(rt; !outcome.out.bytes().is_empty(), "{words} {token}");
+    let outcome = rehearsed(rt.alloc(), inventory, words)?;
+    assert!(rt; outcome.exit == Exit::Done, "{words}");
+    assert!(rt; outcome.errors.bytes().is_empty(), "{words}");
+    assert!(rt; !outcome.out.bytes().is_empty(), "{words}");
     Ok(outcome.out)
+}
+
+// What that of the family with these secrets writes.
+fn written_of<R: AllocGlobal + Abort>(
+    rt: &R,
+    words: &str,
+    token: &str,
+    lease: &str,
+    child: &str,
+) -> Result<MemorySink, Fail> {
+    let inventory = family(rt.alloc(), token, lease, child)?;
+    written(rt, words, inventory.as_str())
+}
+
+// With any secrets this is written.
+fn are_alike<R: AllocGlobal + Abort>(rt: &R, words: &str, first: &[u8]) -> Result<(), Fail> {
+    for (token, lease, child) in &SECRETS {
+        let out = written_of(rt, words, token, lease, child)?;
+        assert!(rt; out.bytes() == first, "{words} {token}");
+    }
+    Ok(())
 }
 
 // With any secrets it is what it is with the first.
 fn is_alike<R: AllocGlobal + Abort>(rt: &R, words: &str) -> Result<(), Fail> {
-    let first = rehearsed(rt, words, &SECRETS[0])?;
-    for secrets in &SECRETS {
-        let out = rehearsed(rt, words, secrets)?;
-        assert!(rt; out.bytes() == first.bytes(), "{words}");
-    }
-    Ok(())
+    let first = written_of(rt, words, SECRETS[0].0, SECRETS[0].1, SECRETS[0].2)?;
+    are_alike(rt, words, first.bytes())
 }
 
 #[test]
@@ -107,28 +121,37 @@ fn hides<R: Abort>(rt: &R, carried: &str, shown: &str, secrets: &[(&str, &str)])
     }
 }
 
-// What an exchange shows of itself holds no secret that it carried, neither as a text nor as the numbers of its bytes.
-#[test]
-fn an_exchange_shows_no_secret(rt: HostRuntime) -> Result<(), Fail> {
-    let inventory = pair(rt.alloc(), CARRIED[0].0, CARRIED[1].0)?;
-    for words in &LEASE_LAST {
-        let exchange = exchange_after(&rt, inventory.as_str(), words)?;
-        let shown = format!(in rt.alloc(); "{exchange:?}")?;
-        let carried = str::from_utf8(exchange.wire())?;
-        hides(&rt, carried, shown.as_str(), &CARRIED);
-    }
-    Ok(())
-}
-
 // The exchange that a rehearsal went through.
 fn exchange_after<R: AllocGlobal + Abort>(
     rt: &R,
     inventory: &str,
     words: &str,
 ) -> Result<MemoryExchange, Fail> {
-    let alloc = rt.alloc();
-    let mut exchange = nobody(alloc)?;
-    let outcome = rehearses(alloc, inventory, words, &mut exchange)?;
+    let faults = words_of(rt.alloc(), words)?;
+    let mut exchange = nobody(rt.alloc())?;
+    let outcome = rehearses(rt.alloc(), inventory, &faults, &mut exchange);
     assert!(rt; outcome.exit == Exit::Done, "{words}");
     Ok(exchange)
+}
+
+fn exchange_hides<R: AllocGlobal + Abort>(rt: &R, exchange: &MemoryExchange) -> Result<(), Fail> {
+    let carried = str::from_utf8(exchange.wire())?;
+    let shown = format!(in rt.alloc(); "{exchange:?}")?;
+    hides(rt, carried, shown.as_str(), &CARRIED);
+    Ok(())
+}
+
+fn is_hidden<R: AllocGlobal + Abort>(rt: &R, inventory: &str, words: &str) -> Result<(), Fail> {
+    let exchange = exchange_after(rt, inventory, words)?;
+    exchange_hides(rt, &exchange)
+}
+
+// What an exchange shows of itself holds no secret that it carried, neither as a text nor as the numbers of its bytes.
+#[test]
+fn an_exchange_shows_no_secret(rt: HostRuntime) -> Result<(), Fail> {
+    let inventory = pair(rt.alloc(), CARRIED[0].0, CARRIED[1].0)?;
+    for words in &LEASE_LAST {
+        is_hidden(&rt, inventory.as_str(), words)?;
+    }
+    Ok(())
 }

@@ -7,6 +7,7 @@ use broker_table::Fault;
 use keep_device::{MemorySink, MemorySource, Sink, Streams};
 use keep_lanes::MemoryLanes;
 use keep_report::Exit;
+use std::alloc::Global;
 use std::process::Abort;
 use std::test::Fail;
 use watch_lines::run_watch;
@@ -121,8 +122,13 @@ fn watches<R: AllocGlobal + Abort>(
     Ok(Outcome::of(exit, streams))
 }
 
-fn is_answered<R: AllocGlobal + Abort>(rt: &R, row: &Answered) -> Result<(), Fail> {
-    let (inventory, fault, lines, text) = *row;
+fn is_answered<R: AllocGlobal + Abort>(
+    rt: &R,
+    inventory: &str,
+    fault: Option<Fault>,
+    lines: &str,
+    text: &str,
+) -> Result<(), Fail> {
     let lines = source(rt.alloc(), lines, &[], None)?;
     let outcome = watches(rt, inventory, fault, lines)?;
     assert!(rt; outcome.is(Exit::Done, text, ""), "{text}");
@@ -131,8 +137,8 @@ fn is_answered<R: AllocGlobal + Abort>(rt: &R, row: &Answered) -> Result<(), Fai
 
 #[test]
 fn lines_are_answered(rt: HostRuntime) -> Result<(), Fail> {
-    for row in &ANSWERED {
-        is_answered(&rt, row)?;
+    for (inventory, fault, lines, text) in &ANSWERED {
+        is_answered(&rt, inventory, *fault, lines, text)?;
     }
     Ok(())
 }
@@ -165,13 +171,16 @@ const NO_LINES: [&str; 14] = [
     "begin",
 ];
 
-fn is_refused<R: AllocGlobal + Abort>(rt: &R, behind: &str) -> Result<(), Fail> {
-    let text = format!(in rt.alloc(); "{FIRST}{behind}")?;
-    let lines = source(rt.alloc(), text.as_str(), &[], None)?;
+fn lines_with(alloc: Global, behind: &str) -> Result<String, Fail> {
+    Ok(format!(in alloc; "{FIRST}{behind}")?)
+}
+
+fn is_refused<R: AllocGlobal + Abort>(rt: &R, text: &str) -> Result<(), Fail> {
+    let lines = source(rt.alloc(), text, &[], None)?;
     let outcome = watches(rt, WEB, None, lines)?;
     assert!(rt;
         outcome.is(Exit::Device, LOOKED, "leasekeep: line 2\n"),
-        "{behind}"
+        "{text}"
     );
     Ok(())
 }
@@ -179,27 +188,30 @@ fn is_refused<R: AllocGlobal + Abort>(rt: &R, behind: &str) -> Result<(), Fail> 
 #[test]
 fn what_is_no_line_ends_it(rt: HostRuntime) -> Result<(), Fail> {
     for behind in &NO_LINES {
-        is_refused(&rt, behind)?;
+        let text = lines_with(rt.alloc(), behind)?;
+        is_refused(&rt, text.as_str())?;
     }
+    Ok(())
+}
+
+fn is_unread<R: AllocGlobal + Abort>(rt: &R, reads: u64, text: &str) -> Result<(), Fail> {
+    let lines = source(rt.alloc(), FIRST, &[], Some(reads))?;
+    let outcome = watches(rt, WEB, None, lines)?;
+    assert!(rt; outcome.is(Exit::Device, text, "leasekeep: read\n"));
     Ok(())
 }
 
 #[test]
 fn a_read_that_fails_ends_it(rt: HostRuntime) -> Result<(), Fail> {
-    let lines = source(rt.alloc(), FIRST, &[], Some(1))?;
-    let later = watches(&rt, WEB, None, lines)?;
-    assert!(rt; later.is(Exit::Device, LOOKED, "leasekeep: read\n"));
-    let lines = source(rt.alloc(), FIRST, &[], Some(0))?;
-    let first = watches(&rt, WEB, None, lines)?;
-    assert!(rt; first.is(Exit::Device, "", "leasekeep: read\n"));
-    Ok(())
+    is_unread(&rt, 1, LOOKED)?;
+    is_unread(&rt, 0, "")
 }
 
 #[test]
 fn no_inventory_is_named(rt: HostRuntime) -> Result<(), Fail> {
     let alloc = rt.alloc();
-    let mut lanes = MemoryLanes::new(alloc, table_of(&rt, WEB, None)?, 5, 8);
     let lines = source(alloc, FIRST, &[], None)?;
+    let mut lanes = MemoryLanes::new(alloc, table_of(&rt, WEB, None)?, 5, 8);
     let mut streams = streams_to(alloc, lines, MemorySink::new(alloc, None));
     let exit = run_watch(alloc, b"x", &mut lanes, &mut streams);
     let outcome = Outcome::of(exit, streams);
@@ -213,36 +225,46 @@ const TWO_NEEDS: &str = "need web 1150\nneed web 1100\n";
 
 const HELD: [(u64, usize); 4] = [(0, 0), (1, 14), (2, 14), (3, 28)];
 
+fn fails_after<R: AllocGlobal + Abort>(rt: &R, calls: u64, length: usize) -> Result<(), Fail> {
+    let lines = source(rt.alloc(), TWO_NEEDS, &[], None)?;
+    let out = MemorySink::new(rt.alloc(), Some(calls));
+    let mut streams = streams_to(rt.alloc(), lines, out);
+    let exit = watches_to(rt, WEB, None, &mut streams)?;
+    assert!(rt; exit == Exit::Device, "{calls}");
+    assert!(rt; streams.out.bytes().len() == length, "{calls}");
+    assert!(rt;
+        streams.errors.bytes() == b"leasekeep: write\n".as_slice(),
+        "{calls}"
+    );
+    Ok(())
+}
+
 #[test]
 fn a_writer_that_fails_ends_it(rt: HostRuntime) -> Result<(), Fail> {
     for (calls, length) in &HELD {
-        let lines = source(rt.alloc(), TWO_NEEDS, &[], None)?;
-        let out = MemorySink::new(rt.alloc(), Some(*calls));
-        let mut streams = streams_to(rt.alloc(), lines, out);
-        let exit = watches_to(&rt, WEB, None, &mut streams)?;
-        assert!(rt; exit == Exit::Device, "{calls}");
-        assert!(rt; streams.out.bytes().len() == *length, "{calls}");
-        assert!(rt;
-            streams.errors.bytes() == b"leasekeep: write\n".as_slice(),
-            "{calls}"
-        );
+        fails_after(&rt, *calls, *length)?;
     }
+    Ok(())
+}
+
+fn wants_after<R: AllocGlobal + Abort>(rt: &R, calls: u64, length: usize) -> Result<(), Fail> {
+    let lines = source(rt.alloc(), TWO_NEEDS, &[], None)?;
+    let out = Wanting::behind(rt.alloc(), calls);
+    let mut streams = streams_to(rt.alloc(), lines, out);
+    let exit = watches_to(rt, WEB, None, &mut streams)?;
+    assert!(rt; exit == Exit::Memory, "{calls}");
+    assert!(rt; streams.out.held().bytes().len() == length, "{calls}");
+    assert!(rt;
+        streams.errors.bytes() == b"leasekeep: memory\n".as_slice(),
+        "{calls}"
+    );
     Ok(())
 }
 
 #[test]
 fn a_writer_that_wants_memory_ends_it(rt: HostRuntime) -> Result<(), Fail> {
     for (calls, length) in &HELD {
-        let lines = source(rt.alloc(), TWO_NEEDS, &[], None)?;
-        let out = Wanting::behind(rt.alloc(), *calls);
-        let mut streams = streams_to(rt.alloc(), lines, out);
-        let exit = watches_to(&rt, WEB, None, &mut streams)?;
-        assert!(rt; exit == Exit::Memory, "{calls}");
-        assert!(rt; streams.out.held().bytes().len() == *length, "{calls}");
-        assert!(rt;
-            streams.errors.bytes() == b"leasekeep: memory\n".as_slice(),
-            "{calls}"
-        );
+        wants_after(&rt, *calls, *length)?;
     }
     Ok(())
 }

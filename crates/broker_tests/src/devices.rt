@@ -112,20 +112,27 @@ const INPUTS: [Input; 8] = [
     (&[], Some(2), 11, Ok(b"hello world")),
 ];
 
-fn reads_input<R: AllocGlobal + Abort>(rt: &R, input: &Input) -> Result<(), Fail> {
-    let (pieces, before_failure, max, want) = *input;
-    let mut source = source(rt.alloc(), b"hello world", pieces, before_failure)?;
-    match read_all(rt.alloc(), &mut source, max) {
-        Ok(text) => assert!(rt; Ok(text.list()) == want),
-        Err(fault) => assert!(rt; Err(fault) == want),
+fn is_read(
+    alloc: Global,
+    pieces: &[usize],
+    before_failure: Option<u64>,
+    max: usize,
+    want: Result<&[u8], InputFault>,
+) -> Result<bool, Fail> {
+    let mut source = source(alloc, b"hello world", pieces, before_failure)?;
+    match read_all(alloc, &mut source, max) {
+        Ok(text) => Ok(Ok(text.list()) == want),
+        Err(fault) => Ok(Err(fault) == want),
     }
-    Ok(())
 }
 
 #[test]
 fn reads_whole_inputs(rt: HostRuntime) -> Result<(), Fail> {
-    for input in &INPUTS {
-        reads_input(&rt, input)?;
+    for (pieces, before_failure, max, want) in &INPUTS {
+        assert!(rt;
+            is_read(rt.alloc(), pieces, *before_failure, *max, *want)?,
+            "{max}"
+        );
     }
     Ok(())
 }
@@ -162,23 +169,31 @@ const COLLECTED: [Collected; 4] = [
     ),
 ];
 
-fn collects<R: AllocGlobal + Abort>(rt: &R, row: &Collected) {
-    let (before_failure, [first, second, flush], bytes) = *row;
-    let mut sink = MemorySink::new(rt.alloc(), before_failure);
-    assert!(rt; write_all(&mut sink, b"one") == first);
-    assert!(rt; write_all(&mut sink, b" two") == second);
-    assert!(rt; !sink.is_flushed());
-    assert!(rt; sink.flush() == flush);
-    assert!(rt; sink.is_flushed() == flush.is_ok());
-    assert!(rt; sink.bytes() == bytes);
-    let failed = if before_failure.is_some() { 1 } else { 0 };
-    assert!(rt; sink.failures() == failed);
+// Whether two writes and a flush are answered so, and this is collected.
+fn collects(
+    sink: &mut MemorySink,
+    answers: &[Result<(), SinkFault>; 3],
+    failures: u64,
+    bytes: &[u8],
+) -> bool {
+    write_all(sink, b"one") == answers[0]
+        && write_all(sink, b" two") == answers[1]
+        && !sink.is_flushed()
+        && sink.flush() == answers[2]
+        && sink.is_flushed() == answers[2].is_ok()
+        && sink.bytes() == bytes
+        && sink.failures() == failures
 }
 
 #[test]
 fn collects_what_is_written(rt: HostRuntime) {
-    for row in &COLLECTED {
-        collects(&rt, row);
+    for (before_failure, answers, bytes) in &COLLECTED {
+        let mut sink = MemorySink::new(rt.alloc(), *before_failure);
+        let failures = if before_failure.is_some() { 1 } else { 0 };
+        assert!(rt;
+            collects(&mut sink, answers, failures, bytes),
+            "{before_failure:?}"
+        );
     }
 }
 

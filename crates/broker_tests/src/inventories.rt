@@ -2,11 +2,12 @@ mod faulty;
 mod lookups;
 mod served;
 
+use crate::requests::moment;
 use faulty::FAULTY;
 use keep_inventory::{Credentials, InvFault, Inventory, Key, Terms, read};
-use keep_moment::{Moment, Name};
+use keep_moment::Name;
 use keep_tree::{Entry, Kind};
-use std::alloc::Global;
+use std::alloc::{AllocError, Global};
 use std::process::Abort;
 use std::test::Fail;
 
@@ -67,17 +68,17 @@ fn is_last_credential(inventory: Inventory, entries: u32, credential: &str) -> b
 }
 
 // The terms of an issue at 1000, without a period and without an explicit max.
-fn terms(increment: u32, max_ttl: u32) -> Result<Terms, Fail> {
-    Ok(Terms {
-        issued: Moment::new(1000).ok_or("a moment")?,
+fn terms(increment: u32, max_ttl: u32) -> Terms {
+    Terms {
+        issued: moment(1000),
         increment: Some(increment),
         period: 0,
         max_ttl,
         explicit_max: 0,
-    })
+    }
 }
 
-fn web(alloc: Global) -> Result<Entry, Fail> {
+fn web(alloc: Global) -> Result<Entry, AllocError> {
     Ok(Entry {
         name: Name::of(alloc, b"web")?,
         kind: Kind::Token,
@@ -90,7 +91,7 @@ fn web(alloc: Global) -> Result<Entry, Fail> {
     })
 }
 
-fn token(alloc: Global) -> Result<Entry, Fail> {
+fn token(alloc: Global) -> Result<Entry, AllocError> {
     Ok(Entry {
         name: Name::of(alloc, b"T")?,
         kind: Kind::Token,
@@ -103,7 +104,7 @@ fn token(alloc: Global) -> Result<Entry, Fail> {
     })
 }
 
-fn lease(alloc: Global) -> Result<Entry, Fail> {
+fn lease(alloc: Global) -> Result<Entry, AllocError> {
     Ok(Entry {
         name: Name::of(alloc, b"L")?,
         kind: Kind::Lease,
@@ -116,46 +117,64 @@ fn lease(alloc: Global) -> Result<Entry, Fail> {
     })
 }
 
-#[test]
-fn the_web_example(rt: HostRuntime) -> Result<(), Fail> {
-    let inventory = read(rt.alloc(), WEB.as_bytes())?;
+fn holds_web<R: AllocGlobal + Abort>(rt: &R, inventory: &Inventory) -> Result<(), AllocError> {
     assert!(rt; inventory.forest().len() == 1);
     assert!(rt; inventory.forest().margin() == 1);
-    holds(
-        &rt,
-        &inventory,
-        0,
-        &web(rt.alloc())?,
-        "web",
-        terms(60, 9000)?,
-    );
-    assert!(rt; is_last_credential(inventory, 1, "web"));
+    let web = web(rt.alloc())?;
+    holds(rt, inventory, 0, &web, "web", terms(60, 9000));
     Ok(())
+}
+
+fn holds_token<R: AllocGlobal + Abort>(rt: &R, inventory: &Inventory) -> Result<(), AllocError> {
+    let token = token(rt.alloc())?;
+    holds(rt, inventory, 0, &token, "s.1234", terms(100, 150));
+    Ok(())
+}
+
+fn holds_lease<R: AllocGlobal + Abort>(rt: &R, inventory: &Inventory) -> Result<(), AllocError> {
+    let lease = lease(rt.alloc())?;
+    holds(rt, inventory, 1, &lease, "db/creds/app/1", terms(60, 9000));
+    Ok(())
+}
+
+fn holds_both<R: AllocGlobal + Abort>(rt: &R, inventory: &Inventory) -> Result<(), AllocError> {
+    assert!(rt; inventory.forest().len() == 2);
+    holds_token(rt, inventory)?;
+    holds_lease(rt, inventory)
+}
+
+// The last of so many entries has this credential.
+fn ends_with<R: AllocGlobal + Abort>(
+    rt: &R,
+    text: &str,
+    entries: u32,
+    credential: &str,
+) -> Result<(), Fail> {
+    let inventory = read(rt.alloc(), text.as_bytes())?;
+    assert!(rt; is_last_credential(inventory, entries, credential));
+    Ok(())
+}
+
+fn is_the_web_example<R: AllocGlobal + Abort>(rt: &R) -> Result<(), Fail> {
+    let inventory = read(rt.alloc(), WEB.as_bytes())?;
+    Ok(holds_web(rt, &inventory)?)
+}
+
+#[test]
+fn the_web_example(rt: HostRuntime) -> Result<(), Fail> {
+    is_the_web_example(&rt)?;
+    ends_with(&rt, WEB, 1, "web")
+}
+
+fn are_a_token_and_its_lease<R: AllocGlobal + Abort>(rt: &R) -> Result<(), Fail> {
+    let inventory = read(rt.alloc(), TOKEN_AND_LEASE.as_bytes())?;
+    Ok(holds_both(rt, &inventory)?)
 }
 
 #[test]
 fn a_token_and_its_lease(rt: HostRuntime) -> Result<(), Fail> {
-    let alloc = rt.alloc();
-    let inventory = read(alloc, TOKEN_AND_LEASE.as_bytes())?;
-    assert!(rt; inventory.forest().len() == 2);
-    holds(
-        &rt,
-        &inventory,
-        0,
-        &token(alloc)?,
-        "s.1234",
-        terms(100, 150)?,
-    );
-    holds(
-        &rt,
-        &inventory,
-        1,
-        &lease(alloc)?,
-        "db/creds/app/1",
-        terms(60, 9000)?,
-    );
-    assert!(rt; is_last_credential(inventory, 2, "db/creds/app/1"));
-    Ok(())
+    are_a_token_and_its_lease(&rt)?;
+    ends_with(&rt, TOKEN_AND_LEASE, 2, "db/creds/app/1")
 }
 
 // The keys of a token, and the step and ceiling that they come to.
@@ -349,10 +368,13 @@ fn hides<R: Abort>(rt: &R, shown: &str, text: &str) {
     }
 }
 
-fn hides_credentials<R: AllocGlobal + Abort>(
-    rt: &R,
-    credentials: &Credentials,
-) -> Result<(), Fail> {
+fn inventory_hides<R: AllocGlobal + Abort>(rt: &R, inventory: &Inventory) -> Result<(), Fail> {
+    let shown = format!(in rt.alloc(); "{inventory:?}")?;
+    hides(rt, &shown, "1150");
+    Ok(())
+}
+
+fn credentials_hide<R: AllocGlobal + Abort>(rt: &R, credentials: &Credentials) -> Result<(), Fail> {
     let shown = format!(in rt.alloc(); "{credentials:?}")?;
     hides(rt, &shown, "Credentials");
     Ok(())
@@ -362,8 +384,7 @@ fn hides_credentials<R: AllocGlobal + Abort>(
 #[test]
 fn no_credential_is_shown(rt: HostRuntime) -> Result<(), Fail> {
     let inventory = read(rt.alloc(), TOKEN_AND_LEASE.as_bytes())?;
-    let shown = format!(in rt.alloc(); "{inventory:?}")?;
-    hides(&rt, &shown, "1150");
+    inventory_hides(&rt, &inventory)?;
     let (_forest, credentials) = inventory.into_parts();
-    hides_credentials(&rt, &credentials)
+    credentials_hide(&rt, &credentials)
 }

@@ -1,5 +1,5 @@
 use crate::requests::{THREE_TOKENS, moment, table};
-use broker_table::{LineFault, Moments, next_moment};
+use broker_table::{LineFault, Moments, Table, next_moment};
 use keep_device::{Device, MemorySource};
 use std::alloc::Global;
 use std::process::Abort;
@@ -34,17 +34,24 @@ fn source(
     ))
 }
 
+// Whether these moments are read, and then none.
+fn tells(alloc: Global, source: &mut MemorySource, moments: &[u64]) -> bool {
+    for seconds in moments {
+        if next_moment(alloc, Moments::Lines, source) != Ok(moment(*seconds)) {
+            return false;
+        }
+    }
+    next_moment(alloc, Moments::Lines, source) == Err(LineFault::NoMoment)
+}
+
 // What stands after a line is left for the next; where one moment is for all, nothing is read.
 fn are_read(alloc: Global, text: &[u8], moments: &[u64]) -> Result<bool, Fail> {
     let mut source = source(alloc, text, 3, None)?;
-    for seconds in moments {
-        if next_moment(alloc, Moments::Lines, &mut source) != Ok(moment(*seconds)?) {
-            return Ok(false);
-        }
-    }
-    let is_end = next_moment(alloc, Moments::Lines, &mut source) == Err(LineFault::NoMoment);
-    let seven = moment(7)?;
-    Ok(is_end && next_moment(alloc, Moments::All(seven), &mut source) == Ok(seven))
+    let seven = moment(7);
+    Ok(
+        tells(alloc, &mut source, moments)
+            && next_moment(alloc, Moments::All(seven), &mut source) == Ok(seven),
+    )
 }
 
 #[test]
@@ -74,11 +81,14 @@ fn hides<R: Abort>(rt: &R, shown: &str) {
     }
 }
 
+fn table_hides<R: AllocGlobal + Abort>(rt: &R, table: &Table) -> Result<(), Fail> {
+    hides(rt, &format!(in rt.alloc(); "{table:?}")?);
+    Ok(())
+}
+
 // What a table shows of itself holds names, and no credential, neither as a text nor as the numbers of its bytes.
 #[test]
 fn no_credential_is_shown(rt: HostRuntime) -> Result<(), Fail> {
     let table = table(rt.alloc(), THREE_TOKENS)?;
-    let shown = format!(in rt.alloc(); "{table:?}")?;
-    hides(&rt, &shown);
-    Ok(())
+    table_hides(&rt, &table)
 }

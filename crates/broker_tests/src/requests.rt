@@ -5,7 +5,7 @@ use keep_moment::{Moment, Text};
 use std::alloc::Global;
 use std::process::Abort;
 use std::test::Fail;
-use vault_http::{Reply, Request};
+use vault_http::Request;
 
 pub(crate) const WEB: &str =
     "[[token]]\nname = \"web\"\nissued = 1000\nend = 1060\nincrement = 60\nmax_ttl = 9000\nneed = 1200\n";
@@ -31,8 +31,9 @@ const LOOKUP_SELF: &str = "/v1/auth/token/lookup-self";
 
 const LOOKUP_LEASE: &str = "/v1/sys/leases/lookup";
 
-pub(crate) fn moment(seconds: u64) -> Result<Moment, Fail> {
-    Ok(Moment::new(seconds).ok_or("a moment")?)
+/// The moment so many seconds after 1970-01-01T00:00:00Z.
+pub(crate) fn moment(seconds: u64) -> Moment {
+    Moment::new(seconds).unwrap_or(Moment::new(0).unwrap())
 }
 
 /// The table of an inventory.
@@ -75,111 +76,170 @@ pub(crate) fn request(
     })
 }
 
-/// The reply to a request.
-fn reply(table: &mut Table, t: u64, request: &Request) -> Result<Reply, Fail> {
-    match table.serve(moment(t)?, request) {
-        Ok(Served::Reply(reply)) => Ok(reply),
-        Ok(Served::Dropped) => Err("dropped")?,
-        Err(_) => Err("memory")?,
+/// Whether a request at that moment is answered with this status and this body.
+fn is_answered(table: &mut Table, t: u64, request: &Request, status: u16, body: &str) -> bool {
+    match table.serve(moment(t), request) {
+        Ok(Served::Reply(reply)) => reply.status == status && reply.body.list() == body.as_bytes(),
+        _ => false,
     }
 }
 
-fn status(table: &mut Table, t: u64, request: &Request) -> Result<u16, Fail> {
-    Ok(reply(table, t, request)?.status)
-}
-
-fn is_dropped(table: &mut Table, t: u64, request: &Request) -> Result<bool, Fail> {
-    Ok(matches!(table.serve(moment(t)?, request), Ok(Served::Dropped)))
-}
-
-/// Whether the renewal of its own token is answered with status 200 and this body.
-fn is_renewed(table: &mut Table, t: u64, renewal: &Request, body: &str) -> Result<bool, Fail> {
-    let got = reply(table, t, renewal)?;
-    Ok(got.status == 200 && got.body.list() == body.as_bytes())
-}
+const FOR_10: &str = "{\"auth\":{\"lease_duration\":10,\"renewable\":true}}";
 
 const FOR_30: &str = "{\"auth\":{\"lease_duration\":30,\"renewable\":true}}";
 
+const FOR_41: &str = "{\"auth\":{\"lease_duration\":41,\"renewable\":true}}";
+
 const FOR_60: &str = "{\"auth\":{\"lease_duration\":60,\"renewable\":true}}";
 
-// Whether the fault of a number is answered so.
-fn is_set(table: &mut Table, number: u64, fault: Fault, answer: Result<(), SetFault>) -> bool {
-    table.set_fault(number, fault) == answer
+/// A step of a play with one request, and what is to come of it.
+#[derive(Clone, Copy)]
+enum Step {
+    /// The request with that number is given a fault, and how that is answered.
+    Set(u64, Fault, Result<(), SetFault>),
+    /// At that moment the request is made, and its reply is dropped.
+    IsDropped(u64),
+    /// It is answered with this status.
+    Status(u64, u16),
+    /// It is answered with status 200 and this body.
+    IsGranted(u64, &'static str),
+    /// It is answered with status 200, and `web` ends at this second then.
+    Keeps(u64, u64),
+    /// The entry of that name is alive, or is not.
+    IsAlive(&'static [u8], bool),
+    /// When the entry of that name ends.
+    Ends(&'static [u8], Option<u64>),
 }
+
+/// A table, and the request that is made again and again.
+#[derive(Drop)]
+struct Play {
+    table: Table,
+    request: Request,
+}
+
+impl Play {
+    /// Whether what comes of a step is what is to come of it.
+    fn goes_on(&mut self, step: Step) -> bool {
+        match step {
+            Step::Set(number, fault, answer) => self.table.set_fault(number, fault) == answer,
+            Step::IsDropped(t) => self.is_dropped(t),
+            Step::Status(t, status) => self.has_status(t, status),
+            Step::IsGranted(t, body) => is_answered(&mut self.table, t, &self.request, 200, body),
+            Step::Keeps(t, end) => self.has_status(t, 200) && self.ends(b"web", Some(end)),
+            Step::IsAlive(name, is_so) => self.table.alive(name) == is_so,
+            Step::Ends(name, end) => self.ends(name, end),
+        }
+    }
+
+    fn is_dropped(&mut self, t: u64) -> bool {
+        matches!(
+            self.table.serve(moment(t), &self.request),
+            Ok(Served::Dropped)
+        )
+    }
+
+    fn has_status(&mut self, t: u64, status: u16) -> bool {
+        match self.table.serve(moment(t), &self.request) {
+            Ok(Served::Reply(reply)) => reply.status == status,
+            _ => false,
+        }
+    }
+
+    fn ends(&self, name: &[u8], end: Option<u64>) -> bool {
+        self.table.end_of(name) == end
+    }
+
+    /// The number of the first step, counted from 0, of which something else comes than is to come; `None` where there is none.
+    fn first_wrong(&mut self, steps: &[Step]) -> Option<usize> {
+        for (number, step) in steps.iter().enumerate() {
+            if !self.goes_on(*step) {
+                return Some(number);
+            }
+        }
+        None
+    }
+}
+
+/// Plays the steps with the table of an inventory, and asserts that each comes out as it is to.
+fn plays<R: AllocGlobal + Abort>(
+    rt: &R,
+    text: &str,
+    request: Request,
+    steps: &[Step],
+) -> Result<(), Fail> {
+    let table = table(rt.alloc(), text)?;
+    let mut play = Play { table, request };
+    assert_eq!(rt; play.first_wrong(steps), None);
+    Ok(())
+}
+
+fn renewal_of_web(alloc: Global) -> Result<Request, Fail> {
+    request(alloc, "POST", RENEW_SELF, "web", "")
+}
+
+const A_FAULT_EACH: [Step; 5] = [
+    Step::Set(0, Fault::Drop, Err(SetFault::BadNumber)),
+    Step::Set(1, Fault::Drop, Ok(())),
+    Step::Set(1, Fault::Deny, Err(SetFault::Twice)),
+    Step::IsDropped(1000),
+    Step::Set(1, Fault::Deny, Err(SetFault::BadNumber)),
+];
 
 // A number is from 1 and not that of a request that was counted, and has one fault.
 #[test]
 fn takes_a_fault_for_each_number(rt: HostRuntime) -> Result<(), Fail> {
-    let renewal = request(rt.alloc(), "POST", RENEW_SELF, "web", "")?;
-    let mut table = table(rt.alloc(), WEB)?;
-    assert!(rt; is_set(&mut table, 0, Fault::Drop, Err(SetFault::BadNumber)));
-    assert!(rt; is_set(&mut table, 1, Fault::Drop, Ok(())));
-    assert!(rt; is_set(&mut table, 1, Fault::Deny, Err(SetFault::Twice)));
-    assert!(rt; is_dropped(&mut table, 1000, &renewal)?);
-    assert!(rt; is_set(&mut table, 1, Fault::Deny, Err(SetFault::BadNumber)));
-    Ok(())
-}
-
-fn ends_at(table: &Table, end: u64) -> bool {
-    table.end_of(b"web") == Some(end)
-}
-
-/// Gives the first three requests a fault.
-fn set_faults(table: &mut Table) -> Result<(), SetFault> {
-    table.set_fault(1, Fault::Drop)?;
-    table.set_fault(2, Fault::Deny)?;
-    table.set_fault(3, Fault::Short(30))
+    plays(&rt, WEB, renewal_of_web(rt.alloc())?, &A_FAULT_EACH)
 }
 
 // Each of the first three renewals has its fault, and the fourth has none.
-fn uses_faults<R: Abort>(rt: &R, table: &mut Table, renewal: &Request) -> Result<(), Fail> {
-    assert!(rt; is_dropped(table, 1059, renewal)?);
-    assert!(rt; ends_at(table, 1119));
-    assert!(rt; status(table, 1060, renewal)? == 403);
-    assert!(rt; is_renewed(table, 1061, renewal, FOR_30)?);
-    assert!(rt; is_renewed(table, 1062, renewal, FOR_60)?);
-    Ok(())
-}
+const ONCE: [Step; 9] = [
+    Step::Set(1, Fault::Drop, Ok(())),
+    Step::Set(2, Fault::Deny, Ok(())),
+    Step::Set(3, Fault::Short(30), Ok(())),
+    Step::IsDropped(1059),
+    Step::Ends(b"web", Some(1119)),
+    Step::Status(1060, 403),
+    Step::IsGranted(1061, FOR_30),
+    Step::IsGranted(1062, FOR_60),
+    Step::Set(4, Fault::Deny, Err(SetFault::BadNumber)),
+];
 
 #[test]
 fn takes_each_fault_once(rt: HostRuntime) -> Result<(), Fail> {
-    let renewal = request(rt.alloc(), "POST", RENEW_SELF, "web", "")?;
-    let mut table = table(rt.alloc(), WEB)?;
-    set_faults(&mut table)?;
-    uses_faults(&rt, &mut table, &renewal)?;
-    assert!(rt; is_set(&mut table, 4, Fault::Deny, Err(SetFault::BadNumber)));
-    Ok(())
+    plays(&rt, WEB, renewal_of_web(rt.alloc())?, &ONCE)
 }
 
-// The ends of `web` that ten short grants at 1000 come to, and at last one by the rule.
-const ENDS: [u64; 11] = [
-    1001, 1002, 1003, 1004, 1005, 1006, 1007, 1008, 1009, 1010, 1060,
+// Ten faults, given from the last to the first; the ends of `web` that ten short grants at 1000 come to, and at last one by the
+// rule.
+const AT_ITS_NUMBER: [Step; 21] = [
+    Step::Set(10, Fault::Short(10), Ok(())),
+    Step::Set(9, Fault::Short(9), Ok(())),
+    Step::Set(8, Fault::Short(8), Ok(())),
+    Step::Set(7, Fault::Short(7), Ok(())),
+    Step::Set(6, Fault::Short(6), Ok(())),
+    Step::Set(5, Fault::Short(5), Ok(())),
+    Step::Set(4, Fault::Short(4), Ok(())),
+    Step::Set(3, Fault::Short(3), Ok(())),
+    Step::Set(2, Fault::Short(2), Ok(())),
+    Step::Set(1, Fault::Short(1), Ok(())),
+    Step::Keeps(1000, 1001),
+    Step::Keeps(1000, 1002),
+    Step::Keeps(1000, 1003),
+    Step::Keeps(1000, 1004),
+    Step::Keeps(1000, 1005),
+    Step::Keeps(1000, 1006),
+    Step::Keeps(1000, 1007),
+    Step::Keeps(1000, 1008),
+    Step::Keeps(1000, 1009),
+    Step::Keeps(1000, 1010),
+    Step::Keeps(1000, 1060),
 ];
-
-// The renewal of `web` at 1000 comes to this end.
-fn comes_to(table: &mut Table, renewal: &Request, end: u64) -> Result<bool, Fail> {
-    let is_granted = status(table, 1000, renewal)? == 200;
-    Ok(is_granted && ends_at(table, end))
-}
-
-// Ten faults, given from the last to the first.
-fn set_short<R: Abort>(rt: &R, table: &mut Table) {
-    for before in 0..10u32 {
-        let number = 10 - before;
-        assert!(rt; is_set(table, number as u64, Fault::Short(number), Ok(())));
-    }
-}
 
 // Each of ten faults is that of its own request, and the eleventh has none.
 #[test]
 fn uses_each_fault_at_its_number(rt: HostRuntime) -> Result<(), Fail> {
-    let renewal = request(rt.alloc(), "POST", RENEW_SELF, "web", "")?;
-    let mut table = table(rt.alloc(), WEB)?;
-    set_short(&rt, &mut table);
-    for end in &ENDS {
-        assert!(rt; comes_to(&mut table, &renewal, *end)?, "{end}");
-    }
-    Ok(())
+    plays(&rt, WEB, renewal_of_web(rt.alloc())?, &AT_ITS_NUMBER)
 }
 
 /// A request, and the status and the body of its reply.
@@ -194,10 +254,9 @@ struct Row {
 
 // Whether a fresh table of the inventory answers so at that moment.
 fn answers(alloc: Global, text: &str, t: u64, row: &Row) -> Result<bool, Fail> {
-    let mut table = table(alloc, text)?;
     let request = request(alloc, row.method, row.path, row.token, row.body)?;
-    let got = reply(&mut table, t, &request)?;
-    Ok(got.status == row.status && got.body.list() == row.reply.as_bytes())
+    let mut table = table(alloc, text)?;
+    Ok(is_answered(&mut table, t, &request, row.status, row.reply))
 }
 
 fn all_answered<R: AllocGlobal + Abort>(
@@ -342,18 +401,6 @@ fn looks_up_what_is_the_tokens_own(rt: HostRuntime) -> Result<(), Fail> {
     all_answered(&rt, THREE_TOKENS, 1010, &LOOKED_UP)
 }
 
-/// Whether a renewal at 1059 is granted, and L ends at 1119 beside T.
-fn is_renewed_at_1059(table: &mut Table, renewal: &Request) -> Result<bool, Fail> {
-    let is_granted = status(table, 1059, renewal)? == 200;
-    Ok(is_granted & table.alive(b"T") & (table.end_of(b"L") == Some(1119)))
-}
-
-/// Whether a renewal at 1100 is refused, and T and L are listed no more.
-fn both_ended_at_1100(table: &mut Table, renewal: &Request) -> Result<bool, Fail> {
-    let refused = status(table, 1100, renewal)? == 403;
-    Ok(refused & !table.alive(b"T") & !table.alive(b"L") & table.end_of(b"L").is_none())
-}
-
 fn renewal_of_the_lease(alloc: Global) -> Result<Request, Fail> {
     request(
         alloc,
@@ -364,41 +411,61 @@ fn renewal_of_the_lease(alloc: Global) -> Result<Request, Fail> {
     )
 }
 
+// A renewal at 1100 is refused, and T and L are listed no more.
+const BOTH_ENDED: [Step; 4] = [
+    Step::Status(1100, 403),
+    Step::IsAlive(b"T", false),
+    Step::IsAlive(b"L", false),
+    Step::Ends(b"L", None),
+];
+
 #[test]
 fn ends_a_lease_with_its_token(rt: HostRuntime) -> Result<(), Fail> {
-    let mut table = table(rt.alloc(), TOKEN_AND_LEASE)?;
-    let renewal = renewal_of_the_lease(rt.alloc())?;
-    assert!(rt; both_ended_at_1100(&mut table, &renewal)?);
-    Ok(())
+    plays(
+        &rt,
+        TOKEN_AND_LEASE,
+        renewal_of_the_lease(rt.alloc())?,
+        &BOTH_ENDED,
+    )
 }
+
+// The same after one at 1059, which is granted.
+const RENEWED_AND_ENDED: [Step; 7] = [
+    Step::Status(1059, 200),
+    Step::IsAlive(b"T", true),
+    Step::Ends(b"L", Some(1119)),
+    Step::Status(1100, 403),
+    Step::IsAlive(b"T", false),
+    Step::IsAlive(b"L", false),
+    Step::Ends(b"L", None),
+];
 
 #[test]
 fn ends_a_renewed_lease_with_its_token(rt: HostRuntime) -> Result<(), Fail> {
-    let mut table = table(rt.alloc(), TOKEN_AND_LEASE)?;
-    let renewal = renewal_of_the_lease(rt.alloc())?;
-    assert!(rt; is_renewed_at_1059(&mut table, &renewal)?);
-    assert!(rt; both_ended_at_1100(&mut table, &renewal)?);
-    Ok(())
+    plays(
+        &rt,
+        TOKEN_AND_LEASE,
+        renewal_of_the_lease(rt.alloc())?,
+        &RENEWED_AND_ENDED,
+    )
 }
 
-const FOR_10: &str = "{\"auth\":{\"lease_duration\":10,\"renewable\":true}}";
-
-const FOR_41: &str = "{\"auth\":{\"lease_duration\":41,\"renewable\":true}}";
+const ASKED: [Step; 2] = [
+    Step::IsGranted(1000, FOR_10),
+    Step::Ends(b"web", Some(1010)),
+];
 
 #[test]
 fn grants_what_is_asked(rt: HostRuntime) -> Result<(), Fail> {
-    let mut web = table(rt.alloc(), WEB)?;
     let ten = request(rt.alloc(), "POST", RENEW_SELF, "web", "{\"increment\":10}")?;
-    assert!(rt; is_renewed(&mut web, 1000, &ten, FOR_10)?);
-    assert!(rt; ends_at(&web, 1010));
-    Ok(())
+    plays(&rt, WEB, ten, &ASKED)
 }
+
+const UP_TO_THE_CEILING: [Step; 1] = [Step::IsGranted(1059, FOR_41)];
 
 // A periodic token is given its period, whatever it asks for, up to its explicit max.
 #[test]
 fn grants_up_to_the_ceiling(rt: HostRuntime) -> Result<(), Fail> {
-    let mut pay = table(rt.alloc(), PERIODIC)?;
     let five = request(rt.alloc(), "PUT", RENEW_SELF, "pay", "{\"increment\":5}")?;
-    assert!(rt; is_renewed(&mut pay, 1059, &five, FOR_41)?);
-    Ok(())
+    plays(&rt, PERIODIC, five, &UP_TO_THE_CEILING)
 }

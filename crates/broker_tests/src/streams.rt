@@ -1,5 +1,5 @@
 use crate::requests::{RENEW_SELF, WEB, moment, request, table};
-use broker_table::StreamFault;
+use broker_table::{StreamFault, Table};
 use std::alloc::Global;
 use std::net::{IpAddr, Ipv4Addr, OpenListener, SocketAddr, TcpListener, TcpStream};
 use std::test::Fail;
@@ -52,11 +52,20 @@ const SERVED: [(&[u8], &[u8], u64); 5] = [
     (b"POST /v1/auth/token/renew-self HTTP/1.1\r\n", b"", 1060),
 ];
 
+// Whether what the stream says at 1059 is answered so, and `web` ends then.
+fn serves(
+    table: &mut Table,
+    stream: &mut MemoryPair,
+    answer: Result<(), StreamFault>,
+    end: u64,
+) -> bool {
+    table.serve_stream(moment(1059), stream) == answer && table.end_of(b"web") == Some(end)
+}
+
 fn is_served(alloc: Global, input: &[u8], output: &[u8], end: u64) -> Result<bool, Fail> {
-    let mut table = table(alloc, WEB)?;
     let mut stream = stream(alloc, input, None, None)?;
-    let is_well = table.serve_stream(moment(1059)?, &mut stream).is_ok();
-    Ok(is_well && stream.sink() == output && table.end_of(b"web") == Some(end))
+    let mut table = table(alloc, WEB)?;
+    Ok(serves(&mut table, &mut stream, Ok(()), end) && stream.sink() == output)
 }
 
 #[test]
@@ -67,28 +76,27 @@ fn serves_a_stream(rt: HostRuntime) -> Result<(), Fail> {
     Ok(())
 }
 
-// Whether the renewal over this stream comes to that answer and that end, and each fault of the stream is counted.
+// Whether the renewal over a stream of which these calls fail comes to that answer and that end, and each fault of the stream is
+// counted.
 fn comes_to(
     alloc: Global,
-    stream: &mut MemoryPair,
+    read: Option<u64>,
+    write: Option<u64>,
     answer: Result<(), StreamFault>,
     end: u64,
 ) -> Result<bool, Fail> {
+    let mut stream = stream(alloc, RENEWAL, read, write)?;
     let mut table = table(alloc, WEB)?;
-    let is_answer = table.serve_stream(moment(1059)?, stream) == answer;
     let failures = if answer.is_ok() { 0 } else { 1 };
-    Ok(is_answer && stream.failures() == failures && table.end_of(b"web") == Some(end))
+    Ok(serves(&mut table, &mut stream, answer, end) && stream.failures() == failures)
 }
 
 // Each read fails in turn, and leaves the table.
 #[test]
 fn fails_where_a_read_fails(rt: HostRuntime) -> Result<(), Fail> {
+    let failed = Err(StreamFault::ReadFailed);
     for at in 0..2 {
-        let mut stream = stream(rt.alloc(), RENEWAL, Some(at), None)?;
-        assert!(rt;
-            comes_to(rt.alloc(), &mut stream, Err(StreamFault::ReadFailed), 1060)?,
-            "{at}"
-        );
+        assert!(rt; comes_to(rt.alloc(), Some(at), None, failed, 1060)?, "{at}");
     }
     Ok(())
 }
@@ -96,15 +104,11 @@ fn fails_where_a_read_fails(rt: HostRuntime) -> Result<(), Fail> {
 // Each write fails in turn, and leaves the table as it was served; there are two.
 #[test]
 fn fails_where_a_write_fails(rt: HostRuntime) -> Result<(), Fail> {
+    let failed = Err(StreamFault::WriteFailed);
     for at in 0..2 {
-        let mut stream = stream(rt.alloc(), RENEWAL, None, Some(at))?;
-        assert!(rt;
-            comes_to(rt.alloc(), &mut stream, Err(StreamFault::WriteFailed), 1119)?,
-            "{at}"
-        );
+        assert!(rt; comes_to(rt.alloc(), None, Some(at), failed, 1119)?, "{at}");
     }
-    let mut stream = stream(rt.alloc(), RENEWAL, None, Some(2))?;
-    assert!(rt; comes_to(rt.alloc(), &mut stream, Ok(()), 1119)?);
+    assert!(rt; comes_to(rt.alloc(), None, Some(2), Ok(()), 1119)?);
     Ok(())
 }
 
@@ -128,18 +132,25 @@ fn ask(alloc: Global, client: &mut Counted<TcpStream>) -> Result<(), Fail> {
     Ok(write_request(alloc, client, &renewal)?)
 }
 
+/// Serves this end of a connection, which is closed then, at 1059: whether that goes well.
+fn serves_one(alloc: Global, server: TcpStream) -> Result<bool, Fail> {
+    let mut server = Counted::new(server);
+    let mut table = table(alloc, WEB)?;
+    Ok(table.serve_stream(moment(1059), &mut server).is_ok())
+}
+
+/// Whether the grant is heard.
+fn hears(alloc: Global, client: &mut Counted<TcpStream>) -> Result<bool, Fail> {
+    let got = read_reply(alloc, client, MOST_MESSAGE)?;
+    Ok(got.status == 200 && got.body.list() == GRANT)
+}
+
 #[test]
 fn serves_over_a_socket(rt: HostRuntime) -> Result<(), Fail> {
     let (client, server) = connection(&rt)?;
     let mut client = Counted::new(client);
-    let mut server = Counted::new(server);
     ask(rt.alloc(), &mut client)?;
-    let mut table = table(rt.alloc(), WEB)?;
-    assert!(&rt; table.serve_stream(moment(1059)?, &mut server).is_ok());
-    drop(server);
-    let got = read_reply(rt.alloc(), &mut client, MOST_MESSAGE);
-    let got = got?;
-    assert!(&rt; got.status == 200);
-    assert!(&rt; got.body.list() == GRANT);
+    assert!(&rt; serves_one(rt.alloc(), server)?);
+    assert!(&rt; hears(rt.alloc(), &mut client)?);
     Ok(())
 }

@@ -1,7 +1,7 @@
 //! Answers: what is shown, what is told, and the exit.
-use crate::play::{Played, play_well};
+use crate::play::play_well;
 use keep_calling::Ask;
-use std::process::Abort;
+use std::alloc::{AllocError, Global};
 use std::test::Fail;
 
 const KEPT: &str = "every needed entry is kept\n";
@@ -95,17 +95,25 @@ const ANSWERS: [(Ask<'static>, &str, &str, &str, u8); 20] = [
     ),
 ];
 
-fn is_so(played: &Played, shown: &str, told: &str, code: u8) -> bool {
-    played.shown() == shown.as_bytes()
-        && played.told() == told.as_bytes()
-        && played.ended.code() == code
+fn is_so(
+    alloc: Global,
+    ask: Ask<'_>,
+    answer: &str,
+    shown: &str,
+    told: &str,
+    code: u8,
+) -> Result<bool, AllocError> {
+    let played = play_well(alloc, ask, "x", answer)?;
+    Ok(played.is_so(shown.as_bytes(), told.as_bytes(), code))
 }
 
 #[test]
 fn answers(rt: HostRuntime) -> Result<(), Fail> {
     for (ask, answer, shown, told, code) in &ANSWERS {
-        let played = play_well(rt.alloc(), *ask, "x", answer)?;
-        assert!(rt; is_so(&played, shown, told, *code), "{answer}");
+        assert!(rt;
+            is_so(rt.alloc(), *ask, answer, shown, told, *code)?,
+            "{answer}"
+        );
     }
     Ok(())
 }

@@ -1,21 +1,22 @@
 //! Each call of each device fails in turn.
-use crate::play::{Failing, NONE_FAILS, Played, play};
+use crate::play::{Failing, NONE_FAILS, play};
 use keep_calling::{Ask, Ended};
-use std::alloc::Global;
-use std::process::Abort;
+use std::alloc::{AllocError, Global};
 use std::test::Fail;
 
 const WEB: Ask<'static> = Ask::Replace { name: "web" };
 
-fn replaced(alloc: Global, failing: Failing) -> Result<Played, Fail> {
-    play(alloc, WEB, b"s.1\n", b"ok\none\n", failing)
-}
-
-fn is_so(played: &Played, sent: &str, shown: &str, told: &str, ended: Ended) -> bool {
-    played.sent() == sent.as_bytes()
-        && played.shown() == shown.as_bytes()
-        && played.told() == told.as_bytes()
-        && played.ended == ended
+/// Whether this is sent, shown and told, and it ends so, where that call fails.
+fn is_so(
+    alloc: Global,
+    failing: Failing,
+    sent: &str,
+    shown: &str,
+    told: &str,
+    ended: Ended,
+) -> Result<bool, AllocError> {
+    let played = play(alloc, WEB, b"s.1\n", b"ok\none\n", failing)?;
+    Ok(played.has_sent(sent.as_bytes(), shown.as_bytes(), told.as_bytes(), ended))
 }
 
 const SENT: &str = "[\"replace\",\"web\",\"s.1\"]\n";
@@ -148,27 +149,35 @@ const FAILURES: [(Failing, &str, &str, &str, Ended); 12] = [
 #[test]
 fn each_call(rt: HostRuntime) -> Result<(), Fail> {
     for (failing, sent, shown, told, ended) in &FAILURES {
-        let played = replaced(rt.alloc(), *failing)?;
-        assert!(rt; is_so(&played, sent, shown, told, *ended), "{failing:?}");
+        assert!(rt;
+            is_so(rt.alloc(), *failing, sent, shown, told, *ended)?,
+            "{failing:?}"
+        );
     }
     Ok(())
 }
 
-/// The device for fault lines fails at each of its calls: a front of the line is told, and the end is the same.
+const LINE: &[u8] = b"leasekeep: status: x\n";
+
+/// Whether a front of the line is told where the device for fault lines fails after so many calls, and the end is the same.
+fn is_front_told(alloc: Global, before: u64) -> Result<bool, AllocError> {
+    let failing = Failing {
+        errors: Some(before),
+        ..NONE_FAILS
+    };
+    let played = play(alloc, Ask::Status, b"", b"error: x\n", failing)?;
+    Ok(
+        LINE.starts_with(played.told())
+            && played.ended == Ended::Refused
+            && played.shown().is_empty(),
+    )
+}
+
+/// The device for fault lines fails at each of its calls.
 #[test]
 fn the_fault_line(rt: HostRuntime) -> Result<(), Fail> {
-    let line = "leasekeep: status: x\n";
     for before in 0..8u64 {
-        let failing = Failing {
-            errors: Some(before),
-            ..NONE_FAILS
-        };
-        let played = play(rt.alloc(), Ask::Status, b"", b"error: x\n", failing)?;
-        assert!(rt; line.as_bytes().starts_with(played.told()), "{before}");
-        assert!(rt;
-            played.ended == Ended::Refused && played.shown().is_empty(),
-            "of {before}"
-        );
+        assert!(rt; is_front_told(rt.alloc(), before)?, "{before}");
     }
     Ok(())
 }

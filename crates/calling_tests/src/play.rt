@@ -1,8 +1,7 @@
 //! A call over devices in memory.
 use keep_calling::{Ask, Call, Ended, follow, request_for, talk};
 use keep_device::{MemoryPair, MemorySink, MemorySource};
-use std::alloc::Global;
-use std::test::Fail;
+use std::alloc::{AllocError, Global};
 
 /// How many calls of each device go well before one fails.
 #[derive(Clone, Copy, Debug)]
@@ -22,32 +21,107 @@ pub(crate) const NONE_FAILS: Failing = Failing {
     errors: None,
 };
 
-/// What came of a call.
+/// What a call reads and writes.
 #[derive(Drop)]
-pub(crate) struct Played {
-    pub(crate) ended: Ended,
+struct Devices {
     input: MemorySource,
     line: MemoryPair,
     out: MemorySink,
     errors: MemorySink,
 }
 
+impl Devices {
+    /// Standard input has these bytes, and the agent answers so, in pieces of these lengths and then whole.
+    fn new(
+        alloc: Global,
+        input: &[u8],
+        answer: &[u8],
+        pieces: &[usize],
+        failing: Failing,
+    ) -> Result<Devices, AllocError> {
+        let answer = source(alloc, answer, pieces, failing.reads)?;
+        Ok(Devices {
+            input: source(alloc, input, &[], failing.input)?,
+            line: MemoryPair::new(answer, MemorySink::new(alloc, failing.writes)),
+            out: MemorySink::new(alloc, failing.out),
+            errors: MemorySink::new(alloc, failing.errors),
+        })
+    }
+
+    /// Makes the request and sends it.
+    fn call(&mut self, alloc: Global, call: &Call<'_>) -> Ended {
+        match request_for(alloc, call, &mut self.input, &mut self.errors) {
+            Ok(request) => self.talk(alloc, call, request.list()),
+            Err(ended) => ended,
+        }
+    }
+
+    fn talk(&mut self, alloc: Global, call: &Call<'_>, request: &[u8]) -> Ended {
+        talk(
+            alloc,
+            call,
+            request,
+            &mut self.line,
+            &mut self.out,
+            &mut self.errors,
+        )
+    }
+
+    fn follow(&mut self, alloc: Global, call: &Call<'_>) -> Ended {
+        follow(
+            alloc,
+            call,
+            b"[\"follow\"]\n",
+            &mut self.line,
+            &mut self.out,
+            &mut self.errors,
+        )
+    }
+}
+
+fn source(
+    alloc: Global,
+    bytes: &[u8],
+    pieces: &[usize],
+    before: Option<u64>,
+) -> Result<MemorySource, AllocError> {
+    let bytes = Vec::from_slice(alloc, bytes)?;
+    Ok(MemorySource::new(bytes, Vec::from_slice(alloc, pieces)?, before))
+}
+
+/// What came of a call.
+#[derive(Drop)]
+pub(crate) struct Played {
+    pub(crate) ended: Ended,
+    devices: Devices,
+}
+
 impl Played {
     pub(crate) fn sent(&self) -> &[u8] {
-        self.line.sink()
+        self.devices.line.sink()
     }
 
     pub(crate) fn shown(&self) -> &[u8] {
-        self.out.bytes()
+        self.devices.out.bytes()
     }
 
     pub(crate) fn told(&self) -> &[u8] {
-        self.errors.bytes()
+        self.devices.errors.bytes()
     }
 
     /// How often standard input was read.
     pub(crate) fn reads(&self) -> u64 {
-        self.input.reads()
+        self.devices.input.reads()
+    }
+
+    /// Whether this was shown and told, and that is the exit.
+    pub(crate) fn is_so(&self, shown: &[u8], told: &[u8], code: u8) -> bool {
+        self.shown() == shown && self.told() == told && self.ended.code() == code
+    }
+
+    /// Whether this was sent, shown and told, and it ended so.
+    pub(crate) fn has_sent(&self, sent: &[u8], shown: &[u8], told: &[u8], ended: Ended) -> bool {
+        self.sent() == sent && self.shown() == shown && self.told() == told && self.ended == ended
     }
 }
 
@@ -60,11 +134,6 @@ pub(crate) fn call_for(ask: Ask<'_>) -> Call<'_> {
     }
 }
 
-fn source(alloc: Global, bytes: &[u8], before: Option<u64>) -> Result<MemorySource, Fail> {
-    let bytes = Vec::from_slice(alloc, bytes)?;
-    Ok(MemorySource::new(bytes, Vec::new(alloc), before))
-}
-
 /// Calls an agent that answers so; standard input has these bytes.
 pub(crate) fn play(
     alloc: Global,
@@ -72,31 +141,10 @@ pub(crate) fn play(
     input: &[u8],
     answer: &[u8],
     failing: Failing,
-) -> Result<Played, Fail> {
-    let mut input = source(alloc, input, failing.input)?;
-    let sink = MemorySink::new(alloc, failing.writes);
-    let mut line = MemoryPair::new(source(alloc, answer, failing.reads)?, sink);
-    let mut out = MemorySink::new(alloc, failing.out);
-    let mut errors = MemorySink::new(alloc, failing.errors);
-    let call = call_for(ask);
-    let ended = match request_for(alloc, &call, &mut input, &mut errors) {
-        Ok(request) => talk(
-            alloc,
-            &call,
-            request.list(),
-            &mut line,
-            &mut out,
-            &mut errors,
-        ),
-        Err(ended) => ended,
-    };
-    Ok(Played {
-        ended,
-        input,
-        line,
-        out,
-        errors,
-    })
+) -> Result<Played, AllocError> {
+    let mut devices = Devices::new(alloc, input, answer, &[], failing)?;
+    let ended = devices.call(alloc, &call_for(ask));
+    Ok(Played { ended, devices })
 }
 
 /// Follows an agent that answers so, in pieces of these lengths and then whole.
@@ -105,30 +153,10 @@ pub(crate) fn play_follow(
     answer: &[u8],
     pieces: &[usize],
     failing: Failing,
-) -> Result<Played, Fail> {
-    let input = source(alloc, b"", None)?;
-    let bytes = Vec::from_slice(alloc, answer)?;
-    let pieces = Vec::from_slice(alloc, pieces)?;
-    let answer = MemorySource::new(bytes, pieces, failing.reads);
-    let mut line = MemoryPair::new(answer, MemorySink::new(alloc, failing.writes));
-    let mut out = MemorySink::new(alloc, failing.out);
-    let mut errors = MemorySink::new(alloc, failing.errors);
-    let call = call_for(Ask::Follow { alerts: false });
-    let ended = follow(
-        alloc,
-        &call,
-        b"[\"follow\"]\n",
-        &mut line,
-        &mut out,
-        &mut errors,
-    );
-    Ok(Played {
-        ended,
-        input,
-        line,
-        out,
-        errors,
-    })
+) -> Result<Played, AllocError> {
+    let mut devices = Devices::new(alloc, b"", answer, pieces, failing)?;
+    let ended = devices.follow(alloc, &call_for(Ask::Follow { alerts: false }));
+    Ok(Played { ended, devices })
 }
 
 /// A call where nothing fails.
@@ -137,6 +165,6 @@ pub(crate) fn play_well(
     ask: Ask<'_>,
     input: &str,
     answer: &str,
-) -> Result<Played, Fail> {
+) -> Result<Played, AllocError> {
     play(alloc, ask, input.as_bytes(), answer.as_bytes(), NONE_FAILS)
 }

@@ -1,7 +1,7 @@
 //! Words for which nothing is sent.
 use crate::play::{NONE_FAILS, play};
 use keep_calling::{Ask, Ended};
-use std::process::Abort;
+use std::alloc::{AllocError, Global};
 use std::test::Fail;
 
 const NAME: &str = "NAME is 1 to 64 ASCII letters, digits, -, _, . or /";
@@ -57,35 +57,42 @@ const REFUSED: [(Ask<'static>, &[u8], &str, &str); 10] = [
     ),
 ];
 
+fn line(alloc: Global, command: &str, why: &str) -> Result<String, Fail> {
+    Ok(format!(in alloc; "leasekeep: {command}{why}\n")?)
+}
+
+/// Whether that is told, and nothing is sent.
+fn is_refused(alloc: Global, ask: Ask<'_>, input: &[u8], told: &str) -> Result<bool, AllocError> {
+    let played = play(alloc, ask, input, b"ok\n", NONE_FAILS)?;
+    Ok(played.has_sent(b"", b"", told.as_bytes(), Ended::Refused) && played.ended.code() == 1)
+}
+
 #[test]
 fn nothing_is_sent(rt: HostRuntime) -> Result<(), Fail> {
-    let alloc = rt.alloc();
     for (ask, input, command, why) in &REFUSED {
-        let played = play(alloc, *ask, input, b"ok\n", NONE_FAILS)?;
-        let told = format!(in alloc; "leasekeep: {command}{why}\n")?;
-        assert!(rt; played.told() == told.as_bytes(), "{told}");
+        let told = line(rt.alloc(), command, why)?;
         assert!(rt;
-            played.sent().is_empty() && played.shown().is_empty(),
-            "of {told}"
-        );
-        assert!(rt;
-            played.ended == Ended::Refused && played.ended.code() == 1,
-            "for {told}"
+            is_refused(rt.alloc(), *ask, input, told.as_str())?,
+            "{told}"
         );
     }
     Ok(())
 }
 
-/// A standard input of one byte more than may be taken is told of as a read.
+/// Whether nothing is sent of such an input, and it is told of as a read.
+fn is_unread(alloc: Global, input: &[u8]) -> Result<bool, AllocError> {
+    let played = play(alloc, WEB, input, b"ok\n", NONE_FAILS)?;
+    Ok(
+        played.told() == b"leasekeep: read\n".as_slice()
+            && played.ended.code() == 6
+            && played.sent().is_empty(),
+    )
+}
+
+/// A standard input of one byte more than may be taken.
 #[test]
 fn a_long_input(rt: HostRuntime) -> Result<(), Fail> {
-    let alloc = rt.alloc();
-    let mut bytes = Vec::new(alloc);
-    for _ in 0..65_537u32 {
-        bytes.push(b'x')?;
-    }
-    let played = play(alloc, WEB, &bytes, b"ok\n", NONE_FAILS)?;
-    assert!(rt; played.told() == b"leasekeep: read\n".as_slice());
-    assert!(rt; played.ended.code() == 6 && played.sent().is_empty());
+    let input = vec![in rt.alloc(); b'x'; 65_537]?;
+    assert!(rt; is_unread(rt.alloc(), &input)?);
     Ok(())
 }

@@ -1,7 +1,7 @@
 //! What is sent: the one line of each command.
 use crate::play::play_well;
 use keep_calling::{Ask, Ended};
-use std::process::Abort;
+use std::alloc::{AllocError, Global};
 use std::test::Fail;
 
 const WEB: Ask<'static> = Ask::Replace { name: "web" };
@@ -78,32 +78,53 @@ const LINES: [(Ask<'static>, &str, &str, u64); 16] = [
     (Ask::Reload, "unread", "[\"reload\"]\n", 0),
 ];
 
+/// Whether that line is sent, and standard input is read so often.
+fn is_sent(
+    alloc: Global,
+    ask: Ask<'_>,
+    input: &str,
+    line: &str,
+    reads: u64,
+) -> Result<bool, AllocError> {
+    let played = play_well(alloc, ask, input, "ok\ndone\n")?;
+    Ok(played.sent() == line.as_bytes() && played.reads() == reads)
+}
+
 #[test]
 fn lines(rt: HostRuntime) -> Result<(), Fail> {
     for (ask, input, line, reads) in &LINES {
-        let played = play_well(rt.alloc(), *ask, input, "ok\ndone\n")?;
-        assert!(rt; played.sent() == line.as_bytes(), "{line}");
-        assert!(rt; played.reads() == *reads, "of {line}");
+        assert!(rt; is_sent(rt.alloc(), *ask, input, line, *reads)?, "{line}");
     }
     Ok(())
+}
+
+/// A table of so many bytes.
+fn table(alloc: Global, length: u32) -> Result<String, AllocError> {
+    let mut table = String::new(alloc);
+    for _ in 0..length {
+        table.push('x')?;
+    }
+    Ok(table)
+}
+
+/// Whether a table is sent in a line of 65,537 bytes.
+fn is_longest(alloc: Global, table: &str) -> Result<bool, AllocError> {
+    let played = play_well(alloc, Ask::Add, table, "ok\n")?;
+    Ok(played.sent().len() == 65_537 && played.ended == Ended::Done)
+}
+
+const TOO_LONG: &[u8] = b"leasekeep: add: a request is one line of at most 65536 bytes\n";
+
+fn is_too_long(alloc: Global, table: &str) -> Result<bool, AllocError> {
+    let played = play_well(alloc, Ask::Add, table, "ok\n")?;
+    Ok(played.sent().is_empty() && played.ended == Ended::Refused && played.told() == TOO_LONG)
 }
 
 /// The greatest line that an agent reads is sent, and one byte more is not. (The words take 9 bytes around the table.)
 #[test]
 fn the_longest_line(rt: HostRuntime) -> Result<(), Fail> {
     let alloc = rt.alloc();
-    let mut table = String::new(alloc);
-    for _ in 0..65_526u32 {
-        table.push('x')?;
-    }
-    let longest = play_well(alloc, Ask::Add, table.as_str(), "ok\n")?;
-    assert!(rt; longest.sent().len() == 65_537 && longest.ended == Ended::Done);
-    table.push('x')?;
-    let longer = play_well(alloc, Ask::Add, table.as_str(), "ok\n")?;
-    assert!(rt; longer.sent().is_empty() && longer.ended == Ended::Refused);
-    assert!(rt;
-        longer.told()
-            == b"leasekeep: add: a request is one line of at most 65536 bytes\n".as_slice()
-    );
+    assert!(rt; is_longest(alloc, table(alloc, 65_526)?.as_str())?);
+    assert!(rt; is_too_long(alloc, table(alloc, 65_527)?.as_str())?);
     Ok(())
 }

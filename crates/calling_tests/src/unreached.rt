@@ -2,8 +2,8 @@
 use crate::play::call_for;
 use keep_calling::{Ask, Ended, Unreached, tell_unreached};
 use keep_device::MemorySink;
+use std::alloc::Global;
 use std::io::ErrorKind;
-use std::process::Abort;
 use std::test::Fail;
 
 /// The system's error, and what is told of it.
@@ -24,25 +24,38 @@ const ERRORS: [(ErrorKind, &str); 5] = [
     (ErrorKind::BrokenPipe, "it cannot be reached"),
 ];
 
+fn line(alloc: Global, words: &str) -> Result<String, Fail> {
+    Ok(format!(in alloc; "leasekeep: health: /run/k: {words}\n")?)
+}
+
+/// Whether that is told of the system's error, and it ends so, with that exit.
+fn is_told(alloc: Global, kind: ErrorKind, told: &str, end: Ended, code: u8) -> bool {
+    let mut errors = MemorySink::new(alloc, None);
+    let ended = tell_unreached(&call_for(Ask::Health), Unreached::of(kind), &mut errors);
+    errors.bytes() == told.as_bytes() && ended == end && ended.code() == code
+}
+
 #[test]
 fn reasons(rt: HostRuntime) -> Result<(), Fail> {
-    let alloc = rt.alloc();
     for (kind, words) in &ERRORS {
-        let mut errors = MemorySink::new(alloc, None);
-        let call = call_for(Ask::Health);
-        let ended = tell_unreached(&call, Unreached::of(*kind), &mut errors);
-        let told = format!(in alloc; "leasekeep: health: /run/k: {words}\n")?;
-        assert!(rt; errors.bytes() == told.as_bytes(), "{told}");
-        assert!(rt; ended == Ended::Refused && ended.code() == 1, "of {told}");
+        let told = line(rt.alloc(), words)?;
+        assert!(rt;
+            is_told(rt.alloc(), *kind, told.as_str(), Ended::Refused, 1),
+            "{told}"
+        );
     }
     Ok(())
 }
 
 #[test]
 fn without_memory(rt: HostRuntime) {
-    let mut errors = MemorySink::new(rt.alloc(), None);
-    let why = Unreached::of(ErrorKind::OutOfMemory);
-    let ended = tell_unreached(&call_for(Ask::Health), why, &mut errors);
-    assert!(rt; errors.bytes() == b"leasekeep: memory\n".as_slice());
-    assert!(rt; ended.code() == 7);
+    assert!(rt;
+        is_told(
+            rt.alloc(),
+            ErrorKind::OutOfMemory,
+            "leasekeep: memory\n",
+            Ended::Memory,
+            7
+        )
+    );
 }

@@ -5,7 +5,7 @@ use keep_exchange::can_carry;
 use keep_inventory::read;
 use keep_lanes::{Answered, Ask, Lanes, Loss};
 use keep_moment::{Moment, Text};
-use std::alloc::Global;
+use std::alloc::{AllocError, Global};
 use std::test::Fail;
 use vault_http::Request;
 
@@ -63,36 +63,41 @@ pub(crate) fn table(alloc: Global) -> Result<Table, Fail> {
     Ok(Table::load(alloc, &inventory)?)
 }
 
-/// The renewal for an index, with so many milliseconds of patience.
-pub(crate) fn ask(alloc: Global, index: u32, patience: u64, port: u16) -> Result<Ask, Fail> {
-    let token = token_of(index);
-    Ok(Ask {
-        index,
-        patience,
-        request: Request {
-            method: Method::POST,
-            path: Text::of(alloc, b"/v1/auth/token/renew-self")?,
-            token: Some(Text::of(alloc, token.credential)?),
-            body: Text::of(alloc, token.asks)?,
-            port,
-        },
+fn request(alloc: Global, token: &Token, port: u16) -> Result<Request, AllocError> {
+    let path = Text::of(alloc, b"/v1/auth/token/renew-self")?;
+    let credential = Text::of(alloc, token.credential)?;
+    let body = Text::of(alloc, token.asks)?;
+    Ok(Request {
+        method: Method::POST,
+        path,
+        token: Some(credential),
+        body,
+        port,
     })
 }
 
-/// Sends the renewal for an index at the moment 1059, and at `now` of the elapsed clock.
+/// Sends the renewal for an index at the moment 1059, and at `now` of the elapsed clock, with so many milliseconds of patience.
+/// Whether a lane was free for it.
 pub(crate) fn send<L: Lanes>(
     alloc: Global,
     lanes: &mut L,
     now: u64,
     index: u32,
     patience: u64,
-) -> Result<(), Fail> {
-    let moment = Moment::new(1059).ok_or("a moment")?;
-    let ask = ask(alloc, index, patience, lanes.port())?;
+) -> Result<bool, AllocError> {
+    let Some(moment) = Moment::new(1059) else {
+        return Ok(false);
+    };
+    let ask = Ask {
+        index,
+        patience,
+        request: request(alloc, token_of(index), lanes.port())?,
+    };
     if lanes.free() == 0 || !can_carry(&ask.request) {
-        return Err("a free lane".into());
+        return Ok(false);
     }
-    Ok(lanes.send(alloc, moment, now, &ask)?)
+    lanes.send(alloc, moment, now, &ask)?;
+    Ok(true)
 }
 
 /// What may come of a request.

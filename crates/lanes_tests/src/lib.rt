@@ -13,6 +13,10 @@ mod memory;
 #[cfg(test)]
 mod peers;
 #[cfg(test)]
+mod plays;
+#[cfg(test)]
+mod sockets;
+#[cfg(test)]
 mod stages;
 #[cfg(test)]
 mod turns;

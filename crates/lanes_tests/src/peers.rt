@@ -1,10 +1,12 @@
 //! Lanes over connections of a play: silent, slow, dripping and broken peers.
-use crate::asks::{Comes, are, is, send};
-use crate::wires::{End, Part, Play};
-use keep_lanes::{Answered, Lanes, LanesOver, Loss};
+use crate::asks::Comes;
+use crate::plays::{Answers, Play, Step, goes_on, plays};
+use crate::wires::{End, Part, Wired};
+use keep_lanes::{LanesOver, Loss};
 use std::alloc::Global;
 use std::cell::Cell;
 use std::process::Abort;
+use std::slice;
 use std::test::Fail;
 
 /// The renewals for the indices 4 and 5 as bytes, and their replies (docs/http.md).
@@ -291,109 +293,153 @@ const PLAYS: [(Part, u64, Comes, u64); 29] = [
     ),
 ];
 
-/// What came of the renewal for the index 4 that meets this peer, and when.
-fn played(alloc: Global, part: Part, patience: u64) -> Result<(Answered, u64), Fail> {
+/// Lanes over connections of a play, and what is seen of its time.
+#[derive(Drop)]
+struct OverWires<'a> {
+    alloc: Global,
+    lanes: LanesOver<Wired<'a>>,
+    clock: &'a Cell<u64>,
+    longest: &'a Cell<u64>,
+}
+
+impl<'a> OverWires<'a> {
+    fn has_waited(&self, millis: u64) -> bool {
+        self.longest.replace(0) == millis
+    }
+}
+
+impl<'a> Play for OverWires<'a> {
+    fn goes_on(&mut self, step: &Step) -> Result<bool, Fail> {
+        match *step {
+            Step::Passed(millis) => Ok(self.clock.get() == millis),
+            Step::Longest(millis) => Ok(self.has_waited(millis)),
+            _ => Ok(goes_on(self.alloc, &mut self.lanes, step)?),
+        }
+    }
+}
+
+/// Takes the steps with so many lanes to these peers, which have time-outs of 5 seconds.
+fn plays_with<R: AllocGlobal + Abort>(
+    rt: &R,
+    parts: &[Part],
+    width: u32,
+    steps: &[Step],
+) -> Result<(), Fail> {
     let (clock, longest) = (Cell::new(0), Cell::new(0));
-    let parts = [part];
-    let play = Play::new(alloc, &parts, &clock, &longest);
-    let mut lanes = LanesOver::new(alloc, play, 5, 1);
-    send(alloc, &mut lanes, 0, 4, patience)?;
-    let mut answers = lanes.wait(alloc, 0, 60_000)?;
-    let answered = answers.pop().ok_or("an answer")?;
-    Ok((answered, clock.get()))
+    let wires = Wired::new(rt.alloc(), parts, &clock, &longest);
+    let play = OverWires {
+        alloc: rt.alloc(),
+        lanes: LanesOver::new(rt.alloc(), wires, 5, width),
+        clock: &clock,
+        longest: &longest,
+    };
+    plays(rt, play, steps)
 }
 
 #[test]
 fn each_peer_costs_what_it_may(rt: HostRuntime) -> Result<(), Fail> {
-    for at in 0..PLAYS.len() {
-        let (part, patience, comes, until) = PLAYS[at];
-        let (answered, passed) = played(rt.alloc(), part, patience)?;
-        assert!(rt; is(&answered, 4, comes), "{at}");
-        assert!(rt; passed == until, "{at}: {passed}");
+    for (part, patience, comes, until) in &PLAYS {
+        let steps = [
+            Step::Sends(0, 4, *patience),
+            Step::Waits(0, 60_000, Answers::Only(4, *comes)),
+            Step::Passed(*until),
+        ];
+        plays_with(&rt, slice::from_ref(part), 1, &steps)?;
     }
     Ok(())
 }
 
+const SILENCE: [Step; 7] = [
+    Step::Sends(0, 4, 400),
+    Step::Waits(0, 300, Answers::Nothing),
+    Step::Longest(300),
+    Step::Passed(300),
+    Step::Waits(300, 9000, Answers::Only(4, TIMEOUT)),
+    Step::Longest(100),
+    Step::Passed(400),
+];
+
 /// A connection is waited for until it has to be looked at again, and no longer.
 #[test]
 fn no_wait_is_longer_than_the_patience(rt: HostRuntime) -> Result<(), Fail> {
-    let alloc = rt.alloc();
-    let (clock, longest) = (Cell::new(0), Cell::new(0));
-    let parts = [SILENT];
-    let mut lanes = LanesOver::new(alloc, Play::new(alloc, &parts, &clock, &longest), 5, 1);
-    send(alloc, &mut lanes, 0, 4, 400)?;
-    assert!(rt; lanes.wait(alloc, 0, 300)?.is_empty());
-    assert!(rt; longest.get() == 300 && clock.get() == 300);
-    longest.set(0);
-    let answers = lanes.wait(alloc, 300, 9000)?;
-    assert!(rt; are(&answers, &[4], 4, TIMEOUT));
-    assert!(rt; longest.get() == 100 && clock.get() == 400);
-    Ok(())
+    plays_with(&rt, &[SILENT], 1, &SILENCE)
 }
+
+const HANDED_IN: [Step; 4] = [
+    Step::Sends(7000, 4, 5000),
+    Step::Waits(11_999, 11_999, Answers::Nothing),
+    Step::Waits(12_000, 12_000, Answers::Only(4, TIMEOUT)),
+    Step::Passed(0),
+];
 
 /// The times of a lane go by the clock that is handed in.
 #[test]
 fn a_driver_may_hand_in_a_clock_of_its_own(rt: HostRuntime) -> Result<(), Fail> {
-    let alloc = rt.alloc();
-    let (clock, longest) = (Cell::new(0), Cell::new(0));
-    let parts = [SILENT];
-    let mut lanes = LanesOver::new(alloc, Play::new(alloc, &parts, &clock, &longest), 5, 1);
-    send(alloc, &mut lanes, 7000, 4, 5000)?;
-    assert!(rt; lanes.wait(alloc, 11_999, 11_999)?.is_empty());
-    let answers = lanes.wait(alloc, 12_000, 12_000)?;
-    assert!(rt; are(&answers, &[4], 4, TIMEOUT));
-    assert!(rt; clock.get() == 0);
-    Ok(())
+    plays_with(&rt, &[SILENT], 1, &HANDED_IN)
 }
 
-/// The renewals for 5 and 4, in this order, that meet these two peers: what comes first, and when; and what comes then.
-fn two(alloc: Global, other: Part, part: Part) -> Result<[(Vec<Answered>, u64); 2], Fail> {
-    let (clock, longest) = (Cell::new(0), Cell::new(0));
-    let parts = [other, part];
-    let play = Play::new(alloc, &parts, &clock, &longest);
-    let mut lanes = LanesOver::new(alloc, play, 5, 2);
-    send(alloc, &mut lanes, 0, 5, 5000)?;
-    send(alloc, &mut lanes, 0, 4, 5000)?;
-    let first = lanes.wait(alloc, 0, 60_000)?;
-    let passed = clock.get();
-    let then = lanes.wait(alloc, passed, 60_000)?;
-    Ok([(first, passed), (then, clock.get())])
-}
+/// The renewals for 5 and 4, in this order, whose peers come in that order too.
+const SENDS_5: Step = Step::Sends(0, 5, 5000);
+
+const SENDS_4: Step = Step::Sends(0, 4, 5000);
+
+const LATE_AND_NEVER: [Part; 2] = [
+    Part {
+        first: 100,
+        ..OTHER
+    },
+    SILENT,
+];
+
+const ONE_IS_SILENT: [Step; 6] = [
+    SENDS_5,
+    SENDS_4,
+    Step::Waits(0, 60_000, Answers::Granted(&[5])),
+    Step::Passed(105),
+    Step::Waits(105, 60_000, Answers::Only(4, TIMEOUT)),
+    Step::Passed(5000),
+];
 
 #[test]
 fn a_silent_peer_costs_its_neighbour_nothing(rt: HostRuntime) -> Result<(), Fail> {
-    let late = Part {
-        first: 100,
-        ..OTHER
-    };
-    let [(first, passed), (then, until)] = two(rt.alloc(), late, SILENT)?;
-    assert!(rt; are(&first, &[5], 5, GRANTED) && passed == 105);
-    assert!(rt; are(&then, &[4], 4, TIMEOUT) && until == 5000);
-    Ok(())
+    plays_with(&rt, &LATE_AND_NEVER, 2, &ONE_IS_SILENT)
 }
+
+/// The peers of 5 and 4 where the first answers after 50 ms, and the other after that many.
+const fn soon_and(late: u64) -> [Part; 2] {
+    [
+        Part { first: 50, ..OTHER },
+        Part {
+            first: late,
+            ..PROMPT
+        },
+    ]
+}
+
+const REVERSE: [Step; 6] = [
+    SENDS_5,
+    SENDS_4,
+    Step::Waits(0, 60_000, Answers::Granted(&[5])),
+    Step::Passed(55),
+    Step::Waits(55, 60_000, Answers::Granted(&[4])),
+    Step::Passed(60),
+];
 
 #[test]
 fn answers_in_reverse_keep_their_index(rt: HostRuntime) -> Result<(), Fail> {
-    let late = Part {
-        first: 60,
-        ..PROMPT
-    };
-    let soon = Part { first: 50, ..OTHER };
-    let [(first, passed), (then, until)] = two(rt.alloc(), soon, late)?;
-    assert!(rt; are(&first, &[5], 0, GRANTED) && passed == 55);
-    assert!(rt; are(&then, &[4], 0, GRANTED) && until == 60);
-    Ok(())
+    plays_with(&rt, &soon_and(60), 2, &REVERSE)
 }
+
+const TOGETHER: [Step; 6] = [
+    SENDS_5,
+    SENDS_4,
+    Step::Waits(0, 60_000, Answers::Granted(&[4, 5])),
+    Step::Passed(54),
+    Step::Waits(54, 60_000, Answers::Nothing),
+    Step::Passed(54),
+];
 
 #[test]
 fn answers_within_5_ms_come_together_by_index(rt: HostRuntime) -> Result<(), Fail> {
-    let late = Part {
-        first: 54,
-        ..PROMPT
-    };
-    let soon = Part { first: 50, ..OTHER };
-    let [(first, passed), (then, until)] = two(rt.alloc(), soon, late)?;
-    assert!(rt; are(&first, &[4, 5], 0, GRANTED) && passed == 54);
-    assert!(rt; then.is_empty() && until == 54);
-    Ok(())
+    plays_with(&rt, &soon_and(54), 2, &TOGETHER)
 }

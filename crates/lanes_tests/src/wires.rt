@@ -107,7 +107,7 @@ impl<'a> Line for Actor<'a> {
 
 /// The play: a part for each connection, in the order in which they are made.
 #[derive(Drop)]
-pub(crate) struct Play<'a> {
+pub(crate) struct Wired<'a> {
     alloc: Global,
     parts: &'a [Part],
     clock: &'a Cell<u64>,
@@ -117,14 +117,14 @@ pub(crate) struct Play<'a> {
     dials: usize,
 }
 
-impl<'a> Play<'a> {
+impl<'a> Wired<'a> {
     pub(crate) fn new(
         alloc: Global,
         parts: &'a [Part],
         clock: &'a Cell<u64>,
         longest: &'a Cell<u64>,
-    ) -> Play<'a> {
-        Play {
+    ) -> Wired<'a> {
+        Wired {
             alloc,
             parts,
             clock,
@@ -147,7 +147,7 @@ const ABSENT: Part = Part {
     end: End::Fails,
 };
 
-impl<'a> Wires for Play<'a> {
+impl<'a> Wires for Wired<'a> {
     type Line = Actor<'a>;
 
     fn port(&self) -> u16 {

@@ -1,51 +1,28 @@
 mod foretold;
 
-use crate::rows::{LEASE, Row, TOKEN, WEB, forest_of, moment};
+use crate::rows::{BASE, BIG, LEASE, PAY, Row, TOKEN, WEB, forest_of, moment};
+use keep_moment::Moment;
 use keep_rule::{Wake, WakeFault, ends_after, granted_end, keeps, reach};
 use keep_tree::{Forest, Indices};
 use std::alloc::Global;
 use std::test::Fail;
 
 const LOW_TOKEN: Row = Row {
-    parent: None,
-    end: 1100,
-    step: 100,
     ceiling: Some(1150),
-    need: 0,
+    ..TOKEN
 };
 
-const PAY: Row = Row {
-    parent: None,
-    end: 1060,
-    step: 60,
-    ceiling: Some(1100),
-    need: 1100,
-};
-
-const BASE: Row = Row {
-    parent: None,
-    end: 6000,
-    step: 60,
-    ceiling: Some(10000),
-    need: 0,
-};
-
-const BIG: Row = Row {
-    parent: Some(1),
-    end: 5000,
-    step: 60,
-    ceiling: Some(10000),
-    need: 4000,
-};
+fn wake(alloc: Global, at: u64, asked: &[u32]) -> Result<Wake, Fail> {
+    let at = moment(at)?;
+    let asked = Indices::of(alloc, asked)?;
+    Ok(Wake { at, asked })
+}
 
 // Wake-ups at these moments, each of which asks these indices.
 fn wakes_at(alloc: Global, moments: &[u64], asked: &[u32]) -> Result<Vec<Wake>, Fail> {
     let mut wakes = Vec::new(alloc);
     for at in moments {
-        wakes.push(Wake {
-            at: moment(*at)?,
-            asked: Indices::of(alloc, asked)?,
-        })?;
+        wakes.push(wake(alloc, *at, asked)?)?;
     }
     Ok(wakes)
 }
@@ -74,33 +51,43 @@ const REPLAYED: [(u32, &[Row], &[u64], &[u64], bool); 12] = [
 
 const ALL: [u32; 3] = [0, 1, 2];
 
-// Whether all entries, asked at these moments from the start 1000 on, have these ends then, and are kept or not.
-fn replays(
+// Whether these wake-ups from that start on have these ends, and are kept or not.
+fn ends_so(
     alloc: Global,
     forest: &Forest,
-    asked: &[u32],
+    start: Moment,
+    wakes: &[Wake],
+    ends: &[u64],
+    kept: bool,
+) -> Result<bool, WakeFault> {
+    let is_so = ends_after(alloc, forest, start, wakes)?.list() == ends;
+    Ok(is_so && keeps(alloc, forest, start, wakes)? == kept)
+}
+
+// Whether all of these entries, asked at these moments from the start 1000 on, have these ends then, and are kept or not.
+fn replays(
+    alloc: Global,
+    margin: u32,
+    rows: &[Row],
     moments: &[u64],
     ends: &[u64],
     kept: bool,
 ) -> Result<bool, Fail> {
-    let wakes = wakes_at(alloc, moments, asked)?;
+    if margin < 1 || 3600 < margin {
+        return Ok(false);
+    }
     let start = moment(1000)?;
-    Ok(
-        ends_after(alloc, forest, start, &wakes)?.list() == ends
-            && keeps(alloc, forest, start, &wakes) == Ok(kept),
-    )
+    let asked = ALL.get(..rows.len()).ok_or("at most three entries")?;
+    let wakes = wakes_at(alloc, moments, asked)?;
+    let forest = forest_of(alloc, margin, rows)?;
+    Ok(ends_so(alloc, &forest, start, &wakes, ends, kept)?)
 }
 
 #[test]
 fn replays_ends_and_keeping(rt: HostRuntime) -> Result<(), Fail> {
-    let alloc = rt.alloc();
-    for (i, case) in REPLAYED.iter().enumerate() {
-        let (margin, rows, moments, ends, kept) = *case;
-        assert!(rt; 1 <= margin && margin <= 3600);
-        let forest = forest_of(alloc, margin, rows)?;
-        let asked = ALL.get(..rows.len()).ok_or("at most three entries")?;
+    for (i, (margin, rows, moments, ends, kept)) in REPLAYED.iter().enumerate() {
         assert!(rt;
-            replays(alloc, &forest, asked, moments, ends, kept)?,
+            replays(rt.alloc(), *margin, rows, moments, ends, *kept)?,
             "case {i}"
         );
     }
@@ -115,31 +102,28 @@ const FAULTS: [(&[u64], &[u32], WakeFault); 5] = [
     (&[1059, 1118, 1100], &[0], WakeFault::Unordered(3)),
 ];
 
-// Whether both replays from the start 1000 on refuse these wake-ups with this fault.
+// Whether both replays of the web example from the start 1000 on refuse these wake-ups with this fault.
 fn is_at_fault(
     alloc: Global,
-    forest: &Forest,
     moments: &[u64],
     asked: &[u32],
     fault: WakeFault,
 ) -> Result<bool, Fail> {
-    let wakes = wakes_at(alloc, moments, asked)?;
     let start = moment(1000)?;
+    let wakes = wakes_at(alloc, moments, asked)?;
+    let forest = forest_of(alloc, 1, &[WEB])?;
     Ok(
-        ends_after(alloc, forest, start, &wakes).err() == Some(fault)
-            && keeps(alloc, forest, start, &wakes) == Err(fault),
+        ends_after(alloc, &forest, start, &wakes).err() == Some(fault)
+            && keeps(alloc, &forest, start, &wakes) == Err(fault),
     )
 }
 
 // A wake-up that is before the start, before the one in front of it, or asks past the entries; the first one is named.
 #[test]
 fn names_the_first_wake_up_at_fault(rt: HostRuntime) -> Result<(), Fail> {
-    let alloc = rt.alloc();
-    let forest = forest_of(alloc, 1, &[WEB])?;
-    for (i, case) in FAULTS.iter().enumerate() {
-        let (moments, asked, fault) = *case;
+    for (i, (moments, asked, fault)) in FAULTS.iter().enumerate() {
         assert!(rt;
-            is_at_fault(alloc, &forest, moments, asked, fault)?,
+            is_at_fault(rt.alloc(), moments, asked, *fault)?,
             "case {i}"
         );
     }
@@ -154,32 +138,33 @@ const ONE_WAKE_UP: [(u64, &[u32], &[u64]); 4] = [
     (1100, &[0, 1], &[1100, 2000]),
 ];
 
+const LASTING: Row = Row { end: 2000, ..LEASE };
+
 // Whether one wake-up that asks these has these ends after it.
-fn leaves(
-    alloc: Global,
-    forest: &Forest,
-    at: u64,
-    asked: &[u32],
-    ends: &[u64],
-) -> Result<bool, Fail> {
+fn leaves(alloc: Global, at: u64, asked: &[u32], ends: &[u64]) -> Result<bool, Fail> {
+    let start = moment(1000)?;
     let wakes = wakes_at(alloc, &[at], asked)?;
-    Ok(ends_after(alloc, forest, moment(1000)?, &wakes)?.list() == ends)
+    let forest = forest_of(alloc, 1, &[TOKEN, LASTING])?;
+    Ok(ends_after(alloc, &forest, start, &wakes)?.list() == ends)
 }
 
 // Those asked in one wake-up are judged by the ends before it; one that is not asked keeps its end.
 #[test]
 fn judges_one_wake_up_by_the_ends_before_it(rt: HostRuntime) -> Result<(), Fail> {
-    let alloc = rt.alloc();
-    let lasting = Row { end: 2000, ..LEASE };
-    let forest = forest_of(alloc, 1, &[TOKEN, lasting])?;
-    for (i, case) in ONE_WAKE_UP.iter().enumerate() {
-        let (at, asked, ends) = *case;
-        assert!(rt; leaves(alloc, &forest, at, asked, ends)?, "case {i}");
+    for (i, (at, asked, ends)) in ONE_WAKE_UP.iter().enumerate() {
+        assert!(rt; leaves(rt.alloc(), *at, asked, ends)?, "case {i}");
     }
     Ok(())
 }
 
-// Entries of the next test, moments, and the ends that are granted then.
+const ENDLESS: Row = Row {
+    ceiling: None,
+    ..PAY
+};
+
+const THREE: [Row; 3] = [LOW_TOKEN, LEASE, ENDLESS];
+
+// Entries of those three, moments, and the ends that are granted then.
 const GRANTED: [(u32, u64, u64); 5] = [
     (0, 1059, 1150),
     (1, 1059, 1119),
@@ -188,26 +173,43 @@ const GRANTED: [(u32, u64, u64); 5] = [
     (0, 1049, 1149),
 ];
 
+fn is_granted(forest: &Forest, index: u32, at: u64, end: u64) -> bool {
+    match Moment::new(at) {
+        Some(at) => index < forest.len() && granted_end(forest, index, at) == end,
+        None => false,
+    }
+}
+
+// Entries of those three, moments, and how far they can be led from then on.
+const REACHED: [(u32, u64, Option<u64>); 4] = [
+    (0, 1000, Some(1150)),
+    (1, 1000, Some(10000)),
+    (2, 1000, None),
+    (2, 1060, Some(1060)),
+];
+
+fn is_reached(forest: &Forest, index: u32, from: u64, most: Option<u64>) -> bool {
+    match Moment::new(from) {
+        Some(from) => index < forest.len() && reach(forest, index, from) == most,
+        None => false,
+    }
+}
+
 #[test]
 fn grants_and_reaches(rt: HostRuntime) -> Result<(), Fail> {
-    let alloc = rt.alloc();
-    let start = moment(1000)?;
-    let endless = Row {
-        ceiling: None,
-        ..PAY
-    };
-    let forest = forest_of(alloc, 1, &[LOW_TOKEN, LEASE, endless])?;
+    let forest = forest_of(rt.alloc(), 1, &THREE)?;
     assert!(rt; forest.len() == 3);
     for (index, at, end) in &GRANTED {
-        assert!(rt; *index < 3);
         assert!(rt;
-            granted_end(&forest, *index, moment(*at)?) == *end,
+            is_granted(&forest, *index, *at, *end),
             "entry {index} at {at}"
         );
     }
-    assert!(rt; reach(&forest, 0, start) == Some(1150));
-    assert!(rt; reach(&forest, 1, start) == Some(10000));
-    assert!(rt; reach(&forest, 2, start) == None);
-    assert!(rt; reach(&forest, 2, moment(1060)?) == Some(1060));
+    for (index, from, most) in &REACHED {
+        assert!(rt;
+            is_reached(&forest, *index, *from, *most),
+            "entry {index} from {from}"
+        );
+    }
     Ok(())
 }

@@ -6,39 +6,93 @@ ghost use Rattle.keep_needs.specs.Carried.{IsCarried};
 mod limited;
 mod seeded;
 
-use keep_moment::{Moment, Name};
+use crate::rows::{Grouped, Row, are_runs, forest_of, moment};
+use keep_moment::Moment;
 use keep_needs::{Carried, carry};
 use keep_rule::reach;
 use keep_schedule::{Force, QueueSchedule, Run, ScanSchedule, Schedule};
-use keep_tree::{Entry, Forest, Kind};
-use std::alloc::Global;
+use keep_tree::{Forest, Kind};
+use std::alloc::{AllocError, Global};
 use std::test::Fail;
-
-// An entry by its parent, its end, its step and its need. With a parent it is a lease of it, else an orphan.
-#[derive(Clone, Copy)]
-struct Row(Option<u32>, u64, u32, u64);
 
 // A wake-up by its moment, the entry that forces it, and the entry for whose need that is.
 type Forced = (u64, u32, u32);
 
-// A run by its first moment, its step, its count, and the two entries.
-type Grouped = (u64, u64, u64, u32, u32);
+// The rows of these tests have no ceiling.
+const WEB: Row = Row {
+    kind: Kind::Token,
+    parent: None,
+    end: 1060,
+    renewable: true,
+    step: 60,
+    ceiling: None,
+    need: 1200,
+};
 
-const WEB: Row = Row(None, 1060, 60, 1200);
+const A: Row = Row { need: 1100, ..WEB };
 
-const A: Row = Row(None, 1060, 60, 1100);
+const TOKEN: Row = Row {
+    end: 1100,
+    step: 100,
+    need: 0,
+    ..WEB
+};
 
-const B: Row = Row(None, 1100, 100, 1400);
+const B: Row = Row {
+    need: 1400,
+    ..TOKEN
+};
 
-const TOKEN: Row = Row(None, 1100, 100, 0);
+const LEASE: Row = Row {
+    kind: Kind::Lease,
+    parent: Some(0),
+    ..WEB
+};
 
-const LEASE: Row = Row(Some(0), 1060, 60, 1200);
+const BASE: Row = Row {
+    end: 6000,
+    need: 0,
+    ..WEB
+};
 
-const BASE: Row = Row(None, 6000, 60, 0);
+const BIG: Row = Row {
+    kind: Kind::Lease,
+    parent: Some(1),
+    end: 5000,
+    need: 4000,
+    ..WEB
+};
 
-const BIG: Row = Row(Some(1), 5000, 60, 4000);
+const QUICK: Row = Row {
+    end: 1002,
+    step: 2,
+    need: 1010,
+    ..WEB
+};
 
-const SLOW: Row = Row(None, 100, 1000, 10000);
+const LONG: Row = Row {
+    need: 10001002,
+    ..QUICK
+};
+
+const SLOW: Row = Row {
+    end: 100,
+    step: 1000,
+    need: 10000,
+    ..WEB
+};
+
+const SLOW_UNTIL_1590: Row = Row {
+    end: 1500,
+    step: 500,
+    need: 1590,
+    ..WEB
+};
+
+const SLOW_UNTIL_1600: Row = Row {
+    need: 1600,
+    ..SLOW_UNTIL_1590
+};
 
 // One token that ends at 1002, renewed by two seconds and needed until 1010.
 const INCREMENT_TWO: [Forced; 8] = [
@@ -67,32 +121,6 @@ const SLOW_AND_LATE: [Forced; 11] = [
     (9589, 0, 0),
 ];
 
-fn forest_of(alloc: Global, margin: u32, rows: &[Row]) -> Result<Forest, Fail>
-    requires least { 1 ≤ margin }
-    requires most { margin ≤ 3600 }
-{
-    let mut forest = Forest::with_margin(alloc, margin);
-    for (i, row) in rows.iter().enumerate() {
-        let Row(parent, end, step, need) = *row;
-        let name = format!(in alloc; "e{i}")?;
-        forest.push(Entry {
-            name: Name::of(alloc, name.as_bytes())?,
-            kind: if parent.is_some() {
-                Kind::Lease
-            } else {
-                Kind::Token
-            },
-            parent,
-            end,
-            renewable: true,
-            step,
-            ceiling: None,
-            need,
-        })?;
-    }
-    Ok(forest)
-}
-
 // Whether each entry can be led to the need that it carries.
 fn is_keepable(forest: &Forest, carried: &Carried, start: Moment) -> bool
     requires { IsCarried forest.now start carried.now }
@@ -108,7 +136,8 @@ fn is_keepable(forest: &Forest, carried: &Carried, start: Moment) -> bool
     true
 }
 
-fn drained<S: Schedule>(alloc: Global, schedule: &mut S) -> Result<Vec<Forced>, Fail> {
+// A hundred wake-ups of a schedule, or fewer if it has no more.
+fn drained<S: Schedule>(alloc: Global, schedule: &mut S) -> Result<Vec<Forced>, AllocError> {
     let mut all = Vec::new(alloc);
     for _ in 0..100 {
         let Some(Force { at, entry, needed }) = schedule.next() else {
@@ -116,10 +145,20 @@ fn drained<S: Schedule>(alloc: Global, schedule: &mut S) -> Result<Vec<Forced>, 
         };
         all.push((at.get(), entry, needed))?;
     }
-    Err("more than 100 wake-ups")?
+    Ok(all)
 }
 
-fn runs_of(alloc: Global, queue: &mut QueueSchedule, most: u64) -> Result<Vec<Grouped>, Fail>
+// Whether these are the wake-ups of a schedule.
+fn gives<S: Schedule>(
+    alloc: Global,
+    schedule: &mut S,
+    forces: &[Forced],
+) -> Result<bool, AllocError> {
+    Ok(drained(alloc, schedule)?.as_slice() == forces)
+}
+
+// Ten runs of a queue of at most `most` wake-ups, or fewer if it has no more.
+fn runs_of(alloc: Global, queue: &mut QueueSchedule, most: u64) -> Result<Vec<Run>, AllocError>
     requires { 1 ≤ most }
 {
     let mut all = Vec::new(alloc);
@@ -127,57 +166,74 @@ fn runs_of(alloc: Global, queue: &mut QueueSchedule, most: u64) -> Result<Vec<Gr
         let Some(run) = queue.next_run(most) else {
             return Ok(all);
         };
-        let Run {
-            first,
-            step,
-            count,
-            entry,
-            needed,
-        } = run;
-        all.push((first, step, count, entry, needed))?;
+        all.push(run)?;
     }
-    Err("more than 10 runs")?
+    Ok(all)
+}
+
+// Whether both schedules of the forest from the start on give these wake-ups.
+fn both_give(
+    alloc: Global,
+    forest: &Forest,
+    start: Moment,
+    forces: &[Forced],
+) -> Result<bool, Fail> {
+    let carried = carry(alloc, forest, start)?;
+    if !is_keepable(forest, &carried, start) {
+        return Ok(false);
+    }
+    let mut scan = ScanSchedule::new(forest, &carried, start);
+    if !gives(alloc, &mut scan, forces)? {
+        return Ok(false);
+    }
+    let mut queue = QueueSchedule::new(alloc, forest, &carried, start)?;
+    Ok(gives(alloc, &mut queue, forces)?)
 }
 
 // Whether both schedules of these entries, from the start 0 on, give these wake-ups.
-fn both_give(alloc: Global, margin: u32, rows: &[Row], forces: &[Forced]) -> Result<bool, Fail>
+fn are_forced(alloc: Global, margin: u32, rows: &[Row], forces: &[Forced]) -> Result<bool, Fail>
     requires least { 1 ≤ margin }
     requires most { margin ≤ 3600 }
 {
+    let start = moment(0)?;
     let forest = forest_of(alloc, margin, rows)?;
-    let start = Moment::new(0).ok_or("a moment")?;
-    let carried = carry(alloc, &forest, start)?;
-    if !is_keepable(&forest, &carried, start) {
+    both_give(alloc, &forest, start, forces)
+}
+
+// Whether the queue of the forest from the start on gives these runs of at most `most` wake-ups.
+fn gives_runs(
+    alloc: Global,
+    forest: &Forest,
+    start: Moment,
+    most: u64,
+    want: &[Grouped],
+) -> Result<bool, Fail>
+    requires { 1 ≤ most }
+{
+    let carried = carry(alloc, forest, start)?;
+    if !is_keepable(forest, &carried, start) {
         return Ok(false);
     }
-    let mut scan = ScanSchedule::new(&forest, &carried, start);
-    let mut queue = QueueSchedule::new(alloc, &forest, &carried, start)?;
-    Ok(
-        drained(alloc, &mut scan)?.as_slice() == forces
-            && drained(alloc, &mut queue)?.as_slice() == forces,
-    )
+    let mut queue = QueueSchedule::new(alloc, forest, &carried, start)?;
+    let runs = runs_of(alloc, &mut queue, most)?;
+    Ok(are_runs(&runs, want))
 }
 
 // Whether the queue of these entries, from the start 0 on, gives these runs of at most `most` wake-ups.
-fn gives_runs(
+fn are_grouped(
     alloc: Global,
     margin: u32,
     rows: &[Row],
     most: u64,
-    runs: &[Grouped],
+    want: &[Grouped],
 ) -> Result<bool, Fail>
     requires least { 1 ≤ margin }
     requires most { margin ≤ 3600 }
     requires some { 1 ≤ most }
 {
+    let start = moment(0)?;
     let forest = forest_of(alloc, margin, rows)?;
-    let start = Moment::new(0).ok_or("a moment")?;
-    let carried = carry(alloc, &forest, start)?;
-    if !is_keepable(&forest, &carried, start) {
-        return Ok(false);
-    }
-    let mut queue = QueueSchedule::new(alloc, &forest, &carried, start)?;
-    Ok(runs_of(alloc, &mut queue, most)?.as_slice() == runs)
+    gives_runs(alloc, &forest, start, most, want)
 }
 
 const WEB_AT_1000: [Forced; 3] = [(1059, 0, 0), (1118, 0, 0), (1177, 0, 0)];
@@ -186,10 +242,10 @@ const WEB_AT_1000: [Forced; 3] = [(1059, 0, 0), (1118, 0, 0), (1177, 0, 0)];
 // lease; a token with its lease; two tokens in turn; increment two; and others. Of two that are alike the lower index forces.
 const FORCES: [(&[Row], &[Forced]); 10] = [
     (&[WEB], &WEB_AT_1000),
-    (&[Row(None, 1060, 60, 1060)], &[]),
-    (&[Row(None, 1060, 60, 1061)], &[(1059, 0, 0)]),
+    (&[Row { need: 1060, ..WEB }], &[]),
+    (&[Row { need: 1061, ..WEB }], &[(1059, 0, 0)]),
     (&[], &[]),
-    (&[Row(None, 1002, 2, 1010)], &INCREMENT_TWO),
+    (&[QUICK], &INCREMENT_TWO),
     (&[WEB, BASE, BIG], &WEB_AT_1000),
     (&[TOKEN, LEASE], &[(1059, 1, 1), (1118, 1, 1), (1177, 1, 1)]),
     (
@@ -197,13 +253,13 @@ const FORCES: [(&[Row], &[Forced]); 10] = [
         &[(1059, 0, 0), (1158, 1, 1), (1257, 1, 1), (1356, 1, 1)],
     ),
     (&[WEB, WEB], &WEB_AT_1000),
-    (&[SLOW, Row(None, 1500, 500, 1600)], &SLOW_AND_LATE),
+    (&[SLOW, SLOW_UNTIL_1600], &SLOW_AND_LATE),
 ];
 
 #[test]
 fn both_schedules_give_the_forces(rt: HostRuntime) -> Result<(), Fail> {
-    for (rows, forces) in &FORCES {
-        assert!(rt; both_give(rt.alloc(), 1, rows, forces)?, "{}", forces.len());
+    for (i, (rows, forces)) in FORCES.iter().enumerate() {
+        assert!(rt; are_forced(rt.alloc(), 1, rows, forces)?, "case {i}");
     }
     Ok(())
 }
@@ -212,7 +268,7 @@ const WITH_MARGIN_TEN: [Forced; 3] = [(1050, 0, 0), (1100, 0, 0), (1150, 0, 0)];
 
 #[test]
 fn both_schedules_keep_the_margin(rt: HostRuntime) -> Result<(), Fail> {
-    assert!(rt; both_give(rt.alloc(), 10, &[WEB], &WITH_MARGIN_TEN)?);
+    assert!(rt; are_forced(rt.alloc(), 10, &[WEB], &WITH_MARGIN_TEN)?);
     Ok(())
 }
 
@@ -222,35 +278,36 @@ const RUNS: [(&[Row], &[Grouped]); 6] = [
     (&[WEB], &[(1059, 59, 3, 0, 0)]),
     (&[A, B], &[(1059, 0, 1, 0, 0), (1158, 99, 3, 1, 1)]),
     (&[TOKEN, LEASE], &[(1059, 59, 3, 1, 1)]),
+    (&[LONG], &[(1001, 1, 10000000, 0, 0)]),
+    (&[SLOW, SLOW_UNTIL_1590], &[(99, 999, 10, 0, 0)]),
     (
-        &[Row(None, 1002, 2, 10001002)],
-        &[(1001, 1, 10000000, 0, 0)],
-    ),
-    (&[SLOW, Row(None, 1500, 500, 1590)], &[(99, 999, 10, 0, 0)]),
-    (
-        &[SLOW, Row(None, 1500, 500, 1600)],
+        &[SLOW, SLOW_UNTIL_1600],
         &[(99, 999, 2, 0, 0), (1597, 0, 1, 1, 1), (2596, 999, 8, 0, 0)],
     ),
 ];
 
 #[test]
 fn the_queue_gives_the_longest_runs(rt: HostRuntime) -> Result<(), Fail> {
-    for (rows, runs) in &RUNS {
+    for (i, (rows, runs)) in RUNS.iter().enumerate() {
         assert!(rt;
-            gives_runs(rt.alloc(), 1, rows, 10000001, runs)?,
-            "{}",
-            runs.len()
+            are_grouped(rt.alloc(), 1, rows, 10000001, runs)?,
+            "case {i}"
         );
     }
     Ok(())
 }
 
+const ELEVEN: Row = Row {
+    step: 11,
+    need: 1070,
+    ..WEB
+};
+
 const TEN_SECONDS_EARLY: [Grouped; 1] = [(1050, 1, 10, 0, 0)];
 
 #[test]
 fn the_queue_keeps_the_margin(rt: HostRuntime) -> Result<(), Fail> {
-    let rows = [Row(None, 1060, 11, 1070)];
-    assert!(rt; gives_runs(rt.alloc(), 10, &rows, 1000, &TEN_SECONDS_EARLY)?);
+    assert!(rt; are_grouped(rt.alloc(), 10, &[ELEVEN], 1000, &TEN_SECONDS_EARLY)?);
     Ok(())
 }
 
@@ -262,7 +319,7 @@ const WHOLE: [Grouped; 1] = [(1059, 59, 3, 0, 0)];
 // A run is cut after the most wake-ups that are asked for.
 #[test]
 fn the_queue_cuts_a_run(rt: HostRuntime) -> Result<(), Fail> {
-    assert!(rt; gives_runs(rt.alloc(), 1, &[WEB], 2, &CUT)?);
-    assert!(rt; gives_runs(rt.alloc(), 1, &[WEB], 3, &WHOLE)?);
+    assert!(rt; are_grouped(rt.alloc(), 1, &[WEB], 2, &CUT)?);
+    assert!(rt; are_grouped(rt.alloc(), 1, &[WEB], 3, &WHOLE)?);
     Ok(())
 }

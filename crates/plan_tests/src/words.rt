@@ -1,20 +1,23 @@
 use keep_words::{cut, number_up_to, two_words};
 
+// A word, the greatest number that is allowed, and the number that it spells.
+const NUMBERS: [(&[u8], u64, Option<u64>); 10] = [
+    (b"0", 0, Some(0)),
+    (b"253402300799", 253402300799, Some(253402300799)),
+    (b"253402300800", 253402300799, None),
+    (b"18446744073709551615", u64::MAX, Some(u64::MAX)),
+    (b"18446744073709551616", u64::MAX, None),
+    (b"007", 10, None),
+    (b"00", 10, None),
+    (b"+5", 10, None),
+    (b"5 ", 10, None),
+    (b"", 10, None),
+];
+
 #[test]
 fn numbers_have_one_spelling(rt: HostRuntime) {
-    for (word, most, number) in [
-        (b"0".as_slice(), 0, Some(0)),
-        (b"253402300799".as_slice(), 253402300799, Some(253402300799)),
-        (b"253402300800".as_slice(), 253402300799, None),
-        (b"18446744073709551615".as_slice(), u64::MAX, Some(u64::MAX)),
-        (b"18446744073709551616".as_slice(), u64::MAX, None),
-        (b"007".as_slice(), 10, None),
-        (b"00".as_slice(), 10, None),
-        (b"+5".as_slice(), 10, None),
-        (b"5 ".as_slice(), 10, None),
-        (b"".as_slice(), 10, None),
-    ] {
-        assert!(rt; number_up_to(word, most) == number);
+    for (word, most, number) in &NUMBERS {
+        assert!(rt; number_up_to(word, *most) == *number);
     }
 }
 

@@ -3,6 +3,7 @@ use agent_tests::inventories::WEB;
 use keep_command::{Unread, advise_on_fault, advise_on_file, advise_on_open};
 use keep_device::MemorySink;
 use keep_inventory::{InvFault, Key, read_served};
+use std::alloc::{AllocError, Global};
 use std::io::ErrorKind;
 use std::test::Fail;
 
@@ -16,14 +17,18 @@ const UNOPENED: [(ErrorKind, &str); 6] = [
     (ErrorKind::Uncategorized, "it cannot be read"),
 ];
 
+// Whether that is said of a file that is not opened for this reason.
+fn is_named(alloc: Global, kind: ErrorKind, words: &str) -> Result<bool, AllocError> {
+    let line = format!(in alloc; "leasekeep: a/web.toml: {words}\n")?;
+    let mut errors = MemorySink::new(alloc, None);
+    advise_on_file("leasekeep", "a/web.toml", Unread::of(kind), &mut errors);
+    Ok(errors.bytes() == line.as_bytes())
+}
+
 #[test]
 fn a_file_is_named_with_the_reason(rt: HostRuntime) -> Result<(), Fail> {
-    let alloc = rt.alloc();
-    for (kind, words) in UNOPENED {
-        let mut errors = MemorySink::new(alloc, None);
-        advise_on_file("leasekeep", "a/web.toml", Unread::of(kind), &mut errors);
-        let line = format!(in alloc; "leasekeep: a/web.toml: {words}\n")?;
-        assert!(rt; errors.bytes() == line.as_bytes(), "{words}");
+    for (kind, words) in &UNOPENED {
+        assert!(rt; is_named(rt.alloc(), *kind, words)?, "{words}");
     }
     Ok(())
 }
@@ -52,42 +57,50 @@ const FAULTS: [(InvFault, &str); 8] = [
     ),
 ];
 
+// The line with these words, or none where there are none.
+fn line_of(alloc: Global, words: &str) -> Result<String, AllocError> {
+    if words.is_empty() {
+        return Ok(String::new(alloc));
+    }
+    format!(in alloc; "minibroker: {words}")
+}
+
+// Whether that is said of a fault.
+fn is_told(alloc: Global, fault: InvFault, words: &str) -> Result<bool, AllocError> {
+    let line = line_of(alloc, words)?;
+    let mut errors = MemorySink::new(alloc, None);
+    advise_on_fault("minibroker", fault, &mut errors);
+    Ok(errors.bytes() == line.as_bytes())
+}
+
 #[test]
 fn what_to_write_is_told(rt: HostRuntime) -> Result<(), Fail> {
-    let alloc = rt.alloc();
     for (fault, words) in &FAULTS {
-        let mut errors = MemorySink::new(alloc, None);
-        advise_on_fault("minibroker", *fault, &mut errors);
-        let line = if words.is_empty() {
-            format!(in alloc; "")?
-        } else {
-            format!(in alloc; "minibroker: {words}")?
-        };
-        assert!(rt; errors.bytes() == line.as_bytes(), "{words}");
+        assert!(rt; is_told(rt.alloc(), *fault, words)?, "{words}");
     }
     Ok(())
 }
 
+// Whether that is said of the entries of an inventory that are open.
+fn is_told_of(alloc: Global, inventory: &str, line: &str) -> Result<bool, InvFault> {
+    let served = read_served(alloc, inventory.as_bytes())?;
+    let mut errors = MemorySink::new(alloc, None);
+    advise_on_open("leasekeep", &served, &mut errors);
+    Ok(errors.bytes() == line.as_bytes())
+}
+
+// The web example, and two entries without ends.
+fn open_text(alloc: Global) -> Result<String, AllocError> {
+    format!(in alloc; "{WEB}[[token]]\nname = \"b\"\n[[token]]\nname = \"c\"\n")
+}
+
+const OPEN: &str =
+    "leasekeep: b: issued and end are not written; serve, watch and run look them up\n";
+
 #[test]
 fn the_first_open_end_is_told(rt: HostRuntime) -> Result<(), Fail> {
-    let alloc = rt.alloc();
-    let text = format!(in alloc; "{WEB}[[token]]\nname = \"b\"\n[[token]]\nname = \"c\"\n")?;
-    let mut errors = MemorySink::new(alloc, None);
-    advise_on_open(
-        "leasekeep",
-        &read_served(alloc, text.as_bytes())?,
-        &mut errors,
-    );
-    assert!(rt;
-        errors.bytes()
-            == b"leasekeep: b: issued and end are not written; serve, watch and run look them up\n".as_slice()
-    );
-    let mut silent = MemorySink::new(alloc, None);
-    advise_on_open(
-        "leasekeep",
-        &read_served(alloc, WEB.as_bytes())?,
-        &mut silent,
-    );
-    assert!(rt; silent.bytes().is_empty());
+    let text = open_text(rt.alloc())?;
+    assert!(rt; is_told_of(rt.alloc(), text.as_str(), OPEN) == Ok(true));
+    assert!(rt; is_told_of(rt.alloc(), WEB, "") == Ok(true));
     Ok(())
 }

@@ -1,11 +1,13 @@
 use crate::plans::{OF_ONE_TOKEN, PLANNED, plans};
-use agent_tests::inventories::{FOR_A_YEAR, IN_TURN, ONE_DUE, TOKEN_AND_LEASE, WEB, inventory_of};
+use agent_tests::inventories::{
+    FOR_A_YEAR, IN_TURN, ONE_DUE, TOKEN_AND_LEASE, WEB, Web, inventory_of,
+};
 use agent_tests::moments::moment;
 use agent_tests::outcomes::Outcome;
 use keep_device::MemorySink;
 use keep_engine::{Exit, run_check};
 use keep_moment::Moment;
-use std::alloc::Global;
+use std::alloc::{AllocError, Global};
 use std::process::Abort;
 use std::test::Fail;
 
@@ -47,63 +49,72 @@ fn checks_from(
     Outcome { exit, out, errors }
 }
 
-/// The line of `check` about a certificate: exit 0 with `yes`, and 4 with any other.
-pub(crate) fn judges<R: AllocGlobal + Abort>(
-    rt: &R,
-    inventory: &str,
-    certificate: &[u8],
-    line: &str,
-) {
-    let exit = if line == "yes\n" {
+/// The exit of `check` with this line about a certificate: 0 with `yes`, and 4 with any other.
+fn exit_of(line: &str) -> Exit {
+    if line == "yes\n" {
         Exit::Done
     } else {
         Exit::No
-    };
-    let outcome = checks(rt.alloc(), inventory, certificate, None);
-    assert!(rt; outcome.is(exit, line, ""), "{line}");
+    }
 }
 
-// What `plan` writes from 1000 on gets `yes`.
-fn accepts_own<R: AllocGlobal + Abort>(rt: &R, inventory: &str) -> Result<(), Fail> {
-    let planned = plans(rt.alloc(), inventory, None)?;
-    assert!(rt; matches!(planned.exit, Exit::Done | Exit::Unkeepable));
-    judges(rt, inventory, planned.out.bytes(), "yes\n");
-    Ok(())
+/// Whether `check` writes this line about a certificate.
+pub(crate) fn is_judged(alloc: Global, inventory: &str, certificate: &[u8], line: &str) -> bool {
+    let outcome = checks(alloc, inventory, certificate, None);
+    outcome.is(exit_of(line), line, "")
+}
+
+// Whether what `plan` writes from 1000 on gets `yes`.
+fn accepts_own(alloc: Global, inventory: &str) -> Result<bool, Fail> {
+    let planned = plans(alloc, inventory, None)?;
+    Ok(
+        matches!(planned.exit, Exit::Done | Exit::Unkeepable)
+            && is_judged(alloc, inventory, planned.out.bytes(), "yes\n"),
+    )
 }
 
 #[test]
 fn own_certificates_get_yes(rt: HostRuntime) -> Result<(), Fail> {
-    for (inventory, _, _) in &PLANNED {
-        accepts_own(&rt, inventory)?;
+    for (inventory, _, lines) in &PLANNED {
+        assert!(rt; accepts_own(rt.alloc(), inventory)?, "{lines}");
     }
     Ok(())
 }
 
+fn accepts_own_of_one(alloc: Global, web: Web) -> Result<bool, Fail> {
+    let inventory = inventory_of(alloc, web)?;
+    accepts_own(alloc, inventory.as_str())
+}
+
 #[test]
 fn own_certificates_of_one_token_get_yes(rt: HostRuntime) -> Result<(), Fail> {
-    for (web, _, _) in &OF_ONE_TOKEN {
-        let inventory = inventory_of(rt.alloc(), *web)?;
-        accepts_own(&rt, inventory.as_str())?;
+    for (web, _, lines) in &OF_ONE_TOKEN {
+        assert!(rt; accepts_own_of_one(rt.alloc(), *web)?, "{lines}");
     }
     Ok(())
 }
 
 // One run of ten million wake-ups, and one wake-up too few.
+const OF_TEN_MILLION: [(&str, &str); 2] = [
+    (
+        "leasekeep-plan 2\nstart 1000\nrun 1001 1 10000000 web web\nend 10000000\n",
+        "yes\n",
+    ),
+    (
+        "leasekeep-plan 2\nstart 1000\nrun 1001 1 9999999 web web\nend 9999999\n",
+        "no not-kept web\n",
+    ),
+];
+
 #[test]
 fn ten_million_wake_ups_are_judged(rt: HostRuntime) -> Result<(), Fail> {
     let inventory = inventory_of(rt.alloc(), (1, 1002, 2, 20000000, 10001002))?;
-    judges(
-        &rt,
-        inventory.as_str(),
-        b"leasekeep-plan 2\nstart 1000\nrun 1001 1 10000000 web web\nend 10000000\n".as_slice(),
-        "yes\n",
-    );
-    judges(
-        &rt,
-        inventory.as_str(),
-        b"leasekeep-plan 2\nstart 1000\nrun 1001 1 9999999 web web\nend 9999999\n".as_slice(),
-        "no not-kept web\n",
-    );
+    for (text, line) in &OF_TEN_MILLION {
+        assert!(rt;
+            is_judged(rt.alloc(), inventory.as_str(), text.as_bytes(), line),
+            "{line}"
+        );
+    }
     Ok(())
 }
 
@@ -236,6 +247,18 @@ const ALTERED_RUNS: [(&str, &str, &str); 12] = [
     ),
 ];
 
+// Whether a certificate with this first line is judged so.
+fn is_judged_after(
+    alloc: Global,
+    header: &str,
+    inventory: &str,
+    lines: &str,
+    line: &str,
+) -> Result<bool, AllocError> {
+    let text = format!(in alloc; "{header}{lines}")?;
+    Ok(is_judged(alloc, inventory, text.as_bytes(), line))
+}
+
 // Certificates with this first line, as the rows say them.
 fn judges_altered<R: AllocGlobal + Abort>(
     rt: &R,
@@ -243,8 +266,10 @@ fn judges_altered<R: AllocGlobal + Abort>(
     rows: &[(&str, &str, &str)],
 ) -> Result<(), Fail> {
     for (inventory, lines, line) in rows {
-        let text = format!(in rt.alloc(); "{header}{lines}")?;
-        judges(rt, inventory, text.as_bytes(), line);
+        assert!(rt;
+            is_judged_after(rt.alloc(), header, inventory, lines, line)?,
+            "{line}"
+        );
     }
     Ok(())
 }
@@ -286,35 +311,52 @@ const FROM_A_START: [(&str, u64, &str); 7] = [
 ];
 
 // What is needed always is needed for a year from the start that a certificate states: 33 seconds later it takes a wake-up more.
+const OF_A_YEAR: [(&str, &str); 2] = [
+    (
+        "leasekeep-plan 2\nstart 1033\nrun 1059 59 534509 pay pay\nend 534509\n",
+        "yes\n",
+    ),
+    (
+        "leasekeep-plan 2\nstart 1033\nrun 1059 59 534508 pay pay\nend 534508\n",
+        "no not-kept pay\n",
+    ),
+];
+
 #[test]
 fn a_year_begins_at_the_start_of_the_certificate(rt: HostRuntime) {
-    let longer = b"leasekeep-plan 2\nstart 1033\nrun 1059 59 534509 pay pay\nend 534509\n";
-    judges(&rt, FOR_A_YEAR, longer.as_slice(), "yes\n");
-    let shorter = b"leasekeep-plan 2\nstart 1033\nrun 1059 59 534508 pay pay\nend 534508\n";
-    judges(&rt, FOR_A_YEAR, shorter.as_slice(), "no not-kept pay\n");
+    for (text, line) in &OF_A_YEAR {
+        assert!(rt;
+            is_judged(rt.alloc(), FOR_A_YEAR, text.as_bytes(), line),
+            "{line}"
+        );
+    }
+}
+
+// Whether a certificate of the web example is judged so where that start is asked for.
+fn is_judged_from(alloc: Global, lines: &str, asked: u64, line: &str) -> Result<bool, Fail> {
+    let asked = moment(asked)?;
+    let text = format!(in alloc; "leasekeep-plan 2\n{lines}")?;
+    let outcome = checks_from(alloc, WEB, text.as_bytes(), Some(asked), None);
+    Ok(outcome.is(exit_of(line), line, ""))
 }
 
 #[test]
 fn a_certificate_has_the_start_that_is_asked_for(rt: HostRuntime) -> Result<(), Fail> {
     for (lines, asked, line) in &FROM_A_START {
-        let text = format!(in rt.alloc(); "leasekeep-plan 2\n{lines}")?;
-        let asked = Some(moment(*asked)?);
-        let exit = if *line == "yes\n" {
-            Exit::Done
-        } else {
-            Exit::No
-        };
-        let outcome = checks_from(rt.alloc(), WEB, text.as_bytes(), asked, None);
-        assert!(rt; outcome.is(exit, line, ""), "{lines}");
+        assert!(rt; is_judged_from(rt.alloc(), lines, *asked, line)?, "{lines}");
     }
     Ok(())
+}
+
+fn fails_at(alloc: Global, call: u64) -> bool {
+    let outcome = checks(alloc, WEB, IN_RUNS.as_bytes(), Some(call));
+    outcome.is_a_failed_write()
 }
 
 // Each call of the output fails in turn.
 #[test]
 fn a_failed_write_of_an_answer_is_exit_6(rt: HostRuntime) {
     for call in 0..2u64 {
-        let outcome = checks(rt.alloc(), WEB, IN_RUNS.as_bytes(), Some(call));
-        assert!(rt; outcome.is_a_failed_write(), "{call}");
+        assert!(rt; fails_at(rt.alloc(), call), "{call}");
     }
 }

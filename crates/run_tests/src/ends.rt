@@ -78,16 +78,16 @@ fn moments_of(alloc: Global, seconds: &[u64]) -> Result<Vec<Moment>, Fail> {
 }
 
 /// `ends` from 1000 on, to an output that fails after so many calls.
-pub(crate) fn ends(
+fn ends(
     alloc: Global,
     inventory: &str,
     moments: &[u64],
     failing: Option<u64>,
 ) -> Result<Outcome, Fail> {
-    let mut out = MemorySink::new(alloc, failing);
-    let mut errors = MemorySink::new(alloc, None);
     let start = moment(1000)?;
     let moments = moments_of(alloc, moments)?;
+    let mut out = MemorySink::new(alloc, failing);
+    let mut errors = MemorySink::new(alloc, None);
     let exit = run_ends(
         alloc,
         inventory.as_bytes(),
@@ -99,11 +99,26 @@ pub(crate) fn ends(
     Ok(Outcome { exit, out, errors })
 }
 
+/// Whether `ends` of the inventory ends and writes so.
+pub(crate) fn ends_so(
+    alloc: Global,
+    inventory: &str,
+    moments: &[u64],
+    exit: Exit,
+    text: &str,
+    fault: &str,
+) -> Result<bool, Fail> {
+    let outcome = ends(alloc, inventory, moments, None)?;
+    Ok(outcome.is(exit, text, fault))
+}
+
 #[test]
 fn ends_are_written(rt: HostRuntime) -> Result<(), Fail> {
     for (inventory, moments, text) in &KEPT_OR_NOT {
-        let outcome = ends(rt.alloc(), inventory, moments, None)?;
-        assert!(rt; outcome.is(Exit::Done, text, ""), "{text}");
+        assert!(rt;
+            ends_so(rt.alloc(), inventory, moments, Exit::Done, text, "")?,
+            "{text}"
+        );
     }
     Ok(())
 }
@@ -111,30 +126,33 @@ fn ends_are_written(rt: HostRuntime) -> Result<(), Fail> {
 #[test]
 fn what_has_no_ends_leaves_the_output(rt: HostRuntime) -> Result<(), Fail> {
     for (inventory, moments, exit, fault) in &REFUSED {
-        let outcome = ends(rt.alloc(), inventory, moments, None)?;
-        assert!(rt; outcome.is(*exit, "", fault), "{fault}");
+        assert!(rt;
+            ends_so(rt.alloc(), inventory, moments, *exit, "", fault)?,
+            "{fault}"
+        );
     }
     Ok(())
+}
+
+fn fails_at(alloc: Global, call: u64) -> Result<bool, Fail> {
+    let outcome = ends(alloc, WEB, &[], Some(call))?;
+    Ok(outcome.is_a_failed_write())
+}
+
+// The exit of what is no inventory where the fault line fails.
+fn exit_without_line(alloc: Global) -> Result<Exit, Fail> {
+    let start = moment(1000)?;
+    let mut out = MemorySink::new(alloc, None);
+    let mut errors = MemorySink::new(alloc, Some(0));
+    Ok(run_ends(alloc, b"x".as_slice(), start, &[], &mut out, &mut errors))
 }
 
 // Each call of the output fails in turn. A failed fault line leaves the exit as it is.
 #[test]
 fn a_failed_write_is_exit_6(rt: HostRuntime) -> Result<(), Fail> {
-    let alloc = rt.alloc();
     for call in 0..2u64 {
-        let outcome = ends(alloc, WEB, &[], Some(call))?;
-        assert!(rt; outcome.is_a_failed_write(), "{call}");
+        assert!(rt; fails_at(rt.alloc(), call)?, "{call}");
     }
-    let mut out = MemorySink::new(alloc, None);
-    let mut errors = MemorySink::new(alloc, Some(0));
-    let exit = run_ends(
-        alloc,
-        b"x".as_slice(),
-        moment(1000)?,
-        &[],
-        &mut out,
-        &mut errors,
-    );
-    assert!(rt; exit == Exit::Inventory);
+    assert!(rt; exit_without_line(rt.alloc())? == Exit::Inventory);
     Ok(())
 }

@@ -1,9 +1,8 @@
 use crate::checks::checks;
-use crate::ends::ends;
-use crate::plans::plans;
-use agent_tests::outcomes::Outcome;
+use crate::ends::ends_so;
+use crate::plans::is_plan;
 use keep_engine::Exit;
-use std::process::Abort;
+use std::alloc::{AllocError, Global};
 use std::test::Fail;
 
 // Texts that are no inventories, with what stands after `leasekeep: inventory: ` in the fault line.
@@ -55,34 +54,48 @@ const FAULTY: [(&str, &str); 15] = [
     ("margins = 2\n", "unknown-key -"),
 ];
 
-// What a command of a text that is no inventory comes to: exit 1, one fault line, and nothing on the output.
-fn is_refused<R: AllocGlobal + Abort>(rt: &R, outcome: &Outcome, fault: &str) -> Result<(), Fail> {
-    let line = format!(in rt.alloc(); "leasekeep: inventory: {fault}\n")?;
-    assert!(rt; outcome.is(Exit::Inventory, "", line.as_str()), "{fault}");
-    Ok(())
+// The fault line of a text that is no inventory. A command of it comes to exit 1 and that line, and writes nothing on the output.
+fn line_of(alloc: Global, fault: &str) -> Result<String, AllocError> {
+    format!(in alloc; "leasekeep: inventory: {fault}\n")
+}
+
+fn ends_names(alloc: Global, inventory: &str, fault: &str) -> Result<bool, Fail> {
+    let line = line_of(alloc, fault)?;
+    ends_so(alloc, inventory, &[], Exit::Inventory, "", line.as_str())
 }
 
 #[test]
 fn ends_names_the_fault_of_an_inventory(rt: HostRuntime) -> Result<(), Fail> {
     for (inventory, fault) in &FAULTY {
-        is_refused(&rt, &ends(rt.alloc(), inventory, &[], None)?, fault)?;
+        assert!(rt; ends_names(rt.alloc(), inventory, fault)?, "{fault}");
     }
     Ok(())
+}
+
+fn plan_names(alloc: Global, inventory: &str, fault: &str) -> Result<bool, Fail> {
+    let line = line_of(alloc, fault)?;
+    is_plan(alloc, inventory, Exit::Inventory, "", line.as_str())
 }
 
 #[test]
 fn plan_names_the_fault_of_an_inventory(rt: HostRuntime) -> Result<(), Fail> {
     for (inventory, fault) in &FAULTY {
-        is_refused(&rt, &plans(rt.alloc(), inventory, None)?, fault)?;
+        assert!(rt; plan_names(rt.alloc(), inventory, fault)?, "{fault}");
     }
     Ok(())
+}
+
+fn check_names(alloc: Global, inventory: &str, fault: &str) -> Result<bool, AllocError> {
+    let line = line_of(alloc, fault)?;
+    let outcome = checks(alloc, inventory, b"x", None);
+    Ok(outcome.is(Exit::Inventory, "", line.as_str()))
 }
 
 // The inventory is judged before the certificate, which is none here.
 #[test]
 fn check_names_the_fault_of_an_inventory(rt: HostRuntime) -> Result<(), Fail> {
     for (inventory, fault) in &FAULTY {
-        is_refused(&rt, &checks(rt.alloc(), inventory, b"x", None), fault)?;
+        assert!(rt; check_names(rt.alloc(), inventory, fault)?, "{fault}");
     }
     Ok(())
 }

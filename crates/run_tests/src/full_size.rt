@@ -1,7 +1,7 @@
 //! The whole way at its full size: an inventory of as many entries as there may be, and a certificate of as many lines. No
 //! contract forbids a call to give up for lack of memory past some size: these tests would see it.
 
-use crate::margins::margins;
+use crate::margins::is_margin;
 use agent_tests::moments::moment;
 use broker_table::{Served, Table};
 use http::Method;
@@ -12,12 +12,12 @@ use keep_inventory::{Inventory, read};
 use keep_moment::{Moment, Text};
 use keep_needs::carry;
 use keep_plan::{Decision, plan, shortfall};
-use keep_rule::{Wake, ends_after};
+use keep_rule::{Wake, WakeFault, ends_after};
 use keep_schedule::{QueueSchedule, Run};
 use keep_tree::{Forest, Indices};
-use std::alloc::Global;
+use std::alloc::{AllocError, Global};
 use std::test::Fail;
-use vault_http::{Reply, Request};
+use vault_http::Request;
 
 // As many entries as an inventory may have: tokens that all end at 1060, of which each is needed until 1200 and renewed by
 // 60 seconds. All are due at 1059, 1118 and 1177, as the one token of the web example is.
@@ -74,64 +74,96 @@ fn are_all(indices: &Indices) -> bool {
             .all(|(i, index)| *index as usize == i)
 }
 
-#[test]
+// Whether this is printed of the plan from the start on.
 #[tactic(auto, using(keep_cert::proofs::Printing::decided_is_of))]
-fn the_plan_of_every_entry_is_printed(rt: HostRuntime) -> Result<(), Fail> {
-    let alloc = rt.alloc();
-    let inventory = fleet(alloc)?;
-    let forest = inventory.forest();
-    assert!(rt; forest.len() == ENTRIES);
-    let start = moment(1000)?;
+fn prints(alloc: Global, forest: &Forest, start: Moment, want: &str) -> Result<bool, Fail> {
+    if forest.len() != ENTRIES {
+        return Ok(false);
+    }
     let decision = plan(alloc, forest, start)?;
     let text = keep_cert::print(alloc, forest, start, &decision)?;
-    assert!(rt; text.list() == PLAN.as_bytes());
+    Ok(text.list() == want.as_bytes())
+}
+
+#[test]
+fn the_plan_of_every_entry_is_printed(rt: HostRuntime) -> Result<(), Fail> {
+    let start = moment(1000)?;
+    let inventory = fleet(rt.alloc())?;
+    assert!(rt; prints(rt.alloc(), inventory.forest(), start, PLAN)?);
     Ok(())
 }
 
 #[test]
 fn every_entry_has_its_say_in_a_margin(rt: HostRuntime) -> Result<(), Fail> {
     let text = fleet_text(rt.alloc())?;
-    let outcome = margins(rt.alloc(), text.as_str(), (None, true), None)?;
-    assert!(rt; outcome.is(Exit::Done, "1 3\n13 3\n", ""));
+    let asked = (None, true);
+    assert!(rt;
+        is_margin(
+            rt.alloc(),
+            text.as_str(),
+            asked,
+            Exit::Done,
+            "1 3\n13 3\n",
+            ""
+        )?
+    );
     Ok(())
+}
+
+// Whether the plan from the start on asks every entry at a moment.
+fn asks_all(alloc: Global, forest: &Forest, start: Moment, at: Moment) -> Result<bool, Fail> {
+    match plan(alloc, forest, start)? {
+        Decision::Keep(plan) => Ok(are_all(&plan.asks(forest, at)?)),
+        _ => Ok(false),
+    }
 }
 
 #[test]
 fn every_entry_is_asked(rt: HostRuntime) -> Result<(), Fail> {
-    let alloc = rt.alloc();
-    let inventory = fleet(alloc)?;
-    let forest = inventory.forest();
-    let Decision::Keep(plan) = plan(alloc, forest, moment(1000)?)? else {
-        return Err("a plan".into());
-    };
-    let asked = plan.asks(forest, moment(1059)?)?;
-    assert!(rt; are_all(&asked));
+    let (start, at) = (moment(1000)?, moment(1059)?);
+    let inventory = fleet(rt.alloc())?;
+    assert!(rt; asks_all(rt.alloc(), inventory.forest(), start, at)?);
     Ok(())
 }
 
-// A wake-up that asks every entry.
-fn wake_of_all(alloc: Global, at: Moment) -> Result<Wake, Fail> {
+// The indices of all entries.
+fn all(alloc: Global) -> Result<Indices, AllocError> {
     let mut asked = Vec::new(alloc);
     for index in 0..ENTRIES {
         asked.push(index)?;
     }
-    let asked = Indices::from_vec(asked);
-    Ok(Wake { at, asked })
+    Ok(Indices::from_vec(asked))
+}
+
+// Wake-ups at 1059, 1118 and 1177 that ask every entry.
+fn wakes_of_all(alloc: Global) -> Result<Vec<Wake>, Fail> {
+    let mut wakes = Vec::new(alloc);
+    for at in [1059, 1118, 1177] {
+        let at = moment(at)?;
+        let asked = all(alloc)?;
+        wakes.push(Wake { at, asked })?;
+    }
+    Ok(wakes)
+}
+
+// Whether all end at 1237 after these wake-ups.
+fn all_end(
+    alloc: Global,
+    forest: &Forest,
+    start: Moment,
+    wakes: &[Wake],
+) -> Result<bool, WakeFault> {
+    let ends = ends_after(alloc, forest, start, wakes)?;
+    Ok(ends.list().len() == ENTRIES as usize && ends.list().iter().all(|end| *end == 1237))
 }
 
 // Every entry, asked at 1059, 1118 and 1177, ends 60 seconds after the last of them.
 #[test]
 fn every_end_is_told(rt: HostRuntime) -> Result<(), Fail> {
-    let alloc = rt.alloc();
-    let inventory = fleet(alloc)?;
-    let forest = inventory.forest();
-    let mut wakes = Vec::new(alloc);
-    for at in [1059, 1118, 1177] {
-        wakes.push(wake_of_all(alloc, moment(at)?)?)?;
-    }
-    let ends = ends_after(alloc, forest, moment(1000)?, &wakes)?;
-    assert!(rt; ends.list().len() == ENTRIES as usize);
-    assert!(rt; ends.list().iter().all(|end| *end == 1237));
+    let start = moment(1000)?;
+    let wakes = wakes_of_all(rt.alloc())?;
+    let inventory = fleet(rt.alloc())?;
+    assert!(rt; all_end(rt.alloc(), inventory.forest(), start, &wakes) == Ok(true));
     Ok(())
 }
 
@@ -154,8 +186,9 @@ fn only_run(alloc: Global, forest: &Forest, start: Moment) -> Result<Run, Fail> 
 // It is forced by the first of the entries that are due together, for its own need.
 #[test]
 fn the_queue_takes_every_entry(rt: HostRuntime) -> Result<(), Fail> {
+    let start = moment(1000)?;
     let inventory = fleet(rt.alloc())?;
-    let run = only_run(rt.alloc(), inventory.forest(), moment(1000)?)?;
+    let run = only_run(rt.alloc(), inventory.forest(), start)?;
     assert!(rt; run.first == 1059);
     assert!(rt; run.count == 3);
     assert!(rt; run.entry == 0);
@@ -164,45 +197,55 @@ fn the_queue_takes_every_entry(rt: HostRuntime) -> Result<(), Fail> {
 
 const RENEWED: &[u8] = b"{\"auth\":{\"lease_duration\":60,\"renewable\":true}}";
 
-fn renewal_of_the_last(alloc: Global) -> Result<Request, Fail> {
+fn renewal_of_the_last(alloc: Global) -> Result<Request, AllocError> {
+    let path = Text::of(alloc, b"/v1/auth/token/renew-self")?;
+    let token = Text::of(alloc, b"e4095")?;
+    let body = Text::of(alloc, b"{\"increment\":60}")?;
     Ok(Request {
         method: Method::POST,
-        path: Text::of(alloc, b"/v1/auth/token/renew-self")?,
-        token: Some(Text::of(alloc, b"e4095")?),
-        body: Text::of(alloc, b"{\"increment\":60}")?,
+        path,
+        token: Some(token),
+        body,
         port: 0,
     })
 }
 
-fn reply_to_the_last(alloc: Global, table: &mut Table) -> Result<Reply, Fail> {
+// Whether the table grants it.
+fn grants_the_last(alloc: Global, table: &mut Table) -> Result<bool, Fail> {
+    let at = moment(1059)?;
     let request = renewal_of_the_last(alloc)?;
-    match table.serve(moment(1059)?, &request)? {
-        Served::Reply(reply) => Ok(reply),
-        _ => Err("a reply".into()),
+    match table.serve(at, &request)? {
+        Served::Reply(reply) => Ok(reply.status == 200 && reply.body.list() == RENEWED),
+        _ => Ok(false),
     }
+}
+
+fn fleet_table(alloc: Global) -> Result<Table, Fail> {
+    let inventory = fleet(alloc)?;
+    Ok(Table::load(alloc, &inventory)?)
 }
 
 // The last of the tokens is renewed by its own value.
 #[test]
 fn the_broker_serves_the_last(rt: HostRuntime) -> Result<(), Fail> {
-    let inventory = fleet(rt.alloc())?;
-    let mut table = Table::load(rt.alloc(), &inventory)?;
-    let reply = reply_to_the_last(rt.alloc(), &mut table)?;
-    assert!(rt; reply.status == 200);
-    assert!(rt; reply.body.list() == RENEWED);
+    let mut table = fleet_table(rt.alloc())?;
+    assert!(rt; grants_the_last(rt.alloc(), &mut table)?);
     Ok(())
+}
+
+fn fleet_keeper(alloc: Global) -> Result<Keeper, Fail> {
+    let start = moment(1000)?;
+    let (forest, _) = fleet(alloc)?.into_parts();
+    Ok(Keeper::new(alloc, forest, start)?)
 }
 
 #[test]
 fn the_keeper_asks_every_entry(rt: HostRuntime) -> Result<(), Fail> {
-    let alloc = rt.alloc();
-    let (forest, _) = fleet(alloc)?.into_parts();
-    let mut keeper = Keeper::new(alloc, forest, moment(1000)?)?;
-    let output = keeper.step(Event::Tick(1059))?;
-    let Output::Ask(asked) = output else {
-        return Err("asked".into());
-    };
-    assert!(rt; are_all(&asked));
+    let mut keeper = fleet_keeper(rt.alloc())?;
+    match keeper.step(Event::Tick(1059)) {
+        Ok(Output::Ask(asked)) => assert!(rt; are_all(&asked)),
+        _ => assert!(rt; false),
+    }
     Ok(())
 }
 
@@ -215,23 +258,28 @@ fn certificate_of_100000_lines(alloc: Global) -> Result<String, Fail> {
     Ok(text)
 }
 
+// A token of two seconds.
+const QUICK: &[u8] =
+    b"[[token]]\nname = \"web\"\nissued = 1000\nend = 1002\nincrement = 2\nmax_ttl = 200000\nneed = 100999\n";
+
+// Whether the checker accepts a certificate.
+#[tactic(auto, using(keep_check::proofs::Written::written_fits))]
+fn accepts(alloc: Global, forest: &Forest, text: &[u8]) -> Result<bool, Fail> {
+    // (the contract of `len` says that it is a forest, as that of `read` wants to know)
+    let _entries = forest.len();
+    let Ok(certificate) = keep_cert::read(alloc, forest, text) else {
+        return Ok(false);
+    };
+    Ok(check(alloc, forest, &certificate)? == Answer::Yes)
+}
+
 // A certificate of 100,000 lines, as many as there may be: a token of two seconds that is renewed each second, 99,997 times,
 // the last time when it would end one second before its need.
 #[test]
-#[tactic(auto, using(keep_check::proofs::Written::written_fits))]
 fn a_certificate_may_have_100000_lines(rt: HostRuntime) -> Result<(), Fail> {
-    let alloc = rt.alloc();
-    let inventory =
-        b"[[token]]\nname = \"web\"\nissued = 1000\nend = 1002\nincrement = 2\nmax_ttl = 200000\nneed = 100999\n".as_slice();
-    let inventory = read(alloc, inventory)?;
-    let text = certificate_of_100000_lines(alloc)?;
-    let forest = inventory.forest();
-    // (the contract of `len` says that it is a forest, as that of `read` wants to know)
-    assert!(rt; forest.len() == 1);
-    let Ok(certificate) = keep_cert::read(alloc, forest, text.as_bytes()) else {
-        return Err("a certificate".into());
-    };
-    let answer = check(alloc, forest, &certificate)?;
-    assert!(rt; answer == Answer::Yes);
+    let text = certificate_of_100000_lines(rt.alloc())?;
+    let inventory = read(rt.alloc(), QUICK)?;
+    assert!(rt; inventory.forest().len() == 1);
+    assert!(rt; accepts(rt.alloc(), inventory.forest(), text.as_bytes())?);
     Ok(())
 }

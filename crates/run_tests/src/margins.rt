@@ -100,48 +100,83 @@ const STOPPED: [(Web, Exit, &str); 2] = [
 ];
 
 /// `margin` from 1000 on, to an output that fails after so many calls.
-pub(crate) fn margins(
+fn margins(
     alloc: Global,
     inventory: &str,
     asked: Asked,
     failing: Option<u64>,
 ) -> Result<Outcome, Fail> {
-    let mut out = MemorySink::new(alloc, failing);
-    let mut errors = MemorySink::new(alloc, None);
+    let (most_wakes, renewed) = asked;
     let query = MarginQuery {
         start: moment(1000)?,
-        most_wakes: asked.0,
-        renewed: asked.1,
+        most_wakes,
+        renewed,
     };
+    let mut out = MemorySink::new(alloc, failing);
+    let mut errors = MemorySink::new(alloc, None);
     let exit = run_margin(alloc, inventory.as_bytes(), &query, &mut out, &mut errors);
     Ok(Outcome { exit, out, errors })
 }
 
+/// Whether `margin` of the inventory ends and writes so.
+pub(crate) fn is_margin(
+    alloc: Global,
+    inventory: &str,
+    asked: Asked,
+    exit: Exit,
+    text: &str,
+    fault: &str,
+) -> Result<bool, Fail> {
+    let outcome = margins(alloc, inventory, asked, None)?;
+    Ok(outcome.is(exit, text, fault))
+}
+
+// Other inventories, the exit and the text. Until 1150 the one that is needed for good takes two wake-ups, with 15 seconds too: at
+// 1045 and at 1090.
+const OF_OTHERS: [(&str, Exit, &str); 4] = [
+    ("", Exit::Done, "1 0\n3600 0\n"),
+    (TOKEN_AND_LEASE, Exit::Done, "1 3\n13 3\n"),
+    (FOR_GOOD, Exit::Done, "1 2\n15 2\n"),
+    (LOW_CEILING, Exit::Unkeepable, "unkeepable T L\n"),
+];
+
 #[test]
 fn margins_are_written(rt: HostRuntime) -> Result<(), Fail> {
-    let alloc = rt.alloc();
     for (asked, exit, text) in &OF_WEB {
-        let outcome = margins(alloc, WEB, *asked, None)?;
-        assert!(rt; outcome.is(*exit, text, ""), "{text}");
+        assert!(rt;
+            is_margin(rt.alloc(), WEB, *asked, *exit, text, "")?,
+            "{text}"
+        );
     }
-    let empty = margins(alloc, "", AS_IT_IS, None)?;
-    assert!(rt; empty.is(Exit::Done, "1 0\n3600 0\n", ""));
-    let both = margins(alloc, TOKEN_AND_LEASE, AS_IT_IS, None)?;
-    assert!(rt; both.is(Exit::Done, "1 3\n13 3\n", ""));
-    // Until 1150 it takes two wake-ups, with 15 seconds too: at 1045 and at 1090.
-    let for_good = margins(alloc, FOR_GOOD, AS_IT_IS, None)?;
-    assert!(rt; for_good.is(Exit::Done, "1 2\n15 2\n", ""));
-    let low = margins(alloc, LOW_CEILING, AS_IT_IS, None)?;
-    assert!(rt; low.is(Exit::Unkeepable, "unkeepable T L\n", ""));
+    for (inventory, exit, text) in &OF_OTHERS {
+        assert!(rt;
+            is_margin(rt.alloc(), inventory, AS_IT_IS, *exit, text, "")?,
+            "{text}"
+        );
+    }
     Ok(())
+}
+
+// The same of one token.
+fn is_margin_of_one(
+    alloc: Global,
+    web: Web,
+    asked: Asked,
+    exit: Exit,
+    text: &str,
+    fault: &str,
+) -> Result<bool, Fail> {
+    let inventory = inventory_of(alloc, web)?;
+    is_margin(alloc, inventory.as_str(), asked, exit, text, fault)
 }
 
 #[test]
 fn margins_of_one_token_are_written(rt: HostRuntime) -> Result<(), Fail> {
     for (web, asked, exit, text) in &OF_ONE_TOKEN {
-        let inventory = inventory_of(rt.alloc(), *web)?;
-        let outcome = margins(rt.alloc(), inventory.as_str(), *asked, None)?;
-        assert!(rt; outcome.is(*exit, text, ""), "{text}");
+        assert!(rt;
+            is_margin_of_one(rt.alloc(), *web, *asked, *exit, text, "")?,
+            "{text}"
+        );
     }
     Ok(())
 }
@@ -149,19 +184,24 @@ fn margins_of_one_token_are_written(rt: HostRuntime) -> Result<(), Fail> {
 #[test]
 fn what_has_no_margin_leaves_the_output(rt: HostRuntime) -> Result<(), Fail> {
     for (web, exit, fault) in &STOPPED {
-        let inventory = inventory_of(rt.alloc(), *web)?;
-        let outcome = margins(rt.alloc(), inventory.as_str(), AS_IT_IS, None)?;
-        assert!(rt; outcome.is(*exit, "", fault), "{fault}");
+        assert!(rt;
+            is_margin_of_one(rt.alloc(), *web, AS_IT_IS, *exit, "", fault)?,
+            "{fault}"
+        );
     }
     Ok(())
+}
+
+fn fails_at(alloc: Global, call: u64) -> Result<bool, Fail> {
+    let outcome = margins(alloc, WEB, AS_IT_IS, Some(call))?;
+    Ok(outcome.is_a_failed_write())
 }
 
 // Each call of the output fails in turn.
 #[test]
 fn a_failed_write_of_margins_is_exit_6(rt: HostRuntime) -> Result<(), Fail> {
     for call in 0..2u64 {
-        let outcome = margins(rt.alloc(), WEB, AS_IT_IS, Some(call))?;
-        assert!(rt; outcome.is_a_failed_write(), "{call}");
+        assert!(rt; fails_at(rt.alloc(), call)?, "{call}");
     }
     Ok(())
 }

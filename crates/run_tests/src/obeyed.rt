@@ -11,7 +11,7 @@ use keep_exchange::MemoryExchange;
 use keep_files::Inputs;
 use keep_inventory::read;
 use keep_lanes::MemoryLanes;
-use keep_moment::Text;
+use keep_moment::{Moment, Text};
 use std::alloc::Global;
 use std::test::Fail;
 use watch_lines::watch_file;
@@ -170,10 +170,15 @@ const OBEYED: [Obeyed; 15] = [
     ),
 ];
 
-fn command_of(alloc: Global, asked: Asked, file: &str, certificate: &str) -> Result<Command, Fail> {
-    let file = format!(in alloc; "{file}")?;
-    let start = moment(1000)?;
-    Ok(match asked {
+// The command that is asked for of these files, from that moment on.
+fn command_of(
+    alloc: Global,
+    asked: Asked,
+    file: String,
+    certificate: String,
+    start: Moment,
+) -> Command {
+    match asked {
         Asked::Ends => Command::Ends {
             file,
             start,
@@ -209,24 +214,30 @@ fn command_of(alloc: Global, asked: Asked, file: &str, certificate: &str) -> Res
         },
         Asked::Check => Command::Check {
             file,
-            certificate: format!(in alloc; "{certificate}")?,
+            certificate,
             start: None,
         },
-        Asked::CheckFrom(start) => Command::Check {
+        Asked::CheckFrom(from) => Command::Check {
             file,
-            certificate: format!(in alloc; "{certificate}")?,
-            start: Some(moment(start)?),
+            certificate,
+            start: Moment::new(from),
         },
-    })
+    }
+}
+
+// What comes of a command.
+fn obeyed(alloc: Global, command: &Command) -> Outcome {
+    let mut out = MemorySink::new(alloc, None);
+    let mut errors = MemorySink::new(alloc, None);
+    let exit = obey(alloc, command, &mut Folder, &mut out, &mut errors);
+    Outcome { exit, out, errors }
 }
 
 fn obeys(alloc: Global, asked: Asked, file: &str, certificate: &str) -> Result<Outcome, Fail> {
-    let command = command_of(alloc, asked, file, certificate)?;
-    let mut inputs = Folder;
-    let mut out = MemorySink::new(alloc, None);
-    let mut errors = MemorySink::new(alloc, None);
-    let exit = obey(alloc, &command, &mut inputs, &mut out, &mut errors);
-    Ok(Outcome { exit, out, errors })
+    let start = moment(1000)?;
+    let file = String::from_str(alloc, file)?;
+    let certificate = String::from_str(alloc, certificate)?;
+    Ok(obeyed(alloc, &command_of(alloc, asked, file, certificate, start)))
 }
 
 #[test]
@@ -238,41 +249,45 @@ fn commands_are_obeyed_over_files(rt: HostRuntime) -> Result<(), Fail> {
     Ok(())
 }
 
-// A live run of the file from 1000 on, over a broker that lists the web example.
+// The table of a broker that lists the web example.
+fn web_table(alloc: Global) -> Result<Table, Fail> {
+    let inventory = read(alloc, WEB.as_bytes())?;
+    Ok(Table::load(alloc, &inventory)?)
+}
+
+// A live run of the file from 1000 on over that broker, and how often its events were read.
 fn keeps_alive(alloc: Global, file: &str) -> Result<(Outcome, u64), Fail> {
-    let table = Table::load(alloc, &read(alloc, WEB.as_bytes())?)?;
-    let mut exchange = MemoryExchange::new(alloc, table);
+    let start = moment(1000)?;
     let lines = Vec::from_slice(alloc, b"tick 1059\n")?;
+    let mut exchange = MemoryExchange::new(alloc, web_table(alloc)?);
     let events = MemorySource::new(lines, Vec::new(alloc), None);
     let mut streams = streams_to(alloc, events, MemorySink::new(alloc, None));
-    let exit = keep_alive(
-        alloc,
-        file,
-        moment(1000)?,
-        &mut Folder,
-        &mut exchange,
-        &mut streams,
-    );
+    let exit = keep_alive(alloc, file, start, &mut Folder, &mut exchange, &mut streams);
     let reads = streams.lines.reads();
     Ok((Outcome::of(exit, streams), reads))
 }
 
+const KEPT: &str = "entry web 1060\nwake 1059 web\ntold web 60\nnext 1118\n";
+
 #[test]
 fn a_live_run_reads_its_file_first(rt: HostRuntime) -> Result<(), Fail> {
-    let text = "entry web 1060\nwake 1059 web\ntold web 60\nnext 1118\n";
     let (kept, _) = keeps_alive(rt.alloc(), "web.toml")?;
-    assert!(rt; kept.is(Exit::Done, text, ""));
+    assert!(rt; kept.is(Exit::Done, KEPT, ""));
+    Ok(())
+}
+
+#[test]
+fn a_live_run_without_its_file_reads_nothing(rt: HostRuntime) -> Result<(), Fail> {
     let (unread, reads) = keeps_alive(rt.alloc(), "other.toml")?;
     assert!(rt; unread.is(Exit::Device, "", "leasekeep: read\n"));
     assert!(rt; reads == 0, "{reads}");
     Ok(())
 }
 
-// A watch over the file, over a broker that lists the web example.
+// A watch over the file over that broker, and how often its lines were read.
 fn watches(alloc: Global, file: &str) -> Result<(Outcome, u64), Fail> {
-    let table = Table::load(alloc, &read(alloc, WEB.as_bytes())?)?;
-    let mut lanes = MemoryLanes::new(alloc, table, 5, 8);
     let text = Vec::from_slice(alloc, b"clock 1000000 1000000\n")?;
+    let mut lanes = MemoryLanes::new(alloc, web_table(alloc)?, 5, 8);
     let lines = MemorySource::new(text, Vec::new(alloc), None);
     let mut streams = streams_to(alloc, lines, MemorySink::new(alloc, None));
     let exit = watch_file(alloc, file, &mut Folder, &mut lanes, &mut streams);
@@ -280,17 +295,31 @@ fn watches(alloc: Global, file: &str) -> Result<(Outcome, u64), Fail> {
     Ok((Outcome::of(exit, streams), reads))
 }
 
+const WATCHED: &str = "begin start\nlook web\nentry web 1060\nend web 1060000 yes\nclock\n";
+
 #[test]
 fn a_watch_reads_its_file_first(rt: HostRuntime) -> Result<(), Fail> {
-    let text = "begin start\nlook web\nentry web 1060\nend web 1060000 yes\nclock\n";
     let (watched, _) = watches(rt.alloc(), "web.toml")?;
-    assert!(rt; watched.is(Exit::Done, text, ""));
-    let (unread, reads) = watches(rt.alloc(), "other.toml")?;
-    assert!(rt; unread.is(Exit::Device, "", "leasekeep: read\n"));
-    assert!(rt; reads == 0, "{reads}");
-    let (no_inventory, reads) = watches(rt.alloc(), "web.plan")?;
-    let fault = "leasekeep: inventory: not-toml\n";
-    assert!(rt; no_inventory.is(Exit::Inventory, "", fault));
-    assert!(rt; reads == 0, "{reads}");
+    assert!(rt; watched.is(Exit::Done, WATCHED, ""));
+    Ok(())
+}
+
+// Files that are no inventory, the exit and the fault line.
+const NO_INVENTORIES: [(&str, Exit, &str); 2] = [
+    ("other.toml", Exit::Device, "leasekeep: read\n"),
+    (
+        "web.plan",
+        Exit::Inventory,
+        "leasekeep: inventory: not-toml\n",
+    ),
+];
+
+#[test]
+fn a_watch_without_an_inventory_reads_nothing(rt: HostRuntime) -> Result<(), Fail> {
+    for (file, exit, fault) in &NO_INVENTORIES {
+        let (outcome, reads) = watches(rt.alloc(), file)?;
+        assert!(rt; outcome.is(*exit, "", fault), "{file}");
+        assert!(rt; reads == 0, "{file}: {reads}");
+    }
     Ok(())
 }

@@ -106,53 +106,80 @@ const STOPPED: [(Web, Exit, &str); 3] = [
 
 /// `plan` from 1000 on, to an output that fails after so many calls.
 pub(crate) fn plans(alloc: Global, inventory: &str, failing: Option<u64>) -> Result<Outcome, Fail> {
+    let start = moment(1000)?;
     let mut out = MemorySink::new(alloc, failing);
     let mut errors = MemorySink::new(alloc, None);
-    let start = moment(1000)?;
     let exit = run_plan(alloc, inventory.as_bytes(), start, &mut out, &mut errors);
     Ok(Outcome { exit, out, errors })
 }
 
+/// Whether `plan` of the inventory ends and writes so.
+pub(crate) fn is_plan(
+    alloc: Global,
+    inventory: &str,
+    exit: Exit,
+    text: &str,
+    fault: &str,
+) -> Result<bool, Fail> {
+    let outcome = plans(alloc, inventory, None)?;
+    Ok(outcome.is(exit, text, fault))
+}
+
+// Whether it ends so, and writes these lines after the first two.
+fn is_planned(alloc: Global, inventory: &str, exit: Exit, lines: &str) -> Result<bool, Fail> {
+    let text = format!(in alloc; "leasekeep-plan 2\nstart 1000\n{lines}")?;
+    is_plan(alloc, inventory, exit, text.as_str(), "")
+}
+
 #[test]
 fn plans_are_written(rt: HostRuntime) -> Result<(), Fail> {
-    let alloc = rt.alloc();
     for (inventory, exit, lines) in &PLANNED {
-        let text = format!(in alloc; "leasekeep-plan 2\nstart 1000\n{lines}")?;
-        let outcome = plans(alloc, inventory, None)?;
-        assert!(rt; outcome.is(*exit, text.as_str(), ""), "{lines}");
+        assert!(rt; is_planned(rt.alloc(), inventory, *exit, lines)?, "{lines}");
     }
     Ok(())
 }
 
+fn is_planned_of_one(alloc: Global, web: Web, exit: Exit, lines: &str) -> Result<bool, Fail> {
+    let inventory = inventory_of(alloc, web)?;
+    is_planned(alloc, inventory.as_str(), exit, lines)
+}
+
 #[test]
 fn plans_of_one_token_are_written(rt: HostRuntime) -> Result<(), Fail> {
-    let alloc = rt.alloc();
     for (web, exit, lines) in &OF_ONE_TOKEN {
-        let inventory = inventory_of(alloc, *web)?;
-        let text = format!(in alloc; "leasekeep-plan 2\nstart 1000\n{lines}")?;
-        let outcome = plans(alloc, inventory.as_str(), None)?;
-        assert!(rt; outcome.is(*exit, text.as_str(), ""), "{lines}");
+        assert!(rt;
+            is_planned_of_one(rt.alloc(), *web, *exit, lines)?,
+            "{lines}"
+        );
     }
     Ok(())
+}
+
+// Whether the plan of one token stops so.
+fn stops(alloc: Global, web: Web, exit: Exit, fault: &str) -> Result<bool, Fail> {
+    let inventory = inventory_of(alloc, web)?;
+    is_plan(alloc, inventory.as_str(), exit, "", fault)
 }
 
 // Ten million wake-ups are planned, above, and one more is too long.
 #[test]
 fn what_has_no_plan_leaves_the_output(rt: HostRuntime) -> Result<(), Fail> {
     for (web, exit, fault) in &STOPPED {
-        let inventory = inventory_of(rt.alloc(), *web)?;
-        let outcome = plans(rt.alloc(), inventory.as_str(), None)?;
-        assert!(rt; outcome.is(*exit, "", fault), "{fault}");
+        assert!(rt; stops(rt.alloc(), *web, *exit, fault)?, "{fault}");
     }
     Ok(())
+}
+
+fn fails_at(alloc: Global, call: u64) -> Result<bool, Fail> {
+    let outcome = plans(alloc, WEB, Some(call))?;
+    Ok(outcome.is_a_failed_write())
 }
 
 // Each call of the output fails in turn.
 #[test]
 fn a_failed_write_of_a_plan_is_exit_6(rt: HostRuntime) -> Result<(), Fail> {
     for call in 0..2u64 {
-        let outcome = plans(rt.alloc(), WEB, Some(call))?;
-        assert!(rt; outcome.is_a_failed_write(), "{call}");
+        assert!(rt; fails_at(rt.alloc(), call)?, "{call}");
     }
     Ok(())
 }
@@ -174,35 +201,59 @@ const IN_DATES: [(&str, Exit, &str); 5] = [
     (CHILD, Exit::Unkeepable, "unkeepable A B\n"),
 ];
 
-// `plan --dates` from 1000 on, to an output that fails after so many calls.
-fn plans_in_dates(alloc: Global, inventory: &str, failing: Option<u64>) -> Result<Outcome, Fail> {
+// Whether `plan --dates` from 1000 on, to an output that fails after so many calls, ends and writes so.
+fn is_plan_in_dates(
+    alloc: Global,
+    inventory: &str,
+    failing: Option<u64>,
+    exit: Exit,
+    text: &str,
+    fault: &str,
+) -> Result<bool, Fail> {
+    let start = moment(1000)?;
     let mut out = MemorySink::new(alloc, failing);
     let mut errors = MemorySink::new(alloc, None);
-    let start = moment(1000)?;
-    let exit = run_plan_dates(alloc, inventory.as_bytes(), start, &mut out, &mut errors);
-    Ok(Outcome { exit, out, errors })
+    let ends = run_plan_dates(alloc, inventory.as_bytes(), start, &mut out, &mut errors);
+    let outcome = Outcome {
+        exit: ends,
+        out,
+        errors,
+    };
+    Ok(outcome.is(exit, text, fault))
+}
+
+fn is_planned_in_dates(
+    alloc: Global,
+    inventory: &str,
+    exit: Exit,
+    lines: &str,
+) -> Result<bool, Fail> {
+    let text = format!(in alloc; "start 1970-01-01T00:16:40Z\n{lines}")?;
+    is_plan_in_dates(alloc, inventory, None, exit, text.as_str(), "")
 }
 
 #[test]
 fn plans_in_dates_are_written(rt: HostRuntime) -> Result<(), Fail> {
-    let alloc = rt.alloc();
     for (inventory, exit, lines) in &IN_DATES {
-        let text = format!(in alloc; "start 1970-01-01T00:16:40Z\n{lines}")?;
-        let outcome = plans_in_dates(alloc, inventory, None)?;
-        assert!(rt; outcome.is(*exit, text.as_str(), ""), "{lines}");
+        assert!(rt;
+            is_planned_in_dates(rt.alloc(), inventory, *exit, lines)?,
+            "{lines}"
+        );
     }
     Ok(())
 }
 
+fn stops_in_dates(alloc: Global, web: Web, exit: Exit, fault: &str) -> Result<bool, Fail> {
+    let inventory = inventory_of(alloc, web)?;
+    is_plan_in_dates(alloc, inventory.as_str(), None, exit, "", fault)
+}
+
 #[test]
 fn plans_in_dates_stop_as_plans_do(rt: HostRuntime) -> Result<(), Fail> {
-    let alloc = rt.alloc();
     for (web, exit, fault) in &STOPPED {
-        let inventory = inventory_of(alloc, *web)?;
-        let outcome = plans_in_dates(alloc, inventory.as_str(), None)?;
-        assert!(rt; outcome.is(*exit, "", fault), "{fault}");
+        assert!(rt; stops_in_dates(rt.alloc(), *web, *exit, fault)?, "{fault}");
     }
-    let cut = plans_in_dates(alloc, WEB, Some(0))?;
-    assert!(rt; cut.is(Exit::Device, "", "leasekeep: write\n"));
+    let line = "leasekeep: write\n";
+    assert!(rt; is_plan_in_dates(rt.alloc(), WEB, Some(0), Exit::Device, "", line)?);
     Ok(())
 }

@@ -49,20 +49,20 @@ const REACHES: [(&str, bool, &str); 12] = [
     (FAR, true, "far 253402309000 far 0\nkeeps yes\n"),
 ];
 
-// `reach` from 1000 on.
-fn reaches(alloc: Global, inventory: &str, dates: bool) -> Result<Outcome, Fail> {
+// Whether `reach` from 1000 on writes this.
+fn is_reach(alloc: Global, inventory: &str, dates: bool, text: &str) -> Result<bool, Fail> {
+    let start = moment(1000)?;
     let mut out = MemorySink::new(alloc, None);
     let mut errors = MemorySink::new(alloc, None);
     let bytes = inventory.as_bytes();
-    let exit = run_reach(alloc, bytes, moment(1000)?, dates, &mut out, &mut errors);
-    Ok(Outcome { exit, out, errors })
+    let exit = run_reach(alloc, bytes, start, dates, &mut out, &mut errors);
+    Ok(Outcome { exit, out, errors }.is(Exit::Done, text, ""))
 }
 
 #[test]
 fn reaches_are_written(rt: HostRuntime) -> Result<(), Fail> {
     for (inventory, dates, text) in &REACHES {
-        let outcome = reaches(rt.alloc(), inventory, *dates)?;
-        assert!(rt; outcome.is(Exit::Done, text, ""), "{text}");
+        assert!(rt; is_reach(rt.alloc(), inventory, *dates, text)?, "{text}");
     }
     Ok(())
 }

@@ -1,6 +1,8 @@
 use super::{TOKEN_AND_LEASE, WEB};
+use crate::requests::moment;
 use keep_inventory::{Inventory, LookupFault, read};
 use keep_moment::{Moment, Text};
+use std::alloc::Global;
 use std::process::Abort;
 use std::test::Fail;
 use vault_json::Lookup;
@@ -35,8 +37,10 @@ fn lease_lookup(id: Text, issued: Moment) -> Lookup {
     }
 }
 
-// End, step, ceiling and issue of an entry.
-fn shape(inventory: &Inventory, index: u32) -> (u64, u32, Option<u64>, u64) {
+// The end, step, ceiling and issue of an entry.
+type Shape = (u64, u32, Option<u64>, u64);
+
+fn shape(inventory: &Inventory, index: u32) -> Shape {
     if index < inventory.forest().len() {
         let entry = inventory.forest().get(index);
         let terms = inventory.terms(index);
@@ -46,18 +50,15 @@ fn shape(inventory: &Inventory, index: u32) -> (u64, u32, Option<u64>, u64) {
     }
 }
 
-// What is answered where the lookup is applied to an entry.
-fn apply(
+// Whether that is answered where the lookup is applied to an entry.
+fn is_answered(
     inventory: &mut Inventory,
     index: u32,
     lookup: &Lookup,
     now: u64,
-) -> Result<Result<(), LookupFault>, Fail> {
-    let now = Moment::new(now).ok_or("a moment")?;
-    if index >= inventory.forest().len() {
-        return Err(Fail::from("an entry"));
-    }
-    Ok(inventory.apply_lookup(index, lookup, now))
+    answer: Result<(), LookupFault>,
+) -> bool {
+    index < inventory.forest().len() && inventory.apply_lookup(index, lookup, moment(now)) == answer
 }
 
 // The lookup applied to an entry, after which it has this shape, and the first entry that one.
@@ -67,47 +68,46 @@ fn is_told<R: AllocGlobal + Abort>(
     index: u32,
     lookup: &Lookup,
     now: u64,
-    shapes: [(u64, u32, Option<u64>, u64); 2],
+    own: Shape,
+    first: Shape,
 ) -> Result<(), Fail> {
     let mut inventory = read(rt.alloc(), text.as_bytes())?;
-    assert!(rt; apply(&mut inventory, index, lookup, now)? == Ok(()));
-    assert!(rt; shape(&inventory, index) == shapes[0]);
-    assert!(rt; shape(&inventory, 0) == shapes[1]);
+    assert!(rt; is_answered(&mut inventory, index, lookup, now, Ok(())));
+    assert!(rt; shape(&inventory, index) == own);
+    assert!(rt; shape(&inventory, 0) == first);
     Ok(())
+}
+
+fn a_token_is_told<R: AllocGlobal + Abort>(rt: &R) -> Result<(), Fail> {
+    let lookup = token_lookup(moment(900), true, 60);
+    let web = (1060, 60, Some(1100), 900);
+    is_told(rt, WEB, 0, &lookup, 1000, web, web)
+}
+
+fn a_lease_is_told<R: AllocGlobal + Abort>(rt: &R) -> Result<(), Fail> {
+    let id = Text::of(rt.alloc(), b"db/creds/app/1")?;
+    let lookup = lease_lookup(id, moment(1100));
+    let lease = (1130, 60, Some(10100), 1100);
+    let token = (1100, 100, Some(1150), 1000);
+    is_told(rt, TOKEN_AND_LEASE, 1, &lookup, 1100, lease, token)
+}
+
+fn a_child_is_told<R: AllocGlobal + Abort>(rt: &R) -> Result<(), Fail> {
+    let lookup = token_lookup(moment(900), false, 0);
+    let child = (1060, 100, Some(1100), 900);
+    let base = (1100, 100, Some(2765800), 1000);
+    is_told(rt, CHILD, 1, &lookup, 1000, child, base)
 }
 
 #[test]
 fn a_lookup_applied(rt: HostRuntime) -> Result<(), Fail> {
-    let created = Moment::new(900).ok_or("a moment")?;
-    let web = (1060, 60, Some(1100), 900);
-    is_told(
-        &rt,
-        WEB,
-        0,
-        &token_lookup(created, true, 60),
-        1000,
-        [web, web],
-    )?;
-    let issued = Moment::new(1100).ok_or("a moment")?;
-    let lease = lease_lookup(Text::of(rt.alloc(), b"db/creds/app/1")?, issued);
-    let shapes = [(1130, 60, Some(10100), 1100), (1100, 100, Some(1150), 1000)];
-    is_told(&rt, TOKEN_AND_LEASE, 1, &lease, 1100, shapes)?;
-    let shapes = [
-        (1060, 100, Some(1100), 900),
-        (1100, 100, Some(2765800), 1000),
-    ];
-    is_told(
-        &rt,
-        CHILD,
-        1,
-        &token_lookup(created, false, 0),
-        1000,
-        shapes,
-    )
+    a_token_is_told(&rt)?;
+    a_lease_is_told(&rt)?;
+    a_child_is_told(&rt)
 }
 
 // An inventory, the index of the entry, why the lookup is refused, and what the entry stays.
-type Refused = (&'static str, u32, LookupFault, (u64, u32, Option<u64>, u64));
+type Refused = (&'static str, u32, LookupFault, Shape);
 
 const BY_A_MINUTE: [Refused; 1] = [(
     CHILD,
@@ -149,39 +149,51 @@ const BY_A_LEASE: [Refused; 2] = [
     ),
 ];
 
-// The lookup is refused, and the entry stays as it is.
-fn leaves<R: AllocGlobal + Abort>(
-    rt: &R,
+// Whether the lookup is refused, and the entry stays as it is.
+fn is_left(
+    alloc: Global,
     text: &str,
     index: u32,
     lookup: &Lookup,
     fault: LookupFault,
-    same: (u64, u32, Option<u64>, u64),
-) -> Result<(), Fail> {
-    let mut inventory = read(rt.alloc(), text.as_bytes())?;
-    assert!(rt; apply(&mut inventory, index, lookup, 2000)? == Err(fault));
-    assert!(rt; shape(&inventory, index) == same);
-    Ok(())
+    same: Shape,
+) -> Result<bool, Fail> {
+    let mut inventory = read(alloc, text.as_bytes())?;
+    Ok(
+        is_answered(&mut inventory, index, lookup, 2000, Err(fault))
+            && shape(&inventory, index) == same,
+    )
 }
 
-fn leave<R: AllocGlobal + Abort>(rt: &R, lookup: &Lookup, rows: &[Refused]) -> Result<(), Fail> {
+fn leaves<R: AllocGlobal + Abort>(rt: &R, lookup: &Lookup, rows: &[Refused]) -> Result<(), Fail> {
     for (text, index, fault, same) in rows {
-        leaves(rt, text, *index, lookup, *fault, *same)?;
+        assert!(rt;
+            is_left(rt.alloc(), text, *index, lookup, *fault, *same)?,
+            "{text}"
+        );
     }
     Ok(())
 }
 
+fn leaves_by_a_token<R: AllocGlobal + Abort>(
+    rt: &R,
+    period: u32,
+    rows: &[Refused],
+) -> Result<(), Fail> {
+    let lookup = token_lookup(moment(900), true, period);
+    leaves(rt, &lookup, rows)
+}
+
+fn leaves_by_a_lease<R: AllocGlobal + Abort>(rt: &R) -> Result<(), Fail> {
+    let id = Text::of(rt.alloc(), b"db/creds/app/2")?;
+    let lookup = lease_lookup(id, moment(1100));
+    leaves(rt, &lookup, &BY_A_LEASE)
+}
+
 #[test]
 fn a_lookup_refused(rt: HostRuntime) -> Result<(), Fail> {
-    let token = token_lookup(Moment::new(900).ok_or("a moment")?, true, 60);
-    let short = token_lookup(Moment::new(900).ok_or("a moment")?, true, 1);
-    let aperiodic = token_lookup(Moment::new(900).ok_or("a moment")?, true, 0);
-    let lease = lease_lookup(
-        Text::of(rt.alloc(), b"db/creds/app/2")?,
-        Moment::new(1100).ok_or("a moment")?,
-    );
-    leave(&rt, &token, &BY_A_MINUTE)?;
-    leave(&rt, &short, &BY_A_SECOND)?;
-    leave(&rt, &aperiodic, &WITHOUT_A_PERIOD)?;
-    leave(&rt, &lease, &BY_A_LEASE)
+    leaves_by_a_token(&rt, 60, &BY_A_MINUTE)?;
+    leaves_by_a_token(&rt, 1, &BY_A_SECOND)?;
+    leaves_by_a_token(&rt, 0, &WITHOUT_A_PERIOD)?;
+    leaves_by_a_lease(&rt)
 }

@@ -1,5 +1,5 @@
 //! What the full language may leave open, and durations with units.
-use keep_inventory::{Served, read_served};
+use keep_inventory::{Inventory, Served, read_served};
 use std::alloc::Global;
 use std::process::Abort;
 use std::test::Fail;
@@ -32,17 +32,27 @@ fn served(alloc: Global, text: &str) -> Result<Served, Fail> {
     Ok(read_served(alloc, text.as_bytes())?)
 }
 
+fn text_of(alloc: Global, duration: &str) -> Result<String, Fail> {
+    Ok(format!(in alloc;
+        "[[token]]\nname = \"web\"\nissued = 1000\nend = 1060\nincrement = 60\nexplicit_max_ttl = \"{duration}\"\n"
+    )?)
+}
+
+// Whether the one entry of this text has that explicit max.
+fn has_explicit_max(alloc: Global, text: &str, seconds: u32) -> Result<bool, Fail> {
+    let served = served(alloc, text)?;
+    Ok(
+        served.inventory().forest().len() == 1
+            && served.inventory().terms(0).explicit_max == seconds,
+    )
+}
+
 #[test]
 fn durations_have_units(rt: HostRuntime) -> Result<(), Fail> {
-    let alloc = rt.alloc();
     for (duration, seconds) in &DURATIONS {
-        let text = format!(in alloc;
-            "[[token]]\nname = \"web\"\nissued = 1000\nend = 1060\nincrement = 60\nexplicit_max_ttl = \"{duration}\"\n"
-        )?;
-        let served = served(alloc, text.as_str())?;
-        assert!(rt; served.inventory().forest().len() == 1);
+        let text = text_of(rt.alloc(), duration)?;
         assert!(rt;
-            served.inventory().terms(0).explicit_max == *seconds,
+            has_explicit_max(rt.alloc(), text.as_str(), *seconds)?,
             "{duration}"
         );
     }
@@ -68,25 +78,40 @@ fn is_note(
     note.is_told == is_told && note.is_always == is_always && is_file
 }
 
-#[test]
-fn what_is_left_open_is_noted(rt: HostRuntime) -> Result<(), Fail> {
-    let served = served(rt.alloc(), OPEN)?;
-    let inventory = served.inventory();
-    assert!(rt; inventory.forest().len() == 3 && inventory.forest().margin() == 60);
+// The notes on the entries of `OPEN`.
+fn are_noted<R: Abort>(rt: &R, served: &Served) {
     assert!(rt; served.has_margin());
-    assert!(rt; is_note(&served, 0, false, true, Some("/run/app")), "app");
-    assert!(rt; is_note(&served, 1, false, false, None), "pay");
-    assert!(rt; is_note(&served, 2, true, false, Some("db")), "db");
+    assert!(rt; is_note(served, 0, false, true, Some("/run/app")), "app");
+    assert!(rt; is_note(served, 1, false, false, None), "pay");
+    assert!(rt; is_note(served, 2, true, false, Some("db")), "db");
+}
+
+// The terms of the entries of `OPEN`.
+fn are_told<R: Abort>(rt: &R, inventory: &Inventory) {
+    assert!(rt; inventory.forest().len() == 3 && inventory.forest().margin() == 60);
     assert!(rt;
         inventory.terms(0).increment == Some(3600) && inventory.terms(0).max_ttl == 2592000
     );
     assert!(rt; inventory.terms(1).increment == None && inventory.terms(1).period == 120);
     assert!(rt; inventory.terms(2).increment == Some(3600) && inventory.terms(2).max_ttl == 86400);
+}
+
+// Their credentials, and what else they have.
+fn are_read<R: Abort>(rt: &R, inventory: &Inventory) {
+    assert!(rt; inventory.forest().len() == 3);
     assert!(rt;
         inventory.credential(0) == b"app".as_slice() && inventory.credential(2) == b"db".as_slice()
     );
     assert!(rt; inventory.forest().get(1).need == 1200);
     assert!(rt; inventory.forest().get(2).end == 1060);
+}
+
+#[test]
+fn what_is_left_open_is_noted(rt: HostRuntime) -> Result<(), Fail> {
+    let served = served(rt.alloc(), OPEN)?;
+    are_told(&rt, served.inventory());
+    are_noted(&rt, &served);
+    are_read(&rt, served.inventory());
     Ok(())
 }
 
@@ -98,22 +123,39 @@ fn a_margin_that_is_absent_is_told(rt: HostRuntime) -> Result<(), Fail> {
     Ok(())
 }
 
+fn name_table(alloc: Global, index: u32) -> Result<String, Fail> {
+    Ok(format!(in alloc;
+        "[[token]]\nname = \"t{index}\"\nneed = \"always\"\nsecret_file = \"f{index}\"\n"
+    )?)
+}
+
+fn push_table(alloc: Global, text: &mut Vec<u8>, index: u32) -> Result<(), Fail> {
+    let table = name_table(alloc, index)?;
+    text.extend_from_slice(table.as_bytes())?;
+    Ok(())
+}
+
 // As many entries as there may be, each with nothing but its name.
-#[test]
-fn as_many_entries_as_there_may_be(rt: HostRuntime) -> Result<(), Fail> {
-    let alloc = rt.alloc();
+fn longest(alloc: Global) -> Result<Vec<u8>, Fail> {
     let mut text = Vec::new(alloc);
     for index in 0..4096u32 {
-        let table = format!(in alloc;
-            "[[token]]\nname = \"t{index}\"\nneed = \"always\"\nsecret_file = \"f{index}\"\n"
-        )?;
-        text.extend_from_slice(table.as_bytes())?;
+        push_table(alloc, &mut text, index)?;
     }
-    let served = read_served(alloc, &text)?;
+    Ok(text)
+}
+
+fn are_all_noted<R: AllocGlobal + Abort>(rt: &R, text: &[u8]) -> Result<(), Fail> {
+    let served = read_served(rt.alloc(), text)?;
     assert!(rt; served.notes().len() == 4096);
     assert!(rt;
         is_note(&served, 4095, false, true, Some("f4095")),
         "the last"
     );
     Ok(())
+}
+
+#[test]
+fn as_many_entries_as_there_may_be(rt: HostRuntime) -> Result<(), Fail> {
+    let text = longest(rt.alloc())?;
+    are_all_noted(&rt, &text)
 }

@@ -45,7 +45,25 @@ fn whole(alloc: Global, status: &str, fields: &str) -> Result<String, Fail> {
     Ok(format!(in alloc; "HTTP/1.1 {status}\r\n{fields}Content-Length: 2\r\n\r\n{{}}")?)
 }
 
-// A reply with these fields, which comes byte by byte or at once, tells the moment, and all else of the reply is there.
+// Whether a reply, which comes byte by byte or at once, tells the moment, and all else of the reply is there.
+fn is_dated(
+    alloc: Global,
+    text: &[u8],
+    pieces: &[usize],
+    code: u16,
+    moment: Option<u64>,
+) -> Result<bool, Fail> {
+    let mut source = source(alloc, text, pieces, None)?;
+    match read_dated_reply(alloc, &mut source, 1000) {
+        Ok(dated) => Ok(
+            dated.date == moment.and_then(Moment::new)
+                && dated.reply.body.list() == b"{}".as_slice()
+                && dated.reply.status == code,
+        ),
+        Err(_) => Ok(false),
+    }
+}
+
 fn tells<R: AllocGlobal + Abort>(
     rt: &R,
     status: &str,
@@ -55,11 +73,10 @@ fn tells<R: AllocGlobal + Abort>(
     moment: Option<u64>,
 ) -> Result<(), Fail> {
     let text = whole(rt.alloc(), status, fields)?;
-    let mut source = source(rt.alloc(), text.as_bytes(), pieces, None)?;
-    let dated = read_dated_reply(rt.alloc(), &mut source, 1000)?;
-    assert!(rt; dated.date == moment.and_then(Moment::new), "of {fields}");
-    assert!(rt; dated.reply.body.list() == b"{}".as_slice());
-    assert!(rt; dated.reply.status == code);
+    assert!(rt;
+        is_dated(rt.alloc(), text.as_bytes(), pieces, code, moment)?,
+        "of {fields}"
+    );
     Ok(())
 }
 

@@ -1,51 +1,58 @@
 use crate::devices::source;
-use keep_moment::Text;
 use std::alloc::Global;
 use std::process::Abort;
 use std::test::Fail;
 use vault_http::{HttpFault, MemorySource, Room, read_reply, read_request};
 
-/// A message of `n` bytes with this first line of 15, one byte a piece.
-fn one_by_one(alloc: Global, line: &str, n: usize) -> Result<MemorySource, Fail> {
+/// A message of `n` bytes with this first line of 15.
+fn message(alloc: Global, line: &str, n: usize) -> Result<Vec<u8>, Fail> {
     let rest = n.saturating_sub(41);
     let head = format!(in alloc; "{line}\r\nContent-Length: {rest}\r\n\r\n")?;
     let mut bytes = Vec::from_slice(alloc, head.as_bytes())?;
-    let body = vec![in alloc; b'x'; rest]?;
-    bytes.extend_from_slice(&body)?;
+    for _ in 0..rest {
+        bytes.push(b'x')?;
+    }
+    Ok(bytes)
+}
+
+/// The same, one byte a piece.
+fn one_by_one(alloc: Global, line: &str, n: usize) -> Result<MemorySource, Fail> {
+    let bytes = message(alloc, line, n)?;
     let pieces = vec![in alloc; 1usize; n]?;
     Ok(MemorySource::new(bytes, pieces, None))
 }
 
-// The status of a reply of so many bytes; what 4,096 reads hand out is judged, and no read more is made.
-fn status_of<R: AllocGlobal + Abort>(rt: &R, n: usize) -> Result<Result<u16, HttpFault>, Fail> {
-    let mut source = one_by_one(rt.alloc(), "HTTP/1.1 200 OK", n)?;
-    let got = read_reply(rt.alloc(), &mut source, 1048576).map(|reply| reply.status);
-    assert!(rt; source.reads() == 4096);
-    Ok(got)
+// Whether a reply of so many bytes has that status; what 4,096 reads hand out is judged, and no read more is made.
+fn is_reply(alloc: Global, n: usize, status: Result<u16, HttpFault>) -> Result<bool, Fail> {
+    let mut source = one_by_one(alloc, "HTTP/1.1 200 OK", n)?;
+    let got = match read_reply(alloc, &mut source, 1048576) {
+        Ok(reply) => Ok(reply.status),
+        Err(fault) => Err(fault),
+    };
+    Ok(got == status && source.reads() == 4096)
 }
 
 #[test]
 fn makes_4096_reads_for_a_reply(rt: HostRuntime) -> Result<(), Fail> {
-    assert!(rt; status_of(&rt, 4096)? == Ok(200));
-    assert!(rt; status_of(&rt, 4097)? == Err(HttpFault::TooLong));
+    assert!(rt; is_reply(rt.alloc(), 4096, Ok(200))?);
+    assert!(rt; is_reply(rt.alloc(), 4097, Err(HttpFault::TooLong))?);
     Ok(())
 }
 
-// The length of a request's body, where so many bytes come.
-fn body_of<R: AllocGlobal + Abort>(rt: &R, n: usize) -> Result<Result<usize, HttpFault>, Fail> {
-    let mut source = one_by_one(rt.alloc(), "POST / HTTP/1.1", n)?;
-    let got = read_request(rt.alloc(), &mut source, 1048576).map(|request| request
-        .body
-        .list()
-        .len());
-    assert!(rt; source.reads() == 4096);
-    Ok(got)
+// Whether a request's body has that length, where so many bytes come.
+fn is_request(alloc: Global, n: usize, length: Result<usize, HttpFault>) -> Result<bool, Fail> {
+    let mut source = one_by_one(alloc, "POST / HTTP/1.1", n)?;
+    let got = match read_request(alloc, &mut source, 1048576) {
+        Ok(request) => Ok(request.body.list().len()),
+        Err(fault) => Err(fault),
+    };
+    Ok(got == length && source.reads() == 4096)
 }
 
 #[test]
 fn makes_4096_reads_for_a_request(rt: HostRuntime) -> Result<(), Fail> {
-    assert!(rt; body_of(&rt, 4096)? == Ok(4055));
-    assert!(rt; body_of(&rt, 4097)? == Err(HttpFault::TooLong));
+    assert!(rt; is_request(rt.alloc(), 4096, Ok(4055))?);
+    assert!(rt; is_request(rt.alloc(), 4097, Err(HttpFault::TooLong))?);
     Ok(())
 }
 
@@ -105,25 +112,43 @@ fn reads_nothing_where_nothing_fits(rt: HostRuntime) -> Result<(), Fail> {
     Ok(())
 }
 
-// The body of the reply that these bytes are, read into this room.
-fn body_in(alloc: Global, room: &mut Room, bytes: &[u8]) -> Result<Result<Text, HttpFault>, Fail> {
+// A short reply, and one that is cut off, after a longer one; and the body of each.
+const IN_TURN: [(&[u8], Result<&[u8], HttpFault>); 3] = [
+    (
+        b"HTTP/1.1 200 OK\r\nContent-Length: 10\r\n\r\n0123456789",
+        Ok(b"0123456789"),
+    ),
+    (b"HTTP/1.1 200 OK\r\nContent-Length: 2\r\n\r\nab", Ok(b"ab")),
+    (
+        b"HTTP/1.1 200 OK\r\nContent-Length: 10\r\n\r\n012",
+        Err(HttpFault::Truncated),
+    ),
+];
+
+// Whether that is the body of the reply that these bytes are, read into this room.
+fn is_body(
+    alloc: Global,
+    room: &mut Room,
+    bytes: &[u8],
+    body: Result<&[u8], HttpFault>,
+) -> Result<bool, Fail> {
     let mut source = source(alloc, bytes, &[], None)?;
-    Ok(
-        room.read_reply(alloc, &mut source, 1048576)
-            .map(|reply| reply.body),
-    )
+    match room.read_reply(alloc, &mut source, 1048576) {
+        Ok(reply) => Ok(Ok(reply.body.list()) == body),
+        Err(fault) => Ok(Err(fault) == body),
+    }
 }
 
-// A short reply, and one that is cut off, after a longer one: nothing of the longer one is read again.
+fn serves_all<R: AllocGlobal + Abort>(rt: &R, room: &mut Room) -> Result<(), Fail> {
+    for (bytes, body) in &IN_TURN {
+        assert!(rt; is_body(rt.alloc(), room, bytes, *body)?, "{body:?}");
+    }
+    Ok(())
+}
+
+// Nothing of the longer one is read again.
 #[test]
 fn one_room_serves_one_message_after_another(rt: HostRuntime) -> Result<(), Fail> {
-    let alloc = rt.alloc();
     let mut room = Room::new();
-    let long = b"HTTP/1.1 200 OK\r\nContent-Length: 10\r\n\r\n0123456789";
-    assert!(rt; body_in(alloc, &mut room, long)??.list() == b"0123456789".as_slice());
-    let short = b"HTTP/1.1 200 OK\r\nContent-Length: 2\r\n\r\nab";
-    assert!(rt; body_in(alloc, &mut room, short)??.list() == b"ab".as_slice());
-    let cut = b"HTTP/1.1 200 OK\r\nContent-Length: 10\r\n\r\n012";
-    assert!(rt; body_in(alloc, &mut room, cut)?.err() == Some(HttpFault::Truncated));
-    Ok(())
+    serves_all(&rt, &mut room)
 }

@@ -1,7 +1,7 @@
 use super::refusals::{Kind, refuses, refuses_fronts};
 use super::{LOOKUP, RENEWAL, is_request, request_of};
 use crate::devices::source;
-use std::process::Abort;
+use std::alloc::Global;
 use std::test::Fail;
 use vault_http::{Device, HttpFault, read_request};
 
@@ -48,24 +48,28 @@ x-vault-token: s.app\r\n\r\n{}",
     ),
 ];
 
-// A request in these pieces, with its method, path, token and body.
-fn reads<R: AllocGlobal + Abort>(
-    rt: &R,
+// Whether a request in these pieces has this method, path, token and body.
+fn is_read(
+    alloc: Global,
     text: &[u8],
     pieces: &[usize],
-    parts: (&str, &[u8], &[u8], &[u8]),
-) -> Result<(), Fail> {
-    let (method, path, token, body) = parts;
-    let request = request_of(rt.alloc(), text, pieces, 1048576)??;
-    assert!(rt; is_request(&request, method, path, token, body), "{method}");
-    Ok(())
+    method: &str,
+    path: &[u8],
+    token: &[u8],
+    body: &[u8],
+) -> Result<bool, Fail> {
+    match request_of(alloc, text, pieces, 1048576)? {
+        Ok(request) => Ok(is_request(&request, method, path, token, body)),
+        Err(_) => Ok(false),
+    }
 }
 
 #[test]
 fn reads_requests_of_others(rt: HostRuntime) -> Result<(), Fail> {
     for (text, method, path, token, body) in OF_OTHERS {
-        reads(&rt, text, &[], (method, path, token, body))?;
-        reads(&rt, text, &[1, 1, 40, 3], (method, path, token, body))?;
+        let alloc = rt.alloc();
+        assert!(rt; is_read(alloc, text, &[], method, path, token, body)?);
+        assert!(rt; is_read(alloc, text, &[1, 1, 40, 3], method, path, token, body)?);
     }
     Ok(())
 }
@@ -113,25 +117,23 @@ fn reads_every_front_of_a_request(rt: HostRuntime) -> Result<(), Fail> {
     refuses_fronts(&rt, Kind::Request, LOOKUP)
 }
 
-// The read after so many fails: it is told and counted, and from the fifth on it is not made.
-fn fails_at<R: AllocGlobal + Abort>(rt: &R, call: u64) -> Result<(), Fail> {
-    let mut source = source(rt.alloc(), RENEWAL, &[1, 20, 3, 30], Some(call))?;
-    let got = read_request(rt.alloc(), &mut source, 1048576);
-    if call < 5 {
-        assert!(rt; got.err() == Some(HttpFault::ReadFailed));
-        assert!(rt; source.failures() == 1);
-    } else {
-        let request = got?;
-        assert!(rt; request.body.list() == b"{\"increment\":60}".as_slice());
-        assert!(rt; source.failures() == 0);
+// Where the read after so many fails: it is told and counted, and from the fifth on it is not made.
+fn is_so(alloc: Global, call: u64) -> Result<bool, Fail> {
+    let mut source = source(alloc, RENEWAL, &[1, 20, 3, 30], Some(call))?;
+    match read_request(alloc, &mut source, 1048576) {
+        Ok(request) => Ok(
+            call >= 5
+                && request.body.list() == b"{\"increment\":60}".as_slice()
+                && source.failures() == 0,
+        ),
+        Err(fault) => Ok(call < 5 && fault == HttpFault::ReadFailed && source.failures() == 1),
     }
-    Ok(())
 }
 
 #[test]
 fn fails_where_a_read_of_a_request_fails(rt: HostRuntime) -> Result<(), Fail> {
     for call in 0..7 {
-        fails_at(&rt, call)?;
+        assert!(rt; is_so(rt.alloc(), call)?, "{call}");
     }
     Ok(())
 }

@@ -1,6 +1,7 @@
 //! Replies over a real socket, whose peer says this much and then no more.
 
 use keep_device::Counted;
+use std::alloc::Global;
 use std::io::Write;
 use std::net::Shutdown;
 use std::os::unix::net::UnixStream;
@@ -34,17 +35,27 @@ const SAID: [(&[u8], bool, Option<HttpFault>); 6] = [
     ),
 ];
 
-/// The fault of a reply whose peer has said this, where a read waits 50 milliseconds at most.
-fn said(rt: &HostRuntime, text: &[u8], closes: bool) -> Result<Option<HttpFault>, Fail> {
-    let (client, mut server) = UnixStream::pair(rt)?;
-    client.set_read_timeout(Some(Duration::from_millis(50)))?;
+/// Says this, and closes this side then, if it is to be; what was written stays to be read.
+fn say(server: &mut UnixStream, text: &[u8], closes: bool) -> Result<(), Fail> {
     server.write_all(text)?;
     if closes {
-        // What was written stays to be read.
         server.shutdown(Shutdown::Write)?;
     }
+    Ok(())
+}
+
+/// The fault of a reply over this connection, where a read waits 50 milliseconds at most.
+fn heard(alloc: Global, client: UnixStream) -> Result<Option<HttpFault>, Fail> {
+    client.set_read_timeout(Some(Duration::from_millis(50)))?;
     let mut line = Counted::new(client);
-    Ok(read_reply(rt.alloc(), &mut line, 1048576).err())
+    Ok(read_reply(alloc, &mut line, 1048576).err())
+}
+
+/// The same where the peer has said this.
+fn said(rt: &HostRuntime, text: &[u8], closes: bool) -> Result<Option<HttpFault>, Fail> {
+    let (client, mut server) = UnixStream::pair(rt)?;
+    say(&mut server, text, closes)?;
+    heard(rt.alloc(), client)
 }
 
 #[test]

@@ -41,25 +41,29 @@ fn fails<R: AllocGlobal + Abort>(rt: &R, request: &Request, call: u64)
     assert!(rt; sink.failures() == 1);
 }
 
+// A request with the token `s.web1` is written as this text.
+fn writes<R: AllocGlobal + Abort>(
+    rt: &R,
+    method: Method,
+    path: &[u8],
+    body: &[u8],
+    text: &[u8],
+) -> Result<(), Fail> {
+    let request = request(rt.alloc(), method, path, b"s.web1", body)?;
+    is_written(rt, &request, text)
+}
+
 #[test]
 fn writes_requests(rt: HostRuntime) -> Result<(), Fail> {
-    let alloc = rt.alloc();
-    let renewal = request(
-        alloc,
+    let body = b"{\"increment\":60}";
+    writes(
+        &rt,
         Method::POST,
         b"/v1/auth/token/renew-self",
-        b"s.web1",
-        b"{\"increment\":60}",
+        body,
+        RENEWAL,
     )?;
-    is_written(&rt, &renewal, RENEWAL)?;
-    let lookup = request(
-        alloc,
-        Method::GET,
-        b"/v1/auth/token/lookup-self",
-        b"s.web1",
-        b"",
-    )?;
-    is_written(&rt, &lookup, LOOKUP)
+    writes(&rt, Method::GET, b"/v1/auth/token/lookup-self", b"", LOOKUP)
 }
 
 fn denial(alloc: Global) -> Result<Reply, Fail>
@@ -71,30 +75,52 @@ fn denial(alloc: Global) -> Result<Reply, Fail>
     })
 }
 
+// Whether a reply is answered so where this call of the sink fails, if one does, and this is written.
+fn is_answered(
+    alloc: Global,
+    reply: &Reply,
+    call: Option<u64>,
+    answer: Result<(), SendFault>,
+) -> bool
+    requires { reply.now.status ≡ 403 }
+{
+    let mut sink = MemorySink::new(alloc, call);
+    let is_so = write_reply(alloc, &mut sink, reply) == answer;
+    match call {
+        None => is_so && sink.bytes() == DENIAL,
+        Some(_) => is_so && sink.failures() == 1,
+    }
+}
+
 #[test]
 fn writes_replies(rt: HostRuntime) -> Result<(), Fail> {
-    let alloc = rt.alloc();
-    let reply = denial(alloc)?;
-    let mut sink = MemorySink::new(alloc, None);
-    assert!(rt; write_reply(alloc, &mut sink, &reply) == Ok(()));
-    assert!(rt; sink.bytes() == DENIAL);
+    let reply = denial(rt.alloc())?;
+    assert!(rt; is_answered(rt.alloc(), &reply, None, Ok(())));
     for call in 0..2 {
-        let mut sink = MemorySink::new(alloc, Some(call));
-        assert!(rt; write_reply(alloc, &mut sink, &reply) == Err(SendFault::WriteFailed));
-        assert!(rt; sink.failures() == 1);
+        let failed = Err(SendFault::WriteFailed);
+        assert!(rt;
+            is_answered(rt.alloc(), &reply, Some(call), failed),
+            "{call}"
+        );
     }
     Ok(())
+}
+
+// Whether a reply has left the buffer in which its writer keeps what is written.
+fn is_flushed(alloc: Global, reply: &Reply) -> Result<bool, Fail>
+    requires { reply.now.status ≡ 403 }
+{
+    let held = BufWriter::new(alloc, Vec::new(alloc))?;
+    let mut out = Counted::new(held);
+    let is_well = write_reply(alloc, &mut out, reply) == Ok(());
+    let held = out.into_inner();
+    Ok(is_well && held.get_ref().as_slice() == DENIAL)
 }
 
 // A message that was sent has left the buffer.
 #[test]
 fn flushes_what_is_kept_back(rt: HostRuntime) -> Result<(), Fail> {
-    let alloc = rt.alloc();
-    let reply = denial(alloc)?;
-    let held = BufWriter::new(alloc, Vec::new(alloc))?;
-    let mut out = Counted::new(held);
-    assert!(rt; write_reply(alloc, &mut out, &reply) == Ok(()));
-    let held = out.into_inner();
-    assert!(rt; held.get_ref().as_slice() == DENIAL);
+    let reply = denial(rt.alloc())?;
+    assert!(rt; is_flushed(rt.alloc(), &reply)?);
     Ok(())
 }

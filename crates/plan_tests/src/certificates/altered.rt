@@ -1,5 +1,6 @@
-use super::refuses;
+use super::is_refused;
 use keep_cert::CertFault;
+use std::alloc::Global;
 use std::process::Abort;
 use std::test::Fail;
 
@@ -75,21 +76,24 @@ const BAD_RUNS: [(&str, CertFault); 14] = [
     ("end 00\n", CertFault::BadNumber(3)),
 ];
 
-// A certificate of this version with these lines after the second is refused.
-fn refuses_lines<R: AllocGlobal + Abort>(
-    rt: &R,
-    version: u32,
+// Whether a certificate with this first line, and these after the second, is refused with this fault.
+fn is_refused_after(
+    alloc: Global,
+    header: &str,
     lines: &str,
     fault: CertFault,
-) -> Result<(), Fail> {
-    let text = format!(in rt.alloc(); "leasekeep-plan {version}\nstart 1000\n{lines}")?;
-    refuses(rt, text.as_bytes(), fault)
+) -> Result<bool, Fail> {
+    let text = format!(in alloc; "{header}start 1000\n{lines}")?;
+    is_refused(alloc, text.as_bytes(), fault)
 }
 
 #[test]
 fn altered_wake_ups_are_refused(rt: HostRuntime) -> Result<(), Fail> {
     for (lines, fault) in &BAD_WAKES {
-        refuses_lines(&rt, 1, lines, *fault)?;
+        assert!(rt;
+            is_refused_after(rt.alloc(), "leasekeep-plan 1\n", lines, *fault)?,
+            "{fault}"
+        );
     }
     Ok(())
 }
@@ -97,37 +101,37 @@ fn altered_wake_ups_are_refused(rt: HostRuntime) -> Result<(), Fail> {
 #[test]
 fn altered_runs_are_refused(rt: HostRuntime) -> Result<(), Fail> {
     for (lines, fault) in &BAD_RUNS {
-        refuses_lines(&rt, 2, lines, *fault)?;
+        assert!(rt;
+            is_refused_after(rt.alloc(), "leasekeep-plan 2\n", lines, *fault)?,
+            "{fault}"
+        );
     }
     Ok(())
 }
 
+// Certificates whose first or second line is altered.
+const BAD_HEADS: [(&str, CertFault); 6] = [
+    (
+        "leasekeep-plan 3\nstart 1000\nend 0\n",
+        CertFault::BadHeader,
+    ),
+    (
+        "leasekeep-plan 2 \nstart 1000\nend 0\n",
+        CertFault::BadHeader,
+    ),
+    ("leasekeep-plan 2\nstart \nend 0\n", CertFault::BadNumber(2)),
+    ("leasekeep-plan 2\nstart\nend 0\n", CertFault::BadLine(2)),
+    (
+        "leasekeep-plan 2\nbegin 1000\nend 0\n",
+        CertFault::BadLine(2),
+    ),
+    ("leasekeep-plan 2\n\nend 0\n", CertFault::BadLine(2)),
+];
+
 #[test]
 fn altered_heads_are_refused(rt: HostRuntime) -> Result<(), Fail> {
-    refuses(
-        &rt,
-        b"leasekeep-plan 3\nstart 1000\nend 0\n",
-        CertFault::BadHeader,
-    )?;
-    refuses(
-        &rt,
-        b"leasekeep-plan 2 \nstart 1000\nend 0\n",
-        CertFault::BadHeader,
-    )?;
-    refuses(
-        &rt,
-        b"leasekeep-plan 2\nstart \nend 0\n",
-        CertFault::BadNumber(2),
-    )?;
-    refuses(
-        &rt,
-        b"leasekeep-plan 2\nstart\nend 0\n",
-        CertFault::BadLine(2),
-    )?;
-    refuses(
-        &rt,
-        b"leasekeep-plan 2\nbegin 1000\nend 0\n",
-        CertFault::BadLine(2),
-    )?;
-    refuses(&rt, b"leasekeep-plan 2\n\nend 0\n", CertFault::BadLine(2))
+    for (text, fault) in &BAD_HEADS {
+        assert!(rt; is_refused(rt.alloc(), text.as_bytes(), *fault)?, "{fault}");
+    }
+    Ok(())
 }

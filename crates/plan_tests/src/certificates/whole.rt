@@ -1,189 +1,206 @@
-use super::{IN_WAKES, WEB, forest_of, run};
+use super::{IN_WAKES, WEB, forest_of};
+use crate::rows::{Grouped, are_runs};
 use keep_cert::{Body, CertFault, Version, read, text_of};
-use keep_rule::Run;
+use keep_tree::Forest;
+use std::alloc::{AllocError, Global};
 use std::process::Abort;
 use std::test::Fail;
 
-// What stands after the first two lines is read as these runs, and the certificate is written as it stood.
-fn reads_runs<R: AllocGlobal + Abort>(
-    rt: &R,
-    names: &[&str],
-    lines: &str,
-    runs: &[Run],
-) -> Result<(), Fail> {
-    let alloc = rt.alloc();
-    let forest = forest_of(alloc, names)?;
+fn has_runs(body: &Body, runs: &[Grouped]) -> bool {
+    match body {
+        Body::Runs(found) => are_runs(found.list(), runs),
+        Body::Unkeepable { .. } => false,
+    }
+}
+
+// Whether the text is read as these runs from 1000 on, and the certificate is written as it stood.
+fn has_them(
+    alloc: Global,
+    forest: &Forest,
+    text: &[u8],
+    runs: &[Grouped],
+) -> Result<bool, CertFault> {
+    let cert = read(alloc, forest, text)?;
+    let written = text_of(alloc, forest, cert.start, &cert.body)?;
+    Ok(
+        cert.version == Version::Two
+            && cert.start.get() == 1000
+            && written.list() == text
+            && has_runs(&cert.body, runs),
+    )
+}
+
+// Names of entries, what stands after the first two lines, and the runs that it is read as.
+type Whole = (&'static [&'static str], &'static str, &'static [Grouped]);
+
+fn reads_runs(alloc: Global, names: &[&str], lines: &str, runs: &[Grouped]) -> Result<bool, Fail> {
     let text = format!(in alloc; "leasekeep-plan 2\nstart 1000\n{lines}")?;
-    let cert = read(alloc, &forest, text.as_bytes())?;
-    assert!(rt; cert.version == Version::Two, "{lines}");
-    assert_eq!(rt; cert.start.get(), 1000, "{lines}");
-    let written = text_of(alloc, &forest, cert.start, &cert.body)?;
-    assert!(rt; written.list() == text.as_bytes(), "{lines}");
-    match &cert.body {
-        Body::Runs(found) => assert!(rt; found.list() == runs, "{lines}"),
-        Body::Unkeepable { .. } => assert!(rt; false, "{lines}"),
+    let forest = forest_of(alloc, names)?;
+    Ok(has_them(alloc, &forest, text.as_bytes(), runs)?)
+}
+
+fn are_read<R: AllocGlobal + Abort>(rt: &R, table: &[Whole]) -> Result<(), Fail> {
+    for (names, lines, runs) in table {
+        assert!(rt; reads_runs(rt.alloc(), names, lines, runs)?, "{lines}");
     }
     Ok(())
 }
 
 // The texts of plans that keep. The entries have the names of each row, in order.
+const PLANS: [Whole; 7] = [
+    (&[], "end 0\n", &[]),
+    (&WEB, "end 0\n", &[]),
+    (
+        &WEB,
+        "run 1059 59 3 web web\nend 3\n",
+        &[(1059, 59, 3, 0, 0)],
+    ),
+    (&WEB, "run 1059 0 1 web web\nend 1\n", &[(1059, 0, 1, 0, 0)]),
+    (
+        &["a", "b"],
+        "run 1059 59 3 b b\nend 3\n",
+        &[(1059, 59, 3, 1, 1)],
+    ),
+    (
+        &["web", "base", "big"],
+        "run 1059 59 3 web web\nend 3\n",
+        &[(1059, 59, 3, 0, 0)],
+    ),
+    (
+        &["a", "b"],
+        "run 1059 0 1 a a\nrun 1158 99 3 b b\nend 4\n",
+        &[(1059, 0, 1, 0, 0), (1158, 99, 3, 1, 1)],
+    ),
+];
+
 #[test]
 fn plans_are_read_and_written(rt: HostRuntime) -> Result<(), Fail> {
-    let two = ["a", "b"];
-    let many = ["web", "base", "big"];
-    reads_runs(&rt, &[], "end 0\n", &[])?;
-    reads_runs(&rt, &WEB, "end 0\n", &[])?;
-    reads_runs(
-        &rt,
-        &WEB,
-        "run 1059 59 3 web web\nend 3\n",
-        &[run(1059, 59, 3, 0, 0)],
-    )?;
-    reads_runs(
-        &rt,
-        &WEB,
-        "run 1059 0 1 web web\nend 1\n",
-        &[run(1059, 0, 1, 0, 0)],
-    )?;
-    reads_runs(
-        &rt,
-        &two,
-        "run 1059 59 3 b b\nend 3\n",
-        &[run(1059, 59, 3, 1, 1)],
-    )?;
-    reads_runs(
-        &rt,
-        &many,
-        "run 1059 59 3 web web\nend 3\n",
-        &[run(1059, 59, 3, 0, 0)],
-    )?;
-    reads_runs(
-        &rt,
-        &two,
-        "run 1059 0 1 a a\nrun 1158 99 3 b b\nend 4\n",
-        &[run(1059, 0, 1, 0, 0), run(1158, 99, 3, 1, 1)],
-    )
+    are_read(&rt, &PLANS)
 }
 
 // Long plans, and plans with a margin of ten seconds.
-#[test]
-fn long_plans_are_read_and_written(rt: HostRuntime) -> Result<(), Fail> {
-    reads_runs(
-        &rt,
-        &WEB,
-        "run 1001 1 8 web web\nend 8\n",
-        &[run(1001, 1, 8, 0, 0)],
-    )?;
-    reads_runs(
-        &rt,
+const LONG_PLANS: [Whole; 5] = [
+    (&WEB, "run 1001 1 8 web web\nend 8\n", &[(1001, 1, 8, 0, 0)]),
+    (
         &WEB,
         "run 1001 1 100001 web web\nend 100001\n",
-        &[run(1001, 1, 100001, 0, 0)],
-    )?;
-    reads_runs(
-        &rt,
+        &[(1001, 1, 100001, 0, 0)],
+    ),
+    (
         &WEB,
         "run 1001 1 10000000 web web\nend 10000000\n",
-        &[run(1001, 1, 10000000, 0, 0)],
-    )?;
-    reads_runs(
-        &rt,
+        &[(1001, 1, 10000000, 0, 0)],
+    ),
+    (
         &WEB,
         "run 1050 50 3 web web\nend 3\n",
-        &[run(1050, 50, 3, 0, 0)],
-    )?;
-    reads_runs(
-        &rt,
+        &[(1050, 50, 3, 0, 0)],
+    ),
+    (
         &WEB,
         "run 1050 1 10 web web\nend 10\n",
-        &[run(1050, 1, 10, 0, 0)],
+        &[(1050, 1, 10, 0, 0)],
+    ),
+];
+
+#[test]
+fn long_plans_are_read_and_written(rt: HostRuntime) -> Result<(), Fail> {
+    are_read(&rt, &LONG_PLANS)
+}
+
+fn is_first_and_second(body: &Body) -> bool {
+    matches!(
+        body,
+        Body::Unkeepable {
+            entry: 0,
+            needed: 1
+        }
     )
 }
+
+// Whether the text is read as the pair of both entries, and written as it stood.
+fn is_read_and_written(alloc: Global, forest: &Forest, text: &[u8]) -> Result<bool, CertFault> {
+    let cert = read(alloc, forest, text)?;
+    let written = text_of(alloc, forest, cert.start, &cert.body)?;
+    Ok(is_first_and_second(&cert.body) && written.list() == text)
+}
+
+// Whether the text is read as that pair in version 1.
+fn is_read_as_old(alloc: Global, forest: &Forest, text: &[u8]) -> Result<bool, CertFault> {
+    let cert = read(alloc, forest, text)?;
+    Ok(cert.version == Version::One && is_first_and_second(&cert.body))
+}
+
+const UNKEEPABLE: &[u8] = b"leasekeep-plan 2\nstart 1000\nunkeepable T L\n";
+
+const OLD: &[u8] = b"leasekeep-plan 1\nstart 1000\nunkeepable T L\n";
 
 // A plan that cannot keep is read in both versions, and written in the second.
 #[test]
 fn an_unkeepable_pair_is_read_and_written(rt: HostRuntime) -> Result<(), Fail> {
-    let alloc = rt.alloc();
-    let forest = forest_of(alloc, &["T", "L"])?;
-    let text = "leasekeep-plan 2\nstart 1000\nunkeepable T L\n";
-    let old = "leasekeep-plan 1\nstart 1000\nunkeepable T L\n";
-    let cert = read(alloc, &forest, text.as_bytes())?;
-    assert!(rt;
-        matches!(
-            &cert.body,
-            Body::Unkeepable {
-                entry: 0,
-                needed: 1
-            }
-        )
-    );
-    assert!(rt; text_of(alloc, &forest, cert.start, &cert.body)?.list() == text.as_bytes());
-    let cert = read(alloc, &forest, old.as_bytes())?;
-    assert!(rt; cert.version == Version::One);
-    assert!(rt;
-        matches!(
-            &cert.body,
-            Body::Unkeepable {
-                entry: 0,
-                needed: 1
-            }
-        )
-    );
+    let forest = forest_of(rt.alloc(), &["T", "L"])?;
+    assert!(rt; is_read_and_written(rt.alloc(), &forest, UNKEEPABLE) == Ok(true));
+    assert!(rt; is_read_as_old(rt.alloc(), &forest, OLD) == Ok(true));
     Ok(())
+}
+
+const WAKES: [Grouped; 3] = [(1059, 0, 1, 0, 0), (1118, 0, 1, 0, 0), (1177, 0, 1, 0, 0)];
+
+fn has_wakes(alloc: Global, forest: &Forest) -> Result<bool, CertFault> {
+    let cert = read(alloc, forest, IN_WAKES.as_bytes())?;
+    Ok(cert.version == Version::One && cert.start.get() == 1000 && has_runs(&cert.body, &WAKES))
 }
 
 // A line of a wake-up is a run of one.
 #[test]
 fn wake_ups_are_read_as_runs_of_one(rt: HostRuntime) -> Result<(), Fail> {
-    let alloc = rt.alloc();
     assert!(rt; IN_WAKES.len() == 88);
-    let cert = read(alloc, &forest_of(alloc, &WEB)?, IN_WAKES.as_bytes())?;
-    assert!(rt; cert.version == Version::One);
-    assert_eq!(rt; cert.start.get(), 1000);
-    let wakes = [
-        run(1059, 0, 1, 0, 0),
-        run(1118, 0, 1, 0, 0),
-        run(1177, 0, 1, 0, 0),
-    ];
-    match &cert.body {
-        Body::Runs(found) => assert!(rt; found.list() == wakes.as_slice()),
-        Body::Unkeepable { .. } => assert!(rt; false),
-    }
+    let forest = forest_of(rt.alloc(), &WEB)?;
+    assert!(rt; has_wakes(rt.alloc(), &forest) == Ok(true));
     Ok(())
 }
 
-// 100,000 such lines, each of one wake-up, are read, and the next one is a bad line.
-fn reads_at_most_100000<R: AllocGlobal + Abort>(
-    rt: &R,
+// A certificate of so many such lines, and the last one.
+fn text_of_lines(
+    alloc: Global,
     head: &str,
     line: &str,
-) -> Result<(), Fail> {
-    let alloc = rt.alloc();
-    let forest = forest_of(alloc, &WEB)?;
-    let mut text = Vec::new(alloc);
-    text.extend_from_slice(head.as_bytes())?;
-    for _ in 0..100000 {
+    count: u32,
+    end: &str,
+) -> Result<Vec<u8>, AllocError> {
+    let mut text = Vec::from_slice(alloc, head.as_bytes())?;
+    for _ in 0..count {
         text.extend_from_slice(line.as_bytes())?;
     }
-    let mut more = text.clone()?;
-    text.extend_from_slice(b"end 100000\n")?;
-    more.extend_from_slice(line.as_bytes())?;
-    more.extend_from_slice(b"end 100001\n")?;
-    assert!(rt; read(alloc, &forest, &text).is_ok(), "{line}");
-    assert_eq!(rt;
-        read(alloc, &forest, &more).err(),
-        Some(CertFault::BadLine(100003)),
-        "{line}"
-    );
-    Ok(())
+    text.extend_from_slice(end.as_bytes())?;
+    Ok(text)
 }
+
+// Whether a text of 100,000 such lines, each of one wake-up, is read.
+fn reads_100000(alloc: Global, head: &str, line: &str) -> Result<bool, Fail> {
+    let text = text_of_lines(alloc, head, line, 100000, "end 100000\n")?;
+    let forest = forest_of(alloc, &WEB)?;
+    Ok(read(alloc, &forest, &text).is_ok())
+}
+
+// Whether the next one is a bad line.
+fn refuses_100001(alloc: Global, head: &str, line: &str) -> Result<bool, Fail> {
+    let text = text_of_lines(alloc, head, line, 100001, "end 100001\n")?;
+    let forest = forest_of(alloc, &WEB)?;
+    Ok(read(alloc, &forest, &text).err() == Some(CertFault::BadLine(100003)))
+}
+
+// The first two lines, and one of the others, in both versions.
+const LINES: [(&str, &str); 2] = [
+    ("leasekeep-plan 1\nstart 1000\n", "wake 1059 web web\n"),
+    ("leasekeep-plan 2\nstart 1000\n", "run 1059 0 1 web web\n"),
+];
 
 #[test]
 fn a_certificate_has_at_most_100000_lines(rt: HostRuntime) -> Result<(), Fail> {
-    reads_at_most_100000(&rt, "leasekeep-plan 1\nstart 1000\n", "wake 1059 web web\n")?;
-    reads_at_most_100000(
-        &rt,
-        "leasekeep-plan 2\nstart 1000\n",
-        "run 1059 0 1 web web\n",
-    )
+    for (head, line) in &LINES {
+        assert!(rt; reads_100000(rt.alloc(), head, line)?, "{line}");
+        assert!(rt; refuses_100001(rt.alloc(), head, line)?, "{line}");
+    }
+    Ok(())
 }

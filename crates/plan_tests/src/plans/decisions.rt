@@ -1,218 +1,258 @@
-use super::{Row, fill, forest_of, token, token_and_lease};
-use crate::rows::moment;
-use keep_plan::{Decision, Plan, plan};
-use keep_schedule::Run;
-use keep_tree::{Forest, Kind};
+use crate::rows::{
+    BASE, BESIDE, BIG, FIXED, Grouped, IN_TURN, LEASE, PAY, QUICK, Row, TOKEN, UNDER, WEB,
+    are_runs, forest_of, moment,
+};
+use keep_moment::Moment;
+use keep_plan::{Decision, Plan, PlanFault, plan};
+use keep_tree::Forest;
 use std::alloc::Global;
+use std::process::Abort;
 use std::test::Fail;
-
-// A token with this step.
-fn renewed(end: u64, step: u32, need: u64) -> Row {
-    Row {
-        step,
-        ..token(None, end, true, need)
-    }
-}
-
-// A token of end 1002 and step 2, with this ceiling.
-fn quick(ceiling: u64, need: u64) -> Row {
-    Row {
-        ceiling: Some(ceiling),
-        ..renewed(1002, 2, need)
-    }
-}
-
-// The token of the web example.
-fn web(need: u64) -> Row {
-    token(None, 1060, true, need)
-}
-
-// A lease of the entry at index `over`.
-fn lease(over: u32, end: u64, need: u64) -> Row {
-    Row {
-        kind: Kind::Lease,
-        ..token(Some(over), end, true, need)
-    }
-}
-
-// A periodic token with the explicit max 1100.
-fn pay(need: u64) -> Row {
-    Row {
-        ceiling: Some(1100),
-        ..web(need)
-    }
-}
-
-fn run(first: u64, step: u64, count: u64, index: u32) -> Run {
-    Run {
-        first,
-        step,
-        count,
-        entry: index,
-        needed: index,
-    }
-}
 
 // The plan from 1000 on, with the margin.
 fn planned(alloc: Global, margin: u32, rows: &[Row]) -> Result<Plan, Fail> {
-    let empty = if margin == 10 {
-        Forest::with_margin(alloc, 10)
-    } else {
-        Forest::new(alloc)
-    };
-    let forest = fill(alloc, empty, rows)?;
-    match plan(alloc, &forest, moment(1000)?)? {
+    if margin < 1 || 3600 < margin {
+        return Err("a margin".into());
+    }
+    let start = moment(1000)?;
+    let forest = forest_of(alloc, margin, rows)?;
+    match plan(alloc, &forest, start)? {
         Decision::Keep(plan) => Ok(plan),
         _ => Err("no plan".into()),
     }
 }
 
 // Whether the plan from 1000 on has these runs.
-fn gives(alloc: Global, margin: u32, rows: &[Row], want: &[Run]) -> Result<bool, Fail> {
-    Ok(planned(alloc, margin, rows)?.runs() == want)
+fn gives(alloc: Global, margin: u32, rows: &[Row], want: &[Grouped]) -> Result<bool, Fail> {
+    let plan = planned(alloc, margin, rows)?;
+    Ok(are_runs(plan.runs(), want))
 }
 
-// One token, or none.
-#[test]
-fn gives_the_runs_of_one_token(rt: HostRuntime) -> Result<(), Fail> {
-    let alloc = rt.alloc();
-    assert!(rt; gives(alloc, 1, &[web(1200)], &[run(1059, 59, 3, 0)])?);
-    assert!(rt; gives(alloc, 1, &[web(1060)], &[])?);
-    assert!(rt; gives(alloc, 1, &[web(1061)], &[run(1059, 0, 1, 0)])?);
-    assert!(rt; gives(alloc, 1, &[], &[])?);
-    assert!(rt; gives(alloc, 1, &[token(None, 1000, true, 1000)], &[])?);
-    assert!(rt; gives(alloc, 1, &[renewed(1002, 2, 1010)], &[run(1001, 1, 8, 0)])?);
-    assert!(rt; gives(alloc, 1, &[pay(1100)], &[run(1059, 0, 1, 0)])?);
-    for (ceiling, need, count) in &LONG {
-        assert!(rt;
-            gives(
-                alloc,
-                1,
-                &[quick(*ceiling, *need)],
-                &[run(1001, 1, *count, 0)]
-            )?,
-            "{count}"
-        );
+// A margin, entries, and the runs of their plan.
+type Planned = (u32, &'static [Row], &'static [Grouped]);
+
+fn are_given<R: AllocGlobal + Abort>(rt: &R, table: &[Planned]) -> Result<(), Fail> {
+    for (i, (margin, rows, want)) in table.iter().enumerate() {
+        assert!(rt; gives(rt.alloc(), *margin, rows, want)?, "case {i}");
     }
     Ok(())
 }
 
-// The ceiling and the need of a token of end 1002 and step 2, and its wake-ups.
-const LONG: [(u64, u64, u64); 3] = [
-    (201000, 101002, 100000),
-    (201000, 101003, 100001),
-    (20001000, 10001002, 10000000),
+// A token of end 1002 and step 2 for 100,000 wake-ups, for one more, and for ten million.
+const LONG: Row = Row {
+    ceiling: Some(201000),
+    need: 101002,
+    ..QUICK
+};
+
+const LONGER: Row = Row {
+    need: 101003,
+    ..LONG
+};
+
+const LONGEST: Row = Row {
+    ceiling: Some(20001000),
+    need: 10001002,
+    ..QUICK
+};
+
+// One token, or none.
+const OF_ONE_TOKEN: [Planned; 10] = [
+    (1, &[WEB], &[(1059, 59, 3, 0, 0)]),
+    (1, &[Row { need: 1060, ..WEB }], &[]),
+    (1, &[Row { need: 1061, ..WEB }], &[(1059, 0, 1, 0, 0)]),
+    (1, &[], &[]),
+    (
+        1,
+        &[Row {
+            end: 1000,
+            need: 1000,
+            ..WEB
+        }],
+        &[],
+    ),
+    (
+        1,
+        &[Row {
+            need: 1010,
+            ..QUICK
+        }],
+        &[(1001, 1, 8, 0, 0)],
+    ),
+    (1, &[PAY], &[(1059, 0, 1, 0, 0)]),
+    (1, &[LONG], &[(1001, 1, 100000, 0, 0)]),
+    (1, &[LONGER], &[(1001, 1, 100001, 0, 0)]),
+    (1, &[LONGEST], &[(1001, 1, 10000000, 0, 0)]),
 ];
 
+#[test]
+fn gives_the_runs_of_one_token(rt: HostRuntime) -> Result<(), Fail> {
+    are_given(&rt, &OF_ONE_TOKEN)
+}
+
+// The web example with increment 11 and need 1070.
+const ELEVEN: Row = Row {
+    step: 11,
+    need: 1070,
+    ..WEB
+};
+
 // Several entries; and the web example with the margin 10, also with increment 11 and need 1070.
+const OF_SEVERAL: [Planned; 6] = [
+    (1, &[TOKEN, LEASE], &[(1059, 59, 3, 1, 1)]),
+    (1, &[WEB, BASE, BIG], &[(1059, 59, 3, 0, 0)]),
+    (1, &IN_TURN, &[(1059, 0, 1, 0, 0), (1158, 99, 3, 1, 1)]),
+    (1, &[FIXED, BESIDE], &[]),
+    (10, &[WEB], &[(1050, 50, 3, 0, 0)]),
+    (10, &[ELEVEN], &[(1050, 1, 10, 0, 0)]),
+];
+
 #[test]
 fn gives_the_runs_of_several(rt: HostRuntime) -> Result<(), Fail> {
-    let alloc = rt.alloc();
-    let fixed = token(None, 1060, false, 0);
-    let in_turn = [web(1100), renewed(1100, 100, 1400)];
-    let turns = [run(1059, 0, 1, 0), run(1158, 99, 3, 1)];
-    assert!(rt; gives(alloc, 1, &token_and_lease(10000), &[run(1059, 59, 3, 1)])?);
-    assert!(rt; gives(alloc, 1, &with_big(1060), &[run(1059, 59, 3, 0)])?);
-    assert!(rt; gives(alloc, 1, &in_turn, &turns)?);
-    assert!(rt; gives(alloc, 1, &[fixed, token(None, 1300, true, 1200)], &[])?);
-    assert!(rt; gives(alloc, 10, &[web(1200)], &[run(1050, 50, 3, 0)])?);
-    assert!(rt;
-        gives(
-            alloc,
-            10,
-            &[renewed(1060, 11, 1070)],
-            &[run(1050, 1, 10, 0)]
-        )?
-    );
-    Ok(())
+    are_given(&rt, &OF_SEVERAL)
 }
 
 // The wake-ups of two tokens in turn, the entry that forces each for its own need, and how many are left with it.
-const IN_TURN: [(u64, u32, u64); 4] = [(1059, 0, 4), (1158, 1, 3), (1257, 1, 2), (1356, 1, 1)];
+const WAKES: [(u64, u32, u64); 4] = [(1059, 0, 4), (1158, 1, 3), (1257, 1, 2), (1356, 1, 1)];
+
+// Whether this is the first wake-up.
+fn is_first(plan: &Plan, at: u64, entry: u32) -> bool {
+    match plan.wakes().next() {
+        Some(wake) => wake.at.get() == at && wake.entry == entry && wake.needed == entry,
+        None => false,
+    }
+}
+
+// How many wake-ups there are, counted one by one.
+fn counted(plan: &Plan) -> u64 {
+    plan.wakes().count() as u64
+}
+
+// Whether that is the first wake-up and so many are left with it, of which it is taken out.
+fn walks(plan: &mut Plan, at: u64, entry: u32, left: u64) -> bool {
+    let is_so = is_first(plan, at, entry) && counted(plan) == left;
+    if plan.len() == 0 {
+        return false;
+    }
+    let has_left = plan.len() == left;
+    plan.drop_first();
+    is_so && has_left
+}
 
 // Two tokens in turn: each wake-up with its force, and what is left without the first of them.
 #[test]
 fn walks_the_wake_ups(rt: HostRuntime) -> Result<(), Fail> {
-    let mut plan = planned(rt.alloc(), 1, &[web(1100), renewed(1100, 100, 1400)])?;
-    for (at, entry, left) in &IN_TURN {
-        let wake = plan.wakes().next().ok_or("a wake-up")?;
-        assert!(rt; wake.at.get() == *at && wake.entry == *entry && wake.needed == *entry);
-        assert!(rt; plan.wakes().count() as u64 == *left);
-        assert!(rt; plan.len() == *left);
-        if plan.len() > 0 {
-            plan.drop_first();
-        }
+    let mut plan = planned(rt.alloc(), 1, &IN_TURN)?;
+    for (at, entry, left) in &WAKES {
+        assert!(rt; walks(&mut plan, *at, *entry, *left), "{at}");
     }
     assert!(rt; plan.runs().is_empty());
     Ok(())
 }
 
-// The pair for which there is no plan; `None` where it would be too long.
-fn unplanned(alloc: Global, rows: &[Row]) -> Result<Option<(u32, u32)>, Fail> {
-    let forest = forest_of(alloc, rows)?;
-    match plan(alloc, &forest, moment(1000)?)? {
-        Decision::Keep(_) => Err("a plan".into()),
-        Decision::Unkeepable { entry, needed } => Ok(Some((entry, needed))),
-        Decision::TooLong => Ok(None),
+// Entries without a plan, and the pair for which there is none; `None` where it would be too long.
+const UNPLANNED: [(&[Row], Option<(u32, u32)>); 5] = [
+    (
+        &[
+            Row {
+                ceiling: Some(1150),
+                ..TOKEN
+            },
+            LEASE,
+        ],
+        Some((0, 1)),
+    ),
+    (
+        &[Row {
+            end: 1000,
+            need: 1100,
+            ..WEB
+        }],
+        Some((0, 0)),
+    ),
+    (&[Row { need: 1101, ..PAY }], Some((0, 0))),
+    (&[FIXED, UNDER], Some((0, 1))),
+    (
+        &[Row {
+            need: 10001003,
+            ..LONGEST
+        }],
+        None,
+    ),
+];
+
+fn is_unplanned(alloc: Global, rows: &[Row], want: Option<(u32, u32)>) -> Result<bool, Fail> {
+    let start = moment(1000)?;
+    let forest = forest_of(alloc, 1, rows)?;
+    match plan(alloc, &forest, start)? {
+        Decision::Keep(_) => Ok(false),
+        Decision::Unkeepable { entry, needed } => Ok(want == Some((entry, needed))),
+        Decision::TooLong => Ok(want.is_none()),
     }
 }
 
 // What cannot be kept, and what takes ten million and one wake-ups.
 #[test]
 fn names_why_there_is_no_plan(rt: HostRuntime) -> Result<(), Fail> {
-    let alloc = rt.alloc();
-    let fixed = token(None, 1060, false, 0);
-    let under = token(Some(0), 1300, true, 1200);
-    assert!(rt; unplanned(alloc, &token_and_lease(1150))? == Some((0, 1)));
-    assert!(rt; unplanned(alloc, &[token(None, 1000, true, 1100)])? == Some((0, 0)));
-    assert!(rt; unplanned(alloc, &[pay(1101)])? == Some((0, 0)));
-    assert!(rt; unplanned(alloc, &[fixed, under])? == Some((0, 1)));
-    assert!(rt; unplanned(alloc, &[quick(20001000, 10001003)])? == None);
+    for (i, (rows, want)) in UNPLANNED.iter().enumerate() {
+        assert!(rt; is_unplanned(rt.alloc(), rows, *want)?, "case {i}");
+    }
     Ok(())
+}
+
+// Whether the plan of the forest from the start on asks these at a moment.
+fn plan_asks(
+    alloc: Global,
+    forest: &Forest,
+    start: Moment,
+    at: Moment,
+    want: &[u32],
+) -> Result<bool, PlanFault> {
+    match plan(alloc, forest, start)? {
+        Decision::Keep(plan) => Ok(plan.asks(forest, at)?.list() == want),
+        _ => Ok(false),
+    }
 }
 
 // Whether the plan from 1000 on asks these at a moment.
 fn asks(alloc: Global, rows: &[Row], at: u64, want: &[u32]) -> Result<bool, Fail> {
-    let forest = forest_of(alloc, rows)?;
+    let start = moment(1000)?;
     let at = moment(at)?;
-    let Decision::Keep(plan) = plan(alloc, &forest, moment(1000)?)? else {
-        return Err("no plan".into());
-    };
-    Ok(plan.asks(&forest, at)?.list() == want)
+    let forest = forest_of(alloc, 1, rows)?;
+    Ok(plan_asks(alloc, &forest, start, at, want)?)
 }
 
-// Token and lease, with the ends that each wake-up finds; the token later; web, base and big.
+// The ends of token and lease that a wake-up finds, its moment, and what it asks; the token later.
+const OF_BOTH: [(u64, u64, u64, &[u32]); 5] = [
+    (1100, 1060, 1059, &[0, 1]),
+    (1159, 1119, 1118, &[0, 1]),
+    (1218, 1178, 1177, &[1]),
+    (1130, 1060, 1059, &[1]),
+    (1130, 1119, 1118, &[0, 1]),
+];
+
+// The same of web, base and big: the end of the first.
+const OF_WEB: [(u64, u64); 3] = [(1060, 1059), (1119, 1118), (1178, 1177)];
+
 #[test]
 fn asks_what_cannot_wait(rt: HostRuntime) -> Result<(), Fail> {
-    let alloc = rt.alloc();
-    assert!(rt; asks(alloc, &pair(1100, 1060), 1059, &[0, 1])?);
-    assert!(rt; asks(alloc, &pair(1159, 1119), 1118, &[0, 1])?);
-    assert!(rt; asks(alloc, &pair(1218, 1178), 1177, &[1])?);
-    assert!(rt; asks(alloc, &pair(1130, 1060), 1059, &[1])?);
-    assert!(rt; asks(alloc, &pair(1130, 1119), 1118, &[0, 1])?);
-    assert!(rt; asks(alloc, &with_big(1060), 1059, &[0])?);
-    assert!(rt; asks(alloc, &with_big(1119), 1118, &[0])?);
-    assert!(rt; asks(alloc, &with_big(1178), 1177, &[0])?);
+    for (token, lease, at, want) in &OF_BOTH {
+        let over = Row {
+            end: *token,
+            ..TOKEN
+        };
+        let under = Row {
+            end: *lease,
+            ..LEASE
+        };
+        assert!(rt;
+            asks(rt.alloc(), &[over, under], *at, want)?,
+            "{token} {lease}"
+        );
+    }
+    for (end, at) in &OF_WEB {
+        let web = Row { end: *end, ..WEB };
+        assert!(rt; asks(rt.alloc(), &[web, BASE, BIG], *at, &[0])?, "{end}");
+    }
     Ok(())
-}
-
-// Token and lease with these ends.
-fn pair(token: u64, lease: u64) -> [Row; 2] {
-    let [over, under] = token_and_lease(10000);
-    [
-        Row { end: token, ..over },
-        Row {
-            end: lease,
-            ..under
-        },
-    ]
-}
-
-// Web with this end, base and its lease big.
-fn with_big(web: u64) -> [Row; 3] {
-    [
-        token(None, web, true, 1200),
-        token(None, 6000, true, 0),
-        lease(1, 5000, 4000),
-    ]
 }

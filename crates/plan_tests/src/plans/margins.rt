@@ -1,93 +1,113 @@
-use super::{Row, forest_of, token};
-use crate::rows::moment;
+use crate::rows::{Row, WEB, forest_of, moment};
 use keep_plan::{LIMIT, Widest, widest_margin};
-use std::alloc::Global;
+use std::alloc::{AllocError, Global};
+use std::process::Abort;
 use std::test::Fail;
 
-// The token of the web example with this end and need: 60 seconds at a time, until 10000 at the latest.
-fn web(end: u64, need: u64) -> Row {
-    token(None, end, true, need)
+// Whether it is this margin with so many wake-ups, or none.
+fn is_widest(widest: &Option<Widest>, want: Option<(u32, u64)>) -> bool {
+    match (widest, want) {
+        (Some(found), Some((margin, wakes))) => found.margin == margin && found.wakes == wakes,
+        (None, None) => true,
+        _ => false,
+    }
 }
 
-// The widest margin from 1000 on for so many wake-ups. The forest's own is 1 before and after.
-fn widest(alloc: Global, rows: &[Row], most: u64) -> Result<Option<Widest>, Fail> {
-    let mut forest = forest_of(alloc, rows)?;
-    let widest = widest_margin(alloc, &mut forest, moment(1000)?, most.min(LIMIT))?;
-    if forest.margin() != 1 {
-        return Err("the own margin".into());
+// Whether this is the widest margin from 1000 on for so many wake-ups. The forest's own is 1 before and after.
+fn gives(alloc: Global, rows: &[Row], most: u64, want: Option<(u32, u64)>) -> Result<bool, Fail> {
+    let start = moment(1000)?;
+    let mut forest = forest_of(alloc, 1, rows)?;
+    let widest = widest_margin(alloc, &mut forest, start, most.min(LIMIT))?;
+    Ok(forest.margin() == 1 && is_widest(&widest, want))
+}
+
+// Entries, how many wake-ups may be spent, and the widest margin with its wake-ups.
+type Spent = (&'static [Row], u64, Option<(u32, u64)>);
+
+fn are_given<R: AllocGlobal + Abort>(rt: &R, table: &[Spent]) -> Result<(), Fail> {
+    for (i, (rows, most, want)) in table.iter().enumerate() {
+        assert!(rt; gives(rt.alloc(), rows, *most, *want)?, "case {i}");
     }
-    Ok(widest)
+    Ok(())
 }
 
 // With the margin m each wake-up of the web example comes 60 - m seconds after the one before, and the last at 1140 or later:
 // so 3 are enough where 3 * (60 - m) is 140 or more, and 2 never are.
-const OF_WEB: [(u64, u32, u64); 5] = [
-    (3, 13, 3),
-    (4, 25, 4),
-    (100, 58, 70),
-    (139, 58, 70),
-    (LIMIT, 59, 140),
+const OF_WEB: [Spent; 6] = [
+    (&[WEB], 2, None),
+    (&[WEB], 3, Some((13, 3))),
+    (&[WEB], 4, Some((25, 4))),
+    (&[WEB], 100, Some((58, 70))),
+    (&[WEB], 139, Some((58, 70))),
+    (&[WEB], LIMIT, Some((59, 140))),
 ];
 
 #[test]
 fn a_wider_margin_takes_more_wake_ups(rt: HostRuntime) -> Result<(), Fail> {
-    let alloc = rt.alloc();
-    assert!(rt; widest(alloc, &[web(1060, 1200)], 2)?.is_none());
-    for (most, margin, wakes) in &OF_WEB {
-        let found = widest(alloc, &[web(1060, 1200)], *most)?.ok_or("a margin")?;
-        assert!(rt; found.margin == *margin && found.wakes == *wakes, "{most}");
-    }
-    Ok(())
+    are_given(&rt, &OF_WEB)
 }
 
-// Whether it is this margin with so many wake-ups.
-fn gives(alloc: Global, rows: &[Row], most: u64, want: (u32, u64)) -> Result<bool, Fail> {
-    let found = widest(alloc, rows, most)?.ok_or("a margin")?;
-    Ok(found.margin == want.0 && found.wakes == want.1)
-}
+const SLOW: Row = Row {
+    end: 9000,
+    step: 5000,
+    ..WEB
+};
 
 // Where nothing has to be renewed, the steps alone limit it; what ends at 1005 is renewed 5 seconds before at the most, four
 // times, since 1000 + 60 + 3 * 55 is past 1200.
+const LIMITED: [Spent; 4] = [
+    (&[], 0, Some((3600, 0))),
+    (&[SLOW], 0, Some((3600, 0))),
+    (&[SLOW, Row { need: 1060, ..WEB }], 0, Some((59, 0))),
+    (&[Row { end: 1005, ..WEB }], LIMIT, Some((5, 4))),
+];
+
 #[test]
 fn steps_and_ends_limit_a_margin(rt: HostRuntime) -> Result<(), Fail> {
-    let alloc = rt.alloc();
-    let slow = Row {
-        step: 5000,
-        ..web(9000, 1200)
-    };
-    assert!(rt; gives(alloc, &[], 0, (3600, 0))?);
-    assert!(rt; gives(alloc, &[slow], 0, (3600, 0))?);
-    assert!(rt; gives(alloc, &[slow, web(1060, 1060)], 0, (59, 0))?);
-    assert!(rt; gives(alloc, &[web(1005, 1200)], LIMIT, (5, 4))?);
-    Ok(())
+    are_given(&rt, &LIMITED)
 }
 
+const LOW: Row = Row {
+    ceiling: Some(1100),
+    need: 1101,
+    ..WEB
+};
+
+const QUICK: Row = Row {
+    end: 1002,
+    step: 2,
+    need: 1010,
+    ..WEB
+};
+
 // A ceiling before the need; and a token of two seconds, which takes eight wake-ups with the one margin that it allows.
+const NONE_OR_ONE: [Spent; 3] = [
+    (&[LOW], LIMIT, None),
+    (&[QUICK], 7, None),
+    (&[QUICK], 8, Some((1, 8))),
+];
+
 #[test]
 fn no_margin_is_enough(rt: HostRuntime) -> Result<(), Fail> {
-    let alloc = rt.alloc();
-    let low = Row {
-        ceiling: Some(1100),
-        ..web(1060, 1101)
-    };
-    let quick = Row {
-        step: 2,
-        ..web(1002, 1010)
-    };
-    assert!(rt; widest(alloc, &[low], LIMIT)?.is_none());
-    assert!(rt; widest(alloc, &[quick], 7)?.is_none());
-    assert!(rt; gives(alloc, &[quick], 8, (1, 8))?);
-    Ok(())
+    are_given(&rt, &NONE_OR_ONE)
 }
 
 // As many entries as there may be, all as the web example.
-#[test]
-fn every_entry_has_its_say(rt: HostRuntime) -> Result<(), Fail> {
-    let alloc = rt.alloc();
+fn fleet(alloc: Global) -> Result<Vec<Row>, AllocError> {
     let mut rows = Vec::new(alloc);
     for _ in 0..4096u32 {
-        rows.push(web(1060, 1200))?;
+        rows.push(WEB)?;
     }
-    assert!(rt; gives(alloc, &rows, 3, (13, 3))?);
+    Ok(rows)
+}
+
+fn is_given_of_fleet(alloc: Global) -> Result<bool, Fail> {
+    let rows = fleet(alloc)?;
+    gives(alloc, &rows, 3, Some((13, 3)))
+}
+
+#[test]
+fn every_entry_has_its_say(rt: HostRuntime) -> Result<(), Fail> {
+    assert!(rt; is_given_of_fleet(rt.alloc())?);
     Ok(())
 }

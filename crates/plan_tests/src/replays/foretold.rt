@@ -1,10 +1,10 @@
 // What the laws foretell of least and latest moments: with their Asks they keep; a plan that leaves one of them out, or
 // comes a second later at one, keeps not.
 
-use super::{BASE, BIG};
-use crate::rows::{LEASE, Row, TOKEN, WEB, forest_of, moment};
+use super::wake;
+use crate::rows::{BASE, BIG, IN_TURN, LEASE, Row, TOKEN, WEB, forest_of, moment};
 use keep_rule::{Wake, keeps};
-use keep_tree::Indices;
+use keep_tree::Forest;
 use std::alloc::Global;
 use std::process::Abort;
 use std::test::Fail;
@@ -21,69 +21,69 @@ enum Change {
 fn changed(alloc: Global, plan: &[(u64, &[u32])], change: Change) -> Result<Vec<Wake>, Fail> {
     let mut wakes = Vec::new(alloc);
     for (i, (at, asked)) in plan.iter().enumerate() {
-        if change == Change::LeftOut(i) {
-            continue;
+        if change != Change::LeftOut(i) {
+            let late = if change == Change::Later(i) { 1 } else { 0 };
+            wakes.push(wake(alloc, at.saturating_add(late), asked)?)?;
         }
-        let late = if change == Change::Later(i) { 1 } else { 0 };
-        wakes.push(Wake {
-            at: moment(at.saturating_add(late))?,
-            asked: Indices::of(alloc, asked)?,
-        })?;
     }
     Ok(wakes)
 }
 
-fn is_foretold<R: AllocGlobal + Abort>(
-    rt: &R,
-    rows: &[Row],
+// Whether the changed plan keeps or not.
+fn is_kept(
+    alloc: Global,
+    forest: &Forest,
     plan: &[(u64, &[u32])],
-) -> Result<(), Fail> {
-    let alloc = rt.alloc();
-    let forest = forest_of(alloc, 1, rows)?;
+    change: Change,
+    kept: bool,
+) -> Result<bool, Fail> {
     let start = moment(1000)?;
-    let whole = changed(alloc, plan, Change::Nothing)?;
-    assert!(rt; keeps(alloc, &forest, start, &whole) == Ok(true));
-    for i in 0..plan.len() {
-        let fewer = changed(alloc, plan, Change::LeftOut(i))?;
-        assert!(rt;
-            keeps(alloc, &forest, start, &fewer) == Ok(false),
-            "without {i}"
-        );
-        let later = changed(alloc, plan, Change::Later(i))?;
-        assert!(rt;
-            keeps(alloc, &forest, start, &later) == Ok(false),
-            "later at {i}"
-        );
-    }
-    Ok(())
+    let wakes = changed(alloc, plan, change)?;
+    Ok(keeps(alloc, forest, start, &wakes) == Ok(kept))
 }
+
+// Whether the plan keeps, and no change of it at any wake-up.
+fn is_least(alloc: Global, forest: &Forest, plan: &[(u64, &[u32])]) -> Result<bool, Fail> {
+    let mut is_so = is_kept(alloc, forest, plan, Change::Nothing, true)?;
+    for i in 0..plan.len() {
+        is_so = is_kept(alloc, forest, plan, Change::LeftOut(i), false)? && is_so;
+        is_so = is_kept(alloc, forest, plan, Change::Later(i), false)? && is_so;
+    }
+    Ok(is_so)
+}
+
+fn is_foretold(alloc: Global, rows: &[Row], plan: &[(u64, &[u32])]) -> Result<bool, Fail> {
+    let forest = forest_of(alloc, 1, rows)?;
+    is_least(alloc, &forest, plan)
+}
+
+const LONGER: Row = Row { end: 1130, ..TOKEN };
+
+// Entries, and the plan that the laws foretell of them.
+const FORETOLD: [(&[Row], &[(u64, &[u32])]); 5] = [
+    (&[WEB], &[(1059, &[0]), (1118, &[0]), (1177, &[0])]),
+    (
+        &[TOKEN, LEASE],
+        &[(1059, &[0, 1]), (1118, &[0, 1]), (1177, &[1])],
+    ),
+    (
+        &[LONGER, LEASE],
+        &[(1059, &[1]), (1118, &[0, 1]), (1177, &[1])],
+    ),
+    (
+        &[WEB, BASE, BIG],
+        &[(1059, &[0]), (1118, &[0]), (1177, &[0])],
+    ),
+    (
+        &IN_TURN,
+        &[(1059, &[0, 1]), (1158, &[1]), (1257, &[1]), (1356, &[1])],
+    ),
+];
 
 #[test]
 fn keeps_as_the_laws_foretell(rt: HostRuntime) -> Result<(), Fail> {
-    is_foretold(&rt, &[WEB], &[(1059, &[0]), (1118, &[0]), (1177, &[0])])?;
-    is_foretold(
-        &rt,
-        &[TOKEN, LEASE],
-        &[(1059, &[0, 1]), (1118, &[0, 1]), (1177, &[1])],
-    )?;
-    is_foretold(
-        &rt,
-        &[Row { end: 1130, ..TOKEN }, LEASE],
-        &[(1059, &[1]), (1118, &[0, 1]), (1177, &[1])],
-    )?;
-    is_foretold(
-        &rt,
-        &[WEB, BASE, BIG],
-        &[(1059, &[0]), (1118, &[0]), (1177, &[0])],
-    )?;
-    let a = Row { need: 1100, ..WEB };
-    let b = Row {
-        need: 1400,
-        ..TOKEN
-    };
-    is_foretold(
-        &rt,
-        &[a, b],
-        &[(1059, &[0, 1]), (1158, &[1]), (1257, &[1]), (1356, &[1])],
-    )
+    for (i, (rows, plan)) in FORETOLD.iter().enumerate() {
+        assert!(rt; is_foretold(rt.alloc(), rows, plan)?, "case {i}");
+    }
+    Ok(())
 }

@@ -1,78 +1,82 @@
-use super::{Forced, is_keepable};
-use keep_moment::{Moment, Name};
+use super::is_keepable;
+use crate::rows::{PAY, QUICK, Row, WEB, forest_of, moment};
+use keep_moment::Moment;
 use keep_needs::carry;
 use keep_schedule::{Force, QueueSchedule, ScanSchedule, Schedule};
-use keep_tree::{Entry, Forest, Kind};
+use keep_tree::Forest;
 use std::alloc::Global;
 use std::test::Fail;
 
-// A token without a parent by its end, its step, whether it can be renewed, its ceiling and its need.
-#[derive(Clone, Copy)]
-struct Orphan(u64, u32, bool, Option<u64>, u64);
+const ENDED: Row = Row {
+    end: 1000,
+    ceiling: None,
+    need: 1000,
+    ..WEB
+};
 
-// A periodic token under an explicit maximum, and tokens with ever more wake-ups.
-const PAY: Orphan = Orphan(1060, 60, true, Some(1100), 1100);
+const FIXED: Row = Row {
+    renewable: false,
+    ceiling: None,
+    need: 0,
+    ..WEB
+};
 
-const ENDED: Orphan = Orphan(1000, 60, true, None, 1000);
+const LONG: Row = Row {
+    end: 1300,
+    ceiling: None,
+    ..WEB
+};
 
-const FIXED: Orphan = Orphan(1060, 60, false, None, 0);
+// Tokens with ever more wake-ups.
+const HUNDRED_THOUSAND: Row = Row {
+    ceiling: Some(201000),
+    need: 101002,
+    ..QUICK
+};
 
-const LONG: Orphan = Orphan(1300, 60, true, None, 1200);
+const ONE_MORE: Row = Row {
+    need: 101003,
+    ..HUNDRED_THOUSAND
+};
 
-const HUNDRED_THOUSAND: Orphan = Orphan(1002, 2, true, Some(201000), 101002);
-
-const ONE_MORE: Orphan = Orphan(1002, 2, true, Some(201000), 101003);
-
-fn orphans(alloc: Global, rows: &[Orphan]) -> Result<Forest, Fail> {
-    let mut forest = Forest::new(alloc);
-    for (i, row) in rows.iter().enumerate() {
-        let Orphan(end, step, renewable, ceiling, need) = *row;
-        let name = format!(in alloc; "e{i}")?;
-        forest.push(Entry {
-            name: Name::of(alloc, name.as_bytes())?,
-            kind: Kind::Token,
-            parent: None,
-            end,
-            renewable,
-            step,
-            ceiling,
-            need,
-        })?;
+// Whether they give the same wake-up next, or none.
+fn is_same(force: &Option<Force>, other: &Option<Force>) -> bool {
+    match (force, other) {
+        (Some(one), Some(two)) => {
+            one.at.get() == two.at.get() && one.entry == two.entry && one.needed == two.needed
+        }
+        (None, None) => true,
+        _ => false,
     }
-    Ok(forest)
 }
 
-fn parts(force: Option<Force>) -> Option<Forced> {
-    match force {
-        None => None,
-        Some(Force { at, entry, needed }) => Some((at.get(), entry, needed)),
-    }
-}
-
-// How many wake-ups both schedules of these tokens give from 1000 on; `None` where they differ.
-fn both_count(alloc: Global, rows: &[Orphan]) -> Result<Option<u64>, Fail> {
-    let forest = orphans(alloc, rows)?;
-    let start = Moment::new(1000).ok_or("a moment")?;
-    let carried = carry(alloc, &forest, start)?;
-    if !is_keepable(&forest, &carried, start) {
-        return Ok(None);
-    }
-    let mut scan = ScanSchedule::new(&forest, &carried, start);
-    let mut queue = QueueSchedule::new(alloc, &forest, &carried, start)?;
+// How many wake-ups both schedules give, up to a million; `None` where they differ or give more.
+fn counted(scan: &mut ScanSchedule<'_>, queue: &mut QueueSchedule) -> Option<u64> {
     for count in 0..1000000 {
-        let force = parts(scan.next());
-        if force != parts(queue.next()) {
-            return Ok(None);
+        let force = scan.next();
+        if !is_same(&force, &queue.next()) {
+            return None;
         }
         if force.is_none() {
-            return Ok(Some(count));
+            return Some(count);
         }
     }
-    Err("a million wake-ups")?
+    None
 }
 
-// Tokens, and how many wake-ups both schedules give of them.
-const COUNTS: [(&[Orphan], u64); 5] = [
+// How many wake-ups both schedules of the forest give from the start on; `None` where they differ or give more than a million.
+fn both_count(alloc: Global, forest: &Forest, start: Moment) -> Result<Option<u64>, Fail> {
+    let carried = carry(alloc, forest, start)?;
+    if !is_keepable(forest, &carried, start) {
+        return Ok(None);
+    }
+    let mut queue = QueueSchedule::new(alloc, forest, &carried, start)?;
+    let mut scan = ScanSchedule::new(forest, &carried, start);
+    Ok(counted(&mut scan, &mut queue))
+}
+
+// Tokens, and how many wake-ups both schedules give of them from 1000 on.
+const COUNTS: [(&[Row], u64); 5] = [
     (&[PAY], 1),
     (&[ENDED], 0),
     (&[FIXED, LONG], 0),
@@ -80,11 +84,17 @@ const COUNTS: [(&[Orphan], u64); 5] = [
     (&[ONE_MORE], 100001),
 ];
 
+fn gives_as_many(alloc: Global, rows: &[Row], want: u64) -> Result<bool, Fail> {
+    let start = moment(1000)?;
+    let forest = forest_of(alloc, 1, rows)?;
+    Ok(both_count(alloc, &forest, start)? == Some(want))
+}
+
 // Both schedules give one list of these examples, as long as it has to be.
 #[test]
 fn both_schedules_give_as_many(rt: HostRuntime) -> Result<(), Fail> {
     for (rows, want) in &COUNTS {
-        assert!(rt; both_count(rt.alloc(), rows)? == Some(*want), "{want}");
+        assert!(rt; gives_as_many(rt.alloc(), rows, *want)?, "{want}");
     }
     Ok(())
 }
