@@ -50,6 +50,11 @@ fn host_name<I: Inputs>(alloc: Global, inputs: &mut I) -> Result<Vec<u8>, AllocE
     }
 }
 
+/// A part of a spread, in milliseconds.
+pub fn millis_of(part: u32) -> u64 {
+    u64::from(part) * 1000
+}
+
 /// A wait before the first turn.
 #[derive(Debug, Drop)]
 pub struct Wait {
@@ -70,7 +75,7 @@ pub fn wait_of(
     desk: &mut Desk,
 ) -> Option<Wait> {
     let shown = shown?;
-    let until = now.elapsed.saturating_add(u64::from(part) * 1000);
+    let until = now.elapsed.saturating_add(millis_of(part));
     if part == 0 || !may_wait(alloc, serving.agent(), now.wall, until).ok()? {
         return None;
     }

@@ -1,7 +1,7 @@
 //! An agent from its start to its last turn: its clock, its lanes, its log and doors, and what serves.
 ghost use Rattle.std.specs.Prelude.{◌≡◌, [], IfOk, max, min};
 
-use crate::apart::{serve_by, shown_of, wait_of};
+use crate::apart::{millis_of, serve_by, shown_of, wait_of};
 use crate::ends::{ends_file, taken_over};
 use crate::folder::{Said, SystemLedger};
 use crate::reading::Inventories;
@@ -120,7 +120,7 @@ where
         next: None,
         ends,
     };
-    let mut neighbours = EarlyDay::new(house, u64::from(part) * 1000);
+    let mut neighbours = EarlyDay::new(house, millis_of(part));
     serve_on(
         rt.alloc(),
         inventories,

@@ -125,7 +125,11 @@ fn is_first(plan: &Plan, at: u64, entry: u32) -> bool {
 
 // How many wake-ups there are, counted one by one.
 fn counted(plan: &Plan) -> u64 {
-    plan.wakes().count() as u64
+    let mut count: u64 = 0;
+    for _wake in plan.wakes() {
+        count = count.saturating_add(1);
+    }
+    count
 }
 
 // Whether that is the first wake-up and so many are left with it, of which it is taken out.

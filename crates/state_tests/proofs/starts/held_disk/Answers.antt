@@ -4,4 +4,4 @@ use Rattle.keep_state.proofs.Starting.{kept_alone}
 use Rattle.state_tests.proofs.starts.held_disk.Goals as goal
 
 pub returns : goal.returns
-returns g c = λ path. kept_alone path (memory_state c.in_ok-disk.disk) (memory_state c.take_locks.new.self) c.take_locks.ensures.alone (c.in_ok-disk.ensures path)
+returns c path = kept_alone path (memory_state c.in_ok-disk.disk) (memory_state c.take_locks.new.self) c.take_locks.ensures.alone (c.in_ok-disk.ensures path)
