@@ -51,10 +51,10 @@ fn reply(alloc: Global, status: u16, body: &str) -> Result<DatedReply, AllocErro
 }
 
 // The word for what was heard, if it is of that status and moment where it tells them.
-fn word<T: Drop>(heard: Result<Heard<T>, AllocError>, status: u16) -> &'static str {
+fn word<T>(heard: &Result<Heard<T>, AllocError>, status: u16) -> &'static str {
     match heard {
-        Ok(Heard::Told(_, told)) if told == Some(at(1059)) => "told",
-        Ok(Heard::Refused(told, date)) if told == status && date == Some(at(1059)) => "refused",
+        Ok(Heard::Told(_, told)) if *told == Some(at(1059)) => "told",
+        Ok(Heard::Refused(told, date)) if *told == status && *date == Some(at(1059)) => "refused",
         Ok(Heard::Busy) => "busy",
         Ok(Heard::Lost) => "lost",
         _ => "another",
@@ -63,8 +63,8 @@ fn word<T: Drop>(heard: Result<Heard<T>, AllocError>, status: u16) -> &'static s
 
 // Whether an answer to a lookup and to a renewal is heard as this.
 fn is_heard(alloc: Global, kind: Kind, answer: &DatedReply, status: u16, wanted: &str) -> bool {
-    word(hear_lookup(alloc, kind, answer), status) == wanted
-        && word(hear_renewal(alloc, kind, b"db/1", answer), status) == wanted
+    word(&hear_lookup(alloc, kind, answer), status) == wanted
+        && word(&hear_renewal(alloc, kind, b"db/1", answer), status) == wanted
 }
 
 // The same of each kind.
@@ -113,7 +113,7 @@ fn is_lease_renewed(alloc: Global) -> Result<bool, AllocError> {
     let another = hear_renewal(alloc, Kind::Lease, b"db/2", &answer);
     Ok(
         is_renewed(hear_renewal(alloc, Kind::Lease, b"db/1", &answer))
-            && word(another, 200) == "lost",
+            && word(&another, 200) == "lost",
     )
 }
 
