@@ -98,6 +98,8 @@ class Relay:
                     self.served += 1
         except (OSError, ValueError, TimeoutError, asyncio.IncompleteReadError, asyncio.LimitOverrunError):
             pass  # The client sees a connection that closes without a reply.
+        except asyncio.CancelledError:
+            pass  # The trial has ended.
         finally:
             writer.close()
 
