@@ -32,8 +32,8 @@ use Rattle.watch_machine.specs.State.{WatchState}
 use Rattle.watch_machine.specs.Step.{Step, StepClock, StepCommand, StepLooked, StepRenewed, readied}
 use Rattle.watch_machine.proofs.Cases.{if_both, if_cases, not_both, of_value}
 use Rattle.watch_machine.proofs.Within.{out_all, out_entry}
-use Rattle.watch_laws.specs.Load.{requests_asked_by, requests_of}
-use Rattle.watch_laws.specs.Presence.{AwayLaw, answers, is_answer, is_answered, is_asked, is_loss, loses}
+use Rattle.watch_laws.specs.Load.{requests_asked_by, requests_at_turn}
+use Rattle.watch_laws.specs.Presence.{AwayLaw, answers, is_answer_taken, is_answered, is_asked_at_turn, is_loss, loses}
 use Rattle.watch_laws.proofs.Clocking.{refused_stays}
 use Rattle.watch_laws.proofs.Holding.{looked_presence, ready_presence}
 use Rattle.watch_laws.proofs.Spacing.{looked_out, readied_out}
@@ -298,13 +298,13 @@ else_same old new (Known i end renewable) requests h no' none = h.away
 
 -- a turn
 turn_unheard :
-    (j : ℕ) (old new : WatchState) (event : Event) (result : Result Output WatchFault) → Turn old event result new → is_answer (record { event = event; result = result; state = new }) ≡ false →
+    (j : ℕ) (old new : WatchState) (event : Event) (result : Result Output WatchFault) → Turn old event result new → is_answer_taken (record { event = event; result = result; state = new }) ≡ false →
     AreHeard false j old.out → AreHeard false j new.out
 turn_unheard j old new event (Ok output) turn no' all = stays_unheard j old new event (requests_asked_by output.command) (acts old new event output turn.1) no' all
 turn_unheard j old new event (Err fault) turn no' all = subst (λ (x : WatchState). AreHeard false j x.out) (sym (refused_stays old new event fault turn)) all
 
 turn_heard :
-    (j : ℕ) (old new : WatchState) (event : Event) (result : Result Output WatchFault) → Turn old event result new → list_any (λ (r : Request). r.entry == j) (requests_of result) ≡ false →
+    (j : ℕ) (old new : WatchState) (event : Event) (result : Result Output WatchFault) → Turn old event result new → list_any (λ (r : Request). r.entry == j) (requests_at_turn result) ≡ false →
     AreHeard true j old.out → AreHeard true j new.out
 turn_heard j old new event (Ok output) turn none all = stays_heard j old new event (requests_asked_by output.command) (acts old new event output turn.1) none all
 turn_heard j old new event (Err fault) turn none all = subst (λ (x : WatchState). AreHeard true j x.out) (sym (refused_stays old new event fault turn)) all
@@ -312,11 +312,11 @@ turn_heard j old new event (Err fault) turn none all = subst (λ (x : WatchState
 abbrev turned : Event → Result Output WatchFault → WatchState → Turned
 turned event result new = record { event = event; result = result; state = new }
 
-turn_back : (old new : WatchState) (event : Event) (result : Result Output WatchFault) → Turn old event result new → is_answer (turned event result new) ≡ true → new.presence.away ≡ false
+turn_back : (old new : WatchState) (event : Event) (result : Result Output WatchFault) → Turn old event result new → is_answer_taken (turned event result new) ≡ true → new.presence.away ≡ false
 turn_back old new event (Ok output) turn yes' = answer_back old new event (requests_asked_by output.command) (acts old new event output turn.1) yes'
 turn_back old new event (Err fault) turn yes' = absurd cc
 
-turn_hears : (j : ℕ) (old new : WatchState) (event : Event) (result : Result Output WatchFault) → Turn old event result new → is_answer (turned event result new) ≡ true → AreHeard true j new.out
+turn_hears : (j : ℕ) (old new : WatchState) (event : Event) (result : Result Output WatchFault) → Turn old event result new → is_answer_taken (turned event result new) ≡ true → AreHeard true j new.out
 turn_hears j old new event (Ok output) turn yes' = answer_hears j old new event (requests_asked_by output.command) (acts old new event output turn.1) yes'
 turn_hears j old new event (Err fault) turn yes' = absurd cc
 
@@ -331,26 +331,26 @@ turn_same i old new event (Ok output) turn yes' all = loss_same i old new event 
 turn_same i old new event (Err fault) turn yes' all = absurd cc
 
 turn_else :
-    (old new : WatchState) (event : Event) (result : Result Output WatchFault) → Turn old event result new → is_answer (turned event result new) ≡ false →
+    (old new : WatchState) (event : Event) (result : Result Output WatchFault) → Turn old event result new → is_answer_taken (turned event result new) ≡ false →
     ((i : ℕ) → is_loss i (turned event result new) ≡ false) → new.presence.away ≡ old.presence.away
 turn_else old new event (Ok output) turn no' none = else_same old new event (requests_asked_by output.command) (acts old new event output turn.1) no' none
 turn_else old new event (Err fault) turn no' none = ap (λ (x : WatchState). x.presence.away) (refused_stays old new event fault turn)
 
 -- over turns
 ran_lost :
-    (between : List Turned) (old : WatchState) (loss : Turned) (i : ℕ) → History old (between ++ loss ∷ []) → AreHeard false i old.out → list_any is_answer between ≡ false → is_loss i loss ≡ true →
+    (between : List Turned) (old : WatchState) (loss : Turned) (i : ℕ) → History old (between ++ loss ∷ []) → AreHeard false i old.out → list_any is_answer_taken between ≡ false → is_loss i loss ≡ true →
     loss.state.presence.away ≡ true
 ran_lost [] old loss i h all none is = turn_lost i old loss.state loss.event loss.result h.0 is all
 ran_lost (turn ∷ between) old loss i h all none is =
-    let parts = neither (is_answer turn) (list_any is_answer between) none in
+    let parts = neither (is_answer_taken turn) (list_any is_answer_taken between) none in
     ran_lost between turn.state loss i h.1 (turn_unheard i old turn.state turn.event turn.result h.0 parts.0 all) parts.1 is
 
 ran_same :
-    (between : List Turned) (old : WatchState) (loss : Turned) (i : ℕ) → History old (between ++ loss ∷ []) → AreHeard true i old.out → list_any (is_asked i) between ≡ false → is_loss i loss ≡ true →
+    (between : List Turned) (old : WatchState) (loss : Turned) (i : ℕ) → History old (between ++ loss ∷ []) → AreHeard true i old.out → list_any (is_asked_at_turn i) between ≡ false → is_loss i loss ≡ true →
     loss.state.presence.away ≡ (after_all old between).presence.away
 ran_same [] old loss i h all none is = turn_same i old loss.state loss.event loss.result h.0 is all
 ran_same (turn ∷ between) old loss i h all none is =
-    let parts = neither (is_asked i turn) (list_any (is_asked i) between) none in
+    let parts = neither (is_asked_at_turn i turn) (list_any (is_asked_at_turn i) between) none in
     ran_same between turn.state loss i h.1 (turn_heard i old turn.state turn.event turn.result h.0 parts.0 all) parts.1 is
 
 pub away_by : AwayLaw

@@ -30,7 +30,7 @@ use Rattle.watch_machine.proofs.Seeing.{each_read}
 use Rattle.watch_machine.proofs.Written.{each_length}
 use Rattle.watch_laws.specs.Absence.{is_event_taken}
 use Rattle.watch_laws.specs.Beginnings.{HasParted, why_begun}
-use Rattle.watch_laws.specs.Begins.{BeginLaw, IsBegun, IsNewDay, MayGoOn, SomebodyIsUrgent}
+use Rattle.watch_laws.specs.Begins.{BeginLaw, IsBegunAnew, IsNewDay, MayGoOn, SomebodyIsUrgent}
 use Rattle.watch_laws.proofs.Clocking.{clock_at, clock_rises, readied_clocks, sent_by}
 use Rattle.watch_laws.proofs.Dating.{Clocked, not_parted, opened_clocked, parts, ran_clocked}
 use Rattle.watch_laws.proofs.Fronts.{alone_index, index_alone}
@@ -250,7 +250,7 @@ module _ (old new : WatchState) (wall elapsed : ℕ) (output : Output) (step : S
         quiet = λ some. not_both (sym (ap (λ n. list_any (is_urgent (sec n)) t.tracks) same) ∙ some_urgent old wall elapsed (second new) some) h.quiet;
       }
 
-  clock_anew : is_some output.notes.began ≡ true → IsBegun new
+  clock_anew : is_some output.notes.began ≡ true → IsBegunAnew new
   unfolding readied
   clock_anew some =
       let w = why old wall elapsed in
@@ -289,6 +289,6 @@ begins_so = record {
   day = λ old turn wall elapsed h clock.
       turn_of (λ w. w ≡ Some Day → IsNewDay old turn.state) old turn.state turn.event turn.result wall elapsed h.0 clock.0 clock.1 (λ output step. clock_day old turn.state wall elapsed output step);
   anew = λ old turn wall elapsed h clock.
-      turn_of (λ w. is_some w ≡ true → IsBegun turn.state) old turn.state turn.event turn.result wall elapsed h.0 clock.0 clock.1 (λ output step. clock_anew old turn.state wall elapsed output step);
+      turn_of (λ w. is_some w ≡ true → IsBegunAnew turn.state) old turn.state turn.event turn.result wall elapsed h.0 clock.0 clock.1 (λ output step. clock_anew old turn.state wall elapsed output step);
   asks = λ old turn h is taken'. turn_asks old turn.state turn.event turn.result h.0 is taken';
 }

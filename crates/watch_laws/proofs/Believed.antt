@@ -176,7 +176,7 @@ carried_believed s forest i =
     sym (same_carried (map (terms s) (range_with_len 0 n)) (view s.forest.entries s.tracks s.clocks) same (second s) i)
 
 -- what is over an entry does not stand behind it
-over_before : (es : List Entry) → ParentsFirst es → (n a f : ℕ) → f < n → Over es a f → a ≤ f
+pub over_before : (es : List Entry) → ParentsFirst es → (n a f : ℕ) → f < n → Over es a f → a ≤ f
 over_before es first zero a f h over = absurd (omega arith)
 over_before es first (suc n) a f h over =
     cases_Option (entry_at es f).parent (a ≤ f)

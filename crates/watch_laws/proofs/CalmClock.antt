@@ -247,7 +247,7 @@ rest_fresh : (r : WatchState) → (forest : IsForest r.forest) → (calm : IsCal
 rest_fresh r forest calm round i within =
     elim (cases_Bool (fresh_at r i)) as (λ _. fresh_at r i ≡ false) [
       | inr no' ↦ no'
-      | inl yes' ↦ (let parts = fresh_parts r i yes' in absurd (none_opens r forest calm round i within (opens_now r forest calm i within parts.0 parts.1.0)))
+      | inl yes' ↦ (let parts = fresh_parts r i yes' in absurd (none_opens r round i within (opens_now r forest calm i within parts.0 parts.1.0)))
     ]
 
 -- what an entry that the Asks name falls short of

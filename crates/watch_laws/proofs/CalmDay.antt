@@ -30,7 +30,7 @@ use Rattle.watch_machine.specs.State.{WatchState, attempt_at, second}
 use Rattle.watch_machine.specs.Step.{Step, StepClock, StepCommand, StepRenewed, readied}
 use Rattle.watch_machine.proofs.Cases.{if_both}
 use Rattle.watch_laws.specs.Calm.{AreCalm, CalmLaw, EndAs, GoBy, GrantIsByRule, IsCalmClock, IsCalmEvent, IsCalmSecond, IsCalmTurn, NonePassed, OpensNextWakeUp, StateIsAtRest, believed_forest, ends, ends_left_by, began_after}
-use Rattle.watch_laws.specs.Load.{requests_asked_by as asked_for, requests_of}
+use Rattle.watch_laws.specs.Load.{requests_asked_by as asked_for, requests_at_turn}
 use Rattle.watch_laws.specs.Time.{round_of}
 use Rattle.watch_laws.proofs.CalmClock.{IsStep, after_clock, forest_of, going_on, resting_on}
 use Rattle.watch_laws.proofs.CalmGrant.{answer_goes}
@@ -151,7 +151,7 @@ step_on s new (Known i end renewable) output g e last wakes ts s0 goes to_come f
 
 turn_on :
     (s new : WatchState) (event : Event) (result : Result Output WatchFault) (g : Forest) (e : ℕ → ℕ) (last : Wake) (wakes : List Wake) (ts : List ℕ) (s0 : ℕ) → Goes s g e last ts → wakes ≡ with_asks g.entries g.margin s0 e ts → s0 ≤ second s →
-    Turn s event result new → IsCalmTurn s last.at event result → IsOn new g s0 e last wakes (round_of result) (requests_of result)
+    Turn s event result new → IsCalmTurn s last.at event result → IsOn new g s0 e last wakes (round_of result) (requests_at_turn result)
 turn_on s new event (Ok output) g e last wakes ts s0 goes to_come from turn calm = step_on s new event output g e last wakes ts s0 goes to_come from turn.1 calm
 turn_on s new event (Err fault) g e last wakes ts s0 goes to_come from turn calm =
     subst (λ x. IsOn x g s0 e last wakes None []) (sym (refused_stays s new event fault turn)) (stays_on s s g e last wakes ts s0 goes to_come from refl)

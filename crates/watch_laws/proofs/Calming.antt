@@ -38,7 +38,7 @@ pub record AreAlike (new old : WatchState) : Type 0 where
   pub held : (i : ℕ) → is_fixed (track_at old i) ≡ true → believed (track_at new i).end ≡ believed (track_at old i).end
 
 -- the least of some numbers that a test finds
-least_same :
+pub least_same :
     (f h : ℕ → Bool) (b c : ℕ → ℕ) → ((i : ℕ) → f i ≡ h i) → ((i : ℕ) → h i ≡ true → b i ≡ c i) → (xs : List ℕ) (m : ℕ) →
     least m (map b (filter f xs)) ≡ least m (map c (filter h xs))
 least_same f h b c same held [] m = refl
@@ -55,7 +55,7 @@ least_same f h b c same held (x ∷ xs) m =
           ∙ sym (ap (λ d. least m (map c (cond d (x ∷ filter h xs) (filter h xs)))) no')
     ]
 
-limit_at : WatchState → ℕ → ℕ
+unfoldable pub limit_at : WatchState → ℕ → ℕ
 limit_at s i = limit s.forest.entries s.tracks i
 
 limit_alike : (new old : WatchState) → AreAlike new old → (i : ℕ) → limit_at new i ≡ limit_at old i
@@ -65,7 +65,7 @@ limit_alike new old a i =
     ∙ ap (λ (g : Forest). least END_MAX (map (λ k. believed (track_at old k).end) (filter (λ k. is_fixed (track_at old k)) (chain g.entries i)))) a.forest
 
 -- an entry by its parts
-term_of : Entry → BrokerOffset → WallOffset → ℕ → Bool → Entry
+unfoldable pub term_of : Entry → BrokerOffset → WallOffset → ℕ → Bool → Entry
 term_of e broker wall most led = record e {
   end = 0;
   renewable = led;

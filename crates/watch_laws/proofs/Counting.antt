@@ -6,19 +6,19 @@ use Rattle.std.specs.List.{list_any}
 use Rattle.watch_machine.specs.declared.lanes.Out.{Out}
 use Rattle.watch_machine.specs.Wanted.{least}
 use Rattle.watch_machine.proofs.Leasts.{least_start}
-use Rattle.watch_laws.specs.Outage.{how_many, one_if}
+use Rattle.watch_laws.specs.Outage.{how_many, one_where}
 use Rattle.watch_laws.proofs.Alone.{lanes_of}
 use Rattle.watch_laws.proofs.Spacing.{same_index}
 
 -- sums of what each index adds
 pub sums :
-    (n : ℕ) (p q a b c : ℕ → Bool) → ((j : ℕ) → one_if (p j) + one_if (q j) ≤ one_if (a j) + one_if (b j) + one_if (c j)) →
+    (n : ℕ) (p q a b c : ℕ → Bool) → ((j : ℕ) → one_where (p j) + one_where (q j) ≤ one_where (a j) + one_where (b j) + one_where (c j)) →
     how_many n p + how_many n q ≤ how_many n a + how_many n b + how_many n c
 sums zero p q a b c each' = omega arith
 sums (suc n) p q a b c each' = let rest = sums n p q a b c each' in let here = each' n in omega (arith, rest, here)
 
-one_less : (p q : Bool) → (p ≡ true → q ≡ true) → one_if p ≤ one_if q
-one_less true q h = let e = ap one_if (h refl) in omega (arith, e)
+one_less : (p q : Bool) → (p ≡ true → q ≡ true) → one_where p ≤ one_where q
+one_less true q h = let e = ap one_where (h refl) in omega (arith, e)
 one_less false q h = omega arith
 
 pub more : (n : ℕ) (p q : ℕ → Bool) → ((j : ℕ) → p j ≡ true → q j ≡ true) → how_many n p ≤ how_many n q
@@ -32,8 +32,8 @@ one_more (suc n) k p q below no' yes' each' =
     elim (cases_eq k n) as (λ _. 1 + how_many (suc n) p ≤ how_many (suc n) q) [
       | inl is ↦
           let rest = more n p q each' in
-          let a = ap one_if (subst (λ m. p m ≡ false) is no') in
-          let b = ap one_if (subst (λ m. q m ≡ true) is yes') in
+          let a = ap one_where (subst (λ m. p m ≡ false) is no') in
+          let b = ap one_where (subst (λ m. q m ≡ true) is yes') in
           omega (arith, rest, a, b)
       | inr other ↦
           let low : k < n = omega (arith, below, other) in
@@ -47,7 +47,7 @@ some n k p below yes' = let m = one_more n k (λ j. false) p below refl yes' (λ
 
 pub none : (n : ℕ) (p : ℕ → Bool) → ((j : ℕ) → p j ≡ false) → how_many n p ≡ 0
 none zero p each' = refl
-none (suc n) p each' = let rest = none n p each' in let here = ap one_if (each' n) in omega (arith, rest, here)
+none (suc n) p each' = let rest = none n p each' in let here = ap one_where (each' n) in omega (arith, rest, here)
 
 -- no lane holds a request of j
 pub no_lane : (j : ℕ) (test : Out → Bool) (out : List Out) → lanes_of j out ≡ 0 → list_any (λ (q : Out). q.entry == j && test q) out ≡ false
@@ -107,7 +107,7 @@ least_all f m (q ∷ out) =
     All-cons (λ (r : Out). least (min m (f q)) (map f out) ≤ f r) q out (let start = least_start (min m (f q)) (map f out) in omega (arith, start)) (least_all f (min m (f q)) out)
 
 -- what one entry adds to those that wait, and to those that are out anew, at a turn: it waited before, or comes to wait, or was out anew
-waits_less : (new served old before : Bool) → one_if (new && not served) ≤ one_if (old && not before) + one_if (new && (not old || (before && not served)))
+waits_less : (new served old before : Bool) → one_where (new && not served) ≤ one_where (old && not before) + one_where (new && (not old || (before && not served)))
 waits_less false served old before = omega arith
 waits_less true true old before = omega arith
 waits_less true false true true = omega arith
@@ -116,7 +116,7 @@ waits_less true false false before = omega arith
 
 served_anew :
     (new served old before : Bool) → new ≡ true → served ≡ true → before ≡ false →
-    one_if (new && not served) + 1 ≤ one_if (old && not before) + one_if (new && (not old || (before && not served)))
+    one_where (new && not served) + 1 ≤ one_where (old && not before) + one_where (new && (not old || (before && not served)))
 served_anew true true true false a b c = omega arith
 served_anew true true false false a b c = omega arith
 served_anew true true old true a b c = absurd cc
@@ -125,11 +125,11 @@ served_anew false served old before a b c = absurd cc
 
 pub counted :
     (new served old before anew was : Bool) → (served ≡ true → new ≡ true) → (anew ≡ true → (was ≡ true) ⊎ ((served ≡ true) × (before ≡ false))) →
-    one_if (new && not served) + one_if anew ≤ one_if (old && not before) + one_if (new && (not old || (before && not served))) + one_if was
+    one_where (new && not served) + one_where anew ≤ one_where (old && not before) + one_where (new && (not old || (before && not served))) + one_where was
 counted new served old before false was tried from' = let less = waits_less new served old before in omega (arith, less)
 counted new served old before true was tried from' =
-    elim (from' refl) as (λ _. one_if (new && not served) + 1 ≤ one_if (old && not before) + one_if (new && (not old || (before && not served))) + one_if was) [
-      | inl still ↦ (let less = waits_less new served old before in let e = ap one_if still in omega (arith, less, e))
+    elim (from' refl) as (λ _. one_where (new && not served) + 1 ≤ one_where (old && not before) + one_where (new && (not old || (before && not served))) + one_where was) [
+      | inl still ↦ (let less = waits_less new served old before in let e = ap one_where still in omega (arith, less, e))
       | inr now ↦ (let less = served_anew new served old before (tried now.0) now.0 now.1 in omega (arith, less))
     ]
 
@@ -141,7 +141,7 @@ lanes_most n test (q ∷ out) =
     let rest = lanes_most n test out in
     let one = one_at_most n q.entry old (λ j. q.entry == j && test q) (λ j e. eqb-true q.entry j (and_parts (q.entry == j) (test q) e).0) in
     omega (arith, rest, one) where
-      both_less : (a b : Bool) → one_if (a || b) ≤ one_if a + one_if b
+      both_less : (a b : Bool) → one_where (a || b) ≤ one_where a + one_where b
       both_less true b = omega arith
       both_less false b = omega arith
 
@@ -154,7 +154,7 @@ lanes_most n test (q ∷ out) =
             | inl yes' ↦ (let e = is m yes' in absurd (omega (arith, e, above)))
             | inr no' ↦ no'
           ] in
-          let same = ap (λ b. one_if (b || p m)) here in
+          let same = ap (λ b. one_where (b || p m)) here in
           omega (arith, less, same)
 
       one_at_most : (m k : ℕ) (p r : ℕ → Bool) → ((j : ℕ) → r j ≡ true → k ≡ j) → how_many m (λ j. r j || p j) ≤ 1 + how_many m p
@@ -168,7 +168,7 @@ lanes_most n test (q ∷ out) =
                   | inl yes' ↦ (let e = is m yes' in absurd (omega (arith, e, below)))
                   | inr no' ↦ no'
                 ] in
-                let same = ap (λ b. one_if (b || p m)) here in
+                let same = ap (λ b. one_where (b || p m)) here in
                 omega (arith, less, same)
             | inr above ↦
                 let less = none_at m p r k is above in
@@ -176,6 +176,6 @@ lanes_most n test (q ∷ out) =
                 let most = one_most (r m) in
                 omega (arith, less, here, most)
           ] where
-            one_most : (b : Bool) → one_if b ≤ 1
+            one_most : (b : Bool) → one_where b ≤ 1
             one_most true = omega arith
             one_most false = omega arith

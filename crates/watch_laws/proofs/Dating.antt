@@ -37,9 +37,9 @@ use Rattle.watch_machine.proofs.Cases.{if_both, if_cases, not_both, of_value}
 use Rattle.watch_machine.proofs.Within.{out_all, out_entry}
 use Rattle.watch_laws.specs.Absence.{is_event_taken}
 use Rattle.watch_laws.specs.Beginnings.{HasParted}
-use Rattle.watch_laws.specs.Clocks.{DateLaw, IsDateOf, ReadingLaw, ShowsDate, ShowsReadings, Stays, StaysLaw, UndatedLaw, date_told, is_set, sets}
-use Rattle.watch_laws.specs.Load.{requests_asked_by, requests_of}
-use Rattle.watch_laws.specs.Presence.{is_asked}
+use Rattle.watch_laws.specs.Clocks.{ClocksStay, DateLaw, IsDateOf, ReadingLaw, ShowsDate, ShowsReadings, StaysLaw, UndatedLaw, date_told, is_set, sets}
+use Rattle.watch_laws.specs.Load.{requests_asked_by, requests_at_turn}
+use Rattle.watch_laws.specs.Presence.{is_asked_at_turn}
 use Rattle.watch_laws.proofs.Answering.{looked_leaves, renewed_leaves, rest_of}
 use Rattle.watch_laws.proofs.Away.{clock_leaves, left, neither, sent_requests}
 use Rattle.watch_laws.proofs.Clocking.{begun_some, clock_rises, readied_clocks, refused_stays}
@@ -373,7 +373,7 @@ parts (turn ∷ before) rest old h = let p = parts before rest turn.state h.1 in
 -- a clock that is taken
 pub clock_of :
     (old new : WatchState) (event : Event) (result : Result Output WatchFault) (wall elapsed : ℕ) → Turn old event result new → event ≡ Clock wall elapsed → is_event_taken result ≡ true →
-    Goes old wall elapsed (requests_of result) new
+    Goes old wall elapsed (requests_at_turn result) new
 clock_of old new event (Ok output) wall elapsed turn is taken' = clock_goes old new wall elapsed output (subst (λ e. Step old e output new) is turn.1)
 clock_of old new event (Err fault) wall elapsed turn is taken' = absurd cc
 
@@ -480,16 +480,16 @@ does_out i since old new Begin requests h none all = subst (All (WentOut i since
 does_out i since old new (Known j end renewable) requests h none all = subst (All (WentOut i since)) (sym h.out) all
 
 turn_out :
-    (i since : ℕ) (old new : WatchState) (event : Event) (result : Result Output WatchFault) → Turn old event result new → list_any (λ (r : Request). r.entry == i) (requests_of result) ≡ false →
+    (i since : ℕ) (old new : WatchState) (event : Event) (result : Result Output WatchFault) → Turn old event result new → list_any (λ (r : Request). r.entry == i) (requests_at_turn result) ≡ false →
     All (WentOut i since) old.out → All (WentOut i since) new.out
 turn_out i since old new event (Ok output) turn none all = does_out i since old new event (requests_asked_by output.command) (does old new event output turn.1) none all
 turn_out i since old new event (Err fault) turn none all = subst (λ (x : WatchState). All (WentOut i since) x.out) (sym (refused_stays old new event fault turn)) all
 
 pub ran_out :
-    (i since : ℕ) (turns : List Turned) (old : WatchState) → History old turns → list_any (is_asked i) turns ≡ false → All (WentOut i since) old.out → All (WentOut i since) (after_all old turns).out
+    (i since : ℕ) (turns : List Turned) (old : WatchState) → History old turns → list_any (is_asked_at_turn i) turns ≡ false → All (WentOut i since) old.out → All (WentOut i since) (after_all old turns).out
 ran_out i since [] old h none all = all
 ran_out i since (turn ∷ turns) old h none all =
-    let both = neither (is_asked i turn) (list_any (is_asked i) turns) none in
+    let both = neither (is_asked_at_turn i turn) (list_any (is_asked_at_turn i) turns) none in
     ran_out i since turns turn.state h.1 both.1 (turn_out i since old turn.state turn.event turn.result h.0 both.0 all)
 
 none_out : (i since : ℕ) (out : List Out) → All (λ (q : Out). q.entry ≢ i) out → All (WentOut i since) out
@@ -611,11 +611,11 @@ dates_shown g width before between later asking answer turn i date wall elapsed 
     subst (λ (c : Clocks). ShowsDate c asking.state.clocks.at (min LAST date)) (sym goes.clocks) (date_shown asking.state.clocks.at date s4 wall elapsed d4 o4)
 
 -- where there is no date the clocks are only read
-read_stays : (c : Clocks) (wall elapsed : ℕ) → Stays c (read c wall elapsed)
+read_stays : (c : Clocks) (wall elapsed : ℕ) → ClocksStay c (read c wall elapsed)
 unfolding walled
 read_stays c wall elapsed =
     let now = at_reading c elapsed in
-    if_both (Stays c) (is_stepped now (reading wall))
+    if_both (ClocksStay c) (is_stepped now (reading wall))
     (record now { wall = record { here = now.at; there = reading wall }; broker = if c.dated then c.broker else record { here = now.at; there = sec (reading wall) } }) now
     (record { phase = refl; dated = refl; broker = λ told. cond-true c.dated c.broker (record { here = now.at; there = sec (reading wall) }) told })
     (record { phase = refl; dated = refl; broker = λ told. refl })
@@ -637,4 +637,4 @@ clocks_stay g width before between first turn wall elapsed wall' elapsed' h cloc
     let is : turn.state.clocks ≡ read first.state.clocks wall' elapsed' =
     goes'.clocks ∙ begun_after s wall' elapsed' (q.begun ∙ goes.begun) ∙ ap (dated_by_all (read s.clocks wall' elapsed')) only ∙ none_sets (read s.clocks wall' elapsed') q.more q.none
     ∙ ap (λ (c : Clocks). read c wall' elapsed') q.clocks in
-    subst (Stays first.state.clocks) (sym is) (read_stays first.state.clocks wall' elapsed')
+    subst (ClocksStay first.state.clocks) (sym is) (read_stays first.state.clocks wall' elapsed')

@@ -43,7 +43,7 @@ use Rattle.watch_machine.proofs.Cases.{if_both, not_both, of_value}
 use Rattle.watch_machine.proofs.Within.{out_all, out_entry}
 use Rattle.watch_laws.specs.Ends.{AllNoLater, AreLivedFrom, IsHonest, IsNoLater, IsTrueEvent, IsTrueReply, Lived, NeverPastLaw, Origin, TimedWorld, asked_after, no_origin, tells, tells_an_end, told_after}
 use Rattle.watch_laws.specs.Absence.{is_event_taken}
-use Rattle.watch_laws.specs.Load.{requests_asked_by, requests_of}
+use Rattle.watch_laws.specs.Load.{requests_asked_by, requests_at_turn}
 use Rattle.watch_laws.proofs.Alone.{IsAlone, flag, turn_alone}
 use Rattle.watch_laws.proofs.Answering.{looked_leaves, renewed_leaves, rest_of}
 use Rattle.watch_laws.proofs.Basing.{BaseBy, Passes, Timely, back_passes, base_later, from_try_by, granted_base, later_timely, mid_passes, none_timely, readied_passes, same_passes, told_base, ungranted_base, untold_base}
@@ -517,7 +517,7 @@ known_stands w i now asked j told o real old new end renewable is alone so h =
     ]
 
 abbrev Asked : ℕ → ℕ → ℕ → Result Output WatchFault → ℕ
-Asked i now asked result = if list_any (λ (r : Request). r.entry == i) (requests_of result) then now else asked
+Asked i now asked result = if list_any (λ (r : Request). r.entry == i) (requests_at_turn result) then now else asked
 
 step_stands :
     (w : TimedWorld) → IsHonest w → (i asked : ℕ) (told : Origin) (l : Lived) (old : WatchState) (event : Event) (output : Output) (new : WatchState) → Stands w i l.at asked told l.real old →

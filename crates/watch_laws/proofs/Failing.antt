@@ -24,16 +24,16 @@ use Rattle.watch_machine.specs.Step.{Step, StepLooked, StepRenewed}
 use Rattle.watch_machine.specs.Wanted.{is_open}
 use Rattle.watch_machine.proofs.Cases.{if_both}
 use Rattle.watch_machine.proofs.Within.{out_entry}
-use Rattle.watch_laws.specs.Failures.{AllFailRight, FailedLaw, FailsRight, FailsTaken, HasFailed, LookupFails, MayGoNow, RenewalFails}
+use Rattle.watch_laws.specs.Failures.{AllFailRight, FailedLaw, FailsRight, FailsTaken, LookupFails, MayGoNow, RenewalFails, TryHasFailed}
 use Rattle.watch_laws.proofs.Answering.{looked_leaves}
 use Rattle.watch_laws.proofs.Tracking.{back_kept, set_holds}
 
 -- the broker's return leaves a try that failed, and one that may go out at once
-back_failed : (lost : Bool) (x : Track) (o : Option Try) → HasFailed lost o → HasFailed lost (back_try x o)
+back_failed : (lost : Bool) (x : Track) (o : Option Try) → TryHasFailed lost o → TryHasFailed lost (back_try x o)
 back_failed lost x None h = tt
 back_failed lost x (Some t) h =
-    if_both (HasFailed lost) x.out (Some (record t { fails = 0 })) (if t.lost then Some (hastened t (rested x.last)) else Some t) h
-    (if_both (HasFailed lost) t.lost (Some (hastened t (rested x.last))) (Some t) h h)
+    if_both (TryHasFailed lost) x.out (Some (record t { fails = 0 })) (if t.lost then Some (hastened t (rested x.last)) else Some t) h
+    (if_both (TryHasFailed lost) t.lost (Some (hastened t (rested x.last))) (Some t) h h)
 
 back_now : (at : ℕ) (x : Track) (o : Option Try) → MayGoNow at o → MayGoNow at (back_try x o)
 back_now at x None h = tt
@@ -90,11 +90,11 @@ renewed_fails s q reply =
     (set_holds (λ (y : Track). RenewalFails reply y.attempt) (no_renewal reply) s.tracks q.entry _ (renewed_made s.forest.margin _ s.clocks.at q reply (track_at s q.entry)))
 
 -- and that to a lookup
-refused_fails : (at : ℕ) (x : Track) (t : Try) → HasFailed false (Some (refused_try at x t)) ⊎ MayGoNow at (Some (refused_try at x t))
+refused_fails : (at : ℕ) (x : Track) (t : Try) → TryHasFailed false (Some (refused_try at x t)) ⊎ MayGoNow at (Some (refused_try at x t))
 refused_fails at x t =
-    if_both (λ u. HasFailed false (Some u) ⊎ MayGoNow at (Some u)) (is_open (sec at) x)
+    if_both (λ u. TryHasFailed false (Some u) ⊎ MayGoNow at (Some u)) (is_open (sec at) x)
     (if t.pressed then failing t Renew false false else record (failing t Renew false false) { at = at; failed = false }) (failing t Look false false)
-    (if_both (λ u. HasFailed false (Some u) ⊎ MayGoNow at (Some u)) t.pressed (failing t Renew false false) (record (failing t Renew false false) { at = at; failed = false }) (inl (refl, refl)) (inr (omega arith)))
+    (if_both (λ u. TryHasFailed false (Some u) ⊎ MayGoNow at (Some u)) t.pressed (failing t Renew false false) (record (failing t Renew false false) { at = at; failed = false }) (inl (refl, refl)) (inr (omega arith)))
     (inl (refl, refl))
 
 untold_fails : (at : ℕ) (heard : Bool) (reply : Reply) (x : Track) (o : Option Try) → LookupFails at reply (untold at heard reply x o)

@@ -31,7 +31,7 @@ use Rattle.watch_machine.specs.Wait.{wait}
 use Rattle.watch_machine.specs.Wanted.{is_alive}
 use Rattle.watch_machine.proofs.Cases.{not_both, value_is}
 use Rattle.watch_machine.proofs.Written.{each_length}
-use Rattle.watch_laws.specs.Load.{requests_asked_by, requests_of}
+use Rattle.watch_laws.specs.Load.{requests_asked_by, requests_at_turn}
 use Rattle.watch_laws.specs.Partial.{is_own_try, stands_before}
 use Rattle.watch_laws.specs.Recovery.{MayGo}
 use Rattle.watch_laws.specs.Starts.{AllKnownFirst, IsToRenew, KnownFirstLaw}
@@ -176,7 +176,7 @@ step_first old new (Known j end renewable) output i step there r = none_goes new
 
 turn_first :
     (old new : WatchState) (event : Event) (result : Result Output WatchFault) (i : ℕ) → Turn old event result new → new.presence.away ≡ false → IsToRenew new i →
-    All (λ (r : Request). stands_before i new r.entry ≡ true) (requests_of result)
+    All (λ (r : Request). stands_before i new r.entry ≡ true) (requests_at_turn result)
 turn_first old new event (Ok output) i turn there r = step_first old new event output i turn.1 there r
 turn_first old new event (Err fault) i turn there r = All-nil (λ (q : Request). stands_before i new q.entry ≡ true)
 

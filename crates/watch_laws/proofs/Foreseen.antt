@@ -36,7 +36,7 @@ wanted_short s i wanted =
     let low : short ≡ true = and_right (not (is_never x.end)) short (and_right (not x.top) (not (is_never x.end) && short) (and_right (x.renewable || is_unknown x.end) (not x.top && (not (is_never x.end) && short)) wanted)) in
     grind (arith, nat_tests)
 
-never_ends : (e : End) → believed e ≤ LAST → is_never e ≡ false
+pub never_ends : (e : End) → believed e ≤ LAST → is_never e ≡ false
 never_ends Unknown low = refl
 never_ends (At end) low = refl
 never_ends Never low = absurd (omega arith)

@@ -26,7 +26,7 @@ use Rattle.watch_machine.specs.Wanted.{believed}
 use Rattle.watch_machine.proofs.Within.{out_entry}
 use Rattle.watch_laws.specs.Absence.{is_event_taken}
 use Rattle.watch_laws.specs.AtTop.{IsAtTop, TopLaw}
-use Rattle.watch_laws.specs.Grants.{CountedLaw, IsCounted}
+use Rattle.watch_laws.specs.Grants.{CountedLaw, IsCountedFrom}
 use Rattle.watch_laws.proofs.Tracking.{back_kept}
 
 -- the clock from whose second a grant of i counts that answers the request q, and what it makes of the track
@@ -78,7 +78,7 @@ from_late margin step seconds at since o t base is base_is late =
 from_again : (margin step seconds at since : ℕ) (o : Option Try) (t : Try) → o ≡ Some t → t.base ≡ None → from_try margin step seconds at since o ≡ since
 from_again margin step seconds at since o t is none = ap (from_try margin step seconds at since) is ∙ ap (from_base margin step seconds at since) none
 
-counted : (old new : WatchState) (i seconds : ℕ) (q : Out) → (track_at new i).end ≡ At (sec (counts_from old i seconds q) + seconds) → IsCounted old new i seconds q
+counted : (old new : WatchState) (i seconds : ℕ) (q : Out) → (track_at new i).end ≡ At (sec (counts_from old i seconds q) + seconds) → IsCountedFrom old new i seconds q
 counted old new i seconds q h =
     let g = old.forest.margin in
     let step = (entry_of old i).step in
@@ -103,7 +103,7 @@ counted_so old turn i seconds renewable date history within told taken' =
     let there =
     turn_holds (λ q x. x.end ≡ At (sec (counts_from old i seconds q) + seconds)) (λ q. back_end (At (sec (counts_from old i seconds q) + seconds))) old turn.state turn.event turn.result i seconds renewable date history.0
     within told taken' (made_end old i seconds renewable) in
-    subst (λ o. IfSome o (IsCounted old turn.state i seconds)) (sym there.1.0) (counted old turn.state i seconds there.0 there.1.1)
+    subst (λ o. IfSome o (IsCountedFrom old turn.state i seconds)) (sym there.1.0) (counted old turn.state i seconds there.0 there.1.1)
 
 -- whether it is at the top
 record Tops (step seconds from : ℕ) (o : Option Grant) (e : End) : Type 0 where

@@ -29,7 +29,7 @@ use Rattle.watch_machine.specs.State.{WatchState, opened, track_at, track_in}
 use Rattle.watch_machine.specs.Step.{Step, StepLooked, StepRenewed, readied}
 use Rattle.watch_machine.specs.Wait.{wait}
 use Rattle.watch_laws.specs.Absence.{is_clock, is_event_taken}
-use Rattle.watch_laws.specs.Outage.{one_if}
+use Rattle.watch_laws.specs.Outage.{one_where}
 use Rattle.watch_laws.specs.Partial.{AreHolding, AreSettled, ClockIsInTime, IsHeld, IsHeldUp, IsHolding, Partial, PartialLaw, comes_before, coming_before, due_after, keeps_lane, longest, partial_next_after, partial_next_after_command, partial_next_by, partial_settled_by, stands_before, total, waiting_before, waits_before}
 use Rattle.watch_laws.proofs.Answering.{looked_leaves, renewed_leaves, rest_of}
 use Rattle.watch_laws.proofs.Clocking.{readied_clocks, refused_stays}
@@ -52,7 +52,7 @@ abbrev goes_before : ℕ → WatchState → WatchState → ℕ → Bool
 goes_before i old new j = stands_before i new j && ((track_at new j).out && not (track_at old j).out)
 
 -- it waited before, or came to
-one_each : (stands out stood was : Bool) → one_if (stands && not out) + one_if (stands && (out && not was)) ≤ one_if (stood && not was) + one_if (stands && (not stood || (was && not out)))
+one_each : (stands out stood was : Bool) → one_where (stands && not out) + one_where (stands && (out && not was)) ≤ one_where (stood && not was) + one_where (stands && (not stood || (was && not out)))
 one_each false out stood was = omega arith
 one_each true true stood true = omega arith
 one_each true true true false = omega arith

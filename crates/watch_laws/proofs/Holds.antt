@@ -105,10 +105,6 @@ module _ (margin at : ℕ) (xs : List Track) (answers : List Answer) (p : Presen
   any_busy [] = refl
   any_busy (a ∷ xs') = ap (λ b. b || list_any (λ (c : Answer). is_busy c.reply) xs') (busy_is a.reply) ∙ ap (λ b. is_too_busy a.reply || b) (any_busy xs')
 
-  kept_free : (held_back margin at xs answers p).free ≡ p.free
-  unfolding held_back
-  kept_free = if_both (λ (x : Presence). x.free ≡ p.free) (p.away && list_any is_silent answers) set p refl refl
-
   freed : q.free ≡ (if list_any (λ (a : Answer). is_too_busy a.reply) answers then at + 1000 else p.free)
   unfolding presence_after
   freed = ap (λ b. if b then at + 1000 else p.free) (any_busy answers)

@@ -126,9 +126,6 @@ pub record Same (i : ℕ) (old new : WatchState) : Type 0 where
   pub step : (entry_of new i).step ≡ (entry_of old i).step
   pub bears : Bears (track_at new i) (track_at old i)
 
-pub same_all : (i : ℕ) (a b c : WatchState) → Same i a b → Same i b c → Same i a c
-same_all i a b c h k = record { count = k.count ∙ h.count; margin = k.margin ∙ h.margin; step = k.step ∙ h.step; bears = both_bear (track_at c i) (track_at b i) (track_at a i) k.bears h.bears }
-
 pub same_first : (i : ℕ) (s : WatchState) → Same i s s
 same_first i s = record { count = refl; margin = refl; step = refl; bears = same_bears (track_at s i) }
 

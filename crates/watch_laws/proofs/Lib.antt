@@ -58,9 +58,11 @@ pub mod Believed
 pub mod Forested
 pub mod Foreseen
 pub mod OfPlan
+pub mod Hoping
 pub mod Calming
 pub mod OnPlan
 pub mod Presses
+pub mod Rounds
 pub mod Line
 pub mod Begins
 pub mod Dates

@@ -31,7 +31,7 @@ use Rattle.watch_machine.specs.Step.{Step, StepLooked, StepRenewed, readied}
 use Rattle.watch_machine.specs.Wanted.{believed, is_alive, need_of}
 use Rattle.watch_machine.proofs.Cases.{if_both}
 use Rattle.watch_laws.specs.Line.{IsInFront, LineLaw, ReadyLaw, StandsInFront, by_last, part_in_line, place_in_part}
-use Rattle.watch_laws.specs.Load.{requests_asked_by, requests_of}
+use Rattle.watch_laws.specs.Load.{requests_asked_by, requests_at_turn}
 use Rattle.watch_laws.specs.Recovery.{MayGo}
 use Rattle.watch_laws.proofs.Foremost.{none_behind}
 use Rattle.watch_laws.proofs.Fronts.{sent_stays}
@@ -202,7 +202,7 @@ step_line old new (Need i until) output j step may = none_goes old new j output 
 step_line old new Begin output j step may = none_goes old new j output _ step.0 refl
 step_line old new (Known i end renewable) output j step may = none_goes old new j output _ step.0 refl
 
-turn_line : (old new : WatchState) (event : Event) (result : Result Output WatchFault) (j : ℕ) → Turn old event result new → MayGo new j → All (λ (r : Request). StandsInFront old new r.entry j) (requests_of result)
+turn_line : (old new : WatchState) (event : Event) (result : Result Output WatchFault) (j : ℕ) → Turn old event result new → MayGo new j → All (λ (r : Request). StandsInFront old new r.entry j) (requests_at_turn result)
 turn_line old new event (Ok output) j turn may = step_line old new event output j turn.1 may
 turn_line old new event (Err fault) j turn may = All-nil (λ (r : Request). StandsInFront old new r.entry j)
 

@@ -45,7 +45,7 @@ use Rattle.watch_machine.proofs.Unseen.{owing_seen, pressed_seen, sent_seen}
 use Rattle.watch_machine.proofs.Within.{out_entry}
 use Rattle.watch_machine.proofs.Written.{each_length}
 use Rattle.watch_laws.specs.Beginnings.{GoWell, GoesWell, GoesWellAt, OneLookupLaw, TellsAhead, is_lookup, is_needed, lookups, looks, why_begun}
-use Rattle.watch_laws.specs.Load.{requests_asked_by, requests_of}
+use Rattle.watch_laws.specs.Load.{requests_asked_by, requests_at_turn}
 use Rattle.watch_laws.specs.Outage.{is_tried}
 use Rattle.watch_laws.proofs.Alone.{IsAlone, flag, turn_alone}
 use Rattle.watch_laws.proofs.Answering.{looked_begins, replied_rest}
@@ -546,7 +546,7 @@ step_holds old new (Known j end renewable) output i n due step well alone within
 
 turn_holds :
     (old new : WatchState) (event : Event) (result : Result Output WatchFault) (i n : ℕ) (due : Bool) → Turn old event result new → GoesWellAt i new event result → IsAlone old → i < length old.tracks →
-    Holds old i due n → Holds new i due (n + length (filter (is_lookup i) (requests_of result)))
+    Holds old i due n → Holds new i due (n + length (filter (is_lookup i) (requests_at_turn result)))
 turn_holds old new event (Ok output) i n due turn well alone within holds = step_holds old new event output i n due turn.1 well alone within holds
 turn_holds old new event (Err fault) i n due turn well alone within holds =
     subst (Holds new i due) (let e : n ≡ n + 0 = omega arith in e) (subst (λ (x : WatchState). Holds x i due n) (sym (refused_stays old new event fault turn)) holds)
@@ -556,7 +556,7 @@ ran [] old i n due history well alone within holds = subst (Holds old i due) (le
 ran (turn ∷ turns) old i n due history well alone within holds =
     let here = turn_holds old turn.state turn.event turn.result i n due history.0 well.0 alone within holds in
     let count = turn_count old turn.state turn.event turn.result history.0 in
-    let k = length (filter (is_lookup i) (requests_of turn.result)) in
+    let k = length (filter (is_lookup i) (requests_at_turn turn.result)) in
     let rest = ran turns turn.state i (n + k) due history.1 well.1 (turn_alone old turn.state turn.event turn.result history.0 alone) (omega (arith, count, within)) here in
     subst (Holds (after_all turn.state turns) i due) (let e : n + k + lookups i turns ≡ n + (k + lookups i turns) = omega arith in e) rest
 
@@ -564,9 +564,9 @@ ran (turn ∷ turns) old i n due history well alone within holds =
 
 -- what holds after a beginning
 record Started (old new : WatchState) (result : Result Output WatchFault) (i : ℕ) : Type 0 where
-  holds : Holds new i (track_at new i).owes (looks i old.out + length (filter (is_lookup i) (requests_of result)))
+  holds : Holds new i (track_at new i).owes (looks i old.out + length (filter (is_lookup i) (requests_at_turn result)))
   owes : is_needed new i ≡ true → is_open (second new) (track_at new i) ≡ true → (track_at new i).owes ≡ true
-  free : is_needed new i ≡ false → is_alive (second new) (track_at new i) ≡ true → (track_at old i).owes ≡ false → Holds new i false 1 × (length (filter (is_lookup i) (requests_of result)) ≡ 0)
+  free : is_needed new i ≡ false → is_alive (second new) (track_at new i) ≡ true → (track_at old i).owes ≡ false → Holds new i false 1 × (length (filter (is_lookup i) (requests_at_turn result)) ≡ 0)
 
 clock_started : (old new : WatchState) (wall elapsed : ℕ) (output : Output) (i : ℕ) → StepClock old wall elapsed output new → is_some output.notes.began ≡ true → IsAlone old → i < length old.tracks → Started old new (Ok output) i
 clock_started old new wall elapsed output i step begins alone within =
@@ -638,7 +638,7 @@ looked_once g width before turn after i run within begins well =
     let alone = turn_alone old turn.state turn.event turn.result history.0 base.alone in
     let goes : (k : ℕ) (due : Bool) → Holds turn.state i due k → Holds last i due (k + lookups i after) =
     λ k due holds. ran after turn.state i k due history.1 well alone (omega (arith, count, more, within)) holds in
-    let k = length (filter (is_lookup i) (requests_of turn.result)) in
+    let k = length (filter (is_lookup i) (requests_at_turn turn.result)) in
     let ends = once last i (looks i old.out + k + lookups i after) (track_at turn.state i).owes (goes (looks i old.out + k) (track_at turn.state i).owes start.holds) in
     let most = ends.0 in
     record {

@@ -297,11 +297,11 @@ end_led until true (At end) leads ended before = (refl, before)
 end_led until false (At end) leads ended before = absurd cc
 end_led until renewable Never leads ended before = absurd cc
 
-is_not : (b : Bool) → not b ≡ true → b ≡ false
+pub is_not : (b : Bool) → not b ≡ true → b ≡ false
 is_not true h = absurd cc
 is_not false h = refl
 
-wants_parts : (x : Track) (need : ℕ) → wants x need ≡ true → ((x.renewable || is_unknown x.end) ≡ true) × ((x.top ≡ false) × ((not (is_never x.end) ≡ true) × (believed x.end < need)))
+pub wants_parts : (x : Track) (need : ℕ) → wants x need ≡ true → ((x.renewable || is_unknown x.end) ≡ true) × ((x.top ≡ false) × ((not (is_never x.end) ≡ true) × (believed x.end < need)))
 unfolding wants
 wants_parts x need wanted =
     let leads = and_left (x.renewable || is_unknown x.end) (not x.top && (not (is_never x.end) && nat_lt (believed x.end) need)) wanted in

@@ -53,17 +53,17 @@ opens_at s i = opens s.forest.margin (entry_of s i) (track_at s i) (wanted_need 
 abbrev pub come_at : WatchState → ℕ → Bool
 come_at s i = has_come s.forest.margin (entry_of s i) (track_at s i) (second s)
 
-abbrev seen_at : WatchState → ℕ → Entry
+abbrev pub seen_at : WatchState → ℕ → Entry
 seen_at s i = seen_entry s.forest.entries s.tracks s.clocks i
 
 -- an entry that counts as renewed, and one that does not
-abbrev hoped_entry : WatchState → ℕ → Entry
+abbrev pub hoped_entry : WatchState → ℕ → Entry
 hoped_entry s i = record (seen_at s i) { end = capped (seen_at s i).ceiling (second s + lead_at s i); renewable = false }
 
-abbrev own_entry : WatchState → ℕ → Entry
+abbrev pub own_entry : WatchState → ℕ → Entry
 own_entry s i = record (seen_at s i) { renewable = (track_at s i).renewable && not (track_at s i).top; step = step_in_plan s.forest.margin (entry_of s i) (track_at s i) (seen_at s i).step }
 
-planned_is : (s : WatchState) (i : ℕ) → planned_at s i ≡ (if hoped_at s i then hoped_entry s i else own_entry s i)
+pub planned_is : (s : WatchState) (i : ℕ) → planned_at s i ≡ (if hoped_at s i then hoped_entry s i else own_entry s i)
 unfolding entry_planned planned_by
 planned_is s i = refl
 
@@ -110,7 +110,7 @@ wanted_taken s forest calm i within wanted =
       end = ap (λ (e : Entry). e.end) is;
     }
 
-planned_same : (s : WatchState) (i : ℕ) → ((planned_at s i).parent ≡ (terms s i).parent) × ((planned_at s i).need ≡ (terms s i).need)
+pub planned_same : (s : WatchState) (i : ℕ) → ((planned_at s i).parent ≡ (terms s i).parent) × ((planned_at s i).need ≡ (terms s i).need)
 unfolding terms
 planned_same s i = (
   ap (λ (e : Entry). e.parent) (planned_is s i) ∙ if_cases (λ (e : Entry). e.parent ≡ (terms s i).parent) (hoped_at s i) (hoped_entry s i) (own_entry s i) (λ e. refl) (λ e. refl),
@@ -130,7 +130,17 @@ pub some_opens : (s : WatchState) → opens_some s.forest s.tracks s.clocks ≡ 
 unfolding opens_some
 some_opens s some = some_of (opens_at s) (length s.forest.entries) 0 some
 
-three : (a b c d : Bool) → c ≡ false → a && (b && (c && d)) ≡ false
+-- and nobody does where none opens
+pub none_opens : (s : WatchState) → opens_some s.forest s.tracks s.clocks ≡ false → (i : ℕ) → i < length s.forest.entries → opens_at s i ≡ true → ⊥
+unfolding opens_some
+none_opens s none i within yes' =
+    let n = length s.forest.entries in
+    let at = get_or-range_with_len 0 n i 0 within in
+    let is : get_or (range_with_len 0 n) i 0 ≡ i = omega arith in
+    let c = list_any_at (opens_at s) (range_with_len 0 n) i 0 (let l = length-range_with_len 0 n in omega arith) (subst (λ k. opens_at s k ≡ true) (sym is) yes') in
+    cc
+
+pub three : (a b c d : Bool) → c ≡ false → a && (b && (c && d)) ≡ false
 three true true true d e = absurd cc
 three true true false d e = refl
 three true false c d e = refl
@@ -139,7 +149,10 @@ three false b c d e = refl
 all_true : (a b c d e : Bool) → a ≡ true → b ≡ true → c ≡ true → d ≡ true → e ≡ true → a && (b && (c && (d && e))) ≡ true
 all_true a b c d e p q r t u = cc
 
-one : (a b : Bool) → a ≡ false → a && b ≡ false
+pub all_six : (a b c d e f : Bool) → a ≡ true → b ≡ true → c ≡ false → d ≡ false → e ≡ true → f ≡ true → (a && (b && (not c && not d))) && (e && f) ≡ true
+all_six a b c d e f p q r t u v = cc
+
+pub one : (a b : Bool) → a ≡ false → a && b ≡ false
 one true b e = absurd cc
 one false b e = refl
 
@@ -381,9 +394,6 @@ module _ (s : WatchState) (forest : IsForest s.forest) (calm : IsCalm s) where
       let come : nat_le (time_of s i) now ≡ true = and_left (come_at s i) free (and_right (is_wanted s i) (come_at s i && free) fresh) in
       (and_left (is_wanted s i) (come_at s i && free) fresh, grind (arith, nat_tests))
 
-  all_six : (a b c d e f : Bool) → a ≡ true → b ≡ true → c ≡ false → d ≡ false → e ≡ true → f ≡ true → (a && (b && (not c && not d))) && (e && f) ≡ true
-  all_six a b c d e f p q r t u v = cc
-
   pub opens_now : (i : ℕ) → i < length s.forest.entries → is_wanted s i ≡ true → time_of s i ≤ now → opens_at s i ≡ true
   unfolding opens is_fresh has_come ends
   opens_now i within wanted come =
@@ -432,15 +442,6 @@ module _ (s : WatchState) (forest : IsForest s.forest) (calm : IsCalm s) where
       let C : is_end_due margin next (ends s i) ≡ true = ap (is_end_due margin next) end ∙ later_due next later in
       all_true (entry_at es i).renewable (all_last es (ends s) (now + 1) i) _ _ _ r alive A B C
 
-  pub none_opens : opens_some s.forest s.tracks s.clocks ≡ false → (i : ℕ) → i < length s.forest.entries → opens_at s i ≡ true → ⊥
-  unfolding opens_some
-  none_opens none i within yes' =
-      let n = length s.forest.entries in
-      let at = get_or-range_with_len 0 n i 0 within in
-      let is : get_or (range_with_len 0 n) i 0 ≡ i = omega arith in
-      let c = list_any_at (opens_at s) (range_with_len 0 n) i 0 (let l = length-range_with_len 0 n in omega arith) (subst (λ k. opens_at s k ≡ true) (sym is) yes') in
-      cc
-
   pub of_plan : (round : Option (List ℕ)) → IsRound s.forest s.tracks s.clocks round → IsOfPlan s round
   of_plan (Some asked) round =
       let some = there_is_plan s forest calm.keepable calm.in_plan in
@@ -473,7 +474,7 @@ module _ (s : WatchState) (forest : IsForest s.forest) (calm : IsCalm s) where
             let at = least.0.1.1.1 in
             elim (cases_lt now t) as (λ _. now < t) [
               | inl so ↦ so
-              | inr come ↦ absurd (none_opens round e least.0.1.0 (opens_now e least.0.1.0 least.0.1.1.0 (omega arith)))
+              | inr come ↦ absurd (none_opens s round e least.0.1.0 (opens_now e least.0.1.0 least.0.1.1.0 (omega arith)))
             ]
 
 clock_of_plan : (old new : WatchState) (wall elapsed : ℕ) (output : Output) → IsForest old.forest → StepClock old wall elapsed output new → IsCalm (readied old wall elapsed) → IsOfPlan (readied old wall elapsed) output.notes.round

@@ -48,7 +48,7 @@ use Rattle.watch_machine.proofs.Seeing.{SameSeen, both_seen, each_past, each_rea
 use Rattle.watch_machine.proofs.Unseen.{pressed_seen, sent_seen}
 use Rattle.watch_machine.proofs.Within.{out_entry}
 use Rattle.watch_laws.specs.Absence.{is_event_taken}
-use Rattle.watch_laws.specs.Outage.{one_if}
+use Rattle.watch_laws.specs.Outage.{one_where}
 use Rattle.watch_laws.specs.Partial.{AreHung, IsUnanswered, OnceInFrontLaw, comes_before, is_own_first, is_own_try, often_before, stands_before, waits_before}
 use Rattle.watch_laws.proofs.Answering.{looked_leaves, renewed_leaves, rest_of}
 use Rattle.watch_laws.proofs.Believed.{written_at, written_count}
@@ -439,30 +439,30 @@ counts_once width n i j (turn ∷ turns) s history hung base there =
     let few = rest.1 in (
       (λ is.
           let stays = turn_stays s new turn.event turn.result j history.0 here.unanswered base.past there is here.wanted in
-          let none = ap one_if (no_coming i j s new stays here.same) in
+          let none = ap one_where (no_coming i j s new stays here.same) in
           let after = later stays.pressed' in
           omega (arith, none, after)),
-      elim (cases_Bool (comes_before i s new j)) as (λ _. one_if (comes_before i s new j) + often_before i j new turns ≤ 1) [
+      elim (cases_Bool (comes_before i s new j)) as (λ _. one_where (comes_before i s new j) + often_before i j new turns ≤ 1) [
         | inl comes ↦
-            let one = ap one_if comes in
+            let one = ap one_where comes in
             let after = later (stands_pressed i j new (and_parts (stands_before i new j) _ comes).0) in
             omega (arith, one, after)
-        | inr none ↦ (let no' = ap one_if none in omega (arith, no', few))
+        | inr none ↦ (let no' = ap one_where none in omega (arith, no', few))
       ],
     )
 
 pub waits_once :
-    (width n i j : ℕ) (turns : List Turned) (s : WatchState) → History s turns → AreHung i j s turns → IsBase width n s → s.presence.away ≡ false → one_if (waits_before i s j) + often_before i j s turns ≤ 1
+    (width n i j : ℕ) (turns : List Turned) (s : WatchState) → History s turns → AreHung i j s turns → IsBase width n s → s.presence.away ≡ false → one_where (waits_before i s j) + often_before i j s turns ≤ 1
 waits_once width n i j turns s history hung base there =
     let count = counts_once width n i j turns s history hung base there in
     let pressed' = count.0 in
     let few = count.1 in
-    elim (cases_Bool (waits_before i s j)) as (λ _. one_if (waits_before i s j) + often_before i j s turns ≤ 1) [
+    elim (cases_Bool (waits_before i s j)) as (λ _. one_where (waits_before i s j) + often_before i j s turns ≤ 1) [
       | inl waits ↦
-          let one = ap one_if waits in
+          let one = ap one_where waits in
           let none = pressed' (stands_pressed i j s (and_parts (stands_before i s j) (not (track_at s j).out) waits).0) in
           omega (arith, one, none)
-      | inr no' ↦ (let none = ap one_if no' in omega (arith, none, few))
+      | inr no' ↦ (let none = ap one_where no' in omega (arith, none, few))
     ]
 
 pub stands_once : OnceInFrontLaw

@@ -4,7 +4,7 @@ use Rattle.std.proofs.Math.Nat.{mul-add, mul-le-mul_left}
 use Rattle.std.proofs.lemmas.Bool.{cases_Bool}
 use Rattle.watch_machine.specs.History.{Turned, after_all}
 use Rattle.watch_machine.specs.State.{WatchState, opened}
-use Rattle.watch_laws.specs.Outage.{how_many, one_if}
+use Rattle.watch_laws.specs.Outage.{how_many, one_where}
 use Rattle.watch_laws.specs.Partial.{HungLaw, Partial, answered_before, answered_coming, comes_before, coming_before, keeps_lane, often_before, total, waits_before}
 use Rattle.watch_laws.proofs.Grounds.{opened_base, ran_base, turn_base}
 use Rattle.watch_laws.proofs.Held.{held_up}
@@ -12,7 +12,7 @@ use Rattle.watch_laws.proofs.Once.{waits_once}
 use Rattle.watch_laws.proofs.Outliving.{first_turns, last_turns}
 
 -- what lanes are kept is so much for each that is hung, and so much for each other
-one_split : (h p : Bool) (a b : ℕ) → (if p then (if h then a else b) else 0) ≡ a * one_if (h && p) + b * one_if (not h && p)
+one_split : (h p : Bool) (a b : ℕ) → (if p then (if h then a else b) else 0) ≡ a * one_where (h && p) + b * one_where (not h && p)
 one_split true true a b = omega arith
 one_split true false a b = omega arith
 one_split false true a b = omega arith
@@ -23,8 +23,8 @@ split zero h p a b = omega arith
 split (suc n) h p a b =
     let rest = split n h p a b in
     let here = one_split (h n) (p n) a b in
-    let x = mul-add a (one_if (h n && p n)) (how_many n (λ j. h j && p j)) in
-    let y = mul-add b (one_if (not (h n) && p n)) (how_many n (λ j. not (h j) && p j)) in
+    let x = mul-add a (one_where (h n && p n)) (how_many n (λ j. h j && p j)) in
+    let y = mul-add b (one_where (not (h n) && p n)) (how_many n (λ j. not (h j) && p j)) in
     omega (arith, rest, here, x, y)
 
 -- the lane is kept late, too
@@ -57,7 +57,7 @@ coming_is o n i (turn ∷ turns) s =
 -- of one entry, and of those before it
 unfoldable one_coming : Partial → ℕ → ℕ → WatchState → List Turned → ℕ
 one_coming o j i old [] = 0
-one_coming o j i old (turn ∷ turns) = one_if (o.hung j && comes_before i old turn.state j) + one_coming o j i turn.state turns
+one_coming o j i old (turn ∷ turns) = one_where (o.hung j && comes_before i old turn.state j) + one_coming o j i turn.state turns
 
 more_coming : (o : Partial) (n i : ℕ) (turns : List Turned) (s : WatchState) → hung_coming o (suc n) i s turns ≡ one_coming o n i s turns + hung_coming o n i s turns
 unfolding hung_coming one_coming
@@ -69,7 +69,7 @@ unfolding one_coming
 hung_often o j i [] s hung = refl
 hung_often o j i (turn ∷ turns) s hung =
     let rest = hung_often o j i turns turn.state hung in
-    let here = ap (λ b. one_if (b && comes_before i s turn.state j)) hung in
+    let here = ap (λ b. one_where (b && comes_before i s turn.state j)) hung in
     omega (arith, rest, here)
 
 other_never : (o : Partial) (j i : ℕ) (turns : List Turned) (s : WatchState) → o.hung j ≡ false → one_coming o j i s turns ≡ 0
@@ -77,7 +77,7 @@ unfolding one_coming
 other_never o j i [] s other = refl
 other_never o j i (turn ∷ turns) s other =
     let rest = other_never o j i turns turn.state other in
-    let here = ap (λ b. one_if (b && comes_before i s turn.state j)) other in
+    let here = ap (λ b. one_where (b && comes_before i s turn.state j)) other in
     omega (arith, rest, here)
 
 nobody_comes : (o : Partial) (i : ℕ) (turns : List Turned) (s : WatchState) → hung_coming o zero i s turns ≡ 0
@@ -87,7 +87,7 @@ nobody_comes o i (turn ∷ turns) s = let rest = nobody_comes o i turns turn.sta
 
 -- each hung entry once
 each_once :
-    (o : Partial) (n i : ℕ) (turns : List Turned) (s : WatchState) → ((j : ℕ) → j < n → o.hung j ≡ true → one_if (waits_before i s j) + often_before i j s turns ≤ 1) →
+    (o : Partial) (n i : ℕ) (turns : List Turned) (s : WatchState) → ((j : ℕ) → j < n → o.hung j ≡ true → one_where (waits_before i s j) + often_before i j s turns ≤ 1) →
     how_many n (λ j. o.hung j && waits_before i s j) + hung_coming o n i s turns ≤ how_many n o.hung
 each_once o zero i turns s once = let none = nobody_comes o i turns s in omega (arith, none)
 each_once o (suc n) i turns s once =
@@ -97,13 +97,13 @@ each_once o (suc n) i turns s once =
       | inl hung ↦
           let one = once n (omega arith) hung in
           let often = hung_often o n i turns s hung in
-          let waits = ap (λ b. one_if (b && waits_before i s n)) hung in
-          let is = ap one_if hung in
+          let waits = ap (λ b. one_where (b && waits_before i s n)) hung in
+          let is = ap one_where hung in
           omega (arith, rest, more, one, often, waits, is)
       | inr other ↦
           let often = other_never o n i turns s other in
-          let waits = ap (λ b. one_if (b && waits_before i s n)) other in
-          let is = ap one_if other in
+          let waits = ap (λ b. one_where (b && waits_before i s n)) other in
+          let is = ap one_where other in
           omega (arith, rest, more, often, waits, is)
     ]
 

@@ -26,7 +26,7 @@ use Rattle.watch_machine.specs.Sending.{is_alone, is_alone_try, is_partial, pati
 use Rattle.watch_machine.specs.State.{WatchState, attempt_at, second, track_at, track_in}
 use Rattle.watch_machine.specs.Step.{Step, StepLooked, StepRenewed, readied}
 use Rattle.watch_machine.specs.Wanted.{believed, is_open, is_unknown}
-use Rattle.watch_laws.specs.Load.{requests_asked_by, requests_of}
+use Rattle.watch_laws.specs.Load.{requests_asked_by, requests_at_turn}
 use Rattle.watch_laws.specs.Patience.{AloneLaw, IsAloneAt, IsOfTry, IsPatience, NeedsNoHaste, PatienceLaw, SomebodyIsAlone}
 use Rattle.watch_laws.proofs.Fronts.{alone_index, index_alone, sent_partial, sent_stays}
 use Rattle.watch_laws.proofs.Going.{request_at}
@@ -143,7 +143,7 @@ step_asks old new (Need j until) output step = none_asks new output _ step.0 ref
 step_asks old new Begin output step = none_asks new output _ step.0 refl
 step_asks old new (Known j end renewable) output step = none_asks new output _ step.0 refl
 
-turn_asks : (old new : WatchState) (event : Event) (result : Result Output WatchFault) → Turn old event result new → All (IsOfTry new) (requests_of result)
+turn_asks : (old new : WatchState) (event : Event) (result : Result Output WatchFault) → Turn old event result new → All (IsOfTry new) (requests_at_turn result)
 turn_asks old new event (Ok output) turn = step_asks old new event output turn.1
 turn_asks old new event (Err fault) turn = All-nil (IsOfTry new)
 

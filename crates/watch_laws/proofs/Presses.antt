@@ -1,9 +1,8 @@
 -- Presses: whom a clock presses, and whom it lets go. For the law of presses.
-use Rattle.std.proofs.Common.{◌≡◌, ◌∙◌, ℕ, ◌+◌, ◌<◌, Bool, true, false, not, ◌&&◌, ◌||◌, ◌==◌, if◌then◌else◌, List, [], ◌∷◌, Option, Some, None, Result, Ok, Err, length, max, nat_le, nat_lt, refl, sym, ap, subst, arith, true≢false}
-use Rattle.std.proofs.lemmas.Bool.{and_from, cond-false, cond-true}
+use Rattle.std.proofs.Common.{◌≡◌, ◌∙◌, ℕ, ◌+◌, ◌<◌, Bool, true, false, not, ◌&&◌, ◌||◌, ◌⊎◌, ◌==◌, if◌then◌else◌, List, Option, Some, None, Result, Ok, Err, length, max, nat_le, nat_lt, refl, sym, ap, subst, arith, inl, inr, true≢false}
+use Rattle.std.proofs.lemmas.Bool.{and_from, and_parts, cases_Bool, cases_lt, cond-false, cond-true, or_left, or_right}
 use Rattle.std.specs.List.{list_any}
 use Rattle.keep_tree.specs.declared.entry.Entry.{Entry}
-use Rattle.keep_tree.specs.Forest.{entry_at}
 use Rattle.watch_machine.specs.declared.command.Output.{Output}
 use Rattle.watch_machine.specs.declared.command.Request.{Request}
 use Rattle.watch_machine.specs.declared.event.Event.{Event}
@@ -17,62 +16,79 @@ use Rattle.watch_machine.specs.declared.track.Track.{Track}
 use Rattle.watch_machine.specs.declared.track.Try.{Try}
 use Rattle.watch_machine.specs.Beginning.{begun, is_called, is_pressed, is_pressed_try, owing, owing_lookup, soon, sooner_try, untopped, untopped_track}
 use Rattle.watch_machine.specs.Clocks.{sec}
-use Rattle.watch_machine.specs.History.{Turn, Turned}
+use Rattle.watch_machine.specs.History.{Turn}
 use Rattle.watch_machine.specs.Lines.{rested}
 use Rattle.watch_machine.specs.Margins.{has_come}
 use Rattle.watch_machine.specs.Pauses.{pause}
-use Rattle.watch_machine.specs.Press.{asked_track, dropped, is_fresh, let_go, press, pressed, pressed_track, track_asked_in}
-use Rattle.watch_machine.specs.Round.{asked_by_round}
+use Rattle.watch_machine.specs.Press.{asked_track, dropped, is_fresh, press, pressed, pressed_track, track_asked_in}
+use Rattle.watch_machine.specs.Round.{IsRound, asked_by_round}
 use Rattle.watch_machine.specs.Sending.{sent}
 use Rattle.watch_machine.specs.Settling.{settled, settled_track, settled_try, timed}
 use Rattle.watch_machine.specs.State.{WatchState, attempt_at, entry_of, no_track, second, track_at, track_in}
 use Rattle.watch_machine.specs.Step.{Step, StepClock, readied, why}
-use Rattle.watch_machine.specs.Wanted.{believed, is_open, is_wanted, need_of, wanted_need, wants}
-use Rattle.watch_machine.proofs.Cases.{if_both, if_cases, not_both, value_is}
+use Rattle.watch_machine.specs.Wanted.{believed, is_open, is_wanted, wanted_need, wants}
+use Rattle.watch_machine.proofs.Cases.{if_both, if_cases, value_is}
 use Rattle.watch_machine.proofs.Seeing.{SameSeen, both_seen, need_same}
 use Rattle.watch_machine.proofs.Unseen.{pressed_seen, sent_seen}
 use Rattle.watch_laws.specs.Absence.{is_event_taken}
-use Rattle.watch_laws.specs.Presses.{HasPressed, IsPressedNow, PressLaw, asked_again_at}
+use Rattle.watch_laws.specs.Presses.{HasPressed, HasToBeAsked, IsPressedNow, IsSameTry, KeepsTry, PressLaw, asked_again_at}
 use Rattle.watch_laws.specs.Time.{is_come, is_named_in_round, round_of}
 use Rattle.watch_laws.proofs.Clocking.{sent_by}
 use Rattle.watch_laws.proofs.Minding.{some_within}
-use Rattle.watch_laws.proofs.OnPlan.{attempt_sent, end_pressed, mid_read, new_count, out_pressed, owes_kept}
-use Rattle.watch_laws.proofs.Opener.{bearing, come_same, mid_bears, pressed_bears, wants_same}
+use Rattle.watch_laws.proofs.Once.{names_none}
+use Rattle.watch_laws.proofs.OnPlan.{attempt_sent, end_pressed, mid_read, new_count, out_pressed, owes_kept, past_kept, stays}
+use Rattle.watch_laws.proofs.Opener.{come_same, mid_bears, pressed_bears, wants_same}
 use Rattle.watch_laws.proofs.Topping.{readied_count}
 use Rattle.watch_laws.proofs.Tracking.{each_kept}
 
--- until all are pressed, a clock leaves when an entry was asked, its end, whether it is out, and whether it is pressed
+-- what stays of a try while it waits
+abbrev kept_of : Option Try → Option Try
+kept_of None = None
+kept_of (Some t) = Some (record t { at = 0; alone = false; failed = false })
+
+-- until all are pressed, a clock leaves when an entry was asked, its end, whether it is out, whether it is pressed, and what stays of its try
+-- then
 pub record Keeps (y x : Track) : Type 0 where
   pub last : y.last ≡ x.last
   pub end : y.end ≡ x.end
   pub out : y.out ≡ x.out
   pub pressed : is_pressed y ≡ is_pressed x
+  pub try : is_pressed x ≡ true → kept_of y.attempt ≡ kept_of x.attempt
 
 keeps_same : (x : Track) → Keeps x x
-keeps_same x = record { last = refl; end = refl; out = refl; pressed = refl }
+keeps_same x = record { last = refl; end = refl; out = refl; pressed = refl; try = λ _. refl }
 
 keeps_both : (z y x : Track) → Keeps z y → Keeps y x → Keeps z x
-keeps_both z y x h k = record { last = h.last ∙ k.last; end = h.end ∙ k.end; out = h.out ∙ k.out; pressed = h.pressed ∙ k.pressed }
+keeps_both z y x h k = record { last = h.last ∙ k.last; end = h.end ∙ k.end; out = h.out ∙ k.out; pressed = h.pressed ∙ k.pressed; try = λ p. h.try (k.pressed ∙ p) ∙ k.try p }
 
 settled_is : (margin at : ℕ) (x : Track) (o : Option Try) → is_pressed_try (settled_try margin at x o) ≡ is_pressed_try o
 settled_is margin at x None = refl
 settled_is margin at x (Some t) =
     if_both (λ o. is_pressed_try o ≡ t.pressed) t.failed (Some (record t { at = at + pause margin at x t; alone = t.alone && nat_le (rested x.last) at; failed = false })) (Some t) refl refl
 
+settled_kept : (margin at : ℕ) (x : Track) (o : Option Try) → kept_of (settled_try margin at x o) ≡ kept_of o
+settled_kept margin at x None = refl
+settled_kept margin at x (Some t) =
+    if_both (λ o. kept_of o ≡ kept_of (Some t)) t.failed (Some (record t { at = at + pause margin at x t; alone = t.alone && nat_le (rested x.last) at; failed = false })) (Some t) refl refl
+
 pub settled_keeps : (margin at : ℕ) (x : Track) → Keeps (settled_track margin at x) x
 unfolding settled_track
-settled_keeps margin at x = record { last = refl; end = refl; out = refl; pressed = settled_is margin at x x.attempt }
+settled_keeps margin at x = record { last = refl; end = refl; out = refl; pressed = settled_is margin at x x.attempt; try = λ _. settled_kept margin at x x.attempt }
 
 sooner_is : (from : ℕ) (o : Option Try) → (sooner_try from o).pressed ≡ is_pressed_try o
 sooner_is from None = refl
 sooner_is from (Some t) = refl
 
+sooner_kept : (from : ℕ) (o : Option Try) → is_pressed_try o ≡ true → kept_of (Some (sooner_try from o)) ≡ kept_of o
+sooner_kept from None is = absurd cc
+sooner_kept from (Some t) is = refl
+
 owing_keeps : (at : ℕ) (called : Bool) (x : Track) → Keeps (owing at called x) x
 unfolding owing
 owing_keeps at called x =
     if_both (λ y. Keeps y x) (called && is_open (sec at) x) (owing_lookup at x) x
-    (if_both (λ y. Keeps y x) x.out (record x { owes = true }) (record x { owes = true; attempt = Some (sooner_try (soon at x) x.attempt) }) (record { last = refl; end = refl; out = refl; pressed = refl })
-    (record { last = refl; end = refl; out = refl; pressed = sooner_is (soon at x) x.attempt })) (keeps_same x)
+    (if_both (λ y. Keeps y x) x.out (record x { owes = true }) (record x { owes = true; attempt = Some (sooner_try (soon at x) x.attempt) }) (record { last = refl; end = refl; out = refl; pressed = refl; try = λ _. refl })
+    (record { last = refl; end = refl; out = refl; pressed = sooner_is (soon at x) x.attempt; try = λ p. sooner_kept (soon at x) x.attempt p })) (keeps_same x)
 
 begun_keeps : (s : WatchState) (w : Option Why) (i : ℕ) → Keeps (track_at (begun s w) i) (track_at s i)
 begun_keeps s None i = keeps_same (track_at s i)
@@ -80,7 +96,7 @@ begun_keeps s (Some w) i =
     let xs = untopped s.tracks in
     keeps_both (track_at (begun s (Some w)) i) (track_in xs i) (track_at s i)
     (each_kept Keeps (keeps_same no_track) (λ j. owing s.clocks.at (is_called s.forest xs s.clocks j)) xs (λ j x. owing_keeps s.clocks.at (is_called s.forest xs s.clocks j) x) i)
-    (each_kept Keeps (keeps_same no_track) (λ j. untopped_track) s.tracks (λ j x. record { last = refl; end = refl; out = refl; pressed = refl }) i)
+    (each_kept Keeps (keeps_same no_track) (λ j. untopped_track) s.tracks (λ j x. record { last = refl; end = refl; out = refl; pressed = refl; try = λ _. refl }) i)
 
 pub readied_keeps : (s : WatchState) (wall elapsed i : ℕ) → Keeps (track_at (readied s wall elapsed) i) (track_at s i)
 unfolding readied
@@ -162,6 +178,61 @@ left_over x (Some t) u is = by t.pressed x.owes refl refl is where
   by false true p w is' = (ap (λ (v : Try). v.pressed) (sym (value_is t u is')) ∙ p, w)
   by false false p w is' = absurd cc
 
+-- whoever was not pressed before, and is now, had to be asked, or a round names it
+left_loose : (x : Track) (o : Option Try) → is_pressed_try o ≡ false → is_pressed_try (dropped x o) ≡ false
+left_loose x None loose = refl
+left_loose x (Some t) loose = by t.pressed x.owes loose where
+  by : (p w : Bool) → p ≡ false → is_pressed_try (if p || not w then (if w then Some (record t { at = max t.at (rested x.last); operation = Look; pressed = false }) else None) else Some t) ≡ false
+  by true w p = absurd cc
+  by false true p = loose
+  by false false p = refl
+
+out_asked_same : (margin : ℕ) (e : Entry) (at : ℕ) (round : List ℕ) (i : ℕ) (y : Track) → y.out ≡ true → track_asked_in margin e at round i y ≡ y
+unfolding asked_track
+out_asked_same margin e at round i y out =
+    if_both (λ z. z ≡ y) (list_any (λ j. j == i) round) (asked_track margin e at y) y (cond-true y.out y (record y { attempt = Some (press at (not (has_come margin e y (sec at))) y) }) out) refl
+
+loose_pressed : (margin : ℕ) (e : Entry) (need at : ℕ) (x : Track) → is_pressed x ≡ false → is_fresh margin e x need (sec at) ≡ false → is_pressed (pressed_track margin e need at x) ≡ false
+unfolding pressed_track
+loose_pressed margin e need at x loose stale =
+    ap is_pressed (cond-false (is_fresh margin e x need (sec at)) (record x { attempt = Some (press at false x) }) (if wants x need || x.out then x else record x { attempt = dropped x x.attempt }) stale)
+    ∙ if_both (λ y. is_pressed y ≡ false) (wants x need || x.out) x (record x { attempt = dropped x x.attempt }) loose (left_loose x x.attempt loose)
+
+fresh_parts : (margin : ℕ) (e : Entry) (x : Track) (need now : ℕ) → is_fresh margin e x need now ≡ true → (wants x need ≡ true) × (has_come margin e x now ≡ true)
+unfolding is_fresh
+fresh_parts margin e x need now fresh =
+    let a = and_parts (wants x need) (has_come margin e x now && (not (is_pressed x) && not x.out)) fresh in
+    (a.0, (and_parts (has_come margin e x now) (not (is_pressed x) && not x.out) a.1).0)
+
+stale_asked : (margin : ℕ) (e : Entry) (x : Track) (need now : ℕ) → is_pressed x || x.out ≡ true → is_fresh margin e x need now ≡ false
+unfolding is_fresh
+stale_asked margin e x need now asked = by (wants x need) (has_come margin e x now) (is_pressed x) x.out asked where
+  by : (w c p o : Bool) → p || o ≡ true → w && (c && (not p && not o)) ≡ false
+  by false c p o h = refl
+  by true false p o h = refl
+  by true true true o h = refl
+  by true true false true h = refl
+  by true true false false h = absurd cc
+
+-- what stays of a try is a try
+at_try : (o : Option Try) (t : Try) → kept_of o ≡ kept_of (Some t) → (u : Try) × ((o ≡ Some u) × IsSameTry t u)
+at_try None t same = absurd cc
+at_try (Some u) t same =
+    let is : record u { at = 0; alone = false; failed = false } ≡ record t { at = 0; alone = false; failed = false } = value_is (record u { at = 0; alone = false; failed = false }) (record t { at = 0; alone = false; failed = false }) same in (
+      u,
+      (
+        refl,
+        record {
+          operation = ap (λ (v : Try). v.operation) is;
+          pressed = ap (λ (v : Try). v.pressed) is;
+          along = ap (λ (v : Try). v.along) is;
+          base = ap (λ (v : Try). v.base) is;
+          fails = ap (λ (v : Try). v.fails) is;
+          lost = ap (λ (v : Try). v.lost) is;
+        },
+      ),
+    )
+
 -- a clock
 named_is : (round : Option (List ℕ)) (i : ℕ) → list_any (λ j. j == i) (asked_by_round round) ≡ is_named_in_round round i
 named_is None i = refl
@@ -186,14 +257,14 @@ module _ (old : WatchState) (wall elapsed : ℕ) (round : List ℕ) (requests : 
   end_is : (track_at n i).end ≡ x.end
   end_is = ap (λ (z : Track). z.end) (mid_bears r round requests i)
 
-  wanted_is : is_wanted n i ≡ wants x (wanted_need r i)
+  pub wanted_is : is_wanted n i ≡ wants x (wanted_need r i)
   wanted_is =
       let g = r.forest in
       let c = r.clocks in
       let seen : SameSeen n.tracks r.tracks = both_seen n.tracks (pressed r round).tracks r.tracks (sent_seen c.at requests (pressed r round).tracks) (pressed_seen g c round r.tracks) in
       ap (wants (track_at n i)) (need_same n.tracks r.tracks seen g.entries c i) ∙ wants_same (track_at n i) x (wanted_need r i) (mid_bears r round requests i)
 
-  come_is : is_come n i ≡ has_come r.forest.margin (entry_of r i) x (second r)
+  pub come_is : is_come n i ≡ has_come r.forest.margin (entry_of r i) x (second r)
   come_is = come_same r.forest.margin (entry_of r i) (track_at n i) x (second r) (mid_bears r round requests i)
 
   within_r : i < length old.tracks → i < length r.tracks
@@ -239,25 +310,74 @@ module _ (old : WatchState) (wall elapsed : ℕ) (round : List ℕ) (requests : 
       let left = left_over x x.attempt u there in
       (left.0, owes_kept r round requests i ∙ left.1)
 
+  -- whoever is pressed that was not
+  only_so : is_pressed (track_at old i) ≡ false → is_pressed (track_at n i) ≡ true → ((track_at old i).out ≡ false) × (((is_wanted n i ≡ true) × (is_come n i ≡ true)) ⊎ (list_any (λ j. j == i) round ≡ true))
+  only_so loose now =
+      let m = r.forest.margin in
+      let e = entry_of r i in
+      let need = wanted_need r i in
+      let at = r.clocks.at in
+      let unpressed : is_pressed x ≡ false = keeps.pressed ∙ loose in
+      elim (cases_lt i (length r.tracks)) [
+        | inr past ↦ absurd (true≢false (sym now ∙ ap is_pressed_try (attempt_sent r round requests i ∙ past_kept r round requests i past) ∙ unpressed))
+        | inl within ↦
+            let is : is_pressed (track_asked_in m e at round i y) ≡ true = sym (ap is_pressed_try (try_is within)) ∙ now in
+            elim (cases_Bool x.out) [
+              | inl out ↦ absurd (true≢false (sym is ∙ ap is_pressed (out_asked_same m e at round i y (out_pressed m e need at x ∙ out)) ∙ loose_pressed m e need at x unpressed (stale_asked m e x need (sec at) (or_right (is_pressed x) x.out out))))
+              | inr free ↦ (
+                sym keeps.out ∙ free,
+                elim (cases_Bool (list_any (λ j. j == i) round)) [
+                  | inl named ↦ inr named
+                  | inr other ↦
+                      let own : is_pressed y ≡ true = sym (ap is_pressed (other_track m e at round i y other)) ∙ is in
+                      elim (cases_Bool (is_fresh m e x need (sec at))) [
+                        | inl fresh ↦ (let parts = fresh_parts m e x need (sec at) fresh in inl (wanted_is ∙ parts.0, come_is ∙ parts.1))
+                        | inr stale ↦ absurd (true≢false (sym own ∙ loose_pressed m e need at x unpressed stale))
+                      ]
+                ],
+              )
+            ]
+      ]
+
+  -- the try of whoever is pressed, wanted and not named
+  kept_so : is_pressed (track_at old i) ≡ true → is_wanted n i ≡ true → list_any (λ j. j == i) round ≡ false → kept_of (attempt_at n i) ≡ kept_of (attempt_at old i)
+  kept_so pressed' wanted other =
+      let stale = stale_asked r.forest.margin (entry_of r i) x (wanted_need r i) (second r) (or_left (is_pressed x) x.out (keeps.pressed ∙ pressed')) in
+      ap kept_of (attempt_sent r round requests i ∙ stays r round requests i stale other (inr (sym wanted_is ∙ wanted))) ∙ keeps.try pressed'
+
 -- a turn
-clock_of :
+pub clock_of :
     (P : WatchState → Option (List ℕ) → Type 0) (old new : WatchState) (event : Event) (result : Result Output WatchFault) (wall elapsed : ℕ) → Turn old event result new → event ≡ Clock wall elapsed → is_event_taken result ≡ true →
-    ((round : Option (List ℕ)) (requests : List Request) → P (sent (pressed (readied old wall elapsed) (asked_by_round round)) requests) round) → P new (round_of result)
+    ((round : Option (List ℕ)) (requests : List Request) → IsRound (readied old wall elapsed).forest (readied old wall elapsed).tracks (readied old wall elapsed).clocks round →
+    P (sent (pressed (readied old wall elapsed) (asked_by_round round)) requests) round) → P new (round_of result)
 clock_of P old new event (Err fault) wall elapsed turn is taken' all = absurd (true≢false (sym taken'))
 clock_of P old new event (Ok output) wall elapsed turn is taken' all =
     let step : StepClock old wall elapsed output new = subst (λ e. Step old e output new) is turn.1 in
     let go = sent_by (pressed (readied old wall elapsed) (asked_by_round step.round)) new output.command step.command in
-    subst (P new) (sym (ap (λ (o : Notes). o.round) step.notes)) (subst (λ x. P x step.round) (sym go.1) (all step.round go.0))
+    subst (P new) (sym (ap (λ (o : Notes). o.round) step.notes)) (subst (λ x. P x step.round) (sym go.1) (all step.round go.0 step.is_round))
 
 pub presses_so : PressLaw
 presses_so = record {
   come = λ old turn wall elapsed i h clock within free loose.
       clock_of (λ n round. is_wanted n i ≡ true → is_come n i ≡ true → HasPressed old n i false) old turn.state turn.event turn.result wall elapsed h.0 clock.0 clock.1
-      (λ round requests. come_pressed old wall elapsed (asked_by_round round) requests i within free loose);
+      (λ round requests _. come_pressed old wall elapsed (asked_by_round round) requests i within free loose);
   named = λ old turn wall elapsed i h clock within free.
       clock_of (λ n round. is_named_in_round round i ≡ true → HasPressed old n i (not (is_come n i))) old turn.state turn.event turn.result wall elapsed h.0 clock.0 clock.1
-      (λ round requests named. named_pressed old wall elapsed (asked_by_round round) requests i within free (named_is round i ∙ named));
+      (λ round requests _ named. named_pressed old wall elapsed (asked_by_round round) requests i within free (named_is round i ∙ named));
+  only = λ old turn wall elapsed i h clock loose.
+      clock_of (λ n round. is_pressed (track_at n i) ≡ true → HasToBeAsked old n round i) old turn.state turn.event turn.result wall elapsed h.0 clock.0 clock.1
+      (λ round requests _ now.
+      let why = only_so old wall elapsed (asked_by_round round) requests i loose now in
+      (why.0, elim why.1 [ inl come ↦ inl come | inr named ↦ inr (sym (named_is round i) ∙ named) ]));
+  kept = λ old turn wall elapsed i t h clock is pressed'.
+      clock_of (λ n round. is_wanted n i ≡ true → KeepsTry n i t) old turn.state turn.event turn.result wall elapsed h.0 clock.0 clock.1
+      (λ round requests real wanted.
+      let r = readied old wall elapsed in
+      let asked = asked_by_round round in
+      let was : is_pressed (track_at old i) ≡ true = ap is_pressed_try is ∙ pressed' in
+      let other = names_none r.forest r.tracks r.clocks round i real ((readied_keeps old wall elapsed i).pressed ∙ was) (sym (wanted_is old wall elapsed asked requests i) ∙ wanted) in
+      at_try (attempt_at (sent (pressed r asked) requests) i) t (kept_so old wall elapsed asked requests i was wanted other ∙ ap kept_of is));
   dropped = λ old turn wall elapsed i u h clock free.
       clock_of (λ n round. is_wanted n i ≡ false → is_named_in_round round i ≡ false → attempt_at n i ≡ Some u → (u.pressed ≡ false) × ((track_at n i).owes ≡ true)) old turn.state turn.event turn.result wall elapsed h.0 clock.0
-      clock.1 (λ round requests unwanted other. let_go_so old wall elapsed (asked_by_round round) requests i u free unwanted (named_is round i ∙ other));
+      clock.1 (λ round requests _ unwanted other. let_go_so old wall elapsed (asked_by_round round) requests i u free unwanted (named_is round i ∙ other));
 }

@@ -42,7 +42,7 @@ use Rattle.watch_machine.specs.Step.{Step, StepClock, StepCommand, StepLooked, S
 use Rattle.watch_machine.specs.Wanted.{is_alive, is_open, is_wanted, need_of, wants}
 use Rattle.watch_machine.proofs.Cases.{if_both, if_cases, not_both}
 use Rattle.watch_machine.proofs.Within.{out_entry}
-use Rattle.watch_laws.specs.Load.{requests_asked_by, requests_of}
+use Rattle.watch_laws.specs.Load.{requests_asked_by, requests_at_turn}
 use Rattle.watch_laws.specs.Time.{AllReasoned, EarlyLaw, is_come, is_named_in_round, reason, reason_answered, reason_taken, renewal_goes_out}
 use Rattle.watch_laws.proofs.Answering.{replied_rest}
 use Rattle.watch_laws.proofs.Clocking.{refused_stays}
@@ -325,7 +325,7 @@ step_outcome old new (Known j end renewable) output i b step h =
 
 turn_outcome :
     (old new : WatchState) (event : Event) (result : Result Output WatchFault) (i : ℕ) (b : Bool) → Turn old event result new → Reasoned b (track_at old i).attempt →
-    (renewal_goes_out i (requests_of result) ≡ true → reason i b event result new ≡ true) × Reasoned (reason i b event result new) (track_at new i).attempt
+    (renewal_goes_out i (requests_at_turn result) ≡ true → reason i b event result new ≡ true) × Reasoned (reason i b event result new) (track_at new i).attempt
 turn_outcome old new event (Ok output) i b turn h = step_outcome old new event output i b turn.1 h
 turn_outcome old new event (Err fault) i b turn h = ((λ renew. absurd cc), subst (λ (x : WatchState). Reasoned b (track_at x i).attempt) (sym (refused_stays old new event fault turn)) h)
 

@@ -26,7 +26,7 @@ use Rattle.watch_machine.specs.Step.{Step, StepLooked, StepRenewed, readied}
 use Rattle.watch_machine.specs.Wait.{wait}
 use Rattle.watch_machine.proofs.Cases.{not_both}
 use Rattle.watch_laws.specs.Outage.{coming, comes, how_many, is_request_served, is_tried, is_request_whole, outage_next_after, outage_next_after_command, outage_next_by, outage_settled_by, waiting, waits_to_be_asked}
-use Rattle.watch_laws.specs.Recovery.{AllBy, ArePassing, IsPassed, IsPassing, MayGo, RecoveryLaw, calm}
+use Rattle.watch_laws.specs.Recovery.{AllBy, ArePassing, IsPassedBy, IsPassing, MayGo, RecoveryLaw, without_outage}
 use Rattle.watch_laws.proofs.Answering.{looked_leaves, renewed_leaves, rest_of}
 use Rattle.watch_laws.proofs.Clocking.{readied_clocks, refused_stays}
 use Rattle.watch_laws.proofs.Counting.{lanes_apart, least_all, some}
@@ -39,14 +39,14 @@ use Rattle.watch_laws.proofs.Stages.{IsBase, one_left, quick_if, take_one, whole
 use Rattle.watch_laws.proofs.Ticking.{any_gives, anew_none, later_than, none_passes, one_lane, some_lane}
 
 -- every request is whole
-pub all_whole : (quick late since : ℕ) → is_request_whole (calm quick late) since ≡ true
-all_whole quick late since = whole_after (calm quick late) since (omega arith)
+pub all_whole : (quick late since : ℕ) → is_request_whole (without_outage quick late) since ≡ true
+all_whole quick late since = whole_after (without_outage quick late) since (omega arith)
 
-pub settles_so : (quick late since : ℕ) → outage_settled_by (calm quick late) since ≡ since + quick
-settles_so quick late since = quick_if (calm quick late) since (all_whole quick late since)
+pub settles_so : (quick late since : ℕ) → outage_settled_by (without_outage quick late) since ≡ since + quick
+settles_so quick late since = quick_if (without_outage quick late) since (all_whole quick late since)
 
 abbrev pub Timely : ℕ → ℕ → ℕ → Out → Type 0
-Timely quick late due q = due ≤ outage_settled_by (calm quick late) q.since + late
+Timely quick late due q = due ≤ outage_settled_by (without_outage quick late) q.since + late
 
 -- after a turn: r rounds hold those that wait, but for those that went out after from; and by is the last moment
 pub record Passes (quick late width n i by due k : ℕ) (s : WatchState) : Type 0 where
@@ -54,7 +54,7 @@ pub record Passes (quick late width n i by due k : ℕ) (s : WatchState) : Type 
   pub timely : All (Timely quick late due) s.out
   pub r : ℕ
   pub from : ℕ
-  pub count : k + how_many n (is_anew (calm quick late) (suc from) s) ≤ width * r
+  pub count : k + how_many n (is_anew (without_outage quick late) (suc from) s) ≤ width * r
   pub start : from + (quick + late) * r ≤ by
   pub next : due ≤ from + (quick + late)
   pub now : s.clocks.at ≤ by
@@ -90,10 +90,10 @@ soon_next quick late width n i by due s wide base timely full =
 -- a clock
 pub clock_passes :
     (quick late width n i by due rest : ℕ) (old new : WatchState) (wall elapsed : ℕ) (output : Output) → 0 < width → i < n → Step old (Clock wall elapsed) output new → (timed old wall elapsed).clocks.at ≤ due → MayGo new i →
-    IsBase width n new → Sends old new n → Passes quick late width n i by due (waiting (calm quick late) n old + (how_many n (comes (calm quick late) old new) + rest)) old →
-    Passes quick late width n i by (outage_next_after_command (calm quick late) output.command new due) (waiting (calm quick late) n new + rest) new
+    IsBase width n new → Sends old new n → Passes quick late width n i by due (waiting (without_outage quick late) n old + (how_many n (comes (without_outage quick late) old new) + rest)) old →
+    Passes quick late width n i by (outage_next_after_command (without_outage quick late) output.command new due) (waiting (without_outage quick late) n new + rest) new
 clock_passes quick late width n i by due rest old new wall elapsed output wide low step in_time m base sends p =
-    let o = calm quick late in
+    let o = without_outage quick late in
     let h = ticks old new wall elapsed output step in
     let at = new.clocks.at in
     let c = ap (λ (x : WatchState). x.clocks.at) h.new_is ∙ ap (λ x. x.at) (readied_clocks old wall elapsed) in
@@ -155,14 +155,14 @@ clock_passes quick late width n i by due rest old new wall elapsed output wide l
 -- any other event leaves the clock, and what is out
 abbrev pub Quiet : ℕ → ℕ → ℕ → WatchState → WatchState → Output → Type 0
 Quiet quick late due old new output =
-    (new.clocks.at ≡ old.clocks.at) × ((All (Timely quick late due) old.out → All (Timely quick late due) new.out) × (outage_next_after_command (calm quick late) output.command new due ≡ due))
+    (new.clocks.at ≡ old.clocks.at) × ((All (Timely quick late due) old.out → All (Timely quick late due) new.out) × (outage_next_after_command (without_outage quick late) output.command new due ≡ due))
 
 answer_quiet : (quick late due : ℕ) (old mid new : WatchState) (q : Out) (reply : Reply) (output out : Output) → new ≡ replied mid q reply → mid.out ≡ old.out → new.clocks ≡ old.clocks → output ≡ out → out.command ≡ Taken → Quiet quick late due old new output
 answer_quiet quick late due old mid new q reply output out is outs clocks made taken' = (
   ap (λ c. c.at) clocks,
   (
     (λ all. subst (λ (x : WatchState). All (Timely quick late due) x.out) (sym is) (all_left (Timely quick late due) (λ r h. h) mid q reply (subst (All (Timely quick late due)) (sym outs) all))),
-    ap (λ c. outage_next_after_command (calm quick late) c new due) (ap (λ (x : Output). x.command) made ∙ taken'),
+    ap (λ c. outage_next_after_command (without_outage quick late) c new due) (ap (λ (x : Output). x.command) made ∙ taken'),
   ),
 )
 
@@ -182,16 +182,16 @@ same_quiet quick late due old mid new output out is clocks outs made taken' = (
   ap (λ (x : WatchState). x.clocks.at) is ∙ ap (λ c. c.at) clocks,
   (
     (λ all. subst (All (Timely quick late due)) (sym (ap (λ (x : WatchState). x.out) is ∙ outs)) all),
-    ap (λ c. outage_next_after_command (calm quick late) c new due) (ap (λ (x : Output). x.command) made ∙ taken'),
+    ap (λ c. outage_next_after_command (without_outage quick late) c new due) (ap (λ (x : Output). x.command) made ∙ taken'),
   ),
 )
 
 pub quiet_passes :
     (quick late width n i by due rest : ℕ) (old new : WatchState) (output : Output) → Quiet quick late due old new output → IsBase width n new → Sends old new n →
-    Passes quick late width n i by due (waiting (calm quick late) n old + (how_many n (comes (calm quick late) old new) + rest)) old →
-    Passes quick late width n i by (outage_next_after_command (calm quick late) output.command new due) (waiting (calm quick late) n new + rest) new
+    Passes quick late width n i by due (waiting (without_outage quick late) n old + (how_many n (comes (without_outage quick late) old new) + rest)) old →
+    Passes quick late width n i by (outage_next_after_command (without_outage quick late) output.command new due) (waiting (without_outage quick late) n new + rest) new
 quiet_passes quick late width n i by due rest old new output quiet base sends p =
-    let o = calm quick late in
+    let o = without_outage quick late in
     let less = fewer_wait o (suc p.from) n old new p.base.alone base.alone base.tries sends in
     let count = p.count in
     let now = p.now in
@@ -201,8 +201,8 @@ quiet_passes quick late width n i by due rest old new output quiet base sends p 
 
 step_passes :
     (quick late width n i by due rest : ℕ) (old new : WatchState) (event : Event) (output : Output) → 0 < width → i < n → Step old event output new → IsPassing i due old event new → IsBase width n new → Sends old new n →
-    Passes quick late width n i by due (waiting (calm quick late) n old + (how_many n (comes (calm quick late) old new) + rest)) old →
-    Passes quick late width n i by (outage_next_after_command (calm quick late) output.command new due) (waiting (calm quick late) n new + rest) new
+    Passes quick late width n i by due (waiting (without_outage quick late) n old + (how_many n (comes (without_outage quick late) old new) + rest)) old →
+    Passes quick late width n i by (outage_next_after_command (without_outage quick late) output.command new due) (waiting (without_outage quick late) n new + rest) new
 step_passes quick late width n i by due rest old new (Clock wall elapsed) output wide low step passing base sends p =
     clock_passes quick late width n i by due rest old new wall elapsed output wide low step passing.0 passing.1 base sends p
 step_passes quick late width n i by due rest old new (Looked j reply terms) output wide low step passing base sends p =
@@ -217,12 +217,12 @@ step_passes quick late width n i by due rest old new (Known j end renewable) out
     quiet_passes quick late width n i by due rest old new output (same_quiet quick late due old _ new output _ step.1 refl refl step.0 refl) base sends p
 
 turn_passes :
-    (quick late width n i by due rest : ℕ) (old new : WatchState) (event : Event) (result : Result Output WatchFault) → 0 < width → i < n → Turn old event result new → IsPassed i due old event result new → IsBase width n new →
-    Sends old new n → Passes quick late width n i by due (waiting (calm quick late) n old + (how_many n (comes (calm quick late) old new) + rest)) old →
-    Passes quick late width n i by (outage_next_after (calm quick late) result new due) (waiting (calm quick late) n new + rest) new
+    (quick late width n i by due rest : ℕ) (old new : WatchState) (event : Event) (result : Result Output WatchFault) → 0 < width → i < n → Turn old event result new → IsPassedBy i due old event result new → IsBase width n new →
+    Sends old new n → Passes quick late width n i by due (waiting (without_outage quick late) n old + (how_many n (comes (without_outage quick late) old new) + rest)) old →
+    Passes quick late width n i by (outage_next_after (without_outage quick late) result new due) (waiting (without_outage quick late) n new + rest) new
 turn_passes quick late width n i by due rest old new event (Ok output) wide low turn passing base sends p = step_passes quick late width n i by due rest old new event output wide low turn.1 passing base sends p
 turn_passes quick late width n i by due rest old new event (Err fault) wide low turn passing base sends p =
-    let o = calm quick late in
+    let o = without_outage quick late in
     let is = refused_stays old new event fault turn in
     let less = fewer_wait o (suc p.from) n old new p.base.alone base.alone base.tries sends in
     let count = p.count in
@@ -240,19 +240,19 @@ turn_passes quick late width n i by due rest old new event (Err fault) wide low 
     }
 
 along :
-    (quick late width n i by : ℕ) → 0 < width → i < n → (turns : List Turned) (due : ℕ) (old : WatchState) → History old turns → ArePassing (calm quick late) i due old turns →
-    Passes quick late width n i by due (waiting (calm quick late) n old + coming (calm quick late) n old turns) old → AllBy by turns
+    (quick late width n i by : ℕ) → 0 < width → i < n → (turns : List Turned) (due : ℕ) (old : WatchState) → History old turns → ArePassing (without_outage quick late) i due old turns →
+    Passes quick late width n i by due (waiting (without_outage quick late) n old + coming (without_outage quick late) n old turns) old → AllBy by turns
 along quick late width n i by wide low [] due old history passing p = tt
 along quick late width n i by wide low (turn ∷ turns) due old history passing p =
     let base = turn_base width n old turn.state turn.event turn.result history.0 p.base in
     let count = base.count in
     let sends = turn_sends old turn.state turn.event turn.result n (omega (arith, count)) history.0 in
-    let here = turn_passes quick late width n i by due (coming (calm quick late) n turn.state turns) old turn.state turn.event turn.result wide low history.0 passing.0 base sends p in
-    (here.now, along quick late width n i by wide low turns (outage_next_after (calm quick late) turn.result turn.state due) turn.state history.1 passing.1 here)
+    let here = turn_passes quick late width n i by due (coming (without_outage quick late) n turn.state turns) old turn.state turn.event turn.result wide low history.0 passing.0 base sends p in
+    (here.now, along quick late width n i by wide low turns (outage_next_after (without_outage quick late) turn.result turn.state due) turn.state history.1 passing.1 here)
 
 pub recovers : RecoveryLaw
 recovers quick late rounds g width before last turns i wide run clock taken' m passing few =
-    let o = calm quick late in
+    let o = without_outage quick late in
     let n = length g.entries in
     let old = after_all (opened g width) before in
     let history = last_turns before (last ∷ turns) (opened g width) run in

@@ -45,7 +45,7 @@ use Rattle.watch_machine.specs.Wanted.{is_open, need_of, wants}
 use Rattle.watch_machine.proofs.Cases.{if_both, if_cases, not_both, value_is}
 use Rattle.watch_machine.proofs.Seeing.{each_read}
 use Rattle.watch_machine.proofs.Within.{out_all}
-use Rattle.watch_laws.specs.Load.{AreApartFrom, IsApart, Sent, SentAreApart, SpacedLaw, requests_asked_by, requests_of, sent_at, sent_in_turns}
+use Rattle.watch_laws.specs.Load.{AreApartFrom, IsApart, Sent, SentAreApart, SpacedLaw, requests_asked_by, requests_at_turn, sent_at, sent_in_turns}
 use Rattle.watch_laws.proofs.Answering.{looked_leaves, renewed_leaves, rest_of}
 use Rattle.watch_laws.proofs.Clocking.{begun_some, clock_rises, readied_clocks, refused_stays}
 use Rattle.watch_laws.proofs.Going.{Goes, asks_by, entry_by, goes, named_of, one_sent, operation_of, request_at, sent_of}
@@ -565,7 +565,7 @@ stepped old new (Known j end renewable) output i o step kept =
           (λ r. set_kept (λ y x. Rests r x → Rests r y) (λ x k. k) old.tracks j _ (λ h. record { last = h.last; attempt = h.attempt }) i)) kept,
     )
 
-turned : (old new : WatchState) (event : Event) (result : Result Output WatchFault) (i : ℕ) (o : Option Sent) → Turn old event result new → Keeps old i o → Outcome new i o (sent_at i new.clocks.at (requests_of result))
+turned : (old new : WatchState) (event : Event) (result : Result Output WatchFault) (i : ℕ) (o : Option Sent) → Turn old event result new → Keeps old i o → Outcome new i o (sent_at i new.clocks.at (requests_at_turn result))
 unfolding Outcome
 turned old new event (Ok output) i o turn kept = stepped old new event output i o turn.1 kept
 turned old new event (Err fault) i o turn kept = inl (refl, subst (λ (x : WatchState). Keeps x i o) (sym (refused_stays old new event fault turn)) kept)

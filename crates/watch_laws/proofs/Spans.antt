@@ -13,12 +13,12 @@ use Rattle.watch_machine.specs.Sending.{out_at}
 use Rattle.watch_machine.specs.Settling.{is_real}
 use Rattle.watch_machine.specs.State.{WatchState}
 use Rattle.watch_machine.proofs.Cases.{if_both}
-use Rattle.watch_laws.specs.Outage.{one_if}
+use Rattle.watch_laws.specs.Outage.{one_where}
 use Rattle.watch_laws.specs.Partial.{Partial, partial_settled_by, total}
 use Rattle.watch_laws.proofs.Going.{counts, skips, times}
 
 -- what passes one test adds to what passes another
-weighed : (p q a b : Bool) (w : ℕ) → one_if p + one_if q ≤ one_if a + one_if b → (if p then w else 0) + (if q then w else 0) ≤ (if a then w else 0) + (if b then w else 0)
+weighed : (p q a b : Bool) (w : ℕ) → one_where p + one_where q ≤ one_where a + one_where b → (if p then w else 0) + (if q then w else 0) ≤ (if a then w else 0) + (if b then w else 0)
 weighed false false a b w h = omega arith
 weighed true false true b w h = omega arith
 weighed true false false true w h = omega arith
@@ -29,12 +29,12 @@ weighed false true false false w h = absurd (omega (arith, h))
 weighed true true true true w h = omega arith
 weighed true true true false w h = absurd (omega (arith, h))
 weighed true true false b w h = more b h where
-  more : (c : Bool) → 1 + 1 ≤ 0 + one_if c → w + w ≤ 0 + (if c then w else 0)
+  more : (c : Bool) → 1 + 1 ≤ 0 + one_where c → w + w ≤ 0 + (if c then w else 0)
   more true g = absurd (omega (arith, g))
   more false g = absurd (omega (arith, g))
 
 pub totals :
-    (n : ℕ) (f : ℕ → ℕ) (p q a b : ℕ → Bool) → ((j : ℕ) → one_if (p j) + one_if (q j) ≤ one_if (a j) + one_if (b j)) →
+    (n : ℕ) (f : ℕ → ℕ) (p q a b : ℕ → Bool) → ((j : ℕ) → one_where (p j) + one_where (q j) ≤ one_where (a j) + one_where (b j)) →
     total n f p + total n f q ≤ total n f a + total n f b
 totals zero f p q a b each' = omega arith
 totals (suc n) f p q a b each' =

@@ -42,7 +42,7 @@ use Rattle.watch_machine.specs.Step.{Step, StepClock, StepCommand, StepLooked, S
 use Rattle.watch_machine.proofs.Cases.{if_both, not_both, value_is}
 use Rattle.watch_machine.proofs.Within.{out_entry}
 use Rattle.watch_laws.specs.Absence.{AllAway, NoneSets, Sets, SparedLaw, is_later, is_later_try, laters}
-use Rattle.watch_laws.specs.Load.{requests_asked_by, requests_of}
+use Rattle.watch_laws.specs.Load.{requests_asked_by, requests_at_turn}
 use Rattle.watch_laws.proofs.Answering.{looked_rest}
 use Rattle.watch_laws.proofs.Alone.{IsAlone, flag, lanes_of, turn_alone}
 use Rattle.watch_laws.proofs.Clocking.{begun_some, clock_rises, readied_clocks, readied_width, refused_stays}
@@ -415,7 +415,7 @@ step_spares width n old new (Known j end renewable) output step fits alone away 
 
 turn_spares :
     (width n : ℕ) (old new : WatchState) (event : Event) (result : Result Output WatchFault) → Turn old event result new → Fits width old → IsAlone old → old.presence.away ≡ true → new.presence.away ≡ true →
-    (Sets old (record { event = event; result = result; state = new }) → ⊥) → Spares width n old → Spares width (length (filter (is_later new) (requests_of result)) + n) new
+    (Sets old (record { event = event; result = result; state = new }) → ⊥) → Spares width n old → Spares width (length (filter (is_later new) (requests_at_turn result)) + n) new
 turn_spares width n old new event (Ok output) turn fits alone away still never h = step_spares width n old new event output turn.1 fits alone away still never h
 turn_spares width n old new event (Err fault) turn fits alone away still never h =
     subst (λ m. Spares width m new) (let e : n ≡ 0 + n = omega arith in e) (subst (Spares width n) (sym (refused_stays old new event fault turn)) h)
@@ -425,7 +425,7 @@ ran :
     laters turns + n ≤ width
 ran [] width n old h fits alone away all none spares = let few = spares.few in omega (arith, few)
 ran (turn ∷ turns) width n old h fits alone away all none spares =
-    let here = length (filter (is_later turn.state) (requests_of turn.result)) in
+    let here = length (filter (is_later turn.state) (requests_at_turn turn.result)) in
     let rest =
     ran turns width (here + n) turn.state h.1 (turn_fits width old turn.state turn.event turn.result h.0 fits) (turn_alone old turn.state turn.event turn.result h.0 alone) all.0 all.1 none.1
     (turn_spares width n old turn.state turn.event turn.result h.0 fits alone away all.0 none.0 spares) in

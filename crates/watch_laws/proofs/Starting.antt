@@ -6,8 +6,8 @@ use Rattle.watch_machine.specs.declared.lanes.Out.{Out}
 use Rattle.watch_machine.specs.State.{WatchState, opened}
 use Rattle.watch_machine.specs.Wait.{wait}
 use Rattle.watch_machine.specs.History.{after_all}
-use Rattle.watch_laws.specs.Outage.{Outage, coming, how_many, is_request_served, is_request_whole, is_tried, one_if, outage_next_by, outage_settled_by, waiting, waits_to_be_asked}
-use Rattle.watch_laws.specs.Recovery.{calm}
+use Rattle.watch_laws.specs.Outage.{Outage, coming, how_many, is_request_served, is_request_whole, is_tried, one_where, outage_next_by, outage_settled_by, waiting, waits_to_be_asked}
+use Rattle.watch_laws.specs.Recovery.{without_outage}
 use Rattle.watch_laws.specs.Starts.{AllSoon, AreWorked, StartLaw}
 use Rattle.watch_laws.proofs.Counting.{lanes_apart, least_all, more, none, some, sums}
 use Rattle.watch_laws.proofs.Grounds.{opened_base, ran_base, turn_base}
@@ -19,7 +19,7 @@ use Rattle.watch_laws.proofs.Ticking.{anew_none, one_lane}
 use Rattle.watch_laws.proofs.Working.{Stage, along, served_now, soon_after}
 
 -- whoever waits or is being asked has something to be asked
-both_tried : (tried served : Bool) → (served ≡ true → tried ≡ true) → one_if (tried && not served) + one_if served ≤ one_if tried + one_if false + one_if false
+both_tried : (tried served : Bool) → (served ≡ true → tried ≡ true) → one_where (tried && not served) + one_where served ≤ one_where tried + one_where false + one_where false
 both_tried true true h = omega arith
 both_tried true false h = omega arith
 both_tried false false h = omega arith
@@ -32,15 +32,15 @@ all_tried o width n s base =
     omega (arith, sum, zero')
 
 -- every lane that is taken holds a request of another entry
-lanes_tried : (quick late width n : ℕ) (s : WatchState) → IsBase width n s → length s.out ≤ how_many n (is_request_served (calm quick late) s)
+lanes_tried : (quick late width n : ℕ) (s : WatchState) → IsBase width n s → length s.out ≤ how_many n (is_request_served (without_outage quick late) s)
 lanes_tried quick late width n s base =
     let within = base.within in
-    lanes_apart n (λ (q : Out). is_request_whole (calm quick late) q.since) s.out (λ j. one_lane s j base.alone)
+    lanes_apart n (λ (q : Out). is_request_whole (without_outage quick late) q.since) s.out (λ j. one_lane s j base.alone)
     (λ k d below. (within k d below, all_whole quick late (get_or s.out k d).since))
 
 pub starts_soon : StartLaw
 starts_soon quick late rounds g width before last turns i wide run clock taken' low work working few =
-    let o = calm quick late in
+    let o = without_outage quick late in
     let n = length g.entries in
     let old = after_all (opened g width) before in
     let history = last_turns before (last ∷ turns) (opened g width) run in

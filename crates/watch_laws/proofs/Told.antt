@@ -41,7 +41,7 @@ use Rattle.watch_machine.proofs.Seeing.{SameSeen, need_same, sight}
 use Rattle.watch_machine.proofs.Within.{out_entry}
 use Rattle.watch_laws.specs.Absence.{is_event_taken}
 use Rattle.watch_laws.specs.Time.{is_come}
-use Rattle.watch_laws.specs.Told.{DoneLaw, EndsTooSoon, GoesOn, IsTold, OneIs, OwesLater, ToldLaw, WrittenLaw, ceiling_by, entry_by, step_by, writes}
+use Rattle.watch_laws.specs.Told.{DoneLaw, EndsTooSoon, ForestWrittenLaw, GoesOnAsRenewal, IsToldByLookup, OneIs, OwesLater, ToldLaw, ceiling_by, entry_by, step_by, writes}
 use Rattle.watch_laws.proofs.Answering.{replied_rest}
 use Rattle.watch_laws.proofs.CalmGrant.{no_try}
 use Rattle.watch_laws.proofs.Clocking.{refused_stays, sent_by}
@@ -91,16 +91,16 @@ module _ (mid : WatchState) (q : Out) (reply : Reply) (i : ℕ) where
   told_alive = ap (λ (c : Clocks). is_alive (sec c.at) (track_at replied_to i)) told_clocks ∙ ap (is_alive (second mid)) bears
 
 -- the try after it
-goes_on_hastened : (now : ℕ) (t u : Try) (from : ℕ) → GoesOn now t u → GoesOn now t (hastened u from)
+goes_on_hastened : (now : ℕ) (t u : Try) (from : ℕ) → GoesOnAsRenewal now t u → GoesOnAsRenewal now t (hastened u from)
 goes_on_hastened now t u from h = let l = h.at in record { at = omega (arith, l); operation = h.operation; pressed = h.pressed; same = h.same; anew = h.anew }
 
 past_hastened : (t u : Try) (from : ℕ) → EndsTooSoon t u → EndsTooSoon t (hastened u from)
 past_hastened t u from h = record { failed = h.failed; operation = h.operation; fails = h.fails }
 
-once_goes : (now : ℕ) (t : Try) → GoesOn now t (at_once now t)
+once_goes : (now : ℕ) (t : Try) → GoesOnAsRenewal now t (at_once now t)
 unfolding at_once
 once_goes now t = by t.pressed refl where
-  by : (b : Bool) → t.pressed ≡ b → GoesOn now t (if b then record t { at = now; operation = Renew } else record { at = now; operation = Renew; pressed = true; along = false; base = Some now; fails = 0; lost = false; alone = false; failed = false })
+  by : (b : Bool) → t.pressed ≡ b → GoesOnAsRenewal now t (if b then record t { at = now; operation = Renew } else record { at = now; operation = Renew; pressed = true; along = false; base = Some now; fails = 0; lost = false; alone = false; failed = false })
   by true is = record { at = omega arith; operation = refl; pressed = is; same = λ yes'. (refl, refl); anew = λ no'. absurd (true≢false (sym is ∙ no')) }
   by false is = record { at = omega arith; operation = refl; pressed = refl; same = λ yes'. absurd (true≢false (sym yes' ∙ is)); anew = λ no'. (refl, refl) }
 
@@ -200,7 +200,7 @@ module _ (old : WatchState) (q : Out) (seconds : ℕ) (renewable : Bool) (date :
   try_holds : (Q : Try → Type 0) → ((v : Try) (from : ℕ) → Q v → Q (hastened v from)) → (v : Try) → z.attempt ≡ Some v → Q v → (u : Try) → attempt_at last i ≡ Some u → Q u
   try_holds Q hasten v is h = (set_free Q hasten told_mid q telling z (z_out, λ w some. subst Q (value_is v w (sym is ∙ some)) h)).1
 
-  is_told : IsTold old last i seconds renewable terms q
+  is_told : IsToldByLookup old last i seconds renewable terms q
   is_told =
       let due = told_due told_mid q telling i in
       let alive = told_alive told_mid q telling i in
@@ -213,8 +213,8 @@ module _ (old : WatchState) (q : Out) (seconds : ℕ) (renewable : Bool) (date :
             kept (λ (x : Track). is_some x.attempt ≡ true) (λ x. back_is_some x)
             (ap is_some (z_try (Some t) is ∙ due_try told_mid.clocks.at (is_called_for told_mid i) (track_at told_mid i) t (sym due ∙ yes')));
         renews = λ yes' t u is after.
-            subst (λ n. GoesOn n t u) (sym clock)
-            (try_holds (GoesOn told_mid.clocks.at t) (goes_on_hastened told_mid.clocks.at t) (at_once told_mid.clocks.at t) (z_try (Some t) is ∙ due_try told_mid.clocks.at (is_called_for told_mid i) (track_at told_mid i) t (sym due ∙ yes'))
+            subst (λ n. GoesOnAsRenewal n t u) (sym clock)
+            (try_holds (GoesOnAsRenewal told_mid.clocks.at t) (goes_on_hastened told_mid.clocks.at t) (at_once told_mid.clocks.at t) (z_try (Some t) is ∙ due_try told_mid.clocks.at (is_called_for told_mid i) (track_at told_mid i) t (sym due ∙ yes'))
             (once_goes told_mid.clocks.at t) u after);
         done = λ no' ahead.
             kept (λ (x : Track). x.attempt ≡ None) (λ x. back_is_none x)
@@ -226,14 +226,14 @@ module _ (old : WatchState) (q : Out) (seconds : ℕ) (renewable : Bool) (date :
 
 told_turn :
     (old new : WatchState) (event : Event) (result : Result Output WatchFault) (i seconds : ℕ) (renewable : Bool) (date : Option ℕ) (terms : Terms) (q : Out) → Turn old event result new → i < length old.tracks →
-    event ≡ Looked i (Told seconds renewable date) terms → is_event_taken result ≡ true → request_out old.out i Look ≡ Some q → IsTold old new i seconds renewable terms q
+    event ≡ Looked i (Told seconds renewable date) terms → is_event_taken result ≡ true → request_out old.out i Look ≡ Some q → IsToldByLookup old new i seconds renewable terms q
 told_turn old new event (Err fault) i seconds renewable date terms q turn within is taken' asked = absurd (true≢false (sym taken'))
 told_turn old new event (Ok output) i seconds renewable date terms q turn within is taken' asked =
     let step : StepLooked old (request_out old.out i Look) (Told seconds renewable date) terms output new = subst (λ e. Step old e output new) is turn.1 in
     let step' : StepLooked old (Some q) (Told seconds renewable date) terms output new = subst (λ o. StepLooked old o (Told seconds renewable date) terms output new) asked step in
     let own = out_entry old.out i Look q asked in
-    subst (λ k. IsTold old new k seconds renewable terms q) own
-    (subst (λ x. IsTold old x q.entry seconds renewable terms q) (sym step'.1) (is_told old q seconds renewable date terms (omega (arith, own, within))))
+    subst (λ k. IsToldByLookup old new k seconds renewable terms q) own
+    (subst (λ x. IsToldByLookup old x q.entry seconds renewable terms q) (sym step'.1) (is_told old q seconds renewable date terms (omega (arith, own, within))))
 
 pub told_so : ToldLaw
 told_so old turn i seconds renewable date terms q h within is taken' asked = told_turn old turn.state turn.event turn.result i seconds renewable date terms q h.0 within is taken' asked
@@ -396,7 +396,7 @@ known_turn old new event (Ok output) i end renewable turn within is taken' =
     let there : track_at new i ≡ made = ap (λ (x : WatchState). track_at x i) step.1 ∙ get_or-set_same old.tracks i made no_track within in
     (ap (λ (x : Track). x.end) there, ap (λ (x : Track). x.renewable) there)
 
-pub written_so : WrittenLaw
+pub written_so : ForestWrittenLaw
 written_so = record {
   terms = λ old turn i seconds renewable date terms h within is taken'. terms_turn old turn.state turn.event turn.result i seconds renewable date terms h.0 within is taken';
   need = λ old turn i until h within is taken'. need_turn old turn.state turn.event turn.result i until h.0 within is taken';

@@ -45,7 +45,7 @@ use Rattle.watch_machine.proofs.Cases.{if_both, not_both}
 use Rattle.watch_machine.proofs.Seeing.{SameSeen, both_seen, need_same}
 use Rattle.watch_machine.proofs.Unseen.{pressed_seen, sent_seen}
 use Rattle.watch_laws.specs.Outage.{IsReplyInOutage, Outage, is_request_served, is_request_whole, outage_next_after}
-use Rattle.watch_laws.specs.Recovery.{calm}
+use Rattle.watch_laws.specs.Recovery.{without_outage}
 use Rattle.watch_laws.specs.Starts.{AreUnderWay, AreWorked, BrokerIsThere, FirstTryIsUnderWay, IsAtWork, IsThereAt, IsWorked, IsWorking, SoonLaw, is_first_try}
 use Rattle.watch_laws.proofs.Answering.{looked_rest}
 use Rattle.watch_laws.proofs.Clocking.{readied_clocks, refused_stays, sent_by}
@@ -179,7 +179,7 @@ there_replied s q (Refused status date) real there = let free = lane_freed s q i
 there_replied s q Busy real there = let free = lane_freed s q in let all : WatchState = record free { out = map heard free.out } in cond-false s.presence.away _ all there
 there_replied s q Lost real there = absurd cc
 
-real_of : (quick late : ℕ) (q : Out) (reply : Reply) → IsReplyInOutage (calm quick late) reply q → (is_real reply ≡ true) × (is_busy reply ≡ false)
+real_of : (quick late : ℕ) (q : Out) (reply : Reply) → IsReplyInOutage (without_outage quick late) reply q → (is_real reply ≡ true) × (is_busy reply ≡ false)
 real_of quick late q (Told seconds renewable date) h = (refl, refl)
 real_of quick late q (Refused status date) h = (refl, refl)
 real_of quick late q Busy h = absurd h
@@ -195,10 +195,10 @@ record Leaves (i : ℕ) (old mid : WatchState) (q : Out) (reply : Reply) : Type 
   other : q.entry ≢ i → track_at mid i ≡ track_at old i
 
 answer_way :
-    (quick late i : ℕ) (old mid new : WatchState) (q : Out) (reply : Reply) → new ≡ replied mid q reply → IsReplyInOutage (calm quick late) reply q → Leaves i old mid q reply → is_first_try (attempt_at new i) ≡ true →
-    FirstTryIsUnderWay (calm quick late) old i → FirstTryIsUnderWay (calm quick late) new i
+    (quick late i : ℕ) (old mid new : WatchState) (q : Out) (reply : Reply) → new ≡ replied mid q reply → IsReplyInOutage (without_outage quick late) reply q → Leaves i old mid q reply → is_first_try (attempt_at new i) ≡ true →
+    FirstTryIsUnderWay (without_outage quick late) old i → FirstTryIsUnderWay (without_outage quick late) new i
 answer_way quick late i old mid new q reply made is_reply h first way =
-    let o = calm quick late in
+    let o = without_outage quick late in
     let real = real_of quick late q reply is_reply in
     let a : Answer = record { since = q.since; heard = q.heard; reply = reply } in
     let left : WatchState = record mid { out = map heard (without_request q.entry mid.out) } in
@@ -243,7 +243,7 @@ looked_answers s q Lost terms = refl
 
 -- the answer to a lookup of the entry, where it leaves a first try
 looked_runs :
-    (quick late : ℕ) (s : WatchState) (q : Out) (reply : Reply) (terms : Terms) (t : Try) → IsReplyInOutage (calm quick late) reply q → attempt_at s q.entry ≡ Some t → is_first t ≡ true → t.failed ≡ false →
+    (quick late : ℕ) (s : WatchState) (q : Out) (reply : Reply) (terms : Terms) (t : Try) → IsReplyInOutage (without_outage quick late) reply q → attempt_at s q.entry ≡ Some t → is_first t ≡ true → t.failed ≡ false →
     is_first_try (attempt_at (looked s q reply terms) q.entry) ≡ true →
     Runs s.clocks.at (attempt_at (looked s q reply terms) q.entry) × ((track_at (looked s q reply terms) q.entry).out ≡ false)
 unfolding told_track untold_track
@@ -273,7 +273,7 @@ looked_runs quick late s q Busy terms t is_reply is first settled'' given = absu
 looked_runs quick late s q Lost terms t is_reply is first settled'' given = absurd (not_both (all_whole quick late q.since) is_reply)
 
 -- and that to a renewal leaves none
-renewed_first : (quick late : ℕ) (s : WatchState) (q : Out) (reply : Reply) → IsReplyInOutage (calm quick late) reply q → q.entry < length s.tracks → is_first_try (attempt_at (state_renewed s q reply) q.entry) ≡ false
+renewed_first : (quick late : ℕ) (s : WatchState) (q : Out) (reply : Reply) → IsReplyInOutage (without_outage quick late) reply q → q.entry < length s.tracks → is_first_try (attempt_at (state_renewed s q reply) q.entry) ≡ false
 unfolding renewed_track granted_from ungranted_track
 renewed_first quick late s q (Told seconds renewable date) is_reply within =
     let x = track_at s q.entry in
@@ -287,8 +287,8 @@ renewed_first quick late s q Busy is_reply within = absurd is_reply
 renewed_first quick late s q Lost is_reply within = absurd (not_both (all_whole quick late q.since) is_reply)
 
 looked_way :
-    (quick late i j : ℕ) (old new : WatchState) (found : Option Out) (reply : Reply) (terms : Terms) (output : Output) → StepLooked old found reply terms output new → IfSome found (IsReplyInOutage (calm quick late) reply) →
-    is_first_try (attempt_at new i) ≡ true → FirstTryIsUnderWay (calm quick late) old i → FirstTryIsUnderWay (calm quick late) new i
+    (quick late i j : ℕ) (old new : WatchState) (found : Option Out) (reply : Reply) (terms : Terms) (output : Output) → StepLooked old found reply terms output new → IfSome found (IsReplyInOutage (without_outage quick late) reply) →
+    is_first_try (attempt_at new i) ≡ true → FirstTryIsUnderWay (without_outage quick late) old i → FirstTryIsUnderWay (without_outage quick late) new i
 looked_way quick late i j old new None reply terms output step is_reply first way = absurd step
 looked_way quick late i j old new (Some q) reply terms output step is_reply first way =
     let s = noted old q reply in
@@ -310,8 +310,8 @@ looked_way quick late i j old new (Some q) reply terms output step is_reply firs
     first way
 
 renewed_way :
-    (quick late i : ℕ) (old new : WatchState) (found : Option Out) (reply : Reply) (output : Output) → StepRenewed old found reply output new → IfSome found (IsReplyInOutage (calm quick late) reply) →
-    is_first_try (attempt_at new i) ≡ true → FirstTryIsUnderWay (calm quick late) old i → FirstTryIsUnderWay (calm quick late) new i
+    (quick late i : ℕ) (old new : WatchState) (found : Option Out) (reply : Reply) (output : Output) → StepRenewed old found reply output new → IfSome found (IsReplyInOutage (without_outage quick late) reply) →
+    is_first_try (attempt_at new i) ≡ true → FirstTryIsUnderWay (without_outage quick late) old i → FirstTryIsUnderWay (without_outage quick late) new i
 renewed_way quick late i old new None reply output step is_reply first way = absurd step
 renewed_way quick late i old new (Some q) reply output step is_reply first way =
     let s = noted old q reply in
@@ -379,11 +379,11 @@ unfolding presence_after
 presence_free margin at xs answers p none = cond-false (list_any (λ (a : Answer). is_busy a.reply) answers) (at + 1000) p.free none
 
 clock_way :
-    (quick late width n i : ℕ) (old new : WatchState) (wall elapsed : ℕ) (output : Output) → StepClock old wall elapsed output new → IsBase width n old → is_wanted new i ≡ true → FirstTryIsUnderWay (calm quick late) old i →
-    FirstTryIsUnderWay (calm quick late) new i
+    (quick late width n i : ℕ) (old new : WatchState) (wall elapsed : ℕ) (output : Output) → StepClock old wall elapsed output new → IsBase width n old → is_wanted new i ≡ true → FirstTryIsUnderWay (without_outage quick late) old i →
+    FirstTryIsUnderWay (without_outage quick late) new i
 unfolding wants
 clock_way quick late width n i old new wall elapsed output step base wanted way =
-    let o = calm quick late in
+    let o = without_outage quick late in
     let s = readied old wall elapsed in
     let round = step.round in
     let mid = pressed s (round_of round) in
@@ -421,25 +421,25 @@ clock_way quick late width n i old new wall elapsed output step base wanted way 
 -- ---- a step, a turn
 
 step_way :
-    (quick late width n i due : ℕ) (old new : WatchState) (event : Event) (output : Output) → Step old event output new → BrokerIsThere (calm quick late) due old event → IsBase width n old → is_wanted new i ≡ true →
-    is_first_try (attempt_at new i) ≡ true → FirstTryIsUnderWay (calm quick late) old i → FirstTryIsUnderWay (calm quick late) new i
+    (quick late width n i due : ℕ) (old new : WatchState) (event : Event) (output : Output) → Step old event output new → BrokerIsThere (without_outage quick late) due old event → IsBase width n old → is_wanted new i ≡ true →
+    is_first_try (attempt_at new i) ≡ true → FirstTryIsUnderWay (without_outage quick late) old i → FirstTryIsUnderWay (without_outage quick late) new i
 step_way quick late width n i due old new (Clock wall elapsed) output step there base wanted first way = clock_way quick late width n i old new wall elapsed output step base wanted way
 step_way quick late width n i due old new (Looked j reply terms) output step there base wanted first way = looked_way quick late i j old new (request_out old.out j Look) reply terms output step there first way
 step_way quick late width n i due old new (Renewed j reply) output step there base wanted first way = renewed_way quick late i old new (request_out old.out j Renew) reply output step there first way
 step_way quick late width n i due old new (Need j until) output step there base wanted first way =
-    subst (λ (x : WatchState). FirstTryIsUnderWay (calm quick late) x i) (sym step.1) (same_way (calm quick late) i old (with_need_until old j until) refl refl refl refl refl refl way)
+    subst (λ (x : WatchState). FirstTryIsUnderWay (without_outage quick late) x i) (sym step.1) (same_way (without_outage quick late) i old (with_need_until old j until) refl refl refl refl refl refl way)
 step_way quick late width n i due old new Begin output step there base wanted first way =
-    subst (λ (x : WatchState). FirstTryIsUnderWay (calm quick late) x i) (sym step.1) (same_way (calm quick late) i old (record old { asked = true }) refl refl refl refl refl refl way)
+    subst (λ (x : WatchState). FirstTryIsUnderWay (without_outage quick late) x i) (sym step.1) (same_way (without_outage quick late) i old (record old { asked = true }) refl refl refl refl refl refl way)
 step_way quick late width n i due old new (Known j end renewable) output step there base wanted first way =
     let R : Track → Track → Type 0 = λ y x. (y.attempt ≡ x.attempt) × (y.out ≡ x.out) in
     let kept = set_kept R (λ x. (refl, refl)) old.tracks j (record (track_at old j) { end = At (min END_MAX end); renewable = renewable }) (refl, refl) i in
-    subst (λ (x : WatchState). FirstTryIsUnderWay (calm quick late) x i) (sym step.1) (same_way (calm quick late) i old (known old j end renewable) kept.0 kept.1 refl refl refl refl way)
+    subst (λ (x : WatchState). FirstTryIsUnderWay (without_outage quick late) x i) (sym step.1) (same_way (without_outage quick late) i old (known old j end renewable) kept.0 kept.1 refl refl refl refl way)
 
 turn_way :
-    (quick late width n i due : ℕ) (old new : WatchState) (event : Event) (result : Result Output WatchFault) → Turn old event result new → IsThereAt (calm quick late) due old event result → IsBase width n old →
-    is_wanted new i ≡ true → is_first_try (attempt_at new i) ≡ true → FirstTryIsUnderWay (calm quick late) old i → FirstTryIsUnderWay (calm quick late) new i
+    (quick late width n i due : ℕ) (old new : WatchState) (event : Event) (result : Result Output WatchFault) → Turn old event result new → IsThereAt (without_outage quick late) due old event result → IsBase width n old →
+    is_wanted new i ≡ true → is_first_try (attempt_at new i) ≡ true → FirstTryIsUnderWay (without_outage quick late) old i → FirstTryIsUnderWay (without_outage quick late) new i
 turn_way quick late width n i due old new event (Ok output) turn there base wanted first way = step_way quick late width n i due old new event output turn.1 there base wanted first way
-turn_way quick late width n i due old new event (Err fault) turn there base wanted first way = subst (λ (x : WatchState). FirstTryIsUnderWay (calm quick late) x i) (sym (refused_stays old new event fault turn)) way
+turn_way quick late width n i due old new event (Err fault) turn there base wanted first way = subst (λ (x : WatchState). FirstTryIsUnderWay (without_outage quick late) x i) (sym (refused_stays old new event fault turn)) way
 
 -- there are as many entries as before
 looked_count : (s : WatchState) (q : Out) (reply : Reply) (terms : Terms) → length (looked s q reply terms).forest.entries ≡ length s.forest.entries
@@ -491,11 +491,11 @@ works_at o i due old new event (Ok output) there work = works o i due old new ev
 works_at o i due old new event (Err fault) there work = tt
 
 all_work :
-    (quick late width n i : ℕ) → i < n → (turns : List Turned) (due : ℕ) (old : WatchState) → History old turns → IsBase width n old → length old.forest.entries ≡ n → FirstTryIsUnderWay (calm quick late) old i →
-    AreUnderWay (calm quick late) i due old turns → AreWorked (calm quick late) i due old turns
+    (quick late width n i : ℕ) → i < n → (turns : List Turned) (due : ℕ) (old : WatchState) → History old turns → IsBase width n old → length old.forest.entries ≡ n → FirstTryIsUnderWay (without_outage quick late) old i →
+    AreUnderWay (without_outage quick late) i due old turns → AreWorked (without_outage quick late) i due old turns
 all_work quick late width n i low [] due old history base count way under = tt
 all_work quick late width n i low (turn ∷ turns) due old history base count way under =
-    let o = calm quick late in
+    let o = without_outage quick late in
     let new = turn.state in
     let next = turn_base width n old new turn.event turn.result history.0 base in
     let many : length new.forest.entries ≡ n = turn_many old new turn.event turn.result history.0 ∙ count in
@@ -506,7 +506,7 @@ all_work quick late width n i low (turn ∷ turns) due old history base count wa
 
 pub wanted_soon : SoonLaw
 wanted_soon quick late rounds g width before last turns i wide run clock taken' way under few =
-    let o = calm quick late in
+    let o = without_outage quick late in
     let n = length g.entries in
     let old = after_all (opened g width) before in
     let history = last_turns before (last ∷ turns) (opened g width) run in

@@ -25,8 +25,8 @@ use Rattle.watch_machine.proofs.Cases.{not_both}
 use Rattle.watch_machine.proofs.Within.{out_entry}
 use Rattle.watch_laws.specs.Absence.{is_event_taken}
 use Rattle.watch_laws.specs.Outage.{Outage, coming, comes, how_many, is_request_served, is_tried, is_request_whole, outage_next_after, outage_next_after_command, outage_next_by, outage_settled_by, waiting, waits_to_be_asked}
-use Rattle.watch_laws.specs.Recovery.{calm}
-use Rattle.watch_laws.specs.Starts.{AllSoon, AreWorked, IsAtWork, IsWorked, IsWorking, is_answer, later_by}
+use Rattle.watch_laws.specs.Recovery.{without_outage}
+use Rattle.watch_laws.specs.Starts.{AllSoon, AreWorked, IsAtWork, IsWorked, IsWorking, is_answer_to, later_by}
 use Rattle.watch_laws.proofs.Alone.{lanes_of, none_left, replied_lanes}
 use Rattle.watch_laws.proofs.Clocking.{readied_clocks, refused_stays}
 use Rattle.watch_laws.proofs.Counting.{least_all, more as more_pass, no_lane, some}
@@ -44,7 +44,7 @@ since_by i sent out = list_any (is_of i (λ since. nat_le since sent)) out
 -- after a turn, where k may still go out: i waits, and r rounds hold them, but for those that went out after from
 pub record Waits (quick late width n i by due k : ℕ) (s : WatchState) : Type 0 where
   pub passing : Passes quick late width n i by due k s
-  pub unserved : is_request_served (calm quick late) s i ≡ false
+  pub unserved : is_request_served (without_outage quick late) s i ≡ false
 
 -- or it is being asked: r rounds hold those that wait, but for those that went out at anew or later; and after its answer they begin at turn
 pub record Serves (quick late width n i by due k : ℕ) (s : WatchState) : Type 0 where
@@ -55,7 +55,7 @@ pub record Serves (quick late width n i by due k : ℕ) (s : WatchState) : Type 
   pub turn : ℕ
   pub sent : ℕ
   pub served : since_by i sent s.out ≡ true
-  pub count : k + how_many n (is_anew (calm quick late) anew s) ≤ width * r
+  pub count : k + how_many n (is_anew (without_outage quick late) anew s) ≤ width * r
   pub order : anew ≤ suc turn
   pub start : turn + (quick + late) * r ≤ by + (quick + late)
   pub sent_turn : sent ≤ turn
@@ -206,7 +206,7 @@ one_waits o n i old new low unserved tried =
 
 module _ (quick late width n i by due rest : ℕ) (old new : WatchState) (wall elapsed : ℕ) (output : Output) (wide : 0 < width) (low : i < n) (step : Step old (Clock wall elapsed) output new) (in_time : (timed old wall elapsed).clocks.at ≤ due) (base : IsBase width n new) (sends : Sends old new n) where
   abbrev o : Outage
-  o = calm quick late
+  o = without_outage quick late
 
   abbrev more : ℕ
   more = waiting o n old + (how_many n (comes o old new) + rest)
@@ -296,13 +296,13 @@ record Leaves (o : Outage) (i : ℕ) (old new : WatchState) : Type 0 where
   unserved : is_request_served o old i ≡ false → is_request_served o new i ≡ false
 
 quiet_stage :
-    (quick late width n i by due rest : ℕ) (old new : WatchState) (output : Output) → Quiet quick late due old new output → IsBase width n new → Sends old new n → Leaves (calm quick late) i old new →
-    Stage quick late width n i by due (waiting (calm quick late) n old + (how_many n (comes (calm quick late) old new) + rest)) old →
-    Stage quick late width n i by (outage_next_after_command (calm quick late) output.command new due) (waiting (calm quick late) n new + rest) new
+    (quick late width n i by due rest : ℕ) (old new : WatchState) (output : Output) → Quiet quick late due old new output → IsBase width n new → Sends old new n → Leaves (without_outage quick late) i old new →
+    Stage quick late width n i by due (waiting (without_outage quick late) n old + (how_many n (comes (without_outage quick late) old new) + rest)) old →
+    Stage quick late width n i by (outage_next_after_command (without_outage quick late) output.command new due) (waiting (without_outage quick late) n new + rest) new
 quiet_stage quick late width n i by due rest old new output quiet base sends leaves (inl w) =
     inl (record { passing = quiet_passes quick late width n i by due rest old new output quiet base sends w.passing; unserved = leaves.unserved w.unserved })
 quiet_stage quick late width n i by due rest old new output quiet base sends leaves (inr v) =
-    let o = calm quick late in
+    let o = without_outage quick late in
     let less = fewer_wait o v.anew n old new v.base.alone base.alone base.tries sends in
     let count = v.count in
     let now = v.now in
@@ -333,16 +333,16 @@ same_leaves o i old new is = record {
 
 -- its own answer: it may wait anew, one round later
 own_stage :
-    (quick late width n i by due rest : ℕ) (old new : WatchState) (output : Output) → Quiet quick late due old new output → IsBase width n new → Sends old new n → is_request_served (calm quick late) new i ≡ false →
-    Stage quick late width n i by due (waiting (calm quick late) n old + (how_many n (comes (calm quick late) old new) + rest)) old →
-    Stage quick late width n i (by + (quick + late)) (outage_next_after_command (calm quick late) output.command new due) (waiting (calm quick late) n new + rest) new
+    (quick late width n i by due rest : ℕ) (old new : WatchState) (output : Output) → Quiet quick late due old new output → IsBase width n new → Sends old new n → is_request_served (without_outage quick late) new i ≡ false →
+    Stage quick late width n i by due (waiting (without_outage quick late) n old + (how_many n (comes (without_outage quick late) old new) + rest)) old →
+    Stage quick late width n i (by + (quick + late)) (outage_next_after_command (without_outage quick late) output.command new due) (waiting (without_outage quick late) n new + rest) new
 own_stage quick late width n i by due rest old new output quiet base sends unserved (inl w) =
     inl (record {
-      passing = later_passes quick late width n i by (by + (quick + late)) _ (waiting (calm quick late) n new + rest) new (omega arith) (quiet_passes quick late width n i by due rest old new output quiet base sends w.passing);
+      passing = later_passes quick late width n i by (by + (quick + late)) _ (waiting (without_outage quick late) n new + rest) new (omega arith) (quiet_passes quick late width n i by due rest old new output quiet base sends w.passing);
       unserved = unserved;
     })
 own_stage quick late width n i by due rest old new output quiet base sends unserved (inr v) =
-    let o = calm quick late in
+    let o = without_outage quick late in
     let less = fewer_wait o v.anew n old new v.base.alone base.alone base.tries sends in
     let fewer = fewer_anew o v.anew (suc v.turn) n new v.order in
     let count = v.count in
@@ -393,10 +393,10 @@ module _ (o : Outage) (i : ℕ) (old mid new : WatchState) (q : Out) (reply : Re
 answer_stage :
     (quick late width n i by more due rest j : ℕ) (old mid new : WatchState) (q : Out) (reply : Reply) (output : Output) → by ≤ more → (j == i ≡ true → by + (quick + late) ≤ more) → new ≡ replied mid q reply → mid.out ≡ old.out →
     q.entry ≡ j → Quiet quick late due old new output → IsBase width n new → Sends old new n →
-    Stage quick late width n i by due (waiting (calm quick late) n old + (how_many n (comes (calm quick late) old new) + rest)) old →
-    Stage quick late width n i more (outage_next_after_command (calm quick late) output.command new due) (waiting (calm quick late) n new + rest) new
+    Stage quick late width n i by due (waiting (without_outage quick late) n old + (how_many n (comes (without_outage quick late) old new) + rest)) old →
+    Stage quick late width n i more (outage_next_after_command (without_outage quick late) output.command new due) (waiting (without_outage quick late) n new + rest) new
 answer_stage quick late width n i by more due rest j old mid new q reply output le own is outs entry quiet base sends stage =
-    let o = calm quick late in
+    let o = without_outage quick late in
     let d = outage_next_after_command o output.command new due in
     let k = waiting o n new + rest in
     elim (cases_Bool (j == i)) as (λ _. Stage quick late width n i more d k new) [
@@ -409,73 +409,73 @@ answer_stage quick late width n i by more due rest j old mid new q reply output 
     ]
 
 step_stage :
-    (quick late width n i by more due rest : ℕ) (old new : WatchState) (event : Event) (output : Output) → 0 < width → i < n → by ≤ more → (is_answer i event ≡ true → by + (quick + late) ≤ more) → Step old event output new →
-    IsWorking (calm quick late) i due old event new → IsBase width n new → Sends old new n →
-    Stage quick late width n i by due (waiting (calm quick late) n old + (how_many n (comes (calm quick late) old new) + rest)) old →
-    Stage quick late width n i more (outage_next_after_command (calm quick late) output.command new due) (waiting (calm quick late) n new + rest) new
+    (quick late width n i by more due rest : ℕ) (old new : WatchState) (event : Event) (output : Output) → 0 < width → i < n → by ≤ more → (is_answer_to i event ≡ true → by + (quick + late) ≤ more) → Step old event output new →
+    IsWorking (without_outage quick late) i due old event new → IsBase width n new → Sends old new n →
+    Stage quick late width n i by due (waiting (without_outage quick late) n old + (how_many n (comes (without_outage quick late) old new) + rest)) old →
+    Stage quick late width n i more (outage_next_after_command (without_outage quick late) output.command new due) (waiting (without_outage quick late) n new + rest) new
 step_stage quick late width n i by more due rest old new (Clock wall elapsed) output wide low le own step working base sends (inl w) =
-    later_stage quick late width n i by more _ (waiting (calm quick late) n new + rest) new le (clock_waits quick late width n i by due rest old new wall elapsed output wide low step working.0 base sends w working.1)
+    later_stage quick late width n i by more _ (waiting (without_outage quick late) n new + rest) new le (clock_waits quick late width n i by due rest old new wall elapsed output wide low step working.0 base sends w working.1)
 step_stage quick late width n i by more due rest old new (Clock wall elapsed) output wide low le own step working base sends (inr v) =
-    later_stage quick late width n i by more _ (waiting (calm quick late) n new + rest) new le (clock_serves quick late width n i by due rest old new wall elapsed output wide low step working.0 base sends v)
+    later_stage quick late width n i by more _ (waiting (without_outage quick late) n new + rest) new le (clock_serves quick late width n i by due rest old new wall elapsed output wide low step working.0 base sends v)
 step_stage quick late width n i by more due rest old new (Looked j reply terms) output wide low le own step working base sends stage = turned (request_out old.out j Look) refl step where
-  turned : (found : Option Out) → request_out old.out j Look ≡ found → StepLooked old found reply terms output new → Stage quick late width n i more (outage_next_after_command (calm quick late) output.command new due) (waiting (calm quick late) n new + rest) new
+  turned : (found : Option Out) → request_out old.out j Look ≡ found → StepLooked old found reply terms output new → Stage quick late width n i more (outage_next_after_command (without_outage quick late) output.command new due) (waiting (without_outage quick late) n new + rest) new
   turned None is step' = absurd step'
   turned (Some q) is step' =
       let s = noted old q reply in
       answer_stage quick late width n i by more due rest j old (looked s q reply terms) new q reply output le own step'.1 (looked_out s q reply terms) (out_entry old.out j Look q is)
       (looked_quiet quick late due old new (Some q) reply terms output step') base sends stage
 step_stage quick late width n i by more due rest old new (Renewed j reply) output wide low le own step working base sends stage = turned (request_out old.out j Renew) refl step where
-  turned : (found : Option Out) → request_out old.out j Renew ≡ found → StepRenewed old found reply output new → Stage quick late width n i more (outage_next_after_command (calm quick late) output.command new due) (waiting (calm quick late) n new + rest) new
+  turned : (found : Option Out) → request_out old.out j Renew ≡ found → StepRenewed old found reply output new → Stage quick late width n i more (outage_next_after_command (without_outage quick late) output.command new due) (waiting (without_outage quick late) n new + rest) new
   turned None is step' = absurd step'
   turned (Some q) is step' =
       let s = noted old q reply in
       answer_stage quick late width n i by more due rest j old (state_renewed s q reply) new q reply output le own step'.1 refl (out_entry old.out j Renew q is)
       (renewed_quiet quick late due old new (Some q) reply output step') base sends stage
 step_stage quick late width n i by more due rest old new (Need j until) output wide low le own step working base sends stage =
-    later_stage quick late width n i by more _ (waiting (calm quick late) n new + rest) new le
-    (quiet_stage quick late width n i by due rest old new output (same_quiet quick late due old _ new output _ step.1 refl refl step.0 refl) base sends (same_leaves (calm quick late) i old new (ap (λ (x : WatchState). x.out) step.1)) stage)
+    later_stage quick late width n i by more _ (waiting (without_outage quick late) n new + rest) new le
+    (quiet_stage quick late width n i by due rest old new output (same_quiet quick late due old _ new output _ step.1 refl refl step.0 refl) base sends (same_leaves (without_outage quick late) i old new (ap (λ (x : WatchState). x.out) step.1)) stage)
 step_stage quick late width n i by more due rest old new Begin output wide low le own step working base sends stage =
-    later_stage quick late width n i by more _ (waiting (calm quick late) n new + rest) new le
-    (quiet_stage quick late width n i by due rest old new output (same_quiet quick late due old _ new output _ step.1 refl refl step.0 refl) base sends (same_leaves (calm quick late) i old new (ap (λ (x : WatchState). x.out) step.1)) stage)
+    later_stage quick late width n i by more _ (waiting (without_outage quick late) n new + rest) new le
+    (quiet_stage quick late width n i by due rest old new output (same_quiet quick late due old _ new output _ step.1 refl refl step.0 refl) base sends (same_leaves (without_outage quick late) i old new (ap (λ (x : WatchState). x.out) step.1)) stage)
 step_stage quick late width n i by more due rest old new (Known j end renewable) output wide low le own step working base sends stage =
-    later_stage quick late width n i by more _ (waiting (calm quick late) n new + rest) new le
-    (quiet_stage quick late width n i by due rest old new output (same_quiet quick late due old _ new output _ step.1 refl refl step.0 refl) base sends (same_leaves (calm quick late) i old new (ap (λ (x : WatchState). x.out) step.1)) stage)
+    later_stage quick late width n i by more _ (waiting (without_outage quick late) n new + rest) new le
+    (quiet_stage quick late width n i by due rest old new output (same_quiet quick late due old _ new output _ step.1 refl refl step.0 refl) base sends (same_leaves (without_outage quick late) i old new (ap (λ (x : WatchState). x.out) step.1)) stage)
 
 -- what is refused leaves everything
 same_stage :
-    (quick late width n i by due k more : ℕ) (old new : WatchState) → new ≡ old → IsBase width n new → waiting (calm quick late) n new + k ≤ more → Stage quick late width n i by due more old → Stage quick late width n i by due (waiting (calm quick late) n new + k) new
+    (quick late width n i by due k more : ℕ) (old new : WatchState) → new ≡ old → IsBase width n new → waiting (without_outage quick late) n new + k ≤ more → Stage quick late width n i by due more old → Stage quick late width n i by due (waiting (without_outage quick late) n new + k) new
 same_stage quick late width n i by due k more old new is base le stage =
-    subst (λ (x : WatchState). Stage quick late width n i by due (waiting (calm quick late) n new + k) x) (sym is) (fewer_stage quick late width n i by due (waiting (calm quick late) n new + k) more old le stage)
+    subst (λ (x : WatchState). Stage quick late width n i by due (waiting (without_outage quick late) n new + k) x) (sym is) (fewer_stage quick late width n i by due (waiting (without_outage quick late) n new + k) more old le stage)
 
 turn_stage :
-    (quick late width n i by due rest : ℕ) (old : WatchState) (turn : Turned) → 0 < width → i < n → Turn old turn.event turn.result turn.state → IsWorked (calm quick late) i due old turn.event turn.result turn.state →
+    (quick late width n i by due rest : ℕ) (old : WatchState) (turn : Turned) → 0 < width → i < n → Turn old turn.event turn.result turn.state → IsWorked (without_outage quick late) i due old turn.event turn.result turn.state →
     IsBase width n turn.state → Sends old turn.state n → IsBase width n old →
-    Stage quick late width n i by due (waiting (calm quick late) n old + (how_many n (comes (calm quick late) old turn.state) + rest)) old →
-    Stage quick late width n i (by + later_by i (quick + late) turn) (outage_next_after (calm quick late) turn.result turn.state due) (waiting (calm quick late) n turn.state + rest) turn.state
+    Stage quick late width n i by due (waiting (without_outage quick late) n old + (how_many n (comes (without_outage quick late) old turn.state) + rest)) old →
+    Stage quick late width n i (by + later_by i (quick + late) turn) (outage_next_after (without_outage quick late) turn.result turn.state due) (waiting (without_outage quick late) n turn.state + rest) turn.state
 turn_stage quick late width n i by due rest old turn wide low step working base sends old_base stage = by_result turn.result refl step working where
   by_result :
-      (result : Result Output WatchFault) → turn.result ≡ result → Turn old turn.event result turn.state → IsWorked (calm quick late) i due old turn.event result turn.state →
-      Stage quick late width n i (by + later_by i (quick + late) turn) (outage_next_after (calm quick late) turn.result turn.state due) (waiting (calm quick late) n turn.state + rest) turn.state
+      (result : Result Output WatchFault) → turn.result ≡ result → Turn old turn.event result turn.state → IsWorked (without_outage quick late) i due old turn.event result turn.state →
+      Stage quick late width n i (by + later_by i (quick + late) turn) (outage_next_after (without_outage quick late) turn.result turn.state due) (waiting (without_outage quick late) n turn.state + rest) turn.state
   by_result (Ok output) is step' working' =
       let taken' : is_event_taken turn.result ≡ true = ap is_event_taken is in
-      subst (λ r. Stage quick late width n i (by + later_by i (quick + late) turn) (outage_next_after (calm quick late) r turn.state due) (waiting (calm quick late) n turn.state + rest) turn.state) (sym is)
+      subst (λ r. Stage quick late width n i (by + later_by i (quick + late) turn) (outage_next_after (without_outage quick late) r turn.state due) (waiting (without_outage quick late) n turn.state + rest) turn.state) (sym is)
       (step_stage quick late width n i by (by + later_by i (quick + late) turn) due rest old turn.state turn.event output wide low (omega arith)
-      (λ answer. (let e : later_by i (quick + late) turn ≡ quick + late = ap (λ b. if b then quick + late else 0) (and_from (is_event_taken turn.result) (is_answer i turn.event) taken' answer) in omega (arith, e)))
+      (λ answer. (let e : later_by i (quick + late) turn ≡ quick + late = ap (λ b. if b then quick + late else 0) (and_from (is_event_taken turn.result) (is_answer_to i turn.event) taken' answer) in omega (arith, e)))
       step'.1 working' base sends stage)
   by_result (Err fault) is step' working' =
       let same = refused_stays old turn.state turn.event fault step' in
-      let less = fewer_wait (calm quick late) 0 n old turn.state old_base.alone base.alone base.tries sends in
-      let anew = ap (λ (x : WatchState). how_many n (is_anew (calm quick late) 0 x)) same in
-      subst (λ r. Stage quick late width n i (by + later_by i (quick + late) turn) (outage_next_after (calm quick late) r turn.state due) (waiting (calm quick late) n turn.state + rest) turn.state) (sym is)
-      (later_stage quick late width n i by (by + later_by i (quick + late) turn) due (waiting (calm quick late) n turn.state + rest) turn.state (omega arith)
-      (same_stage quick late width n i by due rest (waiting (calm quick late) n old + (how_many n (comes (calm quick late) old turn.state) + rest)) old turn.state same base (omega (arith, less, anew)) stage))
+      let less = fewer_wait (without_outage quick late) 0 n old turn.state old_base.alone base.alone base.tries sends in
+      let anew = ap (λ (x : WatchState). how_many n (is_anew (without_outage quick late) 0 x)) same in
+      subst (λ r. Stage quick late width n i (by + later_by i (quick + late) turn) (outage_next_after (without_outage quick late) r turn.state due) (waiting (without_outage quick late) n turn.state + rest) turn.state) (sym is)
+      (later_stage quick late width n i by (by + later_by i (quick + late) turn) due (waiting (without_outage quick late) n turn.state + rest) turn.state (omega arith)
+      (same_stage quick late width n i by due rest (waiting (without_outage quick late) n old + (how_many n (comes (without_outage quick late) old turn.state) + rest)) old turn.state same base (omega (arith, less, anew)) stage))
 
 pub along :
-    (quick late width n i : ℕ) → 0 < width → i < n → (turns : List Turned) (by due : ℕ) (old : WatchState) → History old turns → AreWorked (calm quick late) i due old turns →
-    Stage quick late width n i by due (waiting (calm quick late) n old + coming (calm quick late) n old turns) old → IsBase width n old → AllSoon i (quick + late) (by + (quick + late)) turns
+    (quick late width n i : ℕ) → 0 < width → i < n → (turns : List Turned) (by due : ℕ) (old : WatchState) → History old turns → AreWorked (without_outage quick late) i due old turns →
+    Stage quick late width n i by due (waiting (without_outage quick late) n old + coming (without_outage quick late) n old turns) old → IsBase width n old → AllSoon i (quick + late) (by + (quick + late)) turns
 along quick late width n i wide low [] by due old history working stage base = tt
 along quick late width n i wide low (turn ∷ turns) by due old history working stage base =
-    let o = calm quick late in
+    let o = without_outage quick late in
     let span = quick + late in
     let new = turn.state in
     let next = turn_base width n old new turn.event turn.result history.0 base in

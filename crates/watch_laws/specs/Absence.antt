@@ -13,7 +13,7 @@ use Rattle.watch_machine.specs.History.{History, IsWatchRun, Turned, after_all}
 use Rattle.watch_machine.specs.Lines.{is_first}
 use Rattle.watch_machine.specs.Settling.{is_silent}
 use Rattle.watch_machine.specs.State.{WatchState, attempt_at, opened}
-use Rattle.watch_laws.specs.Load.{requests_of}
+use Rattle.watch_laws.specs.Load.{requests_at_turn}
 
 -- the broker is away after each turn
 abbrev pub AllAway : List Turned → Type 0
@@ -58,7 +58,7 @@ is_later s r = is_later_try (attempt_at s r.entry)
 -- how many later tries go out
 abbrev pub laters : List Turned → ℕ
 laters [] = 0
-laters (turn ∷ turns) = length (filter (is_later turn.state) (requests_of turn.result)) + laters turns
+laters (turn ∷ turns) = length (filter (is_later turn.state) (requests_at_turn turn.result)) + laters turns
 
 -- no turn sets the hold
 abbrev pub NoneSets : WatchState → List Turned → Type 0

@@ -8,7 +8,7 @@ use Rattle.watch_machine.specs.declared.track.Try.{Try}
 use Rattle.watch_machine.specs.History.{History, Turned}
 use Rattle.watch_machine.specs.State.{WatchState, attempt_at, track_at}
 use Rattle.watch_laws.specs.Absence.{is_event_taken}
-use Rattle.watch_laws.specs.Presence.{is_answer}
+use Rattle.watch_laws.specs.Presence.{is_answer_taken}
 use Rattle.watch_laws.specs.Presses.{asked_again_at}
 
 -- a reply to a request of i is taken
@@ -27,13 +27,13 @@ is_reply_to i turn = is_event_taken turn.result && replies_to i turn.event
 -- second after the entry was last asked; and of one that is out no failure counts, since it was asked in the absence. Else it stays
 pub record BackLaw : Type 0 where
   pub out :
-      (old : WatchState) (turn : Turned) (i j : ℕ) (t : Try) → History old (turn ∷ []) → is_reply_to i turn ≡ true → is_answer turn ≡ true → old.presence.away ≡ true → j ≢ i → attempt_at old j ≡ Some t →
+      (old : WatchState) (turn : Turned) (i j : ℕ) (t : Try) → History old (turn ∷ []) → is_reply_to i turn ≡ true → is_answer_taken turn ≡ true → old.presence.away ≡ true → j ≢ i → attempt_at old j ≡ Some t →
       (track_at old j).out ≡ true → attempt_at turn.state j ≡ Some (record t { fails = 0 })
   pub lost :
-      (old : WatchState) (turn : Turned) (i j : ℕ) (t : Try) → History old (turn ∷ []) → is_reply_to i turn ≡ true → is_answer turn ≡ true → old.presence.away ≡ true → j ≢ i → attempt_at old j ≡ Some t →
+      (old : WatchState) (turn : Turned) (i j : ℕ) (t : Try) → History old (turn ∷ []) → is_reply_to i turn ≡ true → is_answer_taken turn ≡ true → old.presence.away ≡ true → j ≢ i → attempt_at old j ≡ Some t →
       (track_at old j).out ≡ false → t.lost ≡ true → attempt_at turn.state j ≡ Some (record t { at = min t.at (asked_again_at (track_at old j).last) })
   pub other :
-      (old : WatchState) (turn : Turned) (i j : ℕ) (t : Try) → History old (turn ∷ []) → is_reply_to i turn ≡ true → is_answer turn ≡ true → old.presence.away ≡ true → j ≢ i → attempt_at old j ≡ Some t →
+      (old : WatchState) (turn : Turned) (i j : ℕ) (t : Try) → History old (turn ∷ []) → is_reply_to i turn ≡ true → is_answer_taken turn ≡ true → old.presence.away ≡ true → j ≢ i → attempt_at old j ≡ Some t →
       (track_at old j).out ≡ false → t.lost ≡ false → attempt_at turn.state j ≡ Some t
   pub stays :
-      (old : WatchState) (turn : Turned) (i j : ℕ) → History old (turn ∷ []) → is_reply_to i turn ≡ true → is_answer turn && old.presence.away ≡ false → j ≢ i → track_at turn.state j ≡ track_at old j
+      (old : WatchState) (turn : Turned) (i j : ℕ) → History old (turn ∷ []) → is_reply_to i turn ≡ true → is_answer_taken turn && old.presence.away ≡ false → j ≢ i → track_at turn.state j ≡ track_at old j

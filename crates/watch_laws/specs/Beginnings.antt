@@ -21,7 +21,7 @@ use Rattle.watch_machine.specs.History.{History, IsWatchRun, Turned, after_all}
 use Rattle.watch_machine.specs.Refusal.{is_same}
 use Rattle.watch_machine.specs.State.{WatchState, opened, second, track_at}
 use Rattle.watch_machine.specs.Wanted.{is_alive, is_open, is_wanted}
-use Rattle.watch_laws.specs.Load.{requests_of}
+use Rattle.watch_laws.specs.Load.{requests_at_turn}
 use Rattle.watch_laws.specs.Outage.{is_tried}
 
 -- why everything is looked up anew at a turn, None where it is not
@@ -67,7 +67,7 @@ is_lookup i r = r.entry == i && is_same r.operation Look
 
 abbrev pub lookups : ℕ → List Turned → ℕ
 lookups i [] = 0
-lookups i (turn ∷ turns) = length (filter (is_lookup i) (requests_of turn.result)) + lookups i turns
+lookups i (turn ∷ turns) = length (filter (is_lookup i) (requests_at_turn turn.result)) + lookups i turns
 
 -- and how many are out: one at most
 abbrev pub looks : ℕ → List Out → ℕ

@@ -35,7 +35,7 @@ pub record IsNewDay (old new : WatchState) : Type 0 where
   pub quiet : SomebodyIsUrgent old (second new) → ⊥
 
 -- after a beginning it is the last one, none is asked for, no date counts that came before, and nobody is called topped
-pub record IsBegun (s : WatchState) : Type 0 where
+pub record IsBegunAnew (s : WatchState) : Type 0 where
   pub begun : s.begun ≡ Some s.clocks.at
   pub asked : s.asked ≡ false
   pub stepped : s.stepped ≡ false
@@ -47,5 +47,5 @@ pub record BeginLaw : Type 0 where
       (g : Forest) (width : ℕ) (before : List Turned) (turn : Turned) (wall elapsed : ℕ) → IsWatchRun g width (before ++ turn ∷ []) → IsClock wall elapsed turn → why_begun turn.result ≡ None →
       MayGoOn (after_all (opened g width) before) turn.state wall
   pub day : (old : WatchState) (turn : Turned) (wall elapsed : ℕ) → History old (turn ∷ []) → IsClock wall elapsed turn → why_begun turn.result ≡ Some Day → IsNewDay old turn.state
-  pub anew : (old : WatchState) (turn : Turned) (wall elapsed : ℕ) → History old (turn ∷ []) → IsClock wall elapsed turn → is_some (why_begun turn.result) ≡ true → IsBegun turn.state
+  pub anew : (old : WatchState) (turn : Turned) (wall elapsed : ℕ) → History old (turn ∷ []) → IsClock wall elapsed turn → is_some (why_begun turn.result) ≡ true → IsBegunAnew turn.state
   pub asks : (old : WatchState) (turn : Turned) → History old (turn ∷ []) → turn.event ≡ Begin → is_event_taken turn.result ≡ true → turn.state.asked ≡ true

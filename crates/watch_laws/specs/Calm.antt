@@ -29,7 +29,7 @@ use Rattle.watch_machine.specs.State.{WatchState, attempt_at, entry_of, opened, 
 use Rattle.watch_machine.specs.Step.{readied, why}
 use Rattle.watch_machine.specs.Wanted.{believed, is_wanted, seen_entry, wanted_need}
 use Rattle.watch_laws.specs.Grants.{time_left}
-use Rattle.watch_laws.specs.Load.{requests_of}
+use Rattle.watch_laws.specs.Load.{requests_at_turn}
 use Rattle.watch_laws.specs.Time.{round_of}
 
 -- the believed ends
@@ -187,7 +187,7 @@ OpensNextWakeUp s (Some asked) last wakes now next = (now ≡ record { at = seco
 
 -- what goes out at a turn are renewals of those whom a wake-up asks, from its second on
 abbrev pub SendsOnly : Wake → Turned → Type 0
-SendsOnly now turn = All (λ r. (r.operation ≡ Renew) × ((is_asked now r.entry ≡ true) × (now.at ≤ second turn.state))) (requests_of turn.result)
+SendsOnly now turn = All (λ r. (r.operation ≡ Renew) × ((is_asked now r.entry ≡ true) × (now.at ≤ second turn.state))) (requests_at_turn turn.result)
 
 -- the ends after a turn as the wake-ups leave them that have opened so far: e before it
 abbrev pub ends_left_by : Forest → (ℕ → ℕ) → Option (List ℕ) → Wake → ℕ → ℕ

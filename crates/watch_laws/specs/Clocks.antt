@@ -17,7 +17,7 @@ use Rattle.watch_machine.specs.History.{IsWatchRun, Turned, after_all}
 use Rattle.watch_machine.specs.State.{opened}
 use Rattle.watch_laws.specs.Absence.{is_event_taken}
 use Rattle.watch_laws.specs.Beginnings.{HasParted}
-use Rattle.watch_laws.specs.Presence.{is_asked}
+use Rattle.watch_laws.specs.Presence.{is_asked_at_turn}
 
 -- the date of a reply
 abbrev pub date_told : Reply → Option ℕ
@@ -77,7 +77,7 @@ abbrev pub DateLaw : Type 0
 DateLaw =
     (g : Forest) (width : ℕ) (before between later : List Turned) (asking answer turn : Turned) (i date wall elapsed : ℕ) →
     IsWatchRun g width (before ++ asking ∷ (between ++ answer ∷ (later ++ turn ∷ []))) → All (λ (q : Out). q.entry ≢ i) (after_all (opened g width) before).out →
-    list_any (is_asked i) between ≡ false → IsDate i date answer → list_any is_set later ≡ false → IsClock wall elapsed turn →
+    list_any (is_asked_at_turn i) between ≡ false → IsDate i date answer → list_any is_set later ≡ false → IsClock wall elapsed turn →
     ShowsDate turn.state.clocks asking.state.clocks.at (min LAST date)
 
 -- until a date is taken the broker's clock is the wall's, in whole seconds
@@ -90,7 +90,7 @@ UndatedLaw =
     (g : Forest) (width : ℕ) (turns : List Turned) → IsWatchRun g width turns → (after_all (opened g width) turns).clocks.dated ≡ false → IsOfWall (after_all (opened g width) turns).clocks
 
 -- from one clock to the next, if nothing sets a clock between them, the broker's that a date has set stays as it is, and so does the phase
-pub record Stays (old new : Clocks) : Type 0 where
+pub record ClocksStay (old new : Clocks) : Type 0 where
   pub phase : new.phase ≡ old.phase
   pub dated : new.dated ≡ old.dated
   pub broker : old.dated ≡ true → new.broker ≡ old.broker
@@ -98,4 +98,4 @@ pub record Stays (old new : Clocks) : Type 0 where
 abbrev pub StaysLaw : Type 0
 StaysLaw =
     (g : Forest) (width : ℕ) (before between : List Turned) (first turn : Turned) (wall elapsed wall' elapsed' : ℕ) → IsWatchRun g width (before ++ first ∷ (between ++ turn ∷ [])) →
-    IsClock wall elapsed first → list_any is_set between ≡ false → IsClock wall' elapsed' turn → Stays first.state.clocks turn.state.clocks
+    IsClock wall elapsed first → list_any is_set between ≡ false → IsClock wall' elapsed' turn → ClocksStay first.state.clocks turn.state.clocks

@@ -13,7 +13,7 @@ use Rattle.watch_machine.specs.Clocks.{ms}
 use Rattle.watch_machine.specs.History.{Turn, Turned}
 use Rattle.watch_machine.specs.State.{WatchState, opened, track_at}
 use Rattle.watch_laws.specs.Absence.{is_event_taken}
-use Rattle.watch_laws.specs.Load.{requests_of}
+use Rattle.watch_laws.specs.Load.{requests_at_turn}
 
 -- the world beside a watch. Moments of it are milliseconds of real time: what the clock that never steps shows at each, and by
 -- how much it may have fallen behind between two
@@ -66,7 +66,7 @@ IsTrueEvent w i asked s l (Known j end renewable) = j ≡ i → IsNoLater w s.cl
 
 -- the moment of the clock at which the last request of i went out
 abbrev pub asked_after : ℕ → ℕ → Lived → ℕ
-asked_after i asked l = if list_any (λ r. r.entry == i) (requests_of l.turn.result) then l.at else asked
+asked_after i asked l = if list_any (λ r. r.entry == i) (requests_at_turn l.turn.result) then l.at else asked
 
 -- turns that were lived one after another from a state on, by events that were true of i: the moment of the last turn, that at which
 -- the last request of i went out, and the real end before. The real end does not come to be earlier

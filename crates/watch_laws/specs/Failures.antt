@@ -22,8 +22,8 @@ use Rattle.watch_laws.specs.Holds.{is_too_busy}
 use Rattle.watch_laws.specs.Waiting.{TryFails}
 
 -- the try of an entry, if it has one, has failed, by a loss or by a refusal
-abbrev pub HasFailed : Bool → Option Try → Type 0
-HasFailed lost attempt = IfSome attempt (λ t. (t.failed ≡ true) × (t.lost ≡ lost))
+abbrev pub TryHasFailed : Bool → Option Try → Type 0
+TryHasFailed lost attempt = IfSome attempt (λ t. (t.failed ≡ true) × (t.lost ≡ lost))
 
 -- or it may go out at once
 abbrev pub MayGoNow : ℕ → Option Try → Type 0
@@ -32,16 +32,16 @@ MayGoNow at attempt = IfSome attempt (λ t. t.at ≤ at)
 -- what the answer to a renewal leaves of the try of its entry: where it is refused, where the broker is busy, and where none came
 abbrev pub RenewalFails : Reply → Option Try → Type 0
 RenewalFails (Told seconds renewable date) attempt = Unit {0}
-RenewalFails (Refused status date) attempt = HasFailed false attempt
-RenewalFails Busy attempt = HasFailed true attempt
-RenewalFails Lost attempt = HasFailed true attempt
+RenewalFails (Refused status date) attempt = TryHasFailed false attempt
+RenewalFails Busy attempt = TryHasFailed true attempt
+RenewalFails Lost attempt = TryHasFailed true attempt
 
 -- and that to a lookup, after whose refusal a renewal may go out at once
 abbrev pub LookupFails : ℕ → Reply → Option Try → Type 0
 LookupFails at (Told seconds renewable date) attempt = Unit {0}
-LookupFails at (Refused status date) attempt = HasFailed false attempt ⊎ MayGoNow at attempt
-LookupFails at Busy attempt = HasFailed true attempt
-LookupFails at Lost attempt = HasFailed true attempt
+LookupFails at (Refused status date) attempt = TryHasFailed false attempt ⊎ MayGoNow at attempt
+LookupFails at Busy attempt = TryHasFailed true attempt
+LookupFails at Lost attempt = TryHasFailed true attempt
 
 -- s is the state after the event
 abbrev pub FailsTaken : WatchState → Event → Type 0

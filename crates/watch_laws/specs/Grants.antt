@@ -36,7 +36,7 @@ time_left margin step seconds from = (from + seconds) - min margin (3 * min step
 
 -- the end to which a grant of i leads that answers the request q: it counts from the second in which the try began, if that leaves a time
 -- which is more than a second ahead; else, and where the try has failed, from the second in which its request went out
-pub record IsCounted (old new : WatchState) (i seconds : ℕ) (q : Out) : Type 0 where
+pub record IsCountedFrom (old new : WatchState) (i seconds : ℕ) (q : Out) : Type 0 where
   pub first :
       (t : Try) (base : ℕ) → attempt_at old i ≡ Some t → t.base ≡ Some base → second old + 1 < time_left old.forest.margin (entry_of old i).step seconds (sec base) →
       (track_at new i).end ≡ At (sec base + seconds)
@@ -48,4 +48,4 @@ pub record IsCounted (old new : WatchState) (i seconds : ℕ) (q : Out) : Type 0
 abbrev pub CountedLaw : Type 0
 CountedLaw =
     (old : WatchState) (turn : Turned) (i seconds : ℕ) (renewable : Bool) (date : Option ℕ) → History old (turn ∷ []) → i < length old.tracks →
-    turn.event ≡ Renewed i (Told seconds renewable date) → is_event_taken turn.result ≡ true → IfSome (request_out old.out i Renew) (IsCounted old turn.state i seconds)
+    turn.event ≡ Renewed i (Told seconds renewable date) → is_event_taken turn.result ≡ true → IfSome (request_out old.out i Renew) (IsCountedFrom old turn.state i seconds)

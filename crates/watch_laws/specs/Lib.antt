@@ -28,3 +28,4 @@ pub mod Told
 pub mod Waits
 pub mod Begins
 pub mod Dates
+pub mod Rounds

@@ -8,7 +8,7 @@ use Rattle.watch_machine.specs.History.{History, Turned}
 use Rattle.watch_machine.specs.Lines.{ready}
 use Rattle.watch_machine.specs.State.{WatchState, attempt_at, second, track_at}
 use Rattle.watch_machine.specs.Wanted.{believed, is_alive}
-use Rattle.watch_laws.specs.Load.{requests_of}
+use Rattle.watch_laws.specs.Load.{requests_at_turn}
 use Rattle.watch_laws.specs.Presses.{asked_again_at}
 use Rattle.watch_laws.specs.Recovery.{MayGo}
 
@@ -57,4 +57,4 @@ pub record StandsInFront (old new : WatchState) (i j : ℕ) : Type 0 where
 
 -- whatever goes out at a clock stands in front of each entry that may go out and does not
 abbrev pub LineLaw : Type 0
-LineLaw = (old : WatchState) (turn : Turned) (j : ℕ) → History old (turn ∷ []) → MayGo turn.state j → All (λ (r : Request). StandsInFront old turn.state r.entry j) (requests_of turn.result)
+LineLaw = (old : WatchState) (turn : Turned) (j : ℕ) → History old (turn ∷ []) → MayGo turn.state j → All (λ (r : Request). StandsInFront old turn.state r.entry j) (requests_at_turn turn.result)

@@ -21,9 +21,9 @@ requests_asked_by (Go requests until) = requests
 requests_asked_by Taken = []
 
 -- the requests that go out at a turn
-abbrev pub requests_of : Result Output WatchFault → List Request
-requests_of (Ok output) = requests_asked_by output.command
-requests_of (Err fault) = []
+abbrev pub requests_at_turn : Result Output WatchFault → List Request
+requests_at_turn (Ok output) = requests_asked_by output.command
+requests_at_turn (Err fault) = []
 
 -- those of i
 abbrev pub sent_at : ℕ → ℕ → List Request → List Sent
@@ -32,7 +32,7 @@ sent_at i at requests = map (λ r. record { operation = r.operation; at = at }) 
 -- and those of i in a list of turns
 abbrev pub sent_in_turns : ℕ → List Turned → List Sent
 sent_in_turns i [] = []
-sent_in_turns i (turn ∷ turns) = sent_at i turn.state.clocks.at (requests_of turn.result) ++ sent_in_turns i turns
+sent_in_turns i (turn ∷ turns) = sent_at i turn.state.clocks.at (requests_at_turn turn.result) ++ sent_in_turns i turns
 
 -- y goes out a second after x or later; or it is the renewal right after x, its own lookup
 abbrev pub IsApart : Sent → Sent → Type 0

@@ -84,12 +84,12 @@ AreLived o i due s (turn ∷ turns) =
     IsLived o i due s turn.event turn.result × ((is_wanted turn.state i ≡ true) × AreLived o i (outage_next_after o turn.result turn.state due) turn.state turns)
 
 -- how many of the first n pass a test
-abbrev pub one_if : Bool → ℕ
-one_if b = if b then 1 else 0
+abbrev pub one_where : Bool → ℕ
+one_where b = if b then 1 else 0
 
 abbrev pub how_many : ℕ → (ℕ → Bool) → ℕ
 how_many zero p = 0
-how_many (suc n) p = one_if (p n) + how_many n p
+how_many (suc n) p = one_where (p n) + how_many n p
 
 -- something is to be asked of j, or asked
 abbrev pub is_tried : WatchState → ℕ → Bool

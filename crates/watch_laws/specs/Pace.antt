@@ -11,7 +11,7 @@ use Rattle.watch_machine.specs.History.{History, Turned, after_all}
 use Rattle.watch_machine.specs.State.{WatchState}
 use Rattle.watch_laws.specs.Absence.{is_clock, is_event_taken}
 use Rattle.watch_laws.specs.Clocks.{IsClock}
-use Rattle.watch_laws.specs.Presence.{is_answered, is_asked}
+use Rattle.watch_laws.specs.Presence.{is_answered, is_asked_at_turn}
 
 -- how long an answer took: from the clock at which its request went out to the one after it, a day at most
 abbrev pub time_taken : ℕ → Answer → ℕ
@@ -59,6 +59,6 @@ pub record IsKept (old new : WatchState) (since : ℕ) (reply : Reply) : Type 0 
 pub record KeptLaw : Type 0 where
   pub replies :
       (old : WatchState) (between : List Turned) (asking answer : Turned) (i : ℕ) (reply : Reply) → History old (asking ∷ (between ++ answer ∷ [])) → All (λ (q : Out). q.entry ≢ i) old.out →
-      list_any (is_asked i) between ≡ false → IsReply i reply answer → IsKept (after_all asking.state between) answer.state asking.state.clocks.at reply
+      list_any (is_asked_at_turn i) between ≡ false → IsReply i reply answer → IsKept (after_all asking.state between) answer.state asking.state.clocks.at reply
   pub clocks : (old : WatchState) (turn : Turned) (wall elapsed : ℕ) → History old (turn ∷ []) → IsClock wall elapsed turn → turn.state.answers ≡ []
   pub others : (old : WatchState) (turn : Turned) → History old (turn ∷ []) → is_event_taken turn.result && counts turn.event ≡ false → turn.state.answers ≡ old.answers

@@ -22,7 +22,7 @@ use Rattle.watch_machine.specs.Settling.{timed}
 use Rattle.watch_machine.specs.State.{WatchState, attempt_at, opened, second, track_at}
 use Rattle.watch_machine.specs.Wanted.{believed, is_alive, is_wanted, least}
 use Rattle.watch_laws.specs.Absence.{is_clock, is_event_taken}
-use Rattle.watch_laws.specs.Outage.{how_many, one_if}
+use Rattle.watch_laws.specs.Outage.{how_many, one_where}
 use Rattle.watch_laws.specs.Recovery.{MayGo}
 
 -- a partial outage, in milliseconds of the watch's clock: which entries are hung, so that each of their requests is silent until its
@@ -174,14 +174,14 @@ AreHung i j old (turn ∷ turns) = IsHung i j old turn × AreHung i j turn.state
 -- how often j comes to stand before i
 abbrev pub often_before : ℕ → ℕ → WatchState → List Turned → ℕ
 often_before i j old [] = 0
-often_before i j old (turn ∷ turns) = one_if (comes_before i old turn.state j) + often_before i j turn.state turns
+often_before i j old (turn ∷ turns) = one_where (comes_before i old turn.state j) + often_before i j turn.state turns
 
 -- an entry that is never answered stands before another one once: at its first try. After that it stands behind it
 abbrev pub OnceInFrontLaw : Type 0
 OnceInFrontLaw =
     (g : Forest) (width : ℕ) (before turns : List Turned) (i j : ℕ) → IsWatchRun g width (before ++ turns) → (after_all (opened g width) before).presence.away ≡ false →
     AreHung i j (after_all (opened g width) before) turns →
-    one_if (waits_before i (after_all (opened g width) before) j) + often_before i j (after_all (opened g width) before) turns ≤ 1
+    one_where (waits_before i (after_all (opened g width) before) j) + often_before i j (after_all (opened g width) before) turns ≤ 1
 
 -- every hung entry is so at each of some turns
 abbrev pub AllHung : Partial → ℕ → ℕ → WatchState → List Turned → Type 0

@@ -11,7 +11,7 @@ use Rattle.watch_machine.specs.History.{History, Turned}
 use Rattle.watch_machine.specs.Sending.{is_partial}
 use Rattle.watch_machine.specs.State.{WatchState, attempt_at, second, track_at}
 use Rattle.watch_machine.specs.Wanted.{believed}
-use Rattle.watch_laws.specs.Load.{requests_of}
+use Rattle.watch_laws.specs.Load.{requests_at_turn}
 
 -- an entry is alone: its try was lost though others were answered, and its end is ahead or unknown
 pub record IsAloneAt (s : WatchState) (j : ℕ) : Type 0 where
@@ -47,4 +47,4 @@ pub record IsOfTry (s : WatchState) (r : Request) : Type 0 where
 
 -- so each request that goes out at a clock
 abbrev pub PatienceLaw : Type 0
-PatienceLaw = (old : WatchState) (turn : Turned) → History old (turn ∷ []) → All (IsOfTry turn.state) (requests_of turn.result)
+PatienceLaw = (old : WatchState) (turn : Turned) → History old (turn ∷ []) → All (IsOfTry turn.state) (requests_at_turn turn.result)

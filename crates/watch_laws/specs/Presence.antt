@@ -11,7 +11,7 @@ use Rattle.watch_machine.specs.declared.lanes.Out.{Out}
 use Rattle.watch_machine.specs.History.{History, Turned, after_all}
 use Rattle.watch_machine.specs.State.{WatchState}
 use Rattle.watch_laws.specs.Absence.{is_event_taken}
-use Rattle.watch_laws.specs.Load.{requests_of}
+use Rattle.watch_laws.specs.Load.{requests_at_turn}
 
 -- the broker answered, whatever it said
 abbrev pub is_answered : Reply → Bool
@@ -39,25 +39,25 @@ loses i Begin = false
 loses i (Known j end renewable) = false
 
 -- the same at a turn, where the event is taken
-abbrev pub is_answer : Turned → Bool
-is_answer turn = is_event_taken turn.result && answers turn.event
+abbrev pub is_answer_taken : Turned → Bool
+is_answer_taken turn = is_event_taken turn.result && answers turn.event
 
 abbrev pub is_loss : ℕ → Turned → Bool
 is_loss i turn = is_event_taken turn.result && loses i turn.event
 
 -- a request of i goes out at a turn
-abbrev pub is_asked : ℕ → Turned → Bool
-is_asked i turn = list_any (λ (r : Request). r.entry == i) (requests_of turn.result)
+abbrev pub is_asked_at_turn : ℕ → Turned → Bool
+is_asked_at_turn i turn = list_any (λ (r : Request). r.entry == i) (requests_at_turn turn.result)
 
 -- when the broker is away, by what came. It is from the loss of a request on, if it answered none since that went out; it is not once it
 -- has answered. Nothing else changes it: not the loss of a request since whose going out it answered another, nor what is no reply
 pub record AwayLaw : Type 0 where
   pub lost :
-      (old : WatchState) (between : List Turned) (loss : Turned) (i : ℕ) → History old (between ++ loss ∷ []) → All (λ (q : Out). q.entry ≢ i) old.out → list_any is_answer between ≡ false →
+      (old : WatchState) (between : List Turned) (loss : Turned) (i : ℕ) → History old (between ++ loss ∷ []) → All (λ (q : Out). q.entry ≢ i) old.out → list_any is_answer_taken between ≡ false →
       is_loss i loss ≡ true → loss.state.presence.away ≡ true
-  pub back : (old : WatchState) (turn : Turned) → History old (turn ∷ []) → is_answer turn ≡ true → turn.state.presence.away ≡ false
+  pub back : (old : WatchState) (turn : Turned) → History old (turn ∷ []) → is_answer_taken turn ≡ true → turn.state.presence.away ≡ false
   pub heard :
-      (old : WatchState) (answer loss : Turned) (between : List Turned) (i : ℕ) → History old (answer ∷ (between ++ loss ∷ [])) → is_answer answer ≡ true → list_any (is_asked i) between ≡ false →
+      (old : WatchState) (answer loss : Turned) (between : List Turned) (i : ℕ) → History old (answer ∷ (between ++ loss ∷ [])) → is_answer_taken answer ≡ true → list_any (is_asked_at_turn i) between ≡ false →
       is_loss i loss ≡ true → loss.state.presence.away ≡ (after_all answer.state between).presence.away
   pub others :
-      (old : WatchState) (turn : Turned) → History old (turn ∷ []) → is_answer turn ≡ false → ((i : ℕ) → is_loss i turn ≡ false) → turn.state.presence.away ≡ old.presence.away
+      (old : WatchState) (turn : Turned) → History old (turn ∷ []) → is_answer_taken turn ≡ false → ((i : ℕ) → is_loss i turn ≡ false) → turn.state.presence.away ≡ old.presence.away

@@ -15,8 +15,8 @@ use Rattle.watch_laws.specs.Absence.{is_clock, is_event_taken}
 use Rattle.watch_laws.specs.Outage.{Outage, coming, outage_next_after, waiting}
 
 -- no outage: every request is settled so soon, and every clock comes in time
-abbrev pub calm : ℕ → ℕ → Outage
-calm quick late = record { from = 0; until = 0; quick = quick; slow = quick; late = late; rounds = 0 }
+abbrev pub without_outage : ℕ → ℕ → Outage
+without_outage quick late = record { from = 0; until = 0; quick = quick; slow = quick; late = late; rounds = 0 }
 
 -- i waits, and may go out by now
 pub record MayGo (s : WatchState) (i : ℕ) : Type 0 where
@@ -35,14 +35,14 @@ IsPassing i due old (Need j until) new = Unit {0}
 IsPassing i due old Begin new = Unit {0}
 IsPassing i due old (Known j end renewable) new = Unit {0}
 
-abbrev pub IsPassed : ℕ → ℕ → WatchState → Event → Result Output WatchFault → WatchState → Type 0
-IsPassed i due old event (Ok output) new = IsPassing i due old event new
-IsPassed i due old event (Err fault) new = Unit {0}
+abbrev pub IsPassedBy : ℕ → ℕ → WatchState → Event → Result Output WatchFault → WatchState → Type 0
+IsPassedBy i due old event (Ok output) new = IsPassing i due old event new
+IsPassedBy i due old event (Err fault) new = Unit {0}
 
 -- turns that pass over i while the broker is there
 abbrev pub ArePassing : Outage → ℕ → ℕ → WatchState → List Turned → Type 0
 ArePassing o i due s [] = Unit {0}
-ArePassing o i due s (turn ∷ turns) = IsPassed i due s turn.event turn.result turn.state × ArePassing o i (outage_next_after o turn.result turn.state due) turn.state turns
+ArePassing o i due s (turn ∷ turns) = IsPassedBy i due s turn.event turn.result turn.state × ArePassing o i (outage_next_after o turn.result turn.state due) turn.state turns
 
 abbrev pub AllBy : ℕ → List Turned → Type 0
 AllBy by [] = Unit {0}
@@ -54,6 +54,6 @@ abbrev pub RecoveryLaw : Type 0
 RecoveryLaw =
     (quick late rounds : ℕ) (g : Forest) (width : ℕ) (before : List Turned) (last : Turned) (turns : List Turned) (i : ℕ) → 0 < width →
     IsWatchRun g width (before ++ last ∷ turns) → is_clock last.event ≡ true → is_event_taken last.result ≡ true → MayGo last.state i →
-    ArePassing (calm quick late) i (outage_next_after (calm quick late) last.result last.state 0) last.state turns →
-    waiting (calm quick late) (length g.entries) last.state + coming (calm quick late) (length g.entries) last.state turns ≤ width * rounds →
+    ArePassing (without_outage quick late) i (outage_next_after (without_outage quick late) last.result last.state 0) last.state turns →
+    waiting (without_outage quick late) (length g.entries) last.state + coming (without_outage quick late) (length g.entries) last.state turns ≤ width * rounds →
     AllBy (last.state.clocks.at + (quick + late) * rounds) turns

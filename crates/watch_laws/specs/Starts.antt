@@ -17,10 +17,10 @@ use Rattle.watch_machine.specs.Settling.{is_busy, timed}
 use Rattle.watch_machine.specs.State.{WatchState, attempt_at, second, track_at}
 use Rattle.watch_machine.specs.Wanted.{is_alive, is_wanted}
 use Rattle.watch_laws.specs.Absence.{is_clock, is_event_taken}
-use Rattle.watch_laws.specs.Load.{requests_of}
+use Rattle.watch_laws.specs.Load.{requests_at_turn}
 use Rattle.watch_laws.specs.Outage.{IsReplyInOutage, Outage, coming, how_many, is_request_served, is_tried, outage_next_after}
 use Rattle.watch_laws.specs.Partial.{stands_before}
-use Rattle.watch_laws.specs.Recovery.{MayGo, calm}
+use Rattle.watch_laws.specs.Recovery.{MayGo, without_outage}
 use Rattle.watch_laws.specs.Time.{is_come}
 
 -- i is being asked, or may go out by now
@@ -46,17 +46,17 @@ AreWorked o i due s [] = Unit {0}
 AreWorked o i due s (turn ∷ turns) = IsWorked o i due s turn.event turn.result turn.state × AreWorked o i (outage_next_after o turn.result turn.state due) turn.state turns
 
 -- an answer to i
-abbrev pub is_answer : ℕ → Event → Bool
-is_answer i (Clock wall elapsed) = false
-is_answer i (Looked j reply terms) = j == i
-is_answer i (Renewed j reply) = j == i
-is_answer i (Need j until) = false
-is_answer i Begin = false
-is_answer i (Known j end renewable) = false
+abbrev pub is_answer_to : ℕ → Event → Bool
+is_answer_to i (Clock wall elapsed) = false
+is_answer_to i (Looked j reply terms) = j == i
+is_answer_to i (Renewed j reply) = j == i
+is_answer_to i (Need j until) = false
+is_answer_to i Begin = false
+is_answer_to i (Known j end renewable) = false
 
 -- so much later where a turn takes one
 abbrev pub later_by : ℕ → ℕ → Turned → ℕ
-later_by i span turn = if is_event_taken turn.result && is_answer i turn.event then span else 0
+later_by i span turn = if is_event_taken turn.result && is_answer_to i turn.event then span else 0
 
 -- no clock comes after that moment, which each answer to i sets so much later
 abbrev pub AllSoon : ℕ → ℕ → ℕ → List Turned → Type 0
@@ -68,9 +68,9 @@ AllSoon i span by (turn ∷ turns) = (turn.state.clocks.at ≤ by + later_by i s
 abbrev pub StartLaw : Type 0
 StartLaw =
     (quick late rounds : ℕ) (g : Forest) (width : ℕ) (before : List Turned) (last : Turned) (turns : List Turned) (i : ℕ) → 0 < width →
-    IsWatchRun g width (before ++ last ∷ turns) → is_clock last.event ≡ true → is_event_taken last.result ≡ true → i < length g.entries → IsAtWork (calm quick late) last.state i →
-    AreWorked (calm quick late) i (outage_next_after (calm quick late) last.result last.state 0) last.state turns →
-    how_many (length g.entries) (is_tried last.state) + coming (calm quick late) (length g.entries) last.state turns ≤ width * rounds →
+    IsWatchRun g width (before ++ last ∷ turns) → is_clock last.event ≡ true → is_event_taken last.result ≡ true → i < length g.entries → IsAtWork (without_outage quick late) last.state i →
+    AreWorked (without_outage quick late) i (outage_next_after (without_outage quick late) last.result last.state 0) last.state turns →
+    how_many (length g.entries) (is_tried last.state) + coming (without_outage quick late) (length g.entries) last.state turns ≤ width * rounds →
     AllSoon i (quick + late) (last.state.clocks.at + (quick + late) * rounds) turns
 
 -- a try that is pressed and has not failed
@@ -113,9 +113,9 @@ AreUnderWay o i due s (turn ∷ turns) =
 abbrev pub SoonLaw : Type 0
 SoonLaw =
     (quick late rounds : ℕ) (g : Forest) (width : ℕ) (before : List Turned) (last : Turned) (turns : List Turned) (i : ℕ) → 0 < width →
-    IsWatchRun g width (before ++ last ∷ turns) → is_clock last.event ≡ true → is_event_taken last.result ≡ true → FirstTryIsUnderWay (calm quick late) last.state i →
-    AreUnderWay (calm quick late) i (outage_next_after (calm quick late) last.result last.state 0) last.state turns →
-    how_many (length g.entries) (is_tried last.state) + coming (calm quick late) (length g.entries) last.state turns ≤ width * rounds →
+    IsWatchRun g width (before ++ last ∷ turns) → is_clock last.event ≡ true → is_event_taken last.result ≡ true → FirstTryIsUnderWay (without_outage quick late) last.state i →
+    AreUnderWay (without_outage quick late) i (outage_next_after (without_outage quick late) last.result last.state 0) last.state turns →
+    how_many (length g.entries) (is_tried last.state) + coming (without_outage quick late) (length g.entries) last.state turns ≤ width * rounds →
     AllSoon i (quick + late) (last.state.clocks.at + (quick + late) * rounds) turns
 
 -- an entry of known end that is to be renewed now: it is wanted, its end is ahead and its own time has come, no round asked it along, it has
@@ -130,7 +130,7 @@ pub record IsToRenew (s : WatchState) (i : ℕ) : Type 0 where
 
 -- what goes out at a turn stands before i: first tries whose ends are ahead and earlier, or the same where the index is lower
 abbrev pub GoesBefore : Turned → ℕ → Type 0
-GoesBefore turn i = All (λ r. stands_before i turn.state r.entry ≡ true) (requests_of turn.result)
+GoesBefore turn i = All (λ r. stands_before i turn.state r.entry ≡ true) (requests_at_turn turn.result)
 
 abbrev pub AllKnownFirst : List Turned → Type 0
 AllKnownFirst [] = Unit {0}

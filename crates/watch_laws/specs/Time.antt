@@ -12,13 +12,12 @@ use Rattle.watch_machine.specs.declared.event.Reply.TheVariants.{Told, Refused, 
 use Rattle.watch_machine.specs.declared.fault.WatchFault.{WatchFault}
 use Rattle.watch_machine.specs.Clocks.{sec}
 use Rattle.watch_machine.specs.History.{IsWatchRun, Turned, after_all}
-use Rattle.watch_machine.specs.Margins.{has_come, is_in_plan, own_margin}
+use Rattle.watch_machine.specs.Margins.{has_come, own_margin}
 use Rattle.watch_machine.specs.Outlook.{time_of}
 use Rattle.watch_machine.specs.Refusal.{is_same, request_out}
 use Rattle.watch_machine.specs.State.{WatchState, entry_of, opened, second, track_at}
-use Rattle.watch_machine.specs.Wanted.{is_alive, is_wanted}
 use Rattle.watch_laws.specs.Absence.{is_event_taken}
-use Rattle.watch_laws.specs.Load.{requests_of}
+use Rattle.watch_laws.specs.Load.{requests_at_turn}
 
 -- the time of i has come
 abbrev pub is_come : WatchState → ℕ → Bool
@@ -58,31 +57,16 @@ renewal_goes_out i requests = list_any (λ r. r.entry == i && is_same r.operatio
 abbrev pub AllReasoned : ℕ → Bool → List Turned → Type 0
 AllReasoned i before [] = Unit {0}
 AllReasoned i before (turn ∷ turns) =
-    (renewal_goes_out i (requests_of turn.result) ≡ true → reason i before turn.event turn.result turn.state ≡ true) × AllReasoned i (reason i before turn.event turn.result turn.state) turns
+    (renewal_goes_out i (requests_at_turn turn.result) ≡ true → reason i before turn.event turn.result turn.state ≡ true) × AllReasoned i (reason i before turn.event turn.result turn.state) turns
 
 -- no entry is renewed before its time, but in a round, or after a failure
 abbrev pub EarlyLaw : Type 0
 EarlyLaw = (g : Forest) (width : ℕ) (turns : List Turned) → IsWatchRun g width turns → (i : ℕ) → AllReasoned i false turns
 
--- an entry that opens a round: it is wanted, in the plan, its time has come, and its end is ahead
-pub record IsOpener (s : WatchState) (i : ℕ) : Type 0 where
-  pub within : i < length s.forest.entries
-  pub wanted : is_wanted s i ≡ true
-  pub in_plan : is_in_plan s.forest.margin (entry_of s i) (track_at s i) ≡ true
-  pub come : is_come s i ≡ true
-  pub alive : is_alive (second s) (track_at s i) ≡ true
-
+-- the round that opens at a turn, None where none does
 abbrev pub round_of : Result Output WatchFault → Option (List ℕ)
 round_of (Ok output) = output.notes.round
 round_of (Err fault) = None
-
-abbrev pub RoundsOpened : List Turned → Type 0
-RoundsOpened [] = Unit {0}
-RoundsOpened (turn ∷ turns) = ((asked : List ℕ) → round_of turn.result ≡ Some asked → (i : ℕ) × IsOpener turn.state i) × RoundsOpened turns
-
--- no round opens before the least time of an entry that is wanted and in the plan
-abbrev pub RoundLaw : Type 0
-RoundLaw = (g : Forest) (width : ℕ) (turns : List Turned) → IsWatchRun g width turns → RoundsOpened turns
 
 -- however long a renewal waited for its turn, a grant of the entry's own margin and two seconds or more leaves its time two seconds or
 -- more after the second in which the request went out

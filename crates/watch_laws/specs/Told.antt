@@ -24,7 +24,7 @@ use Rattle.watch_laws.specs.Absence.{is_event_taken}
 use Rattle.watch_laws.specs.Time.{is_come}
 
 -- the try u that goes on as a renewal from the lookup of the try t: at once. It is the same try where that was pressed; else it begins now
-pub record GoesOn (now : ℕ) (t u : Try) : Type 0 where
+pub record GoesOnAsRenewal (now : ℕ) (t u : Try) : Type 0 where
   pub at : u.at ≤ now
   pub operation : u.operation ≡ Renew
   pub pressed : u.pressed ≡ true
@@ -40,12 +40,12 @@ pub record EndsTooSoon (t u : Try) : Type 0 where
 -- what the answer to the lookup q tells of i: the end is so many seconds after the second in which the request went out, or there is none; and no
 -- lookup is owed any more. Where the entry is wanted, as it was told, and its time has come, it is renewed at once; else its try ends, unless the
 -- end is not ahead: then it is looked up again
-pub record IsTold (old new : WatchState) (i seconds : ℕ) (renewable : Bool) (terms : Terms) (q : Out) : Type 0 where
+pub record IsToldByLookup (old new : WatchState) (i seconds : ℕ) (renewable : Bool) (terms : Terms) (q : Out) : Type 0 where
   pub end : (track_at new i).end ≡ (if terms.endless then Never else At (sec q.since + seconds))
   pub goes_on : (track_at new i).renewable ≡ renewable
   pub owes : (track_at new i).owes ≡ false
   pub tried : is_wanted new i && is_come new i ≡ true → (t : Try) → attempt_at old i ≡ Some t → is_some (attempt_at new i) ≡ true
-  pub renews : is_wanted new i && is_come new i ≡ true → (t u : Try) → attempt_at old i ≡ Some t → attempt_at new i ≡ Some u → GoesOn new.clocks.at t u
+  pub renews : is_wanted new i && is_come new i ≡ true → (t u : Try) → attempt_at old i ≡ Some t → attempt_at new i ≡ Some u → GoesOnAsRenewal new.clocks.at t u
   pub done : is_wanted new i && is_come new i ≡ false → is_alive (second new) (track_at new i) ≡ true → attempt_at new i ≡ None
   pub past :
       is_wanted new i && is_come new i ≡ false → is_alive (second new) (track_at new i) ≡ false → (t u : Try) → attempt_at old i ≡ Some t → attempt_at new i ≡ Some u → EndsTooSoon t u
@@ -53,7 +53,7 @@ pub record IsTold (old new : WatchState) (i seconds : ℕ) (renewable : Bool) (t
 abbrev pub ToldLaw : Type 0
 ToldLaw =
     (old : WatchState) (turn : Turned) (i seconds : ℕ) (renewable : Bool) (date : Option ℕ) (terms : Terms) (q : Out) → History old (turn ∷ []) → i < length old.tracks →
-    turn.event ≡ Looked i (Told seconds renewable date) terms → is_event_taken turn.result ≡ true → request_out old.out i Look ≡ Some q → IsTold old turn.state i seconds renewable terms q
+    turn.event ≡ Looked i (Told seconds renewable date) terms → is_event_taken turn.result ≡ true → request_out old.out i Look ≡ Some q → IsToldByLookup old turn.state i seconds renewable terms q
 
 -- the try u that only owes a lookup, which it may go out for within half a minute
 pub record OwesLater (now : ℕ) (u : Try) : Type 0 where
@@ -106,7 +106,7 @@ writes Begin = false
 writes (Known i end renewable) = false
 
 -- a lookup that tells writes its entry so, a need is set, and nothing else writes the forest. An end that is handed in is believed
-pub record WrittenLaw : Type 0 where
+pub record ForestWrittenLaw : Type 0 where
   pub terms :
       (old : WatchState) (turn : Turned) (i seconds : ℕ) (renewable : Bool) (date : Option ℕ) (terms : Terms) → History old (turn ∷ []) → i < length old.forest.entries →
       turn.event ≡ Looked i (Told seconds renewable date) terms → is_event_taken turn.result ≡ true → OneIs old turn.state i (entry_by old.forest.margin terms (entry_of old i))

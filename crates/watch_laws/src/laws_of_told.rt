@@ -1,4 +1,4 @@
-ghost use Rattle.watch_laws.specs.Told.{DoneLaw, ToldLaw, WrittenLaw};
+ghost use Rattle.watch_laws.specs.Told.{DoneLaw, ForestWrittenLaw, ToldLaw};
 
 /// The law of lookups that tell: the end of the entry is so many seconds as were told after the second in which the request went out,
 /// or it never ends; it is as renewable as told, and owes no lookup. Where it is wanted and its time has come, it is renewed at once,
@@ -13,5 +13,5 @@ pub fn told_law()
 /// has no parent where it is told to be an orphan and is a token. A need is set. Nothing else writes the forest. An end that is handed in
 /// is believed.
 pub fn written_law()
-    ensures { WrittenLaw }
+    ensures { ForestWrittenLaw }
 {}

@@ -1,5 +1,5 @@
 -- WatchEnding: how a watch goes, and what it tells of its end: for `watch` and `run_watch`.
-use Rattle.std.proofs.Common.{◌≡◌, ℕ, inl, inr, List, Result, Ok, Err, codes, refl, sym, subst}
+use Rattle.std.proofs.Common.{◌≡◌, ℕ, inl, inr, List, Result, Ok, Err, refl, sym, subst}
 use Rattle.std.specs.Result.{IsErr, IsErrAnd}
 use Rattle.keep_device.specs.Seen.{Change}
 use Rattle.keep_inventory.specs.Answers.{Fails}
@@ -12,7 +12,7 @@ use Rattle.keep_report.specs.declared.exit.Exit.{Exit}
 use Rattle.keep_report.specs.declared.stop.Stop.{Stop}
 use Rattle.keep_report.specs.declared.stop.Stop.TheVariants as stops
 use Rattle.keep_report.specs.Exits.{exit_of, stop_of_inventory}
-use Rattle.keep_report.specs.FaultLine.{fault_line}
+use Rattle.keep_report.specs.FaultLine.{line_of_stop}
 use Rattle.keep_report.specs.Sent.{IsUntouched}
 use Rattle.keep_report.specs.Told.{Reports}
 use Rattle.keep_asking.specs.Sending.{Lanes}
@@ -21,7 +21,7 @@ use Rattle.watch_lines.specs.Listening.{ListensToLines}
 use Rattle.watch_lines.specs.Watching.{Watching, fresh_watching}
 use Rattle.watch_lines.specs.WatchRun.{IsUnbegun, IsWatchStop, WatchEnds, WatchHasListened, WatchRun, WatchesTo}
 
-by_stop : (bytes : List ℕ) (stop : Stop) (errors : Change) → IsWatchStop bytes stop → Reports (fault_line (codes "leasekeep") stop) errors → WatchEnds bytes (exit_of stop) errors
+by_stop : (bytes : List ℕ) (stop : Stop) (errors : Change) → IsWatchStop bytes stop → Reports (line_of_stop stop) errors → WatchEnds bytes (exit_of stop) errors
 by_stop bytes (stops.Inventory fault) errors is told = (stops.Inventory fault, refl, is, told)
 by_stop bytes (stops.Moments fault) errors is told = absurd is
 by_stop bytes (stops.FaultWord position) errors is told = absurd is
@@ -33,7 +33,7 @@ by_stop bytes (stops.Line number) errors is told = (stops.Line number, refl, is,
 by_stop bytes stops.Memory errors is told = (stops.Memory, refl, is, told)
 
 pub ended :
-    (bytes : List ℕ) (stop : Stop) (exit : Exit) (errors : Change) → exit ≡ exit_of stop → IsWatchStop bytes stop → Reports (fault_line (codes "leasekeep") stop) errors → WatchEnds bytes exit errors
+    (bytes : List ℕ) (stop : Stop) (exit : Exit) (errors : Change) → exit ≡ exit_of stop → IsWatchStop bytes stop → Reports (line_of_stop stop) errors → WatchEnds bytes exit errors
 ended bytes stop exit errors is why told = subst (λ (e : Exit). WatchEnds bytes e errors) (sym is) (by_stop bytes stop errors why told)
 
 module _ (port : ℕ) (bytes : List ℕ) (width : ℕ) (old : Lanes) (fed : Change) (out : Change) where
@@ -76,10 +76,10 @@ module _ (port : ℕ) (bytes : List ℕ) (width : ℕ) (old : Lanes) (fed : Chan
   done_runs errors new h none = (h, none)
 
   pub stopped_runs :
-      (stop : Stop) (exit : Exit) (errors : Change) (new : Lanes) → exit ≡ exit_of stop → WatchesTo port bytes width old (Err stop) fed out new → Reports (fault_line (codes "leasekeep") stop) errors →
+      (stop : Stop) (exit : Exit) (errors : Change) (new : Lanes) → exit ≡ exit_of stop → WatchesTo port bytes width old (Err stop) fed out new → Reports (line_of_stop stop) errors →
       WatchRun port bytes width old exit fed out errors new
   stopped_runs stop exit errors new is h told = subst (λ (e : Exit). WatchRun port bytes width old e fed out errors new) (sym is) (by_exit stop h told) where
-    by_exit : (u : Stop) → WatchesTo port bytes width old (Err u) fed out new → Reports (fault_line (codes "leasekeep") u) errors → WatchRun port bytes width old (exit_of u) fed out errors new
+    by_exit : (u : Stop) → WatchesTo port bytes width old (Err u) fed out new → Reports (line_of_stop u) errors → WatchRun port bytes width old (exit_of u) fed out errors new
     by_exit stops.Memory h t = (stops.Memory, (refl, (h, t)))
     by_exit stops.Write h t = (stops.Write, (refl, (h, t)))
     by_exit stops.TooLong h t = (stops.TooLong, (refl, (h, t)))

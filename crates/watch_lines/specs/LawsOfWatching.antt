@@ -7,7 +7,7 @@ use Rattle.watch_machine.specs.State.{WatchState, opened}
 use Rattle.watch_lines.specs.Clocked.{WatchingSide, watching_side}
 use Rattle.watch_lines.specs.Listening.{WatchLinesAreHeard}
 use Rattle.keep_asking.specs.Sending.{Lanes}
-use Rattle.watch_lines.specs.TurnsOfLines.{turns_of}
+use Rattle.watch_lines.specs.TurnsOfLines.{turns_of_lines}
 use Rattle.watch_lines.specs.Watching.{fresh_watching}
 
 -- a new watch over the inventory, and its lanes
@@ -23,4 +23,4 @@ IsRunTo s width turns new = IsWatchRun s.forest width turns × (after_all (opene
 abbrev pub RunOfMachineLaw : Type 0
 RunOfMachineLaw =
     (port : ℕ) (s : Inventory) (width : ℕ) (lanes : Lanes) (lines : List (List ℕ)) (new : WatchingSide) (text : List ℕ) (heard : WatchLinesAreHeard port (fresh_side s width lanes) lines new text) →
-    IsRunTo s width (turns_of port (fresh_side s width lanes) lines new text heard) new.watching.machine
+    IsRunTo s width (turns_of_lines port (fresh_side s width lanes) lines new text heard) new.watching.machine

@@ -22,8 +22,8 @@ use Rattle.watch_lines.specs.declared.line.Line.{Line}
 use Rattle.watch_lines.specs.declared.line.Line.TheVariants.{Clock, Need, Begin, Known, Unknown}
 
 -- the event was handed in, and this came of it
-abbrev pub turned : Event → Output → WatchState → Turned
-turned event output new = record { event = event; result = Ok output; state = new }
+abbrev pub turn_with_output : Event → Output → WatchState → Turned
+turn_with_output event output new = record { event = event; result = Ok output; state = new }
 
 -- ---- answers
 
@@ -32,36 +32,36 @@ abbrev pub event_of_answer : Inventory → Operation → Answered → Event
 event_of_answer s operation a = event_as operation a.index (reply_as operation s a.index a.answer) (terms_as operation s a.index a.answer)
 
 -- an answer, as that to the request that was out of its entry
-abbrev pub turn_of_answer : (s : Inventory) (a : Answered) (old new : WatchState) (text : List ℕ) → AnswerIsTakenAndTold s a old new text → Turned
-turn_of_answer s a old new text h = turned (event_of_answer s h.handed.request.operation a) h.handed.output new
+abbrev pub turn_of_told_answer : (s : Inventory) (a : Answered) (old new : WatchState) (text : List ℕ) → AnswerIsTakenAndTold s a old new text → Turned
+turn_of_told_answer s a old new text h = turn_with_output (event_of_answer s h.handed.request.operation a) h.handed.output new
 
-abbrev pub turns_of_answers : (s : Inventory) (answers : List Answered) (old new : WatchState) (text : List ℕ) → AnswersAreTakenAndTold s answers old new text → List Turned
-turns_of_answers s [] old new text h = []
-turns_of_answers s (a ∷ rest) old new text h = turn_of_answer s a old h.0 h.1.0 h.1.1.1.0 ∷ turns_of_answers s rest h.0 new h.1.1.0 h.1.1.1.1.0
+abbrev pub turns_of_told_answers : (s : Inventory) (answers : List Answered) (old new : WatchState) (text : List ℕ) → AnswersAreTakenAndTold s answers old new text → List Turned
+turns_of_told_answers s [] old new text h = []
+turns_of_told_answers s (a ∷ rest) old new text h = turn_of_told_answer s a old h.0 h.1.0 h.1.1.1.0 ∷ turns_of_told_answers s rest h.0 new h.1.1.0 h.1.1.1.1.0
 
 -- those that were waited for, if requests were out
 abbrev pub turns_of_wait : (out : List Out) (elapsed until : ℕ) (old new : WatchingSide) (text : List ℕ) → IsDoneUntil out elapsed until old new text → List Turned
 turns_of_wait [] elapsed until old new text h = []
-turns_of_wait (r ∷ rest) elapsed until old new text h = turns_of_answers old.watching.inventory h.answers old.watching.machine new.watching.machine h.told h.taken
+turns_of_wait (r ∷ rest) elapsed until old new text h = turns_of_told_answers old.watching.inventory h.answers old.watching.machine new.watching.machine h.told h.taken
 
 -- ---- lines
 
 -- an end that an earlier watch told, in whole seconds, unless a clock came before
 abbrev pub turns_of_end : (begun : Bool) (old : Watching) (i end : ℕ) (renewable : Bool) (new : Watching) (text : List ℕ) → EndIsTakenOver begun old i end renewable new text → List Turned
 turns_of_end true old i end renewable new text h = []
-turns_of_end false old i end renewable new text h = turned (events.Known i (end / 1000) renewable) h.0.output new.machine ∷ []
+turns_of_end false old i end renewable new text h = turn_with_output (events.Known i (end / 1000) renewable) h.0.output new.machine ∷ []
 
 -- what a line says; after a clock the answers that it waited for
 abbrev pub turns_of_line : (port : ℕ) (old : WatchingSide) (says : Line) (new : WatchingSide) (text : List ℕ) → LineIsHeard port old says new text → List Turned
 turns_of_line port old (Clock wall elapsed) new text h =
-    turned (events.Clock wall elapsed) (record { command = Go h.requests h.until; notes = h.notes }) h.mid
+    turn_with_output (events.Clock wall elapsed) (record { command = Go h.requests h.until; notes = h.notes }) h.mid
     ∷ turns_of_wait h.mid.out elapsed h.until (watching_side (clocked old.watching h.mid) h.lanes) new h.done h.is_done
-turns_of_line port old (Need i until) new text h = turned (events.Need i until) h.0.0.output new.watching.machine ∷ []
-turns_of_line port old Begin new text h = turned events.Begin h.0.0.output new.watching.machine ∷ []
+turns_of_line port old (Need i until) new text h = turn_with_output (events.Need i until) h.0.0.output new.watching.machine ∷ []
+turns_of_line port old Begin new text h = turn_with_output events.Begin h.0.0.output new.watching.machine ∷ []
 turns_of_line port old (Known i end renewable) new text h = turns_of_end (is_some old.watching.machine.begun) old.watching i end renewable new.watching text h.0
 turns_of_line port old Unknown new text h = []
 
 -- lines, one after another
-abbrev pub turns_of : (port : ℕ) (old : WatchingSide) (lines : List (List ℕ)) (new : WatchingSide) (text : List ℕ) → WatchLinesAreHeard port old lines new text → List Turned
-turns_of port old [] new text h = []
-turns_of port old (line ∷ rest) new text h = turns_of_line port old h.1.1.1.0.says h.0 h.1.0 h.1.1.1.0.heard ++ turns_of port h.0 rest new h.1.1.0 h.1.1.1.1.0
+abbrev pub turns_of_lines : (port : ℕ) (old : WatchingSide) (lines : List (List ℕ)) (new : WatchingSide) (text : List ℕ) → WatchLinesAreHeard port old lines new text → List Turned
+turns_of_lines port old [] new text h = []
+turns_of_lines port old (line ∷ rest) new text h = turns_of_line port old h.1.1.1.0.says h.0 h.1.0 h.1.1.1.0.heard ++ turns_of_lines port h.0 rest new h.1.1.0 h.1.1.1.1.0

@@ -1,6 +1,6 @@
 -- WatchRun: a watch from the bytes of an inventory to the end of the lines: what it writes, why it stops, and what it tells of that.
 -- Source: this project's own.
-use Rattle.std.specs.Prelude.{◌≡◌, ℕ, ◌⊎◌, List, Result, Ok, Err, codes}
+use Rattle.std.specs.Prelude.{◌≡◌, ℕ, ◌⊎◌, List, Result, Ok, Err}
 use Rattle.keep_device.specs.Seen.{Change}
 use Rattle.keep_inventory.specs.Inventories.{Inventory}
 use Rattle.keep_served.specs.ForGood.{inventory_for_good}
@@ -9,7 +9,7 @@ use Rattle.keep_report.specs.declared.exit.Exit.TheVariants as exits
 use Rattle.keep_report.specs.declared.stop.Stop.{Stop}
 use Rattle.keep_report.specs.declared.stop.Stop.TheVariants as stops
 use Rattle.keep_report.specs.Exits.{exit_of}
-use Rattle.keep_report.specs.FaultLine.{fault_line}
+use Rattle.keep_report.specs.FaultLine.{line_of_stop}
 use Rattle.keep_report.specs.Sent.{IsUntouched}
 use Rattle.keep_report.specs.Told.{Reports}
 use Rattle.watch_lines.specs.Clocked.{WatchingSide, watching_side}
@@ -33,7 +33,7 @@ IsWatchStop bytes stop = IsListenStop stop
 -- the lines have ended, and nothing was told; or why there were no more answers, in the one line of it
 abbrev pub WatchEnds : List ℕ → Exit → Change → Type 0
 WatchEnds bytes exits.Done errors = IsUntouched errors
-WatchEnds bytes exit errors = (stop : Stop) × (exit ≡ exit_of stop) × IsWatchStop bytes stop × Reports (fault_line (codes "leasekeep") stop) errors
+WatchEnds bytes exit errors = (stop : Stop) × (exit ≡ exit_of stop) × IsWatchStop bytes stop × Reports (line_of_stop stop) errors
 
 -- ---- what it does
 
@@ -61,4 +61,4 @@ WatchesTo port bytes width old result fed out new = WatchHasListened port bytes 
 abbrev pub WatchRun : ℕ → List ℕ → ℕ → Lanes → Exit → Change → Change → Change → Lanes → Type 0
 WatchRun port bytes width old exits.Done fed out errors new = WatchesTo port bytes width old (Ok tt) fed out new × IsUntouched errors
 WatchRun port bytes width old exit fed out errors new =
-    (stop : Stop) × ((exit ≡ exit_of stop) × (WatchesTo port bytes width old (Err stop) fed out new × Reports (fault_line (codes "leasekeep") stop) errors))
+    (stop : Stop) × ((exit ≡ exit_of stop) × (WatchesTo port bytes width old (Err stop) fed out new × Reports (line_of_stop stop) errors))

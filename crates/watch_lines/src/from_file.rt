@@ -8,7 +8,7 @@ use keep_device::{Sink, Source, Streams, Watched};
 use keep_files::Inputs;
 use keep_inventory::MOST_INVENTORY;
 use keep_lanes::Lanes;
-use keep_report::{Exit, Stop};
+use keep_report::{Exit, PROGRAM, Stop};
 use std::alloc::Global;
 
 /// The command `watch`: [`run_watch`] over the bytes of an inventory's file, on lanes of which none is taken yet, as
@@ -28,6 +28,6 @@ pub fn watch_file<I: Inputs, R: Source, L: Lanes, W: Sink, E: Sink>(
 {
     match inputs.read(alloc, file, MOST_INVENTORY) {
         Ok(inventory) => run_watch(alloc, inventory.list(), lanes, streams),
-        Err(fault) => Stop::from(fault).report("leasekeep", &mut streams.errors),
+        Err(fault) => Stop::from(fault).report(PROGRAM, &mut streams.errors),
     }
 }

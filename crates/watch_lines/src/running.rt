@@ -8,7 +8,7 @@ use crate::watching::Watching;
 use keep_asking::SeenLanes;
 use keep_device::{Sink, Source, Streams, Watched};
 use keep_lanes::Lanes;
-use keep_report::{Exit, Stop};
+use keep_report::{Exit, PROGRAM, Stop};
 use keep_served::read_for_good;
 use std::alloc::Global;
 
@@ -37,7 +37,7 @@ pub fn run_watch<R: Source, L: Lanes, W: Sink, F: Sink>(
         &mut streams.out,
     ) {
         Ok(()) => Exit::Done,
-        Err(stop) => stop.report("leasekeep", &mut streams.errors),
+        Err(stop) => stop.report(PROGRAM, &mut streams.errors),
     }
 }
 
