@@ -1,17 +1,14 @@
 -- Lines: what a call says to people when it fails.
 -- Source: this project's own.
-use Rattle.std.specs.Prelude.{◌≡◌, ℕ, List, [], ◌∷◌, ◌++◌, Option, Some, None, codes}
+use Rattle.std.specs.Prelude.{◌≡◌, ℕ, List, [], ◌∷◌, ◌++◌, Option, Some, None}
 use Rattle.keep_device.specs.Seen.{Change}
-use Rattle.keep_report.specs.FaultLine.{fault_line}
+use Rattle.keep_report.specs.FaultLine.{before_colon, fault_line}
 use Rattle.keep_report.specs.Told.{Reports}
 use Rattle.keep_report.specs.declared.stop.Stop.TheVariants as stops
 use Rattle.keep_calling.specs.Asking.{command_word}
 use Rattle.keep_calling.specs.declared.call.Call.{Call}
 use Rattle.keep_calling.specs.declared.ended.Ended.{Ended}
 use Rattle.keep_calling.specs.declared.ended.Ended.TheVariants as endings
-
-abbrev pub before_colon : List ℕ → List ℕ
-before_colon text = text ++ codes ": "
 
 -- the program and the command
 unfoldable pub call_front : Call → List ℕ

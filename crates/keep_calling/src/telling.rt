@@ -2,13 +2,13 @@
 ghost use Rattle.std.specs.Prelude.{◌++◌, ◌∷◌, [], option_map};
 ghost use Rattle.keep_report.specs.Sent.{Puts};
 ghost use Rattle.keep_report.specs.Told.{Reports};
-ghost use Rattle.keep_calling.specs.Lines.{TellsOf, before_colon, call_front, call_line, call_lines, socket_line, socket_rest};
+ghost use Rattle.keep_calling.specs.Lines.{TellsOf, call_front, call_line, call_lines, socket_line, socket_rest};
 
 use crate::call::Call;
 use crate::ended::Ended;
-use keep_device::{Sink, SinkFault, Watched, write_all};
+use keep_device::{Sink, SinkFault, Watched};
 use keep_moment::Text;
-use keep_report::Stop;
+use keep_report::{Stop, put_before_colon, put_both};
 
 /// Tells why a call was refused.
 pub(crate) fn tell_of_call<E: Sink>(errors: &mut E, call: &Call<'_>, words: &[u8])
@@ -112,29 +112,8 @@ fn put_of_socket<E: Sink>(errors: &mut E, socket: &[u8], words: &[u8]) -> Result
     put_ended(errors, words)
 }
 
-fn put_before_colon<E: Sink>(errors: &mut E, text: &[u8]) -> Result<(), SinkFault>
-    ensures { Puts result (before_colon text.now) (⟦<E as Watched>⟧.change errors.old errors.new) }
-{
-    put_both(errors, text, b": ")
-}
-
 fn put_ended<E: Sink>(errors: &mut E, text: &[u8]) -> Result<(), SinkFault>
     ensures { Puts result (text.now ++ 10 ∷ []) (⟦<E as Watched>⟧.change errors.old errors.new) }
 {
     put_both(errors, text, b"\n")
-}
-
-// Writes two pieces, one after the other.
-#[tactic(auto, using(keep_report::proofs::Pieces::piece_cut, keep_report::proofs::Pieces::piece_more))]
-fn put_both<E: Sink>(errors: &mut E, first: &[u8], second: &[u8]) -> Result<(), SinkFault>
-    ensures { Puts result (first.now ++ second.now) (⟦<E as Watched>⟧.change errors.old errors.new) }
-{
-    put(errors, first)?;
-    put(errors, second)
-}
-
-fn put<E: Sink>(errors: &mut E, piece: &[u8]) -> Result<(), SinkFault>
-    ensures { Puts result piece.now (⟦<E as Watched>⟧.change errors.old errors.new) }
-{
-    write_all(errors, piece)
 }

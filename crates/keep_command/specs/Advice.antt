@@ -12,16 +12,13 @@ use Rattle.keep_inventory.specs.declared.key.Key.{Key}
 use Rattle.keep_inventory.specs.declared.key.Key.TheVariants as keys
 use Rattle.keep_inventory.specs.Keys.{key_text}
 use Rattle.keep_inventory.specs.Served.{Served, first_untold}
+use Rattle.keep_report.specs.FaultLine.{before_colon}
 use Rattle.keep_report.specs.Sent.{IsUntouched}
 use Rattle.keep_report.specs.Told.{Reports}
 use Rattle.keep_command.specs.declared.advice.Form.{Form}
 use Rattle.keep_command.specs.declared.advice.Form.TheVariants as forms
 use Rattle.keep_command.specs.declared.unread.Unread.{Unread}
 use Rattle.keep_command.specs.declared.unread.Unread.TheVariants as unread
-
--- what stands before a colon
-abbrev pub before_colon : List ℕ → List ℕ
-before_colon text = text ++ codes ": "
 
 -- the program's name, what the line is about, and what is said of it
 unfoldable pub advice_line : List ℕ → List ℕ → List ℕ → List ℕ

@@ -4,11 +4,12 @@ ghost use Rattle.std.specs.Prelude.{◌≡◌, ◌<◌, ◌++◌, codes, length}
 ghost use Rattle.keep_report.specs.Sent.{Puts};
 ghost use Rattle.keep_report.specs.Told.{Reports};
 ghost use Rattle.keep_inventory.specs.Served.{first_untold};
-ghost use Rattle.keep_command.specs.Advice.{Advises, advice_line, before_colon, fault_advice, form_words, key_line, missing_form, open_line, unread_reason, value_form};
+ghost use Rattle.keep_command.specs.Advice.{Advises, advice_line, fault_advice, form_words, key_line, missing_form, open_line, unread_reason, value_form};
 
 use crate::unread::Unread;
-use keep_device::{Sink, SinkFault, Watched, write_all};
+use keep_device::{Sink, SinkFault, Watched};
 use keep_inventory::{InvFault, Key, Note, Served};
+use keep_report::{put_before_colon, put_both};
 
 /// What is to be written for a key.
 #[derive(Clone, Copy, Debug, PartialEq, Eq)]
@@ -156,25 +157,4 @@ fn put_line<E: Sink>(
     put_before_colon(errors, program)?;
     put_before_colon(errors, subject)?;
     put_both(errors, words, b"\n")
-}
-
-fn put_before_colon<E: Sink>(errors: &mut E, text: &[u8]) -> Result<(), SinkFault>
-    ensures { Puts result (before_colon text.now) (⟦<E as Watched>⟧.change errors.old errors.new) }
-{
-    put_both(errors, text, b": ")
-}
-
-// Writes two pieces, one after the other.
-#[tactic(auto, using(keep_report::proofs::Pieces::piece_cut, keep_report::proofs::Pieces::piece_more))]
-fn put_both<E: Sink>(errors: &mut E, first: &[u8], second: &[u8]) -> Result<(), SinkFault>
-    ensures { Puts result (first.now ++ second.now) (⟦<E as Watched>⟧.change errors.old errors.new) }
-{
-    put(errors, first)?;
-    put(errors, second)
-}
-
-fn put<E: Sink>(errors: &mut E, piece: &[u8]) -> Result<(), SinkFault>
-    ensures { Puts result piece.now (⟦<E as Watched>⟧.change errors.old errors.new) }
-{
-    write_all(errors, piece)
 }

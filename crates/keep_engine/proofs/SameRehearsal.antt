@@ -31,7 +31,7 @@ use Rattle.keep_run.specs.Stops.{RunIsStopped}
 use Rattle.keep_run.specs.Text.{course_text}
 use Rattle.keep_run.proofs.AlikeCourses.{courses_both, not_stopped, stops_both}
 use Rattle.keep_run.proofs.AlikeFronts.{fronts_both, run_of_course, run_of_stopped}
-use Rattle.keep_engine.specs.Running.{line_of_stop}
+use Rattle.keep_report.specs.FaultLine.{line_of_stop}
 use Rattle.keep_engine.specs.Secrecy.{RehearseSecrecy, RunIsWhole, TellSame, WriteFronts, WriteSame}
 use Rattle.keep_run.proofs.Written.{untouched_appends}
 

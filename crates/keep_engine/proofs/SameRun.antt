@@ -33,7 +33,8 @@ use Rattle.keep_engine.specs.MarginRun.{MarginHalts, MarginTexts}
 use Rattle.keep_engine.specs.MarginText.{asked_about}
 use Rattle.keep_engine.specs.PlanDates.{IsInDates, PlanDatesTexts}
 use Rattle.keep_engine.specs.PlanRun.{IsCertified, PlanHalts, PlanTexts}
-use Rattle.keep_engine.specs.Running.{Halted, Halts, NoHalts, RunOf, Texts, line_of_stop}
+use Rattle.keep_engine.specs.Running.{Halted, Halts, NoHalts, RunOf, Texts}
+use Rattle.keep_report.specs.FaultLine.{line_of_stop}
 use Rattle.keep_engine.specs.Secrecy.{CheckSecrecy, DifferInSecrets, EndsSecrecy, MarginSecrecy, PlanDatesSecrecy, PlanSecrecy, ReachSecrecy, RunAlike, RunIsWhole, TellSame, WriteFronts, WriteSame}
 use Rattle.keep_engine.proofs.Dated.{one_plan_in_dates}
 use Rattle.keep_engine.proofs.Reaching.{one_reach_text}

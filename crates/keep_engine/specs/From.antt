@@ -8,7 +8,7 @@ use Rattle.keep_report.specs.declared.exit.Exit.{Exit}
 use Rattle.keep_report.specs.Exits.{exit_of, stop_of_input}
 use Rattle.keep_report.specs.Sent.{IsUntouched}
 use Rattle.keep_report.specs.Told.{Reports}
-use Rattle.keep_engine.specs.Running.{line_of_stop}
+use Rattle.keep_report.specs.FaultLine.{line_of_stop}
 
 -- a run over a file: one over its bytes; or it was not read, which was told, and nothing was written
 abbrev pub RunFrom : Option (List ℕ) → ℕ → (List ℕ → Exit → Change → Change → Type 0) → Exit → Change → Change → Type 0

@@ -11,7 +11,7 @@ use Rattle.keep_report.specs.Sent.{IsUntouched}
 use Rattle.keep_report.specs.Told.{Reports}
 use Rattle.keep_run.specs.LiveRun.{LiveRun}
 use Rattle.keep_files.specs.Files.{FileIsRead}
-use Rattle.keep_engine.specs.Running.{line_of_stop}
+use Rattle.keep_report.specs.FaultLine.{line_of_stop}
 
 -- the live run over the bytes of the file at a path, by what is known of it, whatever exchange names this port; or the file was not
 -- read, which was told, and nothing was written, read of the events or asked

@@ -1,7 +1,7 @@
 -- Running: how a run of a command ends by what is read of the bytes of an inventory, for any command that writes one text about
 -- a forest.
 -- Source: this project's own.
-use Rattle.std.specs.Prelude.{◌≡◌, ◌⊎◌, ℕ, List, Result, Ok, Err, codes}
+use Rattle.std.specs.Prelude.{◌≡◌, ◌⊎◌, ℕ, List, Result, Ok, Err}
 use Rattle.keep_device.specs.Seen.{Change}
 use Rattle.keep_tree.specs.Forest.{Forest}
 use Rattle.keep_inventory.specs.declared.fault.InvFault.{InvFault}
@@ -10,7 +10,7 @@ use Rattle.keep_report.specs.declared.exit.Exit.{Exit}
 use Rattle.keep_report.specs.declared.stop.Stop.{Stop}
 use Rattle.keep_report.specs.declared.stop.Stop.TheVariants as stops
 use Rattle.keep_report.specs.Exits.{exit_of}
-use Rattle.keep_report.specs.FaultLine.{fault_line}
+use Rattle.keep_report.specs.FaultLine.{line_of_stop}
 use Rattle.keep_report.specs.Sent.{IsAll, IsUntouched, SendsText}
 use Rattle.keep_report.specs.Told.{Reports}
 
@@ -25,10 +25,6 @@ Halts = Forest → Stop → Type 0
 -- there is always a text
 abbrev pub NoHalts : Halts
 NoHalts g stop = ⊥
-
--- the line that tells of a stop
-abbrev pub line_of_stop : Stop → List ℕ
-line_of_stop stop = fault_line (codes "leasekeep") stop
 
 -- why a command makes no text of what was read
 abbrev pub Halted : Halts → Result Inventory InvFault → Stop → Type 0

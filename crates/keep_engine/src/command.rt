@@ -1,11 +1,10 @@
 ghost use Rattle.std.specs.Prelude.{◌≡◌};
 ghost use Rattle.keep_report.specs.Exits.{exit_of, stop_of_input};
+ghost use Rattle.keep_report.specs.FaultLine.{line_of_stop};
 ghost use Rattle.keep_report.specs.Told.{Reports};
-ghost use Rattle.keep_engine.specs.Running.{line_of_stop};
 ghost use Rattle.keep_engine.specs.Obeys.{Obeys, ObeysOver, PlanIn, path_of_command};
 
 use crate::check::run_check;
-use crate::deliver::PROGRAM;
 use crate::ends::run_ends;
 use crate::margin::{MarginQuery, run_margin};
 use crate::plan::run_plan;
@@ -17,7 +16,7 @@ use keep_device::{InputFault, Sink, Watched};
 use keep_files::Inputs;
 use keep_inventory::MOST_INVENTORY;
 use keep_moment::{Moment, Text};
-use keep_report::{Exit, Stop};
+use keep_report::{Exit, PROGRAM, Stop};
 use std::alloc::Global;
 
 /// What the command line asks, with the paths of the files that it names.

@@ -2,10 +2,7 @@ ghost use Rattle.keep_engine.specs.code.Making.{Delivers};
 
 use crate::outcome::Outcome;
 use keep_device::{Sink, Watched};
-use keep_report::{Exit, Stop, send};
-
-/// The program's name in front of its fault lines.
-pub const PROGRAM: &str = "leasekeep";
+use keep_report::{Exit, PROGRAM, Stop, send};
 
 /// Writes a text that was made and flushes, or tells why there is none, or why only a front of it went out.
 pub(crate) fn deliver<W: Sink, E: Sink>(

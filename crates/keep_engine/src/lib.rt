@@ -31,13 +31,12 @@ mod renewed;
 
 pub use check::run_check;
 pub use command::{Command, obey};
-pub use deliver::PROGRAM;
 pub use ends::run_ends;
 pub use keep_exchange::{
     Exchange, ExchangeFault, MemoryExchange, SelfServed, TcpExchange, UnixExchange,
 };
 pub use keep_plan::LIMIT;
-pub use keep_report::{Exit, Stop, tell};
+pub use keep_report::{Exit, PROGRAM, Stop, tell};
 pub use keep_run::{MOST_WAKES, Script, run_live, run_rehearse};
 pub use laws::{
     bound_law, no_secret_shows, own_certificates_are_accepted, secrets_change_no_run, until_law,

@@ -6,6 +6,7 @@
 #![tactic(auto)]
 
 mod follower;
+mod form;
 mod json_form;
 mod level;
 mod line;
@@ -17,6 +18,7 @@ mod text_form;
 mod writing;
 
 pub use follower::Follower;
+pub use form::Form;
 pub use json_form::json_of_line;
 pub use level::Level;
 pub use line::{LogLine, Word};

@@ -55,6 +55,17 @@ stop_words (stops.Broker name) = codes "broker " ++ name
 stop_words (stops.Line number) = codes "line " ++ decimal number
 stop_words stops.Memory = codes "memory"
 
+-- what stands before a colon
+abbrev pub before_colon : List ℕ → List ℕ
+before_colon text = text ++ codes ": "
+
 -- the program's name, a colon, what it says, and a line feed
 unfoldable pub fault_line : List ℕ → Stop → List ℕ
 fault_line program stop = program ++ (codes ": " ++ (stop_words stop ++ (10 ∷ [])))
+
+-- the name of `leasekeep`, and the line by which it tells of a stop
+abbrev pub own_name : List ℕ
+own_name = codes "leasekeep"
+
+abbrev pub line_of_stop : Stop → List ℕ
+line_of_stop stop = fault_line own_name stop

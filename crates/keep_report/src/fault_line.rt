@@ -2,7 +2,7 @@ ghost use Rattle.std.specs.Prelude.{◌≡◌, ◌∷◌, ◌++◌, decimal};
 ghost use Rattle.keep_report.specs.FaultLine.{fault_line, inventory_words, moments_words, place_word, stop_words, tree_word};
 ghost use Rattle.keep_report.specs.Sent.{Puts};
 
-use crate::putting::put;
+use crate::putting::{put, put_both};
 use crate::stop::Stop;
 use itoa::Buffer;
 use keep_device::{Sink, SinkFault, Watched};
@@ -74,8 +74,9 @@ fn put_moments<E: Sink>(errors: &mut E, fault: WakeFault) -> Result<(), SinkFaul
     }
 }
 
+/// The word for a fault of a tree of entries, as it stands in fault lines.
 #[tactic(auto, unfolding(crate::specs::FaultLine::tree_word))]
-fn tree_word(fault: TreeFault) -> &'static str
+pub fn tree_word(fault: TreeFault) -> &'static str
     ensures { result.now ≡ tree_word fault }
 {
     match fault {
@@ -136,13 +137,4 @@ fn put_place<E: Sink>(errors: &mut E, place: Option<u32>) -> Result<(), SinkFaul
             put(errors, digits.format(entry).as_bytes())
         }
     }
-}
-
-/// Writes two pieces, one after the other.
-#[tactic(auto, using(crate::proofs::Pieces::piece_cut, crate::proofs::Pieces::piece_more))]
-fn put_both<E: Sink>(errors: &mut E, first: &[u8], second: &[u8]) -> Result<(), SinkFault>
-    ensures { Puts result (first.now ++ second.now) (⟦<E as Watched>⟧.change errors.old errors.new) }
-{
-    put(errors, first)?;
-    put(errors, second)
 }

@@ -8,12 +8,16 @@
 
 mod exit;
 mod fault_line;
+mod program;
 mod putting;
 mod sending;
 mod stop;
 mod telling;
 
 pub use exit::Exit;
+pub use fault_line::tree_word;
+pub use program::PROGRAM;
+pub use putting::{put, put_before_colon, put_both};
 pub use sending::send;
 pub use stop::Stop;
 pub use telling::tell;

@@ -1,5 +1,5 @@
 -- LiveListening: a live run that was opened and then listened, and what it tells of its end: for `live` and `run_live`.
-use Rattle.std.proofs.Common.{◌≡◌, ℕ, inl, inr, Bool, List, ◌++◌, Option, Result, Ok, Err, ◌+◌, codes, length, min, refl, sym, subst, take, ◌==◌, ◌≤◌, ◌∙◌, ap, arith, length-append, IsTrue}
+use Rattle.std.proofs.Common.{◌≡◌, ℕ, inl, inr, Bool, List, ◌++◌, Option, Result, Ok, Err, ◌+◌, length, min, refl, sym, subst, take, ◌==◌, ◌≤◌, ◌∙◌, ap, arith, length-append, IsTrue}
 use Rattle.std.specs.Result.{IsErr, IsErrAnd}
 use Rattle.std.proofs.lemmas.List.{length-take}
 use Rattle.std.proofs.lemmas.List.Splits.{length-slice_split}
@@ -19,7 +19,7 @@ use Rattle.keep_report.specs.declared.exit.Exit.TheVariants as exits
 use Rattle.keep_report.specs.declared.stop.Stop.{Stop}
 use Rattle.keep_report.specs.declared.stop.Stop.TheVariants as stops
 use Rattle.keep_report.specs.Exits.{exit_of, stop_of_inventory}
-use Rattle.keep_report.specs.FaultLine.{fault_line}
+use Rattle.keep_report.specs.FaultLine.{line_of_stop}
 use Rattle.keep_report.specs.Told.{Reports}
 use Rattle.keep_lines.specs.Hearing.{EndsBetweenLines, counted_line}
 use Rattle.keep_lines.proofs.LineByLine.{listens_then}
@@ -136,10 +136,10 @@ module _ (port : ℕ) (bytes : List ℕ) (start : ℕ) (before : Option Behind) 
   done_runs fed out new e k lives = (lives, refl)
 
   pub stopped_runs :
-      (stop : Stop) (exit : Exit) (fed : Change) (out errors : Change) (new : Option Behind) → exit ≡ exit_of stop → LivesTo port bytes start before (Err stop) fed out new → Reports (fault_line (codes "leasekeep") stop) errors →
+      (stop : Stop) (exit : Exit) (fed : Change) (out errors : Change) (new : Option Behind) → exit ≡ exit_of stop → LivesTo port bytes start before (Err stop) fed out new → Reports (line_of_stop stop) errors →
       LiveRun port bytes start before exit fed out errors new
   stopped_runs stop exit fed out errors new is lives told = subst (λ (e : Exit). LiveRun port bytes start before e fed out errors new) (sym is) (by_stop stop lives told) where
-    by_stop : (u : Stop) → LivesTo port bytes start before (Err u) fed out new → Reports (fault_line (codes "leasekeep") u) errors → LiveRun port bytes start before (exit_of u) fed out errors new
+    by_stop : (u : Stop) → LivesTo port bytes start before (Err u) fed out new → Reports (line_of_stop u) errors → LiveRun port bytes start before (exit_of u) fed out errors new
     by_stop stops.Memory h t = (stops.Memory, refl, h, t)
     by_stop stops.Write h t = (stops.Write, refl, h, t)
     by_stop stops.TooLong h t = (stops.TooLong, refl, h, t)

@@ -1,5 +1,5 @@
 -- Rehearsed: from playing a run to the rehearsal.
-use Rattle.std.proofs.Common.{◌≡◌, ◌∙◌, ℕ, ◌≤◌, Bool, List, ◌++◌, Option, Some, None, Result, Ok, Err, ap, arith, codes, inl, inr, length, refl, subst, sym, ◌⊎◌}
+use Rattle.std.proofs.Common.{◌≡◌, ◌∙◌, ℕ, ◌≤◌, Bool, List, ◌++◌, Option, Some, None, Result, Ok, Err, ap, arith, inl, inr, length, refl, subst, sym, ◌⊎◌}
 use Rattle.std.proofs.lemmas.List.{append_assoc}
 use Rattle.std.specs.Result.{IsErr, IsErrAnd}
 use Rattle.std.specs.Io.KnownBytes.{Appends}
@@ -19,7 +19,7 @@ use Rattle.keep_exchange.specs.Exchanges.{Behind}
 use Rattle.keep_report.specs.declared.stop.Stop.{Stop}
 use Rattle.keep_report.specs.declared.stop.Stop.TheVariants as stops
 use Rattle.keep_report.specs.Exits.{exit_of}
-use Rattle.keep_report.specs.FaultLine.{fault_line}
+use Rattle.keep_report.specs.FaultLine.{line_of_stop}
 use Rattle.keep_report.specs.Told.{Reports}
 use Rattle.keep_run.specs.Closed.{IsRunOpening, World, shorts_taken}
 use Rattle.keep_run.specs.FaultWords.{SetsFaults, faults_of}
@@ -142,7 +142,7 @@ run_stopped found start words (stops.Broker name) out old new r = absurd r
 run_stopped found start words (stops.Line n) out old new r = absurd r
 
 pub stopped_told :
-    (found : Result Inventory InvFault) (start : ℕ) (words : List (List ℕ)) (stop : Stop) (out errors : Change) (old new : Behind) → RehearsesTo found start words (Err stop) out old new → Reports (fault_line (codes "leasekeep") stop) errors →
+    (found : Result Inventory InvFault) (start : ℕ) (words : List (List ℕ)) (stop : Stop) (out errors : Change) (old new : Behind) → RehearsesTo found start words (Err stop) out old new → Reports (line_of_stop stop) errors →
     RehearseTold found words (exit_of stop) errors
 stopped_told found start words (stops.Inventory fault) out errors old new r told = (fault, r.0, told)
 stopped_told found start words (stops.FaultWord n) out errors old new r told = (n, r.2, told)

@@ -1,7 +1,7 @@
 -- LiveRun: the live run: each entry is looked up, the keeper is planned from the start, and event lines are heard; and how it
 -- ends.
 -- Source: this project's own.
-use Rattle.std.specs.Prelude.{◌≡◌, ℕ, ◌+◌, ◌⊎◌, Bool, List, ◌++◌, Option, Result, Ok, Err, codes, length, take, Some, IsTrue}
+use Rattle.std.specs.Prelude.{◌≡◌, ℕ, ◌+◌, ◌⊎◌, Bool, List, ◌++◌, Option, Result, Ok, Err, length, take, Some, IsTrue}
 use Rattle.std.specs.Io.KnownBytes.{Consumes}
 use Rattle.keep_device.specs.Seen.{Change, ReceivesFront}
 use Rattle.keep_core.specs.Replan.{Replan, ReplanTooLong}
@@ -20,7 +20,7 @@ use Rattle.keep_report.specs.declared.exit.Exit.TheVariants as exits
 use Rattle.keep_report.specs.declared.stop.Stop.{Stop}
 use Rattle.keep_report.specs.declared.stop.Stop.TheVariants as stops
 use Rattle.keep_report.specs.Exits.{exit_of}
-use Rattle.keep_report.specs.FaultLine.{fault_line}
+use Rattle.keep_report.specs.FaultLine.{line_of_stop}
 use Rattle.keep_report.specs.Sent.{IsAll, IsUntouched}
 use Rattle.keep_report.specs.Told.{Reports}
 use Rattle.keep_run.specs.Closed.{World, shorts_taken}
@@ -122,4 +122,4 @@ LivesTo port bytes start old result fed out new = (v : Served) × (read_served b
 abbrev pub LiveRun : ℕ → List ℕ → ℕ → Option Behind → Exit → Change → Change → Change → Option Behind → Type 0
 LiveRun port bytes start old exits.Done fed out errors new = LivesTo port bytes start old (Ok tt) fed out new × IsUntouched errors
 LiveRun port bytes start old exit fed out errors new =
-    (stop : Stop) × (exit ≡ exit_of stop) × LivesTo port bytes start old (Err stop) fed out new × Reports (fault_line (codes "leasekeep") stop) errors
+    (stop : Stop) × (exit ≡ exit_of stop) × LivesTo port bytes start old (Err stop) fed out new × Reports (line_of_stop stop) errors

@@ -1,6 +1,6 @@
 -- The run `rehearse`: what it has written, the table and the wire that it leaves, and when it gives which exit.
 -- Source: this project's own.
-use Rattle.std.specs.Prelude.{◌≡◌, ℕ, ◌⊎◌, List, [], ◌++◌, Option, Some, None, Result, Ok, Err, codes}
+use Rattle.std.specs.Prelude.{◌≡◌, ℕ, ◌⊎◌, List, [], ◌++◌, Option, Some, None, Result, Ok, Err}
 use Rattle.keep_device.specs.Seen.{Change, ReceivesFront}
 use Rattle.keep_device.specs.Failures.{HasFailed}
 use Rattle.keep_inventory.specs.declared.fault.InvFault.{InvFault}
@@ -13,7 +13,7 @@ use Rattle.keep_report.specs.declared.exit.Exit.{Exit}
 use Rattle.keep_report.specs.declared.exit.Exit.TheVariants as exits
 use Rattle.keep_report.specs.declared.stop.Stop.{Stop}
 use Rattle.keep_report.specs.declared.stop.Stop.TheVariants as stops
-use Rattle.keep_report.specs.FaultLine.{fault_line}
+use Rattle.keep_report.specs.FaultLine.{line_of_stop, own_name}
 use Rattle.keep_report.specs.Sent.{IsAll, IsUntouched}
 use Rattle.keep_report.specs.Told.{Reports, Told}
 use Rattle.keep_run.specs.Closed.{IsClosedRun, RunCourse, World}
@@ -66,8 +66,8 @@ RehearseRun answer start words exit out old new = ⊥
 
 -- what it has told of its end, by exit
 abbrev pub RehearseTold : Result Inventory InvFault → List (List ℕ) → Exit → Change → Type 0
-RehearseTold answer words exits.CommandLine errors = (position : ℕ) × (faults_of words ≡ Err position) × Reports (fault_line (codes "leasekeep") (stops.FaultWord position)) errors
-RehearseTold answer words exit errors = Told (codes "leasekeep") answer exit errors
+RehearseTold answer words exits.CommandLine errors = (position : ℕ) × (faults_of words ≡ Err position) × Reports (line_of_stop (stops.FaultWord position)) errors
+RehearseTold answer words exit errors = Told own_name answer exit errors
 
 -- the same without its fault line, by what stops it
 abbrev pub RehearsesTo : Result Inventory InvFault → ℕ → List (List ℕ) → Result (Unit {0}) Stop → Change → Behind → Behind → Type 0

@@ -19,7 +19,7 @@ use keep_device::{Sink, Source, Streams, Watched};
 use keep_exchange::Exchange;
 use keep_inventory::{Inventory, read_served};
 use keep_moment::Moment;
-use keep_report::{Exit, Stop, send};
+use keep_report::{Exit, PROGRAM, Stop, send};
 use keep_served::marks;
 use keep_start::need_always;
 use std::alloc::Global;
@@ -52,7 +52,7 @@ pub fn run_live<R: Source, E: Exchange, W: Sink, F: Sink>(
         &mut streams.out,
     ) {
         Ok(()) => Exit::Done,
-        Err(stop) => stop.report("leasekeep", &mut streams.errors),
+        Err(stop) => stop.report(PROGRAM, &mut streams.errors),
     }
 }
 

@@ -16,7 +16,7 @@ use keep_core::Keeper;
 use keep_device::{Sink, Watched};
 use keep_exchange::MemoryExchange;
 use keep_moment::{Moment, Text};
-use keep_report::{Exit, Stop};
+use keep_report::{Exit, PROGRAM, Stop};
 use keep_start::read_at;
 use std::alloc::Global;
 
@@ -58,7 +58,7 @@ pub fn run_rehearse<W: Sink, F: Sink>(
 {
     match rehearse(alloc, inventory, script, out, exchange) {
         Ok(()) => Exit::Done,
-        Err(stop) => stop.report("leasekeep", errors),
+        Err(stop) => stop.report(PROGRAM, errors),
     }
 }
 

@@ -9,7 +9,7 @@ use Rattle.keep_report.specs.declared.stop.Stop.TheVariants as stops
 use Rattle.keep_report.specs.Exits.{exit_of}
 use Rattle.keep_report.specs.Sent.{IsUntouched}
 use Rattle.keep_report.specs.Told.{Reports}
-use Rattle.keep_engine.specs.Running.{line_of_stop}
+use Rattle.keep_report.specs.FaultLine.{line_of_stop}
 
 -- a start that is refused: the file is no inventory, or cannot be served so; it cannot be read; or memory is wanting, which is all
 -- that is told then

@@ -1,7 +1,8 @@
 //! A command of a running agent: it is sent over the agent's control socket.
-use keep_calling::{Ask, Call, Ended, connect, follow, request_for, talk, tell_unreached};
+use keep_calling::{Call, Ended, connect, follow, request_for, talk, tell_unreached};
 use keep_device::{Counted, Sink};
 use keep_engine::{PROGRAM, Stop};
+use leasekeep_commands::Called;
 use std::alloc::{AllocError, Global};
 use std::env::{self, VarError};
 use std::fs::{self, File};
@@ -11,14 +12,6 @@ use std::rt::{Clock, Env, Files};
 
 /// Where a service of the system has its sockets.
 const SYSTEM: &str = "/run/leasekeep";
-
-/// What the words of the command line ask of a running agent.
-#[derive(Clone, Copy, Debug)]
-pub struct Called<'a> {
-    pub ask: Ask<'a>,
-    /// The path of its control socket, if it is given.
-    pub control: Option<&'a str>,
-}
 
 /// Asks it, and shows the answer.
 pub fn call<R, I, E>(rt: &R, called: &Called<'_>, input: I, errors: &mut E) -> Ended

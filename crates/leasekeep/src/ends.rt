@@ -5,6 +5,7 @@ use keep_ends::{EndsFile, known_events, load_ends};
 use keep_house::Desk;
 use keep_inventory::Inventory;
 use keep_moment::Text;
+use leasekeep_commands::Room;
 use std::alloc::{AllocError, Global};
 use std::fs::File;
 use std::rt::Files;
@@ -16,24 +17,13 @@ const BOOT_ID: &str = "/proc/sys/kernel/random/boot_id";
 /// More than such an id has.
 const MOST_ID: usize = 256;
 
-/// Where the file of the ends is.
-#[derive(Clone, Copy, Debug)]
-pub enum Room<'a> {
-    /// In this folder.
-    Folder(&'a str),
-    /// Beside the file of this path.
-    Beside(&'a str),
-}
-
-impl<'a> Room<'a> {
-    /// The path of the file. The only error is lack of memory.
-    fn path(self, alloc: Global) -> Result<String, AllocError> {
-        match self {
-            Room::Folder(folder) => Ok(format!(in alloc; "{folder}/ends")?),
-            Room::Beside(path) => {
-                let folder = folder_of(path);
-                Ok(format!(in alloc; "{folder}ends")?)
-            }
+/// The path of the file in this room. The only error is lack of memory.
+fn path_of(alloc: Global, room: Room<'_>) -> Result<String, AllocError> {
+    match room {
+        Room::Folder(folder) => Ok(format!(in alloc; "{folder}/ends")?),
+        Room::Beside(path) => {
+            let folder = folder_of(path);
+            Ok(format!(in alloc; "{folder}ends")?)
         }
     }
 }
@@ -61,7 +51,7 @@ pub fn ends_file<'a, R: Files<File = File> + AllocGlobal>(
     let mut disk = SystemDisk::new(rt);
     match boot_id(alloc, &mut disk) {
         Ok(boot) => {
-            let path = room.path(alloc)?;
+            let path = path_of(alloc, room)?;
             Ok(Some(EndsFile::new(path, boot, disk)))
         }
         Err(DiskFault::OutOfMemory) => Err(AllocError),

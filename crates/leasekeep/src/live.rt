@@ -1,23 +1,10 @@
 use keep_command::SystemFiles;
 use keep_device::{Place, Sink, Source, Streams};
 use keep_engine::{Exchange, Exit, PROGRAM, TcpExchange, UnixExchange, keep_alive};
-use keep_moment::Moment;
+use leasekeep_commands::Live;
 use std::net::Net;
 use std::rt::Files;
 use std::time::Duration;
-
-/// What the words of `run` ask.
-#[derive(Debug, Drop)]
-pub struct Live<'a> {
-    /// The path of the inventory.
-    pub file: &'a str,
-    /// Where the broker listens.
-    pub place: Place<'a>,
-    /// The moment from which entries are kept.
-    pub start: Moment,
-    /// How long one connect, read or write may take, in seconds.
-    pub patience: u64,
-}
 
 /// Runs the agent: it takes event lines from these streams, and answers them there.
 pub fn keep<R: Files + AllocGlobal + Net, I: Source, W: Sink, E: Sink>(

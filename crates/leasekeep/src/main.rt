@@ -1,25 +1,23 @@
 //! `leasekeep`: keeps Vault tokens and leases alive with the fewest wake-ups. The program over `keep_engine` and
-//! `watch_lines`, of the agent over `keep_house`, and of its commands over `keep_calling`: words, files, standard streams and the exit status.
+//! `watch_lines`, of the agent over `keep_house`, and of its commands over `keep_calling`: files, standard streams and the exit status.
+//! What its words ask is read in `leasekeep_commands`.
 #![tactic(auto)]
 
 use std::process::ExitCode;
 
 mod apart;
-mod call_commands;
 mod calling;
 mod commands;
 mod ends;
 mod folder;
 mod found;
 mod live;
-mod parser;
 mod reading;
 mod running;
 mod secrets;
 mod serve;
 mod sockets;
 mod watch;
-mod words;
 
 fn main(rt: HostRuntime) -> ExitCode {
     ExitCode::from(commands::run(&rt, rt.stdin(), rt.stdout(), rt.stderr()))

@@ -3,7 +3,6 @@ ghost use Rattle.leasekeep.specs.Ends.{GivesOrRefuses, IsToldOf, RefusesIf, Refu
 
 use crate::ends::folder_of;
 use crate::secrets::SystemSecrets;
-use crate::serve::Served;
 use keep_command::SystemFiles;
 use keep_device::{Sink, Watched};
 use keep_engine::{Exit, PROGRAM, Stop, tell};
@@ -11,6 +10,7 @@ use keep_files::Inputs;
 use keep_house::{Demands, StartFault, faults_to_serve, line_of_fault, read_to_serve};
 use keep_inventory::{Inventory, MOST_INVENTORY, read_served};
 use keep_moment::Text;
+use leasekeep_commands::Served;
 use std::alloc::{AllocError, Global};
 use std::fs::{self, File, Metadata};
 use std::io::ErrorKind;

@@ -2,61 +2,21 @@
 ghost use Rattle.leasekeep.specs.Ends.{EndsServe};
 
 use crate::apart::earlier_by;
-use crate::ends::Room;
 use crate::folder::{NotBegun, Said, begin, paths_of, refuse_changes, refuse_held};
 use crate::reading::read_inventory;
 use crate::running::{Start, run};
-use crate::sockets::Socket;
 use keep_command::SystemFiles;
-use keep_device::{Place, Sink, Watched};
+use keep_device::{Sink, Watched};
 use keep_engine::{Exit, PROGRAM, Stop};
-use keep_house::{Demands, Form};
+use keep_house::Demands;
 use keep_log::StandardOutput;
 use keep_tree::MARGIN_MAX;
+use leasekeep_commands::Served;
 use std::alloc::AllocError;
 use std::fs::File;
 use std::io::Stdout;
 use std::net::Net;
 use std::rt::{Clock, Files};
-
-/// What the words of `serve` ask.
-#[derive(Debug, Drop)]
-pub struct Served<'a> {
-    /// The path of the inventory.
-    pub file: &'a str,
-    /// Where the broker listens.
-    pub place: Place<'a>,
-    /// How long the connect, write and first read of a request may take, in seconds.
-    pub patience: u64,
-    /// How many requests are out at once at most.
-    pub width: u64,
-    /// Whether the name of an entry may be sent as its credential.
-    pub names_are_secrets: bool,
-    /// How the lines of the log are written.
-    pub form: Form,
-    /// Where commands come in.
-    pub control: Option<Socket<'a>>,
-    /// Where onlookers come in.
-    pub listen: Option<Socket<'a>>,
-    /// Where the ends are kept over a restart.
-    pub room: Option<Room<'a>>,
-    /// The agent's own name, where it is given one.
-    pub name: Option<&'a str>,
-    /// The folder in which changes are kept over a restart, where there is one.
-    pub state: Option<&'a str>,
-    /// The seconds over which agents are spread that would wake up together.
-    pub spread: u64,
-}
-
-impl<'a> Served<'a> {
-    fn demands(&self, earlier: u32) -> Demands {
-        Demands {
-            timeout: self.patience.min(60) as u32,
-            names_are_secrets: self.names_are_secrets,
-            earlier,
-        }
-    }
-}
 
 /// Serves an inventory, with the log on standard output. It ends where the start is refused, which it tells; else after 2^64 - 1
 /// turns.
@@ -71,10 +31,19 @@ where
     let Ok(earlier) = earlier_of(rt, served) else {
         return Stop::Memory.report(PROGRAM, errors);
     };
-    let demands = served.demands(earlier);
+    let demands = demands_of(served, earlier);
     match served.state {
         None => serve_file(rt, served, demands, None, log, errors),
         Some(folder) => serve_with_state(rt, served, demands, folder, log, errors),
+    }
+}
+
+/// What is demanded of an inventory that is served.
+fn demands_of(served: &Served<'_>, earlier: u32) -> Demands {
+    Demands {
+        timeout: served.patience.min(60) as u32,
+        names_are_secrets: served.names_are_secrets,
+        earlier,
     }
 }
 

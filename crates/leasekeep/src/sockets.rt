@@ -1,19 +1,13 @@
 //! The sockets of `serve`: where commands come in, and where onlookers do. Neither can stop it: one that cannot be had is an alert.
-use keep_clients::{Entrance, SocketDoor};
+use keep_clients::SocketDoor;
 use keep_clock::{Reading, SystemClock};
 use keep_house::Desk;
 use keep_lanes::MOST_WIDTH;
+use leasekeep_commands::Socket;
 use std::alloc::Global;
 use std::io;
 use std::net::Net;
 use std::rt::{Clock, Files};
-
-/// Where guests come in, and the word of the command line that says so.
-#[derive(Clone, Copy, Debug)]
-pub struct Socket<'a> {
-    pub word: &'a str,
-    pub entrance: Entrance<'a>,
-}
 
 /// Guests of the agent.
 #[derive(Clone, Copy, Debug)]

@@ -3,22 +3,10 @@ use keep_device::{Place, Sink, Source, Streams};
 use keep_engine::{Exit, PROGRAM};
 use keep_lanes::{LanesOver, MOST_WIDTH};
 use keep_report::Stop;
+use leasekeep_commands::Watched;
 use std::net::Net;
 use std::rt::{Clock, Files};
 use watch_lines::watch_file;
-
-/// What the words of `watch` ask.
-#[derive(Debug, Drop)]
-pub struct Watched<'a> {
-    /// The path of the inventory.
-    pub file: &'a str,
-    /// Where the broker listens.
-    pub place: Place<'a>,
-    /// How long the connect, write and first read of a request may take, in seconds.
-    pub patience: u64,
-    /// How many requests are out at once at most.
-    pub width: u64,
-}
 
 /// Runs the watch: it takes lines from these streams, and answers them there.
 pub fn watch<R: Files + AllocGlobal + Net + Clock, I: Source, W: Sink, E: Sink>(

@@ -17,7 +17,8 @@ use Rattle.keep_report.specs.Sent.{IsAll, IsUntouched, SendsText}
 use Rattle.keep_report.specs.Told.{Reports}
 use Rattle.keep_engine.specs.declared.outcome.Outcome.{Outcome}
 use Rattle.keep_engine.specs.PlanDates.{AreRunsInDates, IsPairInDates}
-use Rattle.keep_engine.specs.Running.{Halts, Texts, line_of_stop}
+use Rattle.keep_engine.specs.Running.{Halts, Texts}
+use Rattle.keep_report.specs.FaultLine.{line_of_stop}
 
 -- what a command makes of a forest
 abbrev pub MakesOf : Texts → Halts → Forest → Result Outcome Stop → Type 0

@@ -3,7 +3,8 @@ use Rattle.std.proofs.Common.{◌∙◌, Ok, ap, sym}
 use Rattle.keep_device.specs.Seen.{change}
 use Rattle.keep_report.proofs.Pieces.{piece_more, piece_named}
 use Rattle.keep_calling.specs.Asking.{command_word}
-use Rattle.keep_calling.specs.Lines.{before_colon, call_front}
+use Rattle.keep_report.specs.FaultLine.{before_colon}
+use Rattle.keep_calling.specs.Lines.{call_front}
 use Rattle.keep_calling.proofs.telling.put_front.Goals as goal
 
 pub returns : goal.returns

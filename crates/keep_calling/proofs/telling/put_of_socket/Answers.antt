@@ -1,7 +1,8 @@
 -- The socket and what is said of it.
 use Rattle.std.proofs.Common.{[], ◌∷◌, ◌++◌}
 use Rattle.keep_report.proofs.Pieces.{piece_more}
-use Rattle.keep_calling.specs.Lines.{before_colon, socket_rest}
+use Rattle.keep_report.specs.FaultLine.{before_colon}
+use Rattle.keep_calling.specs.Lines.{socket_rest}
 use Rattle.keep_calling.proofs.telling.put_of_socket.Goals as goal
 
 pub returns : goal.returns

@@ -1,6 +1,7 @@
 -- The pieces that are written make up the line, and a write that fails leaves a front of it.
 use Rattle.std.proofs.Common.{[], ◌++◌, ◌∷◌}
-use Rattle.keep_command.specs.Advice.{advice_line, before_colon}
+use Rattle.keep_command.specs.Advice.{advice_line}
+use Rattle.keep_report.specs.FaultLine.{before_colon}
 use Rattle.keep_report.proofs.Pieces.{handed_on, piece_cut, piece_more}
 use Rattle.keep_command.proofs.advice.put_line.Goals as goal
 

@@ -1,5 +1,5 @@
 //! The commands of a running agent: how the command line has them, and what its words ask.
-use crate::calling::Called;
+use crate::job::Called;
 use clap::{Arg, ArgAction, ArgMatches, Command};
 use keep_calling::Ask;
 use std::alloc::{AllocError, Global};

@@ -1,6 +1,6 @@
 -- Two pieces that are written one after the other are written as one.
 use Rattle.keep_report.proofs.Pieces.{piece_more}
-use Rattle.keep_calling.proofs.telling.put_both.Goals as goal
+use Rattle.keep_report.proofs.putting.put_both.Goals as goal
 
 pub returns : goal.returns
 returns g c =

@@ -1,11 +1,7 @@
+//! What the words of the command line ask.
 use crate::call_commands::called;
-use crate::calling::Called;
-use crate::ends::Room;
-use crate::live::Live;
+use crate::job::{Called, Job, Live, Room, Served, Socket, Watched};
 use crate::parser::{mistake, parse};
-use crate::serve::Served;
-use crate::sockets::Socket;
-use crate::watch::Watched;
 use clap::error::ErrorKind;
 use clap::{ArgMatches, Error};
 use keep_clients::{Entrance, entrance_of};
@@ -13,7 +9,7 @@ use keep_command::{number_or, place_to_ask, show};
 use keep_device::{Counted, Place, Sink};
 use keep_engine::{Command, Exit, MarginQuery, PROGRAM, Stop, tell};
 use keep_exchange::PATIENCE;
-use keep_house::Form;
+use keep_log::Form;
 use keep_moment::{Moment, Text};
 use std::alloc::{AllocError, AllocFailed, Global};
 use std::io;
@@ -33,21 +29,6 @@ const MOMENT_TIP: &[u8] =
     b"\ntip: a moment is a whole number of seconds since 1970-01-01T00:00:00Z; $(date +%s) is now\n";
 
 const UNREADABLE: &[u8] = b"error: a value of the command line is unreadable\n";
-
-/// What the words of the command line ask.
-#[derive(Debug, Drop)]
-pub enum Job<'a> {
-    /// A command over files alone.
-    Offline(Command),
-    /// A command of a running agent.
-    Call(Called<'a>),
-    /// `run`, the agent.
-    Live(Live<'a>),
-    /// `watch`, the agent in real time.
-    Watch(Watched<'a>),
-    /// `serve`, the agent that runs by itself.
-    Serve(Served<'a>),
-}
 
 /// A value that says a place.
 #[derive(Clone, Copy, Debug)]

@@ -1,7 +1,7 @@
 use crate::call_commands::with_calls;
 use clap::error::ErrorKind;
 use clap::{Arg, ArgAction, ArgMatches, Command, Error};
-use keep_engine::LIMIT;
+use keep_engine::{LIMIT, PROGRAM};
 use keep_moment::LAST;
 use std::alloc::{AllocError, Global};
 use watch_machine::WIDTH_MAX;
@@ -212,7 +212,7 @@ fn whole<'a>(alloc: Global) -> Result<Command<'a>, AllocError> {
 
 /// The commands that need no running agent.
 fn leasekeep<'a>(alloc: Global) -> Result<Command<'a>, AllocError> {
-    Command::new(alloc, "leasekeep")
+    Command::new(alloc, PROGRAM)
         .version("0.1.0")
         .about(ABOUT)
         .subcommand_required(true)

@@ -1,0 +1,101 @@
+//! What a command line of `leasekeep` may ask.
+use keep_calling::Ask;
+use keep_clients::Entrance;
+use keep_device::Place;
+use keep_engine::Command;
+use keep_log::Form;
+use keep_moment::Moment;
+
+/// What the words of the command line ask.
+#[derive(Debug, Drop)]
+pub enum Job<'a> {
+    /// A command over files alone.
+    Offline(Command),
+    /// A command of a running agent.
+    Call(Called<'a>),
+    /// `run`, the agent.
+    Live(Live<'a>),
+    /// `watch`, the agent in real time.
+    Watch(Watched<'a>),
+    /// `serve`, the agent that runs by itself.
+    Serve(Served<'a>),
+}
+
+/// What the words of the command line ask of a running agent.
+#[derive(Clone, Copy, Debug)]
+pub struct Called<'a> {
+    pub ask: Ask<'a>,
+    /// The path of its control socket, if it is given.
+    pub control: Option<&'a str>,
+}
+
+/// What the words of `run` ask.
+#[derive(Debug, Drop)]
+pub struct Live<'a> {
+    /// The path of the inventory.
+    pub file: &'a str,
+    /// Where the broker listens.
+    pub place: Place<'a>,
+    /// The moment from which entries are kept.
+    pub start: Moment,
+    /// How long one connect, read or write may take, in seconds.
+    pub patience: u64,
+}
+
+/// What the words of `watch` ask.
+#[derive(Debug, Drop)]
+pub struct Watched<'a> {
+    /// The path of the inventory.
+    pub file: &'a str,
+    /// Where the broker listens.
+    pub place: Place<'a>,
+    /// How long the connect, write and first read of a request may take, in seconds.
+    pub patience: u64,
+    /// How many requests are out at once at most.
+    pub width: u64,
+}
+
+/// What the words of `serve` ask.
+#[derive(Debug, Drop)]
+pub struct Served<'a> {
+    /// The path of the inventory.
+    pub file: &'a str,
+    /// Where the broker listens.
+    pub place: Place<'a>,
+    /// How long the connect, write and first read of a request may take, in seconds.
+    pub patience: u64,
+    /// How many requests are out at once at most.
+    pub width: u64,
+    /// Whether the name of an entry may be sent as its credential.
+    pub names_are_secrets: bool,
+    /// How the lines of the log are written.
+    pub form: Form,
+    /// Where commands come in.
+    pub control: Option<Socket<'a>>,
+    /// Where onlookers come in.
+    pub listen: Option<Socket<'a>>,
+    /// Where the ends are kept over a restart.
+    pub room: Option<Room<'a>>,
+    /// The agent's own name, where it is given one.
+    pub name: Option<&'a str>,
+    /// The folder in which changes are kept over a restart, where there is one.
+    pub state: Option<&'a str>,
+    /// The seconds over which agents are spread that would wake up together.
+    pub spread: u64,
+}
+
+/// Where guests come in, and the word of the command line that says so.
+#[derive(Clone, Copy, Debug)]
+pub struct Socket<'a> {
+    pub word: &'a str,
+    pub entrance: Entrance<'a>,
+}
+
+/// Where the file of the ends is.
+#[derive(Clone, Copy, Debug)]
+pub enum Room<'a> {
+    /// In this folder.
+    Folder(&'a str),
+    /// Beside the file of this path.
+    Beside(&'a str),
+}

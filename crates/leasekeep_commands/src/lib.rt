@@ -1,0 +1,13 @@
+//! The commands of `leasekeep`: what its command line takes, with their help, and what its words ask.
+//!
+//! [`read_command`] gives the [`Job`] that words ask; or the exit, once it was shown or told why they ask nothing. No contract says
+//! which words ask what: they are matched by the crate `clap`. Begin with `job`, then `parser`.
+#![tactic(auto)]
+
+mod call_commands;
+mod job;
+mod parser;
+mod words;
+
+pub use job::{Called, Job, Live, Room, Served, Socket, Watched};
+pub use words::read_command;
