@@ -1,8 +1,9 @@
 // The broker of bench/abreast, and one of the clients that it compares. Standard library only: rustc -O bench/abreast.rs.
 //
-// abreast broker MILLISECONDS [EVERY:MILLISECONDS ..]: answers every renewal so late (each 100th one after a second with `100:1000`),
-// and every lookup at once, on connections that live as long as the client wants. It prints its port; when its input ends, how many
-// renewals there were, when the first and the last came (nanoseconds since 1970), and how many were under way at once at most.
+// abreast broker LEFT GRANTED MILLISECONDS [EVERY:MILLISECONDS ..]: answers every lookup at once, with so many seconds left, and every
+// renewal so late (each 100th one after a second with `100:1000`), with so many seconds granted, on connections that live as long as
+// the client wants. It prints its port; when its input ends, how many renewals there were, when the first and the last came
+// (nanoseconds since 1970), and how many were under way at once at most.
 //
 // abreast client PORT K FILE: K threads with a connection each send the requests of FILE (a line each: method, path, token, body),
 // once a line comes in, and read each reply whole. It prints how many were granted.
@@ -12,9 +13,12 @@ use std::sync::atomic::{AtomicUsize, Ordering};
 use std::sync::{Arc, Mutex};
 use std::time::{Duration, SystemTime, UNIX_EPOCH};
 
-/// What is granted, and what a lookup tells: so that a margin of an hour leaves eight seconds.
-const SECONDS: u64 = 36_000;
-const LEFT: u64 = 3_608;
+/// What a lookup tells, and what a renewal grants, in seconds.
+#[derive(Clone, Copy)]
+struct Terms {
+    left: u64,
+    granted: u64,
+}
 
 fn now() -> u128 {
     SystemTime::now().duration_since(UNIX_EPOCH).map_or(0, |since| since.as_nanos())
@@ -79,36 +83,37 @@ fn between<'a>(text: &'a str, before: &str, after: &str) -> &'a str {
 }
 
 /// A body as Vault writes it.
-fn answer(request: &Message, moment: u64) -> String {
-    let (issued, issue_time, expire_time) = (moment - 1000, rfc3339(moment - 1000), rfc3339(moment + LEFT));
+fn answer(request: &Message, moment: u64, terms: Terms) -> String {
+    let Terms { left, granted } = terms;
+    let (issued, issue_time, expire_time) = (moment - 1000, rfc3339(moment - 1000), rfc3339(moment + left));
     let lease = between(&request.body.replace(": ", ":"), "\"lease_id\":\"", "\"").to_string();
     let head = "\"request_id\":\"6de5e1b8-1d9a-2d5c-2e7c-5b1f0c6a8a1e\"";
     let tail = "\"wrap_info\":null,\"warnings\":null";
     if request.first.contains("/auth/token/lookup-self ") {
         return format!(
             "{{{head},\"lease_id\":\"\",\"renewable\":false,\"lease_duration\":0,\"data\":{{\"accessor\":\"a\",\"creation_time\":{issued},\
-             \"creation_ttl\":{SECONDS},\"display_name\":\"token\",\"entity_id\":\"\",\"expire_time\":\"{expire_time}\",\
+             \"creation_ttl\":{granted},\"display_name\":\"token\",\"entity_id\":\"\",\"expire_time\":\"{expire_time}\",\
              \"explicit_max_ttl\":0,\"id\":\"s\",\"issue_time\":\"{issue_time}\",\"meta\":null,\"num_uses\":0,\"orphan\":true,\
-             \"path\":\"auth/token/create\",\"policies\":[\"default\"],\"renewable\":true,\"ttl\":{LEFT},\"type\":\"service\"}},\
+             \"path\":\"auth/token/create\",\"policies\":[\"default\"],\"renewable\":true,\"ttl\":{left},\"type\":\"service\"}},\
              {tail},\"auth\":null}}\n"
         );
     }
     if request.first.contains("/sys/leases/lookup ") {
         return format!(
             "{{{head},\"lease_id\":\"\",\"renewable\":false,\"lease_duration\":0,\"data\":{{\"expire_time\":\"{expire_time}\",\
-             \"id\":\"{lease}\",\"issue_time\":\"{issue_time}\",\"last_renewal\":null,\"renewable\":true,\"ttl\":{LEFT}}},\
+             \"id\":\"{lease}\",\"issue_time\":\"{issue_time}\",\"last_renewal\":null,\"renewable\":true,\"ttl\":{left}}},\
              {tail},\"auth\":null}}\n"
         );
     }
     if request.first.contains("/auth/token/renew-self ") {
         return format!(
             "{{{head},\"lease_id\":\"\",\"renewable\":false,\"lease_duration\":0,\"data\":null,{tail},\"auth\":{{\"client_token\":\"s\",\
-             \"accessor\":\"a\",\"policies\":[\"default\"],\"token_policies\":[\"default\"],\"metadata\":null,\"lease_duration\":{SECONDS},\
+             \"accessor\":\"a\",\"policies\":[\"default\"],\"token_policies\":[\"default\"],\"metadata\":null,\"lease_duration\":{granted},\
              \"renewable\":true,\"entity_id\":\"\",\"token_type\":\"service\",\"orphan\":true,\"mfa_requirement\":null,\"num_uses\":0}}}}\n"
         );
     }
     format!(
-        "{{{head},\"lease_id\":\"{lease}\",\"renewable\":true,\"lease_duration\":{SECONDS},\"data\":null,{tail},\"auth\":null}}\n"
+        "{{{head},\"lease_id\":\"{lease}\",\"renewable\":true,\"lease_duration\":{granted},\"data\":null,{tail},\"auth\":null}}\n"
     )
 }
 
@@ -143,7 +148,7 @@ impl Delays {
     }
 }
 
-fn serve(stream: TcpStream, delays: &Delays, seen: &Mutex<Seen>) -> Option<()> {
+fn serve(stream: TcpStream, terms: Terms, delays: &Delays, seen: &Mutex<Seen>) -> Option<()> {
     stream.set_nodelay(true).ok()?;
     let mut writer = stream.try_clone().ok()?;
     let mut reader = BufReader::new(stream);
@@ -168,7 +173,7 @@ fn serve(stream: TcpStream, delays: &Delays, seen: &Mutex<Seen>) -> Option<()> {
             seen.lock().ok()?.open -= 1;
         }
         let moment = (now() / 1_000_000_000) as u64;
-        let body = answer(&request, moment);
+        let body = answer(&request, moment, terms);
         let reply = format!(
             "HTTP/1.1 200 OK\r\nCache-Control: no-store\r\nContent-Type: application/json\r\nStrict-Transport-Security: max-age=31536000; \
              includeSubDomains\r\nDate: {}\r\nContent-Length: {}\r\n\r\n{body}",
@@ -183,7 +188,7 @@ fn serve(stream: TcpStream, delays: &Delays, seen: &Mutex<Seen>) -> Option<()> {
     Some(())
 }
 
-fn broker(delays: Delays) -> std::io::Result<()> {
+fn broker(terms: Terms, delays: Delays) -> std::io::Result<()> {
     let delays = Arc::new(delays);
     let listener = TcpListener::bind("127.0.0.1:0")?;
     println!("{}", listener.local_addr()?.port());
@@ -192,7 +197,7 @@ fn broker(delays: Delays) -> std::io::Result<()> {
     std::thread::spawn(move || {
         for stream in listener.incoming().flatten() {
             let (delays, seen) = (delays.clone(), theirs.clone());
-            std::thread::spawn(move || serve(stream, &delays, &seen));
+            std::thread::spawn(move || serve(stream, terms, &delays, &seen));
         }
     });
     std::io::stdin().read_to_end(&mut Vec::new())?;
@@ -247,13 +252,13 @@ fn client(port: u16, threads: usize, file: &str) -> std::io::Result<()> {
 
 fn main() -> std::io::Result<()> {
     let words: Vec<String> = std::env::args().skip(1).collect();
-    let number = |word: &String| word.parse().unwrap_or(0);
-    let delays = words.get(1..).and_then(Delays::read);
+    let number = |at: usize| words.get(at).and_then(|word| word.parse().ok()).unwrap_or(0u64);
+    let delays = words.get(3..).and_then(Delays::read);
     match (words.iter().map(String::as_str).collect::<Vec<_>>().as_slice(), delays) {
-        (["broker", ..], Some(delays)) => broker(delays),
-        (["client", _, _, file], _) => client(number(&words[1]) as u16, number(&words[2]) as usize, file),
+        (["broker", ..], Some(delays)) => broker(Terms { left: number(1), granted: number(2) }, delays),
+        (["client", _, _, file], _) => client(number(1) as u16, number(2) as usize, file),
         _ => {
-            eprintln!("usage: abreast broker MILLISECONDS [EVERY:MILLISECONDS ..] | abreast client PORT K FILE");
+            eprintln!("usage: abreast broker LEFT GRANTED MILLISECONDS [EVERY:MILLISECONDS ..] | abreast client PORT K FILE");
             std::process::exit(2)
         }
     }
