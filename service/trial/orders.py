@@ -11,7 +11,7 @@ from pathlib import Path
 from typing import Awaitable, Callable
 
 from leasekeep_inventory.durations import until_text
-from leasekeep_inventory.inventory import Entry, entry_text
+from leasekeep_inventory.inventory import Entry, Kind, entry_text
 from leasekeepd_lib.control import ControlFault, send_command
 
 ABSENT = "absent"
@@ -23,13 +23,21 @@ OF_NEEDS = 0.8
 _LINE = re.compile(r"(\S+) [a-z]+ end \S+ need (\S+) .*")
 
 
+def spare_entries(now: int, seconds: int, over: list[str], in_files: bool) -> list[Entry]:
+    """A lease of each of these tokens to add and drop, which outlives the trial whether it is kept or not."""
+    return [Entry(f"spare{place}", Kind.LEASE, token, now, now + seconds + 3600, increment=600, max_ttl=864000, need=now + seconds,
+                  credential=f"database/creds/spare{place}", credential_file=f"spare{place}.lease" if in_files else None)
+            for place, token in enumerate(over)]
+
+
 class Orders:
     """Gives needs, additions and drops, one after the other, and looks at what the leader shows after each. `leader` tells the
-    control socket of who leads, and a word that is another one once another leads; `spare` are entries to add and drop."""
+    control socket of who leads, and a word that is another one once another leads; `spare` are entries to add and drop. What was
+    acknowledged is shown within `late` seconds."""
 
     def __init__(self, leader: Callable[[], Awaitable[tuple[Path, str] | None]], sockets: list[Path], kept: list[Entry],
-                 spare: list[Entry], chance: random.Random) -> None:
-        self._leader, self._sockets, self._chance = leader, sockets, chance
+                 spare: list[Entry], chance: random.Random, late: float = 0.0) -> None:
+        self._leader, self._sockets, self._chance, self._late = leader, sockets, chance, late
         self._kept, self._spare = kept, spare
         self._may_be = {entry.name: {until_text(entry.need)} for entry in kept} | {entry.name: {ABSENT} for entry in spare}
         self._number = 0
@@ -81,16 +89,25 @@ class Orders:
             return await self._look()
 
     async def _look(self) -> bool:
+        wrong = await self._wrong()
+        if wrong and self._late:
+            await asyncio.sleep(self._late)
+            wrong = await self._wrong()
+        if wrong is None:
+            return False
+        self.lost += wrong
+        self.looks += 1
+        return True
+
+    async def _wrong(self) -> list[str] | None:
+        """What is shown and may not be; None where none led all the while."""
         before = await self._leader()
         lines = None if before is None else await _say(before[0], ["status"])
         if not lines or not lines[0].startswith("next-wake ") or await self._leader() != before:
-            return False
+            return None
         shown = {line[1]: line[2] for line in map(_LINE.fullmatch, lines[1:]) if line is not None}
-        for name, may_be in self._may_be.items():
-            if shown.get(name, ABSENT) not in may_be:
-                self.lost.append(f"{name}: {shown.get(name, ABSENT)}, and {' or '.join(sorted(may_be))} was acknowledged")
-        self.looks += 1
-        return True
+        return [f"{name}: {shown.get(name, ABSENT)}, and {' or '.join(sorted(may_be))} was acknowledged"
+                for name, may_be in self._may_be.items() if shown.get(name, ABSENT) not in may_be]
 
 
 async def _say(socket: Path, words: list[str]) -> list[str] | None:

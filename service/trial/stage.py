@@ -38,6 +38,8 @@ class Trial:
     def __init__(self, folder: Path, leasekeep: str, minibroker: str, inventory: Inventory, timeout: int = 1,
                  by_itself: bool = False, socket: Path | None = None) -> None:
         self.folder, self.inventory, self._by_itself = folder, inventory, by_itself
+        self.spare: tuple[Entry, ...] = ()
+        """What the broker has besides, and the agent is not told of."""
         self.control = folder / "run" / "control.sock"
         self._leasekeep, self._minibroker, self._timeout = leasekeep, minibroker, timeout
         self.file = folder / "inventory.toml"
@@ -67,7 +69,7 @@ class Trial:
         """Starts the agent on the inventory; its log is added to the file."""
         if not self.file.exists():
             self.file.touch(mode=0o600)
-            self.file.write_text(inventory_text(self.inventory))
+            self.file.write_text(inventory_text(self.inventory, is_served=True))
         with open(log, "ab") as output:
             self.daemon = await asyncio.create_subprocess_exec(
                 *self._words(), str(self.file), address or str(self.socket), "--timeout", str(self._timeout),
@@ -75,11 +77,13 @@ class Trial:
 
     def _words(self) -> list[str]:
         """The agent's program and its first words; its folders are there after it."""
+        state = self.folder / "state"
         if self._by_itself:
             self.control.parent.mkdir(exist_ok=True)
-            return [self._leasekeep, "serve", "--control", str(self.control)]
-        return [str(LEASEKEEPD), "serve", "--leasekeep", self._leasekeep, "--state", str(self.folder / "state"),
-                "--runtime", str(self.control.parent)]
+            state.mkdir(mode=0o700, exist_ok=True)
+            return [self._leasekeep, "serve", "--control", str(self.control), "--state", str(state)]
+        return [str(LEASEKEEPD), "serve", "--leasekeep", self._leasekeep, "--state", str(state), "--runtime",
+                str(self.control.parent)]
 
     async def stop_daemon(self, kill: bool = False) -> int:
         """Ends the agent, as a crash would where `kill` is true; its exit."""
@@ -91,19 +95,34 @@ class Trial:
     async def look_up_all(self) -> dict[str, Heard]:
         """What the broker says of each entry, past the relay that the agent uses. A row that has ended is never
         listed again: so one that is alive now was so throughout."""
+        return await self._look_up(self.inventory)
+
+    async def _look_up(self, inventory: Inventory) -> dict[str, Heard]:
         broker = Broker(HttpTransport(Address(str(self.folder / "own.sock"))), 5.0)
-        return {entry.name: await broker.look_up(self.inventory, entry) for entry in self.inventory.entries}
+        return {entry.name: await broker.look_up(inventory, entry) for entry in inventory.entries}
 
     async def dead(self) -> list[str]:
         """The entries that the broker no longer knows."""
         return [name for name, heard in (await self.look_up_all()).items() if heard.verdict is not Verdict.GOOD]
 
+    @property
+    def rows(self) -> Inventory:
+        """What the broker has: the entries, and the spare ones, all tokens first."""
+        every = (*self.inventory.entries, *self.spare)
+        return replace(self.inventory, entries=tuple(sorted(every, key=lambda entry: entry.kind is Kind.LEASE)))
+
+    def exchange(self, entry: Entry, spare: Entry) -> None:
+        """From now on the agent is to keep the credential of the spare one in the place of the entry's own."""
+        self.inventory = self.inventory.mapped(lambda one: replace(one, credential=spare.credential) if one is entry else one)
+        self.spare = tuple(replace(one, credential=entry.credential) if one is spare else one for one in self.spare)
+
     async def rows_now(self) -> Inventory:
-        """The inventory with the ends of the broker's rows, so that a broker can be started on them again."""
-        heard = await self.look_up_all()
+        """The rows with the ends that the broker tells now, so that a broker can be started on them again."""
+        rows = self.rows
+        heard = await self._look_up(rows)
         now = int(time.time())
 
         def told(entry: Entry) -> Entry | None:
             facts = heard[entry.name].facts
             return None if facts is None else replace(entry, end=now + facts.ttl)
-        return self.inventory.mapped(told)
+        return rows.mapped(told)
