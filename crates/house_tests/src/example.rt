@@ -1,7 +1,7 @@
 //! The example of docs/watch.md, line by line.
 use crate::loops::{Step, plays};
 use crate::scenes::{Scene, bare};
-use keep_house::Form;
+use keep_log::Form;
 use std::test::Fail;
 
 /// Two turns at each moment at which something is asked: the request goes out, and its answer is there at once.

@@ -1,5 +1,6 @@
 //! Those who follow the log: what each is told, and that the requests and the log are the same whatever they do.
 use crate::loops::{Step, plays};
+use crate::readers::REQUESTS;
 use crate::scenes::client;
 use answering_tests::peers::{Part, prompt};
 use std::test::Fail;
@@ -58,10 +59,11 @@ fn one_that_does_not_read_changes_nothing(rt: HostRuntime) -> Result<(), Fail> {
     plays(&rt, &client(&MOMENTS, part), &told(""))
 }
 
-/// The log is the same where the call with this number fails, the last one of its connection.
-fn fails_at(call: u64) -> [Step; 3] {
+/// The requests and the log are the same where the call with this number fails, the last one of its connection.
+fn fails_at(call: u64) -> [Step; 4] {
     [
         Step::Turns(6),
+        Step::Asks(&REQUESTS),
         Step::Said(LINES),
         Step::Calls(call.saturating_add(1)),
     ]

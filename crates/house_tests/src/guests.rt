@@ -1,5 +1,6 @@
 //! Clients of the control socket, and onlookers: what each is sent, and that the requests are the same whatever they do.
 use crate::loops::{Step, plays};
+use crate::readers::REQUESTS;
 use crate::scenes::{Guest, Scene, bare, client};
 use answering_tests::peers::{Part, prompt};
 use std::test::Fail;
@@ -131,10 +132,11 @@ fn two_clients_that_need_are_both_told(rt: HostRuntime) -> Result<(), Fail> {
     plays(&rt, &client(&MOMENTS, prompt(NEED, ALWAYS)), &BOTH)
 }
 
-/// The lines are the same where the call with this number fails, the last one of its connection.
-fn fails_at(call: u64) -> [Step; 3] {
+/// The requests and the lines are the same where the call with this number fails, the last one of its connection.
+fn fails_at(call: u64) -> [Step; 4] {
     [
         Step::Turns(6),
+        Step::Asks(&REQUESTS),
         Step::Said(LINES),
         Step::Calls(call.saturating_add(1)),
     ]

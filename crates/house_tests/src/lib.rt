@@ -1,6 +1,7 @@
 //! Tests alone, of the neighbours of an agent that serves: its log with the example of the watch line by line, troubles that go on, and a
-//! reader that does not read or is away; clients and onlookers that ask, are slow or fail; credentials that are looked up first; ends that
-//! are kept; files of credentials that rotate; and starts that are refused.
+//! reader of which each call does not take, or fails; clients and onlookers that ask, are slow or fail; another inventory in the middle of
+//! an outage; credentials that are looked up first; ends that are kept on a disk of which each call fails; files of credentials that
+//! rotate; and starts that are refused.
 #![tactic(auto)]
 
 #[cfg(test)]
@@ -25,6 +26,8 @@ mod lookups;
 mod loops;
 #[cfg(test)]
 mod notebooks;
+#[cfg(test)]
+mod outages;
 #[cfg(test)]
 mod readers;
 #[cfg(test)]

@@ -3,25 +3,34 @@ ghost use Rattle.std.specs.Prelude.{IfOk};
 ghost use Rattle.keep_serving.specs.Held.{IsInStep};
 
 use crate::notebooks::Notebook;
-use crate::scenes::{ENDS, Scene, WEB, eight_lanes};
+use crate::scenes::{ENDS, Scene, eight_lanes};
 use answering_tests::peers::{Peer, PeerDoor, Seen, prompt};
 use keep_clock::{MemoryClock, Reading};
 use keep_disk::{DiskFault, MemoryDisk};
 use keep_house::House;
 use keep_inventory::read;
 use keep_lanes::{LaneFault, MemoryLanes};
-use keep_log::MemorySink;
+use keep_log::{LogSink, MemorySink};
 use keep_proving::Verdict;
 use keep_serving::{Happened, Neighbours, Serving};
 use std::alloc::{AllocError, Global};
 use std::process::Abort;
 use std::test::Fail;
+use watch_machine::{End, Millis, Operation, Out};
 
 /// The moment at which the loop begins.
 const START: Reading = Reading {
     wall: 1_000_000,
     elapsed: 1_000_000,
 };
+
+/// A request to the broker: of the entry with that index, and at which clock.
+#[derive(Clone, Copy, Debug, PartialEq, Eq)]
+pub(crate) struct Asked {
+    pub(crate) at: Millis,
+    pub(crate) entry: u32,
+    pub(crate) operation: Operation,
+}
 
 /// A step of a play, and what is to come of it.
 #[derive(Clone, Copy)]
@@ -44,6 +53,12 @@ pub(crate) enum Step {
     Turns(u64),
     /// One turn, in which nothing is asked of the disk with the ends, of which something was asked before.
     IdleTurn,
+    /// The requests so far, in their order.
+    Asks(&'static [Asked]),
+    /// The second at which the entry of that name is believed to end.
+    Believes(&'static [u8], u64),
+    /// The second at which it ends at the broker.
+    Ends(&'static [u8], u64),
     /// What the log's reader was given so far.
     Said(&'static str),
     /// The same, where this text stands before it.
@@ -52,6 +67,8 @@ pub(crate) enum Step {
     Waits(&'static str),
     /// How many lines were dropped.
     Dropped(u64),
+    /// How many calls the log's reader had so far.
+    Gives(u64),
     /// What the first guest was sent so far.
     WasSent(&'static str),
     /// What each of the other clients was sent so far.
@@ -74,6 +91,8 @@ struct Play<'a> {
     clock: MemoryClock,
     lanes: MemoryLanes,
     house: House<MemorySink, Peer<'a>, PeerDoor<'a>, Notebook, MemoryDisk>,
+    /// The requests so far.
+    asked: Vec<Asked>,
     seen: &'a Seen,
     others: &'a [Seen],
     /// How many of the others came.
@@ -89,7 +108,7 @@ fn play_of<'a>(
 ) -> Result<Play<'a>, Fail>
     ensures { IfOk result (λ play. IsInStep play.lanes.width play.lanes.out play.serving) }
 {
-    let inventory = read(alloc, WEB.as_bytes())?;
+    let inventory = read(alloc, scene.text.as_bytes())?;
     let count = inventory.forest().len();
     let lanes = eight_lanes(alloc, &inventory)?;
     let serving = Serving::begin(alloc, inventory, &lanes)?;
@@ -101,6 +120,7 @@ fn play_of<'a>(
         clock,
         lanes,
         house,
+        asked: Vec::new(alloc),
         seen,
         others,
         came: 0,
@@ -121,12 +141,16 @@ impl<'a> Play<'a> {
             Step::NoSocket => Ok(self.hears_no_socket()),
             Step::Unread(fault) => Ok(self.hears_unread(fault)),
             Step::Wants => Ok(self.wants()),
-            Step::Turns(count) => Ok(self.turns(count)),
-            Step::IdleTurn => Ok(self.idles()),
+            Step::Turns(count) => self.turns(count),
+            Step::IdleTurn => self.idles(),
+            Step::Asks(asked) => Ok(self.asked.as_slice() == asked),
+            Step::Believes(name, end) => Ok(self.believes(name) == End::At(end)),
+            Step::Ends(name, end) => Ok(self.lanes.table().end_of(name) == Some(end)),
             Step::Said(text) => Ok(self.said() == text.as_bytes()),
             Step::SaidAfter(before, text) => Ok(self.said_after(before, text)),
             Step::Waits(text) => Ok(self.house.desk.room().waiting() == text.as_bytes()),
             Step::Dropped(count) => Ok(self.house.desk.room().dropped() == count),
+            Step::Gives(count) => Ok(self.house.sink.tries() == count),
             Step::WasSent(text) => Ok(self.seen.was_sent(text)),
             Step::OthersWereSent(text) => Ok(self.others_were_sent(text)),
             Step::Calls(count) => Ok(self.seen.calls() == count),
@@ -224,7 +248,18 @@ impl<'a> Play<'a> {
         true
     }
 
-    fn turns(&mut self, count: u64) -> bool
+    fn turns(&mut self, count: u64) -> Result<bool, AllocError>
+        requires { IsInStep self.old.lanes.width self.old.lanes.out self.old.serving }
+        ensures { IsInStep self.new.lanes.width self.new.lanes.out self.new.serving }
+    {
+        for _ in 0..count {
+            self.turn();
+            keep_asked(&mut self.asked, self.serving.agent().watch().out())?;
+        }
+        Ok(true)
+    }
+
+    fn turn(&mut self)
         requires { IsInStep self.old.lanes.width self.old.lanes.out self.old.serving }
         ensures { IsInStep self.new.lanes.width self.new.lanes.out self.new.serving }
     {
@@ -233,17 +268,17 @@ impl<'a> Play<'a> {
             &mut self.clock,
             &mut self.lanes,
             &mut self.house,
-            count,
+            1,
         );
-        true
     }
 
-    fn idles(&mut self) -> bool
+    fn idles(&mut self) -> Result<bool, AllocError>
         requires { IsInStep self.old.lanes.width self.old.lanes.out self.old.serving }
         ensures { IsInStep self.new.lanes.width self.new.lanes.out self.new.serving }
     {
         let before = self.disk_calls();
-        self.turns(1) && before > 0 && before == self.disk_calls()
+        self.turns(1)?;
+        Ok(before > 0 && before == self.disk_calls())
     }
 
     /// How many calls the disk with the ends had.
@@ -295,6 +330,15 @@ impl<'a> Play<'a> {
             .is_some()
     }
 
+    /// When that entry is believed to end.
+    fn believes(&self, name: &[u8]) -> End {
+        let watch = self.serving.agent().watch();
+        match watch.forest().find(name) {
+            None => End::Unknown,
+            Some(entry) => watch.end_of(entry),
+        }
+    }
+
     fn is_settled(&self) -> bool {
         match &self.house.state {
             None => false,
@@ -313,6 +357,27 @@ impl<'a> Play<'a> {
         }
         Ok(None)
     }
+}
+
+/// Keeps the requests that are out and were not before. (What is out by the watch is what is out at the lanes.)
+fn keep_asked(asked: &mut Vec<Asked>, out: &[Out]) -> Result<(), AllocError> {
+    for request in out {
+        let Out {
+            since: at,
+            entry,
+            operation,
+            ..
+        } = *request;
+        let one = Asked {
+            at,
+            entry,
+            operation,
+        };
+        if !asked.contains(&one) {
+            asked.push(one)?;
+        }
+    }
+    Ok(())
 }
 
 /// Eight guests of whom nothing was seen.

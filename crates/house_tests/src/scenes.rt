@@ -8,10 +8,10 @@ use keep_answering::{Control, Onlookers};
 use keep_clock::{MemoryClock, Reading};
 use keep_disk::{Failing, MemoryDisk, Why};
 use keep_ends::EndsFile;
-use keep_house::{Desk, Form, House};
+use keep_house::{Desk, House};
 use keep_inventory::Inventory;
 use keep_lanes::MemoryLanes;
-use keep_log::{Answer, MemorySink};
+use keep_log::{Answer, Form, MemorySink};
 use keep_moment::Text;
 use keep_onlook::FileReading;
 use std::alloc::{AllocError, Global};
@@ -34,14 +34,23 @@ const READ: FileReading = FileReading {
 /// What a play of the loop begins with.
 #[derive(Clone, Copy)]
 pub(crate) struct Scene {
+    /// The inventory, which the broker knows.
+    pub(crate) text: &'static str,
     /// How the lines of the log are written.
     pub(crate) form: Form,
     /// What both clocks read one time after the other, in milliseconds.
     pub(crate) moments: &'static [u64],
-    /// What the reader of the log answers first, where it does not take all.
-    pub(crate) answer: Option<Answer>,
+    /// What the reader of the log answers once, where it does not always take all.
+    pub(crate) answer: Option<Answering>,
     pub(crate) guest: Guest,
     pub(crate) kept: Kept,
+}
+
+/// What the reader of the log answers to the call with that number, counted from 0.
+#[derive(Clone, Copy)]
+pub(crate) struct Answering {
+    pub(crate) call: u64,
+    pub(crate) answer: Answer,
 }
 
 /// Who comes to a socket.
@@ -66,6 +75,7 @@ pub(crate) enum Kept {
 /// The example with the log alone, in text, at these moments.
 pub(crate) fn bare(moments: &'static [u64]) -> Scene {
     Scene {
+        text: WEB,
         form: Form::Text,
         moments,
         answer: None,
@@ -83,11 +93,22 @@ pub(crate) fn client(moments: &'static [u64], part: Part) -> Scene {
 }
 
 impl Scene {
-    /// What its guest sends, and the number of its call that fails.
+    /// What its guest sends, and the number of the call of a neighbour that fails.
     pub(crate) fn case(&self) -> (&'static str, u64) {
         match self.guest {
-            Guest::Nobody => ("", u64::MAX),
+            Guest::Nobody => ("", self.fails()),
             Guest::Client(part) | Guest::Onlooker(part) => (part.text, part.fails),
+        }
+    }
+
+    /// The number of the call of the log's reader, or of the disk with the ends, that is not as the others.
+    fn fails(&self) -> u64 {
+        if let Some(answering) = self.answer {
+            return answering.call;
+        }
+        match self.kept {
+            Kept::Ends(Failing::Once(call) | Failing::From(call)) => call,
+            Kept::Ends(Failing::Never) | Kept::Changes(_) | Kept::Nothing => u64::MAX,
         }
     }
 
@@ -104,7 +125,7 @@ impl Scene {
             control: control(alloc, self.guest, seen)?,
             onlookers: onlookers(alloc, self.guest, seen)?,
             file: READ,
-            state: notebook(alloc, self.kept)?,
+            state: notebook(alloc, self.text, self.kept)?,
             given: None,
             awaited: None,
             next: None,
@@ -124,10 +145,13 @@ impl Scene {
     }
 }
 
-fn answers(alloc: Global, first: Option<Answer>) -> Result<Vec<Answer>, AllocError> {
+fn answers(alloc: Global, answering: Option<Answering>) -> Result<Vec<Answer>, AllocError> {
     let mut answers = Vec::new(alloc);
-    if let Some(answer) = first {
-        answers.push(answer)?;
+    if let Some(answering) = answering {
+        for _ in 0..answering.call {
+            answers.push(Answer::Takes(usize::MAX))?;
+        }
+        answers.push(answering.answer)?;
     }
     Ok(answers)
 }
@@ -154,9 +178,9 @@ fn onlookers<'a>(
     }
 }
 
-fn notebook(alloc: Global, kept: Kept) -> Result<Option<Notebook>, Fail> {
+fn notebook(alloc: Global, text: &str, kept: Kept) -> Result<Option<Notebook>, Fail> {
     match kept {
-        Kept::Changes(serves) => Ok(Some(notebook_over(alloc, WEB, serves)?)),
+        Kept::Changes(serves) => Ok(Some(notebook_over(alloc, text, serves)?)),
         Kept::Nothing | Kept::Ends(_) => Ok(None),
     }
 }

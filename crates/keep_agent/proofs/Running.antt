@@ -28,7 +28,7 @@ events_more : (turns : List Turned) (turn : Turned) → events (turns ++ turn �
 events_more [] turn = refl
 events_more (first ∷ turns) turn = ap (λ es. first.event ∷ es) (events_more turns turn)
 
-known_more : (told : ℕ → Option Told) (n : ℕ) → known_events told n ++ known_event n (told n) ≡ known_events told (suc n)
+pub known_more : (told : ℕ → Option Told) (n : ℕ) → known_events told n ++ known_event n (told n) ≡ known_events told (suc n)
 known_more told n =
     let f : ℕ → List Event = λ j. known_event j (told j) in
     let one : n + 1 ≡ suc n = omega arith in

@@ -10,7 +10,7 @@ use Rattle.keep_clients.specs.declared.talk.Call.{Call}
 use Rattle.keep_clock.specs.declared.reading.Reading.{Reading}
 use Rattle.keep_log.specs.declared.writing.TheConstants.{MOST_TRIES}
 use Rattle.keep_onlook.specs.declared.board.Surroundings.{Surroundings}
-use Rattle.keep_house.specs.Desks.{Desk, HearsWant, ReaderIsGiven}
+use Rattle.keep_house.specs.LogDesk.{Desk, HearsWant, ReaderIsGiven}
 use Rattle.keep_house.specs.Feeding.{FollowersGoOn}
 use Rattle.keep_house.specs.Houses.{Attends, ClientsGoOn, OnlookersGoOn, around_of}
 use Rattle.keep_house.specs.Lines.{second_of}

@@ -3,10 +3,10 @@ use Rattle.std.proofs.Common.{◌≡◌, ℕ, Bool, Option, subst}
 use Rattle.keep_agent.specs.Agent.{Agent}
 use Rattle.keep_answering.specs.declared.control.Control.{Control}
 use Rattle.keep_log.specs.Waiting.{Waiting}
-use Rattle.keep_house.specs.Desks.{Desk, HearsWant, TellsIf}
+use Rattle.keep_house.specs.LogDesk.{Desk, HearsWant, TellsIf}
 use Rattle.keep_house.specs.Feeding.{FollowersGoOn}
 use Rattle.keep_house.specs.Rooms.{Rooms}
-use Rattle.keep_house.specs.declared.form.Form.{Form}
+use Rattle.keep_log.specs.declared.form.Form.{Form}
 
 pub tells_by : (a b : Bool) (form : Form) (moment : ℕ) (old new : Waiting) → a ≡ b → TellsIf a form moment old new → TellsIf b form moment old new
 tells_by a b form moment old new same told = subst (λ c. TellsIf c form moment old new) same told

@@ -10,7 +10,7 @@ use Rattle.keep_log.specs.declared.level.Level.{Level}
 use Rattle.keep_house.specs.Feeding.{EachIsFed, FollowerIsFed}
 use Rattle.keep_house.specs.Lines.{EachIsTold, FollowerIsTold}
 use Rattle.keep_house.specs.Rooms.{misses}
-use Rattle.keep_house.specs.declared.form.Form.{Form}
+use Rattle.keep_log.specs.declared.form.Form.{Form}
 
 pub rest_next : (old out : List Follower) (i : ℕ) (n : Follower) → drop i out ≡ drop i old → drop (i + 1) (set out i n) ≡ drop (i + 1) old
 rest_next old out i n rest = drop-set-lt (i + 1) out i n (omega arith) ∙ drop_more_same out old i rest

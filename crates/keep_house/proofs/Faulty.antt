@@ -16,7 +16,7 @@ use Rattle.keep_inventory.specs.declared.fault.InvFault.{InvFault}
 use Rattle.keep_inventory.specs.declared.fault.InvFault.TheVariants as inventories
 use Rattle.keep_house.specs.Filling.{AreUnfilled}
 use Rattle.keep_house.specs.Reading.{AreAllOr, AreFaults, AreFaultsOf, AreLast, FirstIsWhy, IsStartFaultOf}
-use Rattle.keep_house.specs.Starts.{first_of, first_start_fault, written_faults}
+use Rattle.keep_house.specs.Starts.{first_listed_fault, first_start_fault, written_faults}
 use Rattle.keep_house.specs.declared.demands.Demands.{Demands}
 use Rattle.keep_house.specs.declared.fault.StartFault.{StartFault}
 use Rattle.keep_house.specs.declared.fault.StartFault.TheVariants as faults
@@ -74,8 +74,8 @@ module _ (d : Demands) (known : Files) (folder named bytes : List ℕ) (v : Serv
 first_written : (d : Demands) (known : Files) (folder bytes : List ℕ) (v : Served) (w unfilled : List StartFault) (fault : StartFault) (more : List StartFault) → read_served bytes ≡ Ok v → written_faults d v ≡ w →
     AreUnfilled known folder 0 (rows_of_served v) unfilled → w ++ unfilled ≡ fault ∷ more → IsStartFaultOf d known folder v fault
 unfolding first_start_fault
-first_written d known folder bytes v [] unfilled fault more reads is are e = inr (ap first_of is, inl (first_unfilled known folder 0 (rows_of_served v) fault more unfilled e are))
-first_written d known folder bytes v (other ∷ others) unfilled fault more reads is are e = inl (ap first_of is ∙ ap first_of e)
+first_written d known folder bytes v [] unfilled fault more reads is are e = inr (ap first_listed_fault is, inl (first_unfilled known folder 0 (rows_of_served v) fault more unfilled e are))
+first_written d known folder bytes v (other ∷ others) unfilled fault more reads is are e = inl (ap first_listed_fault is ∙ ap first_listed_fault e)
 
 first_of_all : (d : Demands) (known : Files) (folder bytes : List ℕ) (v : Served) (every unfilled fs : List StartFault) → read_served bytes ≡ Ok v → AreUnfilled known folder 0 (rows_of_served v) unfilled → written_faults d v ++ unfilled ≡ every →
     AreAllOr (AreLast d known folder bytes) every fs → FirstIsWhy d known folder bytes fs

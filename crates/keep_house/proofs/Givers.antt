@@ -22,16 +22,16 @@ use Rattle.keep_secrets.specs.declared.news.Looked.{Looked}
 use Rattle.keep_serving.specs.Changes.{AllGiven}
 use Rattle.keep_serving.specs.declared.change.Change.{Change}
 use Rattle.keep_house.specs.Admitting.{AdmitsIf, AnswerBeginsWith, FollowsLog, asking_in}
-use Rattle.keep_house.specs.Awaiting.{AddsRow, HearsFor, HearsOf, HearsVerdict, IsRefusedFor, Judges, LooksUpBy, LooksUpFirst, LooksUpIf, Makes, ProvesBy, Replaces, SetsAside, VerdictIs, addressed}
+use Rattle.keep_house.specs.Awaiting.{AddsRow, HearsFor, HearsOfAwaited, HearsVerdict, IsRefusedFor, Judges, LooksUpBy, LooksUpFirst, LooksUpIf, Makes, ProvesBy, Replaces, SetsAside, VerdictIs, addressed}
 use Rattle.keep_house.specs.Commands.{AddsEntry, AddsIf, AsksFor, AsksIf, CarriesIf, CarriesOut, ClosesClient, DropsEntry, GivesNeed, RebuildingIsDue, NeedIsKept, StateIsRebuilt, GoesOnIf, GoesOnWithClients, LacksMemory, Needs, NeedsIf, Reloads, RereadBy, ServesClients, SettlesFile, SettlesAnswer, SettlesAside, SettlesBy, SettlesGiven, SettlesNeed, SettlesServed, TellsNeed, TellsReload, end_named}
 use Rattle.keep_house.specs.Feeding.{FollowersGoOn}
 use Rattle.keep_house.specs.Houses.{Attends, ClientIsAnswered, ClientIsAside, ClientIsSent, ClientsAsk, ClientsGoOn, Concludes, IsAnsweredAs, IsAnsweredAside, SendsAside, WillRefuse, WillTell, bytes_sent, changes_given, given_where}
 use Rattle.keep_house.specs.Keeping.{KeepCall, KeeperIsAsked, Outcome, Settle, Take, Why, Whys}
-use Rattle.keep_house.specs.Telling.{IsDropLine, replaced_text, settle_line, until_of}
-use Rattle.keep_house.specs.VerdictWords.{IsAddedLine, noted}
+use Rattle.keep_house.specs.Telling.{IsDropLine, replaced_text, settle_line, until_of_need}
+use Rattle.keep_house.specs.VerdictWords.{IsAddedLine, line_with_loss}
 use Rattle.keep_house.specs.Lines.{Line}
 use Rattle.keep_house.specs.Rooms.{Rooms}
-use Rattle.keep_house.specs.declared.form.Form.{Form}
+use Rattle.keep_log.specs.declared.form.Form.{Form}
 use Rattle.keep_house.specs.SecretLines.{AsksToLook, LooksAround}
 use Rattle.keep_change.specs.declared.change.What.{What}
 use Rattle.keep_lanes.specs.declared.loss.Loss.{Loss}
@@ -165,9 +165,9 @@ module _ {S T D K E : Type 0} where
     made : (name : List ℕ) (w : What) (why : Option Loss) (old new : House S T D K E) → Makes does rows agent now name w why old new → AreSame old new
     made name (what.Need need) why old new h = will_tell (Err None) now.elapsed old new h
     made name (what.Replace credential) why old new h =
-        after_state h.state old new (comes does (λ done. Take now.elapsed name (what.Replace credential) done) (λ k line. line ≡ noted why (replaced_text name (named (rows k) name))) h.outcome old.state h.state h.comes) (concluded agent _ h.outcome now.elapsed (record old { state = h.state }) new h.concludes)
+        after_state h.state old new (comes does (λ done. Take now.elapsed name (what.Replace credential) done) (λ k line. line ≡ line_with_loss why (replaced_text name (named (rows k) name))) h.outcome old.state h.state h.comes) (concluded agent _ h.outcome now.elapsed (record old { state = h.state }) new h.concludes)
     made name (what.Add row) why old new h =
-        after_state h.state old new (comes does (λ done. Take now.elapsed name (what.Add row) done) (λ k line. IsAddedLine name (until_of row.need) why line) h.outcome old.state h.state h.comes) (concluded agent _ h.outcome now.elapsed (record old { state = h.state }) new h.concludes)
+        after_state h.state old new (comes does (λ done. Take now.elapsed name (what.Add row) done) (λ k line. IsAddedLine name (until_of_need row.need) why line) h.outcome old.state h.state h.comes) (concluded agent _ h.outcome now.elapsed (record old { state = h.state }) new h.concludes)
     made name what.Drop why old new h = will_tell (Err None) now.elapsed old new h
 
     judged : (name : List ℕ) (w : What) (verdict : Verdict) (old new : House S T D K E) → Judges does rows agent now name w verdict old new → AreSame old new

@@ -1,3 +1,4 @@
+pub mod Weighed
 pub mod Tries
 pub mod Behind
 pub mod Said
@@ -11,6 +12,10 @@ pub mod Compacting
 pub mod Read
 pub mod Givers
 pub mod Reached
+pub mod Called
+pub mod Asks
+pub mod Spared
+pub mod Stamped
 pub mod Deciding
 pub mod EachOne
 pub mod Within
@@ -20,3 +25,4 @@ pub mod WhyUnserved
 pub mod Waits
 pub mod Unfilled
 pub mod Faulty
+pub mod Alike

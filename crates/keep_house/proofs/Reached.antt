@@ -8,7 +8,7 @@ use Rattle.keep_clients.specs.declared.talk.Call.{Call}
 use Rattle.keep_disk.specs.State.{DiskState}
 use Rattle.keep_inventory.specs.Inventories.{Inventory}
 use Rattle.keep_log.specs.declared.writing.TheConstants.{MOST_TRIES}
-use Rattle.keep_serving.specs.Days.{PassesOn, SettlesOn}
+use Rattle.keep_serving.specs.Days.{PassesToOthers, SettlesOthers}
 use Rattle.keep_serving.specs.Neighbours.{Give, GoOn, Hear, NeighbourCall, Settle}
 use Rattle.keep_serving.specs.declared.day.EarlyDay.{EarlyDay}
 use Rattle.keep_serving.specs.declared.neighbours.Happened.{Happened}
@@ -59,11 +59,11 @@ module _ {S T D K E : Type 0} (given : S → Option (List ℕ)) (failures tries 
 
   -- ---- the same behind one more neighbour, that asks for a beginning
 
-  settled_on : (is_own is_made : Bool) (old new : House S T D K E) → SettlesOn Does is_own is_made old new → new.sink ≡ old.sink
+  settled_on : (is_own is_made : Bool) (old new : House S T D K E) → SettlesOthers Does is_own is_made old new → new.sink ≡ old.sink
   settled_on true is_made old new h = ap (λ x. x.sink) h
   settled_on false is_made old new h = reader_of (Settle is_made) old new h
 
-  pub reader_of_day : (call : NeighbourCall) (old new : EarlyDay (House S T D K E)) → PassesOn Does call old new → DoesToReader tries call old.others.sink new.others.sink
+  pub reader_of_day : (call : NeighbourCall) (old new : EarlyDay (House S T D K E)) → PassesToOthers Does call old new → DoesToReader tries call old.others.sink new.others.sink
   reader_of_day (Hear thing) old new h = reader_of (Hear thing) old.others new.others h
   reader_of_day (GoOn is_busy) old new h = reader_of (GoOn is_busy) old.others new.others h
   reader_of_day (Give None) old new h = reader_of (Give None) old.others new.others h

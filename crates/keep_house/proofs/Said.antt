@@ -2,7 +2,7 @@
 use Rattle.std.proofs.Common.{◌≡◌, List, [], ◌∷◌, ◌++◌, ℕ, inl, inr, refl, subst, sym}
 use Rattle.keep_house.specs.Lines.{ArePut, AreSaid, Line, LineIsSaid, LineIsWritten}
 use Rattle.keep_house.specs.Rooms.{Rooms, missing_in}
-use Rattle.keep_house.specs.declared.form.Form.{Form}
+use Rattle.keep_log.specs.declared.form.Form.{Form}
 
 -- a line whose text is put
 pub put_said : (form : Form) (moment : ℕ) (l : Line) (text : List ℕ) (old new : Rooms) → LineIsWritten form moment l text → ArePut form moment l.level text old new → LineIsSaid form moment l old new

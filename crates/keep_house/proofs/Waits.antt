@@ -11,7 +11,7 @@ use Rattle.keep_secrets.specs.Stamps.{FileCall}
 use Rattle.keep_secrets.specs.declared.looking.DueFile.{DueFile}
 use Rattle.keep_secrets.specs.declared.news.Looked.{Looked}
 use Rattle.keep_house.specs.Candidates.{IsFileCandidate}
-use Rattle.keep_house.specs.Inquiries.{GoesOutIf, LooksUp, ProvesOn, asked_in}
+use Rattle.keep_house.specs.Inquiries.{AsksAbout, GoesOutIf, ProvesOn, asked_in}
 use Rattle.keep_house.specs.Takings.{FileIsAsked, HearsFile, IsEarly, IsPass, JudgesFile, LooksIf, LooksOrHears, LooksUpNew, quiet}
 use Rattle.keep_house.specs.declared.asked_file.AskedFile.{AskedFile}
 use Rattle.keep_house.specs.declared.keeping.LookedUp.{LookedUp}
@@ -24,7 +24,7 @@ out_by : {L : Type 0} → (lanes_seen : L → Lanes) (port : L → ℕ) (now : R
 out_by lanes_seen port now c e old new (Some other) is h = ap (λ (i : Inquiry _). i.asked) h.1
 out_by lanes_seen port now c e old new None is h = h ∙ is
 
-none_out : {L : Type 0} → (lanes_seen : L → Lanes) (port : L → ℕ) (now : Reading) (c : Option Candidate) (e : AllocError) (old new : Option (Inquiry L)) → LooksUp lanes_seen port now c (Err e) old new → asked_in new ≡ asked_in old
+none_out : {L : Type 0} → (lanes_seen : L → Lanes) (port : L → ℕ) (now : Reading) (c : Option Candidate) (e : AllocError) (old new : Option (Inquiry L)) → AsksAbout lanes_seen port now c (Err e) old new → asked_in new ≡ asked_in old
 none_out lanes_seen port now None e old new h = ap asked_in h.1
 none_out lanes_seen port now (Some c) e None new h = ap asked_in h.1
 none_out lanes_seen port now (Some c) e (Some old) None h = absurd h
@@ -33,7 +33,7 @@ none_out lanes_seen port now (Some c) e (Some old) (Some new) h = out_by lanes_s
 -- what a file holds is looked up
 pub file_asked :
     {D L : Type 0} → (lanes_seen : L → Lanes) (port : L → ℕ) (now : Reading) (due : DueFile) (credential : List ℕ) (kept : Kept D) (c : Option Candidate) (result : Result LookedUp AllocError) (old new : Option (Inquiry L)) →
-    IsFileCandidate (book_in kept).file.margin (book_in kept).rows (book_in kept).text due.name credential c → LooksUp lanes_seen port now c result old new → FileIsAsked lanes_seen port now due credential result kept old new
+    IsFileCandidate (book_in kept).file.margin (book_in kept).rows (book_in kept).text due.name credential c → AsksAbout lanes_seen port now c result old new → FileIsAsked lanes_seen port now due credential result kept old new
 file_asked lanes_seen port now due credential kept c (Ok result) old new is looks = (c, (is, looks))
 file_asked lanes_seen port now due credential kept c (Err e) old new is looks = none_out lanes_seen port now c e old new looks
 

@@ -16,14 +16,14 @@ use Rattle.keep_waiting.specs.Keepers.{store_of, waiting_in}
 use Rattle.keep_house.specs.Keeping.{Whys}
 use Rattle.keep_house.specs.Ledgers.{ReloadsOn}
 use Rattle.keep_house.specs.Reading.{IsToServe}
-use Rattle.keep_house.specs.Rereading.{AreBytesOf, IsAtMost, IsOneWhy, IsWhyNotReread, SaysCopy, SaysFaults, SaysNoBook, SaysNotes, SaysUnread}
+use Rattle.keep_house.specs.Rereading.{AreAtMost, AreBytesOf, IsOneWhy, IsWhyNotReread, SaysCopy, SaysFaults, SaysNoBook, SaysNotes, SaysUnread}
 use Rattle.keep_house.specs.declared.demands.Demands.{Demands}
 use Rattle.keep_house.specs.Untouched.{IsAsItWas}
 use Rattle.keep_house.specs.declared.keeping.Reread.{Reread}
 use Rattle.keep_house.specs.declared.ledger.Ledger.{Ledger}
 
 -- the one reason says so
-one_says : (P : List ℕ → Type 0) (why : Option (List ℕ)) (whys : List (List ℕ)) → IfSome why P → IsAtMost why whys → IsOneWhy P whys
+one_says : (P : List ℕ → Type 0) (why : Option (List ℕ)) (whys : List (List ℕ)) → IfSome why P → AreAtMost why whys → IsOneWhy P whys
 one_says P None whys h none = subst (IsOneWhy P) (sym none) tt
 one_says P (Some why) whys h (inl none) = subst (IsOneWhy P) (sym none) tt
 one_says P (Some why) whys h (inr one) = subst (IsOneWhy P) (sym one) h
@@ -33,7 +33,7 @@ pub says_as : (k other : Files) (demands : Demands) (folder bytes : List ℕ) (w
 says_as k other demands folder bytes whys same says = subst (λ (f : Files). SaysFaults f demands folder bytes whys) (fun_ext same) says
 
 pub unread_why : {D : Type 0} (known : Bool) (seen : D → DiskState) (files : Files) (demands : Demands) (folder : List ℕ) (kept : Kept D) (why : Option (List ℕ)) (whys : List (List ℕ)) → IfSome why (SaysUnread known seen kept)
-    → IsAtMost why whys → IsWhyNotReread known seen files demands folder kept whys
+    → AreAtMost why whys → IsWhyNotReread known seen files demands folder kept whys
 unread_why known seen files demands folder kept why whys says most = inl (one_says (SaysUnread known seen kept) why whys says most)
 
 pub unserved_why : {D : Type 0} (known : Bool) (seen : D → DiskState) (files : Files) (demands : Demands) (folder : List ℕ) (kept : Kept D) (bytes : List ℕ) (whys : List (List ℕ))
@@ -65,7 +65,7 @@ reread_as known seen files demands folder now bytes inventory r old mid new stan
 -- or is none with them, and all is as it was
 pub none_as :
     {D : Type 0} → (known : Bool) (seen : D → DiskState) (files : Files) (demands : Demands) (folder : List ℕ) (now : ℕ) (bytes : List ℕ) (why : Option (List ℕ)) (whys : Whys) (old mid new : Kept D) →
-    AreBytesOf known seen old bytes → mid.keeper ≡ old.keeper → IfSome why (SaysNoBook bytes) → IsAtMost why whys.items → IsAsItWas mid new → ReloadsOn known seen files demands folder now (Err whys) old new
+    AreBytesOf known seen old bytes → mid.keeper ≡ old.keeper → IfSome why (SaysNoBook bytes) → AreAtMost why whys.items → IsAsItWas mid new → ReloadsOn known seen files demands folder now (Err whys) old new
 none_as known seen files demands folder now bytes why whys old mid new stand keeper says most same = (
   record {
     book = same.book ∙ ap (λ k. book_of (store_of k)) keeper;

@@ -15,8 +15,8 @@ use Rattle.keep_proving.specs.declared.verdict.Verdict.TheVariants as verdicts
 use Rattle.keep_house.specs.Changed.{entry_log_line}
 use Rattle.keep_house.specs.Houses.{ClientIsAside, Concludes, WillTell}
 use Rattle.keep_house.specs.Keeping.{KeepCall, KeeperIsAsked, LookUp, Outcome, Prove, Take, Why}
-use Rattle.keep_house.specs.Telling.{replaced_text, until_of}
-use Rattle.keep_house.specs.VerdictWords.{IsAddedLine, endless_words, kept_words, later_words, noted, status_words}
+use Rattle.keep_house.specs.Telling.{replaced_text, until_of_need}
+use Rattle.keep_house.specs.VerdictWords.{IsAddedLine, endless_words, kept_words, later_words, line_with_loss, status_words}
 use Rattle.keep_house.specs.declared.given.Awaited.{Awaited}
 use Rattle.keep_house.specs.declared.given.Given.{Given}
 use Rattle.keep_house.specs.declared.given.Given.TheVariants as givens
@@ -29,13 +29,13 @@ use Rattle.keep_house.specs.declared.keeping.LookedUp.TheVariants as looked
 pub record Replaces {S T D K E : Type 0} (does : KeepCall → K → K → Type 0) (rows : K → List Row) (agent : Agent) (now : Reading) (name credential : List ℕ) (why : Option Loss) (old new : House S T D K E) : Type 0 where
   pub outcome : Outcome
   pub state : Option K
-  pub comes : KeeperIsAsked does (λ done. Take now.elapsed name (what.Replace credential) done) (λ k line. line ≡ noted why (replaced_text name (named (rows k) name))) outcome old.state state
+  pub comes : KeeperIsAsked does (λ done. Take now.elapsed name (what.Replace credential) done) (λ k line. line ≡ line_with_loss why (replaced_text name (named (rows k) name))) outcome old.state state
   pub concludes : Concludes agent (entry_log_line (codes "replace") name) outcome now.elapsed (record old { state = state }) new
 
 pub record AddsRow {S T D K E : Type 0} (does : KeepCall → K → K → Type 0) (agent : Agent) (now : Reading) (name : List ℕ) (row : Row) (why : Option Loss) (old new : House S T D K E) : Type 0 where
   pub outcome : Outcome
   pub state : Option K
-  pub comes : KeeperIsAsked does (λ done. Take now.elapsed name (what.Add row) done) (λ k line. IsAddedLine name (until_of row.need) why line) outcome old.state state
+  pub comes : KeeperIsAsked does (λ done. Take now.elapsed name (what.Add row) done) (λ k line. IsAddedLine name (until_of_need row.need) why line) outcome old.state state
   pub concludes : Concludes agent (entry_log_line (codes "add") name) outcome now.elapsed (record old { state = state }) new
 
 -- whoever keeps changes is asked to look it up, and for the broker's word
@@ -111,7 +111,7 @@ module _ {S T D K E : Type 0} (does : KeepCall → K → K → Type 0) (rows : K
   VerdictIs a (Ok (Some verdict)) heard old new = (heard ≡ true) × JudgesAside a verdict old new
   VerdictIs a (Err e) heard old new = (heard ≡ true) × TellsNothingAside now a old new
 
-  pub record HearsOf (a : Awaited) (heard : Bool) (old new : House S T D K E) : Type 0 where
+  pub record HearsOfAwaited (a : Awaited) (heard : Bool) (old new : House S T D K E) : Type 0 where
     pub verdict : Result (Option Verdict) AllocError
     pub state : Option K
     pub proves : ProvesBy does now.elapsed verdict old.state state
@@ -119,7 +119,7 @@ module _ {S T D K E : Type 0} (does : KeepCall → K → K → Type 0) (rows : K
 
   abbrev pub HearsFor : Option Awaited → Bool → House S T D K E → House S T D K E → Type 0
   HearsFor None heard old new = (heard ≡ false) × (new ≡ old)
-  HearsFor (Some a) heard old new = HearsOf a heard (record old { awaited = None }) new
+  HearsFor (Some a) heard old new = HearsOfAwaited a heard (record old { awaited = None }) new
 
   abbrev pub HearsVerdict : Bool → House S T D K E → House S T D K E → Type 0
   HearsVerdict heard old new = HearsFor old.awaited heard old new

@@ -20,13 +20,13 @@ use Rattle.keep_tree.specs.declared.entry.Kind.TheVariants.{Token, Lease}
 abbrev pub with_credential : List ℕ → Row → Row
 with_credential credential row = record row { credential = credential; file = None }
 
-abbrev pub row_with : List Row → List ℕ → List ℕ → Option Row
-row_with rows name credential = option_map (with_credential credential) (named rows name)
+abbrev pub row_with_credential : List Row → List ℕ → List ℕ → Option Row
+row_with_credential rows name credential = option_map (with_credential credential) (named rows name)
 
 -- the row that a change brings with its credential, where it brings one
 abbrev pub brought : List Row → List ℕ → What → Option Row
 brought rows name (what.Need need) = None
-brought rows name (what.Replace credential) = row_with rows name credential
+brought rows name (what.Replace credential) = row_with_credential rows name credential
 brought rows name (what.Add row) = if is_none row.file then Some row else None
 brought rows name what.Drop = None
 
@@ -51,13 +51,13 @@ IsAlone margin rows name c =
     (text : List ℕ) × ((v : Served) × (TextIsSettled (Some margin) None rows text v × ((inventory_for_good text ≡ Ok c.inventory) × (index_named c.inventory.forest.entries name ≡ Some c.entry))))
 
 -- what is looked up of a row that has its credential: it by itself, unless there is no row, or its token is not served
-abbrev pub alone_if : List Row → Option Row → Option (List Row)
-alone_if rows None = None
-alone_if rows (Some row) = alone_of rows row
+abbrev pub candidate_rows : List Row → Option Row → Option (List Row)
+candidate_rows rows None = None
+candidate_rows rows (Some row) = alone_of rows row
 
 abbrev pub IsCandidateOf : ℕ → List Row → Option Row → List ℕ → Option Candidate → Type 0
-IsCandidateOf margin served row name None = alone_if served row ≡ None
-IsCandidateOf margin served row name (Some c) = (alone : List Row) × ((alone_if served row ≡ Some alone) × IsAlone margin alone name c)
+IsCandidateOf margin served row name None = candidate_rows served row ≡ None
+IsCandidateOf margin served row name (Some c) = (alone : List Row) × ((candidate_rows served row ≡ Some alone) × IsAlone margin alone name c)
 
 abbrev pub AreRowsOf : List ℕ → List Row → Type 0
 AreRowsOf text rows = (v : Served) × ((read_served text ≡ Ok v) × (rows ≡ rows_of_served v))
@@ -71,4 +71,4 @@ IsCandidateFor margin rows text name w c =
 
 -- and what, before what a file holds is taken as the credential of the entry of that name
 abbrev pub IsFileCandidate : ℕ → List Row → List ℕ → List ℕ → List ℕ → Option Candidate → Type 0
-IsFileCandidate margin rows text name credential c = (served : List Row) × (AreRowsOf text served × IsCandidateOf margin served (row_with rows name credential) name c)
+IsFileCandidate margin rows text name credential c = (served : List Row) × (AreRowsOf text served × IsCandidateOf margin served (row_with_credential rows name credential) name c)

@@ -24,13 +24,13 @@ use Rattle.keep_tree.specs.Forest.{index_named}
 use Rattle.keep_house.specs.Admitting.{FollowsLog}
 use Rattle.keep_house.specs.Awaiting.{HearsVerdict, LooksUpFirst}
 use Rattle.keep_house.specs.Changed.{entry_log_line, fault_lines, reread_lines, settled_line}
-use Rattle.keep_house.specs.Clocked.{marks_anew}
-use Rattle.keep_house.specs.Desks.{Desk, HearsRefusal, SaysLine, SaysLines}
+use Rattle.keep_house.specs.LinesOfClocks.{marks_anew}
+use Rattle.keep_house.specs.LogDesk.{Desk, HearsRefusal, SaysLine, SaysLines}
 use Rattle.keep_house.specs.Houses.{ClientIsAnswered, ClientIsSent, ClientsAsk, Concludes, IsAnsweredAside, SendsAside, WillRefuse, WillTell}
 use Rattle.keep_house.specs.Keeping.{IsNotKept, KeepCall, KeeperIsAsked, Outcome, Rebuilt, Reload, Settle, Take, Why, Whys}
 use Rattle.keep_house.specs.Marks.{fresh_mark}
 use Rattle.keep_house.specs.Sockets.{need_log_line}
-use Rattle.keep_house.specs.Telling.{IsDoneReply, IsDropLine, IsNeedLine, reload_line, settle_line, until_of}
+use Rattle.keep_house.specs.Telling.{IsDoneReply, IsDropLine, IsNeedLine, reload_line, settle_line, until_of_need}
 use Rattle.keep_house.specs.declared.given.Given.{Given}
 use Rattle.keep_house.specs.declared.given.Given.TheVariants as givens
 use Rattle.keep_house.specs.declared.given.GivenNeed.{GivenNeed}
@@ -86,7 +86,7 @@ pub record Needs {S T D K E : Type 0} (does : KeepCall → K → K → Type 0) (
   pub result : Result (Unit {0}) Why
   pub state : Option K
   pub kept : NeedIsKept does agent now name need result old.state state
-  pub then : NeedsIf agent now name (until_of need) result change (record old { state = state }) new
+  pub then : NeedsIf agent now name (until_of_need need) result change (record old { state = state }) new
 
 -- ---- drop, settle
 

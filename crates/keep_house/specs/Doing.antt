@@ -16,7 +16,7 @@ use Rattle.watch_machine.specs.declared.command.Request.{Request}
 use Rattle.watch_machine.specs.declared.notes.Notes.{Notes}
 use Rattle.watch_machine.specs.declared.outlook.Next.{Next}
 use Rattle.keep_house.specs.Commands.{AsksFor, SettlesGiven, is_served}
-use Rattle.keep_house.specs.Desks.{Desk, HearsAnswer, HearsClock, HearsShorts}
+use Rattle.keep_house.specs.LogDesk.{Desk, HearsAnswer, HearsClock, HearsShorts}
 use Rattle.keep_house.specs.Ends.{HearsServed, KeepsEnds, after_answer}
 use Rattle.keep_house.specs.Houses.{Attends}
 use Rattle.keep_house.specs.Keeping.{KeepCall, Why}
@@ -66,7 +66,7 @@ module _ {S T D K E : Type 0} (given : S → Option (List ℕ)) (failures tries 
     (does : KeepCall → K → K → Type 0) (rows : K → List Row) (path : K → List ℕ) (reads : List ℕ → Result Row Why → Type 0) (gives : ℕ → Result (Option Inventory) AllocError → K → Type 0)
     (known : Bool) (state : E → DiskState) where
   -- the ends are kept, then files of credentials are looked at, and then the log's reader, the onlookers and the clients are attended to
-  pub record GoesOn (agent : Agent) (now : Reading) (is_busy : Bool) (old new : House S T D K E) : Type 0 where
+  pub record HouseGoesOn (agent : Agent) (now : Reading) (is_busy : Bool) (old new : House S T D K E) : Type 0 where
     pub kept : House S T D K E
     pub looked : House S T D K E
     pub goes_on : Bool
@@ -79,6 +79,6 @@ module _ {S T D K E : Type 0} (given : S → Option (List ℕ)) (failures tries 
   -- for some agent, at some reading; what is heard of is such a thing
   abbrev pub DoesToHouse : NeighbourCall → House S T D K E → House S T D K E → Type 0
   DoesToHouse (Hear thing) old new = (agent : Agent) × ((h : Happened) × ((thing ≡ thing_of h) × HearsOf agent h old new))
-  DoesToHouse (GoOn is_busy) old new = (agent : Agent) × ((now : Reading) × GoesOn agent now is_busy old new)
+  DoesToHouse (GoOn is_busy) old new = (agent : Agent) × ((now : Reading) × HouseGoesOn agent now is_busy old new)
   DoesToHouse (Give change) old new = (agent : Agent) × ((now : Reading) × AsksFor does rows path reads gives agent now change old new)
   DoesToHouse (Settle is_made) old new = (agent : Agent) × SettlesChange does agent is_made old new

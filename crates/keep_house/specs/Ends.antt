@@ -11,7 +11,7 @@ use Rattle.keep_log.specs.declared.level.Level.{Level}
 use Rattle.keep_log.specs.declared.level.Level.TheVariants.{Alert, Note}
 use Rattle.keep_log.specs.declared.line.Word.TheVariants as words
 use Rattle.watch_machine.specs.declared.event.Reply.{Reply}
-use Rattle.keep_house.specs.Desks.{Desk, SaysLines}
+use Rattle.keep_house.specs.LogDesk.{Desk, SaysLines}
 use Rattle.keep_house.specs.Lines.{Line, LineIsSaid, said_line, second_of}
 use Rattle.keep_house.specs.Reasons.{disk_words}
 use Rattle.keep_house.specs.declared.house.House.{House}

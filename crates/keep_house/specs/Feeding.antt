@@ -9,9 +9,9 @@ use Rattle.keep_clients.specs.declared.fed.Fed.{Fed}
 use Rattle.keep_clients.specs.declared.fed.Fed.TheVariants.{Gone, Full, Taken}
 use Rattle.keep_log.specs.Waiting.{giving}
 use Rattle.keep_log.specs.declared.follower.Follower.{Follower}
-use Rattle.keep_house.specs.Desks.{TellsIf}
+use Rattle.keep_house.specs.LogDesk.{TellsIf}
 use Rattle.keep_house.specs.Rooms.{Rooms}
-use Rattle.keep_house.specs.declared.form.Form.{Form}
+use Rattle.keep_log.specs.declared.form.Form.{Form}
 
 -- what its connection took waits no more, and then lines that were dropped may be told of
 pub record IsGivenOf (form : Form) (moment taken : ℕ) (old new : Follower) : Type 0 where

@@ -18,7 +18,7 @@ use Rattle.keep_onlook.specs.declared.board.FileReading.{FileReading}
 use Rattle.keep_onlook.specs.declared.board.Surroundings.{Surroundings}
 use Rattle.keep_serving.specs.declared.change.Change.{Change}
 use Rattle.watch_machine.specs.declared.outlook.Next.{Next}
-use Rattle.keep_house.specs.Desks.{Desk, HearsIf, HearsWant, ReaderIsGiven}
+use Rattle.keep_house.specs.LogDesk.{Desk, HearsIf, HearsWant, ReaderIsGiven}
 use Rattle.keep_house.specs.Feeding.{FollowersGoOn}
 use Rattle.keep_house.specs.Keeping.{Outcome}
 use Rattle.keep_house.specs.Lines.{Line, second_of}

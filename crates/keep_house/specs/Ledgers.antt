@@ -26,14 +26,12 @@ use Rattle.keep_store.specs.Compacted.{compacted_lines, is_worth}
 use Rattle.keep_store.specs.Entering.{IsWhyNot}
 use Rattle.keep_store.specs.Records.{records_in}
 use Rattle.keep_store.specs.Stores.{ChangeIsTaken, journal_of, lines_in}
-use Rattle.keep_store.specs.declared.fault.TakeFault.{TakeFault}
 use Rattle.keep_store.specs.declared.secret.Secret.{Secret}
 use Rattle.keep_waiting.specs.Keepers.{InventoryIsGiven, waiting_in}
 use Rattle.keep_secrets.specs.Stamps.{FileCall}
-use Rattle.keep_secrets.specs.declared.news.Looked.{Looked}
 use Rattle.keep_house.specs.Candidates.{IsCandidateFor}
 use Rattle.keep_house.specs.Gathering.{IsHeldBy}
-use Rattle.keep_house.specs.Inquiries.{LooksUp, ProvesOn, asked_in}
+use Rattle.keep_house.specs.Inquiries.{AsksAbout, ProvesOn, asked_in}
 use Rattle.keep_house.specs.Keeping.{KeepCall, Look, LookUp, Prove, Rebuilt, Reload, Settle, Take, Why, Whys}
 use Rattle.keep_house.specs.Reading.{IsToServe, IsWide}
 use Rattle.keep_house.specs.Reasons.{bare_words, settle_words, table_words, take_words}
@@ -115,7 +113,7 @@ module _ {D I L : Type 0} (known : Bool) (seen : D → DiskState) (files : I →
   -- what a change brings is looked up, and nothing else changes
   abbrev pub LooksUpOn : Reading → List ℕ → What → Result LookedUp AllocError → Ledger D I L → Ledger D I L → Type 0
   LooksUpOn now name w (Ok result) old new =
-      (c : Option Candidate) × (IsCandidateFor (book_in old.state).file.margin (book_in old.state).rows (book_in old.state).text name w c × LooksUp lanes_seen port now c (Ok result) old.proving new.proving)
+      (c : Option Candidate) × (IsCandidateFor (book_in old.state).file.margin (book_in old.state).rows (book_in old.state).text name w c × AsksAbout lanes_seen port now c (Ok result) old.proving new.proving)
   LooksUpOn now name w (Err e) old new = asked_in new.proving ≡ asked_in old.proving
 
   -- nothing else changes
@@ -127,7 +125,8 @@ module _ {D I L : Type 0} (known : Bool) (seen : D → DiskState) (files : I →
   DoesLedger (Reload now result) old new =
       ReloadsOn known seen (files old.inputs) old.demands old.folder.now now result old.state new.state × (new ≡ record old { state = new.state; inputs = new.inputs })
   DoesLedger (Look now looked) old new = LooksOrHears calls lanes_seen port now looked old new
-  DoesLedger Rebuilt old new = (waiting_in new.state.keeper ≡ None) × ((store_in new.state ≡ store_in old.state) × (new ≡ record old { state = new.state }))
+  DoesLedger Rebuilt old new =
+      (waiting_in new.state.keeper ≡ None) × ((store_in new.state ≡ store_in old.state) × ((new.state.disk ≡ old.state.disk) × (new ≡ record old { state = new.state })))
 
 -- the row of a table, unless its entry has no credential; or why there is none
 abbrev pub ReadsTable : List ℕ → Result Row Why → Type 0

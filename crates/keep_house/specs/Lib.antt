@@ -1,14 +1,14 @@
 pub mod Rooms
 pub mod Lines
 pub mod Marks
-pub mod Clocked
-pub mod Answered
+pub mod LinesOfClocks
+pub mod LinesOfAnswers
 pub mod Sockets
 pub mod Changed
 pub mod Keeping
 pub mod Telling
 pub mod VerdictWords
-pub mod Desks
+pub mod LogDesk
 pub mod Wants
 pub mod Nexts
 pub mod Ends
@@ -34,4 +34,5 @@ pub mod Rereading
 pub mod Ledgers
 pub mod Doing
 pub mod Tried
+pub mod Disks
 pub mod Alike

@@ -14,8 +14,8 @@ use Rattle.keep_log.specs.declared.line.Word.TheVariants as words
 use Rattle.keep_moment.specs.declared.moment.TheConstants.{LAST}
 use Rattle.watch_machine.specs.State.{WatchState}
 use Rattle.keep_house.specs.Rooms.{Rooms, misses, missing_in}
-use Rattle.keep_house.specs.declared.form.Form.{Form}
-use Rattle.keep_house.specs.declared.form.Form.TheVariants.{Text, Json}
+use Rattle.keep_log.specs.declared.form.Form.{Form}
+use Rattle.keep_log.specs.declared.form.Form.TheVariants.{Text, Json}
 
 -- ---- a line
 

@@ -8,7 +8,7 @@ use Rattle.keep_log.specs.declared.line.Word.TheVariants as words
 use Rattle.watch_machine.specs.Outlook.{broker_moment}
 use Rattle.watch_machine.specs.State.{WatchState}
 use Rattle.watch_machine.specs.declared.outlook.Next.{Next}
-use Rattle.keep_house.specs.Desks.{SaysLines}
+use Rattle.keep_house.specs.LogDesk.{SaysLines}
 use Rattle.keep_house.specs.Lines.{Line, moment_word, said_line}
 use Rattle.keep_house.specs.declared.house.House.{House}
 
@@ -21,19 +21,19 @@ abbrev pub next_log_line : Agent → Option Next → Line
 next_log_line a None = said_line Info (codes "next") (words.Text (codes "none") ∷ [])
 next_log_line a (Some next) = said_line Info (codes "next") (moment_word next.at ∷ words.Text (name_of a.inventory.forest next.entry) ∷ [])
 
-abbrev pub is_next : Next → Next → Bool
-is_next a b = a.at == b.at && a.entry == b.entry
+abbrev pub is_same_next : Next → Next → Bool
+is_same_next a b = a.at == b.at && a.entry == b.entry
 
 -- that was said last; None where nothing was said yet
-abbrev pub was_said : Option (Option Next) → Option Next → Bool
-was_said None next = false
-was_said (Some None) None = true
-was_said (Some None) (Some next) = false
-was_said (Some (Some last)) None = false
-was_said (Some (Some last)) (Some next) = is_next last next
+abbrev pub was_next_said : Option (Option Next) → Option Next → Bool
+was_next_said None next = false
+was_next_said (Some None) None = true
+was_next_said (Some None) (Some next) = false
+was_next_said (Some (Some last)) None = false
+was_next_said (Some (Some last)) (Some next) = is_same_next last next
 
 abbrev pub next_lines : Agent → Option (Option Next) → Option Next → List Line
-next_lines a last next = if was_said last next then [] else next_log_line a next ∷ []
+next_lines a last next = if was_next_said last next then [] else next_log_line a next ∷ []
 
 -- it is said where it is another than was said last
 pub record SaysNext {S T D K E : Type 0} (a : Agent) (there : Option Next) (old new : House S T D K E) : Type 0 where

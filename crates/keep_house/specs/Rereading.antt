@@ -36,9 +36,9 @@ abbrev pub SaysNoBook : List ℕ → List ℕ → Type 0
 SaysNoBook bytes why = (fault : FileFault) × (IsFileFaultOf (Some bytes) fault × (why ≡ book_words fault))
 
 -- the reason, where there is one; or none, where memory was wanting for it
-abbrev pub IsAtMost : Option (List ℕ) → List (List ℕ) → Type 0
-IsAtMost None whys = whys ≡ []
-IsAtMost (Some why) whys = (whys ≡ []) ⊎ (whys ≡ why ∷ [])
+abbrev pub AreAtMost : Option (List ℕ) → List (List ℕ) → Type 0
+AreAtMost None whys = whys ≡ []
+AreAtMost (Some why) whys = (whys ≡ []) ⊎ (whys ≡ why ∷ [])
 
 -- there is one reason, or none where memory was wanting for it
 abbrev pub IsOneWhy : (List ℕ → Type 0) → List (List ℕ) → Type 0

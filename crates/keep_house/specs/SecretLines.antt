@@ -6,8 +6,8 @@ use Rattle.keep_clock.specs.declared.reading.Reading.{Reading}
 use Rattle.keep_log.specs.declared.level.Level.{Level}
 use Rattle.keep_log.specs.declared.level.Level.TheVariants.{Info, Warning, Alert}
 use Rattle.keep_log.specs.declared.line.Word.TheVariants as words
-use Rattle.keep_house.specs.Clocked.{memory_line}
-use Rattle.keep_house.specs.Desks.{SaysLines}
+use Rattle.keep_house.specs.LinesOfClocks.{memory_line}
+use Rattle.keep_house.specs.LogDesk.{SaysLines}
 use Rattle.keep_house.specs.Keeping.{KeepCall, Look}
 use Rattle.keep_house.specs.Lines.{Line, said_line}
 use Rattle.keep_house.specs.Takings.{quiet}
@@ -36,22 +36,22 @@ level_of Taken = Info
 level_of (Kept trouble) = Warning
 level_of (Without trouble) = Alert
 
-abbrev pub event_of : SecretWord → List ℕ
-event_of Taken = codes "replace"
-event_of (Kept trouble) = codes "secret-file"
-event_of (Without trouble) = codes "secret-file"
+abbrev pub event_of_secret : SecretWord → List ℕ
+event_of_secret Taken = codes "replace"
+event_of_secret (Kept trouble) = codes "secret-file"
+event_of_secret (Without trouble) = codes "secret-file"
 
 abbrev pub text_of : SecretWord → List ℕ
 text_of Taken = codes "by its file"
 text_of (Kept trouble) = trouble_text trouble ++ codes ": it keeps the old one"
 text_of (Without trouble) = trouble_text trouble ++ codes ": it is not kept until the file holds its secret"
 
-abbrev pub news_line : List ℕ → SecretWord → Line
-news_line name what = said_line (level_of what) (event_of what) (words.Text name ∷ words.Text (text_of what) ∷ [])
+abbrev pub secret_news_line : List ℕ → SecretWord → Line
+secret_news_line name what = said_line (level_of what) (event_of_secret what) (words.Text name ∷ words.Text (text_of what) ∷ [])
 
 abbrev pub news_lines : Option SecretNews → List Line
 news_lines None = []
-news_lines (Some news) = news_line news.name news.what ∷ []
+news_lines (Some news) = secret_news_line news.name news.what ∷ []
 
 abbrev pub want_lines : Bool → List Line
 want_lines is_enough = if is_enough then [] else memory_line ∷ []

@@ -40,9 +40,9 @@ unfoldable pub written_faults : Demands → Served → List StartFault
 written_faults d v = fault_list (margin_fault d v) ++ (if d.names_are_secrets then [] else bare_faults v 0 v.notes)
 
 -- the first of them
-abbrev pub first_of : List StartFault → Option StartFault
-first_of [] = None
-first_of (fault ∷ faults) = Some fault
+abbrev pub first_listed_fault : List StartFault → Option StartFault
+first_listed_fault [] = None
+first_listed_fault (fault ∷ faults) = Some fault
 
 unfoldable pub first_start_fault : Demands → Served → Option StartFault
-first_start_fault d v = first_of (written_faults d v)
+first_start_fault d v = first_listed_fault (written_faults d v)

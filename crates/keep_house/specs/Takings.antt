@@ -29,7 +29,7 @@ use Rattle.keep_secrets.specs.declared.news.Became.{Became}
 use Rattle.keep_secrets.specs.declared.news.Became.TheVariants.{Taken, Same, Troubled}
 use Rattle.keep_secrets.specs.declared.news.Looked.{Looked}
 use Rattle.keep_house.specs.Candidates.{IsFileCandidate}
-use Rattle.keep_house.specs.Inquiries.{LooksUp, ProvesOn, asked_in}
+use Rattle.keep_house.specs.Inquiries.{AsksAbout, ProvesOn, asked_in}
 use Rattle.keep_house.specs.Untouched.{IsAsItWas}
 use Rattle.keep_house.specs.declared.asked_file.AskedFile.{AskedFile}
 use Rattle.keep_house.specs.declared.keeping.LookedUp.{LookedUp}
@@ -81,26 +81,28 @@ abbrev pub wanting : Looked
 wanting = record { news = None; goes_on = false; is_enough = false }
 
 module _ {D : Type 0} (now : ℕ) (due : DueFile) (held : Result (List ℕ) SecretTrouble) (old : Looking) (kept : Kept D) (looked : Looked) (new : Looking) (left : Kept D) where
-  -- what the file gives is taken, and that is kept and told
+  -- what the file gives is taken, and that is kept and told. The disk is left alone
   pub record IsTakenUp : Type 0 where
     pub became : Became
     pub taken : TakesHeld now due held kept became left
     pub noted : IsNoted due (seen_after (seen_of old.marks.items due.name due.file) due.stamp now became) old new
     pub told : looked ≡ record { news = news_about due.name (news_of (seen_of old.marks.items due.name due.file) (is_held (book_in kept).secrets due.name due.file) became); goes_on = true; is_enough = true }
+    pub disk : left.disk ≡ kept.disk
 
   -- memory was wanting: nothing is taken, and it is due still
   pub record IsPutOff : Type 0 where
     pub same : new ≡ old
     pub untouched : IsAsItWas kept left
+    pub disk : left.disk ≡ kept.disk
     pub told : looked ≡ wanting
 
-  abbrev pub TakesUp : Type 0
-  TakesUp = IsTakenUp ⊎ IsPutOff
+  abbrev pub TakesUpFile : Type 0
+  TakesUpFile = IsTakenUp ⊎ IsPutOff
 
 -- it is read; or it may have been, and memory was wanting
-abbrev pub IsReadAs : {I : Type 0} → (I → Option (List FileCall)) → DueFile → Result (Result (List ℕ) SecretTrouble) AllocError → I → I → Type 0
-IsReadAs calls due (Ok held) before after = ReadsFile calls due.path.items due.stamp held before after
-IsReadAs calls due (Err e) before after = MayRead calls due.path.items before after
+abbrev pub IsFileReadAs : {I : Type 0} → (I → Option (List FileCall)) → DueFile → Result (Result (List ℕ) SecretTrouble) AllocError → I → I → Type 0
+IsFileReadAs calls due (Ok held) before after = ReadsFile calls due.path.items due.stamp held before after
+IsFileReadAs calls due (Err e) before after = MayRead calls due.path.items before after
 
 -- ---- it is looked up first
 
@@ -114,12 +116,12 @@ judged credential (Missing why) = Ok credential
 -- the entry by itself, with this credential, is looked up
 abbrev pub FileIsAsked : {D L : Type 0} → (L → Lanes) → (L → ℕ) → Reading → DueFile → List ℕ → Result LookedUp AllocError → Kept D → Option (Inquiry L) → Option (Inquiry L) → Type 0
 FileIsAsked lanes_seen port now due credential (Ok result) kept old new =
-    (c : Option Candidate) × (IsFileCandidate (book_in kept).file.margin (book_in kept).rows (book_in kept).text due.name credential c × LooksUp lanes_seen port now c (Ok result) old new)
+    (c : Option Candidate) × (IsFileCandidate (book_in kept).file.margin (book_in kept).rows (book_in kept).text due.name credential c × AsksAbout lanes_seen port now c (Ok result) old new)
 FileIsAsked lanes_seen port now due credential (Err e) kept old new = asked_in new ≡ asked_in old
 
 module _ {D I L : Type 0} (calls : I → Option (List FileCall)) (lanes_seen : L → Lanes) (port : L → ℕ) (now : Reading) (looked : Looked) where
   pub record TakesHeldUp (due : DueFile) (held : Result (List ℕ) SecretTrouble) (old new : Ledger D I L) : Type 0 where
-    pub takes : TakesUp now.elapsed due held old.looking old.state looked new.looking new.state
+    pub takes : TakesUpFile now.elapsed due held old.looking old.state looked new.looking new.state
     pub rest : new ≡ record old { looking = new.looking; state = new.state }
 
   -- then it waits for the broker's word; while another one is looked up it is due still; and it is taken where nothing is looked up
@@ -146,7 +148,7 @@ module _ {D I L : Type 0} (calls : I → Option (List FileCall)) (lanes_seen : L
   pub record ReadsUp (due : DueFile) (old new : Ledger D I L) : Type 0 where
     pub read : Result (Result (List ℕ) SecretTrouble) AllocError
     pub files : I
-    pub reads : IsReadAs calls due read old.inputs files
+    pub reads : IsFileReadAs calls due read old.inputs files
     pub then : TakesRead due read (record old { inputs = files }) new
 
   -- ---- the broker's word is there
@@ -158,16 +160,16 @@ module _ {D I L : Type 0} (calls : I → Option (List FileCall)) (lanes_seen : L
       ⊎ ((names_file (named (book_in old.state).rows a.due.name) a.due.file ≡ true) × TakesHeldUp a.due (judged a.credential verdict) old new)
 
   -- till then it waits on. Where memory is wanting for the word, it is due still
-  abbrev pub HearsIf : AskedFile → Result (Option Verdict) AllocError → Ledger D I L → Ledger D I L → Type 0
-  HearsIf a (Ok None) old new = (looked ≡ quiet false) × (new ≡ record old { asked = Some a })
-  HearsIf a (Ok (Some verdict)) old new = JudgesFile a verdict old new
-  HearsIf a (Err e) old new = (looked ≡ wanting) × (new ≡ old)
+  abbrev pub HearsVerdictIf : AskedFile → Result (Option Verdict) AllocError → Ledger D I L → Ledger D I L → Type 0
+  HearsVerdictIf a (Ok None) old new = (looked ≡ quiet false) × (new ≡ record old { asked = Some a })
+  HearsVerdictIf a (Ok (Some verdict)) old new = JudgesFile a verdict old new
+  HearsVerdictIf a (Err e) old new = (looked ≡ wanting) × (new ≡ old)
 
   pub record HearsFile (a : AskedFile) (old new : Ledger D I L) : Type 0 where
     pub verdict : Result (Option Verdict) AllocError
     pub proving : Option (Inquiry L)
     pub proves : ProvesOn lanes_seen now.elapsed verdict old.proving proving
-    pub then : HearsIf a verdict (record old { proving = proving }) new
+    pub then : HearsVerdictIf a verdict (record old { proving = proving }) new
 
   -- ---- a look
 

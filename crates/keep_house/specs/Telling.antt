@@ -18,18 +18,18 @@ abbrev pub IsDated : List ℕ → ℕ → List ℕ → Type 0
 IsDated front moment text = (date : List ℕ) × (IsDateText date (min moment LAST) × (text ≡ front ++ date))
 
 -- until when that is: 0 where there is none, and the last moment where it always is
-abbrev pub until_of : Need → ℕ
-until_of (needs.Until t) = t
-until_of needs.Always = LAST
+abbrev pub until_of_need : Need → ℕ
+until_of_need (needs.Until t) = t
+until_of_need needs.Always = LAST
 
 -- until when an entry is needed: not at all, always, or until a moment
-abbrev pub IsNeededBy : Bool → Bool → ℕ → List ℕ → Type 0
-IsNeededBy true always until text = text ≡ codes "has no need"
-IsNeededBy false true until text = text ≡ codes "is needed always"
-IsNeededBy false false until text = IsDated (codes "is needed until ") until text
+abbrev pub SaysNeededBy : Bool → Bool → ℕ → List ℕ → Type 0
+SaysNeededBy true always until text = text ≡ codes "has no need"
+SaysNeededBy false true until text = text ≡ codes "is needed always"
+SaysNeededBy false false until text = IsDated (codes "is needed until ") until text
 
 unfoldable pub SaysNeeded : ℕ → List ℕ → Type 0
-SaysNeeded until text = IsNeededBy (until == 0) (until == LAST) until text
+SaysNeeded until text = SaysNeededBy (until == 0) (until == LAST) until text
 
 -- `NAME is needed until ..`
 abbrev pub IsNeedLine : List ℕ → ℕ → List ℕ → Type 0

@@ -8,7 +8,7 @@ use Rattle.keep_clients.specs.declared.talk.Call.{Call}
 use Rattle.keep_disk.specs.State.{DiskState}
 use Rattle.keep_inventory.specs.Inventories.{Inventory}
 use Rattle.keep_log.specs.declared.writing.TheConstants.{MOST_TRIES}
-use Rattle.keep_serving.specs.Days.{PassesOn}
+use Rattle.keep_serving.specs.Days.{PassesToOthers}
 use Rattle.keep_serving.specs.Neighbours.{AreCalled, NeighbourCall}
 use Rattle.keep_serving.specs.Turns.{ServingTurn}
 use Rattle.keep_serving.specs.declared.day.EarlyDay.{EarlyDay}
@@ -28,4 +28,4 @@ module _ {S T D K E : Type 0} (given : S → Option (List ℕ)) (failures tries 
   TriesLaw = IsTriedLittle (λ (call : NeighbourCall) (old new : House S T D K E). DoesToHouse given failures tries remaining written calls log does rows path reads gives known state call old new) tries (λ (h : House S T D K E). h.sink)
 
   abbrev pub DayTriesLaw : Type 0
-  DayTriesLaw = IsTriedLittle (λ (call : NeighbourCall) (old new : EarlyDay (House S T D K E)). PassesOn (DoesToHouse given failures tries remaining written calls log does rows path reads gives known state) call old new) tries (λ (d : EarlyDay (House S T D K E)). d.others.sink)
+  DayTriesLaw = IsTriedLittle (λ (call : NeighbourCall) (old new : EarlyDay (House S T D K E)). PassesToOthers (DoesToHouse given failures tries remaining written calls log does rows path reads gives known state) call old new) tries (λ (d : EarlyDay (House S T D K E)). d.others.sink)

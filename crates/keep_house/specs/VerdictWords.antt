@@ -31,9 +31,9 @@ loss_text losses.Reply = codes "reply"
 loss_text (losses.Status status) = decimal status
 
 -- a line, and that the broker has said nothing of the credential, where it was asked and has not
-abbrev pub noted : Option Loss → List ℕ → List ℕ
-noted None line = line
-noted (Some why) line = line ++ (codes " (it could not be looked up: " ++ (loss_text why ++ codes ")"))
+abbrev pub line_with_loss : Option Loss → List ℕ → List ℕ
+line_with_loss None line = line
+line_with_loss (Some why) line = line ++ (codes " (it could not be looked up: " ++ (loss_text why ++ codes ")"))
 
 abbrev pub IsAddedLine : List ℕ → ℕ → Option Loss → List ℕ → Type 0
-IsAddedLine name until why text = (line : List ℕ) × (IsAddLine name until line × (text ≡ noted why line))
+IsAddedLine name until why text = (line : List ℕ) × (IsAddLine name until line × (text ≡ line_with_loss why line))

@@ -2,8 +2,8 @@
 -- Source: this project's own; docs/commands/serve.md, "The log".
 use Rattle.std.specs.Prelude.{◌≡◌, Bool, true, false}
 use Rattle.keep_agent.specs.Agent.{Agent}
-use Rattle.keep_house.specs.Clocked.{memory_line}
-use Rattle.keep_house.specs.Desks.{Desk}
+use Rattle.keep_house.specs.LinesOfClocks.{memory_line}
+use Rattle.keep_house.specs.LogDesk.{Desk}
 use Rattle.keep_house.specs.Lines.{IsSaid, now_of}
 use Rattle.keep_house.specs.declared.mark.Want.{Want}
 use Rattle.keep_house.specs.declared.mark.Want.TheVariants.{Over, Unsaid, Said, Passing}

@@ -4,7 +4,7 @@ ghost use Rattle.keep_change.specs.declared.change.What.TheVariants as kinds;
 ghost use Rattle.keep_house.specs.Commands.{AddsEntry, ReadsRow, row_in};
 ghost use Rattle.keep_house.specs.Awaiting.{AddsRow};
 ghost use Rattle.keep_house.specs.Keeping.{KeeperIsAsked, Take};
-ghost use Rattle.keep_house.specs.Telling.{until_of};
+ghost use Rattle.keep_house.specs.Telling.{until_of_need};
 ghost use Rattle.keep_house.specs.VerdictWords.{IsAddedLine};
 
 use crate::client_words::{add_line, why_not_kept};
@@ -85,7 +85,7 @@ fn add_row<K: Keeping>(
     row: Row,
     why: Option<Loss>,
 ) -> Result<Option<Text>, Option<Text>>
-    ensures { KeeperIsAsked K.does (λ done. Take now name.now (kinds.Add row) done) (λ k line. IsAddedLine name.now (until_of row.need) why line) result state.old state.new }
+    ensures { KeeperIsAsked K.does (λ done. Take now name.now (kinds.Add row) done) (λ k line. IsAddedLine name.now (until_of_need row.need) why line) result state.old state.new }
 {
     let Some(state) = state else {
         return Err(why_not_kept(alloc));

@@ -2,7 +2,7 @@
 ghost use Rattle.std.specs.Prelude.{◌≡◌, IfOk, IfSome};
 ghost use Rattle.keep_proving.specs.Lookups.{IsCandidate};
 ghost use Rattle.keep_state.specs.States.{book_in};
-ghost use Rattle.keep_house.specs.Candidates.{AreRowsOf, IsAlone, IsCandidateFor, IsCandidateOf, IsFileCandidate, alone_of, as_root, brought, row_with};
+ghost use Rattle.keep_house.specs.Candidates.{AreRowsOf, IsAlone, IsCandidateFor, IsCandidateOf, IsFileCandidate, alone_of, as_root, brought, row_with_credential};
 
 use keep_change::{Row, Rows, What, rows_of};
 use keep_disk::Disk;
@@ -128,7 +128,7 @@ fn brought(rows: &Rows, name: &[u8], what: &What) -> Result<Option<Row>, AllocEr
 
 // The entry of that name with that credential, which stands in it.
 fn row_with(rows: &Rows, name: &[u8], credential: &Text) -> Result<Option<Row>, AllocError>
-    ensures { IfOk result (λ row. row ≡ row_with rows.now name.now credential.now) }
+    ensures { IfOk result (λ row. row ≡ row_with_credential rows.now name.now credential.now) }
 {
     let Some(row) = rows.named(name) else {
         return Ok(None);

@@ -8,7 +8,7 @@ ghost use Rattle.keep_house.specs.Commands.{DropsEntry, SettlesFile, end_known_a
 ghost use Rattle.keep_house.specs.Houses.{Concludes};
 ghost use Rattle.keep_house.specs.Keeping.{KeeperIsAsked, Settle, Take};
 ghost use Rattle.keep_house.specs.Telling.{IsDropLine, replaced_text, settle_line};
-ghost use Rattle.keep_house.specs.VerdictWords.{noted};
+ghost use Rattle.keep_house.specs.VerdictWords.{line_with_loss};
 
 use crate::client_words::{drop_line, replace_line, settle_line, why_not_kept};
 use crate::house::House;
@@ -83,7 +83,7 @@ impl<S, T: Talk, D: Door<T>, K, E> House<S, T, D, K, E> {
 
 // That the entry of that name has another credential; `None` where memory was wanting.
 fn replaced<K: Keeping>(alloc: Global, name: &[u8], state: &K, why: Option<Loss>) -> Option<Text>
-    ensures { IfSome result (λ line. line ≡ noted why (replaced_text name.now (named (K.rows state.now) name.now))) }
+    ensures { IfSome result (λ line. line ≡ line_with_loss why (replaced_text name.now (named (K.rows state.now) name.now))) }
 {
     let line = replace_line(alloc, name, state.named(name)).ok()?;
     noted(alloc, line, why).ok()
@@ -105,7 +105,7 @@ fn replace<K: Keeping>(
     credential: Text,
     why: Option<Loss>,
 ) -> Result<Option<Text>, Option<Text>>
-    ensures { KeeperIsAsked K.does (λ done. Take now name.now (kinds.Replace credential) done) (λ k line. line ≡ noted why (replaced_text name.now (named (K.rows k) name.now))) result state.old state.new }
+    ensures { KeeperIsAsked K.does (λ done. Take now name.now (kinds.Replace credential) done) (λ k line. line ≡ line_with_loss why (replaced_text name.now (named (K.rows k) name.now))) result state.old state.new }
 {
     let Some(state) = state else {
         return Err(why_not_kept(alloc));

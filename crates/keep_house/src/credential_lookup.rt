@@ -1,6 +1,6 @@
 //! A credential is looked up before a client's change is made that brings it.
 ghost use Rattle.std.specs.Prelude.{◌≡◌, IfSome};
-ghost use Rattle.keep_house.specs.Awaiting.{HearsOf, HearsVerdict, Judges, JudgesAside, LooksUpBy, LooksUpFirst, Makes, ProvesBy, SetsAside, TellsNothingAside, addressed};
+ghost use Rattle.keep_house.specs.Awaiting.{HearsOfAwaited, HearsVerdict, Judges, JudgesAside, LooksUpBy, LooksUpFirst, Makes, ProvesBy, SetsAside, TellsNothingAside, addressed};
 
 use crate::client_answer::set_aside;
 use crate::given::{Awaited, addressed};
@@ -78,7 +78,7 @@ impl<S, T: Talk, D: Door<T>, K: Keeping, E> House<S, T, D, K, E> {
 
     // The same of a change that waits. `awaited` is not in the house meanwhile.
     fn hear_of(&mut self, alloc: Global, agent: &Agent, now: Reading, awaited: Awaited) -> bool
-        ensures { HearsOf K.does K.rows agent.now now awaited result self.old self.new }
+        ensures { HearsOfAwaited K.does K.rows agent.now now awaited result self.old self.new }
     {
         match prove(alloc, &mut self.state, now.elapsed) {
             Ok(None) => {

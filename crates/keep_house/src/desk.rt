@@ -1,12 +1,11 @@
 //! Where it is said what happens to an agent.
 ghost use Rattle.std.specs.Prelude.{◌≡◌, IfOk, length};
 ghost use Rattle.keep_house.specs.Changed.{entry_log_line, fault_lines, reread_lines, settled_line};
-ghost use Rattle.keep_house.specs.Clocked.{marks_anew};
-ghost use Rattle.keep_house.specs.Desks.{HearsAnswer, HearsAtStart, HearsClock, HearsNoSocket, HearsRefusal, HearsShorts, HearsWant, SaysLine, SaysLines, begun_desk};
+ghost use Rattle.keep_house.specs.LinesOfClocks.{marks_anew};
+ghost use Rattle.keep_house.specs.LogDesk.{HearsAnswer, HearsAtStart, HearsClock, HearsNoSocket, HearsRefusal, HearsShorts, HearsWant, SaysLine, SaysLines, begun_desk};
 ghost use Rattle.keep_house.specs.Lines.{now_of};
 ghost use Rattle.keep_house.specs.Sockets.{need_log_line};
 
-use crate::form::Form;
 use crate::keeping::Reread;
 use crate::log_answers::{say_answered, trouble_after};
 use crate::log_changes::{say_entry, say_faults, say_reread, say_settled};
@@ -20,7 +19,7 @@ use crate::rooms::Rooms;
 use keep_agent::{Agent, Short};
 use keep_asking::Said;
 use keep_clock::Reading;
-use keep_log::{Level, LogRoom};
+use keep_log::{Form, Level, LogRoom};
 use keep_moment::Text;
 use std::alloc::{AllocError, Global};
 use std::marker::Model;
@@ -37,7 +36,7 @@ pub struct Desk {
 }
 
 impl Model for Desk {
-    ghost use Rattle.keep_house.specs.Desks.{Desk};
+    ghost use Rattle.keep_house.specs.LogDesk.{Desk};
 
     ghost Value = { Desk };
 

@@ -1,7 +1,7 @@
 //! Ends that are kept over a restart.
 ghost use Rattle.std.specs.Prelude.{◌≡◌, ◌∷◌, [], IfOk};
 ghost use Rattle.keep_log.specs.declared.line.Word.TheVariants as kinds;
-ghost use Rattle.keep_house.specs.Desks.{SaysLines};
+ghost use Rattle.keep_house.specs.LogDesk.{SaysLines};
 ghost use Rattle.keep_house.specs.Ends.{EndsGoOn, HearsEnd, HearsServed, HearsUnread, KeepsEnds, ends_line, is_failing, tried_lines, unkept_line, unread_line};
 ghost use Rattle.keep_house.specs.Lines.{LineIsSaid};
 ghost use Rattle.keep_house.specs.Reasons.{disk_words};

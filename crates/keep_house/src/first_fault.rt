@@ -2,7 +2,7 @@
 ghost use Rattle.std.specs.Prelude.{◌≡◌, ◌++◌, ◌<◌, IfOk, OnOk, bytes_eq, length};
 ghost use Rattle.keep_inventory.specs.Inventories.{credential_at};
 ghost use Rattle.keep_lines.specs.Text.{name_of};
-ghost use Rattle.keep_house.specs.Starts.{bare_at, bare_faults, fault_list, first_of, first_start_fault, is_bare, is_bare_row, margin_fault, written_faults};
+ghost use Rattle.keep_house.specs.Starts.{bare_at, bare_faults, fault_list, first_listed_fault, first_start_fault, is_bare, is_bare_row, margin_fault, written_faults};
 
 use crate::demands::Demands;
 use crate::fault::StartFault;
@@ -72,7 +72,7 @@ fn margin_fault(demands: Demands, served: &Served) -> Option<StartFault>
 // The fault of the first entry without a credential of its own and without a file.
 fn first_bare(served: &Served, notes: &[Note]) -> Option<StartFault>
     requires { length notes.now ≡ length served.now.inventory.forest.entries }
-    ensures { result ≡ first_of (bare_faults served.now 0 notes.now) }
+    ensures { result ≡ first_listed_fault (bare_faults served.now 0 notes.now) }
 {
     for entry in 0..notes.len() {
         if is_bare(served, entry, &notes[entry]) {

@@ -1,7 +1,7 @@
 //! A credential is looked up before it is taken, over lanes of its own, where there are any.
 ghost use Rattle.std.specs.Prelude.{IfSome};
 ghost use Rattle.keep_proving.specs.Lookups.{IsCandidate};
-ghost use Rattle.keep_house.specs.Inquiries.{LooksUp, ProvesOn};
+ghost use Rattle.keep_house.specs.Inquiries.{AsksAbout, ProvesOn};
 
 use crate::keeping::LookedUp;
 use crate::moments::second_of;
@@ -19,7 +19,7 @@ pub(crate) fn ask<L: Lanes>(
     candidate: Option<Candidate>,
 ) -> Result<LookedUp, AllocError>
     requires { IfSome candidate IsCandidate }
-    ensures { LooksUp ⟦<L as SeenLanes>⟧.seen L.host_port now candidate result proving.old proving.new }
+    ensures { AsksAbout ⟦<L as SeenLanes>⟧.seen L.host_port now candidate result proving.old proving.new }
 {
     let Some(candidate) = candidate else {
         return Ok(LookedUp::Nothing);

@@ -16,7 +16,7 @@ ghost use Rattle.keep_house.specs.Ledgers.{AreCompacted, FilledWith, IsFilledOn,
 ghost use Rattle.keep_house.specs.Noting.{left_lines, said_notes};
 ghost use Rattle.keep_house.specs.Reading.{IsToServe, IsWide};
 ghost use Rattle.keep_house.specs.Reasons.{bare_words, left_words, table_words};
-ghost use Rattle.keep_house.specs.Rereading.{AreBytesOf, IsAtMost, IsWhyNotReread, SaysCopy, SaysFaults, SaysNoBook, SaysNotes, SaysUnread};
+ghost use Rattle.keep_house.specs.Rereading.{AreAtMost, AreBytesOf, IsWhyNotReread, SaysCopy, SaysFaults, SaysNoBook, SaysNotes, SaysUnread};
 ghost use Rattle.keep_house.specs.Starts.{is_bare_row};
 ghost use Rattle.keep_house.specs.Untouched.{IsAsItWas};
 
@@ -196,7 +196,7 @@ impl<'a, D: Disk, I: Inputs, L: Lanes> Ledger<'a, D, I, L> {
 
 // The one reason, where there is one, in a line of its own; none where memory is wanting for that.
 fn one_why(alloc: Global, why: Option<Text>) -> Vec<Text>
-    ensures { IsAtMost why result.items }
+    ensures { AreAtMost why result.items }
 {
     let mut whys = Vec::new(alloc);
     if let Some(why) = why {

@@ -4,12 +4,12 @@
 //!
 //! The contract for the layers above: [`read_to_serve`] gives what is served by the text of an inventory, or the first fault of the
 //! start, and [`faults_to_serve`] all of them (`specs/Reading`, `specs/Starts`); a [`Desk`] says what happens to the agent, line by line
-//! (`specs/Desks`, `specs/Wants`), and lack of memory costs the line alone; and a [`House`] gives each neighbour its bounded part of a turn: [`House::attend`] what each is sent
+//! (`specs/LogDesk`, `specs/Wants`), and lack of memory costs the line alone; and a [`House`] gives each neighbour its bounded part of a turn: [`House::attend`] what each is sent
 //! (`specs/Houses`), [`House::next_change`] carries out what a client asks for, once a credential that it brings was looked up
 //! (`specs/Awaiting`), and [`House::settle_given`] tells what came of a change (`specs/Commands`); [`House::look`] what is read, looked up
 //! and taken of files of credentials (`specs/Takings`, `specs/SecretLines`); [`House::keep_ends`] what the file of the ends keeps (`specs/Ends`),
 //! and [`House::hear_next`] what is said of the next time of an entry (`specs/Nexts`). What the loop calls a house for does
-//! these things, in this order, and nothing else (`specs/Doing`). Begin with `specs/Desks` and `specs/Commands`, then
+//! these things, in this order, and nothing else (`specs/Doing`). Begin with `specs/LogDesk` and `specs/Commands`, then
 //! `keeping`, `desk` and `house`.
 #![tactic(auto)]
 
@@ -29,7 +29,6 @@ mod fault_line;
 mod first_fault;
 mod follow_command;
 mod followers;
-mod form;
 mod gathered_secrets;
 mod given;
 mod guests;
@@ -69,11 +68,14 @@ pub use desk::Desk;
 pub use fault::StartFault;
 pub use fault_line::line_of_fault;
 pub use follow_command::MOST_FOLLOWERS;
-pub use form::Form;
 pub use given::{Awaited, Given, GivenNeed};
 pub use house::House;
 pub use keeping::{Keeping, LookedUp, Reread};
-pub use laws::{a_turn_tries_the_reader_little, no_credential_is_said, no_credential_is_told};
+pub use laws::{
+    a_look_spares_disks, a_turn_spares_disks, a_turn_tries_the_reader_little,
+    a_turn_without_a_change_spares_disks, no_credential_is_said, no_credential_is_told,
+    no_credential_of_a_file_is_said,
+};
 pub use ledger::Ledger;
 pub use log_reader::MOST_GIVEN;
 pub use mark::{Mark, Want};

@@ -2,7 +2,7 @@
 ghost use Rattle.std.specs.Prelude.{◌≡◌, ◌∷◌, [], ◌+◌};
 ghost use Rattle.keep_agent.specs.Standings.{troubled};
 ghost use Rattle.keep_lines.specs.Text.{name_of};
-ghost use Rattle.keep_house.specs.Answered.{answered_lines, gone_level, gone_lines, link_lines, lost_level, lost_log_line, never_lines, noted_log_lines, orphan_lines, refused_level, refused_log_line, refused_now, reply_line, told_log_line, top_lines, trouble_after};
+ghost use Rattle.keep_house.specs.LinesOfAnswers.{answered_lines, gone_level, gone_lines, link_lines, lost_level, lost_log_line, never_lines, noted_log_lines, orphan_lines, refused_level, refused_log_line, refused_now, reply_line, told_log_line, top_lines, trouble_after};
 ghost use Rattle.keep_house.specs.Lines.{AreSaid, LineIsSaid, number_held};
 ghost use Rattle.watch_machine.specs.Outlook.{broker_now};
 
@@ -19,7 +19,7 @@ use std::alloc::Global;
 use watch_machine::{Link, Notes, Operation, Reply, Watch};
 
 /// Says what came of a request, and what is noted of that, by what was wrong with its entry before.
-#[tactic(auto, unfolding(crate::specs::Answered::answered_lines))]
+#[tactic(auto, unfolding(crate::specs::LinesOfAnswers::answered_lines))]
 pub(crate) fn say_answered(
     alloc: Global,
     stamp: &Stamp,

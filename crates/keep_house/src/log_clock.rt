@@ -1,6 +1,6 @@
 //! What is said once the time was handed in, and of needs that cannot be kept.
 ghost use Rattle.std.specs.Prelude.{◌∷◌, [], ◌≡◌, Some, map};
-ghost use Rattle.keep_house.specs.Clocked.{asked_log_lines, begin_lines, clocked_lines, is_operation_asked, memory_line, short_log_line, short_log_lines, wake_lines, why_text};
+ghost use Rattle.keep_house.specs.LinesOfClocks.{asked_log_lines, begin_lines, clocked_lines, is_operation_asked, memory_line, short_log_line, short_log_lines, wake_lines, why_text};
 ghost use Rattle.keep_house.specs.Lines.{AreSaid, LineIsSaid};
 
 use crate::log_ended::say_ended;
@@ -17,7 +17,7 @@ use std::alloc::Global;
 use watch_machine::{Notes, Operation, Request, Why};
 
 /// Says what is noted of the time, whom is asked what, and whose ends are past.
-#[tactic(auto, using(crate::proofs::Said::both_said), unfolding(crate::specs::Clocked::clocked_lines))]
+#[tactic(auto, using(crate::proofs::Said::both_said), unfolding(crate::specs::LinesOfClocks::clocked_lines))]
 pub(crate) fn say_clocked(
     alloc: Global,
     stamp: &Stamp,
@@ -120,7 +120,7 @@ fn is_asked(operation: Operation, requests: &[Request]) -> bool
 }
 
 /// Says which needs are past what their entries reach.
-#[tactic(auto, unfolding(crate::specs::Clocked::short_log_lines))]
+#[tactic(auto, unfolding(crate::specs::LinesOfClocks::short_log_lines))]
 pub(crate) fn say_shorts(
     alloc: Global,
     stamp: &Stamp,

@@ -1,6 +1,6 @@
 //! Ends that are past while their entries are needed.
 ghost use Rattle.std.specs.Prelude.{◌≡◌, ◌<◌, length};
-ghost use Rattle.keep_house.specs.Clocked.{end_in, ended_line, ended_lines, has_entry_ended, is_ended, is_past_end, carried_mark, marks_anew, marks_clocked, trouble_at, with_ended};
+ghost use Rattle.keep_house.specs.LinesOfClocks.{end_in, ended_line, ended_lines, has_entry_ended, is_ended, is_past_end, carried_mark, marks_anew, marks_clocked, trouble_at, with_ended};
 ghost use Rattle.keep_house.specs.Lines.{AreSaid};
 
 use crate::log_line::{Stamp, say_of};

@@ -3,10 +3,9 @@ ghost use Rattle.std.specs.Prelude.{◌≡◌, ◌∷◌, [], IfOk, codes};
 ghost use Rattle.keep_log.specs.declared.line.Word.TheVariants as words;
 ghost use Rattle.keep_house.specs.Lines.{AreSaid, IsSaid, LineIsSaid, LineIsWritten, TellsDropped, dropped_line, said_line};
 
-use crate::form::Form;
 use crate::log_words::{name_and, one_text, text_word};
 use crate::rooms::Rooms;
-use keep_log::{Level, LogLine, Word, json_of_line, text_of_line};
+use keep_log::{Form, Level, LogLine, Word, json_of_line, text_of_line};
 use keep_moment::Moment;
 use std::alloc::{AllocError, Global};
 

@@ -1,9 +1,9 @@
 //! The next time of an entry.
 ghost use Rattle.std.specs.Prelude.{◌≡◌, ◌∷◌, [], IfOk};
 ghost use Rattle.keep_log.specs.declared.line.Word.TheVariants as kinds;
-ghost use Rattle.keep_house.specs.Desks.{SaysLines};
+ghost use Rattle.keep_house.specs.LogDesk.{SaysLines};
 ghost use Rattle.keep_house.specs.Lines.{LineIsSaid, moment_word};
-ghost use Rattle.keep_house.specs.Nexts.{HearsNext, is_next, next_lines, next_log_line, next_there, next_wake_of, was_said};
+ghost use Rattle.keep_house.specs.Nexts.{HearsNext, is_same_next, next_lines, next_log_line, next_there, next_wake_of, was_next_said};
 
 use crate::desk::Desk;
 use crate::house::House;
@@ -88,7 +88,7 @@ fn next_there(watch: &Watch, next: Option<Next>) -> Option<Next>
 
 // Whether that was said last.
 fn was_said(last: Option<Option<Next>>, next: Option<Next>) -> bool
-    ensures { result ≡ was_said last next }
+    ensures { result ≡ was_next_said last next }
 {
     match (last, next) {
         (None, _) | (Some(None), Some(_)) | (Some(Some(_)), None) => false,
@@ -98,7 +98,7 @@ fn was_said(last: Option<Option<Next>>, next: Option<Next>) -> bool
 }
 
 fn is_next(a: Next, b: Next) -> bool
-    ensures { result ≡ is_next a b }
+    ensures { result ≡ is_same_next a b }
 {
     a.at == b.at && a.entry == b.entry
 }

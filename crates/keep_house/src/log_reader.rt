@@ -1,7 +1,7 @@
 //! The log's reader is given what it takes.
 ghost use Rattle.std.specs.Prelude.{◌≡◌, ◌+◌, ◌≤◌, ◌&&◌, nat_eq, nat_lt, not};
 ghost use Rattle.keep_log.specs.declared.writing.TheConstants.{MOST_TRIES};
-ghost use Rattle.keep_house.specs.Desks.{MayTell, ReaderIsGiven, TellsIf};
+ghost use Rattle.keep_house.specs.LogDesk.{MayTell, ReaderIsGiven, TellsIf};
 ghost use Rattle.keep_house.specs.Lines.{second_of};
 
 use crate::desk::Desk;

@@ -1,7 +1,7 @@
 //! The words of a line.
 ghost use Rattle.std.specs.Prelude.{◌≡◌, ◌∷◌, ◌++◌, [], IfOk, OnOk};
 ghost use Rattle.keep_log.specs.declared.line.Word.TheVariants as kinds;
-ghost use Rattle.keep_house.specs.Clocked.{asked_word, asked_words, name_words};
+ghost use Rattle.keep_house.specs.LinesOfClocks.{asked_word, asked_words, name_words};
 ghost use Rattle.keep_house.specs.Lines.{loss_word};
 ghost use Rattle.watch_machine.specs.Refusal.{is_same};
 ghost use Rattle.keep_lines.specs.Text.{name_of};

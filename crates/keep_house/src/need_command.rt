@@ -1,7 +1,7 @@
 //! A client asks that an entry is needed until then.
 ghost use Rattle.std.specs.Prelude.{◌≡◌};
 ghost use Rattle.keep_house.specs.Commands.{EntryIsThere, GivesNeed, NeedIsKept, Needs};
-ghost use Rattle.keep_house.specs.Telling.{until_of};
+ghost use Rattle.keep_house.specs.Telling.{until_of_need};
 ghost use Rattle.keep_tree.specs.Forest.{index_named};
 
 use crate::client_words::need_line;
@@ -92,7 +92,7 @@ fn is_there(alloc: Global, entry: Option<u32>) -> Result<(), Option<Text>>
 
 /// Until when that is, in seconds since 1970-01-01T00:00:00Z: 0 where there is none, and [`LAST`] where it always is.
 pub(crate) fn until_of(need: Need) -> u64
-    ensures { result ≡ until_of need }
+    ensures { result ≡ until_of_need need }
 {
     match need {
         Need::Until(moment) => moment.get(),

@@ -12,10 +12,11 @@ use keep_disk::{DiskFault, Why};
 use keep_inventory::InvFault;
 use keep_moment::Text;
 use keep_notes::why;
+use keep_report::tree_word;
 use keep_settle::SettleFault;
 use keep_state::{ReadFault, SettleWhy, TableFault};
 use keep_store::{FileFault, TakeFault};
-use keep_tree::{Forest, Kind, TreeFault};
+use keep_tree::{Forest, Kind};
 use keep_words::push_number;
 use std::alloc::{AllocError, Global};
 
@@ -271,23 +272,5 @@ fn push_index(alloc: Global, place: Option<u32>, text: &mut Vec<u8>) -> Result<(
     match place {
         None => text.extend_from_slice(b"-"),
         Some(entry) => push_number(alloc, u64::from(entry), text),
-    }
-}
-
-#[tactic(auto, unfolding(keep_report::specs::FaultLine::tree_word))]
-fn tree_word(fault: TreeFault) -> &'static str
-    ensures { result.now ≡ tree_word fault }
-{
-    match fault {
-        TreeFault::BadName => "bad-name",
-        TreeFault::NameTwice => "name-twice",
-        TreeFault::NoParent => "no-parent",
-        TreeFault::ParentIsLease => "parent-is-lease",
-        TreeFault::LeaseWithoutToken => "lease-without-token",
-        TreeFault::StepTooSmall => "step-too-small",
-        TreeFault::OutOfRange => "out-of-range",
-        TreeFault::TooDeep => "too-deep",
-        TreeFault::Full => "full",
-        TreeFault::OutOfMemory => "out-of-memory",
     }
 }

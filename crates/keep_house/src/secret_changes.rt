@@ -1,6 +1,6 @@
 //! What a file of a credential gives is taken into a state, and what came of it is kept and told.
 ghost use Rattle.std.specs.Prelude.{◌≡◌, IfOk, OnErr};
-ghost use Rattle.keep_house.specs.Takings.{TakesCredential, TakesHeld, TakesUp, quiet, wanting};
+ghost use Rattle.keep_house.specs.Takings.{TakesCredential, TakesHeld, TakesUpFile, quiet, wanting};
 ghost use Rattle.keep_house.specs.Untouched.{IsAsItWas};
 
 use keep_disk::Disk;
@@ -44,7 +44,7 @@ pub(crate) fn take_up<D: Disk>(
     due: DueFile,
     held: Result<Text, SecretTrouble>,
 ) -> Looked
-    ensures { TakesUp now due held looking.old state.old result looking.new state.new }
+    ensures { TakesUpFile now due held looking.old state.old result looking.new state.new }
 {
     let before = seen_of(&looking.marks, due.name.list(), due.file.list());
     let was_held = is_held(state.secrets(), due.name.list(), due.file.list());
@@ -74,6 +74,7 @@ fn take_held<D: Disk>(
 ) -> Result<Became, AllocError>
     ensures taken { IfOk result (λ became. TakesHeld now due.now held state.old became state.new) }
     ensures untouched { OnErr result (IsAsItWas state.old state.new) }
+    ensures disk { state.new.disk ≡ state.old.disk }
 {
     match held {
         Ok(credential) => take_credential(alloc, state, now, due, credential),
@@ -91,6 +92,7 @@ fn take_credential<D: Disk>(
 ) -> Result<Became, AllocError>
     ensures taken { IfOk result (λ became. TakesCredential now due.now credential state.old became state.new) }
     ensures untouched { OnErr result (IsAsItWas state.old state.new) }
+    ensures disk { state.new.disk ≡ state.old.disk }
 {
     if has_it(
         state.secrets(),

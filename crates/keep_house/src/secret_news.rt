@@ -1,9 +1,9 @@
 //! What is said of files of credentials.
 ghost use Rattle.std.specs.Prelude.{◌≡◌, ◌++◌, IfOk};
 ghost use Rattle.keep_log.specs.declared.line.Word.TheVariants as kinds;
-ghost use Rattle.keep_house.specs.Desks.{SaysLines};
+ghost use Rattle.keep_house.specs.LogDesk.{SaysLines};
 ghost use Rattle.keep_house.specs.Lines.{AreSaid, LineIsSaid};
-ghost use Rattle.keep_house.specs.SecretLines.{AsksToLook, LooksAround, event_of, level_of, look_lines, news_line, news_lines, text_of, trouble_text, want_lines};
+ghost use Rattle.keep_house.specs.SecretLines.{AsksToLook, LooksAround, event_of_secret, level_of, look_lines, news_lines, secret_news_line, text_of, trouble_text, want_lines};
 
 use crate::desk::Desk;
 use crate::house::House;
@@ -83,7 +83,7 @@ fn say_want(alloc: Global, stamp: &Stamp, is_enough: bool, room: &mut Rooms)
 // Says what became of the file of an entry.
 #[tactic(auto, using(crate::proofs::Said::missed))]
 fn say_word(alloc: Global, stamp: &Stamp, name: &[u8], what: SecretWord, room: &mut Rooms)
-    ensures { LineIsSaid stamp.now.form stamp.now.moment (news_line name.now what) room.old room.new }
+    ensures { LineIsSaid stamp.now.form stamp.now.moment (secret_news_line name.now what) room.old room.new }
 {
     let level = level_of(what);
     match word_of(alloc, what) {
@@ -103,7 +103,7 @@ fn level_of(what: SecretWord) -> Level
 }
 
 fn event_of(what: SecretWord) -> &'static str
-    ensures { result.now ≡ event_of what }
+    ensures { result.now ≡ event_of_secret what }
 {
     match what {
         SecretWord::Taken => "replace",

@@ -1,6 +1,6 @@
 //! What a client is told by the verdict on the credential that it has brought.
 ghost use Rattle.std.specs.Prelude.{◌≡◌, ◌++◌, IfOk, IfSome, OnOk};
-ghost use Rattle.keep_house.specs.VerdictWords.{endless_words, kept_words, later_words, loss_text, noted, status_words};
+ghost use Rattle.keep_house.specs.VerdictWords.{endless_words, kept_words, later_words, line_with_loss, loss_text, status_words};
 
 use keep_change::What;
 use keep_lanes::Loss;
@@ -70,7 +70,7 @@ fn push_kept(name: &[u8], what: &What, text: &mut Vec<u8>) -> Result<(), AllocEr
 
 /// The line, and that the broker has said nothing of the credential, where it has not.
 pub(crate) fn noted(alloc: Global, line: Text, why: Option<Loss>) -> Result<Text, AllocError>
-    ensures { IfOk result (λ text. text ≡ noted why line) }
+    ensures { IfOk result (λ text. text ≡ line_with_loss why line) }
 {
     let Some(why) = why else {
         return Ok(line);

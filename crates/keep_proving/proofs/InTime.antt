@@ -13,8 +13,8 @@ use Rattle.keep_lanes.specs.declared.fault.LaneFault.TheVariants.{Refuse, Lose, 
 use Rattle.keep_lanes.specs.declared.lanes.Ask.{Ask}
 use Rattle.keep_lanes.specs.declared.loss.Loss.TheVariants as losses
 use Rattle.vault_http.specs.declared.request.Request.{Request}
-use Rattle.keep_proving.specs.Laws.{TimeLaw}
-use Rattle.keep_proving.specs.Lookups.{ask_of}
+use Rattle.keep_proving.specs.Laws.{VerdictTimeLaw}
+use Rattle.keep_proving.specs.Lookups.{candidate_ask}
 use Rattle.keep_proving.specs.declared.candidate.TheConstants.{LOOKUP_NUMBER}
 use Rattle.keep_proving.proofs.Alone.{put_one, the_same}
 
@@ -57,11 +57,11 @@ still_known : {P : Type 0} (b : Option BehindLanes) (next : BehindLanes) → b �
 still_known None next is h = absurd cc
 still_known (Some x) next is h = h
 
-pub ends : TimeLaw
+pub ends : VerdictTimeLaw
 ends port t now later c behind old mid new bound known none gone past heard =
     let sent = gone.sent in
     let o : Out = record { index = LOOKUP_NUMBER; comes = sent.comes } in
-    let by = known_by old.seconds t now (ask_of port c) behind sent.comes mid.behind bound (subst (λ b. IsSentBy old.seconds t now (ask_of port c) b sent.comes mid.behind) known sent.by) in
+    let by = known_by old.seconds t now (candidate_ask port c) behind sent.comes mid.behind bound (subst (λ b. IsSentBy old.seconds t now (candidate_ask port c) b sent.comes mid.behind) known sent.by) in
     let out : mid.out ≡ o ∷ [] = put_one o old.out mid.out sent.put none in
     let same = the_same heard.0.0 o (sym heard.0.1.0 ∙ out) in
     let away : is_there later heard.0.0 ≡ false = still_known mid.behind by.next by.still heard.0.1.1 in

@@ -23,7 +23,7 @@ use Rattle.vault_json.specs.declared.fault.ReplyFault.{ReplyFault}
 use Rattle.vault_json.specs.declared.lookup.Lookup.{Lookup}
 use Rattle.vault_json.specs.declared.lookup.Lookup.TheVariants as lookups
 use Rattle.watch_machine.specs.declared.event.Reply.TheVariants as replies
-use Rattle.keep_proving.specs.Laws.{IsTold, LostLaw, OtherStatusLaw, ToldLaw, is_refusal}
+use Rattle.keep_proving.specs.Laws.{IsToldVerdict, LostLaw, OtherStatusLaw, ToldVerdictLaw, is_refusal}
 use Rattle.keep_proving.specs.Verdicts.{verdict_by}
 use Rattle.keep_proving.specs.declared.verdict.Verdict.{Verdict}
 use Rattle.keep_proving.specs.declared.verdict.Verdict.TheVariants.{Refused, Missing}
@@ -82,7 +82,7 @@ lost c loss = lost_is c.inventory c.entry loss
 
 -- ---- status 200
 
-end_is : (kind : Kind) (look : Lookup) (date : Option ℕ) (endless : Bool) (loss : Loss) → (endless ≡ true → kind ≡ Token) → IsTold kind (verdict_by (end_told look date) endless loss)
+end_is : (kind : Kind) (look : Lookup) (date : Option ℕ) (endless : Bool) (loss : Loss) → (endless ≡ true → kind ≡ Token) → IsToldVerdict kind (verdict_by (end_told look date) endless loss)
 end_is kind (lookups.Token ttl created explicit_max orphan renewable period) date true loss h = h refl
 end_is kind (lookups.Token ttl created explicit_max orphan renewable period) date false loss h = tt
 end_is kind (lookups.Lease id issued renewable ttl) date true loss h = h refl
@@ -90,11 +90,11 @@ end_is kind (lookups.Lease id issued renewable ttl) date false loss h = tt
 
 -- one that is said of another, or of the entry
 said_of : (kind : Kind) (s : Inventory) (i : ℕ) (said : Terms) (date : Option ℕ) (other : Bool) → (said.never_ends ≡ true → kind ≡ Token) →
-    IsTold kind (verdict_by (cond other replies.Lost (end_told said.lookup date)) (cond other no_terms (terms_told s i said)).endless losses.Reply)
+    IsToldVerdict kind (verdict_by (cond other replies.Lost (end_told said.lookup date)) (cond other no_terms (terms_told s i said)).endless losses.Reply)
 said_of kind s i said date true h = refl
 said_of kind s i said date false h = end_is kind said.lookup date said.never_ends losses.Reply h
 
-told_is : (kind : Kind) (s : Inventory) (i : ℕ) (said : Terms) (date : Option ℕ) → (said.never_ends ≡ true → kind ≡ Token) → IsTold kind (verdict_heard s i (heard.Told said date))
+told_is : (kind : Kind) (s : Inventory) (i : ℕ) (said : Terms) (date : Option ℕ) → (said.never_ends ≡ true → kind ≡ Token) → IsToldVerdict kind (verdict_heard s i (heard.Told said date))
 unfolding lookup_reply lookup_terms
 told_is kind s i said date h = said_of kind s i said date (is_of_another (lookup_fault s i said.lookup)) h
 
@@ -105,18 +105,18 @@ endless_token Lease body h = absurd cc
 
 -- one that can be read, or not
 read_is : (kind : Kind) (s : Inventory) (i : ℕ) (date : Option ℕ) (body : List ℕ) (read : Result Lookup ReplyFault) →
-    IsTold kind (verdict_heard s i (heard_with losses.Reply (exchanged.told_with_date date (exchanged.looked_of (exchanged.has_no_end kind body) read))))
+    IsToldVerdict kind (verdict_heard s i (heard_with losses.Reply (exchanged.told_with_date date (exchanged.looked_of (exchanged.has_no_end kind body) read))))
 read_is kind s i date body (Ok look) = told_is kind s i (record { lookup = look; never_ends = exchanged.has_no_end kind body }) date (endless_token kind body)
-read_is kind s i date body (Err fault) = subst (λ v. IsTold kind v) (sym (lost_is s i losses.Reply)) refl
+read_is kind s i date body (Err fault) = subst (λ v. IsToldVerdict kind v) (sym (lost_is s i losses.Reply)) refl
 
 of_ok : (kind : Kind) (d : DatedReply) → (d.reply.status == 200) ≡ true → exchanged.looked_up_by_reply kind d ≡ exchanged.told_with_date d.date (exchanged.looked_in kind d.reply.body)
 unfolding exchanged.looked_up_by_reply
 of_ok kind d ok = cond-true (d.reply.status == 200) (exchanged.told_with_date d.date (exchanged.looked_in kind d.reply.body)) (exchanged.refused_by_status d.reply.status d.date) ok
 
-pub told : ToldLaw
+pub told : ToldVerdictLaw
 told c d ok =
     let kind = (entry_at c.inventory.forest.entries c.entry).kind in
     let reply = exchanged.told_with_date d.date (exchanged.looked_in kind d.reply.body) in
-    subst (λ h. IsTold kind (verdict_heard c.inventory c.entry (heard_with (lost_by d.reply.status) h))) (sym (of_ok kind d ok))
-    (subst (λ why. IsTold kind (verdict_heard c.inventory c.entry (heard_with why reply))) (sym (cond-true (d.reply.status == 200) losses.Reply (losses.Status d.reply.status) ok))
+    subst (λ h. IsToldVerdict kind (verdict_heard c.inventory c.entry (heard_with (lost_by d.reply.status) h))) (sym (of_ok kind d ok))
+    (subst (λ why. IsToldVerdict kind (verdict_heard c.inventory c.entry (heard_with why reply))) (sym (cond-true (d.reply.status == 200) losses.Reply (losses.Status d.reply.status) ok))
     (read_is kind c.inventory c.entry d.date d.reply.body (lookup_in kind d.reply.body)))

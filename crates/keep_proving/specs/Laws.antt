@@ -10,7 +10,7 @@ use Rattle.keep_tree.specs.Forest.{entry_at}
 use Rattle.keep_tree.specs.declared.entry.Kind.{Kind}
 use Rattle.keep_tree.specs.declared.entry.Kind.TheVariants.{Token}
 use Rattle.vault_http.specs.declared.dated_reply.DatedReply.{DatedReply}
-use Rattle.keep_proving.specs.Lookups.{GoesOut, Hears}
+use Rattle.keep_proving.specs.Lookups.{CandidateGoesOut, Hears}
 use Rattle.keep_proving.specs.Verdicts.{verdict_on}
 use Rattle.keep_proving.specs.declared.candidate.Candidate.{Candidate}
 use Rattle.keep_proving.specs.declared.verdict.Verdict.{Verdict}
@@ -29,14 +29,14 @@ OtherStatusLaw =
     verdict_on c (Ok d) ≡ (if is_refusal d.reply.status then Refused d.reply.status else Missing (losses.Status d.reply.status))
 
 -- one with 200 says that it is known, and of a token that it never ends; or it cannot be read, or is said of another
-abbrev pub IsTold : Kind → Verdict → Type 0
-IsTold kind Good = Unit {0}
-IsTold kind (Refused status) = ⊥
-IsTold kind Endless = kind ≡ Token
-IsTold kind (Missing loss) = loss ≡ losses.Reply
+abbrev pub IsToldVerdict : Kind → Verdict → Type 0
+IsToldVerdict kind Good = Unit {0}
+IsToldVerdict kind (Refused status) = ⊥
+IsToldVerdict kind Endless = kind ≡ Token
+IsToldVerdict kind (Missing loss) = loss ≡ losses.Reply
 
-abbrev pub ToldLaw : Type 0
-ToldLaw = (c : Candidate) (d : DatedReply) → (d.reply.status == 200) ≡ true → IsTold (entry_at c.inventory.forest.entries c.entry).kind (verdict_on c (Ok d))
+abbrev pub ToldVerdictLaw : Type 0
+ToldVerdictLaw = (c : Candidate) (d : DatedReply) → (d.reply.status == 200) ≡ true → IsToldVerdict (entry_at c.inventory.forest.entries c.entry).kind (verdict_on c (Ok d))
 
 -- where there is no reply nothing is said of it
 abbrev pub LostLaw : Type 0
@@ -45,7 +45,7 @@ LostLaw = (c : Candidate) (loss : Loss) → verdict_on c (Err loss) ≡ Missing 
 -- ---- in time
 
 -- in memory, where the time-out has passed since it went out there is a verdict
-abbrev pub TimeLaw : Type 0
-TimeLaw =
-    (port t now later : ℕ) (c : Candidate) (behind : BehindLanes) (old mid new : Lanes) → now < 2 ^ 64 → old.behind ≡ Some behind → old.out ≡ [] → GoesOut port t now c old mid →
+abbrev pub VerdictTimeLaw : Type 0
+VerdictTimeLaw =
+    (port t now later : ℕ) (c : Candidate) (behind : BehindLanes) (old mid new : Lanes) → now < 2 ^ 64 → old.behind ≡ Some behind → old.out ≡ [] → CandidateGoesOut port t now c old mid →
     millis_after now (1000 * old.seconds) ≤ later → Hears later c mid None new → ⊥

@@ -36,12 +36,12 @@ pub record IsInquiry (width : ℕ) (out : List Out) (asked : Option Candidate) :
 -- ---- it is asked
 
 -- the lookup of the entry, which may take as long as any request
-abbrev pub ask_of : ℕ → Candidate → Ask
-ask_of port c = record { index = LOOKUP_NUMBER; patience = patience_in Full; request = lookup_of port c.inventory.credentials c.inventory.forest c.entry }
+abbrev pub candidate_ask : ℕ → Candidate → Ask
+candidate_ask port c = record { index = LOOKUP_NUMBER; patience = patience_in Full; request = lookup_of port c.inventory.credentials c.inventory.forest c.entry }
 
 -- it goes out on a lane, at that moment of the wall and of the elapsed clock
-pub record GoesOut (port t now : ℕ) (c : Candidate) (old new : Lanes) : Type 0 where
-  pub sent : RequestIsSent old.seconds t now (ask_of port c) old.behind old.out new.behind new.out
+pub record CandidateGoesOut (port t now : ℕ) (c : Candidate) (old new : Lanes) : Type 0 where
+  pub sent : RequestIsSent old.seconds t now (candidate_ask port c) old.behind old.out new.behind new.out
   pub seconds : new.seconds ≡ old.seconds
 
 -- ---- and it is heard
@@ -60,10 +60,10 @@ Hears now c old None new = IsAwaited now old × (new ≡ old)
 Hears now c old (Some verdict) new = (answer : Answer) × (IsAnswered now old answer × ((verdict ≡ verdict_on c answer) × (new ≡ record old { out = [] })))
 
 -- and the credential is looked up until there is one. Where none is looked up, nothing is done
-abbrev pub left_of : Option Verdict → Candidate → Option Candidate
-left_of None c = Some c
-left_of (Some verdict) c = None
+abbrev pub candidate_left : Option Verdict → Candidate → Option Candidate
+candidate_left None c = Some c
+candidate_left (Some verdict) c = None
 
-abbrev pub GoesOn : ℕ → Option Candidate → Lanes → Option Verdict → Option Candidate → Lanes → Type 0
-GoesOn now None old verdict asked new = (verdict ≡ None) × ((asked ≡ None) × (new ≡ old))
-GoesOn now (Some c) old verdict asked new = (asked ≡ left_of verdict c) × Hears now c old verdict new
+abbrev pub InquiryGoesOn : ℕ → Option Candidate → Lanes → Option Verdict → Option Candidate → Lanes → Type 0
+InquiryGoesOn now None old verdict asked new = (verdict ≡ None) × ((asked ≡ None) × (new ≡ old))
+InquiryGoesOn now (Some c) old verdict asked new = (asked ≡ candidate_left verdict c) × Hears now c old verdict new

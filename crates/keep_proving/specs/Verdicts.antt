@@ -14,12 +14,12 @@ use Rattle.keep_proving.specs.declared.verdict.Verdict.{Verdict}
 use Rattle.keep_proving.specs.declared.verdict.Verdict.TheVariants.{Good, Refused, Endless, Missing}
 
 -- it is known, and never ends or ends
-abbrev pub told : Bool → Verdict
-told endless = if endless then Endless else Good
+abbrev pub told_verdict : Bool → Verdict
+told_verdict endless = if endless then Endless else Good
 
 -- by what is told, whether that never ends, and why the answer counts as lost, where it does
 abbrev pub verdict_by : Reply → Bool → Loss → Verdict
-verdict_by (replies.Told seconds renewable date) endless loss = told endless
+verdict_by (replies.Told seconds renewable date) endless loss = told_verdict endless
 verdict_by (replies.Refused status date) endless loss = Refused status
 verdict_by replies.Busy endless loss = Missing loss
 verdict_by replies.Lost endless loss = Missing loss

@@ -1,6 +1,6 @@
 //! One credential is looked up at a time.
 ghost use Rattle.std.specs.Prelude.{◌≡◌, ◌<◌, [], None, Some, IfOk, OnErr, OnOk, is_some, length};
-ghost use Rattle.keep_proving.specs.Lookups.{AreOutFor, GoesOn, GoesOut, Hears, IsCandidate};
+ghost use Rattle.keep_proving.specs.Lookups.{AreOutFor, CandidateGoesOut, Hears, InquiryGoesOn, IsCandidate};
 
 use crate::candidate::{Candidate, LOOKUP_NUMBER};
 use crate::verdict::{Verdict, verdict_on};
@@ -60,7 +60,7 @@ impl<L: Lanes> Proving<L> {
     ) -> Result<(), AllocError>
         requires none { self.old.asked ≡ None }
         requires entry { IsCandidate candidate }
-        ensures out { OnOk result (GoesOut (L.host_port self.old.lanes) t now candidate (⟦<L as SeenLanes>⟧.seen self.old.lanes) (⟦<L as SeenLanes>⟧.seen self.new.lanes)) }
+        ensures out { OnOk result (CandidateGoesOut (L.host_port self.old.lanes) t now candidate (⟦<L as SeenLanes>⟧.seen self.old.lanes) (⟦<L as SeenLanes>⟧.seen self.new.lanes)) }
         ensures asked { OnOk result (self.new.asked ≡ Some candidate) }
         ensures none { OnErr result (self.new.asked ≡ None) }
         ensures width { L.width self.new.lanes ≡ L.width self.old.lanes }
@@ -76,7 +76,7 @@ impl<L: Lanes> Proving<L> {
     ///
     /// The only error is out of memory: then it is looked up no more, and there is no verdict on it.
     pub fn go_on(&mut self, alloc: Global, now: u64) -> Result<Option<Verdict>, AllocError>
-        ensures goes_on { IfOk result (λ verdict. GoesOn now self.old.asked (⟦<L as SeenLanes>⟧.seen self.old.lanes) verdict self.new.asked (⟦<L as SeenLanes>⟧.seen self.new.lanes)) }
+        ensures goes_on { IfOk result (λ verdict. InquiryGoesOn now self.old.asked (⟦<L as SeenLanes>⟧.seen self.old.lanes) verdict self.new.asked (⟦<L as SeenLanes>⟧.seen self.new.lanes)) }
         ensures none { OnErr result (self.new.asked ≡ None) }
         ensures width { L.width self.new.lanes ≡ L.width self.old.lanes }
         ensures port { L.host_port self.new.lanes ≡ L.host_port self.old.lanes }
@@ -109,7 +109,7 @@ fn send<L: Lanes>(
 ) -> Result<(), AllocError>
     requires entry { IsCandidate candidate.now }
     requires free { length (L.out lanes.old) < L.width lanes.old }
-    ensures out { OnOk result (GoesOut (L.host_port lanes.old) t now candidate.now (⟦<L as SeenLanes>⟧.seen lanes.old) (⟦<L as SeenLanes>⟧.seen lanes.new)) }
+    ensures out { OnOk result (CandidateGoesOut (L.host_port lanes.old) t now candidate.now (⟦<L as SeenLanes>⟧.seen lanes.old) (⟦<L as SeenLanes>⟧.seen lanes.new)) }
     ensures kept { OnErr result (L.out lanes.new ≡ L.out lanes.old) }
     ensures width { L.width lanes.new ≡ L.width lanes.old }
     ensures port { L.host_port lanes.new ≡ L.host_port lanes.old }

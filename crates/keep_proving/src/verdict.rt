@@ -1,6 +1,6 @@
 //! What is made of the answer to a lookup.
 ghost use Rattle.std.specs.Prelude.{◌≡◌, ◌<◌, IfOk, length};
-ghost use Rattle.keep_proving.specs.Verdicts.{told, verdict_of, verdict_on};
+ghost use Rattle.keep_proving.specs.Verdicts.{told_verdict, verdict_of, verdict_on};
 
 use crate::candidate::Candidate;
 use keep_asking::{Said, said_to};
@@ -35,7 +35,7 @@ pub fn verdict_of(said: Said) -> Verdict
 
 // The verdict on a credential that the broker knows.
 fn told(is_endless: bool) -> Verdict
-    ensures { result ≡ told is_endless }
+    ensures { result ≡ told_verdict is_endless }
 {
     if is_endless {
         Verdict::Endless

@@ -1,26 +1,17 @@
 -- What is said follows from the machine, the forest and the standings.
-use Rattle.std.proofs.Common.{◌≡◌, ◌∙◌, List, [], ap, zero}
+use Rattle.std.proofs.Common.{◌≡◌, List, ap}
 use Rattle.keep_agent.specs.Agent.{Agent}
-use Rattle.keep_agent.specs.declared.standing.Standing.{Standing}
 use Rattle.keep_lines.specs.Text.{name_of}
-use Rattle.keep_tree.specs.Forest.{Forest}
-use Rattle.watch_machine.specs.State.{WatchState}
 use Rattle.watch_machine.specs.declared.command.Request.{Request}
 use Rattle.watch_machine.specs.declared.notes.Notes.{Notes}
 use Rattle.keep_house.specs.Alike.{AgentsAreAlike}
-use Rattle.keep_house.specs.Answered.{answered_lines}
-use Rattle.keep_house.specs.Clocked.{clocked_lines, marks_clocked, short_log_lines}
+use Rattle.keep_house.specs.LinesOfAnswers.{answered_lines}
+use Rattle.keep_house.specs.LinesOfClocks.{clocked_lines, marks_anew, marks_clocked, short_log_lines}
 use Rattle.keep_house.specs.Nexts.{next_lines, next_there}
 use Rattle.keep_house.specs.Sockets.{need_log_line}
 use Rattle.keep_house.specs.declared.mark.Mark.{Mark}
+use Rattle.keep_house.proofs.Alike.{bare, same}
 use Rattle.keep_house.proofs.laws.no_credential_is_said.Goals as goal
-
--- an agent without credentials
-abbrev bare : WatchState → Forest → List Standing → Agent
-bare m f xs = record { machine = m; inventory = record { forest = f; credentials = []; terms = [] }; standings = xs; beginnings = zero }
-
-same : {X : Type 0} → (f : WatchState → Forest → List Standing → X) (a b : Agent) → AgentsAreAlike a b → f b.machine b.inventory.forest b.standings ≡ f a.machine a.inventory.forest a.standings
-same f a b h = ap (λ m. f m b.inventory.forest b.standings) h.machine ∙ ap (λ g. f a.machine g b.standings) h.forest ∙ ap (λ xs. f a.machine a.inventory.forest xs) h.standings
 
 clocked_same : (notes : Notes) (requests : List Request) (marks : List Mark) (a b : Agent) → AgentsAreAlike a b → clocked_lines b notes requests marks ≡ clocked_lines a notes requests marks
 unfolding clocked_lines
@@ -46,3 +37,7 @@ returns-clause-shorts c = λ a b h shorts. same (λ m f xs. short_log_lines (bar
 pub returns-clause-answered : goal.returns-clause-answered
 unfolding answered_lines
 returns-clause-answered c = λ a b h i operation said notes before. same (λ m f xs. answered_lines (bare m f xs) i operation said notes before) a b h
+
+pub returns-clause-carried : goal.returns-clause-carried
+unfolding marks_anew
+returns-clause-carried c = λ a b h count. same (λ m f xs. marks_anew (bare m f xs) count) a b h

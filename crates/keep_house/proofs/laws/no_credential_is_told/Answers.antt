@@ -6,6 +6,7 @@ use Rattle.keep_notes.specs.Laws.{IsSameBut}
 use Rattle.keep_store.specs.declared.fault.TakeFault.{TakeFault}
 use Rattle.keep_store.specs.declared.fault.TakeFault.TheVariants as takes
 use Rattle.keep_house.specs.Reasons.{take_words}
+use Rattle.keep_house.proofs.Alike.{end_alike, keeps_alike, replaced_alike}
 use Rattle.keep_house.proofs.laws.no_credential_is_told.Goals as goal
 
 refused : (margin : ℕ) (name : List ℕ) (w v : What) (fault : TakeFault) → IsSameBut w v → take_words margin name w fault ≡ take_words margin name v fault
@@ -20,3 +21,12 @@ returns-clause-refused c = refused
 
 pub returns-clause-replaced : goal.returns-clause-replaced
 returns-clause-replaced c = λ name row credential. (refl, refl)
+
+pub returns-clause-replaced_of : goal.returns-clause-replaced_of
+returns-clause-replaced_of c = replaced_alike
+
+pub returns-clause-keeps : goal.returns-clause-keeps
+returns-clause-keeps c = keeps_alike
+
+pub returns-clause-end : goal.returns-clause-end
+returns-clause-end c = end_alike

@@ -2,7 +2,7 @@
 use Rattle.std.proofs.Common.{◌≡◌, [], arith, drop, map, refl, subst, sym}
 use Rattle.std.proofs.lemmas.Grind.{common_steps}
 use Rattle.std.proofs.lemmas.List.{drop_more}
-use Rattle.keep_house.specs.Clocked.{short_log_line}
+use Rattle.keep_house.specs.LinesOfClocks.{short_log_line}
 use Rattle.keep_house.specs.Lines.{AreSaid}
 use Rattle.keep_house.proofs.log_clock.say_each_short.Goals as goal
 

@@ -1,6 +1,6 @@
 -- Once the needs to come are said, all of them are.
 use Rattle.std.proofs.Common.{drop, map}
-use Rattle.keep_house.specs.Clocked.{short_log_line}
+use Rattle.keep_house.specs.LinesOfClocks.{short_log_line}
 use Rattle.keep_house.specs.Lines.{AreSaid}
 use Rattle.keep_house.specs.Rooms.{Rooms}
 use Rattle.keep_house.proofs.log_clock.say_each_short.Given as goal

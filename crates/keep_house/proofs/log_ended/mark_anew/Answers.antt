@@ -1,6 +1,6 @@
 -- One mark more is made.
 use Rattle.std.proofs.Common.{◌≡◌, ◌∙◌, ◌<◌, ap, arith, length}
-use Rattle.keep_house.specs.Clocked.{carried_mark, marks_anew}
+use Rattle.keep_house.specs.LinesOfClocks.{carried_mark, marks_anew}
 use Rattle.keep_house.proofs.Marking.{marked_all, marked_more, marked_none}
 use Rattle.keep_house.proofs.log_ended.mark_anew.Goals as goal
 

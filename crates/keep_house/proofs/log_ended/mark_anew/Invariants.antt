@@ -1,5 +1,5 @@
 -- Those before the index are marked.
-use Rattle.keep_house.specs.Clocked.{carried_mark}
+use Rattle.keep_house.specs.LinesOfClocks.{carried_mark}
 use Rattle.keep_house.proofs.Marking.{Marked}
 use Rattle.keep_house.proofs.log_ended.mark_anew.Given as goal
 

@@ -1,6 +1,6 @@
 -- One mark more is made.
 use Rattle.std.proofs.Common.{◌≡◌, ◌∙◌, ◌<◌, ap, arith, length}
-use Rattle.keep_house.specs.Clocked.{marks_clocked, with_ended}
+use Rattle.keep_house.specs.LinesOfClocks.{marks_clocked, with_ended}
 use Rattle.keep_house.proofs.Marking.{marked_all, marked_more, marked_none}
 use Rattle.keep_house.proofs.log_ended.mark_ended.Goals as goal
 

@@ -1,5 +1,5 @@
 -- Those before the index are marked.
-use Rattle.keep_house.specs.Clocked.{with_ended}
+use Rattle.keep_house.specs.LinesOfClocks.{with_ended}
 use Rattle.keep_house.proofs.Marking.{Marked}
 use Rattle.keep_house.proofs.log_ended.mark_ended.Given as goal
 

@@ -2,7 +2,7 @@
 use Rattle.std.proofs.Common.{◌≡◌, ◌+◌, ◌∷◌, [], arith, drop, refl, subst, sym}
 use Rattle.std.proofs.lemmas.Grind.{common_steps}
 use Rattle.std.proofs.lemmas.List.{drop_more}
-use Rattle.keep_house.specs.Clocked.{ended_line, ended_lines}
+use Rattle.keep_house.specs.LinesOfClocks.{ended_line, ended_lines}
 use Rattle.keep_house.specs.Lines.{AreSaid}
 use Rattle.keep_house.specs.Marks.{fresh_mark, mark_at}
 use Rattle.keep_house.proofs.Said.{both_said}

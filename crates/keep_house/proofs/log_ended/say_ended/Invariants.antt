@@ -1,6 +1,6 @@
 -- Once it is said of the entries to come, it is said of all.
 use Rattle.std.proofs.Common.{drop}
-use Rattle.keep_house.specs.Clocked.{ended_lines}
+use Rattle.keep_house.specs.LinesOfClocks.{ended_lines}
 use Rattle.keep_house.specs.Lines.{AreSaid}
 use Rattle.keep_house.specs.Rooms.{Rooms}
 use Rattle.keep_house.proofs.log_ended.say_ended.Given as goal

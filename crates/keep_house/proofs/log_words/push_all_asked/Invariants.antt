@@ -1,6 +1,6 @@
 -- The names of those of the requests that came are appended.
 use Rattle.std.proofs.Common.{◌≡◌, ◌++◌, take}
-use Rattle.keep_house.specs.Clocked.{asked_words}
+use Rattle.keep_house.specs.LinesOfClocks.{asked_words}
 use Rattle.keep_house.proofs.log_words.push_all_asked.Given as goal
 
 abbrev pub invariant-loop-request : goal.invariant-loop-request

@@ -1,6 +1,6 @@
 -- The names of the entries that came are appended.
 use Rattle.std.proofs.Common.{◌≡◌, ◌++◌, take}
-use Rattle.keep_house.specs.Clocked.{name_words}
+use Rattle.keep_house.specs.LinesOfClocks.{name_words}
 use Rattle.keep_house.proofs.log_words.push_names.Given as goal
 
 abbrev pub invariant-loop-entry : goal.invariant-loop-entry

@@ -22,4 +22,4 @@ returns g c =
     taken_up c.args.now due c.args.held c.args.looking.now c.note.new.self c.args.state.now c.take_held.new.state
     c.seen_of-before.result c.is_held-was_held.result c.in-Ok-take_held.became c.seen_after-seen.result c.news_of-what.result c.news_about.result
     seen held c.in-Ok-take_held.ensures.taken c.news_of-what.ensures c.seen_after-seen.ensures c.note.ensures
-    (c.news_about.ensures ∙ ap (λ (n : List ℕ). news_about n c.news_of-what.result) c.in-Ok.ensures.cases)
+    (c.news_about.ensures ∙ ap (λ (n : List ℕ). news_about n c.news_of-what.result) c.in-Ok.ensures.cases) c.take_held.ensures.disk

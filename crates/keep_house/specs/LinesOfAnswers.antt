@@ -1,4 +1,4 @@
--- Answered: what is said of an answer to a request.
+-- LinesOfAnswers: what is said of an answer to a request.
 -- Source: docs/running.md, "What the operator sees".
 use Rattle.std.specs.Prelude.{ℕ, ◌+◌, Bool, if◌then◌else◌, List, [], ◌∷◌, ◌++◌, Option, Some, None, codes, unwrap_or}
 use Rattle.keep_agent.specs.Agent.{Agent}

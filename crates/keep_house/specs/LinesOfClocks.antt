@@ -1,4 +1,4 @@
--- Clocked: what is said once the time was handed in, and of needs that cannot be kept.
+-- LinesOfClocks: what is said once the time was handed in, and of needs that cannot be kept.
 -- Source: docs/running.md, "What the operator sees".
 use Rattle.std.specs.Prelude.{ℕ, ◌+◌, Bool, true, false, not, ◌&&◌, if◌then◌else◌, List, [], ◌∷◌, ◌++◌, Option, Some, None, codes, flat_map, length, map, nat_lt}
 use Rattle.std.specs.List.{list_any, range_with_len}

@@ -1,4 +1,4 @@
--- Desks: where it is said what happens to an agent: the rooms of its log and of those who follow it, and what was said
+-- LogDesk: where it is said what happens to an agent: the rooms of its log and of those who follow it, and what was said
 -- last of each entry, and of a lack of memory.
 -- Source: this project's own; docs/running.md, "What the operator sees".
 use Rattle.std.specs.Prelude.{◌≡◌, ◌⊎◌, ◌≤◌, ℕ, Bool, true, false, not, ◌&&◌, List, [], ◌∷◌, Option, length, min, nat_eq, nat_lt, replicate, take}
@@ -13,13 +13,13 @@ use Rattle.keep_log.specs.declared.line.Word.TheVariants as words
 use Rattle.watch_machine.specs.declared.command.Request.{Request}
 use Rattle.watch_machine.specs.declared.event.Operation.{Operation}
 use Rattle.watch_machine.specs.declared.notes.Notes.{Notes}
-use Rattle.keep_house.specs.Answered.{answered_lines, trouble_after}
-use Rattle.keep_house.specs.Clocked.{clocked_lines, marks_clocked, memory_line, short_log_lines}
+use Rattle.keep_house.specs.LinesOfAnswers.{answered_lines, trouble_after}
+use Rattle.keep_house.specs.LinesOfClocks.{clocked_lines, marks_clocked, memory_line, short_log_lines}
 use Rattle.keep_house.specs.Lines.{AreSaid, Line, LineIsSaid, TellsDropped, now_of, said_line, second_of}
 use Rattle.keep_house.specs.Marks.{fresh_mark, mark_at, with_trouble}
 use Rattle.keep_house.specs.Rooms.{Rooms, begun_rooms}
 use Rattle.keep_house.specs.Sockets.{socket_log_line}
-use Rattle.keep_house.specs.declared.form.Form.{Form}
+use Rattle.keep_log.specs.declared.form.Form.{Form}
 use Rattle.keep_house.specs.declared.log_reader.TheConstants.{MOST_GIVEN}
 use Rattle.keep_house.specs.declared.mark.Mark.{Mark}
 use Rattle.keep_house.specs.declared.mark.Want.{Want}
