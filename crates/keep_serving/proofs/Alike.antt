@@ -30,7 +30,7 @@ use Rattle.watch_machine.specs.History.{Turn}
 use Rattle.watch_machine.specs.State.{WatchState, opened}
 use Rattle.watch_machine.specs.Step.{TurnMayWantMemory}
 use Rattle.keep_serving.specs.Alike.{AlikeLaw, AreAgentsAlike, AreHeldAlike, AreInventoriesAlike, AreWordsAlike, Content, RebuiltAlikeLaw, contents_at, contents_in, contents_taken}
-use Rattle.keep_serving.specs.Changes.{AgentIsTurned, AreMade, ChangeIsMade, Made}
+use Rattle.keep_serving.specs.Changes.{AgentIsTurned, AreMade, ChangeIsMade, MadeChange}
 use Rattle.keep_serving.specs.Held.{Held, ServingSide, serving_side}
 use Rattle.keep_serving.specs.Laws.{KeepInventory, KeepsInventory}
 use Rattle.keep_serving.specs.Stages.{AnswerIsTaken, AnswersAreTaken}
@@ -174,7 +174,7 @@ change_alike Begin true h k l m a b keep alike one two = event_alike events.Begi
 change_alike (Serve s) true h k l m a b keep alike one two = absurd keep
 change_alike Kept true h k l m a b keep alike one two = same_held h k a.held b.held (ap (λ (x : ServingSide). x.held) one) (ap (λ (x : ServingSide). x.held) two) alike
 
-changes_alike : (made : List Made) (h k : Held) (l m : Lanes) (a b : ServingSide) → KeepInventory made → AreHeldAlike h k → AreMade made (serving_side h l) a → AreMade made (serving_side k m) b → AreHeldAlike a.held b.held
+changes_alike : (made : List MadeChange) (h k : Held) (l m : Lanes) (a b : ServingSide) → KeepInventory made → AreHeldAlike h k → AreMade made (serving_side h l) a → AreMade made (serving_side k m) b → AreHeldAlike a.held b.held
 changes_alike [] h k l m a b keep alike one two = same_held h k a.held b.held (ap (λ (x : ServingSide). x.held) one) (ap (λ (x : ServingSide). x.held) two) alike
 changes_alike (c ∷ rest) h k l m a b keep alike one two =
     let mid = change_alike c.change c.is_made h k l m one.0 two.0 keep.0 alike one.1.0 two.1.0 in

@@ -1,25 +1,25 @@
 -- Bounded: a turn waits for a second at most, and calls its neighbours so often at most. For `a_turn_is_bounded`.
-use Rattle.std.proofs.Common.{◌≡◌, ◌∙◌, ℕ, zero, suc, ◌+◌, ◌-◌, ◌≤◌, Bool, true, false, ◌||◌, List, [], ◌∷◌, ◌++◌, Option, None, Some, length, replicate, ap, arith}
+use Rattle.std.proofs.Common.{◌≡◌, ◌∙◌, ℕ, ◌+◌, ◌-◌, ◌≤◌, Bool, true, false, ◌||◌, List, [], ◌∷◌, ◌++◌, Option, None, Some, length, replicate, ap, arith}
 use Rattle.std.proofs.lemmas.List.{length-append, length-replicate}
 use Rattle.keep_clock.specs.declared.reading.Reading.{Reading}
-use Rattle.keep_serving.specs.Changes.{Made}
-use Rattle.keep_serving.specs.Laws.{CallsLaw, WaitLaw}
-use Rattle.keep_serving.specs.Neighbours.{Answer, GoOn, Hear, NeighbourCall, calls_at, calls_of_hearing, changes_in, heard_of_time, heard_of_want}
-use Rattle.keep_serving.specs.Turns.{ServingTurn, is_some_made, wait_by}
+use Rattle.keep_serving.specs.Changes.{MadeChange}
+use Rattle.keep_serving.specs.Laws.{CallsLaw, TurnWaitLaw}
+use Rattle.keep_serving.specs.Neighbours.{Answer, GoOn, Hear, NeighbourCall, calls_at, calls_of_change, calls_of_hearing, heard_of_time, heard_of_want}
+use Rattle.keep_serving.specs.Turns.{ServingTurn, is_some_made, turn_wait_by}
 
 -- ---- the wait
 
-a_second : (is_more is_whole : Bool) (until due : ℕ) (reading : Option Reading) → wait_by is_more is_whole until due reading ≤ 1000
+a_second : (is_more is_whole : Bool) (until due : ℕ) (reading : Option Reading) → turn_wait_by is_more is_whole until due reading ≤ 1000
 a_second true is_whole until due reading = omega arith
 a_second false is_whole until due None = omega arith
 a_second false true until due (Some r) = omega arith
 a_second false false until due (Some r) = omega arith
 
-in_time : (is_more : Bool) (until due : ℕ) (r : Reading) → wait_by is_more true until due (Some r) ≤ until - r.elapsed
+in_time : (is_more : Bool) (until due : ℕ) (r : Reading) → turn_wait_by is_more true until due (Some r) ≤ until - r.elapsed
 in_time true until due r = omega arith
 in_time false until due r = omega arith
 
-pub wait_law : WaitLaw
+pub wait_law : TurnWaitLaw
 wait_law port old new t h =
     let is_more = is_some_made t.changes || t.is_busy in
     let until = new.held.until in
@@ -27,7 +27,7 @@ wait_law port old new t h =
     let most = a_second is_more t.is_whole until t.due t.reading in (
       omega (arith, waits, most),
       λ r read whole.
-          (let is = waits ∙ ap (λ x. wait_by is_more t.is_whole until t.due x) read ∙ ap (λ w. wait_by is_more w until t.due (Some r)) whole in
+          (let is = waits ∙ ap (λ x. turn_wait_by is_more t.is_whole until t.due x) read ∙ ap (λ w. turn_wait_by is_more w until t.due (Some r)) whole in
           let before = in_time is_more until t.due r in
           omega (arith, is, before)),
     )
@@ -45,28 +45,27 @@ few_heard answers is_handed =
     let last = few_of_time is_handed in
     omega (arith, all, first, last)
 
-few_changes : (most : ℕ) (made : List Made) → length (changes_in most made) ≤ most + most
-few_changes zero made = omega arith
-few_changes (suc most) [] = omega arith
-few_changes (suc most) (m ∷ made) = (let rest = few_changes most made in omega (arith, rest))
+few_of_change : (made : List MadeChange) → length (calls_of_change made) ≤ 2
+few_of_change [] = omega arith
+few_of_change (m ∷ rest) = omega arith
 
 few_of_want : (is_whole : Bool) → length (heard_of_want is_whole) ≤ 1
 few_of_want true = omega arith
 few_of_want false = omega arith
 
 -- but for the call that tells of a want
-few_at : (answers : ℕ) (is_handed is_whole : Bool) (rest : List NeighbourCall) → length rest ≤ 17 → length (calls_of_hearing answers is_handed ++ (heard_of_want is_whole ++ rest)) ≤ answers + 19 + length (heard_of_want is_whole)
+few_at : (answers : ℕ) (is_handed is_whole : Bool) (rest : List NeighbourCall) → length rest ≤ 3 → length (calls_of_hearing answers is_handed ++ (heard_of_want is_whole ++ rest)) ≤ answers + 5 + length (heard_of_want is_whole)
 few_at answers is_handed is_whole rest last =
     let all = length-append (calls_of_hearing answers is_handed) (heard_of_want is_whole ++ rest) in
     let want = length-append (heard_of_want is_whole) rest in
     let first = few_heard answers is_handed in
     omega (arith, all, want, first, last)
 
-few_calls : (reading : Option Reading) (answers : ℕ) (is_handed : Bool) (t : ServingTurn) → length (calls_at reading answers is_handed t) ≤ answers + 19 + length (heard_of_want t.is_whole)
+few_calls : (reading : Option Reading) (answers : ℕ) (is_handed : Bool) (t : ServingTurn) → length (calls_at reading answers is_handed t) ≤ answers + 5 + length (heard_of_want t.is_whole)
 few_calls None answers is_handed t = omega arith
 few_calls (Some r) answers is_handed t =
-    let last = few_changes 8 t.changes in
-    few_at answers is_handed t.is_whole (GoOn t.is_busy ∷ changes_in 8 t.changes) (omega (arith, last))
+    let last = few_of_change t.changes in
+    few_at answers is_handed t.is_whole (GoOn t.is_busy ∷ calls_of_change t.changes) (omega (arith, last))
 
 pub calls_law : CallsLaw
 calls_law answers is_handed t =

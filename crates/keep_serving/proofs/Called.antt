@@ -1,10 +1,8 @@
 -- Called: calls of the neighbours, one after another. For the parts of a turn, and for `run`.
-use Rattle.std.proofs.Common.{◌≡◌, ◌∙◌, ℕ, zero, suc, ◌+◌, ◌≤◌, ◌<◌, Bool, true, false, List, [], ◌∷◌, ◌++◌, None, Some, Result, Ok, Err, IsErr, is_ok, append_assoc, length, replicate, refl, sym, ap, subst, arith}
-use Rattle.std.proofs.lemmas.List.{length-append, replicate-append-replicate}
-use Rattle.keep_serving.specs.Changes.{Made}
-use Rattle.keep_serving.specs.Neighbours.{AllCalled, Answer, AnswersAreHeardOf, AreCalled, AreCalledFor, Give, Hear, NeighbourCall, Settle, calls_of_hearing, changes_in, heard_of_time}
+use Rattle.std.proofs.Common.{◌≡◌, ◌∙◌, ℕ, ◌+◌, ◌≤◌, Bool, true, false, List, [], ◌∷◌, ◌++◌, Result, Ok, Err, IsErr, is_ok, append_assoc, replicate, refl, sym, ap, subst, arith}
+use Rattle.std.proofs.lemmas.List.{replicate-append-replicate}
+use Rattle.keep_serving.specs.Neighbours.{AllCalled, Answer, AnswersAreHeardOf, AreCalled, AreCalledFor, Hear, NeighbourCall, calls_of_hearing, heard_of_time}
 use Rattle.keep_serving.specs.Turns.{ServingTurn}
-use Rattle.keep_serving.specs.declared.change.Change.{Change}
 
 pub called_join : {N : Type 0} → (does : NeighbourCall → N → N → Type 0) (xs ys : List NeighbourCall) (a b c : N) → AllCalled does xs a b → AllCalled does ys b c → AllCalled does (xs ++ ys) a c
 called_join {N} does [] ys a b c h k = subst (λ (n : N). AllCalled does ys n c) h k
@@ -46,59 +44,6 @@ heard_some does n most is_whole a b not few first = heard_more does n 0 most is_
 -- the time alone
 pub heard_time : {N : Type 0} → (does : NeighbourCall → N → N → Type 0) (is_whole : Bool) (a b : N) → AllCalled does (heard_of_time true) a b → AnswersAreHeardOf does 0 is_whole a b
 heard_time does is_whole a b h = record { answers = 0; few = omega arith; is_handed = true; whole = λ is. refl; called = h }
-
--- ---- changes are asked for
-
--- what changes that were given called them for
-given_calls : List Made → List NeighbourCall
-given_calls [] = []
-given_calls (m ∷ made) = Give (Some m.change) ∷ Settle m.is_made ∷ given_calls made
-
-given_more : (made : List Made) (m : Made) → given_calls (made ++ m ∷ []) ≡ given_calls made ++ (Give (Some m.change) ∷ Settle m.is_made ∷ [])
-unfolding given_calls
-given_more [] m = refl
-given_more (x ∷ made) m = ap (λ cs. Give (Some x.change) ∷ Settle x.is_made ∷ cs) (given_more made m)
-
--- the changes so far, and what they called the neighbours for
-pub AreGiven : {N : Type 0} → (NeighbourCall → N → N → Type 0) → List Made → N → N → Type 0
-AreGiven does made old new = AllCalled does (given_calls made) old new
-
-pub one_given : (made : List Made) (m : Made) (n : ℕ) → length made ≡ n → length (made ++ m ∷ []) ≡ n + 1
-one_given made m n is = (let more = length-append made (m ∷ []) in omega (arith, more, is))
-
-pub given_none_yet : {N : Type 0} → (does : NeighbourCall → N → N → Type 0) (a : N) → AreGiven does [] a a
-unfolding AreGiven given_calls
-given_none_yet does a = refl
-
-pub given_one : {N : Type 0} → (does : NeighbourCall → N → N → Type 0) (made : List Made) (change : Change) (is_made : Bool) (a b c d : N) → AreGiven does made a b → does (Give (Some change)) b c → does (Settle is_made) c d →
-    AreGiven does (made ++ record { change = change; is_made = is_made } ∷ []) a d
-unfolding AreGiven
-given_one does made change is_made a b c d h give settle =
-    subst (λ xs. AllCalled does xs a d) (sym (given_more made (record { change = change; is_made = is_made })))
-    (called_join does (given_calls made) (Give (Some change) ∷ Settle is_made ∷ []) a b d h (called_twice does (Give (Some change)) (Settle is_made) b c d give settle))
-
--- as many as may be: no more are asked for
-all_given : (most : ℕ) (made : List Made) → length made ≡ most → changes_in most made ≡ given_calls made
-unfolding given_calls
-all_given zero [] is = refl
-all_given zero (m ∷ made) is = absurd (omega (arith, is))
-all_given (suc most) [] is = absurd (omega (arith, is))
-all_given (suc most) (m ∷ made) is = ap (λ cs. Give (Some m.change) ∷ Settle m.is_made ∷ cs) (all_given most made (omega (arith, is)))
-
--- fewer: none is given where the next is asked for
-fewer_given : (most : ℕ) (made : List Made) → length made < most → changes_in most made ≡ given_calls made ++ (Give None ∷ [])
-unfolding given_calls
-fewer_given zero made few = absurd (omega (arith, few))
-fewer_given (suc most) [] few = refl
-fewer_given (suc most) (m ∷ made) few = ap (λ cs. Give (Some m.change) ∷ Settle m.is_made ∷ cs) (fewer_given most made (omega (arith, few)))
-
-pub called_for_all : {N : Type 0} → (does : NeighbourCall → N → N → Type 0) (made : List Made) (a b : N) → length made ≡ 8 → AreGiven does made a b → AllCalled does (changes_in 8 made) a b
-unfolding AreGiven
-called_for_all does made a b is h = subst (λ xs. AllCalled does xs a b) (sym (all_given 8 made is)) h
-
-pub called_for_fewer : {N : Type 0} → (does : NeighbourCall → N → N → Type 0) (made : List Made) (a b c : N) → length made < 8 → AreGiven does made a b → does (Give None) b c → AllCalled does (changes_in 8 made) a c
-unfolding AreGiven
-called_for_fewer does made a b c few h none = subst (λ xs. AllCalled does xs a c) (sym (fewer_given 8 made few)) (called_join does (given_calls made) (Give None ∷ []) a b c h (called_once does (Give None) b c none))
 
 -- ---- turns
 

@@ -1,6 +1,5 @@
--- Changed: changes are made one after another, and each leaves what is held in step with the lanes. For `make_changes` and the turn.
-use Rattle.std.proofs.Common.{◌≡◌, ◌∙◌, ℕ, zero, suc, ◌+◌, ◌≤◌, Bool, true, false, ◌||◌, List, [], ◌∷◌, ◌++◌, Option, Some, None, Result, Ok, Err, append_assoc, length, map, refl, sym, ap, subst, arith}
-use Rattle.std.proofs.lemmas.List.{length-append}
+-- Changed: a change is made, and leaves what is held in step with the lanes. For `make_change` and the turn.
+use Rattle.std.proofs.Common.{◌≡◌, ◌∙◌, ℕ, zero, suc, ◌+◌, Bool, true, false, ◌||◌, List, [], ◌∷◌, ◌++◌, Option, Some, None, Result, Ok, Err, append_assoc, length, map, refl, sym, ap, subst, arith}
 use Rattle.keep_agent.specs.declared.standing.Told.{Told}
 use Rattle.keep_agent.specs.Agent.{Agent}
 use Rattle.keep_agent.specs.Rebuilding.{AreHanded, IsHanded, carried_told}
@@ -16,55 +15,27 @@ use Rattle.watch_machine.specs.declared.event.Event.TheVariants as events
 use Rattle.watch_machine.specs.declared.fault.WatchFault.{WatchFault}
 use Rattle.watch_machine.specs.declared.lanes.Out.{Out}
 use Rattle.watch_machine.specs.State.{WatchState, opened}
-use Rattle.keep_serving.specs.Changes.{AllGiven, AreMade, ChangeIsMade, InventoryIsServed, Made, changes_of}
+use Rattle.keep_serving.specs.Changes.{AllGiven, AreMade, ChangeIsMade, InventoryIsServed, MadeChange}
 use Rattle.keep_serving.specs.Held.{Held, IsInStep, ServingSide}
-use Rattle.keep_serving.specs.Turns.{is_some_made}
 use Rattle.keep_serving.specs.declared.change.Change.{Change}
 use Rattle.keep_serving.specs.declared.change.Change.TheVariants.{Need, Begin, Serve, Kept}
 
--- ---- one after another
+-- ---- one change
 
-pub made_on : (made : List Made) (c : Change) (is_made : Bool) (old mid new : ServingSide) → AreMade made old mid → ChangeIsMade c is_made mid new → AreMade (made ++ record { change = c; is_made = is_made } ∷ []) old new
-made_on [] c is_made old mid new h one = (new, (subst (λ (s : ServingSide). ChangeIsMade c is_made s new) h one, refl))
-made_on (m ∷ rest) c is_made old mid new h one = (h.0, (h.1.0, made_on rest c is_made h.0 mid new h.1.1 one))
+pub one_made : (c : Change) (is_made : Bool) (old new : ServingSide) → ChangeIsMade c is_made old new → AreMade (record { change = c; is_made = is_made } ∷ []) old new
+one_made c is_made old new h = (new, (h, refl))
 
-or_none : (b : Bool) → false || b ≡ b || false
+pub or_none : (b : Bool) → b ≡ b || false
 or_none true = refl
 or_none false = refl
 
-or_on : (b p q r : Bool) → p || q ≡ r → (b || p) || q ≡ b || r
-or_on true p q r same = refl
-or_on false p q r same = same
-
-pub some_made : (made : List Made) (m : Made) → is_some_made made || m.is_made ≡ is_some_made (made ++ m ∷ [])
-some_made [] m = or_none m.is_made
-some_made (x ∷ xs) m = or_on x.is_made (is_some_made xs) m.is_made (is_some_made (xs ++ m ∷ [])) (some_made xs m)
-
-changes_on : (made : List Made) (m : Made) → changes_of (made ++ m ∷ []) ≡ changes_of made ++ m.change ∷ []
-changes_on [] m = refl
-changes_on (x ∷ xs) m = ap (λ cs. x.change ∷ cs) (changes_on xs m)
+-- ---- one after another
 
 pub given_join : (xs ys : List Change) (a b c : Option (List Change)) → AllGiven xs a b → AllGiven ys b c → AllGiven (xs ++ ys) a c
 given_join xs ys a b None h k = tt
 given_join xs ys a b (Some given) h k =
     let first : AllGiven xs a (Some k.0) = subst (AllGiven xs a) k.1.0 h in
     (first.0, (first.1.0, k.1.1 ∙ ap (λ cs. cs ++ ys) first.1.1 ∙ append_assoc first.0 xs ys))
-
-pub given_on : (made : List Made) (c : Change) (is_made : Bool) (a b d e : Option (List Change)) → AllGiven (changes_of made) a b → AllGiven (c ∷ []) b d → e ≡ d → AllGiven (changes_of (made ++ record { change = c; is_made = is_made } ∷ [])) a e
-given_on made c is_made a b d e h one same =
-    let all = given_join (changes_of made) (c ∷ []) a b d h one in
-    let there = subst (AllGiven (changes_of made ++ c ∷ []) a) (sym same) all in
-    subst (λ cs. AllGiven cs a e) (sym (changes_on made (record { change = c; is_made = is_made }))) there
-
-append_none : (xs : List Change) → xs ++ [] ≡ xs
-append_none [] = refl
-append_none (x ∷ xs) = ap (λ ys. x ∷ ys) (append_none xs)
-
-pub given_end : (xs : List Change) (a b c : Option (List Change)) → AllGiven xs a b → AllGiven [] b c → AllGiven xs a c
-given_end xs a b c h none = subst (λ cs. AllGiven cs a c) (append_none xs) (given_join xs [] a b c h none)
-
-pub one_more : (made : List Made) (m : Made) (n : ℕ) → length made ≤ n → length (made ++ m ∷ []) ≤ n + 1
-one_more made m n few = (let more = length-append made (m ∷ []) in omega (arith, more, few))
 
 -- ---- in step
 
@@ -128,6 +99,6 @@ made_one width Begin true old new h step =
 made_one width (Serve s) true old new h step = served_in_step width s old new h step
 made_one width Kept true old new h step = subst (λ (s : ServingSide). IsInStep width s.lanes.out s.held) (sym h) step
 
-pub made_keeps : (width : ℕ) (made : List Made) (old new : ServingSide) → AreMade made old new → IsInStep width old.lanes.out old.held → IsInStep width new.lanes.out new.held
+pub made_keeps : (width : ℕ) (made : List MadeChange) (old new : ServingSide) → AreMade made old new → IsInStep width old.lanes.out old.held → IsInStep width new.lanes.out new.held
 made_keeps width [] old new h step = subst (λ (s : ServingSide). IsInStep width s.lanes.out s.held) (sym h) step
 made_keeps width (m ∷ rest) old new h step = made_keeps width rest h.0 new h.1.1 (made_one width m.change m.is_made old h.0 h.1.0 step)

@@ -27,7 +27,7 @@ use Rattle.watch_machine.specs.declared.lanes.Out.{Out}
 use Rattle.watch_machine.specs.History.{Turn}
 use Rattle.watch_machine.specs.State.{WatchState, opened}
 use Rattle.watch_machine.specs.Step.{TurnMayWantMemory}
-use Rattle.keep_serving.specs.Changes.{AgentIsTurned, AreMade, ChangeIsMade, InventoryIsServed, Made}
+use Rattle.keep_serving.specs.Changes.{AgentIsTurned, AreMade, ChangeIsMade, InventoryIsServed, MadeChange}
 use Rattle.keep_serving.specs.Held.{Held, ServingSide, serving_side}
 use Rattle.keep_serving.specs.Laws.{OneWayLaw}
 use Rattle.keep_serving.specs.Stages.{AnswerIsTaken, AnswersAreTaken}
@@ -146,7 +146,7 @@ change_same Begin true h l k a b one two = event_same events.Begin h l k a b (λ
 change_same (Serve s) true h l k a b one two = served_same s h l k a b one two
 change_same Kept true h l k a b one two = ap (λ (x : ServingSide). x.held) two ∙ sym (ap (λ (x : ServingSide). x.held) one)
 
-changes_same : (made : List Made) (h : Held) (l k : Lanes) (a b : ServingSide) → AreMade made (serving_side h l) a → AreMade made (serving_side h k) b → b.held ≡ a.held
+changes_same : (made : List MadeChange) (h : Held) (l k : Lanes) (a b : ServingSide) → AreMade made (serving_side h l) a → AreMade made (serving_side h k) b → b.held ≡ a.held
 changes_same [] h l k a b one two = ap (λ (x : ServingSide). x.held) two ∙ sym (ap (λ (x : ServingSide). x.held) one)
 changes_same (m ∷ rest) h l k a b one two =
     let mid = change_same m.change m.is_made h l k one.0 two.0 one.1.0 two.1.0 in

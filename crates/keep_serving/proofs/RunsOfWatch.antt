@@ -1,20 +1,18 @@
 -- RunsOfWatch: the law that what the Watches of an agent are handed from its start on is a run of each.
-use Rattle.std.proofs.Common.{◌≡◌, ◌∙◌, ℕ, zero, suc, ◌+◌, Bool, true, false, List, [], ◌∷◌, ◌++◌, Option, Some, None, append_assoc, filter, flat_map, ap, refl, sym, subst, arith}
-use Rattle.std.proofs.lemmas.Grind.{flat_map-append}
+use Rattle.std.proofs.Common.{◌≡◌, ◌∙◌, ℕ, zero, suc, Bool, true, false, List, [], ◌∷◌, ◌++◌, Option, Some, None, append_assoc, filter, ap, refl, sym, subst}
 use Rattle.std.proofs.lemmas.List.{append-nil}
 use Rattle.std.proofs.lemmas.List.Elements.{All-nil, All-push}
-use Rattle.std.specs.List.{range_with_len}
 use Rattle.keep_agent.specs.Agent.{Agent, fresh}
 use Rattle.keep_agent.specs.Laws.{known_event, known_events}
 use Rattle.keep_agent.specs.Rebuilding.{AreHanded, IsHanded, carried_told}
 use Rattle.keep_agent.specs.declared.standing.Told.{Told}
-use Rattle.keep_tree.proofs.Ranges.{range_more}
+use Rattle.keep_agent.proofs.Running.{known_more}
 use Rattle.watch_machine.specs.declared.event.Event.{Event}
 use Rattle.watch_machine.specs.declared.event.Event.TheVariants as events
 use Rattle.watch_machine.specs.History.{IsWatchRun, Turned}
 use Rattle.watch_machine.specs.State.{WatchState, opened}
 use Rattle.keep_serving.specs.Apart.{Ending, EndsBy, Spent, Unread, Over, Wanting, Changed}
-use Rattle.keep_serving.specs.Changes.{AreMade, ChangeIsMade, Made}
+use Rattle.keep_serving.specs.Changes.{AreMade, ChangeIsMade, MadeChange}
 use Rattle.keep_serving.specs.Held.{Held, ServingSide}
 use Rattle.keep_serving.specs.Laws.{KeepInventory, KeepsInventory, Lead}
 use Rattle.keep_serving.specs.Resuming.{AreResumed, IsResumed}
@@ -83,7 +81,7 @@ run_change (Need i until) is_made old new h runs are = are_and runs old.held.age
 run_change Begin is_made old new h runs are = are_and runs old.held.agent.machine new.held.agent.machine (turns_of_change Begin is_made old new h) are (by_change Begin is_made old new tt h)
 run_change Kept is_made old new h runs are = are_and runs old.held.agent.machine new.held.agent.machine (turns_of_change Kept is_made old new h) are (by_change Kept is_made old new tt h)
 
-run_changes : (made : List Made) (old new : ServingSide) (h : AreMade made old new) (runs : RunsOfWatches) → AreRunsOfWatches runs old.held.agent.machine → AreRunsOfWatches (runs_of_changes made old new h runs) new.held.agent.machine
+run_changes : (made : List MadeChange) (old new : ServingSide) (h : AreMade made old new) (runs : RunsOfWatches) → AreRunsOfWatches runs old.held.agent.machine → AreRunsOfWatches (runs_of_changes made old new h runs) new.held.agent.machine
 run_changes [] old new h runs are = stays old new h runs are
 run_changes (m ∷ rest) old new h runs are =
     run_changes rest h.0 new h.1.1 (runs_of_change m.change m.is_made old h.0 h.1.0 runs) (run_change m.change m.is_made old h.0 h.1.0 runs are)
@@ -127,14 +125,6 @@ told_events : (i : ℕ) (told : Option Told) (old new : WatchState) (h : IsHande
 told_events i None old new h = refl
 told_events i (Some t) old new h = refl
 
--- one entry more
-told_more : (told : ℕ → Option Told) (n : ℕ) → known_events told n ++ known_event n (told n) ≡ known_events told (suc n)
-told_more told n =
-    let f : ℕ → List Event = λ j. known_event j (told j) in
-    let one : n + 1 ≡ suc n = omega arith in
-    ap (λ xs. flat_map f (range_with_len 0 n) ++ xs) (sym (append-nil (f n))) ∙ sym (flat_map-append f (range_with_len 0 n) (n ∷ [])) ∙ ap (flat_map f) (sym (range_more 0 n n (omega arith)))
-    ∙ ap (known_events told) one
-
 both_events : (first more : List Turned) → events_of (first ++ more) ≡ events_of first ++ events_of more
 both_events [] more = refl
 both_events (t ∷ first) more = ap (λ es. t.event ∷ es) (both_events first more)
@@ -144,7 +134,7 @@ carried_events told old zero new h = refl
 carried_events told old (suc n) new h =
     let first = turns_of_carrying told old n h.0 h.1.0 in
     let last = turns_of_told n (told n) h.0 new h.1.1 in
-    both_events first last ∙ ap (λ es. es ++ events_of last) (carried_events told old n h.0 h.1.0) ∙ ap (λ es. known_events told n ++ es) (told_events n (told n) h.0 new h.1.1) ∙ told_more told n
+    both_events first last ∙ ap (λ es. es ++ events_of last) (carried_events told old n h.0 h.1.0) ∙ ap (λ es. known_events told n ++ es) (told_events n (told n) h.0 new h.1.1) ∙ known_more told n
 
 pub resumed_law : ResumedLaw
 resumed_law es s width new h = resumed_events es (fresh s width) new h
@@ -166,7 +156,7 @@ one_change (Need i until) is_made old new keeps h runs = refl
 one_change Begin is_made old new keeps h runs = refl
 one_change Kept is_made old new keeps h runs = refl
 
-one_by_changes : (made : List Made) (old new : ServingSide) → KeepInventory made → (h : AreMade made old new) (runs : RunsOfWatches) → runs_of_changes made old new h runs ≡ runs_and (turns_of_changes made old new h) runs
+one_by_changes : (made : List MadeChange) (old new : ServingSide) → KeepInventory made → (h : AreMade made old new) (runs : RunsOfWatches) → runs_of_changes made old new h runs ≡ runs_and (turns_of_changes made old new h) runs
 one_by_changes [] old new keeps h runs = and_none runs
 one_by_changes (m ∷ rest) old new keeps h runs =
     let first = turns_of_change m.change m.is_made old h.0 h.1.0 in

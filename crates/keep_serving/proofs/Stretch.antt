@@ -13,7 +13,7 @@ use Rattle.watch_machine.specs.declared.event.Event.TheVariants as events
 use Rattle.watch_machine.specs.declared.fault.WatchFault.{WatchFault}
 use Rattle.watch_machine.specs.History.{History, Turn, Turned, after_all}
 use Rattle.watch_machine.specs.State.{WatchState}
-use Rattle.keep_serving.specs.Changes.{AreMade, ChangeIsMade, Made}
+use Rattle.keep_serving.specs.Changes.{AreMade, ChangeIsMade, MadeChange}
 use Rattle.keep_serving.specs.Held.{Held, ServingSide}
 use Rattle.keep_serving.specs.Laws.{KeepInventory, KeepsInventory, Lead, StretchLaw}
 use Rattle.keep_serving.specs.Stages.{AnswerIsTaken, AnswersAreTaken, AnswersCome, Commands, HandsInAnswers, LeftOverGoesFirst, OnHeld, SendsRequests, TakesAnswers, TakesReadings, TakesUp, Then}
@@ -110,7 +110,7 @@ by_change Begin true old new keeps h = by_event events.Begin old.held.agent new.
 by_change (Serve s) true old new keeps h = absurd keeps
 by_change Kept true old new keeps h = nowhere old.held.agent.machine new.held.agent.machine (ap (λ (s : ServingSide). s.held.agent.machine) h)
 
-by_changes : (made : List Made) (old new : ServingSide) → KeepInventory made → (h : AreMade made old new) → Lead old.held.agent.machine (turns_of_changes made old new h) new.held.agent.machine
+by_changes : (made : List MadeChange) (old new : ServingSide) → KeepInventory made → (h : AreMade made old new) → Lead old.held.agent.machine (turns_of_changes made old new h) new.held.agent.machine
 by_changes [] old new keeps h = nowhere old.held.agent.machine new.held.agent.machine (ap (λ (s : ServingSide). s.held.agent.machine) h)
 by_changes (m ∷ rest) old new keeps h =
     and_then old.held.agent.machine h.0.held.agent.machine new.held.agent.machine (turns_of_change m.change m.is_made old h.0 h.1.0) (turns_of_changes rest h.0 new h.1.1)

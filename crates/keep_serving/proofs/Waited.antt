@@ -8,11 +8,11 @@ use Rattle.keep_clock.specs.declared.call.Call.{Call}
 use Rattle.keep_clock.specs.declared.call.Call.TheVariants.{Wait}
 use Rattle.keep_clock.specs.declared.reading.Reading.{Reading}
 use Rattle.keep_clock.proofs.Joined.{joined_law, none_law}
-use Rattle.keep_serving.specs.Apart.{Changed, Ending, EndsAfter, EndsBy, IsPause, IsWaited, Over, Pause, Spent, Unread, Waited, Wanting, all_called, all_clocked, all_given, called_at, called_in, clocked_at, clocked_in, given_at, given_by, goes_on, is_kept, pause_by}
-use Rattle.keep_serving.specs.Changes.{AllGiven, ChangeIsMade, Made}
+use Rattle.keep_serving.specs.Apart.{Changed, Ending, EndsAfter, EndsBy, IsPause, IsWaitedApart, Over, Pause, Spent, Unread, Waited, Wanting, all_called, all_clocked, all_given, called_at, called_in, clocked_at, clocked_in, given_at, given_by, goes_on, is_change_kept, pause_by}
+use Rattle.keep_serving.specs.Changes.{AllGiven, ChangeIsMade, MadeChange}
 use Rattle.keep_serving.specs.Held.{IsInStep, ServingSide}
 use Rattle.keep_serving.specs.Neighbours.{AllCalled, Give, GoOn, NeighbourCall, Settle}
-use Rattle.keep_serving.specs.code.Pauses.{IsEnded, IsPaused}
+use Rattle.keep_serving.specs.code.Pauses.{IsEnded, IsPausedApart}
 use Rattle.keep_serving.specs.declared.change.Change.{Change}
 use Rattle.keep_serving.specs.declared.change.Change.TheVariants.{Need, Begin, Serve, Kept}
 use Rattle.keep_serving.proofs.Called.{called_join, called_once, called_twice}
@@ -33,7 +33,7 @@ ended_wanting does until r s g a before = record { ending = Wanting r; read = re
 -- no change is given
 pub paused_without :
     {N : Type 0} → (does : NeighbourCall → N → N → Type 0) (until millis : ℕ) (is_busy : Bool) (r : Reading) (s : ServingSide) (g h : Option (List Change)) (a b c : N) → r.elapsed < until → millis ≡ pause_by is_busy until r →
-    does (GoOn is_busy) a b → does (Give None) b c → AllGiven [] g h → IsPaused does until (Some r) millis s s g h a c
+    does (GoOn is_busy) a b → does (Give None) b c → AllGiven [] g h → IsPausedApart does until (Some r) millis s s g h a c
 paused_without does until millis is_busy r s g h a b c before waits went gave given =
     record {
       pause = record { reading = r; is_busy = is_busy; made = None; millis = millis };
@@ -46,7 +46,7 @@ paused_without does until millis is_busy r s g h a b c before waits went gave gi
     }
 
 -- what is not made now changes nothing
-still : (change : Change) (is_made : Bool) (old new : ServingSide) → ChangeIsMade change is_made old new → is_kept change || not is_made ≡ true → new ≡ old
+still : (change : Change) (is_made : Bool) (old new : ServingSide) → ChangeIsMade change is_made old new → is_change_kept change || not is_made ≡ true → new ≡ old
 still change false old new made on = made
 still (Need i until) true old new made on = absurd (let e : false ≡ true = on in cc)
 still Begin true old new made on = absurd (let e : false ≡ true = on in cc)
@@ -64,15 +64,15 @@ pub given_once : (change : Change) (g h k l : Option (List Change)) → h ≡ g 
 given_once change g h k l went gave settled = subst (λ x. AllGiven (change ∷ []) g x) (sym settled) (subst (λ x. AllGiven (change ∷ []) x k) went gave)
 
 pub paused_with :
-    {N : Type 0} → (does : NeighbourCall → N → N → Type 0) (until : ℕ) (is_busy : Bool) (r : Reading) (change : Change) (is_made : Bool) (old new : ServingSide) (g h : Option (List Change)) (a b c d : N) → r.elapsed < until →
-    ChangeIsMade change is_made old new → true ≡ goes_on (Some (record { change = change; is_made = is_made })) → does (GoOn is_busy) a b → does (Give (Some change)) b c → does (Settle is_made) c d → AllGiven (change ∷ []) g h →
-    IsPaused does until (Some r) 0 old new g h a d
-paused_with does until is_busy r change is_made old new g h a b c d before made on went gave settled given =
+    {N : Type 0} → (does : NeighbourCall → N → N → Type 0) (until millis : ℕ) (is_busy : Bool) (r : Reading) (change : Change) (is_made : Bool) (old new : ServingSide) (g h : Option (List Change)) (a b c d : N) → r.elapsed < until →
+    millis ≡ pause_by (is_made || is_busy) until r → ChangeIsMade change is_made old new → true ≡ goes_on (Some (record { change = change; is_made = is_made })) → does (GoOn is_busy) a b → does (Give (Some change)) b c → does (Settle is_made) c d → AllGiven (change ∷ []) g h →
+    IsPausedApart does until (Some r) millis old new g h a d
+paused_with does until millis is_busy r change is_made old new g h a b c d before waits made on went gave settled given =
     record {
-      pause = record { reading = r; is_busy = is_busy; made = Some (record { change = change; is_made = is_made }); millis = 0 };
+      pause = record { reading = r; is_busy = is_busy; made = Some (record { change = change; is_made = is_made }); millis = millis };
       read = refl;
       waits = refl;
-      is = record { before = before; on = sym on; waits = refl };
+      is = record { before = before; on = sym on; waits = waits };
       same = still change is_made old new made (sym on);
       gives = given;
       calls = called_for_one does is_busy change is_made a b c d went gave settled;
@@ -111,7 +111,7 @@ none_paused does until s g a = record { pauses = []; count_is = refl; all = All-
 
 pub one_paused :
     {N : Type 0} → (does : NeighbourCall → N → N → Type 0) (until count millis : ℕ) (reading : Option Reading) (old new : ServingSide) (s t u v : ClockSeen) (g h k : Option (List Change)) (a b c : N) → ArePaused does until count s t g h a b →
-    AllMade (read_call reading ∷ []) t u → IsPaused does until reading millis old new h k b c → AllMade (Wait millis ∷ []) u v → ArePaused does until (count + 1) s v g k a c
+    AllMade (read_call reading ∷ []) t u → IsPausedApart does until reading millis old new h k b c → AllMade (Wait millis ∷ []) u v → ArePaused does until (count + 1) s v g k a c
 one_paused does until count millis reading old new s t u v g h k a b c so_far reads one waits =
     let ps = so_far.pauses in
     let p = one.pause in
@@ -132,7 +132,7 @@ one_paused does until count millis reading old new s t u v g h k a b c so_far re
 -- all that a wait did
 abbrev pub HasWaited : {N : Type 0} → (NeighbourCall → N → N → Type 0) → ℕ → ℕ → ServingSide → ServingSide → ClockSeen → ClockSeen → Option (List Change) → Option (List Change) → N → N → Type 0
 HasWaited does until most old new s t g h a b =
-    (w : Waited) × (IsWaited until most old w new × (AllMade (all_clocked w) s t × (AllGiven (all_given w) g h × AllCalled does (all_called w) a b)))
+    (w : Waited) × (IsWaitedApart until most old w new × (AllMade (all_clocked w) s t × (AllGiven (all_given w) g h × AllCalled does (all_called w) a b)))
 
 pub waited_long :
     {N : Type 0} → (does : NeighbourCall → N → N → Type 0) (until most : ℕ) (old new : ServingSide) (s t : ClockSeen) (g h : Option (List Change)) (a b : N) → ArePaused does until most s t g h a b → new ≡ old →
@@ -189,5 +189,5 @@ ended_in_step until width Unread old new ends step = subst (λ (s : ServingSide)
 ended_in_step until width (Over r) old new ends step = subst (λ (s : ServingSide). IsInStep width s.lanes.out s.held) (sym ends.1) step
 ended_in_step until width (Wanting r) old new ends step = subst (λ (s : ServingSide). IsInStep width s.lanes.out s.held) (sym ends.1) step
 ended_in_step until width (Changed r is_busy change) old new ends step =
-    let m : Made = record { change = change; is_made = true } in
+    let m : MadeChange = record { change = change; is_made = true } in
     made_keeps width (m ∷ []) old new (new, (ends.1.1, refl)) step

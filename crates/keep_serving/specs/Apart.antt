@@ -1,7 +1,7 @@
 -- Apart: a start that waits, so that agents that start together do not all ask at once. Nothing is asked meanwhile, and whoever looks is
 -- answered.
 -- Source: this project's own.
-use Rattle.std.specs.Prelude.{◌≡◌, ℕ, ◌-◌, ◌*◌, ◌<◌, ◌≤◌, Bool, true, false, not, ◌&&◌, ◌||◌, if◌then◌else◌, List, [], ◌∷◌, ◌++◌, Option, Some, None, is_some, length, min, nat_lt}
+use Rattle.std.specs.Prelude.{◌≡◌, ℕ, ◌-◌, ◌*◌, ◌<◌, ◌≤◌, Bool, true, false, not, ◌&&◌, ◌||◌, if◌then◌else◌, List, [], ◌∷◌, ◌++◌, Option, Some, None, length, min, nat_lt}
 use Rattle.std.specs.List.{All, flat_map}
 use Rattle.keep_agent.specs.Agent.{Agent, standing_at}
 use Rattle.keep_agent.specs.declared.standing.Told.{Told}
@@ -10,7 +10,7 @@ use Rattle.keep_clock.specs.declared.call.Call.{Call}
 use Rattle.keep_clock.specs.declared.call.Call.TheVariants.{Wait}
 use Rattle.keep_clock.specs.declared.reading.Reading.{Reading}
 use Rattle.keep_tree.specs.Carried.{carried}
-use Rattle.keep_serving.specs.Changes.{Made, MakesChange}
+use Rattle.keep_serving.specs.Changes.{MadeChange, MakesChange}
 use Rattle.keep_serving.specs.Held.{ServingSide}
 use Rattle.keep_serving.specs.Neighbours.{Give, GoOn, NeighbourCall, Settle}
 use Rattle.keep_serving.specs.declared.change.Change.{Change}
@@ -43,28 +43,32 @@ MayWait a wall until false = (i : ℕ) × ((i < length a.inventory.forest.entrie
 pub record Pause : Type 0 where
   pub reading : Reading
   pub is_busy : Bool
-  pub made : Option Made
+  pub made : Option MadeChange
   pub millis : ℕ
 
-abbrev pub is_kept : Change → Bool
-is_kept (Need i until) = false
-is_kept Begin = false
-is_kept (Serve s) = false
-is_kept Kept = true
+abbrev pub is_change_kept : Change → Bool
+is_change_kept (Need i until) = false
+is_change_kept Begin = false
+is_change_kept (Serve s) = false
+is_change_kept Kept = true
 
 -- no change was given, or none that is made now
-abbrev pub goes_on : Option Made → Bool
+abbrev pub goes_on : Option MadeChange → Bool
 goes_on None = true
-goes_on (Some m) = is_kept m.change || not m.is_made
+goes_on (Some m) = is_change_kept m.change || not m.is_made
 
--- no wait where more may be done at once; else until the moment, a second at most
+abbrev pub is_one_made : Option MadeChange → Bool
+is_one_made None = false
+is_one_made (Some m) = m.is_made
+
+-- no wait where a change was made, or a neighbour can go on; else until the moment, a second at most
 abbrev pub pause_by : Bool → ℕ → Reading → ℕ
 pause_by is_more until r = if is_more then 0 else min 1000 (until - r.elapsed)
 
 pub record IsPause (until : ℕ) (p : Pause) : Type 0 where
   pub before : p.reading.elapsed < until
   pub on : goes_on p.made ≡ true
-  pub waits : p.millis ≡ pause_by (is_some p.made || p.is_busy) until p.reading
+  pub waits : p.millis ≡ pause_by (is_one_made p.made || p.is_busy) until p.reading
 
 -- what ends it: there are no more pauses; the clocks could not be read; the moment has come; memory is wanting; or a change is made
 pub data Ending : Type 0 where
@@ -80,7 +84,7 @@ EndsBy until Spent old new = new ≡ old
 EndsBy until Unread old new = new ≡ old
 EndsBy until (Over r) old new = (until ≤ r.elapsed) × (new ≡ old)
 EndsBy until (Wanting r) old new = (r.elapsed < until) × (new ≡ old)
-EndsBy until (Changed r is_busy change) old new = (r.elapsed < until) × ((is_kept change ≡ false) × MakesChange change old new)
+EndsBy until (Changed r is_busy change) old new = (r.elapsed < until) × ((is_change_kept change ≡ false) × MakesChange change old new)
 
 -- after so many pauses of so many at most
 abbrev pub EndsAfter : ℕ → ℕ → Ending → Type 0
@@ -91,7 +95,7 @@ pub record Waited : Type 0 where
   pub pauses : List Pause
   pub ending : Ending
 
-pub record IsWaited (until most : ℕ) (old : ServingSide) (w : Waited) (new : ServingSide) : Type 0 where
+pub record IsWaitedApart (until most : ℕ) (old : ServingSide) (w : Waited) (new : ServingSide) : Type 0 where
   pub pauses : All (IsPause until) w.pauses
   pub after : EndsAfter (length w.pauses) most w.ending
   pub ends : EndsBy until w.ending old new
@@ -113,15 +117,15 @@ all_clocked w = flat_map clocked_in w.pauses ++ clocked_at w.ending
 
 -- ---- what the neighbours are called for: they go on once a pause, and are asked for one change
 
-abbrev pub asked_for : Option Made → List NeighbourCall
-asked_for None = Give None ∷ []
-asked_for (Some m) = Give (Some m.change) ∷ Settle m.is_made ∷ []
+abbrev pub calls_for_change : Option MadeChange → List NeighbourCall
+calls_for_change None = Give None ∷ []
+calls_for_change (Some m) = Give (Some m.change) ∷ Settle m.is_made ∷ []
 
 abbrev pub called_in : Pause → List NeighbourCall
-called_in p = GoOn p.is_busy ∷ asked_for p.made
+called_in p = GoOn p.is_busy ∷ calls_for_change p.made
 
 abbrev pub called_at : Ending → List NeighbourCall
-called_at (Changed r is_busy change) = GoOn is_busy ∷ asked_for (Some (record { change = change; is_made = true }))
+called_at (Changed r is_busy change) = GoOn is_busy ∷ calls_for_change (Some (record { change = change; is_made = true }))
 called_at ending = []
 
 abbrev pub all_called : Waited → List NeighbourCall
@@ -129,7 +133,7 @@ all_called w = flat_map called_in w.pauses ++ called_at w.ending
 
 -- ---- the changes that they give
 
-abbrev pub given_by : Option Made → List Change
+abbrev pub given_by : Option MadeChange → List Change
 given_by None = []
 given_by (Some m) = m.change ∷ []
 

@@ -32,7 +32,7 @@ MakesChange (Serve s) old new = InventoryIsServed s old new
 MakesChange Kept old new = new ≡ old
 
 -- a change that was taken, and whether memory sufficed to make it; where it did not, all is as it was, and it is to be given again
-pub record Made : Type 0 where
+pub record MadeChange : Type 0 where
   pub change : Change
   pub is_made : Bool
 
@@ -40,12 +40,12 @@ abbrev pub ChangeIsMade : Change → Bool → ServingSide → ServingSide → Ty
 ChangeIsMade change true old new = MakesChange change old new
 ChangeIsMade change false old new = new ≡ old
 
-abbrev pub AreMade : List Made → ServingSide → ServingSide → Type 0
+abbrev pub AreMade : List MadeChange → ServingSide → ServingSide → Type 0
 AreMade [] old new = new ≡ old
 AreMade (m ∷ rest) old new = (mid : ServingSide) × (ChangeIsMade m.change m.is_made old mid × AreMade rest mid new)
 
-abbrev pub changes_of : List Made → List Change
-changes_of made = map (λ (m : Made). m.change) made
+abbrev pub changes_of : List MadeChange → List Change
+changes_of made = map (λ (m : MadeChange). m.change) made
 
 -- ---- what the neighbours that give changes have given
 

@@ -6,7 +6,7 @@ use Rattle.keep_clock.specs.declared.reading.Reading.{Reading}
 use Rattle.watch_machine.specs.History.{History, Turned, after_all}
 use Rattle.watch_machine.specs.State.{WatchState}
 use Rattle.watch_machine.specs.declared.command.Request.{Request}
-use Rattle.keep_serving.specs.Changes.{Made}
+use Rattle.keep_serving.specs.Changes.{MadeChange}
 use Rattle.keep_serving.specs.Held.{Held, ServingSide}
 use Rattle.keep_serving.specs.Neighbours.{calls_in}
 use Rattle.keep_serving.specs.Runs.{AreTurns}
@@ -23,7 +23,7 @@ KeepsInventory Begin = Unit {0}
 KeepsInventory (Serve s) = ⊥
 KeepsInventory Kept = Unit {0}
 
-abbrev pub KeepInventory : List Made → Type 0
+abbrev pub KeepInventory : List MadeChange → Type 0
 KeepInventory [] = Unit {0}
 KeepInventory (m ∷ rest) = KeepsInventory m.change × KeepInventory rest
 
@@ -53,14 +53,14 @@ abbrev pub OneWayLaw : Type 0
 OneWayLaw = (words : List Words) (old a b : Held) (sent out : List (List Request)) → AllFollow words old sent a → AllFollow words old out b → (out ≡ sent) × (b ≡ a)
 
 -- a turn waits for a second at most, and where the time was handed in never past the Watch's moment
-abbrev pub WaitLaw : Type 0
-WaitLaw =
+abbrev pub TurnWaitLaw : Type 0
+TurnWaitLaw =
     (port : ℕ) (old new : ServingSide) (t : ServingTurn) → IsServingTurn port old t new →
     (t.millis ≤ 1000) × ((r : Reading) → t.reading ≡ Some r → t.is_whole ≡ true → t.millis ≤ new.held.until - r.elapsed)
 
--- and it calls its neighbours 19 times at most, and once more where memory was wanting, and once more for each answer of which they
+-- and it calls its neighbours five times at most, and once more where memory was wanting, and once more for each answer of which they
 -- hear
 abbrev pub CallsLaw : Type 0
 CallsLaw =
     (answers : ℕ) (is_handed : Bool) (t : ServingTurn) →
-    (length (calls_in answers is_handed t) ≤ answers + 20) × (t.is_whole ≡ true → length (calls_in answers is_handed t) ≤ answers + 19)
+    (length (calls_in answers is_handed t) ≤ answers + 6) × (t.is_whole ≡ true → length (calls_in answers is_handed t) ≤ answers + 5)

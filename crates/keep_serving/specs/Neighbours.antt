@@ -2,7 +2,7 @@
 -- Source: this project's own.
 use Rattle.std.specs.Prelude.{◌≡◌, ℕ, zero, suc, ◌≤◌, Bool, true, false, List, [], ◌∷◌, ◌++◌, Option, Some, None, replicate}
 use Rattle.keep_clock.specs.declared.reading.Reading.{Reading}
-use Rattle.keep_serving.specs.Changes.{Made}
+use Rattle.keep_serving.specs.Changes.{MadeChange}
 use Rattle.keep_serving.specs.Turns.{ServingTurn}
 use Rattle.keep_serving.specs.declared.change.Change.{Change}
 use Rattle.keep_serving.specs.declared.neighbours.Happened.{Happened}
@@ -53,17 +53,15 @@ abbrev pub heard_of_want : Bool → List NeighbourCall
 heard_of_want true = []
 heard_of_want false = Hear Want ∷ []
 
--- they are asked for changes until they give none, so many times at most, and told of each that they gave whether it was made
-abbrev pub changes_in : ℕ → List Made → List NeighbourCall
-changes_in zero made = []
-changes_in (suc most) [] = Give None ∷ []
-changes_in (suc most) (m ∷ made) = Give (Some m.change) ∷ Settle m.is_made ∷ changes_in most made
+-- they are asked for a change, once, and told of one that they gave whether it was made
+abbrev pub calls_of_change : List MadeChange → List NeighbourCall
+calls_of_change [] = Give None ∷ []
+calls_of_change (m ∷ rest) = Give (Some m.change) ∷ Settle m.is_made ∷ []
 
--- at readings they hear, go on once, and are asked for changes, eight times at most; where the clocks could not be read they are
--- not called
+-- at readings they hear, go on, once, and are asked for a change; where the clocks could not be read they are not called
 abbrev pub calls_at : Option Reading → ℕ → Bool → ServingTurn → List NeighbourCall
 calls_at None answers is_handed t = []
-calls_at (Some r) answers is_handed t = calls_of_hearing answers is_handed ++ (heard_of_want t.is_whole ++ GoOn t.is_busy ∷ changes_in 8 t.changes)
+calls_at (Some r) answers is_handed t = calls_of_hearing answers is_handed ++ (heard_of_want t.is_whole ++ GoOn t.is_busy ∷ calls_of_change t.changes)
 
 abbrev pub calls_in : ℕ → Bool → ServingTurn → List NeighbourCall
 calls_in answers is_handed t = calls_at t.reading answers is_handed t

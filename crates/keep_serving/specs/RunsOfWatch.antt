@@ -13,8 +13,8 @@ use Rattle.watch_machine.specs.declared.event.Event.{Event}
 use Rattle.watch_machine.specs.declared.event.Event.TheVariants as events
 use Rattle.watch_machine.specs.History.{IsWatchRun, Turned, after_all}
 use Rattle.watch_machine.specs.State.{WatchState, opened}
-use Rattle.keep_serving.specs.Apart.{Ending, EndsBy, IsWaited, Waited, Spent, Unread, Over, Wanting, Changed}
-use Rattle.keep_serving.specs.Changes.{AreMade, ChangeIsMade, Made}
+use Rattle.keep_serving.specs.Apart.{Ending, EndsBy, IsWaitedApart, Waited, Spent, Unread, Over, Wanting, Changed}
+use Rattle.keep_serving.specs.Changes.{AreMade, ChangeIsMade, MadeChange}
 use Rattle.keep_serving.specs.Held.{ServingSide, held_at_first}
 use Rattle.keep_serving.specs.Laws.{IsStretch}
 use Rattle.keep_serving.specs.Resuming.{AreResumed, IsResumed}
@@ -90,7 +90,7 @@ abbrev pub runs_of_change :
 runs_of_change (Serve s) true old new h runs = runs_then (rebuilt_run old.held.agent s old.held.agent.machine.width new.held.agent h.agent) runs
 runs_of_change c is_made old new h runs = runs_and (turns_of_change c is_made old new h) runs
 
-abbrev pub runs_of_changes : (made : List Made) (old new : ServingSide) → AreMade made old new → RunsOfWatches → RunsOfWatches
+abbrev pub runs_of_changes : (made : List MadeChange) (old new : ServingSide) → AreMade made old new → RunsOfWatches → RunsOfWatches
 runs_of_changes [] old new h runs = runs
 runs_of_changes (m ∷ rest) old new h runs = runs_of_changes rest h.0 new h.1.1 (runs_of_change m.change m.is_made old h.0 h.1.0 runs)
 
@@ -125,7 +125,7 @@ pub record AreRunsOfWatches (runs : RunsOfWatches) (now : WatchState) : Type 0 w
 abbrev pub ServingLaw : Type 0
 ServingLaw =
     (port width until most : ℕ) (known : List Event) (s : Inventory) (agent : Agent) (start begun new : ServingSide) (w : Waited) (turns : List ServingTurn) →
-    (resumed : AreResumed known (fresh s width) agent) → start.held ≡ held_at_first agent → (waited : IsWaited until most start w begun) (are : AreTurns port begun turns new) →
+    (resumed : AreResumed known (fresh s width) agent) → start.held ≡ held_at_first agent → (waited : IsWaitedApart until most start w begun) (are : AreTurns port begun turns new) →
     AreRunsOfWatches
     (runs_of_turns port begun turns new are (runs_of_wait until w.ending start begun waited.ends (runs_at_first (resumed_run known s width agent resumed))))
     new.held.agent.machine

@@ -5,7 +5,7 @@ use Rattle.keep_clock.specs.Seen.{read_call}
 use Rattle.keep_clock.specs.declared.call.Call.{Call}
 use Rattle.keep_clock.specs.declared.call.Call.TheVariants.{Wait}
 use Rattle.keep_clock.specs.declared.reading.Reading.{Reading}
-use Rattle.keep_serving.specs.Changes.{AreMade, Made}
+use Rattle.keep_serving.specs.Changes.{AreMade, MadeChange}
 use Rattle.keep_serving.specs.Held.{ServingSide}
 use Rattle.keep_serving.specs.Stages.{LeftOverGoesFirst}
 
@@ -14,7 +14,7 @@ use Rattle.keep_serving.specs.Stages.{LeftOverGoesFirst}
 pub record ServingTurn : Type 0 where
   pub reading : Option Reading
   pub is_whole : Bool
-  pub changes : List Made
+  pub changes : List MadeChange
   pub is_busy : Bool
   pub due : ℕ
   pub millis : ℕ
@@ -24,7 +24,7 @@ abbrev pub TurnHears : ℕ → Option Reading → ServingSide → Bool → Servi
 TurnHears port None old is_whole new = (is_whole ≡ false) × (new ≡ old)
 TurnHears port (Some r) old is_whole new = LeftOverGoesFirst port r old is_whole new
 
-abbrev pub is_some_made : List Made → Bool
+abbrev pub is_some_made : List MadeChange → Bool
 is_some_made [] = false
 is_some_made (m ∷ rest) = m.is_made || is_some_made rest
 
@@ -37,17 +37,17 @@ abbrev pub wait_after : Bool → ℕ → ℕ → Option Reading → ℕ
 wait_after is_whole until due None = 100
 wait_after is_whole until due (Some r) = if is_whole then wait_at until due r else 100
 
-abbrev pub wait_by : Bool → Bool → ℕ → ℕ → Option Reading → ℕ
-wait_by is_more is_whole until due reading = if is_more then 0 else wait_after is_whole until due reading
+abbrev pub turn_wait_by : Bool → Bool → ℕ → ℕ → Option Reading → ℕ
+turn_wait_by is_more is_whole until due reading = if is_more then 0 else wait_after is_whole until due reading
 
 abbrev pub wait_of : ServingTurn → ℕ → ℕ
-wait_of t until = wait_by (is_some_made t.changes || t.is_busy) t.is_whole until t.due t.reading
+wait_of t until = turn_wait_by (is_some_made t.changes || t.is_busy) t.is_whole until t.due t.reading
 
 pub record IsServingTurn (port : ℕ) (old : ServingSide) (t : ServingTurn) (new : ServingSide) : Type 0 where
   pub mid : ServingSide
   pub hears : TurnHears port t.reading old t.is_whole mid
   pub made : AreMade t.changes mid new
-  pub few : length t.changes ≤ 8
+  pub few : length t.changes ≤ 1
   pub waits : t.millis ≡ wait_of t new.held.until
 
 -- what is asked of the clock: one reading, and one wait

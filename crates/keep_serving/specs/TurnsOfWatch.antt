@@ -15,7 +15,7 @@ use Rattle.watch_machine.specs.declared.event.Event.TheVariants as events
 use Rattle.watch_machine.specs.declared.event.Operation.{Operation}
 use Rattle.watch_machine.specs.declared.fault.WatchFault.{WatchFault}
 use Rattle.watch_machine.specs.History.{Turned}
-use Rattle.keep_serving.specs.Changes.{AreMade, ChangeIsMade, Made}
+use Rattle.keep_serving.specs.Changes.{AreMade, ChangeIsMade, MadeChange}
 use Rattle.keep_serving.specs.Held.{ServingSide}
 use Rattle.keep_serving.specs.Runs.{AreTurns}
 use Rattle.keep_serving.specs.Stages.{AnswerIsTaken, AnswersAreTaken, AnswersCome, Commands, HandsInAnswers, LeftOverGoesFirst, OnHeld, SendsRequests, TakesAnswers, TakesReadings, TakesUp, Then}
@@ -87,7 +87,7 @@ turns_of_change Begin true old new h = turned events.Begin h.result new.held.age
 turns_of_change (Serve s) true old new h = []
 turns_of_change Kept true old new h = []
 
-abbrev pub turns_of_changes : (made : List Made) (old new : ServingSide) → AreMade made old new → List Turned
+abbrev pub turns_of_changes : (made : List MadeChange) (old new : ServingSide) → AreMade made old new → List Turned
 turns_of_changes [] old new h = []
 turns_of_changes (m ∷ rest) old new h = turns_of_change m.change m.is_made old h.0 h.1.0 ++ turns_of_changes rest h.0 new h.1.1
 

@@ -12,7 +12,7 @@ use Rattle.watch_machine.specs.declared.command.Command.TheVariants.{Go}
 use Rattle.watch_machine.specs.declared.command.Request.{Request}
 use Rattle.watch_machine.specs.declared.event.Event.TheVariants.{Clock}
 use Rattle.watch_machine.specs.declared.notes.Notes.{Notes}
-use Rattle.keep_serving.specs.Changes.{AreMade, Made}
+use Rattle.keep_serving.specs.Changes.{AreMade, MadeChange}
 use Rattle.keep_serving.specs.Held.{Held, serving_side}
 use Rattle.keep_serving.specs.Stages.{AnswersAreTaken}
 use Rattle.keep_serving.specs.Turns.{ServingTurn}
@@ -23,7 +23,7 @@ pub record Words : Type 0 where
   pub reading : Option Reading
   pub came : List Answered
   pub is_said : Bool
-  pub changes : List Made
+  pub changes : List MadeChange
 
 abbrev pub SaysBy : Bool → Agent → Agent → Type 0
 SaysBy true old new = new ≡ all_said old

@@ -1,9 +1,9 @@
-//! Changes are made.
+//! A change is made.
 ghost use Rattle.std.specs.Prelude.{◌≡◌, ◌≤◌, List, Result, length};
 ghost use Rattle.keep_agent.specs.Turns.{AgentTurn};
-ghost use Rattle.keep_serving.specs.Changes.{AllGiven, AreMade, ChangeIsMade, Made, changes_of};
+ghost use Rattle.keep_serving.specs.Changes.{AllGiven, AreMade, ChangeIsMade, MadeChange, changes_of};
 ghost use Rattle.keep_serving.specs.Held.{serving_side};
-ghost use Rattle.keep_serving.specs.Neighbours.{AllCalled, changes_in};
+ghost use Rattle.keep_serving.specs.Neighbours.{AllCalled, calls_of_change};
 ghost use Rattle.keep_serving.specs.declared.change.Change.TheVariants.{Serve};
 ghost use Rattle.watch_machine.specs.declared.command.Output.{Output};
 ghost use Rattle.watch_machine.specs.declared.fault.WatchFault.{WatchFault};
@@ -19,32 +19,27 @@ use keep_lanes::Lanes;
 use std::alloc::Global;
 use watch_machine::Event;
 
-/// The most changes that a turn takes.
-const MOST_CHANGES: u32 = 8;
-
 impl Serving {
-    /// Takes as many changes as a turn may, and makes each. Whether one was made.
-    pub(crate) fn make_changes<L: Lanes, N: Neighbours>(
+    /// Takes a change, where the neighbours have one, and makes it. Whether it was made.
+    ///
+    /// There is no second one in a turn: a change may cost its giver what the whole inventory costs, and answers wait meanwhile.
+    pub(crate) fn make_change<L: Lanes, N: Neighbours>(
         &mut self,
         alloc: Global,
         now: Reading,
         lanes: &mut L,
         neighbours: &mut N,
     ) -> bool
-        ensures made { (made : List Made) × ((AreMade made (serving_side self.old (⟦<L as SeenLanes>⟧.seen lanes.old)) (serving_side self.new (⟦<L as SeenLanes>⟧.seen lanes.new))) × ((length made ≤ 8) × ((result ≡ is_some_made made) × (AllGiven (changes_of made) (N.given neighbours.old) (N.given neighbours.new) × AllCalled N.does (changes_in 8 made) neighbours.old neighbours.new)))) }
+        ensures made { (made : List MadeChange) × ((AreMade made (serving_side self.old (⟦<L as SeenLanes>⟧.seen lanes.old)) (serving_side self.new (⟦<L as SeenLanes>⟧.seen lanes.new))) × ((length made ≤ 1) × ((result ≡ is_some_made made) × (AllGiven (changes_of made) (N.given neighbours.old) (N.given neighbours.new) × AllCalled N.does (calls_of_change made) neighbours.old neighbours.new)))) }
         ensures width { L.width lanes.new ≡ L.width lanes.old }
         ensures port { L.host_port lanes.new ≡ L.host_port lanes.old }
     {
-        let mut is_changed = false;
-        for _ in 0..MOST_CHANGES {
-            let Some(change) = neighbours.change(alloc, &self.agent, now) else {
-                return is_changed;
-            };
-            let is_made = self.make(alloc, lanes, change);
-            neighbours.settle(alloc, &self.agent, is_made);
-            is_changed |= is_made;
-        }
-        is_changed
+        let Some(change) = neighbours.change(alloc, &self.agent, now) else {
+            return false;
+        };
+        let is_made = self.make(alloc, lanes, change);
+        neighbours.settle(alloc, &self.agent, is_made);
+        is_made
     }
 
     /// Makes a change. Whether memory sufficed; where it did not all is as it was.

@@ -1,7 +1,7 @@
 //! Everything is looked up anew before a day is over, so that agents which began together do not do so together for ever.
 ghost use Rattle.std.specs.Prelude.{◌≡◌, ◌-◌, Bool, IfOk, None, Option, Result, false};
 ghost use Rattle.std.specs.declared.alloc.AllocError.{AllocError};
-ghost use Rattle.keep_serving.specs.Days.{AsksBy, GivesOn, IsDue, SettlesOn, begun_after, has_come};
+ghost use Rattle.keep_serving.specs.Days.{AsksBy, BeginningIsDue, GivesToOthers, SettlesOthers, beginning_after, day_has_passed};
 
 use crate::apart::may_wait;
 use crate::change::Change;
@@ -42,7 +42,7 @@ impl<N> EarlyDay<N> {
 
     /// The time was handed in to the agent, and everything is looked up anew from then on, if there is a reason.
     fn hear_begun(&mut self, agent: &Agent, began: Option<Why>)
-        ensures { self.new ≡ record self.old { begun = begun_after began agent.now.machine self.old.begun } }
+        ensures { self.new ≡ record self.old { begun = beginning_after began agent.now.machine self.old.begun } }
     {
         if began.is_some() {
             let clocks = agent.watch().clocks();
@@ -52,7 +52,7 @@ impl<N> EarlyDay<N> {
 
     /// Asks that everything is looked up anew, where it is time to.
     fn ask_anew(&mut self, alloc: Global, agent: &Agent, now: Reading) -> Option<Change>
-        ensures { (due : Result Bool AllocError) × (IfOk due (λ is. IsDue agent.now now self.old is) × AsksBy due self.old result self.new) }
+        ensures { (due : Result Bool AllocError) × (IfOk due (λ is. BeginningIsDue agent.now now self.old is) × AsksBy due self.old result self.new) }
     {
         match self.is_due(alloc, agent, now) {
             Ok(true) => {
@@ -66,7 +66,7 @@ impl<N> EarlyDay<N> {
 
     /// Whether it is time to. The only error is lack of memory.
     fn is_due(&self, alloc: Global, agent: &Agent, now: Reading) -> Result<bool, AllocError>
-        ensures { IfOk result (λ is. IsDue agent.now now self.now is) }
+        ensures { IfOk result (λ is. BeginningIsDue agent.now now self.now is) }
     {
         if has_come(self.earlier, self.begun, now.elapsed) {
             may_wait(alloc, agent, now.wall, now.elapsed)
@@ -78,7 +78,7 @@ impl<N> EarlyDay<N> {
 
 /// Whether a day less so many milliseconds has passed since the last beginning.
 fn has_come(earlier: Millis, begun: Option<Millis>, now: Millis) -> bool
-    ensures { result ≡ has_come earlier begun now }
+    ensures { result ≡ day_has_passed earlier begun now }
 {
     match begun {
         None => false,
@@ -89,7 +89,7 @@ fn has_come(earlier: Millis, begun: Option<Millis>, now: Millis) -> bool
 impl<N: Neighbours> EarlyDay<N> {
     /// The others give a change, or everything is to be looked up anew.
     fn give(&mut self, alloc: Global, agent: &Agent, now: Reading) -> Option<Change>
-        ensures { GivesOn N.does result self.old self.new }
+        ensures { GivesToOthers N.does result self.old self.new }
     {
         if let Some(change) = self.others.change(alloc, agent, now) {
             self.is_own = false;
@@ -100,7 +100,7 @@ impl<N: Neighbours> EarlyDay<N> {
 
     /// The others are told of their own change whether it was made.
     fn tell(&mut self, alloc: Global, agent: &Agent, is_made: bool)
-        ensures { SettlesOn N.does self.old.is_own is_made self.old.others self.new.others }
+        ensures { SettlesOthers N.does self.old.is_own is_made self.old.others self.new.others }
     {
         if !self.is_own {
             self.others.settle(alloc, agent, is_made);
@@ -109,12 +109,12 @@ impl<N: Neighbours> EarlyDay<N> {
 }
 
 impl<N: Neighbours> Neighbours for EarlyDay<N> {
-    ghost use Rattle.keep_serving.specs.Days.{PassesOn};
+    ghost use Rattle.keep_serving.specs.Days.{PassesToOthers};
 
     // Which changes its own were is not known.
     ghost given = { λ _. None };
 
-    ghost does = { λ call old new. PassesOn N.does call old new };
+    ghost does = { λ call old new. PassesToOthers N.does call old new };
 
     fn hear(&mut self, alloc: Global, agent: &Agent, happened: &Happened<'_>) {
         if let Happened::Clocked { notes, .. } = happened {

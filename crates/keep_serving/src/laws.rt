@@ -1,6 +1,6 @@
 //! Laws of the loop.
 ghost use Rattle.keep_serving.specs.Alike.{AlikeLaw, RebuiltAlikeLaw};
-ghost use Rattle.keep_serving.specs.Laws.{CallsLaw, OneWayLaw, StretchLaw, WaitLaw, WordsLaw};
+ghost use Rattle.keep_serving.specs.Laws.{CallsLaw, OneWayLaw, StretchLaw, TurnWaitLaw, WordsLaw};
 ghost use Rattle.keep_serving.specs.RunsOfWatch.{CarriedLaw, OneRunLaw, ResumedLaw, ServingLaw};
 
 /// The law that a stretch of turns in which one inventory is served is a run of its Watch: whatever the neighbours do, it was handed
@@ -28,10 +28,10 @@ pub fn nothing_else_is_heard()
 {}
 
 /// The law that a turn is bounded: it makes one wait, of at most a second and, where the time was handed in, never past the Watch's
-/// moment; and it calls its neighbours 19 times at most, once more where memory was wanting, and once more for each answer of which they
+/// moment; and it calls its neighbours five times at most, once more where memory was wanting, and once more for each answer of which they
 /// hear. Those are no more than there are lanes.
 pub fn a_turn_is_bounded()
-    ensures wait { WaitLaw }
+    ensures wait { TurnWaitLaw }
     ensures calls { CallsLaw }
 {}
 

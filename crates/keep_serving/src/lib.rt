@@ -1,7 +1,7 @@
 //! The loop of `leasekeep serve`: the agent among its neighbours, with one wait a turn.
 //!
 //! The contract for the layer above: [`Serving::run`] makes turns (`specs/Turns`). Each hands in the answers that are there and
-//! the time, sends what the Watch commands, takes eight changes at most, and waits once: for a second at most, and never past
+//! the time, sends what the Watch commands, takes one change at most, and waits once: for a second at most, and never past
 //! the Watch's moment. What goes out follows from the inventory, the readings, the answers and the changes alone
 //! (`specs/Stages`, `specs/Changes`), and from nothing else ([`nothing_else_is_heard`]); credentials change nothing of it
 //! ([`secrets_change_no_turn`]). A stretch of turns that serve one inventory leads its Watch from one state to the next by what

@@ -1,11 +1,11 @@
-//! One turn: the time is handed in, changes are taken, and one wait follows.
+//! One turn: the time is handed in, a change is taken, and one wait follows.
 ghost use Rattle.std.specs.Prelude.{◌≡◌, ◌+◌, ◌||◌, [], Some, is_ok, length};
 ghost use Rattle.keep_clock.specs.Seen.{AllMade};
 ghost use Rattle.keep_serving.specs.Changes.{AllGiven, changes_of};
 ghost use Rattle.keep_serving.specs.Held.{IsInStep, serving_side};
 ghost use Rattle.keep_serving.specs.Neighbours.{AllCalled, AnswersAreHeardOf, AreCalled, heard_of_want};
 ghost use Rattle.keep_serving.specs.Stages.{Commands, HandsInAnswers, LeftOverGoesFirst, OnHeld, TakesAnswers, TakesUp, Then};
-ghost use Rattle.keep_serving.specs.Turns.{IsServingTurn, ServingTurn, calls_of_turn, wait_at, wait_by};
+ghost use Rattle.keep_serving.specs.Turns.{IsServingTurn, ServingTurn, calls_of_turn, turn_wait_by, wait_at};
 
 use crate::neighbours::{Happened, Neighbours};
 use crate::serving::Serving;
@@ -61,7 +61,7 @@ impl Serving {
         let is_whole = self.hand_in(alloc, reading, lanes, neighbours).is_ok();
         self.tell_want(alloc, is_whole, neighbours);
         let is_busy = neighbours.go_on(alloc, &self.agent, reading);
-        let is_changed = self.make_changes(alloc, reading, lanes, neighbours);
+        let is_changed = self.make_change(alloc, reading, lanes, neighbours);
         let due = lanes.due(reading.elapsed, self.until);
         wait_of(is_changed, is_busy, is_whole, self.until, due, reading)
     }
@@ -188,7 +188,7 @@ fn wait_of(
     due: u64,
     reading: Reading,
 ) -> u64
-    ensures { result ≡ wait_by (is_changed || is_busy) is_whole until due (Some reading) }
+    ensures { result ≡ turn_wait_by (is_changed || is_busy) is_whole until due (Some reading) }
 {
     if is_changed || is_busy {
         0

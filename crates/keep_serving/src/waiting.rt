@@ -1,8 +1,8 @@
 //! A start that waits, so that agents which start together do not all ask at once.
-ghost use Rattle.std.specs.Prelude.{◌≡◌, ◌||◌, Bool, List, Result, Some, not, is_ok};
+ghost use Rattle.std.specs.Prelude.{◌≡◌, ◌||◌, List, Result, is_ok, not};
 ghost use Rattle.keep_agent.specs.Turns.{AgentTurn};
 ghost use Rattle.keep_clock.specs.Seen.{AllMade};
-ghost use Rattle.keep_serving.specs.Apart.{IsWaited, Waited, all_called, all_clocked, all_given, goes_on, is_kept, pause_by};
+ghost use Rattle.keep_serving.specs.Apart.{IsWaitedApart, Waited, all_called, all_clocked, all_given, is_change_kept, pause_by};
 ghost use Rattle.keep_serving.specs.Changes.{AllGiven, ChangeIsMade};
 ghost use Rattle.keep_serving.specs.Held.{IsInStep, serving_side};
 ghost use Rattle.keep_serving.specs.Neighbours.{AllCalled, Settle};
@@ -25,7 +25,8 @@ impl Serving {
     /// Waits before the first turn, until a moment of the clock that never steps, in milliseconds, by `most` pauses at most. Nothing is
     /// asked meanwhile. In each pause the neighbours go on and are asked for one change, and a wait of a second at most follows.
     ///
-    /// It ends at once where a change is made that counts now, where the clocks cannot be read, and where memory is wanting.
+    /// It ends at once where a change is made that counts now, where the clocks cannot be read, and where memory is wanting for the time.
+    /// A change for which memory is wanting does not end it: it is asked for again after a wait.
     ///
     /// `shown` is what the neighbours see of the agent: it serves the same inventory and knows the same ends, and the time is handed in
     /// to it. What it commands goes out nowhere.
@@ -40,7 +41,7 @@ impl Serving {
         most: u64,
     )
         requires in_step { IsInStep (L.width lanes.old) (L.out lanes.old) self.old }
-        ensures waited { (w : Waited) × (IsWaited until most (serving_side self.old (⟦<L as SeenLanes>⟧.seen lanes.old)) w (serving_side self.new (⟦<L as SeenLanes>⟧.seen lanes.new)) × (AllMade (all_clocked w) (C.seen clock.old) (C.seen clock.new) × (AllGiven (all_given w) (N.given neighbours.old) (N.given neighbours.new) × AllCalled N.does (all_called w) neighbours.old neighbours.new))) }
+        ensures waited { (w : Waited) × (IsWaitedApart until most (serving_side self.old (⟦<L as SeenLanes>⟧.seen lanes.old)) w (serving_side self.new (⟦<L as SeenLanes>⟧.seen lanes.new)) × (AllMade (all_clocked w) (C.seen clock.old) (C.seen clock.new) × (AllGiven (all_given w) (N.given neighbours.old) (N.given neighbours.new) × AllCalled N.does (all_called w) neighbours.old neighbours.new))) }
         ensures in_step { IsInStep (L.width lanes.new) (L.out lanes.new) self.new }
     {
         for _ in 0..most {
@@ -75,16 +76,18 @@ impl Serving {
         }
         let is_busy = neighbours.go_on(alloc, &shown.agent, reading);
         let Some(change) = neighbours.change(alloc, &shown.agent, reading) else {
-            return Some(pause_by(is_busy, until, reading));
+            return Some(pause_by(false, is_busy, until, reading));
         };
-        if self.make_shown(alloc, shown, lanes, neighbours, change) {
-            Some(0)
+        let is_kept = is_kept(&change);
+        let is_made = self.make_shown(alloc, shown, lanes, neighbours, change);
+        if goes_on(is_kept, is_made) {
+            Some(pause_by(is_made, is_busy, until, reading))
         } else {
             None
         }
     }
 
-    /// Makes a change, and tells whether it was made. Whether the wait goes on.
+    /// Makes a change, and tells whether it was made.
     fn make_shown<L: Lanes, N: Neighbours>(
         &mut self,
         alloc: Global,
@@ -93,17 +96,17 @@ impl Serving {
         neighbours: &mut N,
         change: Change,
     ) -> bool
-        ensures made { (is_made : Bool) × (ChangeIsMade change is_made (serving_side self.old (⟦<L as SeenLanes>⟧.seen lanes.old)) (serving_side self.new (⟦<L as SeenLanes>⟧.seen lanes.new)) × ((result ≡ goes_on (Some (record { change = change; is_made = is_made }))) × N.does (Settle is_made) neighbours.old neighbours.new)) }
+        ensures made { ChangeIsMade change result (serving_side self.old (⟦<L as SeenLanes>⟧.seen lanes.old)) (serving_side self.new (⟦<L as SeenLanes>⟧.seen lanes.new)) }
+        ensures settled { N.does (Settle result) neighbours.old neighbours.new }
         ensures given { N.given neighbours.new ≡ N.given neighbours.old }
         ensures width { L.width lanes.new ≡ L.width lanes.old }
         ensures port { L.host_port lanes.new ≡ L.host_port lanes.old }
     {
-        let is_kept = is_kept(&change);
         let is_served = is_served(&change);
         let is_made = self.make(alloc, lanes, change);
         let agent = if is_served { &self.agent } else { &shown.agent };
         neighbours.settle(alloc, agent, is_made);
-        is_kept || !is_made
+        is_made
     }
 
     /// The time is handed in; what is commanded by it goes out nowhere. Whether memory sufficed.
@@ -120,7 +123,7 @@ impl Serving {
 
 /// Whether nothing is made of a change now.
 fn is_kept(change: &Change) -> bool
-    ensures { result ≡ is_kept change.now }
+    ensures { result ≡ is_change_kept change.now }
 {
     match change {
         Change::Need { .. } | Change::Begin | Change::Serve(_) => false,
@@ -136,11 +139,19 @@ fn is_served(change: &Change) -> bool {
     }
 }
 
-/// For how long is waited: not at all where more may be done at once.
-fn pause_by(is_more: bool, until: u64, reading: Reading) -> u64
-    ensures { result ≡ pause_by is_more until reading }
+/// Whether the wait goes on after a change: where nothing is made of it now, or memory is wanting for it.
+fn goes_on(is_kept: bool, is_made: bool) -> bool
+    ensures { result ≡ (is_kept || not is_made) }
 {
-    if is_more {
+    is_kept || !is_made
+}
+
+/// For how long is waited: not at all where a change was made, or a neighbour can go on. (A change that lacked memory is tried again
+/// after a wait, as in a turn.)
+fn pause_by(is_made: bool, is_busy: bool, until: u64, reading: Reading) -> u64
+    ensures { result ≡ pause_by (is_made || is_busy) until reading }
+{
+    if is_made || is_busy {
         0
     } else {
         MOST_WAIT.min(until.saturating_sub(reading.elapsed))

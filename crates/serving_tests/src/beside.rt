@@ -5,7 +5,14 @@ use keep_agent::Agent;
 use keep_clock::Reading;
 use keep_serving::{Change, Happened, Neighbours};
 use std::alloc::Global;
-use watch_machine::{Next, Operation, Request};
+use watch_machine::{Millis, Next, Operation, Request};
+
+/// A request that was heard of, and the clock at which it was asked.
+#[derive(Clone, Copy, Debug, PartialEq, Eq)]
+pub(crate) struct Asked {
+    at: Millis,
+    request: Request,
+}
 
 /// What was heard.
 #[derive(Clone, Copy, Debug, PartialEq, Eq)]
@@ -44,13 +51,16 @@ impl Heard {
 #[derive(Drop)]
 pub(crate) struct Beside {
     pub(crate) changes: Vec<Change>,
+    /// The requests that were heard of, in their order.
+    pub(crate) asked: Vec<Asked>,
     pub(crate) heard: Heard,
 }
 
 impl Beside {
-    pub(crate) fn with(changes: Vec<Change>) -> Beside {
+    pub(crate) fn with(alloc: Global, changes: Vec<Change>) -> Beside {
         Beside {
             changes,
+            asked: Vec::new(alloc),
             heard: Heard {
                 looks: 0,
                 renewals: 0,
@@ -62,6 +72,16 @@ impl Beside {
             },
         }
     }
+
+    /// These were asked at that clock. One for which memory is wanting is left out.
+    fn ask(&mut self, at: Millis, requests: &[Request]) {
+        for request in requests {
+            let _put = self.asked.push(Asked {
+                at,
+                request: *request,
+            });
+        }
+    }
 }
 
 impl Neighbours for Beside {
@@ -69,10 +89,11 @@ impl Neighbours for Beside {
 
     ghost does = { λ _ old new. new.heard.calls ≡ min (old.heard.calls + 1) 18446744073709551615 };
 
-    fn hear(&mut self, _alloc: Global, _agent: &Agent, happened: &Happened<'_>) {
+    fn hear(&mut self, _alloc: Global, agent: &Agent, happened: &Happened<'_>) {
         let calls = self.heard.calls;
         match happened {
             Happened::Clocked { requests, next, .. } => {
+                self.ask(agent.watch().clocks().at, requests);
                 self.heard.count(requests);
                 self.heard.look_ahead(*next);
             }

@@ -23,18 +23,18 @@ fn needs(alloc: Global, count: u32) -> Result<Vec<Change>, AllocError> {
 }
 
 #[test]
-fn a_turn_takes_eight_changes_and_does_not_wait(rt: HostRuntime) -> Result<(), Fail> {
+fn a_turn_takes_one_change_and_does_not_wait(rt: HostRuntime) -> Result<(), Fail> {
     let script = Script {
         moments: &[1_000_000, 1_000_000, 1_000_000],
         turns: (1, 1),
         ..PLAIN
     };
-    let play = perform(rt.alloc(), &script, needs(rt.alloc(), 9)?)?;
-    assert!(rt; play.first.heard.made == 8);
-    // The time and what is short are heard of, they go on once, and eight changes are given and settled.
-    assert!(rt; play.first.heard.calls == 2 + 1 + 8 + 8);
+    let play = perform(rt.alloc(), &script, needs(rt.alloc(), 3)?)?;
+    assert!(rt; play.first.heard.made == 1);
+    // The time and what is short are heard of, they go on once, and one change is given and settled.
+    assert!(rt; play.first.heard.calls == 2 + 1 + 1 + 1);
     assert!(rt; play.waits.first() == Some(&0));
-    assert!(rt; play.last.heard.made == 9);
+    assert!(rt; play.last.heard.made == 2);
     Ok(())
 }
 

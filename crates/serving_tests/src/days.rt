@@ -58,7 +58,7 @@ fn played<'x>(
         ..PLAIN
     };
     let mut play = Play::of(alloc, &script, Vec::new(alloc))?;
-    let mut day = EarlyDay::new(Beside::with(Vec::new(alloc)), part);
+    let mut day = EarlyDay::new(Beside::with(alloc, Vec::new(alloc)), part);
     let first = turned(alloc, &mut play, &mut day, turns[0]);
     let then = turned(alloc, &mut play, &mut day, turns[1]);
     let last = turned(alloc, &mut play, &mut day, turns[2]);

@@ -1,6 +1,6 @@
 //! The example of docs/watch.md.
 use crate::loops::{PLAIN, Played, Script, perform};
-use std::alloc::Global;
+use std::alloc::{AllocError, Global};
 use std::process::Abort;
 use std::test::Fail;
 
@@ -59,6 +59,63 @@ fn a_clock_that_cannot_be_read_costs_a_tenth_of_a_second(rt: HostRuntime) -> Res
     let heard = play.last.heard;
     assert!(rt; heard.looks == 1 && heard.answers == 1);
     assert!(rt; heard.calls == 2 * 4 + 1);
+    Ok(())
+}
+
+/// A list with one more at that place.
+fn inserted(alloc: Global, list: &[u64], place: usize, one: u64) -> Result<Vec<u64>, AllocError> {
+    let mut longer = Vec::new(alloc);
+    for (number, each) in list.iter().enumerate() {
+        if number == place {
+            longer.push(one)?;
+        }
+        longer.push(*each)?;
+    }
+    Ok(longer)
+}
+
+/// The example over these moments, for so many turns.
+fn over(alloc: Global, moments: &[u64], turns: u64) -> Result<Played, Fail> {
+    let script = Script {
+        moments,
+        turns: (turns, 0),
+        ..PLAIN
+    };
+    perform(alloc, &script, Vec::new(alloc))
+}
+
+/// The example, where the reading with that number fails, and the next one reads what it would have read.
+fn failing(alloc: Global, number: usize) -> Result<Played, Fail> {
+    let moments = inserted(alloc, &MOMENTS, number, 0)?;
+    over(alloc, &moments, 9)
+}
+
+#[test]
+fn a_reading_that_fails_changes_no_request(rt: HostRuntime) -> Result<(), Fail> {
+    let whole = example(rt.alloc())?;
+    assert!(rt; whole.asked.len() == 4);
+    for number in 0..MOMENTS.len() {
+        let play = failing(rt.alloc(), number)?;
+        let waits = inserted(rt.alloc(), &WAITS, number, 100)?;
+        assert!(rt; play.asked.as_slice() == whole.asked.as_slice());
+        // Nor does it change anything else that they hear.
+        assert!(rt; play.last.heard == whole.last.heard);
+        assert!(rt; play.end == whole.end);
+        assert!(rt; play.waits.as_slice() == waits.as_slice());
+    }
+    Ok(())
+}
+
+#[test]
+fn readings_that_fail_from_one_on_ask_nothing_more(rt: HostRuntime) -> Result<(), Fail> {
+    for number in 0..MOMENTS.len() {
+        let moments = MOMENTS.get(..number).unwrap_or(&[]);
+        let whole = over(rt.alloc(), moments, number as u64)?;
+        let play = over(rt.alloc(), moments, 16)?;
+        assert!(rt; play.asked.as_slice() == whole.asked.as_slice());
+        assert!(rt; play.last.heard == whole.last.heard);
+        assert!(rt; play.waits.len() == 16);
+    }
     Ok(())
 }
 

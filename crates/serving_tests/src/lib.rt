@@ -1,5 +1,5 @@
-//! Tests alone, of the loop: the example of the watch over a clock and a broker in memory, clocks that cannot be read, faults at
-//! every request, changes, another inventory in the middle of a request, ends that were told before, the next time, a start that
+//! Tests alone, of the loop: the example of the watch over a clock and a broker in memory, a clock of which each reading
+//! fails, a lost request, changes, another inventory in the middle of a request, ends that were told before, the next time, a start that
 //! waits, and a beginning before a day is over.
 #![tactic(auto)]
 

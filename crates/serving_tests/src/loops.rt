@@ -2,7 +2,7 @@
 ghost use Rattle.std.specs.Prelude.{IfOk};
 ghost use Rattle.keep_serving.specs.Held.{IsInStep};
 
-use crate::beside::{Beside, Heard};
+use crate::beside::{Asked, Beside, Heard};
 use broker_table::Table;
 use keep_clock::{Call, MemoryClock, Reading};
 use keep_inventory::read;
@@ -63,6 +63,8 @@ pub(crate) struct Played {
     pub(crate) first: Stage,
     /// After the last.
     pub(crate) last: Stage,
+    /// What was asked, in order.
+    pub(crate) asked: Vec<Asked>,
     /// How long each wait was, in milliseconds.
     pub(crate) waits: Vec<u64>,
     /// Whether the clock kept all its calls.
@@ -100,7 +102,7 @@ impl Play {
             serving,
             clock,
             lanes,
-            beside: Beside::with(changes),
+            beside: Beside::with(alloc, changes),
         })
     }
 
@@ -155,6 +157,7 @@ impl Play {
         Ok(Played {
             first,
             last,
+            asked: Vec::from_slice(alloc, &self.beside.asked)?,
             waits: waits(alloc, self.clock.calls())?,
             is_whole: self.clock.is_whole(),
             end: self.lanes.table().end_of(b"web"),

@@ -10,7 +10,7 @@ use Rattle.keep_serving.specs.Neighbours.{AllCalled, NeighbourCall}
 use Rattle.keep_serving.specs.declared.change.Change.{Change}
 
 -- a pause by what was read, but for its wait: nothing is another
-pub record IsPaused {N : Type 0} (does : NeighbourCall → N → N → Type 0) (until : ℕ) (reading : Option Reading) (millis : ℕ) (old new : ServingSide) (before given : Option (List Change)) (a b : N) : Type 0 where
+pub record IsPausedApart {N : Type 0} (does : NeighbourCall → N → N → Type 0) (until : ℕ) (reading : Option Reading) (millis : ℕ) (old new : ServingSide) (before given : Option (List Change)) (a b : N) : Type 0 where
   pub pause : Pause
   pub read : reading ≡ Some pause.reading
   pub waits : millis ≡ pause.millis
@@ -28,5 +28,5 @@ pub record IsEnded {N : Type 0} (does : NeighbourCall → N → N → Type 0) (u
   pub calls : AllCalled does (called_at ending) a b
 
 abbrev pub Pauses : {N : Type 0} → (NeighbourCall → N → N → Type 0) → ℕ → Option Reading → Option ℕ → ServingSide → ServingSide → Option (List Change) → Option (List Change) → N → N → Type 0
-Pauses does until reading (Some millis) old new before given a b = IsPaused does until reading millis old new before given a b
+Pauses does until reading (Some millis) old new before given a b = IsPausedApart does until reading millis old new before given a b
 Pauses does until reading None old new before given a b = IsEnded does until reading old new before given a b

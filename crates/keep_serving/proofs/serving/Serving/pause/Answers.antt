@@ -1,10 +1,10 @@
 -- A pause, or the end of the wait.
-use Rattle.std.proofs.Common.{◌≡◌, ◌∙◌, List, [], Option, subst, sym, arith}
+use Rattle.std.proofs.Common.{◌≡◌, ◌∙◌, ◌||◌, not, List, [], Option, ap, subst, sym, arith}
 use Rattle.keep_asking.specs.Sending.{Lanes, lanes_of}
 use Rattle.keep_clock.specs.declared.reading.Reading.{Reading}
 use Rattle.keep_serving.specs.Changes.{AllGiven}
 use Rattle.keep_serving.specs.Held.{ServingSide, serving_side}
-use Rattle.keep_serving.specs.code.Pauses.{IsEnded, IsPaused}
+use Rattle.keep_serving.specs.code.Pauses.{IsEnded, IsPausedApart}
 use Rattle.keep_serving.specs.declared.change.Change.{Change}
 use Rattle.keep_serving.proofs.Waited.{ended_changed, ended_over, ended_wanting, given_once, paused_with, paused_without}
 use Rattle.keep_serving.proofs.serving.Serving.pause.Goals as goal
@@ -27,28 +27,30 @@ pub returns-in_default-clause-pauses : goal.returns-in_default-clause-pauses
 returns-in_default-clause-pauses g c =
     let lanes : Lanes = lanes_of (g.L.Lanes.behind c.args.lanes.now) (g.L.Lanes.out c.args.lanes.now) (g.L.Lanes.seconds c.args.lanes.now) in
     let s : ServingSide = serving_side c.args.self.now lanes in
-    subst (λ (r : Option Reading). IsPaused g.N.Neighbours.does c.args.until r c.pause_by.result s s (g.N.Neighbours.given c.args.neighbours.now) (g.N.Neighbours.given c.change.new.self) c.args.neighbours.now c.change.new.self) (sym c.in_ok-reading.was)
+    subst (λ (r : Option Reading). IsPausedApart g.N.Neighbours.does c.args.until r c.pause_by.result s s (g.N.Neighbours.given c.args.neighbours.now) (g.N.Neighbours.given c.change.new.self) c.args.neighbours.now c.change.new.self) (sym c.in_ok-reading.was)
     (paused_without g.N.Neighbours.does c.args.until c.pause_by.result c.go_on-is_busy.result c.in_ok-reading.reading s _ _ _ c.go_on-is_busy.new.self _ c.if-reading-until.false c.pause_by.ensures c.go_on-is_busy.ensures.does c.in_default.ensures.does
     (subst (λ (x : Option (List Change)). AllGiven [] x (g.N.Neighbours.given c.change.new.self)) c.go_on-is_busy.ensures.given c.in_default.ensures.given))
 
-pub returns-then-make_shown-clause-pauses : goal.returns-then-make_shown-clause-pauses
-returns-then-make_shown-clause-pauses g c =
+pub returns-then-goes_on-clause-pauses : goal.returns-then-goes_on-clause-pauses
+returns-then-goes_on-clause-pauses g c =
     let old : Lanes = lanes_of (g.L.Lanes.behind c.args.lanes.now) (g.L.Lanes.out c.args.lanes.now) (g.L.Lanes.seconds c.args.lanes.now) in
-    let new : Lanes = lanes_of (g.L.Lanes.behind c.make_shown.new.lanes) (g.L.Lanes.out c.make_shown.new.lanes) (g.L.Lanes.seconds c.make_shown.new.lanes) in
+    let made = c.make_shown-is_made in
+    let new : Lanes = lanes_of (g.L.Lanes.behind made.new.lanes) (g.L.Lanes.out made.new.lanes) (g.L.Lanes.seconds made.new.lanes) in
     let s : ServingSide = serving_side c.args.self.now old in
-    let t : ServingSide = serving_side c.make_shown.new.self new in
-    let made = c.make_shown.ensures.made in
-    subst (λ (r : Option Reading). IsPaused g.N.Neighbours.does c.args.until r 0 s t (g.N.Neighbours.given c.args.neighbours.now) (g.N.Neighbours.given c.make_shown.new.neighbours) c.args.neighbours.now c.make_shown.new.neighbours) (sym c.in_ok-reading.was)
-    (paused_with g.N.Neighbours.does c.args.until c.go_on-is_busy.result c.in_ok-reading.reading c.in-Some.change made.0 s t _ _ _ c.go_on-is_busy.new.self c.change.new.self _ c.if-reading-until.false made.1.0 (sym c.if-make_shown.true ∙ made.1.1.0) c.go_on-is_busy.ensures.does c.in-Some.ensures.does made.1.1.1
-    (given_once c.in-Some.change _ _ _ _ c.go_on-is_busy.ensures.given c.in-Some.ensures.given c.make_shown.ensures.given))
+    let t : ServingSide = serving_side made.new.self new in
+    let on = sym c.if-goes_on.true ∙ c.goes_on.ensures ∙ ap (λ k. k || not made.result) c.is_kept-is_kept.ensures in
+    subst (λ (r : Option Reading). IsPausedApart g.N.Neighbours.does c.args.until r c.pause_by-then-goes_on.result s t (g.N.Neighbours.given c.args.neighbours.now) (g.N.Neighbours.given made.new.neighbours) c.args.neighbours.now made.new.neighbours) (sym c.in_ok-reading.was)
+    (paused_with g.N.Neighbours.does c.args.until c.pause_by-then-goes_on.result c.go_on-is_busy.result c.in_ok-reading.reading c.in-Some.change made.result s t _ _ _ c.go_on-is_busy.new.self c.change.new.self _ c.if-reading-until.false c.pause_by-then-goes_on.ensures made.ensures.made on c.go_on-is_busy.ensures.does c.in-Some.ensures.does made.ensures.settled
+    (given_once c.in-Some.change _ _ _ _ c.go_on-is_busy.ensures.given c.in-Some.ensures.given made.ensures.given))
 
-pub returns-else-make_shown-clause-pauses : goal.returns-else-make_shown-clause-pauses
-returns-else-make_shown-clause-pauses g c =
+pub returns-else-goes_on-clause-pauses : goal.returns-else-goes_on-clause-pauses
+returns-else-goes_on-clause-pauses g c =
     let old : Lanes = lanes_of (g.L.Lanes.behind c.args.lanes.now) (g.L.Lanes.out c.args.lanes.now) (g.L.Lanes.seconds c.args.lanes.now) in
-    let new : Lanes = lanes_of (g.L.Lanes.behind c.make_shown.new.lanes) (g.L.Lanes.out c.make_shown.new.lanes) (g.L.Lanes.seconds c.make_shown.new.lanes) in
+    let made = c.make_shown-is_made in
+    let new : Lanes = lanes_of (g.L.Lanes.behind made.new.lanes) (g.L.Lanes.out made.new.lanes) (g.L.Lanes.seconds made.new.lanes) in
     let s : ServingSide = serving_side c.args.self.now old in
-    let t : ServingSide = serving_side c.make_shown.new.self new in
-    let made = c.make_shown.ensures.made in
-    subst (λ (r : Option Reading). IsEnded g.N.Neighbours.does c.args.until r s t (g.N.Neighbours.given c.args.neighbours.now) (g.N.Neighbours.given c.make_shown.new.neighbours) c.args.neighbours.now c.make_shown.new.neighbours) (sym c.in_ok-reading.was)
-    (ended_changed g.N.Neighbours.does c.args.until c.go_on-is_busy.result c.in_ok-reading.reading c.in-Some.change made.0 s t _ _ _ c.go_on-is_busy.new.self c.change.new.self _ c.if-reading-until.false made.1.0 (sym c.if-make_shown.false ∙ made.1.1.0) c.go_on-is_busy.ensures.does c.in-Some.ensures.does made.1.1.1
-    (given_once c.in-Some.change _ _ _ _ c.go_on-is_busy.ensures.given c.in-Some.ensures.given c.make_shown.ensures.given))
+    let t : ServingSide = serving_side made.new.self new in
+    let on = sym c.if-goes_on.false ∙ c.goes_on.ensures ∙ ap (λ k. k || not made.result) c.is_kept-is_kept.ensures in
+    subst (λ (r : Option Reading). IsEnded g.N.Neighbours.does c.args.until r s t (g.N.Neighbours.given c.args.neighbours.now) (g.N.Neighbours.given made.new.neighbours) c.args.neighbours.now made.new.neighbours) (sym c.in_ok-reading.was)
+    (ended_changed g.N.Neighbours.does c.args.until c.go_on-is_busy.result c.in_ok-reading.reading c.in-Some.change made.result s t _ _ _ c.go_on-is_busy.new.self c.change.new.self _ c.if-reading-until.false made.ensures.made on c.go_on-is_busy.ensures.does c.in-Some.ensures.does made.ensures.settled
+    (given_once c.in-Some.change _ _ _ _ c.go_on-is_busy.ensures.given c.in-Some.ensures.given made.ensures.given))

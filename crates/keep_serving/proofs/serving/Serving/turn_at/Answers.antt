@@ -3,8 +3,8 @@ use Rattle.std.proofs.Common.{◌≡◌, ◌∙◌, ◌++◌, ◌∷◌, ◌||�
 use Rattle.keep_asking.specs.Sending.{Lanes, lanes_of}
 use Rattle.keep_serving.specs.Changes.{AllGiven, changes_of}
 use Rattle.keep_serving.specs.Held.{Held, IsInStep, serving_side}
-use Rattle.keep_serving.specs.Neighbours.{AllCalled, GoOn, calls_of_hearing, changes_in, heard_of_want}
-use Rattle.keep_serving.specs.Turns.{is_some_made, wait_by}
+use Rattle.keep_serving.specs.Neighbours.{AllCalled, GoOn, calls_of_change, calls_of_hearing, heard_of_want}
+use Rattle.keep_serving.specs.Turns.{is_some_made, turn_wait_by}
 use Rattle.keep_serving.proofs.Called.{called_join}
 use Rattle.keep_serving.proofs.Changed.{made_keeps}
 use Rattle.keep_serving.proofs.Staged.{goes_keeps}
@@ -15,20 +15,20 @@ pub returns-clause-turn : goal.returns-clause-turn
 returns-clause-turn g c =
     let old : Lanes = lanes_of (g.L.Lanes.behind c.args.lanes.now) (g.L.Lanes.out c.args.lanes.now) (g.L.Lanes.seconds c.args.lanes.now) in
     let mid : Lanes = lanes_of (g.L.Lanes.behind c.hand_in.new.lanes) (g.L.Lanes.out c.hand_in.new.lanes) (g.L.Lanes.seconds c.hand_in.new.lanes) in
-    let new : Lanes = lanes_of (g.L.Lanes.behind c.make_changes-is_changed.new.lanes) (g.L.Lanes.out c.make_changes-is_changed.new.lanes) (g.L.Lanes.seconds c.make_changes-is_changed.new.lanes) in
-    let made = c.make_changes-is_changed.ensures.made in
+    let new : Lanes = lanes_of (g.L.Lanes.behind c.make_change-is_changed.new.lanes) (g.L.Lanes.out c.make_change-is_changed.new.lanes) (g.L.Lanes.seconds c.make_change-is_changed.new.lanes) in
+    let made = c.make_change-is_changed.ensures.made in
     let r = c.args.reading in
     let whole = is_ok c.hand_in.result in
     let busy = c.go_on-is_busy.result in
     let due = c.due-due.result in
-    let held = c.make_changes-is_changed.new.self in
+    let held = c.make_change-is_changed.new.self in
     let heard = c.hand_in.ensures.heard in
     let told : AllCalled g.N.Neighbours.does (heard_of_want whole) c.hand_in.new.neighbours c.tell_want.new.neighbours =
     subst (λ w. AllCalled g.N.Neighbours.does (heard_of_want w) c.hand_in.new.neighbours c.tell_want.new.neighbours) c.is_ok-is_whole.ensures.value c.tell_want.ensures.heard in
-    let waits : c.wait_of.result ≡ wait_by (is_some_made made.0 || busy) whole held.until due (Some r) =
-    c.wait_of.ensures ∙ ap (λ b. wait_by (b || busy) c.is_ok-is_whole.result c.self-2.inside.until due (Some r)) made.1.1.1.0
-    ∙ ap (λ w. wait_by (is_some_made made.0 || busy) w c.self-2.inside.until due (Some r)) c.is_ok-is_whole.ensures.value
-    ∙ ap (λ (h : Held). wait_by (is_some_made made.0 || busy) whole h.until due (Some r)) c.self-2.view_is in (
+    let waits : c.wait_of.result ≡ turn_wait_by (is_some_made made.0 || busy) whole held.until due (Some r) =
+    c.wait_of.ensures ∙ ap (λ b. turn_wait_by (b || busy) c.is_ok-is_whole.result c.self-2.inside.until due (Some r)) made.1.1.1.0
+    ∙ ap (λ w. turn_wait_by (is_some_made made.0 || busy) w c.self-2.inside.until due (Some r)) c.is_ok-is_whole.ensures.value
+    ∙ ap (λ (h : Held). turn_wait_by (is_some_made made.0 || busy) whole h.until due (Some r)) c.self-2.view_is in (
       turned r whole made.0 busy due c.wait_of.result,
       (
         refl,
@@ -37,14 +37,14 @@ returns-clause-turn g c =
           (
             whole_turn (g.L.Lanes.host_port c.args.lanes.now) r whole busy made.0 due c.wait_of.result (serving_side c.args.self.now old) (serving_side c.hand_in.new.self mid) (serving_side held new) c.hand_in.ensures.goes made.1.0 made.1.1.0 waits,
             (
-              subst (λ a. AllGiven (changes_of made.0) a (g.N.Neighbours.given c.make_changes-is_changed.new.neighbours)) (c.go_on-is_busy.ensures.given ∙ c.tell_want.ensures.given ∙ c.hand_in.ensures.given) made.1.1.1.1.0,
+              subst (λ a. AllGiven (changes_of made.0) a (g.N.Neighbours.given c.make_change-is_changed.new.neighbours)) (c.go_on-is_busy.ensures.given ∙ c.tell_want.ensures.given ∙ c.hand_in.ensures.given) made.1.1.1.1.0,
               record {
                 answers = heard.answers;
                 few = heard.few;
                 is_handed = heard.is_handed;
                 whole = heard.whole;
-                called = called_join g.N.Neighbours.does (calls_of_hearing heard.answers heard.is_handed) (heard_of_want whole ++ GoOn busy ∷ changes_in 8 made.0) c.args.neighbours.now c.hand_in.new.neighbours c.make_changes-is_changed.new.neighbours heard.called
-                    (called_join g.N.Neighbours.does (heard_of_want whole) (GoOn busy ∷ changes_in 8 made.0) c.hand_in.new.neighbours c.tell_want.new.neighbours c.make_changes-is_changed.new.neighbours told
+                called = called_join g.N.Neighbours.does (calls_of_hearing heard.answers heard.is_handed) (heard_of_want whole ++ GoOn busy ∷ calls_of_change made.0) c.args.neighbours.now c.hand_in.new.neighbours c.make_change-is_changed.new.neighbours heard.called
+                    (called_join g.N.Neighbours.does (heard_of_want whole) (GoOn busy ∷ calls_of_change made.0) c.hand_in.new.neighbours c.tell_want.new.neighbours c.make_change-is_changed.new.neighbours told
                     (c.go_on-is_busy.new.self, (c.go_on-is_busy.ensures.does, made.1.1.1.1.1)));
               },
             ),
@@ -57,9 +57,9 @@ pub returns-clause-in_step : goal.returns-clause-in_step
 returns-clause-in_step g c =
     let old : Lanes = lanes_of (g.L.Lanes.behind c.args.lanes.now) (g.L.Lanes.out c.args.lanes.now) (g.L.Lanes.seconds c.args.lanes.now) in
     let mid : Lanes = lanes_of (g.L.Lanes.behind c.hand_in.new.lanes) (g.L.Lanes.out c.hand_in.new.lanes) (g.L.Lanes.seconds c.hand_in.new.lanes) in
-    let new : Lanes = lanes_of (g.L.Lanes.behind c.make_changes-is_changed.new.lanes) (g.L.Lanes.out c.make_changes-is_changed.new.lanes) (g.L.Lanes.seconds c.make_changes-is_changed.new.lanes) in
+    let new : Lanes = lanes_of (g.L.Lanes.behind c.make_change-is_changed.new.lanes) (g.L.Lanes.out c.make_change-is_changed.new.lanes) (g.L.Lanes.seconds c.make_change-is_changed.new.lanes) in
     let width = g.L.Lanes.width c.args.lanes.now in
     let gone = goes_keeps (g.L.Lanes.host_port c.args.lanes.now) c.args.reading width (serving_side c.args.self.now old) (serving_side c.hand_in.new.self mid) (is_ok c.hand_in.result) c.hand_in.ensures.goes c.requires.in_step in
-    let made = c.make_changes-is_changed.ensures.made in
-    let step = made_keeps width made.0 (serving_side c.hand_in.new.self mid) (serving_side c.make_changes-is_changed.new.self new) made.1.0 gone in
-    subst (λ w. IsInStep w (g.L.Lanes.out c.make_changes-is_changed.new.lanes) c.make_changes-is_changed.new.self) (sym (c.make_changes-is_changed.ensures.width ∙ c.hand_in.ensures.width)) step
+    let made = c.make_change-is_changed.ensures.made in
+    let step = made_keeps width made.0 (serving_side c.hand_in.new.self mid) (serving_side c.make_change-is_changed.new.self new) made.1.0 gone in
+    subst (λ w. IsInStep w (g.L.Lanes.out c.make_change-is_changed.new.lanes) c.make_change-is_changed.new.self) (sym (c.make_change-is_changed.ensures.width ∙ c.hand_in.ensures.width)) step
