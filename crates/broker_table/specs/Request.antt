@@ -5,6 +5,7 @@ use Rattle.std.specs.Prelude.{ℕ, Bool, true, false, ◌||◌, List, Option, So
 use Rattle.std.specs.Str.{is_utf8}
 use Rattle.vault_json.specs.Request.{increment_answer, lease_id_answer}
 use Rattle.vault_json.specs.declared.fault.ReplyFault.{ReplyFault}
+use Rattle.vault_http.specs.Written.{is_get}
 use Rattle.broker_table.specs.declared.call.Call.{Call}
 use Rattle.broker_table.specs.declared.call.Call.TheVariants.{RenewSelf, RenewLease, LookupSelf, LookupLease}
 use Rattle.broker_table.specs.declared.asked.Asked.{Asked}
@@ -19,9 +20,6 @@ call_of path =
     else (if bytes_eq path (codes "/v1/sys/leases/renew") then Some RenewLease
     else (if bytes_eq path (codes "/v1/auth/token/lookup-self") then Some LookupSelf
     else (if bytes_eq path (codes "/v1/sys/leases/lookup") then Some LookupLease else None)))
-
-unfoldable pub is_get : List ℕ → Bool
-is_get method = bytes_eq method (codes "GET")
 
 unfoldable pub is_write : List ℕ → Bool
 is_write method = bytes_eq method (codes "POST") || bytes_eq method (codes "PUT")

@@ -27,7 +27,7 @@ pub data BrokerAnswer : Type 0 where
   tells : Call → Row → BrokerAnswer
   drops : BrokerAnswer
 
--- an answer, and the table behind it
+-- an answer, and the table after it
 pub record BrokerOutcome : Type 0 where
   pub answer : BrokerAnswer
   pub table : BrokerTable

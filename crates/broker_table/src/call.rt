@@ -1,5 +1,6 @@
 ghost use Rattle.std.specs.Prelude.{◌≡◌};
-ghost use Rattle.broker_table.specs.Request.{call_of, is_get, is_write, allows, is_renewal};
+ghost use Rattle.vault_http.specs.Written.{is_get};
+ghost use Rattle.broker_table.specs.Request.{call_of, is_write, allows, is_renewal};
 
 use http::Method;
 
@@ -55,7 +56,6 @@ impl Call {
     }
 }
 
-#[tactic(auto, unfolding(crate::specs::Request::is_get))]
 fn is_get(method: &Method) -> bool
     ensures { result ≡ is_get method.now }
 {

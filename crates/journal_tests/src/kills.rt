@@ -3,7 +3,8 @@
 ghost use Rattle.std.specs.Prelude.{◌≡◌, IfOk, true};
 ghost use Rattle.keep_disk.specs.Memory.{memory_state};
 ghost use Rattle.keep_journal.specs.Journals.{JournalHolds, path_of_journal};
-ghost use Rattle.journal_tests.specs.Kills.{AllKept, journal_path};
+ghost use Rattle.keep_disk.specs.State.{AllKept};
+ghost use Rattle.journal_tests.specs.Kills.{journal_path};
 
 use crate::recoveries::{JOURNAL, joined, stored};
 use keep_disk::{DiskFault, Failing, MemoryDisk, Stored, Why};

@@ -1,7 +1,7 @@
 //! What journals read of the files that they find, and what they make of them.
 ghost use Rattle.std.specs.Prelude.{IfOk};
 ghost use Rattle.keep_disk.specs.Memory.{memory_state};
-ghost use Rattle.journal_tests.specs.Kills.{AllKept};
+ghost use Rattle.keep_disk.specs.State.{AllKept};
 
 use keep_disk::{FILE_MODE, Failing, Held, MemoryDisk, Stored, What, Why};
 use keep_journal::{Journal, is_line};

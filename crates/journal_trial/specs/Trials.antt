@@ -7,6 +7,6 @@ use Rattle.keep_journal.specs.Journals.{lines_of_journal, path_of_journal}
 use Rattle.keep_journal.specs.declared.journal.Journal.{Journal}
 
 -- its records are lines, and it stands apart from the file
-pub record JournalIsSound (journal : Journal) (file : List ℕ) : Type 0 where
+pub record TrialJournalIsSound (journal : Journal) (file : List ℕ) : Type 0 where
   pub are_lines : AreLines (lines_of_journal journal)
   pub apart : bytes_eq (path_of_journal journal) file ≡ false

@@ -1,4 +1,4 @@
-ghost use Rattle.journal_trial.specs.Trials.{JournalIsSound};
+ghost use Rattle.journal_trial.specs.Trials.{TrialJournalIsSound};
 
 use crate::book::{Book, book_of};
 use crate::fault::Fault;
@@ -23,8 +23,8 @@ pub fn make<R: Files<File = File> + AllocGlobal>(
     book: &mut Book,
     change: Change,
 ) -> Result<Option<Text>, Fault>
-    requires { JournalIsSound journal.old file.now }
-    ensures { JournalIsSound journal.new file.now }
+    requires { TrialJournalIsSound journal.old file.now }
+    ensures { TrialJournalIsSound journal.new file.now }
 {
     let change = book.beside(alloc, change)?;
     if let Some(refused) = enter(alloc, book, &change)? {
@@ -55,8 +55,8 @@ fn put<R: Files<File = File> + AllocGlobal>(
     file: &str,
     line: Text,
 ) -> Result<(), Fault>
-    requires { JournalIsSound journal.old file.now }
-    ensures { JournalIsSound journal.new file.now }
+    requires { TrialJournalIsSound journal.old file.now }
+    ensures { TrialJournalIsSound journal.new file.now }
 {
     if !is_line(line.list()) {
         return Err(Fault::Lines);
@@ -72,8 +72,8 @@ pub fn compact<R: Files<File = File> + AllocGlobal>(
     journal: &mut Journal<'_>,
     file: &str,
 ) -> Result<(), Fault>
-    requires { JournalIsSound journal.old file.now }
-    ensures { JournalIsSound journal.new file.now }
+    requires { TrialJournalIsSound journal.old file.now }
+    ensures { TrialJournalIsSound journal.new file.now }
 {
     let found = found_in(alloc, journal.records())?;
     let outs = voids(alloc, &found.records)?;
@@ -89,8 +89,8 @@ pub fn settle_all<R: Files<File = File> + AllocGlobal>(
     file: &str,
     book: &mut Book,
 ) -> Result<(), Fault>
-    requires { JournalIsSound journal.old file.now }
-    ensures { JournalIsSound journal.new file.now }
+    requires { TrialJournalIsSound journal.old file.now }
+    ensures { TrialJournalIsSound journal.new file.now }
 {
     let settled = settle(alloc, book.margin(), None, &book.rows)?;
     let bytes = settled.text.as_bytes();

@@ -1,4 +1,4 @@
-ghost use Rattle.journal_trial.specs.Trials.{JournalIsSound};
+ghost use Rattle.journal_trial.specs.Trials.{TrialJournalIsSound};
 
 use crate::book::{Book, read_book};
 use crate::changes::{compact, make, settle_all};
@@ -69,7 +69,7 @@ fn answer_all<R: Files<File = File> + AllocGlobal + Print + Input>(
     file: &str,
     book: &mut Book,
 ) -> Result<(), Fault>
-    requires { JournalIsSound journal.old file.now }
+    requires { TrialJournalIsSound journal.old file.now }
 {
     let mut done = 0u64;
     for line in rt.lines(rt.alloc()) {
@@ -95,8 +95,8 @@ fn answer<R: Files<File = File> + AllocGlobal + Print>(
     book: &mut Book,
     line: &str,
 ) -> Result<Option<String>, Fault>
-    requires { JournalIsSound journal.old file.now }
-    ensures { JournalIsSound journal.new file.now }
+    requires { TrialJournalIsSound journal.old file.now }
+    ensures { TrialJournalIsSound journal.new file.now }
 {
     let alloc = rt.alloc();
     match line {
@@ -117,8 +117,8 @@ fn obey<R: Files<File = File> + AllocGlobal>(
     book: &mut Book,
     line: &str,
 ) -> Result<Option<String>, Fault>
-    requires { JournalIsSound journal.old file.now }
-    ensures { JournalIsSound journal.new file.now }
+    requires { TrialJournalIsSound journal.old file.now }
+    ensures { TrialJournalIsSound journal.new file.now }
 {
     let Some(Record::Made(change)) = read_record(alloc, line.as_bytes())? else {
         return Ok(Some(String::from_str(alloc, "no record")?));

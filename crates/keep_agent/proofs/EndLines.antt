@@ -14,9 +14,10 @@ use Rattle.keep_words.proofs.Numbers.{number_back, number_spelled}
 use Rattle.keep_inventory.specs.Values.{is_credential}
 use Rattle.keep_tree.specs.declared.forest.TheConstants.{END_MAX}
 use Rattle.keep_tree.specs.Push.{is_name, is_name_byte}
+use Rattle.keep_words.specs.Texts.{yes_or_no}
 use Rattle.keep_agent.specs.declared.ends.KnownEnd.{KnownEnd}
 use Rattle.keep_agent.specs.declared.standing.Told.{Told}
-use Rattle.keep_agent.specs.Ends.{BootLaw, EndLineLaw, EndReadIsWritten, EndWrittenIsRead, IsKnownEnd, end_of_text, end_text, end_words, five, in_boot, is_word, known_end_by, renewable_of, told_by_words, told_of_words, yes_or_no}
+use Rattle.keep_agent.specs.Ends.{BootLaw, EndLineLaw, EndReadIsWritten, EndWrittenIsRead, IsKnownEnd, end_of_text, end_text, end_words, five, in_boot, known_end_by, renewable_of, told_by_words, told_of_words}
 
 -- one word more in front
 pub five_after : (a : List ℕ) (ws : List (List ℕ)) → five (a ∷ ws) ≡ option_map (λ w. (a, w.0, w.1, w.2, w.3)) (four ws)
@@ -91,7 +92,7 @@ unfolding told_of_words
 told_back t h = ap (λ o. told_by_words o (renewable_of (yes_or_no t.renewable))) (number_back END_MAX (omega arith) t.end h) ∙ ap (told_by_words (Some t.end)) (renewable_back t.renewable)
 
 known_back : (k : KnownEnd) → IsKnownEnd k → known_end_by k.name k.fingerprint k.boot (Some k.told) ≡ Some k
-known_back k h = cond-true _ _ _ (and_from (is_name k.name) _ h.name (and_from (is_word k.fingerprint) (is_word k.boot) h.fingerprint h.boot))
+known_back k h = cond-true _ _ _ (and_from (is_name k.name) _ h.name (and_from (is_credential k.fingerprint) (is_credential k.boot) h.fingerprint h.boot))
 
 pub written_is_read : EndWrittenIsRead
 unfolding end_of_text end_text
@@ -148,12 +149,12 @@ told_only end renewable t e = by (number_up_to END_MAX end) (renewable_of renewa
       rw (sym same) (is.0, (is.1, said_only renewable b said))
 
 known_only : (name fingerprint boot : List ℕ) (o : Option Told) (k : KnownEnd) → known_end_by name fingerprint boot o ≡ Some k →
-    (o ≡ Some k.told) × ((is_name name ≡ true) × ((is_word fingerprint ≡ true) × ((is_word boot ≡ true) × ((name ≡ k.name) × ((fingerprint ≡ k.fingerprint) × (boot ≡ k.boot))))))
+    (o ≡ Some k.told) × ((is_name name ≡ true) × ((is_credential fingerprint ≡ true) × ((is_credential boot ≡ true) × ((name ≡ k.name) × ((fingerprint ≡ k.fingerprint) × (boot ≡ k.boot))))))
 known_only name fingerprint boot None k e = cc
 known_only name fingerprint boot (Some t) k e =
-    let p = passed (is_name name && (is_word fingerprint && is_word boot)) (record { name = name; fingerprint = fingerprint; boot = boot; told = t }) k e in
+    let p = passed (is_name name && (is_credential fingerprint && is_credential boot)) (record { name = name; fingerprint = fingerprint; boot = boot; told = t }) k e in
     let q = and_parts (is_name name) _ p.0 in
-    let r = and_parts (is_word fingerprint) (is_word boot) q.1 in
+    let r = and_parts (is_credential fingerprint) (is_credential boot) q.1 in
     (ap (λ (x : KnownEnd). Some x.told) p.1, (q.0, (r.0, (r.1, (ap (λ (x : KnownEnd). x.name) p.1, (ap (λ (x : KnownEnd). x.fingerprint) p.1, ap (λ (x : KnownEnd). x.boot) p.1))))))
 
 pub read_is_written : EndReadIsWritten
@@ -169,8 +170,8 @@ read_is_written text k e =
       record {
         name = ap is_name (sym names.0) ∙ q.1.0;
         end = t.1.0;
-        fingerprint = ap is_word (sym names.1.0) ∙ q.1.1.0;
-        boot = ap is_word (sym names.1.1) ∙ q.1.1.1.0;
+        fingerprint = ap is_credential (sym names.1.0) ∙ q.1.1.0;
+        boot = ap is_credential (sym names.1.1) ∙ q.1.1.1.0;
       },
       sym (joined_back 32 text) ∙ ap (join_with_byte 32) (p.1.0 ∙ words),
     )

@@ -8,14 +8,11 @@ use Rattle.keep_tree.specs.Push.{is_name}
 use Rattle.keep_words.specs.Laws.{Lacks}
 use Rattle.keep_words.specs.Numbers.{number_up_to}
 use Rattle.keep_words.specs.Pieces.{words}
+use Rattle.keep_words.specs.Texts.{yes_or_no}
 use Rattle.keep_agent.specs.declared.ends.KnownEnd.{KnownEnd}
 use Rattle.keep_agent.specs.declared.standing.Told.{Told}
 
 -- ---- as it is written
-
-abbrev pub yes_or_no : Bool → List ℕ
-yes_or_no true = codes "yes"
-yes_or_no false = codes "no"
 
 -- the name, the end in whole seconds of the clock that never steps, whether the entry can be renewed, the fingerprint of its
 -- credential, and the boot
@@ -27,10 +24,6 @@ unfoldable pub end_text : KnownEnd → List ℕ
 end_text k = join_with_byte 32 (end_words k)
 
 -- ---- as it is read
-
--- 1 to 256 bytes from 0x21 to 0x7E, as a credential has them
-abbrev pub is_word : List ℕ → Bool
-is_word w = is_credential w
 
 abbrev pub renewable_of : List ℕ → Option Bool
 renewable_of word = if bytes_eq word (codes "yes") then Some true else (if bytes_eq word (codes "no") then Some false else None)
@@ -46,7 +39,7 @@ told_of_words end renewable = told_by_words (number_up_to END_MAX end) (renewabl
 abbrev pub known_end_by : List ℕ → List ℕ → List ℕ → Option Told → Option KnownEnd
 known_end_by name fingerprint boot None = None
 known_end_by name fingerprint boot (Some told) =
-    if is_name name && (is_word fingerprint && is_word boot) then Some (record { name = name; fingerprint = fingerprint; boot = boot; told = told }) else None
+    if is_name name && (is_credential fingerprint && is_credential boot) then Some (record { name = name; fingerprint = fingerprint; boot = boot; told = told }) else None
 
 abbrev pub five : List (List ℕ) → Option (List ℕ × List ℕ × List ℕ × List ℕ × List ℕ)
 five (a ∷ b ∷ c ∷ d ∷ e ∷ []) = Some (a, b, c, d, e)
@@ -67,8 +60,8 @@ in_boot boot (Some k) = if bytes_eq k.boot boot then Some k else None
 pub record IsKnownEnd (k : KnownEnd) : Type 0 where
   pub name : is_name k.name ≡ true
   pub end : k.told.end ≤ END_MAX
-  pub fingerprint : is_word k.fingerprint ≡ true
-  pub boot : is_word k.boot ≡ true
+  pub fingerprint : is_credential k.fingerprint ≡ true
+  pub boot : is_credential k.boot ≡ true
 
 -- ---- laws: each is the contract of a public function without a body
 

@@ -15,13 +15,13 @@ use Rattle.keep_agent.specs.Standings.{standing_in}
 abbrev pub is_near : ℕ → ℕ → ℕ → Bool
 is_near now need reach = not (nat_le LAST need) || nat_le reach (now + 86400)
 
-abbrev pub news_of : ℕ → ℕ → ℕ → Option ℕ → Option ℕ → Option ℕ
-news_of margin now need last None = None
-news_of margin now need last (Some reach) = if is_news margin last reach && is_near now need reach then Some reach else None
+abbrev pub news_of_reach : ℕ → ℕ → ℕ → Option ℕ → Option ℕ → Option ℕ
+news_of_reach margin now need last None = None
+news_of_reach margin now need last (Some reach) = if is_news margin last reach && is_near now need reach then Some reach else None
 
 -- the reach of an entry that is to be said, given what was said last
 abbrev pub news_in : WatchState → ℕ → Option ℕ → Option ℕ
-news_in m i last = news_of m.forest.margin (broker_now m) (entry_of m i).need last (short_of m i)
+news_in m i last = news_of_reach m.forest.margin (broker_now m) (entry_of m i).need last (short_of m i)
 
 abbrev pub short_at : ℕ → Option ℕ → List Short
 short_at i None = []

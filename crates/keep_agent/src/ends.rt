@@ -5,7 +5,9 @@ ghost use Rattle.std.specs.List.{list_all};
 ghost use Rattle.std.specs.Option.{option_map};
 ghost use Rattle.keep_words.specs.Pieces.{words};
 ghost use Rattle.keep_tree.specs.Push.{is_name, is_name_byte};
-ghost use Rattle.keep_agent.specs.Ends.{end_of_text, end_text, five, in_boot, is_word, known_end_by, renewable_of, told_of_words, yes_or_no};
+ghost use Rattle.keep_words.specs.Texts.{yes_or_no};
+ghost use Rattle.keep_inventory.specs.Values.{is_credential};
+ghost use Rattle.keep_agent.specs.Ends.{end_of_text, end_text, five, in_boot, known_end_by, renewable_of, told_of_words};
 
 use crate::standing::Told;
 use keep_inventory::CREDENTIAL_MAX;
@@ -134,7 +136,7 @@ fn has_name_bytes(name: &[u8]) -> bool
 
 // Whether these bytes are a word: 1 to 256 bytes from 0x21 to 0x7E.
 fn is_word(word: &[u8]) -> bool
-    ensures { result ≡ is_word word.now }
+    ensures { result ≡ is_credential word.now }
 {
     !word.is_empty() && word.len() <= CREDENTIAL_MAX && is_visible(word)
 }

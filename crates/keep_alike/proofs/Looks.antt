@@ -19,7 +19,7 @@ use Rattle.broker_table.specs.declared.call.Call.TheVariants.{RenewSelf, LookupS
 use Rattle.broker_table.specs.declared.refusal.Refusal.{Refusal}
 use Rattle.broker_table.specs.declared.refusal.Refusal.TheVariants.{BadRequest, PermissionDenied}
 use Rattle.broker_table.specs.Granted.{call_for}
-use Rattle.broker_table.specs.Request.{read_or_none, asked, call_of, increment_in, is_get, is_write, lease_id_in, asked_of_lease, asked_of_token, a_text}
+use Rattle.broker_table.specs.Request.{read_or_none, asked, call_of, increment_in, is_write, lease_id_in, asked_of_lease, asked_of_token, a_text}
 use Rattle.broker_table.specs.Step.{after_sweep, broker_step, lookup_answer, renewal_outcome}
 use Rattle.broker_table.specs.Subject.{Subject, bearer, is_token_with, subject, token_with, with_bearer, with_asked}
 use Rattle.broker_table.specs.Table.{BrokerTable}
@@ -57,7 +57,7 @@ asked_by body = refl
 -- ---- a lookup, and a token's renewal, as a broker's step
 
 token_step : (l : BrokerTable) (t port : ℕ) (c : List ℕ) → broker_step l t (token_looked port c) ≡ record { answer = lookup_answer LookupSelf (subject (after_sweep l t).rows LookupSelf (token_looked port c)); table = after_sweep l t }
-unfolding broker_step call_of is_get
+unfolding broker_step call_of
 token_step l t port c = refl
 
 lease_step : (l : BrokerTable) (t port : ℕ) (owner : Option (List ℕ)) (id : List ℕ) →

@@ -16,7 +16,7 @@ use Rattle.watch_machine.specs.History.{Turn}
 use Rattle.watch_machine.specs.Refusal.{is_same, refusal, request_out, unless_some}
 use Rattle.watch_machine.specs.State.{WatchState, track_at}
 use Rattle.keep_asking.specs.Handing.{AreHandedIn, IsHandedIn, out_of}
-use Rattle.keep_asking.specs.InStep.{AreOut, MachineIsSound, entries_of, entries_out, times}
+use Rattle.keep_asking.specs.InStep.{AreOut, MachineIsSound, entries_answered, entries_out, times}
 use Rattle.keep_asking.specs.Told.{event_as}
 use Rattle.keep_asking.specs.declared.handing.HandedIn.{HandedIn}
 use Rattle.keep_asking.proofs.Sound.{Answered, counts, marked_within, same_index, skips, times_append, turn_looked, turn_renewed}
@@ -108,7 +108,7 @@ handed_one s a old new h is sound = turned old new h.request.operation a.index h
 -- answers were handed in, each to another request that was out: the others are out
 pub record AreOver (old : WatchState) (answers : List lanes.Answered) (new : WatchState) : Type 0 where
   pub width : new.width ≡ old.width
-  pub each : (i : ℕ) → times i (entries_out new) + times i (entries_of answers) ≡ times i (entries_out old)
+  pub each : (i : ℕ) → times i (entries_out new) + times i (entries_answered answers) ≡ times i (entries_out old)
   pub count : length new.out + length answers ≡ length old.out
   pub sound : MachineIsSound new
 
@@ -123,17 +123,17 @@ are_over s (a ∷ rest) old new h sound out =
     let mid = h.0 in
     let one = handed_one s a old mid h.1.0 h.1.1.0 sound in
     let own = one.own in
-    let first = counts a.index a.index (entries_of rest) (same_index a.index) in
+    let first = counts a.index a.index (entries_answered rest) (same_index a.index) in
     let there = out a.index in
     let once = sound.once a.index in
     let most = flag_most (track_at old a.index).out in
     let single : times a.index (entries_out old) ≡ 1 = omega (arith, first, there, once, most) in
     let left : AreOut mid rest = λ i. elim (cases_Bool (a.index == i)) [
       | inl same ↦
-          let none : times i (entries_of rest) ≤ times i (entries_out mid) = subst (λ k. times k (entries_of rest) ≤ times k (entries_out mid)) (eqb-true a.index i same) (omega (arith, first, there, single, own)) in
+          let none : times i (entries_answered rest) ≤ times i (entries_out mid) = subst (λ k. times k (entries_answered rest) ≤ times k (entries_out mid)) (eqb-true a.index i same) (omega (arith, first, there, single, own)) in
           none
       | inr other ↦
-          let fewer = skips i a.index (entries_of rest) other in
+          let fewer = skips i a.index (entries_answered rest) other in
           let as_was = one.others i other in
           let all = out i in
           omega (arith, fewer, as_was, all)
@@ -145,11 +145,11 @@ are_over s (a ∷ rest) old new h sound out =
       width = more.width ∙ one.width;
       each = λ i. elim (cases_Bool (a.index == i)) [
         | inl same ↦
-            subst (λ k. times k (entries_out new) + times k (entries_of (a ∷ rest)) ≡ times k (entries_out old)) (eqb-true a.index i same)
+            subst (λ k. times k (entries_out new) + times k (entries_answered (a ∷ rest)) ≡ times k (entries_out old)) (eqb-true a.index i same)
             (let all = more.each a.index in omega (arith, all, first, single, own))
         | inr other ↦
             let all = more.each i in
-            let fewer = skips i a.index (entries_of rest) other in
+            let fewer = skips i a.index (entries_answered rest) other in
             let as_was = one.others i other in
             omega (arith, all, fewer, as_was)
       ];
@@ -163,17 +163,17 @@ pub next_out :
     (out_of now.out a.index ≢ None) × MachineIsSound now
 next_out s answers old now a later all h is sound out =
     let i = a.index in
-    let split : (k : ℕ) → times k (entries_of (answers ++ a ∷ later)) ≡ times k (entries_of answers) + times k (entries_of (a ∷ later)) = λ k. ap (times k) (entries_append answers (a ∷ later)) ∙ times_append k (entries_of answers) (entries_of (a ∷ later)) in
+    let split : (k : ℕ) → times k (entries_answered (answers ++ a ∷ later)) ≡ times k (entries_answered answers) + times k (entries_answered (a ∷ later)) = λ k. ap (times k) (entries_append answers (a ∷ later)) ∙ times_append k (entries_answered answers) (entries_answered (a ∷ later)) in
     let so_far : AreOut old answers = λ k.
-    (let most : times k (entries_of (answers ++ a ∷ later)) ≤ times k (entries_out old) = subst (λ xs. times k (entries_of xs) ≤ times k (entries_out old)) (sym is) (out k) in
+    (let most : times k (entries_answered (answers ++ a ∷ later)) ≤ times k (entries_out old) = subst (λ xs. times k (entries_answered xs) ≤ times k (entries_out old)) (sym is) (out k) in
     let parts = split k in
     omega (arith, most, parts)) in
     let over = are_over s answers old now h sound so_far in
-    let most : times i (entries_of (answers ++ a ∷ later)) ≤ times i (entries_out old) = subst (λ xs. times i (entries_of xs) ≤ times i (entries_out old)) (sym is) (out i) in
+    let most : times i (entries_answered (answers ++ a ∷ later)) ≤ times i (entries_out old) = subst (λ xs. times i (entries_answered xs) ≤ times i (entries_out old)) (sym is) (out i) in
     let parts = split i in
-    let first = counts i i (entries_of later) (same_index i) in
+    let first = counts i i (entries_answered later) (same_index i) in
     let each = over.each i in
     (some_out now.out i (omega (arith, most, parts, first, each)), over.sound) where
-      entries_append : (xs ys : List lanes.Answered) → entries_of (xs ++ ys) ≡ entries_of xs ++ entries_of ys
+      entries_append : (xs ys : List lanes.Answered) → entries_answered (xs ++ ys) ≡ entries_answered xs ++ entries_answered ys
       entries_append [] ys = refl
       entries_append (x ∷ xs) ys = ap (λ ns. x.index ∷ ns) (entries_append xs ys)

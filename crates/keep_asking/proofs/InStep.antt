@@ -13,7 +13,7 @@ use Rattle.watch_machine.specs.declared.lanes.Out.{Out}
 use Rattle.watch_machine.specs.History.{Turn}
 use Rattle.watch_machine.specs.State.{WatchState, fresh_track}
 use Rattle.keep_asking.specs.Handing.{AreHandedIn}
-use Rattle.keep_asking.specs.InStep.{AreOut, IsAbreast, entries_of, entries_on, entries_out, times}
+use Rattle.keep_asking.specs.InStep.{AreOut, IsAbreast, entries_answered, entries_on, entries_out, times}
 use Rattle.keep_asking.specs.Laws.{AnswersLaw, ClockLaw, NewLaw, OtherLaw}
 use Rattle.keep_asking.specs.Sending.{GoOut, GoesOut, Lanes}
 use Rattle.keep_asking.proofs.AnswersOut.{are_over}
@@ -94,14 +94,14 @@ abreast_sent old mid requests width out new abreast gone sent =
 
 -- ---- answers come back
 
-pub parted_times : (old : List lanes.Out) (answers : List Answered) (left : List lanes.Out) → IsParted old answers left → (i : ℕ) → times i (entries_on left) + times i (entries_of answers) ≡ times i (entries_on old)
-parted_times [] answers left h i = (let a = ap (λ (xs : List Answered). times i (entries_of xs)) h.0 in let b = ap (λ (xs : List lanes.Out). times i (entries_on xs)) h.1 in omega (arith, a, b))
+pub parted_times : (old : List lanes.Out) (answers : List Answered) (left : List lanes.Out) → IsParted old answers left → (i : ℕ) → times i (entries_on left) + times i (entries_answered answers) ≡ times i (entries_on old)
+parted_times [] answers left h i = (let a = ap (λ (xs : List Answered). times i (entries_answered xs)) h.0 in let b = ap (λ (xs : List lanes.Out). times i (entries_on xs)) h.1 in omega (arith, a, b))
 parted_times (o ∷ os) answers left h i = elim h [
   | inl back ↦
       let a = back.0 in
       let rest = parted_times os back.1 left back.2.1.1 i in
-      let is = ap (λ (xs : List Answered). times i (entries_of xs)) back.2.0 in
-      let here = times_cons i a.index (entries_of back.1) in
+      let is = ap (λ (xs : List Answered). times i (entries_answered xs)) back.2.0 in
+      let here = times_cons i a.index (entries_answered back.1) in
       let there = times_cons i o.index (entries_on os) in
       let same = ap {B = ℕ} (λ n. cond (n == i) 1 0) back.2.1.0.0 in
       omega (arith, rest, is, here, there, same)

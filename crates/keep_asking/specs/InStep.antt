@@ -16,8 +16,8 @@ entries_out m = map (λ r. r.entry) m.out
 abbrev pub entries_on : List lanes.Out → List ℕ
 entries_on out = map (λ (o : lanes.Out). o.index) out
 
-abbrev pub entries_of : List Answered → List ℕ
-entries_of answers = map (λ (a : Answered). a.index) answers
+abbrev pub entries_answered : List Answered → List ℕ
+entries_answered answers = map (λ (a : Answered). a.index) answers
 
 -- the machine has a track for each entry; and of an entry one request out at most, and that only where its track says so
 pub record MachineIsSound (m : WatchState) : Type 0 where
@@ -38,4 +38,4 @@ pub record IsAbreast (m : WatchState) (width : ℕ) (out : List lanes.Out) : Typ
 
 -- each of these answers is for a request of the machine that is out, and for another one
 abbrev pub AreOut : WatchState → List Answered → Type 0
-AreOut m answers = (i : ℕ) → times i (entries_of answers) ≤ times i (entries_out m)
+AreOut m answers = (i : ℕ) → times i (entries_answered answers) ≤ times i (entries_out m)

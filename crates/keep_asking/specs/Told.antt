@@ -6,6 +6,7 @@ use Rattle.keep_lanes.specs.Heard.{looked_up_by_answer, renewed_by_answer}
 use Rattle.keep_lanes.specs.Losses.{Answer}
 use Rattle.keep_lanes.specs.declared.heard.Heard.{Heard}
 use Rattle.keep_lanes.specs.declared.heard.Heard.TheVariants as heard
+use Rattle.keep_lanes.specs.declared.lanes.Answered.{Answered}
 use Rattle.keep_lanes.specs.declared.loss.Loss.{Loss}
 use Rattle.keep_lanes.specs.declared.loss.Loss.TheVariants as losses
 use Rattle.keep_exchange.specs.declared.heard.Terms as looked
@@ -113,3 +114,7 @@ said_to s operation i answer = record { reply = reply_as operation s i answer; t
 abbrev pub event_as : Operation → ℕ → Reply → Terms → Event
 event_as Look i reply terms = Looked i reply terms
 event_as Renew i reply terms = Renewed i reply
+
+-- the event that an answer says, where that was asked of its entry: the reply, and the terms that a lookup tells
+abbrev pub event_of_answer : Inventory → Operation → Answered → Event
+event_of_answer s operation a = event_as operation a.index (reply_as operation s a.index a.answer) (terms_as operation s a.index a.answer)

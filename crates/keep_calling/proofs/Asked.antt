@@ -2,13 +2,11 @@
 use Rattle.std.proofs.Common.{◌≡◌, ◌⊎◌, inl, inr, ℕ, ◌≤◌, Bool, true, false, cond, List, [], ◌∷◌, ◌++◌, Some, option_and_then, Result, Ok, Err, length, nat_lt, refl, sym, ap, ◌∙◌, subst, ltb-false, ⊎_elim}
 use Rattle.std.proofs.lemmas.Bool.{cond-false, cond-true, ltb-true}
 use Rattle.std.proofs.lemmas.Str.{IsUtf8-from_is_utf8}
-use Rattle.std.proofs.lemmas.Str.Ascii.{trim_ascii_is}
-use Rattle.std.specs.Str.{IsTrimAscii}
 use Rattle.serde_json.specs.Data.{Data}
 use Rattle.serde_json.specs.Written.{compact_text}
 use Rattle.json.proofs.Printed.Utf8.{IsUtf8-are_ascii}
 use Rattle.keep_words.specs.Laws.{Lacks}
-use Rattle.keep_control.specs.Answer.{◌>>=◌, Fails}
+use Rattle.keep_control.specs.Answer.{◌>>=◌, FailsWithRequestFault}
 use Rattle.keep_control.specs.Front.{IsLineFront}
 use Rattle.keep_control.specs.Requests.{asked_by_line, command_of, request_in_line}
 use Rattle.keep_control.specs.Words.{or_not_words, tree_of_words, words_in_tree, words_of}
@@ -21,13 +19,11 @@ use Rattle.keep_control.specs.declared.request.Request.{Request}
 use Rattle.keep_control.proofs.Chosen.{granted, ok_same, refused, then_ok}
 use Rattle.keep_control.proofs.OneLine.{front_is, line_lacks}
 use Rattle.keep_control.proofs.WordTrees.{AllUtf8, line_read, line_text, words_back}
-use Rattle.keep_calling.specs.Asking.{is_ask_text, line_for_ask, stripped, tree_for_ask, words_for_ask, words_line}
+use Rattle.keep_words.specs.Texts.{stripped}
+use Rattle.keep_calling.specs.Asking.{is_ask_text, line_for_ask, tree_for_ask, words_for_ask, words_line}
 use Rattle.keep_calling.specs.Laws.{AreText, LineIsTooLong, SaysOnly, SentIsAsked, UnsentIsRefused}
 use Rattle.keep_calling.specs.declared.ask.Ask.{Ask}
 use Rattle.keep_calling.specs.declared.ask.Ask.TheVariants.{Need, Replace, Add, Drop, Status, Health, Settle, Reload, Follow}
-
-pub stripped_is : (text rest : List ℕ) → IsTrimAscii text rest → rest ≡ stripped text
-stripped_is text rest is = trim_ascii_is text rest _ refl is
 
 -- ---- the words
 
@@ -150,7 +146,7 @@ unsent_is_refused ask input fault is e =
 
 -- ---- a fault that is not lack of memory
 
-pub fault_is : {A : Type 0} (fault : RequestFault) (answer : Result A RequestFault) → (fault ≡ faults.OutOfMemory → ⊥) → Fails fault answer → answer ≡ Err fault
+pub fault_is : {A : Type 0} (fault : RequestFault) (answer : Result A RequestFault) → (fault ≡ faults.OutOfMemory → ⊥) → FailsWithRequestFault fault answer → answer ≡ Err fault
 fault_is faults.TooLong answer other is = is
 fault_is faults.NotWords answer other is = is
 fault_is faults.NoCommand answer other is = is

@@ -1,8 +1,6 @@
 -- Asking: the words that a call sends to a running agent, and the line that they make.
 -- Source: this project's own; what a line asks for is keep_control's, and JSON is that of RFC 8259.
-use Rattle.std.specs.Prelude.{ℕ, ◌-◌, List, [], ◌∷◌, ◌++◌, Bool, true, false, Result, Ok, codes, drop, length, take}
-use Rattle.std.specs.Char.{is_ascii_whitespace}
-use Rattle.std.specs.List.{prefix_len, suffix_len}
+use Rattle.std.specs.Prelude.{ℕ, List, [], ◌∷◌, ◌++◌, Bool, true, false, Result, Ok, codes}
 use Rattle.std.specs.Str.{is_utf8}
 use Rattle.serde_json.specs.Data.{Data}
 use Rattle.serde_json.specs.Written.{compact_text}
@@ -10,6 +8,7 @@ use Rattle.keep_control.specs.Answer.{◌>>=◌}
 use Rattle.keep_control.specs.Requests.{request_in_line}
 use Rattle.keep_control.specs.Words.{texted}
 use Rattle.keep_control.specs.declared.fault.RequestFault.{RequestFault}
+use Rattle.keep_words.specs.Texts.{stripped}
 use Rattle.keep_calling.specs.declared.ask.Ask.{Ask}
 use Rattle.keep_calling.specs.declared.ask.Ask.TheVariants.{Need, Replace, Add, Drop, Status, Health, Settle, Reload, Follow}
 
@@ -38,10 +37,6 @@ is_follow _ = false
 abbrev pub is_health : Ask → Bool
 is_health Health = true
 is_health _ = false
-
--- a text without the ASCII white space around it
-abbrev pub stripped : List ℕ → List ℕ
-stripped text = let rest = drop (prefix_len is_ascii_whitespace text) text in take (length rest - suffix_len is_ascii_whitespace rest) rest
 
 -- its words: those of the command line, and what standard input held
 abbrev pub words_for_ask : Ask → List ℕ → List (List ℕ)

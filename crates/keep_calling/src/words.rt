@@ -2,10 +2,11 @@
 ghost use Rattle.std.specs.Prelude.{◌≡◌, ◌∷◌, [], IfOk, MatchResult, false, true};
 ghost use Rattle.std.specs.Str.{is_utf8};
 ghost use Rattle.serde_json.specs.View.{view};
-ghost use Rattle.keep_control.specs.Answer.{Gives};
+ghost use Rattle.keep_control.specs.Answer.{GivesOrRequestFault};
 ghost use Rattle.keep_control.specs.Words.{tree_of_words};
 ghost use Rattle.keep_control.specs.declared.fault.RequestFault.TheVariants as faults;
-ghost use Rattle.keep_calling.specs.Asking.{line_for_ask, stripped, tree_for_ask, words_line};
+ghost use Rattle.keep_words.specs.Texts.{stripped};
+ghost use Rattle.keep_calling.specs.Asking.{line_for_ask, tree_for_ask, words_line};
 
 use crate::ask::Ask;
 use keep_control::{RequestFault, read_request};
@@ -16,7 +17,7 @@ use std::alloc::{AllocError, Global};
 /// The line that asks for it, with its line feed, where an agent reads it as a request; else why it does not.
 #[tactic(auto, unfolding(crate::specs::Asking::line_for_ask))]
 pub(crate) fn line_for(alloc: Global, ask: &Ask<'_>, input: &[u8]) -> Result<Text, RequestFault>
-    ensures { Gives (λ text. text) result (line_for_ask ask.now input.now) }
+    ensures { GivesOrRequestFault (λ text. text) result (line_for_ask ask.now input.now) }
 {
     let mut line = words_line(alloc, ask, input)?;
     let _request = read_request(alloc, &line)?;
@@ -27,7 +28,7 @@ pub(crate) fn line_for(alloc: Global, ask: &Ask<'_>, input: &[u8]) -> Result<Tex
 // The words as a line.
 #[tactic(auto, unfolding(crate::specs::Asking::words_line))]
 fn words_line(alloc: Global, ask: &Ask<'_>, input: &[u8]) -> Result<Vec<u8>, RequestFault>
-    ensures { Gives (λ line. line.items) result (words_line ask.now input.now) }
+    ensures { GivesOrRequestFault (λ line. line.items) result (words_line ask.now input.now) }
 {
     let tree = tree_for(alloc, ask, input)?;
     Ok(tree.to_vec(alloc)?)
@@ -36,7 +37,7 @@ fn words_line(alloc: Global, ask: &Ask<'_>, input: &[u8]) -> Result<Vec<u8>, Req
 // The array of the words.
 #[tactic(auto, unfolding(crate::specs::Asking::tree_for_ask))]
 fn tree_for(alloc: Global, ask: &Ask<'_>, input: &[u8]) -> Result<Value, RequestFault>
-    ensures { Gives (λ v. view v) result (tree_for_ask ask.now input.now) }
+    ensures { GivesOrRequestFault (λ v. view v) result (tree_for_ask ask.now input.now) }
 {
     match ask {
         Ask::Need { name, when } => Ok(three(alloc, "need", name, when)?),

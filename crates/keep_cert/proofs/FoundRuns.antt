@@ -18,7 +18,7 @@ use Rattle.keep_rule.specs.declared.limit.TheConstants.{LIMIT}
 use Rattle.keep_cert.specs.declared.cert.TheConstants.{MAX_LINES}
 use Rattle.keep_cert.specs.declared.fault.CertFault.{CertFault}
 use Rattle.keep_cert.specs.declared.fault.CertFault.TheVariants.{BadHeader}
-use Rattle.keep_cert.specs.Answers.{Gives}
+use Rattle.keep_cert.specs.Answers.{GivesOrCertFault}
 use Rattle.keep_rule.specs.Runs.{IsAmong, wake_count}
 use Rattle.keep_cert.specs.CertificateText.{AreRunsOf, CanBeWritten, IsCertificateBody, IsRunOf, WritesCertificate, body_text, certificate_text, end_line_text, header_text, name_of_entry, run_text, start_text, unkeepable_text}
 use Rattle.keep_words.specs.Pieces.{keyword, pieces, three, two}
@@ -193,7 +193,7 @@ read_is_written es text c e =
       spelled = sym (join_with_byte-slice_split 10 text) ∙ header_found (lines text) head hh ∙ ap (λ x. header_text head.0 ++ x) from_start;
     })))))
 
-pub found_writes : (es : List Entry) (text : List ℕ) (r : Result Cert CertFault) → Gives (λ c. c) r (certificate_of es text) → IfOk r (λ c. WritesCertificate es text c)
+pub found_writes : (es : List Entry) (text : List ℕ) (r : Result Cert CertFault) → GivesOrCertFault (λ c. c) r (certificate_of es text) → IfOk r (λ c. WritesCertificate es text c)
 found_writes es text (Ok c) h = read_is_written es text c h
 found_writes es text (Err e) h = tt
 
@@ -210,6 +210,6 @@ can_be_written v es (Runs rs) h = (among v es rs h.0, h.1.1)
 can_be_written v es (Unkeepable entry needed) h = h
 
 -- what was read can be written
-pub found_can_be_written : (es : List Entry) (text : List ℕ) (r : Result Cert CertFault) → Gives (λ c. c) r (certificate_of es text) → IfOk r (λ c. CanBeWritten es c.body)
+pub found_can_be_written : (es : List Entry) (text : List ℕ) (r : Result Cert CertFault) → GivesOrCertFault (λ c. c) r (certificate_of es text) → IfOk r (λ c. CanBeWritten es c.body)
 found_can_be_written es text (Ok c) h = can_be_written c.version es c.body ((read_is_written es text c h).certificate.1)
 found_can_be_written es text (Err e) h = tt

@@ -10,16 +10,16 @@ abbrev pub ◌>>=◌ : {A B : Type 0} → Result A CertFault → (A → Result B
 (Err e) >>= f = Err e
 
 -- the call's fault is that of the definition, or lack of memory
-abbrev pub Fails : {Y : Type 0} → CertFault → Result Y CertFault → Type 0
-Fails OutOfMemory answer = Unit {0}
-Fails BadHeader answer = answer ≡ Err BadHeader
-Fails (BadLine n) answer = answer ≡ Err (BadLine n)
-Fails (UnknownName n) answer = answer ≡ Err (UnknownName n)
-Fails (BadNumber n) answer = answer ≡ Err (BadNumber n)
-Fails Truncated answer = answer ≡ Err Truncated
-Fails Trailing answer = answer ≡ Err Trailing
+abbrev pub FailsWithCertFault : {Y : Type 0} → CertFault → Result Y CertFault → Type 0
+FailsWithCertFault OutOfMemory answer = Unit {0}
+FailsWithCertFault BadHeader answer = answer ≡ Err BadHeader
+FailsWithCertFault (BadLine n) answer = answer ≡ Err (BadLine n)
+FailsWithCertFault (UnknownName n) answer = answer ≡ Err (UnknownName n)
+FailsWithCertFault (BadNumber n) answer = answer ≡ Err (BadNumber n)
+FailsWithCertFault Truncated answer = answer ≡ Err Truncated
+FailsWithCertFault Trailing answer = answer ≡ Err Trailing
 
 -- the call gives what the definition gives, unless memory was refused
-abbrev pub Gives : {X Y : Type 0} → (X → Y) → Result X CertFault → Result Y CertFault → Type 0
-Gives view (Ok x) answer = answer ≡ Ok (view x)
-Gives view (Err e) answer = Fails e answer
+abbrev pub GivesOrCertFault : {X Y : Type 0} → (X → Y) → Result X CertFault → Result Y CertFault → Type 0
+GivesOrCertFault view (Ok x) answer = answer ≡ Ok (view x)
+GivesOrCertFault view (Err e) answer = FailsWithCertFault e answer

@@ -1,5 +1,5 @@
 ghost use Rattle.std.specs.Prelude.{◌≡◌, ◌≤◌, ℕ, List, IfOk};
-ghost use Rattle.keep_cert.specs.Answers.{Gives};
+ghost use Rattle.keep_cert.specs.Answers.{GivesOrCertFault};
 ghost use Rattle.keep_cert.specs.Lines.{line_at, lines, number_at};
 
 use crate::fault::CertFault;
@@ -8,7 +8,7 @@ use keep_words::{cut, number_up_to};
 
 /// The `n`th line, and what follows its line feed.
 pub(crate) fn line_at(n: u64, text: &[u8]) -> Result<(&[u8], &[u8]), CertFault>
-    ensures { Gives {Y = List ℕ × List (List ℕ)} (λ p. (p.0.now, lines p.1.now)) result (line_at n (lines text.now)) }
+    ensures { GivesOrCertFault {Y = List ℕ × List (List ℕ)} (λ p. (p.0.now, lines p.1.now)) result (line_at n (lines text.now)) }
 {
     match cut(text, b'\n') {
         Some((line, rest)) => Ok((line, rest)),

@@ -1,5 +1,5 @@
 ghost use Rattle.std.specs.Prelude.{◌≡◌, List, ℕ, IfOk};
-ghost use Rattle.keep_cert.specs.Answers.{Gives};
+ghost use Rattle.keep_cert.specs.Answers.{GivesOrCertFault};
 ghost use Rattle.keep_cert.specs.CertificateText.{CanBeWritten, WritesCertificate};
 ghost use Rattle.keep_cert.specs.Lines.{lines};
 ghost use Rattle.keep_cert.specs.Reading.{version_of, header_of, start_of, unkeepable_of, body_of, certificate_of, text_start};
@@ -25,7 +25,7 @@ use std::alloc::Global;
 pub fn read(alloc: Global, forest: &Forest, text: &[u8]) -> Result<Cert, CertFault>
     ensures found { IfOk result (λ c. WritesCertificate forest.now.entries text.now c) }
     ensures writable { IfOk result (λ c. CanBeWritten forest.now.entries c.body) }
-    ensures exact { Gives (λ c. c) result (certificate_of forest.now.entries text.now) }
+    ensures exact { GivesOrCertFault (λ c. c) result (certificate_of forest.now.entries text.now) }
 {
     read_exactly(alloc, forest, text)
 }
@@ -38,7 +38,7 @@ pub fn read(alloc: Global, forest: &Forest, text: &[u8]) -> Result<Cert, CertFau
 /// The fault of the first or of the second line, as [`read`] tells it.
 #[tactic(auto, unfolding(crate::specs::Reading::text_start))]
 pub fn read_start(text: &[u8]) -> Result<Moment, CertFault>
-    ensures { Gives (λ start. start) result (text_start text.now) }
+    ensures { GivesOrCertFault (λ start. start) result (text_start text.now) }
 {
     let (_, rest) = header_of(text)?;
     let (second, _) = line_at(2, rest)?;
@@ -47,7 +47,7 @@ pub fn read_start(text: &[u8]) -> Result<Moment, CertFault>
 
 #[tactic(auto, unfolding(crate::specs::Reading::certificate_of))]
 fn read_exactly(alloc: Global, forest: &Forest, text: &[u8]) -> Result<Cert, CertFault>
-    ensures { Gives (λ c. c) result (certificate_of forest.now.entries text.now) }
+    ensures { GivesOrCertFault (λ c. c) result (certificate_of forest.now.entries text.now) }
 {
     let (version, rest) = header_of(text)?;
     let (second, rest) = line_at(2, rest)?;
@@ -62,7 +62,7 @@ fn read_exactly(alloc: Global, forest: &Forest, text: &[u8]) -> Result<Cert, Cer
 
 /// The version that the first line says, and what follows that line.
 fn header_of(text: &[u8]) -> Result<(Version, &[u8]), CertFault>
-    ensures { Gives {Y = Version × List (List ℕ)} (λ p. (p.0, lines p.1.now)) result (header_of (lines text.now)) }
+    ensures { GivesOrCertFault {Y = Version × List (List ℕ)} (λ p. (p.0, lines p.1.now)) result (header_of (lines text.now)) }
 {
     match cut(text, b'\n') {
         Some((line, rest)) => Ok((version_of(line)?, rest)),
@@ -86,7 +86,7 @@ fn version_of(line: &[u8]) -> Result<Version, CertFault>
 /// The moment of the second line, `start N`.
 #[tactic(auto, unfolding(crate::specs::Reading::start_of, crate::specs::Lines::two_words))]
 fn start_of(line: &[u8]) -> Result<Moment, CertFault>
-    ensures { Gives (λ start. start) result (start_of line.now) }
+    ensures { GivesOrCertFault (λ start. start) result (start_of line.now) }
 {
     if !begins(line, b"start") {
         return Err(CertFault::BadLine(2));
@@ -99,7 +99,7 @@ fn start_of(line: &[u8]) -> Result<Moment, CertFault>
 /// What the lines after `start` say.
 #[tactic(auto, unfolding(crate::specs::Reading::body_of))]
 fn body_of(alloc: Global, forest: &Forest, version: Version, text: &[u8]) -> Result<Body, CertFault>
-    ensures { Gives (λ body. body) result (body_of version forest.now.entries (lines text.now)) }
+    ensures { GivesOrCertFault (λ body. body) result (body_of version forest.now.entries (lines text.now)) }
 {
     let (line, rest) = line_at(3, text)?;
     if begins(line, b"unkeepable") {
@@ -114,7 +114,7 @@ fn body_of(alloc: Global, forest: &Forest, version: Version, text: &[u8]) -> Res
 /// The third line, `unkeepable ENTRY NEEDED`.
 #[tactic(auto, unfolding(crate::specs::Reading::unkeepable_of, crate::specs::Lines::three_words))]
 fn unkeepable_of(forest: &Forest, line: &[u8]) -> Result<Body, CertFault>
-    ensures { Gives (λ body. body) result (unkeepable_of forest.now.entries line.now) }
+    ensures { GivesOrCertFault (λ body. body) result (unkeepable_of forest.now.entries line.now) }
 {
     let (_, entry, needed) = three_words(line).ok_or(CertFault::BadLine(3))?;
     let entry = entry_named(forest, 3, entry)?;

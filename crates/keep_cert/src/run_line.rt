@@ -1,5 +1,5 @@
 ghost use Rattle.std.specs.Prelude.{◌≡◌, ◌≤◌, ◌+◌, ◌-◌, ◌*◌, IfOk};
-ghost use Rattle.keep_cert.specs.Answers.{Gives};
+ghost use Rattle.keep_cert.specs.Answers.{GivesOrCertFault};
 ghost use Rattle.keep_cert.specs.Lines.{lines};
 ghost use Rattle.keep_cert.specs.declared.cert.TheConstants.{MAX_LINES};
 ghost use Rattle.keep_cert.specs.Reading.{entry_named, wake_of, run_of, is_run, run_keyword, run_in_line, nothing_behind, end_of_runs, ending};
@@ -41,7 +41,7 @@ pub(crate) fn run_line(
     line: &[u8],
 ) -> Result<Run, CertFault>
     requires { before ≤ MAX_LINES * LIMIT }
-    ensures value { Gives (λ run. run) result (run_in_line version n forest.now.entries before line.now) }
+    ensures value { GivesOrCertFault (λ run. run) result (run_in_line version n forest.now.entries before line.now) }
     ensures within { IfOk result (λ run. run.count ≤ LIMIT) }
 {
     match version {
@@ -53,7 +53,7 @@ pub(crate) fn run_line(
 /// The line `wake N ENTRY NEEDED`.
 #[tactic(auto, unfolding(crate::specs::Reading::wake_of, crate::specs::Lines::four_words))]
 fn wake_of(forest: &Forest, n: u64, line: &[u8]) -> Result<Run, CertFault>
-    ensures value { Gives (λ run. run) result (wake_of n forest.now.entries line.now) }
+    ensures value { GivesOrCertFault (λ run. run) result (wake_of n forest.now.entries line.now) }
     ensures within { IfOk result (λ run. run.count ≤ LIMIT) }
 {
     let (_, moment, entry, needed) = four_words(line).ok_or(CertFault::BadLine(n))?;
@@ -73,7 +73,7 @@ fn wake_of(forest: &Forest, n: u64, line: &[u8]) -> Result<Run, CertFault>
 #[tactic(auto, unfolding(crate::specs::Reading::run_of, crate::specs::Lines::six_words))]
 fn run_of(forest: &Forest, n: u64, before: u64, line: &[u8]) -> Result<Run, CertFault>
     requires { before ≤ MAX_LINES * LIMIT }
-    ensures value { Gives (λ run. run) result (run_of n forest.now.entries before line.now) }
+    ensures value { GivesOrCertFault (λ run. run) result (run_of n forest.now.entries before line.now) }
     ensures within { IfOk result (λ run. run.count ≤ LIMIT) }
 {
     let (_, first, step, count, entry, needed) = six_words(line).ok_or(CertFault::BadLine(n))?;
@@ -112,7 +112,7 @@ fn is_run(before: u64, first: u64, step: u64, count: u64) -> bool
 /// The `n`th line is the last one, `end COUNT`, with this count.
 #[tactic(auto, unfolding(crate::specs::Reading::ending))]
 pub(crate) fn ending(n: u64, count: u64, line: &[u8], rest: &[u8]) -> Result<(), CertFault>
-    ensures { Gives (λ u. u) result (ending n count line.now (lines rest.now)) }
+    ensures { GivesOrCertFault (λ u. u) result (ending n count line.now (lines rest.now)) }
 {
     end_of_runs(n, count, line)?;
     nothing_behind(rest)
@@ -120,7 +120,7 @@ pub(crate) fn ending(n: u64, count: u64, line: &[u8], rest: &[u8]) -> Result<(),
 
 #[tactic(auto, unfolding(crate::specs::Reading::end_of_runs, crate::specs::Lines::two_words))]
 fn end_of_runs(n: u64, count: u64, line: &[u8]) -> Result<(), CertFault>
-    ensures { Gives (λ u. u) result (end_of_runs n count line.now) }
+    ensures { GivesOrCertFault (λ u. u) result (end_of_runs n count line.now) }
 {
     if !begins(line, b"end") {
         return Err(CertFault::BadLine(n));

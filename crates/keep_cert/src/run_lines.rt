@@ -1,5 +1,5 @@
 ghost use Rattle.std.specs.Prelude.{[]};
-ghost use Rattle.keep_cert.specs.Answers.{Gives};
+ghost use Rattle.keep_cert.specs.Answers.{GivesOrCertFault};
 ghost use Rattle.keep_cert.specs.Lines.{lines};
 ghost use Rattle.keep_cert.specs.Reading.{runs_of};
 
@@ -19,7 +19,7 @@ pub(crate) fn runs_of(
     version: Version,
     text: &[u8],
 ) -> Result<Vec<Run>, CertFault>
-    ensures { Gives (λ runs. runs.items) result (runs_of version forest.now.entries [] (lines text.now)) }
+    ensures { GivesOrCertFault (λ runs. runs.items) result (runs_of version forest.now.entries [] (lines text.now)) }
 {
     let mut runs = Vec::new(alloc);
     let mut total = 0;

@@ -15,12 +15,13 @@ use Rattle.keep_inventory.specs.declared.limits.TheConstants.{SPAN_MAX}
 use Rattle.keep_inventory.specs.declared.need.Need.{Need}
 use Rattle.keep_inventory.specs.Values.{is_path}
 use Rattle.keep_inventory.specs.Needs.{IsNeed, need_word}
+use Rattle.keep_inventory.specs.Kinds.{kind_word}
 use Rattle.keep_change.specs.declared.row.Row.{Row}
 use Rattle.keep_change.specs.declared.row_text.Who.{Who}
 use Rattle.keep_change.specs.declared.row_text.Life.{Life}
 use Rattle.keep_change.specs.declared.row_text.Limits.{Limits}
 use Rattle.keep_change.specs.RowText.{IsRow, either, four_and_rest, if_written, is_file, is_written, kind_of, life_of, limits_of, name_or_star, one_and_rest, row_of_line, row_with, sent_of, span_or_star, who_of}
-use Rattle.keep_change.specs.Words.{file_end, kind_word, life_words, name_word, need_in_word, number_word, renewable_word, row_text, spaced, terms_words, told_word, who_words}
+use Rattle.keep_change.specs.Words.{file_end, life_words, name_word, need_in_word, number_word, renewable_word, row_text, spaced, terms_words, told_word, who_words}
 use Rattle.keep_change.proofs.Cuts.{cut_back, cut_only}
 use Rattle.keep_change.proofs.RowWords.{bound, kind_back, kind_only, name_or_star_back, name_or_star_only, passed, renewable_back, renewable_only, sent_back, sent_only, some_same, span_or_star_back, span_or_star_only, told_back, told_only}
 use Rattle.keep_change.proofs.Spelling.{ArePlain, IsPlain, each_weaker, byte_is_not, name_is_plain, need_back, need_is_plain, need_only, word_is_plain}

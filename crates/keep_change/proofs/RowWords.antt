@@ -9,9 +9,10 @@ use Rattle.keep_tree.specs.declared.entry.Kind.{Kind}
 use Rattle.keep_tree.specs.declared.entry.Kind.TheVariants.{Token, Lease}
 use Rattle.keep_tree.specs.Push.{is_name}
 use Rattle.keep_inventory.specs.declared.limits.TheConstants.{SPAN_MAX}
+use Rattle.keep_inventory.specs.Kinds.{kind_word}
 use Rattle.keep_change.specs.declared.row_text.Sent.{Sent}
 use Rattle.keep_change.specs.RowText.{◌>>=◌, either, is_file, is_word, kind_of, name_or_star, one_and_rest, sent_alone, sent_beside, sent_of, span_or_star}
-use Rattle.keep_change.specs.Words.{file_end, kind_word, name_word, number_word, renewable_word, told_word}
+use Rattle.keep_change.specs.Words.{file_end, name_word, number_word, renewable_word, told_word}
 use Rattle.keep_change.proofs.Cuts.{cut_back, cut_only, not_cut}
 
 pub some_same : {A : Type 0} (x y : A) → Some x ≡ Some y → x ≡ y

@@ -3,17 +3,13 @@
 use Rattle.std.specs.Prelude.{◌≡◌, ◌⊎◌, ℕ, ◌+◌, Bool, true, false, if◌then◌else◌, List, [], ◌∷◌, ◌++◌, Option, Some, None, is_some, length, nat_le, nat_lt, Result, Ok, Err}
 use Rattle.keep_tree.specs.declared.forest.TheConstants.{MAX_DEPTH, MAX_ENTRIES}
 use Rattle.keep_inventory.specs.Terms.{step_of}
+use Rattle.keep_tree.specs.Push.{first_met}
 use Rattle.keep_change.specs.declared.change.What.{What}
 use Rattle.keep_change.specs.declared.change.What.TheVariants as what
 use Rattle.keep_change.specs.declared.fault.ChangeFault.{ChangeFault}
 use Rattle.keep_change.specs.declared.fault.ChangeFault.TheVariants.{NoEntry, NameTwice, NoParent, ParentIsLease, StepTooSmall, TooDeep, Full, CredentialTwice, InFile, HasUnder, OutOfMemory}
 use Rattle.keep_change.specs.declared.row.Row.{Row}
 use Rattle.keep_change.specs.Rows.{named, row_lacks_parent, is_row_under_lease, is_deep, has_under, is_taken, with_named, without_row}
-
--- the fault of the first test that is met
-abbrev pub first_met : List (Bool × ChangeFault) → Option ChangeFault
-first_met [] = None
-first_met (t ∷ tests) = if t.0 then Some t.1 else first_met tests
 
 -- why an entry cannot be added, None where it can
 unfoldable pub refused_row : ℕ → List Row → Row → Option ChangeFault

@@ -21,7 +21,7 @@ RecordReadIsWritten = (text : List ℕ) (r : Record) → record_of text ≡ Some
 abbrev pub RecordLineLaw : Type 0
 RecordLineLaw = (r : Record) → IsRecord r → Lacks 10 (record_text r)
 
--- behind the record that a file is to hold every change, that file alone says what there is, without a note
+-- after the record that a file is to hold every change, that file alone says what there is, without a note
 abbrev pub SettledLaw : Type 0
 SettledLaw = (f : File) (rs : List Record) → replayed f (rs ++ Settling f.mark ∷ []) ≡ replay_begun f
 

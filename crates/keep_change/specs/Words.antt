@@ -5,11 +5,10 @@ use Rattle.hex.specs.Hex.{encode_lower}
 use Rattle.sha2.specs.Sha256.{sha256}
 use Rattle.keep_moment.specs.declared.moment.TheConstants.{LAST}
 use Rattle.keep_words.specs.Numbers.{number_up_to}
-use Rattle.keep_tree.specs.declared.entry.Kind.{Kind}
-use Rattle.keep_tree.specs.declared.entry.Kind.TheVariants.{Token, Lease}
 use Rattle.keep_inventory.specs.declared.need.Need.{Need}
 use Rattle.keep_inventory.specs.declared.need.Need.TheVariants.{Until, Always}
 use Rattle.keep_inventory.specs.Needs.{need_word}
+use Rattle.keep_inventory.specs.Kinds.{kind_word}
 use Rattle.keep_change.specs.declared.row.Row.{Row}
 
 -- the need of a word
@@ -19,10 +18,6 @@ need_in_word word = if bytes_eq word (codes "always") then Some Always else opti
 -- what bytes are known by: their SHA-256 in 64 hexadecimal digits
 unfoldable pub fingerprint : List ℕ → List ℕ
 fingerprint bytes = encode_lower (sha256 bytes)
-
-abbrev pub kind_word : Kind → List ℕ
-kind_word Token = codes "token"
-kind_word Lease = codes "lease"
 
 -- a star, which stands in no name and in no number, where there is none
 abbrev pub name_word : Option (List ℕ) → List ℕ

@@ -1,5 +1,6 @@
 ghost use Rattle.std.specs.Prelude.{◌≡◌, ◌++◌, ◌∷◌, [], IfOk, OnOk, Some};
-ghost use Rattle.keep_change.specs.Words.{file_end, fingerprint, kind_word, life_words, name_word, need_in_word, number_word, renewable_word, row_text, spaced, terms_words, told_word, who_words};
+ghost use Rattle.keep_inventory.specs.Kinds.{kind_word};
+ghost use Rattle.keep_change.specs.Words.{file_end, fingerprint, life_words, name_word, need_in_word, number_word, renewable_word, row_text, spaced, terms_words, told_word, who_words};
 ghost use Rattle.keep_inventory.specs.Needs.{need_word};
 
 use crate::row::Row;

@@ -6,7 +6,8 @@ use Rattle.std.specs.Net.Grammar.{IsSocketText, Parses}
 use Rattle.std.specs.Str.Parse.{IsNumeral, ParsesUnsigned, digits_value, without_leading_plus}
 use Rattle.std.specs.Str.Pattern.{FindsChar}
 use Rattle.std.specs.declared.net.socket_addr.SocketAddr.{SocketAddr}
-use Rattle.keep_clients.specs.Entrances.{IsAddress, IsPath, IsPort}
+use Rattle.keep_device.specs.Places.{IsPath}
+use Rattle.keep_clients.specs.Entrances.{IsAddress, IsPort}
 
 pub no_path : (word : List ℕ) (has : Bool) → MatchBool has ((i : ℕ) × (j : ℕ) × FindsChar 47 word (Some (i, j)) × (i ≤ j) × (j ≤ length word)) (FindsChar 47 word None) → has ≡ false → IsPath word → ⊥
 no_path word has cases none path =

@@ -1,28 +1,18 @@
 -- Entrances: where guests come in, as a word of the command line says it.
 -- Source: this project's own; decimal digits and addresses are as std reads them.
-use Rattle.std.specs.Prelude.{◌≡◌, ℕ, ◌≤◌, ◌⊎◌, ◌∷◌, [], List, Option, Some, None}
-use Rattle.std.specs.List.{Contains}
-use Rattle.std.specs.Net.Addr.{ipv4_octets, MatchIp}
-use Rattle.std.specs.Net.Socket.{socket_ip, socket_port}
+use Rattle.std.specs.Prelude.{◌≡◌, ℕ, ◌≤◌, ◌⊎◌, List, Option, Some, None}
 use Rattle.std.specs.Net.Grammar.{IsSocketText}
 use Rattle.std.specs.Str.Parse.{IsNumeral, digits_value, without_leading_plus}
 use Rattle.std.specs.declared.net.socket_addr.SocketAddr.{SocketAddr}
+use Rattle.keep_device.specs.Places.{IsHere, IsPath}
 use Rattle.keep_clients.specs.declared.entrance.Entrance.{Entrance}
 use Rattle.keep_clients.specs.declared.entrance.Entrance.TheVariants as entrances
-
--- a word with a slash in it is a path
-abbrev pub IsPath : List ℕ → Type 0
-IsPath word = Contains word 47
 
 -- the word is decimal digits, of which a plus may stand in front, and their number is a port
 pub record IsPort (word : List ℕ) (port : ℕ) : Type 0 where
   pub digits : IsNumeral 10 (without_leading_plus word)
   pub number : port ≡ digits_value 10 (without_leading_plus word)
   pub high : port ≤ 65535
-
--- the port of 127.0.0.1
-abbrev pub IsHere : ℕ → SocketAddr → Type 0
-IsHere port address = (socket_port address ≡ port) × MatchIp (socket_ip address) (λ ip. ipv4_octets ip ≡ 127 ∷ 0 ∷ 0 ∷ 1 ∷ []) (λ ip. ⊥)
 
 -- the word is a port by itself, which is one of 127.0.0.1; or it spells this address with its port
 abbrev pub IsAddress : List ℕ → SocketAddr → Type 0

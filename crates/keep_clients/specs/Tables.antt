@@ -2,6 +2,7 @@
 -- Source: this project's own.
 use Rattle.std.specs.Prelude.{◌≡◌, ℕ, ◌+◌, ◌-◌, ◌^◌, ◌≤◌, ◌⊎◌, min, nat_lt, nat_eq, List, [], ◌∷◌, ◌++◌, length, filter, not, Bool, true, false, ◌&&◌, Option, Some, None, Result, Ok, Err, if◌then◌else◌}
 use Rattle.std.specs.List.{position, remove, slice_get, slice_set}
+use Rattle.keep_device.specs.Moments.{earlier}
 use Rattle.keep_clients.specs.Doors.{AskedFor, DoorLog}
 use Rattle.keep_clients.specs.Guests.{GuestGoesOn, GuestIsFed, GuestIsLost, asked_bytes, by_after, is_following, is_stage_asked, is_stage_busy, is_stage_over, is_waiting, newcomer}
 use Rattle.keep_clients.specs.declared.clients.Came.{Came}
@@ -23,11 +24,6 @@ pub record GuestTable (T F : Type 0) : Type 0 where
   pub framing : F
 
 -- ---- who makes room
-
--- the earlier of two moments, of which there may be one alone
-abbrev pub earlier : ℕ → Option ℕ → ℕ
-earlier n None = n
-earlier n (Some m) = min n m
 
 -- since when the one has been idle that has been so longest, of those that have to be read or written by a moment
 abbrev pub idle_since : {T : Type 0} → List (Guest T) → Option ℕ

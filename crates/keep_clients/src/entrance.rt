@@ -1,6 +1,7 @@
 //! Where guests come in, as a word of the command line says it.
 ghost use Rattle.std.specs.Prelude.{◌≡◌};
-ghost use Rattle.keep_clients.specs.Entrances.{IsHere, ReadsEntrance};
+ghost use Rattle.keep_device.specs.Places.{IsHere};
+ghost use Rattle.keep_clients.specs.Entrances.{ReadsEntrance};
 
 use std::net::{IpAddr, Ipv4Addr, SocketAddr};
 

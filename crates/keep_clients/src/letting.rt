@@ -1,7 +1,8 @@
 //! Who has been idle longest, and makes room for another.
 ghost use Rattle.std.specs.Prelude.{◌≡◌, ◌≤◌, vec_capacity, vec_len};
 ghost use Rattle.std.specs.List.{position};
-ghost use Rattle.keep_clients.specs.Tables.{earlier, idle_since, is_idle_since, with_place};
+ghost use Rattle.keep_device.specs.Moments.{earlier};
+ghost use Rattle.keep_clients.specs.Tables.{idle_since, is_idle_since, with_place};
 
 use crate::guest::Guest;
 

@@ -20,9 +20,9 @@ abbrev pub next_reading : List (Option Reading) → Option Reading
 next_reading [] = None
 next_reading (reading ∷ readings) = reading
 
-abbrev pub rest_of : List (Option Reading) → List (Option Reading)
-rest_of [] = []
-rest_of (reading ∷ readings) = readings
+abbrev pub later_readings : List (Option Reading) → List (Option Reading)
+later_readings [] = []
+later_readings (reading ∷ readings) = readings
 
 abbrev pub failures_after : Option Reading → ℕ → ℕ
 failures_after None n = one_more n
@@ -36,11 +36,11 @@ with_call call s =
 -- after a reading of both clocks
 abbrev pub after_read : ClockScript → ClockScript
 after_read s =
-    with_call (read_call (next_reading s.to_come)) (record s { to_come = rest_of s.to_come; failures = failures_after (next_reading s.to_come) s.failures })
+    with_call (read_call (next_reading s.to_come)) (record s { to_come = later_readings s.to_come; failures = failures_after (next_reading s.to_come) s.failures })
 
 -- the calls, where all of them are kept
 abbrev pub known_calls : ClockScript → Option (List Call)
 known_calls s = if s.is_whole then Some s.calls else None
 
-abbrev pub seen_of : ClockScript → ClockSeen
-seen_of s = record { calls = known_calls s; failed_calls = s.failures }
+abbrev pub seen_of_script : ClockScript → ClockSeen
+seen_of_script s = record { calls = known_calls s; failed_calls = s.failures }

@@ -1,7 +1,7 @@
 ghost use Rattle.std.specs.Prelude.{◌≡◌, [], IfOk, length, true};
 ghost use Rattle.keep_device.specs.Failures.{CountsRead};
 ghost use Rattle.std.specs.Result.{result_ok};
-ghost use Rattle.keep_clock.specs.Scripts.{after_read, next_reading, rest_of, seen_of, with_call};
+ghost use Rattle.keep_clock.specs.Scripts.{after_read, later_readings, next_reading, seen_of_script, with_call};
 ghost use Rattle.keep_clock.specs.Seen.{CallIsMade, read_call};
 ghost use Rattle.keep_clock.specs.declared.call.Call.TheVariants.{Wait};
 
@@ -83,7 +83,7 @@ impl MemoryClock {
     // The next of its readings, `None` where it fails.
     fn take(&mut self) -> Option<Reading>
         ensures reading { result ≡ next_reading self.old.to_come }
-        ensures rest { self.new ≡ record self.old { to_come = rest_of self.old.to_come } }
+        ensures rest { self.new ≡ record self.old { to_come = later_readings self.old.to_come } }
     {
         if self.next == self.readings.len() {
             return None;
@@ -95,14 +95,14 @@ impl MemoryClock {
 }
 
 impl Clock for MemoryClock {
-    ghost seen = { λ c. seen_of c };
+    ghost seen = { λ c. seen_of_script c };
 
     fn failures(&self) -> u64 {
         self.failures
     }
 
     fn read(&mut self) -> Result<Reading, Failed>
-        ensures made { CallIsMade (read_call (result_ok result)) (seen_of self.old) (seen_of self.new) }
+        ensures made { CallIsMade (read_call (result_ok result)) (seen_of_script self.old) (seen_of_script self.new) }
         ensures count { CountsRead result self.old.failures self.new.failures }
 
         // What it reads, and what comes of it.
@@ -123,7 +123,7 @@ impl Clock for MemoryClock {
     }
 
     fn wait(&mut self, millis: u64)
-        ensures made { CallIsMade (Wait millis) (seen_of self.old) (seen_of self.new) }
+        ensures made { CallIsMade (Wait millis) (seen_of_script self.old) (seen_of_script self.new) }
         ensures count { self.new.failures ≡ self.old.failures }
         ensures script { self.new ≡ with_call (Wait millis) self.old }
     {

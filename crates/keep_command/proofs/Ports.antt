@@ -4,7 +4,8 @@ use Rattle.std.proofs.lemmas.List.{get_or_default}
 use Rattle.std.proofs.lemmas.Str.Pattern.{contains_char}
 use Rattle.std.specs.Str.Parse.{IsNumeral, ParsesUnsigned, digits_value, without_leading_plus}
 use Rattle.std.specs.Str.Pattern.{FindsChar}
-use Rattle.keep_command.specs.Places.{IsPath, IsPortFrom}
+use Rattle.keep_device.specs.Places.{IsPath}
+use Rattle.keep_command.specs.Places.{IsPortFrom}
 
 pub no_path : (word : List ℕ) (has : Bool) → MatchBool has ((i : ℕ) × (j : ℕ) × FindsChar 47 word (Some (i, j)) × (i ≤ j) × (j ≤ length word)) (FindsChar 47 word None) → has ≡ false → IsPath word → ⊥
 no_path word has cases none path =

@@ -1,14 +1,10 @@
 -- Places: where a broker listens, as a word of the command line says it.
 -- Source: this project's own; decimal digits are as std reads them.
 use Rattle.std.specs.Prelude.{◌≡◌, ℕ, ◌≤◌, List, Option, Some, None}
-use Rattle.std.specs.List.{Contains}
 use Rattle.std.specs.Str.Parse.{IsNumeral, digits_value, without_leading_plus}
 use Rattle.keep_device.specs.declared.place.Place.{Place}
 use Rattle.keep_device.specs.declared.place.Place.TheVariants as places
-
--- a word with a slash in it is a path
-abbrev pub IsPath : List ℕ → Type 0
-IsPath word = Contains word 47
+use Rattle.keep_device.specs.Places.{IsPath}
 
 -- the word is decimal digits, of which a plus may stand in front, and their number is from `least` to 65535
 pub record IsPortFrom (least : ℕ) (word : List ℕ) (port : ℕ) : Type 0 where

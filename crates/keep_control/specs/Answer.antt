@@ -10,16 +10,16 @@ abbrev pub ◌>>=◌ : {A B : Type 0} → Result A RequestFault → (A → Resul
 (Err e) >>= f = Err e
 
 -- the answer is this fault; of lack of memory nothing is said
-abbrev pub Fails : {Y : Type 0} → RequestFault → Result Y RequestFault → Type 0
-Fails OutOfMemory answer = Unit {0}
-Fails TooLong answer = answer ≡ Err TooLong
-Fails NotWords answer = answer ≡ Err NotWords
-Fails NoCommand answer = answer ≡ Err NoCommand
-Fails BadName answer = answer ≡ Err BadName
-Fails BadWhen answer = answer ≡ Err BadWhen
-Fails BadCredential answer = answer ≡ Err BadCredential
+abbrev pub FailsWithRequestFault : {Y : Type 0} → RequestFault → Result Y RequestFault → Type 0
+FailsWithRequestFault OutOfMemory answer = Unit {0}
+FailsWithRequestFault TooLong answer = answer ≡ Err TooLong
+FailsWithRequestFault NotWords answer = answer ≡ Err NotWords
+FailsWithRequestFault NoCommand answer = answer ≡ Err NoCommand
+FailsWithRequestFault BadName answer = answer ≡ Err BadName
+FailsWithRequestFault BadWhen answer = answer ≡ Err BadWhen
+FailsWithRequestFault BadCredential answer = answer ≡ Err BadCredential
 
 -- what a call gave, seen by `view`, is the answer, unless memory ran out
-abbrev pub Gives : {X Y : Type 0} → (X → Y) → Result X RequestFault → Result Y RequestFault → Type 0
-Gives view (Ok x) answer = answer ≡ Ok (view x)
-Gives view (Err fault) answer = Fails fault answer
+abbrev pub GivesOrRequestFault : {X Y : Type 0} → (X → Y) → Result X RequestFault → Result Y RequestFault → Type 0
+GivesOrRequestFault view (Ok x) answer = answer ≡ Ok (view x)
+GivesOrRequestFault view (Err fault) answer = FailsWithRequestFault fault answer

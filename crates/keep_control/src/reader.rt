@@ -3,7 +3,7 @@ ghost use Rattle.std.specs.Int.{is_in_range};
 ghost use Rattle.std.specs.List.{list_all};
 ghost use Rattle.keep_tree.specs.Push.{is_name, is_name_byte};
 ghost use Rattle.keep_inventory.specs.Values.{is_credential};
-ghost use Rattle.keep_control.specs.Answer.{Gives};
+ghost use Rattle.keep_control.specs.Answer.{GivesOrRequestFault};
 ghost use Rattle.keep_control.specs.Requests.{asked_by_line, command_of, if_named, need_request, plain_of, replace_of, request_in_line};
 ghost use Rattle.keep_control.specs.When.{when_of};
 ghost use Rattle.keep_control.specs.declared.fault.RequestFault.TheVariants as faults;
@@ -28,7 +28,7 @@ use std::alloc::Global;
 /// asked for.
 #[tactic(auto, unfolding(crate::specs::Requests::request_in_line))]
 pub fn read_request(alloc: Global, line: &[u8]) -> Result<Request, RequestFault>
-    ensures request { Gives (λ request. request) result (request_in_line line.now) }
+    ensures request { GivesOrRequestFault (λ request. request) result (request_in_line line.now) }
     ensures too_long { LINE_MAX < length line.now → result ≡ Err faults.TooLong }
 {
     if line.len() > LINE_MAX {
@@ -40,7 +40,7 @@ pub fn read_request(alloc: Global, line: &[u8]) -> Result<Request, RequestFault>
 // What a line asks for that is not too long.
 #[tactic(auto, unfolding(crate::specs::Requests::asked_by_line))]
 fn asked(alloc: Global, line: &[u8]) -> Result<Request, RequestFault>
-    ensures { Gives (λ request. request) result (asked_by_line line.now) }
+    ensures { GivesOrRequestFault (λ request. request) result (asked_by_line line.now) }
 {
     let words = Words::read(alloc, line)?;
     command(alloc, &words)
@@ -49,7 +49,7 @@ fn asked(alloc: Global, line: &[u8]) -> Result<Request, RequestFault>
 // What words ask for.
 #[tactic(auto, unfolding(crate::specs::Requests::command_of))]
 fn command(alloc: Global, words: &Words) -> Result<Request, RequestFault>
-    ensures { Gives (λ request. request) result (command_of words.now) }
+    ensures { GivesOrRequestFault (λ request. request) result (command_of words.now) }
 {
     if words.are("need", 3) {
         need(alloc, words.at(1), words.at(2))
@@ -65,7 +65,7 @@ fn command(alloc: Global, words: &Words) -> Result<Request, RequestFault>
 // What the words of a command without a name ask for.
 #[tactic(auto, unfolding(crate::specs::Requests::plain_of))]
 fn plain(alloc: Global, words: &Words) -> Result<Request, RequestFault>
-    ensures { Gives (λ request. request) result (plain_of words.now) }
+    ensures { GivesOrRequestFault (λ request. request) result (plain_of words.now) }
 {
     if words.are("add", 2) {
         let table = Text::of(alloc, words.at(1).as_bytes())?;
@@ -90,7 +90,7 @@ fn plain(alloc: Global, words: &Words) -> Result<Request, RequestFault>
 
 // A need of the entry of that name.
 fn need(alloc: Global, name: &str, when: &str) -> Result<Request, RequestFault>
-    ensures { Gives (λ request. request) result (if_named name.now (need_request name.now (when_of when.now))) }
+    ensures { GivesOrRequestFault (λ request. request) result (if_named name.now (need_request name.now (when_of when.now))) }
 {
     if !is_name(name.as_bytes()) {
         return Err(RequestFault::BadName);
@@ -104,7 +104,7 @@ fn need(alloc: Global, name: &str, when: &str) -> Result<Request, RequestFault>
 
 // Another credential of the entry of that name.
 fn replace(alloc: Global, name: &str, credential: &str) -> Result<Request, RequestFault>
-    ensures { Gives (λ request. request) result (if_named name.now (replace_of name.now credential.now)) }
+    ensures { GivesOrRequestFault (λ request. request) result (if_named name.now (replace_of name.now credential.now)) }
 {
     if !is_name(name.as_bytes()) {
         return Err(RequestFault::BadName);
@@ -119,7 +119,7 @@ fn replace(alloc: Global, name: &str, credential: &str) -> Result<Request, Reque
 
 // That the entry of that name is to be kept no more.
 fn dropped(alloc: Global, name: &str) -> Result<Request, RequestFault>
-    ensures { Gives (λ request. request) result (if_named name.now (Ok (Drop name.now))) }
+    ensures { GivesOrRequestFault (λ request. request) result (if_named name.now (Ok (Drop name.now))) }
 {
     if !is_name(name.as_bytes()) {
         return Err(RequestFault::BadName);

@@ -2,7 +2,7 @@ ghost use Rattle.std.specs.Prelude.{◌≡◌, IfErr, IfOk, Ok, Err};
 ghost use Rattle.serde_json.specs.Errors.{IsMemory};
 ghost use Rattle.serde_json.specs.View.{view};
 ghost use Rattle.vault_json.specs.Body.{json_tree};
-ghost use Rattle.keep_control.specs.Answer.{Gives};
+ghost use Rattle.keep_control.specs.Answer.{GivesOrRequestFault};
 ghost use Rattle.keep_control.specs.Words.{or_not_words};
 ghost use Rattle.keep_control.specs.declared.fault.RequestFault.TheVariants as faults;
 
@@ -12,7 +12,7 @@ use std::alloc::Global;
 
 /// The tree that bytes are, as serde_json reads it.
 pub(crate) fn tree(alloc: Global, bytes: &[u8]) -> Result<Value, RequestFault>
-    ensures { Gives (λ v. view v) result (or_not_words (json_tree bytes.now)) }
+    ensures { GivesOrRequestFault (λ v. view v) result (or_not_words (json_tree bytes.now)) }
 {
     let Ok(text) = std::str::from_utf8(bytes) else {
         return Err(RequestFault::NotWords);

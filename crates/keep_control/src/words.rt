@@ -1,6 +1,6 @@
 ghost use Rattle.std.specs.Prelude.{◌≡◌, ◌<◌, IsTrue, length, map, string_bytes};
 ghost use Rattle.serde_json.specs.View.{items_view, view};
-ghost use Rattle.keep_control.specs.Answer.{Gives};
+ghost use Rattle.keep_control.specs.Answer.{GivesOrRequestFault};
 ghost use Rattle.keep_control.specs.Requests.{is_command, is_command_with};
 ghost use Rattle.keep_control.specs.Words.{or_not_words, texts_of, word_at, words_in_tree, words_of};
 
@@ -28,7 +28,7 @@ impl Words {
     /// The words of a line.
     #[tactic(auto, unfolding(crate::specs::Words::words_of))]
     pub(crate) fn read(alloc: Global, line: &[u8]) -> Result<Words, RequestFault>
-        ensures { Gives (λ words. words) result (words_of line.now) }
+        ensures { GivesOrRequestFault (λ words. words) result (words_of line.now) }
     {
         let tree = tree(alloc, line)?;
         Words::of(alloc, &tree)
@@ -37,7 +37,7 @@ impl Words {
     // The words of a tree.
     #[tactic(auto, unfolding(crate::specs::Words::words_in_tree))]
     fn of(alloc: Global, tree: &Value) -> Result<Words, RequestFault>
-        ensures { Gives (λ words. words) result (or_not_words (words_in_tree (view tree.now))) }
+        ensures { GivesOrRequestFault (λ words. words) result (or_not_words (words_in_tree (view tree.now))) }
     {
         let Value::Array(items) = tree else {
             return Err(RequestFault::NotWords);
@@ -78,7 +78,7 @@ impl Words {
 
 // The texts that items are.
 fn texts(alloc: Global, items: &[Value]) -> Result<Vec<String>, RequestFault>
-    ensures { Gives (λ words. map string_bytes words.items) result (or_not_words (texts_of (items_view items.now))) }
+    ensures { GivesOrRequestFault (λ words. map string_bytes words.items) result (or_not_words (texts_of (items_view items.now))) }
 {
     let mut words = Vec::new(alloc);
     for item in items {

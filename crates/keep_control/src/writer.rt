@@ -1,7 +1,7 @@
 ghost use Rattle.std.specs.Prelude.{◌≡◌, ◌∷◌, [], ◌&&◌, IfOk, MatchResult, codes, string_bytes, false, true};
 ghost use Rattle.std.specs.Str.{is_utf8};
 ghost use Rattle.serde_json.specs.View.{view};
-ghost use Rattle.keep_control.specs.Answer.{Gives};
+ghost use Rattle.keep_control.specs.Answer.{GivesOrRequestFault};
 ghost use Rattle.keep_control.specs.Requests.{ended, line_for, request_line_text, tree_for};
 ghost use Rattle.keep_control.specs.When.{when_word};
 ghost use Rattle.keep_control.specs.Words.{texted, tree_of_words};
@@ -24,7 +24,7 @@ use std::alloc::{AllocError, Global};
 /// `NotWords` where a text of it is not UTF-8, `TooLong`, or out of memory.
 #[tactic(auto, unfolding(crate::specs::Requests::request_line_text))]
 pub fn write_request(alloc: Global, request: &Request) -> Result<Text, RequestFault>
-    ensures { Gives (λ text. text) result (request_line_text request.now) }
+    ensures { GivesOrRequestFault (λ text. text) result (request_line_text request.now) }
 {
     ended(line_for(alloc, request)?)
 }
@@ -32,7 +32,7 @@ pub fn write_request(alloc: Global, request: &Request) -> Result<Text, RequestFa
 // A line with its line feed.
 #[tactic(auto, unfolding(crate::specs::Requests::ended))]
 fn ended(mut line: Vec<u8>) -> Result<Text, RequestFault>
-    ensures { Gives (λ text. text) result (ended line.items) }
+    ensures { GivesOrRequestFault (λ text. text) result (ended line.items) }
 {
     if line.len() > LINE_MAX {
         return Err(RequestFault::TooLong);
@@ -44,7 +44,7 @@ fn ended(mut line: Vec<u8>) -> Result<Text, RequestFault>
 // The line that asks for it.
 #[tactic(auto, unfolding(crate::specs::Requests::line_for))]
 fn line_for(alloc: Global, request: &Request) -> Result<Vec<u8>, RequestFault>
-    ensures { Gives (λ line. line.items) result (line_for request.now) }
+    ensures { GivesOrRequestFault (λ line. line.items) result (line_for request.now) }
 {
     let tree = tree_for(alloc, request)?;
     Ok(tree.to_vec(alloc)?)
@@ -53,7 +53,7 @@ fn line_for(alloc: Global, request: &Request) -> Result<Vec<u8>, RequestFault>
 // The array of its words.
 #[tactic(auto, unfolding(crate::specs::Requests::tree_for))]
 fn tree_for(alloc: Global, request: &Request) -> Result<Value, RequestFault>
-    ensures { Gives (λ v. view v) result (tree_for request.now) }
+    ensures { GivesOrRequestFault (λ v. view v) result (tree_for request.now) }
 {
     match request {
         Request::Need { name, when } => need_tree(alloc, name.list(), *when),
@@ -75,7 +75,7 @@ fn tree_for(alloc: Global, request: &Request) -> Result<Value, RequestFault>
 
 // The words of a need.
 fn need_tree(alloc: Global, name: &[u8], when: When) -> Result<Value, RequestFault>
-    ensures { Gives (λ v. view v) result (texted (is_utf8 name.now) (codes "need" ∷ name.now ∷ when_word when ∷ [])) }
+    ensures { GivesOrRequestFault (λ v. view v) result (texted (is_utf8 name.now) (codes "need" ∷ name.now ∷ when_word when ∷ [])) }
 {
     let name = text(name)?;
     let when = when_word(alloc, when)?;
@@ -84,7 +84,7 @@ fn need_tree(alloc: Global, name: &[u8], when: When) -> Result<Value, RequestFau
 
 // The words of a replacement.
 fn replace_tree(alloc: Global, name: &[u8], credential: &[u8]) -> Result<Value, RequestFault>
-    ensures { Gives (λ v. view v) result (texted (is_utf8 name.now && is_utf8 credential.now) (codes "replace" ∷ name.now ∷ credential.now ∷ [])) }
+    ensures { GivesOrRequestFault (λ v. view v) result (texted (is_utf8 name.now && is_utf8 credential.now) (codes "replace" ∷ name.now ∷ credential.now ∷ [])) }
 {
     let name = text(name)?;
     let credential = text(credential)?;
@@ -93,7 +93,7 @@ fn replace_tree(alloc: Global, name: &[u8], credential: &[u8]) -> Result<Value, 
 
 // A command with one more word.
 fn two(alloc: Global, command: &str, word: &[u8]) -> Result<Value, RequestFault>
-    ensures { Gives (λ v. view v) result (texted (is_utf8 word.now) (command.now ∷ word.now ∷ [])) }
+    ensures { GivesOrRequestFault (λ v. view v) result (texted (is_utf8 word.now) (command.now ∷ word.now ∷ [])) }
 {
     let word = text(word)?;
     Ok(pair(alloc, command, word)?)

@@ -5,3 +5,5 @@ pub mod Seen
 pub mod Whole
 pub mod Tally
 pub mod Tries
+pub mod Places
+pub mod Moments

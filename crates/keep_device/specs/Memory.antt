@@ -36,7 +36,7 @@ pub record Supply : Type 0 where
   pub calls : Calls
   pub reads : ℕ
 
--- the most bytes that the next read hands out: the next piece's length, at least 1, and all that is left behind the last
+-- the most bytes that the next read hands out: the next piece's length, at least 1, and all that is left after the last
 abbrev pub next_piece : List ℕ → ℕ → ℕ
 next_piece [] left = left
 next_piece (piece ∷ pieces) left = max piece 1

@@ -6,13 +6,14 @@ use Rattle.keep_words.specs.Pieces.{pieces}
 use Rattle.keep_tree.specs.declared.entry.Kind.{Kind}
 use Rattle.keep_tree.specs.Forest.{entry_at, index_named}
 use Rattle.keep_inventory.specs.Inventories.{Inventory, credential_at}
-use Rattle.keep_change.specs.Words.{fingerprint, kind_word}
+use Rattle.keep_change.specs.Words.{fingerprint}
 use Rattle.watch_machine.specs.declared.event.Event.{Event}
 use Rattle.watch_machine.specs.declared.event.Event.TheVariants.{Known}
 use Rattle.keep_agent.specs.declared.ends.KnownEnd.{KnownEnd}
 use Rattle.keep_agent.specs.declared.standing.Told.{Told}
 use Rattle.keep_agent.specs.Agent.{Agent, standing_at}
 use Rattle.keep_agent.specs.Ends.{end_of_text, end_text, in_boot}
+use Rattle.keep_inventory.specs.Kinds.{kind_word}
 
 -- ---- the file
 

@@ -1,5 +1,5 @@
 ghost use Rattle.std.specs.Prelude.{◌≡◌, ◌++◌, ◌<◌, IfOk, OnOk, length};
-ghost use Rattle.keep_change.specs.Words.{kind_word};
+ghost use Rattle.keep_inventory.specs.Kinds.{kind_word};
 ghost use Rattle.keep_ends.specs.Ends.{end_with, ends_of, events_for, events_for_known, known_by, mark_of};
 
 use keep_agent::{Agent, KnownEnd, Told};

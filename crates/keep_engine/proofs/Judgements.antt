@@ -8,7 +8,7 @@ use Rattle.keep_cert.specs.declared.cert.Body.TheVariants as body
 use Rattle.keep_cert.specs.declared.cert.Cert.{Cert}
 use Rattle.keep_cert.specs.declared.fault.CertFault.{CertFault}
 use Rattle.keep_cert.specs.declared.fault.CertFault.TheVariants as certs
-use Rattle.keep_cert.specs.Answers.{Fails}
+use Rattle.keep_cert.specs.Answers.{FailsWithCertFault}
 use Rattle.keep_cert.specs.CertificateText.{WritesCertificate}
 use Rattle.keep_cert.specs.Reading.{certificate_of}
 use Rattle.keep_check.specs.declared.answer.Answer.TheVariants.{No}
@@ -85,7 +85,7 @@ text_judged asked g text c (Err stops.Write) writes judged = absurd judged
 text_judged asked g text c (Err (stops.Broker name)) writes judged = absurd judged
 text_judged asked g text c (Err (stops.Line number)) writes judged = absurd judged
 
-pub text_unreadable : (g : Forest) (text line : List ℕ) (fault : CertFault) → Fails fault (certificate_of g.entries text) → unreadable_line fault ≡ Some line → CertificateIsUnreadable g text line
+pub text_unreadable : (g : Forest) (text line : List ℕ) (fault : CertFault) → FailsWithCertFault fault (certificate_of g.entries text) → unreadable_line fault ≡ Some line → CertificateIsUnreadable g text line
 unfolding unreadable_line
 text_unreadable g text line certs.BadHeader fails is = record { fault = certs.BadHeader; fails = fails; spelled = is }
 text_unreadable g text line (certs.BadLine n) fails is = record { fault = certs.BadLine n; fails = fails; spelled = is }

@@ -34,7 +34,7 @@ use Rattle.keep_engine.specs.PlanRun.{IsPairText, IsPlanText}
 head_same : (x y : Force) (xs ys : List Force) → x ∷ xs ≡ y ∷ ys → (x ≡ y) × (xs ≡ ys)
 head_same x y xs ys e = (cc, cc)
 
--- the first wake-ups of two runs that are the same, and what is behind them
+-- the first wake-ups of two runs that are the same, and what comes after them
 first_same : (a b c e n a' b' c' e' n' : ℕ) (xs ys : List Force) → 0 < c → c ≡ c' → wakes_of a b c e n ++ xs ≡ wakes_of a' b' c' e' n' ++ ys
     → (a ≡ a') × (e ≡ e') × (n ≡ n') × (wakes_of (a + b) b (c - 1) e n ++ xs ≡ wakes_of (a' + b') b' (c' - 1) e' n' ++ ys)
 unfolding wakes_of

@@ -1,9 +1,6 @@
 -- Exchanges over sockets, to contracts: where the broker listens, and how long a call may take.
 -- Source: this project's own.
-use Rattle.std.specs.Prelude.{◌≡◌, ℕ, ◌⊎◌, ◌∷◌, [], Bool, true, false, ◌||◌, min, Option, Some, None, Result, Ok, Err, if◌then◌else◌}
-use Rattle.std.specs.Net.Addr.{ipv4_octets, MatchIp}
-use Rattle.std.specs.Net.Socket.{socket_ip, socket_port}
-use Rattle.std.specs.declared.net.socket_addr.SocketAddr.{SocketAddr}
+use Rattle.std.specs.Prelude.{◌≡◌, ℕ, ◌⊎◌, Bool, true, false, ◌||◌, min, Option, Some, None, Result, Ok, Err, if◌then◌else◌}
 use Rattle.keep_exchange.specs.declared.fault.ExchangeFault.{ExchangeFault}
 use Rattle.keep_device.specs.declared.place.Place.{Place}
 use Rattle.keep_device.specs.declared.place.Place.TheVariants.{Port, Path}
@@ -63,10 +60,6 @@ PacesAsked (Err fault) longest old new = Slows longest old new
 abbrev pub PacesLooked : {E : Type 0} → Result Bool E → ℕ → ℕ → ℕ → Type 0
 PacesLooked (Ok true) longest old new = new ≡ longest
 PacesLooked result longest old new = (new ≡ longest) ⊎ Slows longest old new
-
--- the port of 127.0.0.1
-abbrev pub IsHere : ℕ → SocketAddr → Type 0
-IsHere port address = (socket_port address ≡ port) × MatchIp (socket_ip address) (λ ip. ipv4_octets ip ≡ 127 ∷ 0 ∷ 0 ∷ 1 ∷ []) (λ ip. ⊥)
 
 -- one message that some client has sent was handled at t
 abbrev pub IsServedOnce : BrokerTable → ℕ → BrokerTable → Type 0

@@ -16,7 +16,7 @@ use vault_http::Reply;
 ///
 /// Where the broker's table is known, the reply is that of the Broker step at `t`, and the table is as that step leaves it.
 /// Known or not, nothing but `None` comes of an exchange that has failed: no connection, no whole request, or a read that failed.
-/// Behind a reply the next call may take the longest time, and else as long as before, or a quarter of a second.
+/// After a reply the next call may take the longest time, and else as long as before, or a quarter of a second.
 pub fn ask<E: Exchange>(
     alloc: Global,
     exchange: &mut E,

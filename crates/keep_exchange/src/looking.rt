@@ -4,7 +4,7 @@ ghost use Rattle.keep_exchange.specs.Requests.{IsShortRequest, lease_looked, loo
 ghost use Rattle.keep_exchange.specs.Sockets.{PacesLooked, Slows};
 ghost use Rattle.keep_inventory.specs.Inventories.{IsSendableText};
 ghost use Rattle.vault_http.specs.RoundTripRequest.{IsWritable};
-ghost use Rattle.vault_json.specs.Answer.{Gives};
+ghost use Rattle.vault_json.specs.Answer.{GivesOrReplyFault};
 
 use crate::exchange::Exchange;
 use crate::fault::ExchangeFault;
@@ -23,7 +23,7 @@ use vault_json::{Lookup, ReplyFault, lookup_body, read_lookup_lease, read_lookup
 ///
 /// Whatever the exchange, the inventory is what some reply makes of it. Where the broker's table is known, that reply is the one
 /// of the Broker step, and the table is as that step leaves it. Known or not, nothing but `false` comes of an exchange that has
-/// failed: no connection, no whole request, or a read that failed. Behind a reply the next call may take the longest time, and
+/// failed: no connection, no whole request, or a read that failed. After a reply the next call may take the longest time, and
 /// else as long as before, or a quarter of a second.
 pub fn look_up<E: Exchange>(
     alloc: Global,
@@ -106,7 +106,7 @@ fn apply(
 
 /// What the body of a reply says of an entry of that kind.
 pub(crate) fn lookup_in(alloc: Global, kind: Kind, body: &[u8]) -> Result<Lookup, ReplyFault>
-    ensures { Gives (λ x. x) result (lookup_in kind body.now) }
+    ensures { GivesOrReplyFault (λ x. x) result (lookup_in kind body.now) }
 {
     match kind {
         Kind::Token => read_lookup_self(alloc, body),

@@ -1,8 +1,9 @@
 //! What exchanges over connections share.
 ghost use Rattle.std.specs.Prelude.{◌≡◌, is_ok};
+ghost use Rattle.keep_device.specs.Places.{IsHere};
 ghost use Rattle.keep_exchange.specs.Exchanges.{CountsExchange};
 ghost use Rattle.keep_exchange.specs.Lines.{Carries};
-ghost use Rattle.keep_exchange.specs.Sockets.{IsHere, learned};
+ghost use Rattle.keep_exchange.specs.Sockets.{learned};
 ghost use Rattle.vault_http.specs.RoundTripRequest.{IsWritable};
 
 use crate::fault::ExchangeFault;

@@ -8,7 +8,7 @@ use Rattle.std.proofs.Math.Path.{fun_ext}
 use Rattle.keep_change.specs.Listed.{rows_of_served}
 use Rattle.keep_change.specs.declared.row.Row.{Row}
 use Rattle.keep_files.specs.Files.{Files}
-use Rattle.keep_inventory.specs.Answers.{Fails}
+use Rattle.keep_inventory.specs.Answers.{FailsWithInvFault}
 use Rattle.keep_inventory.specs.Inventories.{Inventory}
 use Rattle.keep_inventory.specs.Inventory.{read_served}
 use Rattle.keep_inventory.specs.Served.{Served}
@@ -24,7 +24,7 @@ use Rattle.keep_house.proofs.Unfilled.{first_unfilled}
 
 -- ---- a text that is no inventory
 
-pub no_inventory : (d : Demands) (known : Files) (folder bytes : List ℕ) (fault : InvFault) (fs : List StartFault) → (fault ≡ inventories.OutOfMemory → ⊥) → Fails fault (read_served bytes) → fs ≡ faults.Inventory fault ∷ [] → AreFaults d known folder bytes fs
+pub no_inventory : (d : Demands) (known : Files) (folder bytes : List ℕ) (fault : InvFault) (fs : List StartFault) → (fault ≡ inventories.OutOfMemory → ⊥) → FailsWithInvFault fault (read_served bytes) → fs ≡ faults.Inventory fault ∷ [] → AreFaults d known folder bytes fs
 no_inventory d known folder bytes inventories.OutOfMemory fs other h is = absurd (other refl)
 no_inventory d known folder bytes inventories.NotToml fs other h is = inl (faults.Inventory inventories.NotToml, ((inventories.NotToml, (refl, h)), is))
 no_inventory d known folder bytes (inventories.MissingKey i k) fs other h is = inl (faults.Inventory (inventories.MissingKey i k), ((inventories.MissingKey i k, (refl, h)), is))

@@ -57,7 +57,7 @@ module _ {S T D K E : Type 0} (given : S → Option (List ℕ)) (failures tries 
   reader_of (Settle is_made) old new h =
       ap (λ x. x.sink) h.1.rest ∙ (settled_given does h.0 is_made h.1.heard h.1.settled h.1.settles).sink ∙ served_heard _ old h.1.heard h.1.served
 
-  -- ---- the same behind one more neighbour, that asks for a beginning
+  -- ---- the same after one more neighbour, that asks for a beginning
 
   settled_on : (is_own is_made : Bool) (old new : House S T D K E) → SettlesOthers Does is_own is_made old new → new.sink ≡ old.sink
   settled_on true is_made old new h = ap (λ x. x.sink) h

@@ -3,7 +3,7 @@ use Rattle.std.proofs.Common.{◌≡◌, ◌∙◌, ◌⊎◌, List, ℕ, Bool, 
 use Rattle.keep_change.specs.Listed.{rows_of_served}
 use Rattle.keep_change.specs.declared.row.Row.{Row}
 use Rattle.keep_files.specs.Files.{Files}
-use Rattle.keep_inventory.specs.Answers.{◌>>=◌, Fails}
+use Rattle.keep_inventory.specs.Answers.{◌>>=◌, FailsWithInvFault}
 use Rattle.keep_inventory.specs.Inventories.{Inventory}
 use Rattle.keep_inventory.specs.Inventory.{read_served}
 use Rattle.keep_inventory.specs.Served.{Served}
@@ -36,7 +36,7 @@ unfolding inventory_for_good
 written_so text v inventory reads is = ap (λ read. read >>= λ (w : Served). Ok (served_for_good w)) reads ∙ ap (λ (x : Inventory). Ok x) (sym is)
 
 -- it has no fault but lack of memory
-pub only_memory : (text : List ℕ) (v : Served) (fault : InvFault) → read_served text ≡ Ok v → Fails fault (inventory_for_good text) → start_of_inventory fault ≡ OutOfMemory
+pub only_memory : (text : List ℕ) (v : Served) (fault : InvFault) → read_served text ≡ Ok v → FailsWithInvFault fault (inventory_for_good text) → start_of_inventory fault ≡ OutOfMemory
 only_memory text v inventories.OutOfMemory reads h = refl
 only_memory text v inventories.NotToml reads h = let g = good text v reads in absurd (is_no_fault g.0 inventories.NotToml (sym g.1 ∙ h))
 only_memory text v (inventories.MissingKey i k) reads h = let g = good text v reads in absurd (is_no_fault g.0 (inventories.MissingKey i k) (sym g.1 ∙ h))
@@ -46,7 +46,7 @@ only_memory text v (inventories.Tree i f) reads h = let g = good text v reads in
 
 -- ---- a start
 
-pub no_inventory : (d : Demands) (known : Files) (folder bytes : List ℕ) (fault : InvFault) → Fails fault (read_served bytes) → IsToServe d known folder bytes (Err (start_of_inventory fault))
+pub no_inventory : (d : Demands) (known : Files) (folder bytes : List ℕ) (fault : InvFault) → FailsWithInvFault fault (read_served bytes) → IsToServe d known folder bytes (Err (start_of_inventory fault))
 no_inventory d known folder bytes inventories.OutOfMemory h = inl refl
 no_inventory d known folder bytes inventories.NotToml h = inr (inl (inventories.NotToml, (refl, h)))
 no_inventory d known folder bytes (inventories.MissingKey i k) h = inr (inl (inventories.MissingKey i k, (refl, h)))

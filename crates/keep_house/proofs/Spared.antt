@@ -174,7 +174,7 @@ module _ {S T D K E : Type 0} (given : S → Option (List ℕ)) (failures tries 
       let settled = settled_given asks h.0 is_made h.1.heard h.1.settled h.1.settles in
       left_join old.ends h.1.heard.ends new.ends heard.1 (left_same h.1.heard.ends new.ends (ap (λ x. x.ends) h.1.rest ∙ settled.ends))
 
-  -- ---- the same behind one more neighbour, that asks for a beginning
+  -- ---- the same after one more neighbour, that asks for a beginning
 
   abbrev DoesOn : NeighbourCall → EarlyDay (House S T D K E) → EarlyDay (House S T D K E) → Type 0
   DoesOn call old new = PassesToOthers Does call old new

@@ -10,7 +10,7 @@ use Rattle.keep_device.specs.declared.fault.InputFault.{InputFault}
 use Rattle.keep_disk.specs.State.{DiskState}
 use Rattle.keep_files.specs.Files.{Files}
 use Rattle.keep_proving.specs.declared.verdict.Verdict.{Verdict}
-use Rattle.keep_secrets.specs.Looking.{Passes, PassesBy, Steps}
+use Rattle.keep_secrets.specs.Looking.{Passes, PassesByStep, Steps}
 use Rattle.keep_secrets.specs.Stamps.{FileCall, Made, Opened, Stamped}
 use Rattle.keep_secrets.specs.declared.looking.DueFile.{DueFile}
 use Rattle.keep_secrets.specs.declared.looking.FileMark.{FileMark}
@@ -23,7 +23,7 @@ use Rattle.keep_secrets.specs.declared.news.Looked.{Looked}
 use Rattle.keep_secrets.specs.declared.secret_files.FileStamp.{FileStamp}
 use Rattle.keep_serving.specs.Neighbours.{NeighbourCall}
 use Rattle.keep_store.specs.declared.secret.Secret.{Secret}
-use Rattle.keep_house.specs.Disks.{AllAsked, AsksLittle, FewAreMade, KeeperIsCalled, LedgerIsSpared, LedgerLaw, SparesIf, SparesLedger, looks_of, makes_of, reads_of, stamps_of}
+use Rattle.keep_house.specs.Disks.{AllAsked, AsksLittle, FewAreMade, KeeperIsCalled, LedgerIsSpared, LedgerLaw, SparesIf, SparesLedger, looks_of, makes_of, opens_of, stamps_of}
 use Rattle.keep_house.specs.Keeping.{KeepCall, Look, LookUp, Prove, Rebuilt, Reload, Settle, Take}
 use Rattle.keep_house.specs.Ledgers.{DoesLedger}
 use Rattle.keep_house.specs.Takings.{AwaitsIf, HearsVerdictIf, IsFileReadAs, JudgesFile, LooksBy, LooksIf, LooksUpNew, ReadsUp, TakesHeldUp, TakesRead, TakesUpFile}
@@ -42,14 +42,14 @@ few_stamp : (path : List ℕ) (stamp : Option FileStamp) (old new : Option (List
 few_stamp path stamp old None h = tt
 few_stamp path stamp old (Some calls) h =
     let stamps = sum_by-cons stamps_of (Stamped path stamp) [] in
-    let reads = sum_by-cons reads_of (Stamped path stamp) [] in
+    let reads = sum_by-cons opens_of (Stamped path stamp) [] in
     (h.0, (Stamped path stamp ∷ [], (h.1.0, (h.1.1, (omega (arith, stamps), omega (arith, reads))))))
 
 few_read : (path : List ℕ) (most : ℕ) (read : Result (List ℕ) InputFault) (old new : Option (List FileCall)) → Made (Opened path most read) old new → FewAreMade 0 1 old new
 few_read path most read old None h = tt
 few_read path most read old (Some calls) h =
     let stamps = sum_by-cons stamps_of (Opened path most read) [] in
-    let reads = sum_by-cons reads_of (Opened path most read) [] in
+    let reads = sum_by-cons opens_of (Opened path most read) [] in
     (h.0, (Opened path most read ∷ [], (h.1.0, (h.1.1, (omega (arith, stamps), omega (arith, reads))))))
 
 few_more : (i j k l : ℕ) (old new : Option (List FileCall)) → i ≤ k → j ≤ l → FewAreMade i j old new → FewAreMade k l old new
@@ -64,7 +64,7 @@ few_join i j k l a b None h g = tt
 few_join i j k l a b (Some calls) h g =
     let first : FewAreMade i j a (Some g.0) = subst (λ (o : Option (List FileCall)). FewAreMade i j a o) g.1.1.0 h in
     let stamps = sum_by-append stamps_of first.1.0 g.1.0 in
-    let reads = sum_by-append reads_of first.1.0 g.1.0 in
+    let reads = sum_by-append opens_of first.1.0 g.1.0 in
     let stamps_first = first.1.1.1.1.0 in
     let reads_first = first.1.1.1.1.1 in
     let stamps_last = g.1.1.1.1.0 in
@@ -103,7 +103,7 @@ module _ {I : Type 0} (calls : I → Option (List FileCall)) (marks : List FileM
   -- by what is done at the row, if the rows after it are looked at so too
   step_few : (i : ℕ) (row : Row) (rows : List Row) (left : ℕ) (old : I) (step : Step) (mid : I) (pass : Pass) (new : I) →
       ((left : ℕ) (mid : I) → Passes calls marks secrets folder now (i + 1) rows left mid pass new → Few left 0 mid new) → Steps calls marks secrets folder now i row left old step mid →
-      PassesBy calls marks secrets folder now step (Passes calls marks secrets folder now (i + 1) rows) left mid pass new → Few left 0 old new
+      PassesByStep calls marks secrets folder now step (Passes calls marks secrets folder now (i + 1) rows) left mid pass new → Few left 0 old new
   step_few i row rows left old Bare mid pass new later h k = subst (λ (x : I). Few left 0 x new) h.1 (later left mid k)
   step_few i row rows left old Same mid pass new later h k =
       let some = positive left h.more in

@@ -101,14 +101,14 @@ abbrev pub stamps_of : FileCall → ℕ
 stamps_of (Stamped path stamp) = 1
 stamps_of (Opened path most read) = 0
 
-abbrev pub reads_of : FileCall → ℕ
-reads_of (Stamped path stamp) = 0
-reads_of (Opened path most read) = 1
+abbrev pub opens_of : FileCall → ℕ
+opens_of (Stamped path stamp) = 0
+opens_of (Opened path most read) = 1
 
 -- so many stamps were looked at at most, and so many files read: what is known of the calls now was known before, and these are more
 abbrev pub FewAreMade : ℕ → ℕ → Option (List FileCall) → Option (List FileCall) → Type 0
 FewAreMade stamps reads old new =
-    IfSome new (λ calls. (before : List FileCall) × ((more : List FileCall) × ((old ≡ Some before) × ((calls ≡ before ++ more) × ((sum_by stamps_of more ≤ stamps) × (sum_by reads_of more ≤ reads))))))
+    IfSome new (λ calls. (before : List FileCall) × ((more : List FileCall) × ((old ≡ Some before) × ((calls ≡ before ++ more) × ((sum_by stamps_of more ≤ stamps) × (sum_by opens_of more ≤ reads))))))
 
 -- the disk of the state is left alone
 pub record LedgerIsSpared {D I L : Type 0} (calls : I → Option (List FileCall)) (stamps reads : ℕ) (old new : Ledger D I L) : Type 0 where
@@ -142,8 +142,8 @@ module _ {S T D K E : Type 0} (given : S → Option (List ℕ)) (failures tries 
   abbrev pub ToDay : NeighbourCall → EarlyDay (House S T D K E) → EarlyDay (House S T D K E) → Type 0
   ToDay call old new = PassesToOthers ToHouse call old new
 
-  abbrev pub AsksLaw : Type 0
-  AsksLaw = AsksLittle ToHouse asks (λ (h : House S T D K E). h.state) × AsksLittle ToDay asks (λ (d : EarlyDay (House S T D K E)). d.others.state)
+  abbrev pub AsksLittleLaw : Type 0
+  AsksLittleLaw = AsksLittle ToHouse asks (λ (h : House S T D K E). h.state) × AsksLittle ToDay asks (λ (d : EarlyDay (House S T D K E)). d.others.state)
 
   abbrev pub EndsLaw : Type 0
   EndsLaw = TriesEnds ToHouse known state (λ (h : House S T D K E). h.ends) × TriesEnds ToDay known state (λ (d : EarlyDay (House S T D K E)). d.others.ends)

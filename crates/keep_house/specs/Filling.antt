@@ -8,8 +8,9 @@ use Rattle.keep_device.specs.declared.fault.InputFault.TheVariants as inputs
 use Rattle.keep_files.specs.Files.{FileIsRead, Files}
 use Rattle.keep_inventory.specs.Values.{is_credential}
 use Rattle.keep_inventory.specs.declared.note.Note.{Note}
-use Rattle.keep_secrets.specs.Credentials.{placed, stripped}
+use Rattle.keep_secrets.specs.Credentials.{placed}
 use Rattle.keep_secrets.specs.declared.credential.TheConstants.{MOST_SECRET}
+use Rattle.keep_words.specs.Texts.{stripped}
 use Rattle.keep_house.specs.Starts.{fault_list}
 use Rattle.keep_house.specs.declared.fault.StartFault.{StartFault}
 use Rattle.keep_house.specs.declared.fault.StartFault.TheVariants as faults

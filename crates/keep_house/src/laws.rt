@@ -2,7 +2,7 @@
 ghost use Rattle.keep_house.specs.Alike.{AnsweredAlike, CarriedAlike, ClockedAlike, NeedAlike, NextAlike, ShortsAlike};
 ghost use Rattle.keep_house.specs.Alike.{EndAlike, KeepsAlike, RefusedAlike, ReplacedAlike, ReplacedOfAlike};
 ghost use Rattle.keep_house.specs.Alike.{JudgedAlike, NewsAlike, NotesAlike, StartAlike, UnfilledAlike, WhysAlike, WrittenAlike};
-ghost use Rattle.keep_house.specs.Disks.{AsksLaw, EndsLaw, LedgerLaw, SparesLaw};
+ghost use Rattle.keep_house.specs.Disks.{AsksLittleLaw, EndsLaw, LedgerLaw, SparesLaw};
 ghost use Rattle.keep_house.specs.Tried.{DayTriesLaw, TriesLaw};
 
 use crate::keeping::Keeping;
@@ -58,7 +58,7 @@ pub fn a_turn_tries_the_reader_little<S: LogSink, T: Talk, D: Door<T>, K: Keepin
 /// no more changes than the turn took; and the file of the ends is left alone, or was due, which it is once a second at most, and is tried
 /// once.
 pub fn a_turn_spares_disks<S: LogSink, T: Talk, D: Door<T>, K: Keeping, E: Disk>()
-    ensures asks { AsksLaw S.written S.failures S.tries T.remaining T.written T.calls D.log K.does K.rows K.path K.reads K.gives E.is_known E.state }
+    ensures asks { AsksLittleLaw S.written S.failures S.tries T.remaining T.written T.calls D.log K.does K.rows K.path K.reads K.gives E.is_known E.state }
     ensures ends { EndsLaw S.written S.failures S.tries T.remaining T.written T.calls D.log K.does K.rows K.path K.reads K.gives E.is_known E.state }
 {}
 

@@ -1,8 +1,9 @@
 //! Entries whose credentials stand in files are filled with what these hold.
 ghost use Rattle.std.specs.Prelude.{◌≡◌, ◌⊎◌, ◌++◌, List, ℕ, IfErr, IfOk, OnOk, true, false};
 ghost use Rattle.keep_inventory.specs.Values.{is_credential};
+ghost use Rattle.keep_words.specs.Texts.{stripped};
 ghost use Rattle.keep_house.specs.Filling.{AreFilled, AreUnfilled, CannotFill, FileHolds, FillingFails, FillsRow, FirstUnfilled, IsFaultOfRow};
-ghost use Rattle.keep_secrets.specs.Credentials.{placed, stripped};
+ghost use Rattle.keep_secrets.specs.Credentials.{placed};
 ghost use Rattle.keep_house.specs.declared.fault.StartFault.{StartFault};
 ghost use Rattle.keep_house.specs.declared.fault.StartFault.TheVariants.{NoSecret, OutOfMemory};
 

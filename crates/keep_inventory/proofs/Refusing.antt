@@ -7,7 +7,7 @@ use Rattle.keep_tree.specs.Forest.{Forest}
 use Rattle.keep_tree.specs.Push.{entry_refusal}
 use Rattle.keep_inventory.specs.declared.fault.InvFault.{InvFault}
 use Rattle.keep_inventory.specs.declared.fault.InvFault.TheVariants.{Tree}
-use Rattle.keep_inventory.specs.Answers.{Fails}
+use Rattle.keep_inventory.specs.Answers.{FailsWithInvFault}
 use Rattle.keep_inventory.specs.Intake.{appended, pushed, tree_fault_told}
 
 skip : (b : Bool) (fault : TreeFault) (rest : Option TreeFault) → fault ≢ OutOfMemory → rest ≢ Some OutOfMemory → cond b (Some fault) rest ≢ Some OutOfMemory
@@ -51,19 +51,19 @@ told_tree index OutOfMemory other = absurd (other refl)
 
 module _ (g : Forest) (e : Entry) (answer : Result ℕ TreeFault) (fault : TreeFault) (index : ℕ) (result : InvFault) (place : index ≡ length g.entries) (failed : answer ≡ Err fault) (is : result ≡ tree_fault_told index fault) where
   abbrev Told : Option TreeFault → Type 0
-  Told o = Fails result (appended g e o) × IfSome o (λ f. ◌≡◌ {A = Result (Unit {0}) InvFault} (Err result) (Err (Tree (length g.entries) f)))
+  Told o = FailsWithInvFault result (appended g e o) × IfSome o (λ f. ◌≡◌ {A = Result (Unit {0}) InvFault} (Err result) (Err (Tree (length g.entries) f)))
 
   by_refusal : (o : Option TreeFault) → o ≢ Some OutOfMemory → IfSome o (λ f. answer ≡ Err f) → (o ≡ None → IsOkUnless answer OutOfMemory) → Told o
   by_refusal (Some f) other refused memory =
       let same : fault ≡ f = let both : ◌≡◌ {A = Result ℕ TreeFault} (Err fault) (Err f) = sym failed ∙ refused in cc in
       let quiet : fault ≢ OutOfMemory = λ bad. other (ap (λ (x : TreeFault). Some x) (sym same ∙ bad)) in
       let told : result ≡ Tree (length g.entries) f = is ∙ told_tree index fault quiet ∙ ap (λ n. Tree n fault) place ∙ ap (Tree (length g.entries)) same in
-      (subst (λ (x : InvFault). Fails x (appended g e (Some f))) (sym told) refl, ap (λ (x : InvFault). Err x) told)
+      (subst (λ (x : InvFault). FailsWithInvFault x (appended g e (Some f))) (sym told) refl, ap (λ (x : InvFault). Err x) told)
   by_refusal None other refused memory =
       let same : fault ≡ OutOfMemory = subst (λ (r : Result ℕ TreeFault). IsOkUnless r OutOfMemory) failed (memory refl) in
-      (subst (λ (x : InvFault). Fails x (appended g e None)) (sym (is ∙ ap (tree_fault_told index) same)) tt, tt)
+      (subst (λ (x : InvFault). FailsWithInvFault x (appended g e None)) (sym (is ∙ ap (tree_fault_told index) same)) tt, tt)
 
   pub told_refused : IfSome (entry_refusal g e) (λ f. answer ≡ Err f) → (entry_refusal g e ≡ None → IsOkUnless answer OutOfMemory) →
-      Fails result (pushed g e) × IfSome (entry_refusal g e) (λ f. ◌≡◌ {A = Result (Unit {0}) InvFault} (Err result) (Err (Tree (length g.entries) f)))
+      FailsWithInvFault result (pushed g e) × IfSome (entry_refusal g e) (λ f. ◌≡◌ {A = Result (Unit {0}) InvFault} (Err result) (Err (Tree (length g.entries) f)))
   unfolding pushed
   told_refused refused memory = by_refusal (entry_refusal g e) (never_memory g e) refused memory

@@ -10,7 +10,7 @@ use Rattle.toml.specs.Parse.{parse_document}
 use Rattle.toml.specs.View.{table_view}
 use Rattle.toml.specs.declared.de.error.Error.{Error}
 use Rattle.toml.specs.declared.value.Value.{Value}
-use Rattle.keep_inventory.specs.Answers.{Gives}
+use Rattle.keep_inventory.specs.Answers.{GivesOrInvFault}
 use Rattle.keep_inventory.specs.declared.fault.InvFault.{InvFault}
 use Rattle.keep_inventory.specs.declared.fault.InvFault.TheVariants.{NotToml, OutOfMemory}
 use Rattle.keep_inventory.specs.Inventory.{document_tree, or_not_toml}
@@ -30,7 +30,7 @@ Tree = BTreeMap (String Global) Value
 
 -- the tree that was read, or no TOML, or lack of memory where the reader says so
 pub as_read : (answer : Result Tree InvFault) (tree : Option Members) (r : Result Tree Error) → IfOk r (λ t. tree ≡ Some (table_view t)) → IfErr r (λ e. ¬ IsMemory e → tree ≡ None) →
-    IfOk r (λ t. answer ≡ Ok t) → IfErr r (λ e. (IsMemory e × (answer ≡ Err OutOfMemory)) ⊎ ((¬ IsMemory e) × (answer ≡ Err NotToml))) → Gives table_view answer (or_not_toml tree)
-as_read answer tree (Ok t) read none given said = subst (λ (a : Result Tree InvFault). Gives table_view a (or_not_toml tree)) (sym given) (ap or_not_toml read)
-as_read answer tree (Err e) read none given (inl memory) = subst (λ (a : Result Tree InvFault). Gives table_view a (or_not_toml tree)) (sym memory.1) tt
-as_read answer tree (Err e) read none given (inr malformed) = subst (λ (a : Result Tree InvFault). Gives table_view a (or_not_toml tree)) (sym malformed.1) (ap or_not_toml (none malformed.0))
+    IfOk r (λ t. answer ≡ Ok t) → IfErr r (λ e. (IsMemory e × (answer ≡ Err OutOfMemory)) ⊎ ((¬ IsMemory e) × (answer ≡ Err NotToml))) → GivesOrInvFault table_view answer (or_not_toml tree)
+as_read answer tree (Ok t) read none given said = subst (λ (a : Result Tree InvFault). GivesOrInvFault table_view a (or_not_toml tree)) (sym given) (ap or_not_toml read)
+as_read answer tree (Err e) read none given (inl memory) = subst (λ (a : Result Tree InvFault). GivesOrInvFault table_view a (or_not_toml tree)) (sym memory.1) tt
+as_read answer tree (Err e) read none given (inr malformed) = subst (λ (a : Result Tree InvFault). GivesOrInvFault table_view a (or_not_toml tree)) (sym malformed.1) (ap or_not_toml (none malformed.0))

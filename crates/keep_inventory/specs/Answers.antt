@@ -10,15 +10,15 @@ abbrev pub ◌>>=◌ : {A B : Type 0} → Result A InvFault → (A → Result B 
 (Err e) >>= f = Err e
 
 -- the call's fault is that of the definition, or lack of memory
-abbrev pub Fails : {Y : Type 0} → InvFault → Result Y InvFault → Type 0
-Fails OutOfMemory answer = Unit {0}
-Fails NotToml answer = answer ≡ Err NotToml
-Fails (MissingKey i k) answer = answer ≡ Err (MissingKey i k)
-Fails (UnknownKey i) answer = answer ≡ Err (UnknownKey i)
-Fails (BadValue i k) answer = answer ≡ Err (BadValue i k)
-Fails (Tree i f) answer = answer ≡ Err (Tree i f)
+abbrev pub FailsWithInvFault : {Y : Type 0} → InvFault → Result Y InvFault → Type 0
+FailsWithInvFault OutOfMemory answer = Unit {0}
+FailsWithInvFault NotToml answer = answer ≡ Err NotToml
+FailsWithInvFault (MissingKey i k) answer = answer ≡ Err (MissingKey i k)
+FailsWithInvFault (UnknownKey i) answer = answer ≡ Err (UnknownKey i)
+FailsWithInvFault (BadValue i k) answer = answer ≡ Err (BadValue i k)
+FailsWithInvFault (Tree i f) answer = answer ≡ Err (Tree i f)
 
 -- the call gives what the definition gives, unless memory was refused
-abbrev pub Gives : {X Y : Type 0} → (X → Y) → Result X InvFault → Result Y InvFault → Type 0
-Gives view (Ok x) answer = answer ≡ Ok (view x)
-Gives view (Err e) answer = Fails e answer
+abbrev pub GivesOrInvFault : {X Y : Type 0} → (X → Y) → Result X InvFault → Result Y InvFault → Type 0
+GivesOrInvFault view (Ok x) answer = answer ≡ Ok (view x)
+GivesOrInvFault view (Err e) answer = FailsWithInvFault e answer

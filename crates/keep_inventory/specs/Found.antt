@@ -6,5 +6,5 @@ use Rattle.std.specs.Ordering.{nat_cmp}
 use Rattle.std.specs.declared.alloc.Global.{Global}
 
 -- the set has a text of these bytes
-abbrev pub has : BTreeSet (Vec ℕ Global) → List ℕ → Bool
-has s q = contains_by (λ k. slice_cmp nat_cmp q k.items) s
+abbrev pub holds_text : BTreeSet (Vec ℕ Global) → List ℕ → Bool
+holds_text s q = contains_by (λ k. slice_cmp nat_cmp q k.items) s

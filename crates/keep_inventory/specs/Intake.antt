@@ -13,7 +13,7 @@ use Rattle.keep_inventory.specs.declared.key.Key.TheVariants.{Secret, LeaseId}
 use Rattle.keep_inventory.specs.declared.note.Note.{Note}
 use Rattle.keep_inventory.specs.declared.row.Row.{Row}
 use Rattle.keep_inventory.specs.declared.terms.Terms.{Terms}
-use Rattle.keep_inventory.specs.Answers.{◌>>=◌, Fails}
+use Rattle.keep_inventory.specs.Answers.{◌>>=◌, FailsWithInvFault}
 use Rattle.keep_inventory.specs.Inventories.{Inventory}
 
 -- the forest so far, the secrets of its tokens, the ids of its leases, and the terms and the notes of both
@@ -69,4 +69,4 @@ with_lease s row = do
 -- a step that changes a value, against the definition of the step
 abbrev pub Changes : {X : Type 0} → Result X InvFault → X → Result (Unit {0}) InvFault → Type 0
 Changes answer new (Ok u) = answer ≡ Ok new
-Changes answer new (Err e) = Fails e answer
+Changes answer new (Err e) = FailsWithInvFault e answer

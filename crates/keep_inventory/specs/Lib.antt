@@ -16,3 +16,4 @@ pub mod Written
 pub mod Lookup
 pub mod FirstFault
 pub mod Laws
+pub mod Kinds

@@ -1,7 +1,7 @@
 ghost use Rattle.std.specs.Prelude.{◌≡◌, ◌⊎◌, Err, IfErr, IfOk, Ok};
 ghost use Rattle.toml.specs.Errors.{IsMemory};
 ghost use Rattle.toml.specs.View.{table_view};
-ghost use Rattle.keep_inventory.specs.Answers.{Gives};
+ghost use Rattle.keep_inventory.specs.Answers.{GivesOrInvFault};
 ghost use Rattle.keep_inventory.specs.declared.fault.InvFault.TheVariants.{NotToml, OutOfMemory};
 ghost use Rattle.keep_inventory.specs.Inventory.{intake_of, served_of, document_tree, read_inventory, read_known, read_served};
 ghost use Rattle.keep_inventory.specs.Languages.{full};
@@ -25,7 +25,7 @@ use toml::Table;
 /// The first fault in the order of [`InvFault`], or out of memory.
 #[tactic(auto, unfolding(crate::specs::Inventory::read_served))]
 pub fn read_served(alloc: Global, bytes: &[u8]) -> Result<Served, InvFault>
-    ensures { Gives (λ served. served) result (read_served bytes.now) }
+    ensures { GivesOrInvFault (λ served. served) result (read_served bytes.now) }
 {
     let table = read_tree(alloc, bytes)?;
     served_in(alloc, &table)
@@ -38,7 +38,7 @@ pub fn read_served(alloc: Global, bytes: &[u8]) -> Result<Served, InvFault>
 /// Those of [`read_served`]; then `MissingKey` with `issued`, of the first table that leaves its end to a lookup.
 #[tactic(auto, unfolding(crate::specs::Inventory::read_known))]
 pub fn read_known(alloc: Global, bytes: &[u8]) -> Result<Served, InvFault>
-    ensures { Gives (λ served. served) result (read_known bytes.now) }
+    ensures { GivesOrInvFault (λ served. served) result (read_known bytes.now) }
 {
     read_served(alloc, bytes)?.into_known()
 }
@@ -51,7 +51,7 @@ pub fn read_known(alloc: Global, bytes: &[u8]) -> Result<Served, InvFault>
 /// tell its end, and `BadValue` with `need` where that is `always`.
 #[tactic(auto, unfolding(crate::specs::Inventory::read_inventory))]
 pub fn read(alloc: Global, bytes: &[u8]) -> Result<Inventory, InvFault>
-    ensures { Gives (λ inventory. inventory) result (read_inventory bytes.now) }
+    ensures { GivesOrInvFault (λ inventory. inventory) result (read_inventory bytes.now) }
 {
     read_served(alloc, bytes)?.into_whole()
 }
@@ -59,7 +59,7 @@ pub fn read(alloc: Global, bytes: &[u8]) -> Result<Inventory, InvFault>
 // The tree of a document.
 #[tactic(auto, unfolding(crate::specs::Inventory::document_tree))]
 fn read_tree(alloc: Global, bytes: &[u8]) -> Result<Table, InvFault>
-    ensures { Gives table_view result (document_tree bytes.now) }
+    ensures { GivesOrInvFault table_view result (document_tree bytes.now) }
 {
     let Ok(text) = std::str::from_utf8(bytes) else {
         return Err(InvFault::NotToml);
@@ -82,7 +82,7 @@ fn judged(read: Result<Table, toml::de::Error>) -> Result<Table, InvFault>
 // What is served by a document's tree.
 #[tactic(auto, unfolding(crate::specs::Inventory::served_of))]
 fn served_in(alloc: Global, table: &Table) -> Result<Served, InvFault>
-    ensures { Gives (λ served. served) result (served_of full (table_view table.now)) }
+    ensures { GivesOrInvFault (λ served. served) result (served_of full (table_view table.now)) }
 {
     let draft = read_draft(alloc, table)?;
     Ok(Served::of(draft, is_there(table, Key::Margin)))
@@ -91,7 +91,7 @@ fn served_in(alloc: Global, table: &Table) -> Result<Served, InvFault>
 // The entries of a document's tree.
 #[tactic(auto, unfolding(crate::specs::Inventory::intake_of))]
 fn read_draft(alloc: Global, table: &Table) -> Result<Draft, InvFault>
-    ensures { Gives (λ intake. intake) result (intake_of full (table_view table.now)) }
+    ensures { GivesOrInvFault (λ intake. intake) result (intake_of full (table_view table.now)) }
 {
     only_top_keys(table)?;
     let system_max = span_at(table, None, Key::SystemMax, 1, SPAN_MAX)?.unwrap_or(SYSTEM_MAX);

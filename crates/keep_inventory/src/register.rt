@@ -18,13 +18,13 @@ pub struct Register {
 impl Model for Register {
     ghost use Rattle.std.specs.Prelude.{◌≡◌, List, ℕ};
     ghost use Rattle.keep_inventory.specs.Intake.{has_text};
-    ghost use Rattle.keep_inventory.specs.Found.{has};
+    ghost use Rattle.keep_inventory.specs.Found.{holds_text};
 
     ghost Value = { List (List ℕ) };
 
     ghost view = { λ r. r.texts.items };
 
-    ghost invariant = { λ r. (q : List ℕ) → has r.found q ≡ has_text r.texts.items q };
+    ghost invariant = { λ r. (q : List ℕ) → holds_text r.found q ≡ has_text r.texts.items q };
 }
 
 impl fmt::Debug for Register {

@@ -1,6 +1,6 @@
 ghost use Rattle.std.specs.Prelude.{◌≡◌, IfOk, option_map, option_copied, unwrap_or};
 ghost use Rattle.toml.specs.View.{table_view};
-ghost use Rattle.keep_inventory.specs.Answers.{Gives};
+ghost use Rattle.keep_inventory.specs.Answers.{GivesOrInvFault};
 ghost use Rattle.keep_inventory.specs.Languages.{full};
 ghost use Rattle.keep_inventory.specs.Needs.{is_for_good, until_of};
 ghost use Rattle.keep_inventory.specs.Rows.{file_at, index_or_none, life_of_table, step_or, token_terms, lease_terms, token_row, lease_row};
@@ -59,7 +59,7 @@ pub fn token_row(
     forest: &Forest,
     table: &Table,
 ) -> Result<Row, InvFault>
-    ensures { Gives (λ row. row) result (token_row full system_max forest.now (table_view table.now)) }
+    ensures { GivesOrInvFault (λ row. row) result (token_row full system_max forest.now (table_view table.now)) }
 {
     let index = forest.len();
     only_token_keys(table, index)?;
@@ -102,7 +102,7 @@ pub fn lease_row(
     forest: &Forest,
     table: &Table,
 ) -> Result<Row, InvFault>
-    ensures { Gives (λ row. row) result (lease_row full system_max forest.now (table_view table.now)) }
+    ensures { GivesOrInvFault (λ row. row) result (lease_row full system_max forest.now (table_view table.now)) }
 {
     let index = forest.len();
     only_lease_keys(table, index)?;
@@ -166,7 +166,7 @@ fn file_at(
     key: Key,
     has_credential: bool,
 ) -> Result<Option<&str>, InvFault>
-    ensures { Gives option_copied result (file_at index key has_credential (table_view table.now)) }
+    ensures { GivesOrInvFault option_copied result (file_at index key has_credential (table_view table.now)) }
 {
     let file = path_at(table, Some(index), key)?;
     alone_if(has_credential, index, key, file.is_some())?;

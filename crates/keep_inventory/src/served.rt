@@ -1,5 +1,4 @@
 ghost use Rattle.std.specs.Prelude.{◌≡◌, ◌<◌, length};
-ghost use Rattle.keep_inventory.specs.Answers.{Gives};
 ghost use Rattle.keep_inventory.specs.Intake.{inventory_of_intake};
 ghost use Rattle.keep_inventory.specs.Served.{IsServedInventory, first_open, first_untold, inventory_if_whole, open_fault, served_if_told};
 

@@ -5,7 +5,7 @@ ghost use Rattle.toml.specs.View.{view, table_view, items_view};
 ghost use Rattle.toml.specs.Data.{get_member, as_table};
 ghost use Rattle.toml.specs.Text.{are_tables};
 ghost use Rattle.keep_inventory.specs.Keys.{key_text};
-ghost use Rattle.keep_inventory.specs.Answers.{Gives};
+ghost use Rattle.keep_inventory.specs.Answers.{GivesOrInvFault};
 ghost use Rattle.keep_inventory.specs.Languages.{full};
 ghost use Rattle.keep_inventory.specs.Values.{whole, if_within, span, moment_value, end_value, is_always, need, flag_value, text, credential, is_credential, is_path, path, tables, is_key_there, value_at};
 
@@ -165,7 +165,7 @@ pub fn flag_at(table: &Table, place: Option<u32>, key: Key) -> Result<Option<boo
 
 /// The text at a key, if the key is there.
 pub fn text_at(table: &Table, place: Option<u32>, key: Key) -> Result<Option<&str>, InvFault>
-    ensures { Gives option_copied result (value_at text place key (table_view table.now)) }
+    ensures { GivesOrInvFault option_copied result (value_at text place key (table_view table.now)) }
 {
     let Some(value) = at(table, key) else {
         return Ok(None);
@@ -191,7 +191,7 @@ fn is_visible(text: &[u8]) -> bool
 
 /// The credential at a key, if the key is there.
 pub fn credential_at(table: &Table, place: Option<u32>, key: Key) -> Result<Option<&str>, InvFault>
-    ensures { Gives option_copied result (value_at credential place key (table_view table.now)) }
+    ensures { GivesOrInvFault option_copied result (value_at credential place key (table_view table.now)) }
 {
     let Some(value) = at(table, key) else {
         return Ok(None);
@@ -218,7 +218,7 @@ fn has_no_control(text: &[u8]) -> bool
 
 /// The path of a file at a key, if the key is there.
 pub fn path_at(table: &Table, place: Option<u32>, key: Key) -> Result<Option<&str>, InvFault>
-    ensures { Gives option_copied result (value_at path place key (table_view table.now)) }
+    ensures { GivesOrInvFault option_copied result (value_at path place key (table_view table.now)) }
 {
     let Some(value) = at(table, key) else {
         return Ok(None);
@@ -251,7 +251,7 @@ fn all_are_tables(values: &[Value]) -> bool
 
 /// The tables of the array at a key, none if the key is not there.
 pub fn tables_at(table: &Table, key: Key) -> Result<Option<&[Value]>, InvFault>
-    ensures { Gives (option_map (λ vs. items_view vs.now)) result (value_at tables None key (table_view table.now)) }
+    ensures { GivesOrInvFault (option_map (λ vs. items_view vs.now)) result (value_at tables None key (table_view table.now)) }
 {
     let Some(value) = at(table, key) else {
         return Ok(None);

@@ -2,6 +2,7 @@
 -- Source: this project's own.
 use Rattle.std.specs.Prelude.{◌≡◌, ℕ, ◌+◌, ◌-◌, ◌^◌, ◌≤◌, ◌<◌, ◌⊎◌, All, List, [], ◌∷◌, ◌++◌, Bool, false, not, nat_le, max, min, map, Option, Some, None, IfSome, if◌then◌else◌}
 use Rattle.std.specs.List.{filter}
+use Rattle.keep_device.specs.Moments.{earlier}
 use Rattle.keep_lanes.specs.declared.coming.Coming.{Coming}
 use Rattle.keep_lanes.specs.declared.lanes.Answered.{Answered}
 
@@ -36,11 +37,6 @@ IsParted (o ∷ os) answers left =
     ⊎ ((rest : List Out) × ((left ≡ o ∷ rest) × IsParted os answers rest))
 
 -- ---- where it is known what comes
-
--- the earlier of two moments, of which there may be one alone
-abbrev pub earlier : ℕ → Option ℕ → ℕ
-earlier n None = n
-earlier n (Some m) = min n m
 
 -- the moment at which the first answer is there
 abbrev pub sooner_at : Option Coming → Option ℕ → Option ℕ

@@ -1,6 +1,7 @@
 ghost use Rattle.std.specs.Prelude.{◌≡◌, ℕ, ◌-◌, ◌<◌, ◌≤◌, List, [], Option, IfOk, IfSome, OnErr, OnOk, length};
 ghost use Rattle.keep_exchange.specs.Requests.{IsShortRequest};
-ghost use Rattle.keep_lanes.specs.Out.{AreThere, AreThereAt, IsDueAfter, IsParted, Out, earlier, first_at};
+ghost use Rattle.keep_device.specs.Moments.{earlier};
+ghost use Rattle.keep_lanes.specs.Out.{AreThere, AreThereAt, IsDueAfter, IsParted, Out, first_at};
 ghost use Rattle.keep_lanes.specs.Serving.{BehindLanes, BrokerIsLeft, RequestIsSent};
 ghost use Rattle.vault_http.specs.RoundTripRequest.{IsWritable};
 

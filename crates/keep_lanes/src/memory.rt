@@ -1,7 +1,8 @@
 //! Lanes with a broker's table in memory.
 ghost use Rattle.std.specs.Prelude.{◌≡◌, ◌++◌, ◌∷◌, [], None, Some, IfOk, OnErr, OnOk, max, min, Ok, Err};
 ghost use Rattle.keep_exchange.specs.Requests.{IsShortRequest};
-ghost use Rattle.keep_lanes.specs.Out.{earlier, first_at, up_to};
+ghost use Rattle.keep_device.specs.Moments.{earlier};
+ghost use Rattle.keep_lanes.specs.Out.{first_at, up_to};
 ghost use Rattle.keep_lanes.specs.Serving.{AnswersFor, ComesOfRequest, IsTableLeft, RequestIsServed, lane_fault_at, later};
 ghost use Rattle.keep_lanes.specs.code.Seats.{outs};
 ghost use Rattle.vault_http.specs.RoundTripRequest.{IsWritable};

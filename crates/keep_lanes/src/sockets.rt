@@ -1,6 +1,7 @@
 //! Connections of the system, which tells by `mio` when they can go on.
 ghost use Rattle.std.specs.Prelude.{◌≡◌, [], IfOk, max, min};
-ghost use Rattle.keep_exchange.specs.Sockets.{IsHere, port_of};
+ghost use Rattle.keep_exchange.specs.Sockets.{port_of};
+ghost use Rattle.keep_device.specs.Places.{IsHere};
 
 use crate::lanes::Lanes;
 use crate::line::{Line, Wires};

@@ -1,10 +1,11 @@
 -- Forms: a line of the log as text for people, and as JSON.
 -- Source: docs/running.md, "What the operator sees"; RFC 8259, section 7, for the strings of JSON: of the ways that it leaves,
 -- the one in which all is ASCII.
-use Rattle.std.specs.Prelude.{◌≡◌, ℕ, ◌+◌, ◌/◌, ◌%◌, ◌==◌, ◌&&◌, ◌||◌, if◌then◌else◌, List, [], ◌∷◌, ◌++◌, flat_map, nat_le, nat_lt, chars, codes, decimal}
+use Rattle.std.specs.Prelude.{◌≡◌, ℕ, ◌+◌, ◌/◌, ◌%◌, ◌==◌, ◌&&◌, ◌||◌, if◌then◌else◌, List, [], ◌∷◌, ◌++◌, flat_map, nat_le, chars, codes, decimal}
 use Rattle.std.specs.Char.Escape.{encode_utf16}
 use Rattle.std.specs.Str.Lossy.{utf8_lossy}
 use Rattle.keep_moment.specs.Rfc3339.{IsDateText}
+use Rattle.keep_words.specs.Texts.{hex_digit}
 use Rattle.keep_log.specs.Lines.{level_mark, level_name}
 use Rattle.keep_log.specs.declared.level.Level.{Level}
 use Rattle.keep_log.specs.declared.line.Word.{Word}
@@ -30,10 +31,6 @@ IsLineText moment level event ws text =
     × (text ≡ date ++ 32 ∷ (level_mark level ++ (event ++ (said ++ 10 ∷ []))))
 
 -- ---- in JSON
-
--- a digit of base 16, in lower case
-abbrev pub hex_digit : ℕ → ℕ
-hex_digit n = if nat_lt n 10 then 48 + n else 87 + n
 
 -- a unit of UTF-16 as six characters: `\`, `u` and four hexadecimal digits
 abbrev pub six_characters : ℕ → List ℕ

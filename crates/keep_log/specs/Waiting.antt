@@ -28,7 +28,7 @@ dropping n w = record w { untold = counted_more w.untold n; dropped = counted_mo
 abbrev pub notice_due : List ℕ → Waiting → List ℕ
 notice_due notice w = if w.untold == 0 then [] else notice
 
--- a text is put behind what waits where there is room for all of it
+-- a text is put after what waits where there is room for all of it
 abbrev pub fits : List ℕ → Waiting → Bool
 fits text w = nat_le (length w.bytes + length text) w.room
 

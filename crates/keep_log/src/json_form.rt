@@ -1,5 +1,6 @@
 ghost use Rattle.std.specs.Prelude.{◌≡◌, ◌++◌, ◌<◌, IfOk, OnOk, chars, flat_map};
-ghost use Rattle.keep_log.specs.Forms.{IsLineJson, escaped, hex_digit, json_char, json_event, json_inside, json_list, json_more, json_tail, json_text, json_word, json_words, six_characters};
+ghost use Rattle.keep_words.specs.Texts.{hex_digit};
+ghost use Rattle.keep_log.specs.Forms.{IsLineJson, escaped, json_char, json_event, json_inside, json_list, json_more, json_tail, json_text, json_word, json_words, six_characters};
 
 use crate::line::{LogLine, Word};
 use crate::text_form::push_date;
@@ -162,6 +163,7 @@ fn push_unit(unit: u16, text: &mut Vec<u8>) -> Result<(), AllocError>
 }
 
 // A digit of base 16.
+#[tactic(auto, unfolding(keep_words::specs::Texts::hex_digit))]
 fn hex_digit(digit: u8) -> u8
     requires { digit < 16 }
     ensures { result ≡ hex_digit digit }

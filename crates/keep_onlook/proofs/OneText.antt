@@ -5,7 +5,7 @@ use Rattle.keep_agent.specs.declared.status.Condition.TheVariants.{Gone, Ended, 
 use Rattle.keep_moment.proofs.Moments.{one_date_text}
 use Rattle.keep_onlook.specs.Answers.{IsAnswer, IsBody, IsPage, IsShown, IsTold, OneAnswer, OneTold, health_code, sent_to}
 use Rattle.keep_onlook.specs.Health.{IsMissingLine, IsMissingLineIf, SaysWhyMoment, is_healthy, is_missing, missing_line}
-use Rattle.keep_onlook.specs.Lines.{AreLines, IsHealthIf, IsHealthText, IsLine, IsStandingText}
+use Rattle.keep_onlook.specs.Lines.{AreEntryLines, IsEntryLine, IsHealthIf, IsHealthText, IsStandingText}
 use Rattle.keep_onlook.specs.Points.{SaysPoint, point_at, point_of}
 use Rattle.keep_onlook.specs.Standing.{IsStandingLine, first_line, standing_line}
 use Rattle.keep_onlook.specs.declared.asked.Method.{Method}
@@ -50,11 +50,11 @@ one_missing_if : (is_missing : Bool) (row : Row) (line other : List ℕ) → IsM
 one_missing_if true row line other x y = one_missing row line other x y
 one_missing_if false row line other x y = x ∙ sym y
 
-one_line : (lines : Lines) (row : Row) (line other : List ℕ) → IsLine lines row line → IsLine lines row other → line ≡ other
+one_line : (lines : Lines) (row : Row) (line other : List ℕ) → IsEntryLine lines row line → IsEntryLine lines row other → line ≡ other
 one_line Standing row line other x y = one_standing row line other x y
 one_line (Missing now) row line other x y = one_missing_if (is_missing now row) row line other x y
 
-one_lines : (lines : Lines) (rows : List Row) (a b : List ℕ) → AreLines lines rows a → AreLines lines rows b → a ≡ b
+one_lines : (lines : Lines) (rows : List Row) (a b : List ℕ) → AreEntryLines lines rows a → AreEntryLines lines rows b → a ≡ b
 one_lines lines [] a b x y = x ∙ sym y
 one_lines lines (row ∷ rows) a b (line, rest, x, xs, is) (other, more, y, ys, js) =
     is ∙ ap (λ z. z ++ rest) (one_line lines row line other x y) ∙ ap (λ z. other ++ z) (one_lines lines rows rest more xs ys) ∙ sym js

@@ -1,6 +1,7 @@
 -- Escapes: texts within double quotes, in metrics and in JSON.
 -- Source: Prometheus, "Exposition formats", "Comments, help text, and type information"; OpenMetrics 1.0, "Escaping"; RFC 8259, section 7.
 use Rattle.std.specs.Prelude.{ℕ, ◌+◌, ◌/◌, ◌%◌, Bool, ◌||◌, ◌==◌, if◌then◌else◌, List, [], ◌∷◌, ◌++◌, codes, nat_lt}
+use Rattle.keep_words.specs.Texts.{hex_digit}
 
 -- a byte of a label's value: a backslash stands before a backslash and before a double quote, and a line feed is `\n`
 unfoldable pub label_byte : ℕ → List ℕ
@@ -9,10 +10,6 @@ label_byte b = if b == 92 || b == 34 then 92 ∷ b ∷ [] else (if b == 10 then 
 abbrev pub label_value : List ℕ → List ℕ
 label_value [] = []
 label_value (b ∷ bs) = label_byte b ++ label_value bs
-
--- a digit of base 16, in small letters
-unfoldable pub hex_digit : ℕ → ℕ
-hex_digit n = if nat_lt n 10 then 48 + n else 87 + n
 
 -- a byte of a string of JSON: a backslash stands before a backslash and before a double quote, and a control is `\u00` and its two digits
 unfoldable pub json_byte : ℕ → List ℕ

@@ -1,10 +1,9 @@
 -- Listing: how the agent and each entry stand, as one text of JSON.
 -- Source: RFC 8259; the members are this project's own. Moments are seconds since 1970-01-01T00:00:00Z.
 use Rattle.std.specs.Prelude.{ℕ, List, [], ◌∷◌, ◌++◌, Option, Some, None, codes, decimal}
-use Rattle.keep_tree.specs.declared.entry.Kind.{Kind}
-use Rattle.keep_tree.specs.declared.entry.Kind.TheVariants.{Token, Lease}
 use Rattle.keep_agent.specs.declared.standing.Trouble.{Trouble}
 use Rattle.keep_agent.specs.declared.standing.Trouble.TheVariants as troubles
+use Rattle.keep_inventory.specs.Kinds.{kind_word}
 use Rattle.keep_onlook.specs.declared.board.Board.{Board}
 use Rattle.keep_onlook.specs.declared.board.Row.{Row}
 use Rattle.keep_onlook.specs.declared.board.Surroundings.{Surroundings}
@@ -16,10 +15,6 @@ use Rattle.keep_onlook.specs.Metrics.{condition_word}
 abbrev pub number_or_null : Option ℕ → List ℕ
 number_or_null None = codes "null"
 number_or_null (Some n) = decimal n
-
-abbrev pub kind_word : Kind → List ℕ
-kind_word Token = codes "token"
-kind_word Lease = codes "lease"
 
 abbrev pub trouble_word : Option Trouble → List ℕ
 trouble_word None = codes "null"

@@ -15,12 +15,12 @@ wrong_word (Some Refused) = codes "refused"
 wrong_word (Some Gone) = codes "gone"
 
 -- its name and its state
-unfoldable pub front_text : Row → List ℕ
-front_text row = row.name ++ codes " " ++ condition_word row.condition
+unfoldable pub name_and_state_text : Row → List ℕ
+name_and_state_text row = row.name ++ codes " " ++ condition_word row.condition
 
 -- these texts of its moments, a word before each
-unfoldable pub moments_text : List ℕ → List ℕ → List ℕ → List ℕ → List ℕ
-moments_text until needed reached renewed =
+unfoldable pub labelled_moments_text : List ℕ → List ℕ → List ℕ → List ℕ → List ℕ
+labelled_moments_text until needed reached renewed =
     (codes " end " ++ until) ++ (codes " need " ++ needed) ++ (codes " in-force " ++ reached) ++ (codes " last-success " ++ renewed)
 
 -- what is wrong with it, and the end of the line
@@ -29,7 +29,7 @@ wrong_text row = codes " wrong " ++ wrong_word row.trouble ++ codes "\n"
 
 -- the line of an entry, of whose four moments these are the texts
 unfoldable pub standing_line : Row → List ℕ → List ℕ → List ℕ → List ℕ → List ℕ
-standing_line row until needed reached renewed = front_text row ++ moments_text until needed reached renewed ++ wrong_text row
+standing_line row until needed reached renewed = name_and_state_text row ++ labelled_moments_text until needed reached renewed ++ wrong_text row
 
 abbrev pub IsStandingLine : Row → List ℕ → Type 0
 IsStandingLine row line =
@@ -38,9 +38,9 @@ IsStandingLine row line =
     × (line ≡ standing_line row until needed reached renewed)
 
 -- how often everything was looked up, and the margin
-unfoldable pub counts_text : ℕ → ℕ → List ℕ
-counts_text beginnings margin = (codes " beginnings " ++ decimal beginnings) ++ (codes " margin " ++ decimal margin) ++ codes "\n"
+unfoldable pub beginnings_and_margin_text : ℕ → ℕ → List ℕ
+beginnings_and_margin_text beginnings margin = (codes " beginnings " ++ decimal beginnings) ++ (codes " margin " ++ decimal margin) ++ codes "\n"
 
 -- the first line, where this is the text of the next wake-up
 unfoldable pub first_line : Board → List ℕ → List ℕ
-first_line b next = codes "next-wake " ++ next ++ counts_text b.beginnings b.margin
+first_line b next = codes "next-wake " ++ next ++ beginnings_and_margin_text b.beginnings b.margin

@@ -1,6 +1,7 @@
 //! Texts within double quotes.
 ghost use Rattle.std.specs.Prelude.{◌≡◌, ◌++◌, ◌<◌, OnOk};
-ghost use Rattle.keep_onlook.specs.Escapes.{hex_digit, json_byte, json_value, label_byte, label_value};
+ghost use Rattle.keep_words.specs.Texts.{hex_digit};
+ghost use Rattle.keep_onlook.specs.Escapes.{json_byte, json_value, label_byte, label_value};
 
 use std::alloc::AllocError;
 
@@ -58,7 +59,7 @@ fn push_json_byte(byte: u8, text: &mut Vec<u8>) -> Result<(), AllocError>
 }
 
 /// A digit of base 16.
-#[tactic(auto, unfolding(crate::specs::Escapes::hex_digit))]
+#[tactic(auto, unfolding(keep_words::specs::Texts::hex_digit))]
 fn hex_digit(value: u8) -> u8
     requires { value < 16 }
     ensures { result ≡ hex_digit value }

@@ -1,6 +1,6 @@
 //! The status and health as lines for people.
 ghost use Rattle.std.specs.Prelude.{◌≡◌, ◌++◌, List, ℕ, IfOk, OnOk};
-ghost use Rattle.keep_onlook.specs.Lines.{AreLines, IsHealthText, IsLine, IsStandingText};
+ghost use Rattle.keep_onlook.specs.Lines.{AreEntryLines, IsEntryLine, IsHealthText, IsStandingText};
 
 use crate::board::{Board, Row};
 use crate::health::{is_healthy, push_missing};
@@ -49,7 +49,7 @@ fn push_lines(
     rows: &[Row],
     text: &mut Vec<u8>,
 ) -> Result<(), AllocError>
-    ensures { OnOk result ((said : List ℕ) × AreLines lines rows.now said × (text.new.items ≡ text.old.items ++ said)) }
+    ensures { OnOk result ((said : List ℕ) × AreEntryLines lines rows.now said × (text.new.items ≡ text.old.items ++ said)) }
 {
     for row in rows {
         push_line(alloc, lines, row, text)?;
@@ -59,7 +59,7 @@ fn push_lines(
 
 /// Appends what is written of an entry.
 fn push_line(alloc: Global, lines: Lines, row: &Row, text: &mut Vec<u8>) -> Result<(), AllocError>
-    ensures { OnOk result ((line : List ℕ) × IsLine lines row.now line × (text.new.items ≡ text.old.items ++ line)) }
+    ensures { OnOk result ((line : List ℕ) × IsEntryLine lines row.now line × (text.new.items ≡ text.old.items ++ line)) }
 {
     match lines {
         Lines::Standing => push_standing(alloc, row, text),

@@ -1,6 +1,7 @@
 //! The status as JSON.
 ghost use Rattle.std.specs.Prelude.{◌≡◌, ◌++◌, IfOk, OnOk};
-ghost use Rattle.keep_onlook.specs.Listing.{board_row_text, entries_name, front_text, kind_word, listing_text, member_name, member_text, moments_text, more_rows, number_or_null, renewals_text, rows_text, trouble_word, words_text};
+ghost use Rattle.keep_inventory.specs.Kinds.{kind_word};
+ghost use Rattle.keep_onlook.specs.Listing.{board_row_text, entries_name, front_text, listing_text, member_name, member_text, moments_text, more_rows, number_or_null, renewals_text, rows_text, trouble_word, words_text};
 
 use crate::board::{Board, Row};
 use crate::entry_metrics::condition_word;

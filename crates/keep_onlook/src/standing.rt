@@ -1,6 +1,6 @@
 //! How the agent and each of its entries stand, as lines for people.
 ghost use Rattle.std.specs.Prelude.{◌≡◌, ◌++◌, List, ℕ, IfOk, OnOk, decimal};
-ghost use Rattle.keep_onlook.specs.Standing.{IsStandingLine, counts_text, first_line, front_text, moments_text, standing_line, wrong_text, wrong_word};
+ghost use Rattle.keep_onlook.specs.Standing.{IsStandingLine, beginnings_and_margin_text, first_line, labelled_moments_text, name_and_state_text, standing_line, wrong_text, wrong_word};
 
 use crate::board::{Board, Row};
 use crate::entry_metrics::condition_word;
@@ -23,14 +23,14 @@ pub(crate) fn first_line(alloc: Global, board: &Board, next: &[u8]) -> Result<Ve
 }
 
 /// Appends how often everything was looked up, and the margin.
-#[tactic(auto, unfolding(crate::specs::Standing::counts_text))]
+#[tactic(auto, unfolding(crate::specs::Standing::beginnings_and_margin_text))]
 fn push_counts(
     alloc: Global,
     beginnings: u64,
     margin: u64,
     line: &mut Vec<u8>,
 ) -> Result<(), AllocError>
-    ensures { OnOk result (line.new.items ≡ line.old.items ++ counts_text beginnings margin) }
+    ensures { OnOk result (line.new.items ≡ line.old.items ++ beginnings_and_margin_text beginnings margin) }
 {
     push_count(alloc, b" beginnings ", beginnings, line)?;
     push_count(alloc, b" margin ", margin, line)?;
@@ -81,9 +81,9 @@ fn push_line(
 }
 
 /// Appends the name and the state of an entry.
-#[tactic(auto, unfolding(crate::specs::Standing::front_text))]
+#[tactic(auto, unfolding(crate::specs::Standing::name_and_state_text))]
 fn push_front(row: &Row, text: &mut Vec<u8>) -> Result<(), AllocError>
-    ensures { OnOk result (text.new.items ≡ text.old.items ++ front_text row.now) }
+    ensures { OnOk result (text.new.items ≡ text.old.items ++ name_and_state_text row.now) }
 {
     text.extend_from_slice(row.name.list())?;
     text.extend_from_slice(b" ")?;
@@ -91,7 +91,7 @@ fn push_front(row: &Row, text: &mut Vec<u8>) -> Result<(), AllocError>
 }
 
 /// Appends the texts of its moments, a word before each.
-#[tactic(auto, unfolding(crate::specs::Standing::moments_text))]
+#[tactic(auto, unfolding(crate::specs::Standing::labelled_moments_text))]
 fn push_moments(
     until: &[u8],
     needed: &[u8],
@@ -99,7 +99,7 @@ fn push_moments(
     renewed: &[u8],
     text: &mut Vec<u8>,
 ) -> Result<(), AllocError>
-    ensures { OnOk result (text.new.items ≡ text.old.items ++ moments_text until.now needed.now reached.now renewed.now) }
+    ensures { OnOk result (text.new.items ≡ text.old.items ++ labelled_moments_text until.now needed.now reached.now renewed.now) }
 {
     push_member(b" end ", until, text)?;
     push_member(b" need ", needed, text)?;

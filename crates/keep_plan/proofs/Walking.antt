@@ -40,7 +40,7 @@ wakes_step r step is =
       | inr other ↦ ap (λ d. wakes_of (r.first + r.step) d (r.count - 1) r.entry r.needed) (sym (is ∙ cond-false (r.count == 2) 0 r.step other))
     ]
 
--- what is behind the first wake-up of a run, where it has others
+-- what comes after the first wake-up of a run, where it has others
 behind_more : (r : Run) → r.count == 1 ≡ false → behind_first r ≡ Some (record r { first = r.first + r.step; step = cond (r.count == 2) 0 r.step; count = r.count - 1 })
 behind_more r more = cond-false (r.count == 1) None (Some (record r { first = r.first + r.step; step = cond (r.count == 2) 0 r.step; count = r.count - 1 })) more
 

@@ -8,7 +8,7 @@ use Rattle.std.specs.List.{count_by}
 use Rattle.keep_device.specs.Seen.{Change, Seen, change}
 use Rattle.keep_core.specs.State.{CoreState}
 use Rattle.keep_exchange.specs.Exchanges.{Behind}
-use Rattle.keep_inventory.specs.Answers.{Fails}
+use Rattle.keep_inventory.specs.Answers.{FailsWithInvFault}
 use Rattle.keep_inventory.specs.declared.fault.InvFault.{InvFault}
 use Rattle.keep_inventory.specs.declared.fault.InvFault.TheVariants as faults
 use Rattle.keep_inventory.specs.Inventory.{read_served}
@@ -53,11 +53,11 @@ few_lines read lines behind parts =
 module _ (port : ℕ) (bytes : List ℕ) (start : ℕ) (before : Option Behind) where
   -- the bytes are no inventory, or memory was wanting
   pub read_lives :
-      (result : Result (Unit {0}) Stop) (fault : InvFault) (j : Bool) (x : Seen) (k : Bool) (a : Seen) → IsErr result × IsErrAnd result (λ (q : Stop). q ≡ stop_of_inventory fault) → Fails fault (read_served bytes) →
+      (result : Result (Unit {0}) Stop) (fault : InvFault) (j : Bool) (x : Seen) (k : Bool) (a : Seen) → IsErr result × IsErrAnd result (λ (q : Stop). q ≡ stop_of_inventory fault) → FailsWithInvFault fault (read_served bytes) →
       LivesTo port bytes start before result (change j x x) (change k a a) before
   read_lives (Ok u) fault j x k a is fails = absurd (let no = is.0 in cc)
   read_lives (Err stop) fault j x k a is fails = subst (λ (q : Stop). LivesTo port bytes start before (Err q) (change j x x) (change k a a) before) (sym is.1) (by_fault fault fails) where
-    by_fault : (e : InvFault) → Fails e (read_served bytes) → LivesTo port bytes start before (Err (stop_of_inventory e)) (change j x x) (change k a a) before
+    by_fault : (e : InvFault) → FailsWithInvFault e (read_served bytes) → LivesTo port bytes start before (Err (stop_of_inventory e)) (change j x x) (change k a a) before
     by_fault faults.OutOfMemory h = inl (refl, refl, refl)
     by_fault faults.NotToml h = (h, refl, refl, refl)
     by_fault (faults.MissingKey i key) h = (h, refl, refl, refl)

@@ -27,7 +27,7 @@ use Rattle.keep_core.specs.Step.{StepTick}
 use Rattle.keep_core.proofs.Once.{once}
 use Rattle.keep_core.proofs.Standing.{best_first, best_from, kept_plan, someone, tick}
 use Rattle.keep_run.specs.Closed.{AreAnswered, Beat, Exchanged, IsBeat, Played, World, asked_by_output, asks_some, next_by, next_tick, request_count, rounds, shorts_taken}
-use Rattle.keep_run.specs.Laws.{IsQuiet, IsToldByRule}
+use Rattle.keep_run.specs.Laws.{IsQuietBeat, IsToldByRule}
 use Rattle.keep_run.proofs.Asking.{asks_on}
 use Rattle.keep_run.proofs.Midway.{midway_first, settled, waiting}
 use Rattle.keep_run.proofs.Round.{AtRest, InRound, round_goes}
@@ -91,7 +91,7 @@ pub record BeatDone (inventory : Inventory) (g : Forest) (ts : List ℕ) (b : Be
   pub awaits : Awaits b.at rest (next_tick b)
   pub moments : ts ≡ map (λ (c : Beat). c.at) (rounds (b ∷ [])) ++ rest
   pub requests : requests_from g b.at ts ≡ length b.answers + requests_from rests.g b.at rest
-  pub quiet : IsQuiet inventory b
+  pub quiet : IsQuietBeat inventory b
 
 -- the same side by side, after an equation
 moved : (inventory : Inventory) (w v : World) (t : ℕ) (ts : List ℕ) → AtRest inventory w t ts → v ≡ w → AtRest inventory v t ts
@@ -323,7 +323,7 @@ pub record RunDone (inventory : Inventory) (g : Forest) (t : ℕ) (ts : List ℕ
   pub awaits : Awaits last rest next
   pub moments : ts ≡ map (λ (c : Beat). c.at) (rounds beats) ++ rest
   pub requests : requests_from g t ts ≡ request_count beats + requests_from rests.g last rest
-  pub quiet : All (IsQuiet inventory) beats
+  pub quiet : All (IsQuietBeat inventory) beats
   pub bound : (m : ℕ) → t ≤ m → All (λ (c : Beat). c.at ≤ m) beats → last ≤ m
 
 more_moments : (b : Beat) (bs : List Beat) (rest : List ℕ) → map (λ (c : Beat). c.at) (rounds (b ∷ [])) ++ (map (λ (c : Beat). c.at) (rounds bs) ++ rest) ≡ map (λ (c : Beat). c.at) (rounds (b ∷ bs)) ++ rest
@@ -359,7 +359,7 @@ run_goes inventory port [] w final t ts r due next awaits played = record {
   awaits = subst (Awaits t ts) (sym played.1) awaits;
   moments = no_moments ts;
   requests = no_requests (requests_from r.g t ts);
-  quiet = All-nil (IsQuiet inventory);
+  quiet = All-nil (IsQuietBeat inventory);
   bound = λ m from all. from;
 }
 run_goes inventory port (b ∷ bs) w final t ts r None next awaits played = absurd played
@@ -377,6 +377,6 @@ run_goes inventory port (b ∷ bs) w final t ts r (Some u) next awaits played =
       awaits = more.awaits;
       moments = one.moments ∙ ap (λ xs. map (λ (c : Beat). c.at) (rounds (b ∷ [])) ++ xs) more.moments ∙ more_moments b bs more.rest;
       requests = (let a = ap requests earlier in let c = one.requests in let d = more.requests in let e = more_requests b bs in omega arith);
-      quiet = All-cons (IsQuiet inventory) b bs one.quiet more.quiet;
+      quiet = All-cons (IsQuietBeat inventory) b bs one.quiet more.quiet;
       bound = λ m from all. more.bound m (All-head (λ (c : Beat). c.at ≤ m) b bs all) (All-tail (λ (c : Beat). c.at ≤ m) b bs all);
     }

@@ -43,7 +43,7 @@ pub record IsToldByRule (inventory : Inventory) (t : ℕ) (x : Exchanged) : Type
   pub by_rule : t + seconds ≡ renewal (entry_at inventory.forest.entries x.entry) t
   pub short : x.short ≡ []
 
-pub record IsQuiet (inventory : Inventory) (b : Beat) : Type 0 where
+pub record IsQuietBeat (inventory : Inventory) (b : Beat) : Type 0 where
   pub short : b.short ≡ []
   pub told : All (IsToldByRule inventory b.at) b.answers
 
@@ -56,7 +56,7 @@ pub record GoesAsPlanned (inventory : Inventory) (start : ℕ) (ts : List ℕ) (
   pub moments : ts ≡ map (λ b. b.at) (rounds beats) ++ rest
   pub ended : next ≡ None → rest ≡ []
   pub asked : next ≡ None → request_count beats ≡ requests (with_asks inventory.forest.entries inventory.forest.margin start (end_of inventory.forest.entries) ts)
-  pub quiet : All (IsQuiet inventory) beats
+  pub quiet : All (IsQuietBeat inventory) beats
   pub taken : (t : ℕ) (result : Result Output StepFault) (new : CoreState) → next ≡ Some t → CoreTurn final.keeper (Tick t) result new → StepIsTaken result
   pub behind : Behind
   pub known : final.behind ≡ Some behind
@@ -78,7 +78,7 @@ RehearsalLaw =
     (course : RunCourse) (final : World) → IsClosedRun inventory [] start course final →
     (map (λ b. b.at) (rounds course.beats) ≡ ts)
     × ((request_count course.beats ≡ requests (with_asks inventory.forest.entries inventory.forest.margin start (end_of inventory.forest.entries) ts))
-    × ((course.short ≡ []) × All (IsQuiet inventory) course.beats))
+    × ((course.short ≡ []) × All (IsQuietBeat inventory) course.beats))
 
 -- of any inventory: the opening shortens the needs that no plan keeps; the rounds are at the moments of the least and latest
 -- plan for the forest that has the needs then in force, and no plan that keeps it has fewer wake-ups than the rehearsal made

@@ -18,7 +18,7 @@ use Rattle.keep_report.specs.declared.exit.Exit.TheVariants as exits
 use Rattle.keep_report.specs.Sent.{IsAll}
 use Rattle.keep_run.specs.declared.rehearse.playing.TheConstants.{MOST_WAKES}
 use Rattle.keep_run.specs.Closed.{IsClosedRun, RunCourse, World, rounds}
-use Rattle.keep_run.specs.Laws.{IsQuiet}
+use Rattle.keep_run.specs.Laws.{IsQuietBeat}
 use Rattle.keep_run.specs.Rehearse.{RehearseRun}
 use Rattle.keep_run.specs.Text.{beat_text, done_text}
 
@@ -29,7 +29,7 @@ pub record IsPlannedRun (inventory : Inventory) (start : ℕ) (p : Planned) (out
   pub final : World
   pub run : IsClosedRun inventory [] start course final
   pub moments : map (λ b. b.at) (rounds course.beats) ≡ moments_of (to_come p)
-  pub quiet : All (IsQuiet inventory) course.beats
+  pub quiet : All (IsQuietBeat inventory) course.beats
   pub sent : IsAll (flat_map (beat_text inventory) course.beats
       ++ done_text (length (to_come p)) (requests (with_asks inventory.forest.entries inventory.forest.margin start (end_of inventory.forest.entries) (moments_of (to_come p))))) out
   pub left : final.behind ≡ Some new

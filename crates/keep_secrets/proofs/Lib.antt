@@ -1,4 +1,3 @@
-pub mod Stripped
 pub mod Passing
 pub mod Placing
 pub mod Staying

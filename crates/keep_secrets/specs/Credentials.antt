@@ -1,9 +1,8 @@
 -- Credentials: where a file of a credential is, and what its text holds.
 -- Source: docs/inventory.md, "Secrets in files".
-use Rattle.std.specs.Prelude.{ℕ, ◌-◌, ◌==◌, Bool, true, false, if◌then◌else◌, List, [], ◌∷◌, ◌++◌, Option, Some, None, length, take, drop}
-use Rattle.std.specs.List.{prefix_len, suffix_len}
-use Rattle.std.specs.Char.{is_ascii_whitespace}
+use Rattle.std.specs.Prelude.{ℕ, ◌==◌, Bool, true, false, if◌then◌else◌, List, [], ◌∷◌, ◌++◌, Option, Some, None}
 use Rattle.keep_inventory.specs.Values.{is_credential}
+use Rattle.keep_words.specs.Texts.{stripped}
 
 -- the path of a file: one that does not begin with `/` (47) starts at a folder, whose own path ends in one, or is empty
 abbrev pub is_absolute : List ℕ → Bool
@@ -12,10 +11,6 @@ is_absolute (b ∷ path) = b == 47
 
 abbrev pub placed : List ℕ → List ℕ → List ℕ
 placed folder path = if is_absolute path then path else folder ++ path
-
--- a text without the white space around it
-abbrev pub stripped : List ℕ → List ℕ
-stripped text = let rest = drop (prefix_len is_ascii_whitespace text) text in take (length rest - suffix_len is_ascii_whitespace rest) rest
 
 -- the credential that it is then, where it is one
 abbrev pub credential_in : List ℕ → Option (List ℕ)

@@ -32,9 +32,9 @@ abbrev pub is_held : List Secret → List ℕ → List ℕ → Bool
 is_held secrets name file = is_some (taken_from secrets name file)
 
 -- it is to be read: it never was, or has another stamp, or its time has come; or nothing of it is held though nothing was wrong
-abbrev pub is_due : Option FileSeen → Bool → Option FileStamp → ℕ → Bool
-is_due None is_held stamp now = true
-is_due (Some seen) is_held stamp now = not (is_same_found seen.stamp stamp) || (nat_le seen.again now || (is_none seen.trouble && not is_held))
+abbrev pub is_to_be_read : Option FileSeen → Bool → Option FileStamp → ℕ → Bool
+is_to_be_read None is_held stamp now = true
+is_to_be_read (Some seen) is_held stamp now = not (is_same_found seen.stamp stamp) || (nat_le seen.again now || (is_none seen.trouble && not is_held))
 
 -- the mark in the place of the one of its file, or as the last
 abbrev pub with_mark_at : FileMark → List FileMark → Option ℕ → List FileMark
@@ -63,10 +63,10 @@ module _ {I : Type 0} (calls : I → Option (List FileCall)) (marks : List FileM
   IsLookedAt file stamp old new = Made (Stamped (placed folder file) stamp) (calls old) (calls new)
 
   abbrev pub is_due_of : Row → List ℕ → Option FileStamp → Bool
-  is_due_of row file stamp = is_due (seen_of marks row.name file) (is_held secrets row.name file) stamp now
+  is_due_of row file stamp = is_to_be_read (seen_of marks row.name file) (is_held secrets row.name file) stamp now
 
   -- it is as it was; or it is to be read
-  pub record IsSame (row : Row) (left : ℕ) (old new : I) : Type 0 where
+  pub record IsFileUnchanged (row : Row) (left : ℕ) (old new : I) : Type 0 where
     pub file : List ℕ
     pub named : row.file ≡ Some file
     pub more : left ≢ 0
@@ -86,22 +86,22 @@ module _ {I : Type 0} (calls : I → Option (List FileCall)) (marks : List FileM
   -- the row at a place, where so many more files may be looked at
   abbrev pub Steps : ℕ → Row → ℕ → I → Step → I → Type 0
   Steps i row left old Bare new = (row.file ≡ None) × (new ≡ old)
-  Steps i row left old Same new = IsSame row left old new
+  Steps i row left old Same new = IsFileUnchanged row left old new
   Steps i row left old (Ends End) new = ⊥
   Steps i row left old (Ends (Later at)) new = (at ≡ i) × ((left ≡ 0) × (new ≡ old))
   Steps i row left old (Ends (Due due)) new = IsDue i row left old due new
   Steps i row left old (Ends Want) new = (new ≡ old) ⊎ ((file : List ℕ) × ((stamp : Option FileStamp) × ((row.file ≡ Some file) × ((left ≢ 0) × IsLookedAt file stamp old new))))
 
   -- the rows after it follow, unless the pass ends there for now
-  abbrev pub PassesBy : Step → (ℕ → I → Pass → I → Type 0) → ℕ → I → Pass → I → Type 0
-  PassesBy Bare Follow left old pass new = Follow left old pass new
-  PassesBy Same Follow left old pass new = Follow (left - 1) old pass new
-  PassesBy (Ends end) Follow left old pass new = (pass ≡ end) × (new ≡ old)
+  abbrev pub PassesByStep : Step → (ℕ → I → Pass → I → Type 0) → ℕ → I → Pass → I → Type 0
+  PassesByStep Bare Follow left old pass new = Follow left old pass new
+  PassesByStep Same Follow left old pass new = Follow (left - 1) old pass new
+  PassesByStep (Ends end) Follow left old pass new = (pass ≡ end) × (new ≡ old)
 
   -- the rows from that place on
   abbrev pub Passes : ℕ → List Row → ℕ → I → Pass → I → Type 0
   Passes i [] left old pass new = (pass ≡ End) × (new ≡ old)
-  Passes i (row ∷ rows) left old pass new = (step : Step) × ((mid : I) × (Steps i row left old step mid × PassesBy step (Passes (i + 1) rows) left mid pass new))
+  Passes i (row ∷ rows) left old pass new = (step : Step) × ((mid : I) × (Steps i row left old step mid × PassesByStep step (Passes (i + 1) rows) left mid pass new))
 
 -- ---- from pass to pass
 

@@ -84,13 +84,13 @@ abbrev pub has_it : List Secret → List ℕ → List ℕ → List ℕ → Bool
 has_it secrets name file credential = is_credential_of credential (taken_from secrets name file)
 
 -- an entry is there, and its credential stands in that file
-abbrev pub is_file : Option (List ℕ) → List ℕ → Bool
-is_file None file = false
-is_file (Some own) file = bytes_eq own file
+abbrev pub is_own_file : Option (List ℕ) → List ℕ → Bool
+is_own_file None file = false
+is_own_file (Some own) file = bytes_eq own file
 
 abbrev pub names_file : Option Row → List ℕ → Bool
 names_file None file = false
-names_file (Some row) file = is_file row.file file
+names_file (Some row) file = is_own_file row.file file
 
 -- what is held of another entry stays, where that still names the file
 abbrev pub stays : List Row → List ℕ → Secret → Bool
@@ -120,12 +120,12 @@ abbrev pub pause_in : Option FileSeen → ℕ
 pause_in None = 0
 pause_in (Some seen) = seen.pause
 
-abbrev pub doubled : ℕ → ℕ
-doubled pause = if nat_lt pause 150000 then pause * 2 else LONGEST_PAUSE
+abbrev pub doubled_pause : ℕ → ℕ
+doubled_pause pause = if nat_lt pause 150000 then pause * 2 else LONGEST_PAUSE
 
 -- after two seconds, and then each time after twice as long, and after five minutes at most
 abbrev pub pause_after : Option FileSeen → Option FileStamp → ℕ
-pause_after before stamp = if is_troubled_still before stamp then doubled (pause_in before) else LOOK_EVERY
+pause_after before stamp = if is_troubled_still before stamp then doubled_pause (pause_in before) else LOOK_EVERY
 
 abbrev pub seen_after : Option FileSeen → Option FileStamp → ℕ → Became → FileSeen
 seen_after before stamp now Taken = record { stamp = stamp; trouble = None; pause = LOOK_EVERY; again = again_after before stamp now }

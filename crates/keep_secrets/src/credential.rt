@@ -3,7 +3,8 @@ ghost use Rattle.std.specs.Prelude.{◌≡◌, IfOk};
 ghost use Rattle.std.specs.List.{list_all};
 ghost use Rattle.std.specs.Int.{is_in_range};
 ghost use Rattle.keep_inventory.specs.Values.{is_credential};
-ghost use Rattle.keep_secrets.specs.Credentials.{credential_in, stripped};
+ghost use Rattle.keep_words.specs.Texts.{stripped};
+ghost use Rattle.keep_secrets.specs.Credentials.{credential_in};
 
 use keep_inventory::CREDENTIAL_MAX;
 use keep_moment::Text;

@@ -3,7 +3,7 @@ ghost use Rattle.std.specs.Prelude.{◌≡◌, IfOk, drop, option_map};
 ghost use Rattle.std.specs.List.{position};
 ghost use Rattle.keep_store.specs.Handed.{is_of, taken_from};
 ghost use Rattle.keep_secrets.specs.Credentials.{placed};
-ghost use Rattle.keep_secrets.specs.Looking.{IsBegun, IsDueFile, IsPassed, MaySet, Passes, Steps, is_due, is_held, is_mark_of, seen_of};
+ghost use Rattle.keep_secrets.specs.Looking.{IsBegun, IsDueFile, IsPassed, MaySet, Passes, Steps, is_held, is_mark_of, is_to_be_read, seen_of};
 
 use crate::place::placed;
 use crate::secret_files::{FileStamp, SecretFiles, is_same_found};
@@ -262,7 +262,7 @@ fn is_of(name: &[u8], file: &[u8], secret: &Secret) -> bool
 
 // Whether a file is to be read, by what was seen of it.
 fn is_due(seen: Option<FileSeen>, is_held: bool, stamp: Option<FileStamp>, now: u64) -> bool
-    ensures { result ≡ is_due seen is_held stamp now }
+    ensures { result ≡ is_to_be_read seen is_held stamp now }
 {
     match seen {
         None => true,

@@ -2,7 +2,7 @@
 ghost use Rattle.std.specs.Prelude.{◌≡◌, IfOk, OnErr};
 ghost use Rattle.std.specs.List.{filter};
 ghost use Rattle.keep_change.specs.Rows.{named};
-ghost use Rattle.keep_secrets.specs.Outcomes.{IsNoted, MayRead, ReadsFile, again_after, doubled, has_it, names_file, news_about, news_of, pause_after, secret_of, secrets_with, seen_after, stays, trouble_number, was_told};
+ghost use Rattle.keep_secrets.specs.Outcomes.{IsNoted, MayRead, ReadsFile, again_after, doubled_pause, has_it, names_file, news_about, news_of, pause_after, secret_of, secrets_with, seen_after, stays, trouble_number, was_told};
 
 use crate::credential::{MOST_SECRET, credential_in};
 use crate::looking::{
@@ -184,7 +184,7 @@ fn pause_after(before: Option<FileSeen>, stamp: Option<FileStamp>) -> u64
 
 // Twice as long, and no longer than the longest pause.
 fn doubled(pause: u64) -> u64
-    ensures { result ≡ doubled pause }
+    ensures { result ≡ doubled_pause pause }
 {
     if pause < LONGEST_PAUSE / 2 {
         pause * 2

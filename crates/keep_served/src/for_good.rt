@@ -1,7 +1,7 @@
 //! What a watch reads: the inventory in which a need that is `always` lasts to the last moment.
 ghost use Rattle.std.specs.Prelude.{◌≡◌, ◌<◌, IfOk, length};
 ghost use Rattle.keep_tree.specs.Forest.{entry_at};
-ghost use Rattle.keep_inventory.specs.Answers.{Gives};
+ghost use Rattle.keep_inventory.specs.Answers.{GivesOrInvFault};
 ghost use Rattle.keep_served.specs.ForGood.{inventory_for_good, inventory_with_needs, marks, need_for_good, needs_for_good, served_for_good};
 
 use keep_inventory::{InvFault, Inventory, Note, Served, read_served};
@@ -18,7 +18,7 @@ use std::alloc::{AllocError, Global};
 /// Those of [`read_served`].
 #[tactic(auto, unfolding(crate::specs::ForGood::inventory_for_good))]
 pub fn read_for_good(alloc: Global, bytes: &[u8]) -> Result<Inventory, InvFault>
-    ensures { Gives (λ inventory. inventory) result (inventory_for_good bytes.now) }
+    ensures { GivesOrInvFault (λ inventory. inventory) result (inventory_for_good bytes.now) }
 {
     let served = read_served(alloc, bytes)?;
     Ok(served_for_good(alloc, served)?)

@@ -4,7 +4,7 @@ use Rattle.std.proofs.lemmas.List.{length-append}
 use Rattle.keep_agent.specs.Agent.{Agent}
 use Rattle.keep_agent.specs.Turns.{inventory_after}
 use Rattle.keep_asking.specs.Handing.{AreHandedIn, out_of}
-use Rattle.keep_asking.specs.InStep.{AreOut, entries_of, entries_out, times}
+use Rattle.keep_asking.specs.InStep.{AreOut, entries_answered, entries_out, times}
 use Rattle.keep_asking.specs.Told.{event_as}
 use Rattle.keep_asking.proofs.AnswersOut.{are_over, out_within, some_out}
 use Rattle.keep_asking.proofs.InStep.{parted_count, parted_times, sent_all}
@@ -26,7 +26,7 @@ unsent_append : (xs ys : List Request) → entries_unsent (xs ++ ys) ≡ entries
 unsent_append [] ys = refl
 unsent_append (x ∷ xs) ys = ap (λ ns. x.entry ∷ ns) (unsent_append xs ys)
 
-answers_append : (xs ys : List Answered) → entries_of (xs ++ ys) ≡ entries_of xs ++ entries_of ys
+answers_append : (xs ys : List Answered) → entries_answered (xs ++ ys) ≡ entries_answered xs ++ entries_answered ys
 answers_append [] ys = refl
 answers_append (x ∷ xs) ys = ap (λ ns. x.index ∷ ns) (answers_append xs ys)
 
@@ -91,7 +91,7 @@ in_step_come now width old new h step =
       each = λ i.
           (let before = step.each i in
           let here = parted_times old.lanes.out new.held.pending new.lanes.out h.parted i in
-          let nothing = ap (λ xs. times i (entries_of xs)) h.none in
+          let nothing = ap (λ xs. times i (entries_answered xs)) h.none in
           omega (arith, before, here, nothing));
     } in
     subst (IsInStep width new.lanes.out) (sym h.held) held
@@ -123,7 +123,7 @@ handed_all (a ∷ rest) old new h =
 pub taken_out : (width : ℕ) (out : List lanes.Out) (h : Held) (taken later : List Answered) → IsInStep width out h → h.pending ≡ taken ++ later → AreOut h.agent.machine taken
 taken_out width out h taken later step parts = λ i.
     (let all = step.each i in
-    let split = ap (λ xs. times i (entries_of xs)) parts ∙ ap (times i) (answers_append taken later) ∙ times_append i (entries_of taken) (entries_of later) in
+    let split = ap (λ xs. times i (entries_answered xs)) parts ∙ ap (times i) (answers_append taken later) ∙ times_append i (entries_answered taken) (entries_answered later) in
     omega (arith, all, split))
 
 pub in_step_taken : (width : ℕ) (out : List lanes.Out) (old new : Held) → HaveTaken old new → IsInStep width out old → IsInStep width out new
@@ -143,7 +143,7 @@ in_step_taken width out old new h step =
       each = λ i.
           (let before = step.each i in
           let here = over.each i in
-          let split = ap (λ xs. times i (entries_of xs)) h.parts ∙ ap (times i) (answers_append h.taken new.pending) ∙ times_append i (entries_of h.taken) (entries_of new.pending) in
+          let split = ap (λ xs. times i (entries_answered xs)) h.parts ∙ ap (times i) (answers_append h.taken new.pending) ∙ times_append i (entries_answered h.taken) (entries_answered new.pending) in
           omega (arith, before, here, split));
     } in
     subst (IsInStep width out) (sym h.held) held
@@ -184,6 +184,6 @@ in_step_read r width out old new h step =
 pub first_out : (width : ℕ) (out : List lanes.Out) (h : Held) (a : Answered) → IsInStep width out h → 0 < length h.pending → a ≡ slice_index_or h.pending 0 a → out_of h.agent.machine.out a.index ≢ None
 first_out width out h a step some is =
     let parts : h.pending ≡ a ∷ drop 1 h.pending = first_of h.pending a some ∙ ap (λ x. x ∷ drop 1 h.pending) (sym is) in
-    let first = ap (λ xs. times a.index (entries_of xs)) parts ∙ counts a.index a.index (entries_of (drop 1 h.pending)) (same_index a.index) in
+    let first = ap (λ xs. times a.index (entries_answered xs)) parts ∙ counts a.index a.index (entries_answered (drop 1 h.pending)) (same_index a.index) in
     let all = step.each a.index in
     some_out h.agent.machine.out a.index (omega (arith, first, all))

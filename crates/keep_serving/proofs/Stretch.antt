@@ -2,7 +2,7 @@
 use Rattle.std.proofs.Common.{◌≡◌, ◌∙◌, ℕ, Bool, true, false, List, [], ◌∷◌, ◌++◌, Option, Result, Ok, Err, Some, None, ap, refl, sym, subst, inl, inr}
 use Rattle.keep_agent.specs.Agent.{Agent}
 use Rattle.keep_agent.specs.Turns.{AgentTurn}
-use Rattle.keep_asking.specs.Told.{event_as}
+use Rattle.keep_asking.specs.Told.{event_as, event_of_answer}
 use Rattle.keep_asking.specs.declared.told.Said.{Said}
 use Rattle.keep_clock.specs.declared.reading.Reading.{Reading}
 use Rattle.keep_lanes.specs.declared.lanes.Answered.{Answered}
@@ -19,7 +19,7 @@ use Rattle.keep_serving.specs.Laws.{KeepInventory, KeepsInventory, Lead, Stretch
 use Rattle.keep_serving.specs.Stages.{AnswerIsTaken, AnswersAreTaken, AnswersCome, Commands, HandsInAnswers, LeftOverGoesFirst, OnHeld, SendsRequests, TakesAnswers, TakesReadings, TakesUp, Then}
 use Rattle.keep_serving.specs.Turns as turns
 use Rattle.keep_serving.specs.Turns.{IsServingTurn, TurnHears}
-use Rattle.keep_serving.specs.TurnsOfWatch.{TurnsOf, event_of_answer, no_turns, one_and_then, turn_of_answer, turned, turns_in, turns_of, turns_of_answers, turns_of_change, turns_of_changes, turns_of_hearing, turns_of_readings, turns_of_stages, turns_of_taking}
+use Rattle.keep_serving.specs.TurnsOfWatch.{TurnsOf, no_turns, one_and_then, turn_of_answer, turned, turns_in, turns_of, turns_of_answers, turns_of_change, turns_of_changes, turns_of_hearing, turns_of_readings, turns_of_stages, turns_of_taking}
 use Rattle.keep_serving.specs.declared.change.Change.{Change}
 use Rattle.keep_serving.specs.declared.change.Change.TheVariants.{Need, Begin, Serve, Kept}
 use Rattle.keep_serving.proofs.InStep.{said_machine}

@@ -5,7 +5,7 @@ use Rattle.keep_agent.specs.Agent.{Agent}
 use Rattle.keep_clock.specs.declared.reading.Reading.{Reading}
 use Rattle.keep_lanes.specs.Out as lanes
 use Rattle.keep_lanes.specs.declared.lanes.Answered.{Answered}
-use Rattle.keep_asking.specs.InStep.{MachineIsSound, entries_of, entries_on, entries_out, times}
+use Rattle.keep_asking.specs.InStep.{MachineIsSound, entries_answered, entries_on, entries_out, times}
 use Rattle.keep_asking.specs.Sending.{Lanes}
 use Rattle.watch_machine.specs.declared.command.Request.{Request}
 
@@ -28,7 +28,7 @@ pub record IsInStep (width : ℕ) (out : List lanes.Out) (h : Held) : Type 0 whe
   pub room : length h.agent.machine.out ≤ width
   pub sound : MachineIsSound h.agent.machine
   pub count : length out + (length h.pending + length h.unsent) ≡ length h.agent.machine.out
-  pub each : (i : ℕ) → times i (entries_on out) + (times i (entries_of h.pending) + times i (entries_unsent h.unsent)) ≡ times i (entries_out h.agent.machine)
+  pub each : (i : ℕ) → times i (entries_on out) + (times i (entries_answered h.pending) + times i (entries_unsent h.unsent)) ≡ times i (entries_out h.agent.machine)
 
 -- what is held, and the lanes
 pub record ServingSide : Type 0 where

@@ -4,15 +4,13 @@
 use Rattle.std.proofs.Common.{inl, inr}
 use Rattle.std.specs.Prelude.{ℕ, Bool, true, false, List, [], ◌∷◌, ◌++◌, Option, Some, None, Result, Ok}
 use Rattle.keep_agent.specs.Agent.{Agent}
-use Rattle.keep_asking.specs.Told.{event_as, reply_as, terms_as}
+use Rattle.keep_asking.specs.Told.{event_of_answer}
 use Rattle.keep_clock.specs.declared.reading.Reading.{Reading}
-use Rattle.keep_inventory.specs.Inventories.{Inventory}
 use Rattle.keep_lanes.specs.declared.lanes.Answered.{Answered}
 use Rattle.watch_machine.specs.declared.command.Command.TheVariants.{Go}
 use Rattle.watch_machine.specs.declared.command.Output.{Output}
 use Rattle.watch_machine.specs.declared.event.Event.{Event}
 use Rattle.watch_machine.specs.declared.event.Event.TheVariants as events
-use Rattle.watch_machine.specs.declared.event.Operation.{Operation}
 use Rattle.watch_machine.specs.declared.fault.WatchFault.{WatchFault}
 use Rattle.watch_machine.specs.History.{Turned}
 use Rattle.keep_serving.specs.Changes.{AreMade, ChangeIsMade, MadeChange}
@@ -28,10 +26,6 @@ abbrev pub turned : Event → Result Output WatchFault → Agent → Turned
 turned event result new = record { event = event; result = result; state = new.machine }
 
 -- ---- answers
-
--- the event that an answer says, where that was asked of its entry: the reply, and the terms that a lookup tells
-abbrev pub event_of_answer : Inventory → Operation → Answered → Event
-event_of_answer s operation a = event_as operation a.index (reply_as operation s a.index a.answer) (terms_as operation s a.index a.answer)
 
 -- an answer, as that to the request that was out of its entry
 abbrev pub turn_of_answer : (a : Answered) (old new : Agent) → AnswerIsTaken a old new → Turned

@@ -1,5 +1,5 @@
 ghost use Rattle.std.specs.Prelude.{◌≡◌, OnErr, OnOk, length};
-ghost use Rattle.keep_inventory.specs.Answers.{Gives};
+ghost use Rattle.keep_inventory.specs.Answers.{GivesOrInvFault};
 ghost use Rattle.keep_start.specs.Start.{from_start, inventory_at};
 
 use keep_core::needs_always;
@@ -17,7 +17,7 @@ use std::alloc::{AllocError, Global};
 /// to a lookup.
 #[tactic(auto, using(keep_served::proofs::ForGood::places), unfolding(crate::specs::Start::inventory_at))]
 pub fn read_at(alloc: Global, bytes: &[u8], start: Moment) -> Result<Inventory, InvFault>
-    ensures { Gives (λ inventory. inventory) result (inventory_at start bytes.now) }
+    ensures { GivesOrInvFault (λ inventory. inventory) result (inventory_at start bytes.now) }
 {
     let served = read_known(alloc, bytes)?;
     let (mut inventory, notes) = served.into_parts();

@@ -7,7 +7,7 @@ use Rattle.keep_change.specs.declared.row.Row.{Row}
 use Rattle.keep_inventory.specs.declared.fault.InvFault.{InvFault}
 use Rattle.keep_inventory.specs.declared.fault.InvFault.TheVariants as inventories
 use Rattle.keep_inventory.specs.declared.key.Key.{Key}
-use Rattle.keep_inventory.specs.Answers.{Fails}
+use Rattle.keep_inventory.specs.Answers.{FailsWithInvFault}
 use Rattle.keep_inventory.specs.Inventory.{document_tree, read_served}
 use Rattle.keep_inventory.specs.Served.{Served}
 use Rattle.keep_state.specs.declared.fault.TableFault.{TableFault}
@@ -24,7 +24,7 @@ gives_err (Tree fault) answer e = e
 gives_err OutOfMemory answer e = tt
 
 -- a fault of what is read, or lack of memory
-fails_with : (f : Result Members InvFault → Result Row TableFault) (fault : InvFault) (answer : Result Members InvFault) → ((other : InvFault) → f (Err other) ≡ Err (table_fault other)) → Fails fault answer → GivesOr (Err (table_fault fault)) (f answer)
+fails_with : (f : Result Members InvFault → Result Row TableFault) (fault : InvFault) (answer : Result Members InvFault) → ((other : InvFault) → f (Err other) ≡ Err (table_fault other)) → FailsWithInvFault fault answer → GivesOr (Err (table_fault fault)) (f answer)
 fails_with f inventories.NotToml answer is fails = sym (ap f fails ∙ is inventories.NotToml)
 fails_with f (inventories.MissingKey i k) answer is fails = sym (ap f fails ∙ is (inventories.MissingKey i k))
 fails_with f (inventories.UnknownKey i) answer is fails = sym (ap f fails ∙ is (inventories.UnknownKey i))
@@ -32,7 +32,7 @@ fails_with f (inventories.BadValue i k) answer is fails = sym (ap f fails ∙ is
 fails_with f (inventories.Tree i t) answer is fails = sym (ap f fails ∙ is (inventories.Tree i t))
 fails_with f inventories.OutOfMemory answer is fails = tt
 
-pub no_tree : (bytes : List ℕ) (fault : InvFault) → Fails fault (document_tree bytes) → GivesOr (Err (table_fault fault)) (row_of_table bytes)
+pub no_tree : (bytes : List ℕ) (fault : InvFault) → FailsWithInvFault fault (document_tree bytes) → GivesOr (Err (table_fault fault)) (row_of_table bytes)
 unfolding row_of_table
 no_tree bytes fault fails = fails_with (entry_in bytes) fault (document_tree bytes) (λ other. refl) fails
 
@@ -44,7 +44,7 @@ pub by_steps : (bytes : List ℕ) (ms : Members) (over : Option (List ℕ)) (r :
 unfolding row_of_table
 by_steps bytes ms over r tree is gives = subst (GivesOr r) (sym (ap (entry_in bytes) tree ∙ ap (entry_under bytes) is)) gives
 
-pub not_served : (place : ℕ) (text : List ℕ) (fault : InvFault) → Fails fault (read_served text) → GivesOr (Err (table_fault fault)) (row_at_place place (read_served text))
+pub not_served : (place : ℕ) (text : List ℕ) (fault : InvFault) → FailsWithInvFault fault (read_served text) → GivesOr (Err (table_fault fault)) (row_at_place place (read_served text))
 not_served place text inventories.NotToml fails = sym (ap (row_at_place place) fails)
 not_served place text (inventories.MissingKey i k) fails = sym (ap (row_at_place place) fails)
 not_served place text (inventories.UnknownKey i) fails = sym (ap (row_at_place place) fails)

@@ -5,7 +5,7 @@ ghost use Rattle.toml.specs.Data.{get_member};
 ghost use Rattle.toml.specs.Errors.{IsMemory};
 ghost use Rattle.toml.specs.View.{items_view, table_view, view};
 ghost use Rattle.keep_tree.specs.Push.{is_name, is_name_byte};
-ghost use Rattle.keep_inventory.specs.Answers.{Gives};
+ghost use Rattle.keep_inventory.specs.Answers.{GivesOrInvFault};
 ghost use Rattle.keep_inventory.specs.declared.fault.InvFault.TheVariants as inventories;
 ghost use Rattle.keep_inventory.specs.Inventory.{document_tree, read_served};
 ghost use Rattle.keep_inventory.specs.Keys.{all_keys, is_one_of, key_text};
@@ -40,7 +40,7 @@ pub fn read_table(alloc: Global, table: &[u8]) -> Result<Row, TableFault>
 // The tree of a document.
 #[tactic(auto, unfolding(keep_inventory::specs::Inventory::document_tree))]
 fn read_tree(alloc: Global, bytes: &[u8]) -> Result<Table, InvFault>
-    ensures { Gives table_view result (document_tree bytes.now) }
+    ensures { GivesOrInvFault table_view result (document_tree bytes.now) }
 {
     let Ok(text) = std::str::from_utf8(bytes) else {
         return Err(InvFault::NotToml);

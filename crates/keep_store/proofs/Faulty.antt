@@ -4,7 +4,7 @@ use Rattle.keep_change.specs.declared.replaying.File.{File}
 use Rattle.keep_inventory.specs.declared.fault.InvFault.{InvFault}
 use Rattle.keep_inventory.specs.declared.fault.InvFault.TheVariants.{NotToml, MissingKey, UnknownKey, BadValue, Tree}
 use Rattle.keep_inventory.specs.declared.fault.InvFault.TheVariants as inventories
-use Rattle.keep_inventory.specs.Answers.{Fails}
+use Rattle.keep_inventory.specs.Answers.{FailsWithInvFault}
 use Rattle.keep_inventory.specs.Inventory.{read_served}
 use Rattle.keep_settle.specs.declared.fault.SettleFault.{SettleFault}
 use Rattle.keep_settle.specs.declared.fault.SettleFault.TheVariants.{TooLong, Refused, Differs}
@@ -18,7 +18,7 @@ use Rattle.keep_store.specs.code.Faults.{faulty, unhanded}
 pub memory_fault : (bytes : List ℕ) (fault : FileFault) → fault ≡ OutOfMemory → IsFault bytes fault
 memory_fault bytes fault same = subst (IsFault bytes) (sym same) tt
 
-pub faulty_is : (bytes : List ℕ) (fault : InvFault) → Fails fault (read_served bytes) → IsFault bytes (faulty fault)
+pub faulty_is : (bytes : List ℕ) (fault : InvFault) → FailsWithInvFault fault (read_served bytes) → IsFault bytes (faulty fault)
 faulty_is bytes NotToml fails = fails
 faulty_is bytes (MissingKey i k) fails = fails
 faulty_is bytes (UnknownKey i) fails = fails

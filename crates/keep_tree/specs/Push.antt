@@ -49,7 +49,7 @@ unfoldable pub is_out_of_range : Entry → Bool
 is_out_of_range e = nat_lt END_MAX e.end || (is_too_high e.ceiling || nat_lt LAST e.need)
 
 -- the fault beside the first test that is met
-abbrev pub first_met : List (Bool × TreeFault) → Option TreeFault
+abbrev pub first_met : {F : Type 0} → List (Bool × F) → Option F
 first_met [] = None
 first_met (t ∷ tests) = if t.0 then Some t.1 else first_met tests
 

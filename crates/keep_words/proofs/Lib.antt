@@ -2,3 +2,4 @@ pub mod Cutting
 pub mod Digits
 pub mod Numbers
 pub mod Joined
+pub mod Stripped

@@ -2,3 +2,4 @@ pub mod Numbers
 pub mod Pieces
 pub mod Laws
 pub mod code
+pub mod Texts

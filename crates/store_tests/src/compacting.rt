@@ -1,7 +1,7 @@
 //! A journal with a thousand void records is compacted and means the same, and one with fewer is left.
 ghost use Rattle.std.specs.Prelude.{IfOk};
 ghost use Rattle.keep_disk.specs.Memory.{memory_state};
-ghost use Rattle.store_tests.specs.Starts.{AllKept};
+ghost use Rattle.keep_disk.specs.State.{AllKept};
 
 use crate::plays::{Play, Step};
 use crate::starts::{FILE, JOURNAL};

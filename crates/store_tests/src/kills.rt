@@ -2,7 +2,8 @@
 //! acknowledged, in order, and at most the one that was under way besides; and so it is where the restart is killed too.
 ghost use Rattle.std.specs.Prelude.{◌≡◌};
 ghost use Rattle.keep_disk.specs.Memory.{memory_state};
-ghost use Rattle.store_tests.specs.Starts.{AllKept, StoreIsReady};
+ghost use Rattle.keep_disk.specs.State.{AllKept};
+ghost use Rattle.store_tests.specs.Starts.{StoreIsReady};
 
 use crate::plays::{Step, plays};
 use crate::starts::{

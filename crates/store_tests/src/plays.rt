@@ -1,7 +1,8 @@
 //! Plays of a store: a table says step by step what happens, and what is to come of it.
 ghost use Rattle.std.specs.Prelude.{IfOk};
 ghost use Rattle.keep_disk.specs.Memory.{memory_state};
-ghost use Rattle.store_tests.specs.Starts.{AllKept, StoreIsReady};
+ghost use Rattle.keep_disk.specs.State.{AllKept};
+ghost use Rattle.store_tests.specs.Starts.{StoreIsReady};
 
 use crate::starts::{Change, FILE, disk_of, given, seen, start, take, what_of};
 use keep_change::Note;

@@ -3,7 +3,8 @@ ghost use Rattle.std.specs.Prelude.{◌≡◌, IfOk, true};
 ghost use Rattle.keep_disk.specs.Memory.{memory_state};
 ghost use Rattle.keep_journal.specs.Journals.{JournalHolds};
 ghost use Rattle.keep_store.specs.Stores.{IsReplayed, journal_of};
-ghost use Rattle.store_tests.specs.Starts.{AllKept, StoreIsReady};
+ghost use Rattle.keep_disk.specs.State.{AllKept};
+ghost use Rattle.store_tests.specs.Starts.{StoreIsReady};
 
 use keep_change::{Row, What};
 use keep_disk::{Failing, MemoryDisk, Stored, Why};

@@ -81,11 +81,11 @@ short text room d v h fits few =
     let less : length h.rest < v = omega (arith, long, few, h.many) in
     (omega (arith, few, fits), inr (h.part, h.rest, (h.is_size, h.text_is), fits_room text room d v h fits, subst (λ n. MayHave (IsData n) h.rest) h.value (may_have_short h.rest v less)))
 
--- the rest as the bytes of the chunk and what is behind them
+-- the rest as the bytes of the chunk and what comes after them
 data_split : (rest : List ℕ) (v : ℕ) → v ≤ length rest → (length (take v rest) ≡ v) × (rest ≡ take v rest ++ drop v rest)
 data_split rest v fits = (length-take-le v rest fits, sym (take-append-drop v rest))
 
--- what is behind them in the text
+-- what comes after them in the text
 data_end : (text : List ℕ) (d v : ℕ) (h : HasSize text d v) → drop (d + 2 + v) text ≡ drop v h.rest
 data_end text d v h = sym (drop-drop v (d + 2) text) ∙ ap (drop v) (sym h.rest_is)
 

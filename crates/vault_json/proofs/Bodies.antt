@@ -11,7 +11,7 @@ use Rattle.serde_json.specs.declared.error.Code.{Code}
 use Rattle.serde_json.specs.declared.error.Code.TheVariants as codes
 use Rattle.serde_json.specs.declared.error.Error.{Error}
 use Rattle.serde_json.specs.declared.value.Value.{Value}
-use Rattle.vault_json.specs.Answer.{Gives}
+use Rattle.vault_json.specs.Answer.{GivesOrReplyFault}
 use Rattle.vault_json.specs.Body.{json_tree, or_not_json}
 use Rattle.vault_json.specs.declared.fault.ReplyFault.{ReplyFault}
 use Rattle.vault_json.specs.declared.fault.ReplyFault.TheVariants as faults
@@ -25,17 +25,17 @@ tree_of_no_text bytes no_text =
 
 module _ (answer : Result Value ReplyFault) (tree : Option Data) where
   not_read : (code : Code) (e : Error) → e.code ≡ code → (¬ IsMemory e → tree ≡ None) → (IsMemory e → answer ≡ Err faults.OutOfMemory) →
-      (¬ IsMemory e → answer ≡ Err faults.NotJson) → Gives view answer (or_not_json tree)
-  not_read codes.OutOfMemory e is none memory malformed = subst (λ (a : Result Value ReplyFault). Gives view a (or_not_json tree)) (sym (memory is)) tt
+      (¬ IsMemory e → answer ≡ Err faults.NotJson) → GivesOrReplyFault view answer (or_not_json tree)
+  not_read codes.OutOfMemory e is none memory malformed = subst (λ (a : Result Value ReplyFault). GivesOrReplyFault view a (or_not_json tree)) (sym (memory is)) tt
   not_read codes.Invalid e is none memory malformed =
       let other : ¬ IsMemory e = λ m. (let both = sym is ∙ m in cc) in
-      subst (λ (a : Result Value ReplyFault). Gives view a (or_not_json tree)) (sym (malformed other)) (ap or_not_json (none other))
+      subst (λ (a : Result Value ReplyFault). GivesOrReplyFault view a (or_not_json tree)) (sym (malformed other)) (ap or_not_json (none other))
   not_read codes.NumberOutOfRange e is none memory malformed =
       let other : ¬ IsMemory e = λ m. (let both = sym is ∙ m in cc) in
-      subst (λ (a : Result Value ReplyFault). Gives view a (or_not_json tree)) (sym (malformed other)) (ap or_not_json (none other))
+      subst (λ (a : Result Value ReplyFault). GivesOrReplyFault view a (or_not_json tree)) (sym (malformed other)) (ap or_not_json (none other))
 
   -- the tree that was read, or no JSON, or lack of memory where serde_json says so
   pub as_read : (r : Result Value Error) → IfOk r (λ v. tree ≡ Some (view v)) → IfErr r (λ e. ¬ IsMemory e → tree ≡ None) → IfOk r (λ v. answer ≡ Ok v) →
-      IfErr r (λ e. IsMemory e → answer ≡ Err faults.OutOfMemory) → IfErr r (λ e. ¬ IsMemory e → answer ≡ Err faults.NotJson) → Gives view answer (or_not_json tree)
-  as_read (Ok v) read none given memory malformed = subst (λ (a : Result Value ReplyFault). Gives view a (or_not_json tree)) (sym given) (ap or_not_json read)
+      IfErr r (λ e. IsMemory e → answer ≡ Err faults.OutOfMemory) → IfErr r (λ e. ¬ IsMemory e → answer ≡ Err faults.NotJson) → GivesOrReplyFault view answer (or_not_json tree)
+  as_read (Ok v) read none given memory malformed = subst (λ (a : Result Value ReplyFault). GivesOrReplyFault view a (or_not_json tree)) (sym given) (ap or_not_json read)
   as_read (Err e) read none given memory malformed = not_read e.code e refl none memory malformed

@@ -11,17 +11,17 @@ abbrev pub ◌>>=◌ : {A B : Type 0} → Result A ReplyFault → (A → Result 
 (Err e) >>= f = Err e
 
 -- the answer is this fault; of lack of memory nothing is said
-abbrev pub Fails : {Y : Type 0} → ReplyFault → Result Y ReplyFault → Type 0
-Fails OutOfMemory answer = Unit {0}
-Fails NotJson answer = answer ≡ Err NotJson
-Fails (Missing field) answer = answer ≡ Err (Missing field)
-Fails (BadField field) answer = answer ≡ Err (BadField field)
-Fails Wrapped answer = answer ≡ Err Wrapped
+abbrev pub FailsWithReplyFault : {Y : Type 0} → ReplyFault → Result Y ReplyFault → Type 0
+FailsWithReplyFault OutOfMemory answer = Unit {0}
+FailsWithReplyFault NotJson answer = answer ≡ Err NotJson
+FailsWithReplyFault (Missing field) answer = answer ≡ Err (Missing field)
+FailsWithReplyFault (BadField field) answer = answer ≡ Err (BadField field)
+FailsWithReplyFault Wrapped answer = answer ≡ Err Wrapped
 
 -- what a call gave, seen by `view`, is the answer, unless memory ran out
-abbrev pub Gives : {X Y : Type 0} → (X → Y) → Result X ReplyFault → Result Y ReplyFault → Type 0
-Gives view (Ok x) answer = answer ≡ Ok (view x)
-Gives view (Err fault) answer = Fails fault answer
+abbrev pub GivesOrReplyFault : {X Y : Type 0} → (X → Y) → Result X ReplyFault → Result Y ReplyFault → Type 0
+GivesOrReplyFault view (Ok x) answer = answer ≡ Ok (view x)
+GivesOrReplyFault view (Err fault) answer = FailsWithReplyFault fault answer
 
 -- a value that has no such reading is a bad field
 abbrev pub or_bad : {A : Type 0} → Field → Option A → Result A ReplyFault

@@ -1,7 +1,7 @@
 ghost use Rattle.std.specs.Prelude.{◌≡◌, IfErr, IfOk, Ok, Err};
 ghost use Rattle.serde_json.specs.Errors.{IsMemory};
 ghost use Rattle.serde_json.specs.View.{view};
-ghost use Rattle.vault_json.specs.Answer.{Gives};
+ghost use Rattle.vault_json.specs.Answer.{GivesOrReplyFault};
 ghost use Rattle.vault_json.specs.declared.fault.ReplyFault.TheVariants as faults;
 ghost use Rattle.vault_json.specs.Body.{object_of_bytes, reply_object, json_tree, or_not_json, unwrapped};
 
@@ -13,7 +13,7 @@ use std::alloc::Global;
 /// The object that a body's bytes are.
 #[tactic(auto, unfolding(crate::specs::Body::object_of_bytes))]
 pub(crate) fn body(alloc: Global, bytes: &[u8]) -> Result<Value, ReplyFault>
-    ensures { Gives (λ v. view v) result (object_of_bytes bytes.now) }
+    ensures { GivesOrReplyFault (λ v. view v) result (object_of_bytes bytes.now) }
 {
     let value = tree(alloc, bytes)?;
     if value.is_object() {
@@ -25,7 +25,7 @@ pub(crate) fn body(alloc: Global, bytes: &[u8]) -> Result<Value, ReplyFault>
 
 /// The tree that a body's bytes are, as serde_json reads it.
 fn tree(alloc: Global, bytes: &[u8]) -> Result<Value, ReplyFault>
-    ensures { Gives (λ v. view v) result (or_not_json (json_tree bytes.now)) }
+    ensures { GivesOrReplyFault (λ v. view v) result (or_not_json (json_tree bytes.now)) }
 {
     let Ok(text) = std::str::from_utf8(bytes) else {
         return Err(ReplyFault::NotJson);
@@ -49,7 +49,7 @@ fn judged(read: serde_json::Result<Value>) -> Result<Value, ReplyFault>
 /// The object that a reply's bytes are, where the reply is not wrapped.
 #[tactic(auto, unfolding(crate::specs::Body::reply_object))]
 pub(crate) fn reply(alloc: Global, bytes: &[u8]) -> Result<Value, ReplyFault>
-    ensures { Gives (λ v. view v) result (reply_object bytes.now) }
+    ensures { GivesOrReplyFault (λ v. view v) result (reply_object bytes.now) }
 {
     let body = body(alloc, bytes)?;
     unwrapped(&body)?;
@@ -58,7 +58,7 @@ pub(crate) fn reply(alloc: Global, bytes: &[u8]) -> Result<Value, ReplyFault>
 
 #[tactic(auto, unfolding(crate::specs::Body::unwrapped))]
 fn unwrapped(body: &Value) -> Result<(), ReplyFault>
-    ensures { Gives (λ _. view body.now) result (unwrapped (view body.now)) }
+    ensures { GivesOrReplyFault (λ _. view body.now) result (unwrapped (view body.now)) }
 {
     match present(body.get("wrap_info")) {
         None => Ok(()),

@@ -1,7 +1,7 @@
 ghost use Rattle.std.specs.Prelude.{◌≡◌, Some, option_map, false};
 ghost use Rattle.serde_json.specs.Find.{as_bool, as_str};
 ghost use Rattle.serde_json.specs.View.{view};
-ghost use Rattle.vault_json.specs.Answer.{Gives};
+ghost use Rattle.vault_json.specs.Answer.{GivesOrReplyFault};
 ghost use Rattle.vault_json.specs.Duration.{duration_of_value};
 ghost use Rattle.vault_json.specs.Field.{key_of, present, member_of, required, optional, object_of, timestamp_of, date_in_text};
 
@@ -97,7 +97,7 @@ pub(crate) fn present(value: Option<&Value>) -> Option<&Value>
 /// An object that must be there.
 #[tactic(auto, unfolding(crate::specs::Field::required))]
 pub(crate) fn object(object: &Value, field: Field) -> Result<&Value, ReplyFault>
-    ensures { Gives (λ v. view v.now) result (required field object_of (view object.now)) }
+    ensures { GivesOrReplyFault (λ v. view v.now) result (required field object_of (view object.now)) }
 {
     match member(object, field) {
         None => Err(ReplyFault::Missing(field)),
@@ -109,7 +109,7 @@ pub(crate) fn object(object: &Value, field: Field) -> Result<&Value, ReplyFault>
 /// An object, in whose place `object` itself stands where it is absent.
 #[tactic(auto, unfolding(crate::specs::Field::optional))]
 pub(crate) fn object_or_itself(object: &Value, field: Field) -> Result<&Value, ReplyFault>
-    ensures { Gives (λ v. view v.now) result (optional field (view object.now) object_of (view object.now)) }
+    ensures { GivesOrReplyFault (λ v. view v.now) result (optional field (view object.now) object_of (view object.now)) }
 {
     match member(object, field) {
         None => Ok(object),
@@ -182,7 +182,7 @@ pub(crate) fn date(object: &Value, field: Field) -> Result<Moment, ReplyFault>
 /// A text that must be there. Lack of memory is told apart.
 #[tactic(auto, unfolding(crate::specs::Field::required))]
 pub(crate) fn text(alloc: Global, object: &Value, field: Field) -> Result<Text, ReplyFault>
-    ensures { Gives (λ t. t) result (required field as_str (view object.now)) }
+    ensures { GivesOrReplyFault (λ t. t) result (required field as_str (view object.now)) }
 {
     match member(object, field) {
         None => Err(ReplyFault::Missing(field)),

@@ -1,5 +1,5 @@
 ghost use Rattle.serde_json.specs.View.{view};
-ghost use Rattle.vault_json.specs.Answer.{Gives};
+ghost use Rattle.vault_json.specs.Answer.{GivesOrReplyFault};
 ghost use Rattle.vault_json.specs.Lookup.{looked_self_in, looked_lease_in, never_ends_in, lookup_self_answer, lookup_lease_answer, never_ends_answer};
 
 use crate::body::reply;
@@ -85,7 +85,7 @@ impl fmt::Debug for Lookup {
 /// the order NotJson, Wrapped, then Missing or BadField of the first field at fault.
 #[tactic(auto, unfolding(crate::specs::Lookup::lookup_self_answer))]
 pub fn read_lookup_self(alloc: Global, bytes: &[u8]) -> Result<Lookup, ReplyFault>
-    ensures { Gives (λ x. x) result (lookup_self_answer bytes.now) }
+    ensures { GivesOrReplyFault (λ x. x) result (lookup_self_answer bytes.now) }
 {
     looked_self(&reply(alloc, bytes)?)
 }
@@ -97,7 +97,7 @@ pub fn read_lookup_self(alloc: Global, bytes: &[u8]) -> Result<Lookup, ReplyFaul
 /// Wrapped, then Missing or BadField of `data`, then of `ttl`.
 #[tactic(auto, unfolding(crate::specs::Lookup::never_ends_answer))]
 pub fn never_ends(alloc: Global, bytes: &[u8]) -> Result<bool, ReplyFault>
-    ensures { Gives (λ x. x) result (never_ends_answer bytes.now) }
+    ensures { GivesOrReplyFault (λ x. x) result (never_ends_answer bytes.now) }
 {
     has_no_end(&reply(alloc, bytes)?)
 }
@@ -109,14 +109,14 @@ pub fn never_ends(alloc: Global, bytes: &[u8]) -> Result<bool, ReplyFault>
 /// false. Faults come in the order NotJson, Wrapped, then Missing or BadField of the first field at fault.
 #[tactic(auto, unfolding(crate::specs::Lookup::lookup_lease_answer))]
 pub fn read_lookup_lease(alloc: Global, bytes: &[u8]) -> Result<Lookup, ReplyFault>
-    ensures { Gives (λ x. x) result (lookup_lease_answer bytes.now) }
+    ensures { GivesOrReplyFault (λ x. x) result (lookup_lease_answer bytes.now) }
 {
     looked_lease(alloc, &reply(alloc, bytes)?)
 }
 
 #[tactic(auto, unfolding(crate::specs::Lookup::looked_lease_in))]
 fn looked_lease(alloc: Global, body: &Value) -> Result<Lookup, ReplyFault>
-    ensures { Gives (λ x. x) result (looked_lease_in (view body.now)) }
+    ensures { GivesOrReplyFault (λ x. x) result (looked_lease_in (view body.now)) }
 {
     let lease = object_or_itself(body, Field::Data)?;
     let id = text(alloc, lease, Field::Id)?;
@@ -133,7 +133,7 @@ fn looked_lease(alloc: Global, body: &Value) -> Result<Lookup, ReplyFault>
 
 #[tactic(auto, unfolding(crate::specs::Lookup::looked_self_in))]
 fn looked_self(body: &Value) -> Result<Lookup, ReplyFault>
-    ensures { Gives (λ x. x) result (looked_self_in (view body.now)) }
+    ensures { GivesOrReplyFault (λ x. x) result (looked_self_in (view body.now)) }
 {
     let token = object(body, Field::Data)?;
     let ttl = span(token, Field::Ttl)?;
@@ -154,7 +154,7 @@ fn looked_self(body: &Value) -> Result<Lookup, ReplyFault>
 
 #[tactic(auto, unfolding(crate::specs::Lookup::never_ends_in))]
 fn has_no_end(body: &Value) -> Result<bool, ReplyFault>
-    ensures { Gives (λ x. x) result (never_ends_in (view body.now)) }
+    ensures { GivesOrReplyFault (λ x. x) result (never_ends_in (view body.now)) }
 {
     let about = object(body, Field::Data)?;
     let left = span(about, Field::Ttl)?;

@@ -1,5 +1,5 @@
 ghost use Rattle.serde_json.specs.View.{view};
-ghost use Rattle.vault_json.specs.Answer.{Gives};
+ghost use Rattle.vault_json.specs.Answer.{GivesOrReplyFault};
 ghost use Rattle.vault_json.specs.Renewed.{renewed_in_object, renewed_lease_in, renew_self_answer, renew_lease_answer};
 
 use crate::body::reply;
@@ -46,7 +46,7 @@ impl fmt::Debug for RenewedLease {
 /// in the order NotJson, Wrapped, then Missing or BadField of the first field at fault.
 #[tactic(auto, unfolding(crate::specs::Renewed::renew_self_answer))]
 pub fn read_renew_self(alloc: Global, bytes: &[u8]) -> Result<Renewed, ReplyFault>
-    ensures { Gives (λ x. x) result (renew_self_answer bytes.now) }
+    ensures { GivesOrReplyFault (λ x. x) result (renew_self_answer bytes.now) }
 {
     renewed_token(&reply(alloc, bytes)?)
 }
@@ -57,14 +57,14 @@ pub fn read_renew_self(alloc: Global, bytes: &[u8]) -> Result<Renewed, ReplyFaul
 /// Faults come in the order NotJson, Wrapped, then Missing or BadField of the first field at fault.
 #[tactic(auto, unfolding(crate::specs::Renewed::renew_lease_answer))]
 pub fn read_renew_lease(alloc: Global, bytes: &[u8]) -> Result<RenewedLease, ReplyFault>
-    ensures { Gives (λ x. x) result (renew_lease_answer bytes.now) }
+    ensures { GivesOrReplyFault (λ x. x) result (renew_lease_answer bytes.now) }
 {
     renewed_lease(alloc, &reply(alloc, bytes)?)
 }
 
 #[tactic(auto, unfolding(crate::specs::Renewed::renewed_in_object))]
 fn renewed_token(body: &Value) -> Result<Renewed, ReplyFault>
-    ensures { Gives (λ x. x) result (renewed_in_object (view body.now)) }
+    ensures { GivesOrReplyFault (λ x. x) result (renewed_in_object (view body.now)) }
 {
     let auth = object(body, Field::Auth)?;
     let seconds = span(auth, Field::LeaseDuration)?;
@@ -74,7 +74,7 @@ fn renewed_token(body: &Value) -> Result<Renewed, ReplyFault>
 
 #[tactic(auto, unfolding(crate::specs::Renewed::renewed_lease_in))]
 fn renewed_lease(alloc: Global, body: &Value) -> Result<RenewedLease, ReplyFault>
-    ensures { Gives (λ x. x) result (renewed_lease_in (view body.now)) }
+    ensures { GivesOrReplyFault (λ x. x) result (renewed_lease_in (view body.now)) }
 {
     let lease_id = text(alloc, body, Field::LeaseId)?;
     let seconds = span(body, Field::LeaseDuration)?;

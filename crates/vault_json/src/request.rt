@@ -1,4 +1,4 @@
-ghost use Rattle.vault_json.specs.Answer.{Gives};
+ghost use Rattle.vault_json.specs.Answer.{GivesOrReplyFault};
 ghost use Rattle.vault_json.specs.Request.{increment_answer, lease_id_answer, asked_duration};
 ghost use Rattle.vault_json.specs.Field.{optional};
 ghost use Rattle.std.specs.Prelude.{◌≡◌, None};
@@ -19,7 +19,7 @@ use std::alloc::Global;
 /// BadField of `increment`.
 #[tactic(auto, unfolding(crate::specs::Request::increment_answer))]
 pub fn read_increment(alloc: Global, bytes: &[u8]) -> Result<Option<Span>, ReplyFault>
-    ensures { Gives (λ x. x) result (increment_answer bytes.now) }
+    ensures { GivesOrReplyFault (λ x. x) result (increment_answer bytes.now) }
 {
     if bytes.is_empty() {
         return Ok(None);
@@ -32,7 +32,7 @@ pub fn read_increment(alloc: Global, bytes: &[u8]) -> Result<Option<Span>, Reply
 /// Faults: NotJson (so also where there are no bytes), Missing and BadField of `lease_id`.
 #[tactic(auto, unfolding(crate::specs::Request::lease_id_answer))]
 pub fn read_lease_id(alloc: Global, bytes: &[u8]) -> Result<Text, ReplyFault>
-    ensures { Gives (λ t. t) result (lease_id_answer bytes.now) }
+    ensures { GivesOrReplyFault (λ t. t) result (lease_id_answer bytes.now) }
 {
     text(alloc, &body(alloc, bytes)?, Field::LeaseId)
 }

@@ -1,4 +1,4 @@
--- Tries: what the steps of a clock behind the pauses leave of a try that is pressed and has failed: it stays, and a beginning hastens it. For
+-- Tries: what the steps of a clock after the pauses leave of a try that is pressed and has failed: it stays, and a beginning hastens it. For
 -- laws that speak of such a one.
 use Rattle.std.proofs.Common.{◌≡◌, ◌∙◌, ℕ, ◌<◌, Bool, true, false, not, ◌&&◌, ◌||◌, ◌==◌, if◌then◌else◌, List, [], ◌∷◌, Option, Some, None, max, refl, sym, ap, subst, arith, true≢false}
 use Rattle.std.specs.List.{list_any}

@@ -10,7 +10,7 @@ use Rattle.keep_inventory.specs.declared.terms.Terms.{Terms}
 use Rattle.keep_lanes.specs.Allowed.{first_by, millis_after}
 use Rattle.keep_lanes.specs.Losses.{Answer}
 use Rattle.keep_lanes.specs.Out as lanes
-use Rattle.keep_lanes.specs.Out.{AreThere, IsBelow, IsAnswerTo, IsParted, OutIsPut, first_at, is_there, is_there_at, earlier, sooner_at, up_to}
+use Rattle.keep_lanes.specs.Out.{AreThere, IsBelow, IsAnswerTo, IsParted, OutIsPut, first_at, is_there, is_there_at, sooner_at, up_to}
 use Rattle.keep_lanes.specs.Serving.{ComesOfRequest, IsSentBy, RequestIsServed, allowed, lane_fault_at, later, next_lane_number}
 use Rattle.keep_lanes.specs.declared.allowance.Allowance.{Allowance}
 use Rattle.keep_lanes.specs.declared.coming.Coming.{Coming}
@@ -34,6 +34,7 @@ use Rattle.watch_machine.specs.declared.lanes.Out.{Out}
 use Rattle.watch_machine.specs.Sending.{out_at}
 use Rattle.watch_machine.specs.State.{WatchState}
 use Rattle.watch_machine.proofs.Cases.{of_value}
+use Rattle.keep_device.specs.Moments.{earlier}
 use Rattle.watch_lines.specs.Alike.{AreLanesAlike, AreOutAlike}
 use Rattle.keep_asking.specs.Handing.{out_of}
 use Rattle.keep_asking.specs.Asking.{ask_of, message_as}

@@ -1,6 +1,6 @@
 -- RunOfMachine: the law that the turns of a watch are a run of its machine.
 use Rattle.std.proofs.Common.{◌≡◌, ◌∙◌, ℕ, Bool, true, false, is_some, List, [], ◌∷◌, ◌++◌, Ok, ap, refl, sym, subst}
-use Rattle.keep_asking.specs.Told.{event_as}
+use Rattle.keep_asking.specs.Told.{event_as, event_of_answer}
 use Rattle.keep_asking.specs.declared.told.Said.{Said}
 use Rattle.keep_inventory.specs.Inventories.{Inventory}
 use Rattle.keep_lanes.specs.declared.lanes.Answered.{Answered}
@@ -16,7 +16,7 @@ use Rattle.watch_lines.specs.Clocked.{IsClocked, IsDoneUntil, WatchingSide, cloc
 use Rattle.watch_lines.specs.Hears.{EndIsTakenOver, LineIsHeard, WatchIsTurned}
 use Rattle.watch_lines.specs.Listening.{WatchLinesAreHeard}
 use Rattle.watch_lines.specs.LawsOfWatching.{RunOfMachineLaw, fresh_side}
-use Rattle.watch_lines.specs.TurnsOfLines.{event_of_answer, turn_of_told_answer, turn_with_output, turns_of_end, turns_of_line, turns_of_lines, turns_of_told_answers, turns_of_wait}
+use Rattle.watch_lines.specs.TurnsOfLines.{turn_of_told_answer, turn_with_output, turns_of_end, turns_of_line, turns_of_lines, turns_of_told_answers, turns_of_wait}
 use Rattle.watch_lines.specs.Watching.{Watching}
 use Rattle.watch_lines.specs.declared.line.Line.{Line}
 use Rattle.watch_lines.specs.declared.line.Line.TheVariants.{Clock, Need, Begin, Known, Unknown}

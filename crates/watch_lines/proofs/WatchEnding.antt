@@ -2,7 +2,7 @@
 use Rattle.std.proofs.Common.{◌≡◌, ℕ, inl, inr, List, Result, Ok, Err, refl, sym, subst}
 use Rattle.std.specs.Result.{IsErr, IsErrAnd}
 use Rattle.keep_device.specs.Seen.{Change}
-use Rattle.keep_inventory.specs.Answers.{Fails}
+use Rattle.keep_inventory.specs.Answers.{FailsWithInvFault}
 use Rattle.keep_inventory.specs.declared.fault.InvFault.{InvFault}
 use Rattle.keep_inventory.specs.declared.fault.InvFault.TheVariants as faults
 use Rattle.keep_served.specs.ForGood.{inventory_for_good}
@@ -39,10 +39,10 @@ ended bytes stop exit errors is why told = subst (λ (e : Exit). WatchEnds bytes
 module _ (port : ℕ) (bytes : List ℕ) (width : ℕ) (old : Lanes) (fed : Change) (out : Change) where
   -- the bytes are no inventory, or memory was wanting
   pub read_watches :
-      (result : Result (Unit {0}) Stop) (fault : InvFault) → IsErr result × IsErrAnd result (λ (q : Stop). q ≡ stop_of_inventory fault) → Fails fault (inventory_for_good bytes) → IsUnbegun old fed out old → WatchesTo port bytes width old result fed out old
+      (result : Result (Unit {0}) Stop) (fault : InvFault) → IsErr result × IsErrAnd result (λ (q : Stop). q ≡ stop_of_inventory fault) → FailsWithInvFault fault (inventory_for_good bytes) → IsUnbegun old fed out old → WatchesTo port bytes width old result fed out old
   read_watches (Ok u) fault is fails none = absurd (let no = is.0 in cc)
   read_watches (Err stop) fault is fails none = subst (λ (q : Stop). WatchesTo port bytes width old (Err q) fed out old) (sym is.1) (by_fault fault fails) where
-    by_fault : (e : InvFault) → Fails e (inventory_for_good bytes) → WatchesTo port bytes width old (Err (stop_of_inventory e)) fed out old
+    by_fault : (e : InvFault) → FailsWithInvFault e (inventory_for_good bytes) → WatchesTo port bytes width old (Err (stop_of_inventory e)) fed out old
     by_fault faults.OutOfMemory h = inl none
     by_fault faults.NotToml h = (h, none)
     by_fault (faults.MissingKey i key) h = (h, none)

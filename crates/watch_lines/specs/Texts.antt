@@ -1,6 +1,6 @@
 -- Texts: the lines that a watch is written as, over names and numbers.
 -- Source: this project's own.
-use Rattle.std.specs.Prelude.{ℕ, Bool, List, [], ◌∷◌, codes, decimal, if◌then◌else◌}
+use Rattle.std.specs.Prelude.{ℕ, Bool, List, [], ◌∷◌, codes, decimal}
 use Rattle.keep_lines.specs.Text.{line}
 use Rattle.keep_lanes.specs.declared.loss.Loss.{Loss}
 use Rattle.keep_lanes.specs.declared.loss.Loss.TheVariants as losses
@@ -8,6 +8,7 @@ use Rattle.watch_machine.specs.declared.notes.Link.{Link}
 use Rattle.watch_machine.specs.declared.notes.Link.TheVariants.{Away, Back}
 use Rattle.watch_machine.specs.declared.notes.Why.{Why}
 use Rattle.watch_machine.specs.declared.notes.Why.TheVariants.{Start, Asked, Jump, Day}
+use Rattle.keep_words.specs.Texts.{yes_or_no}
 
 -- ---- a clock
 
@@ -41,9 +42,6 @@ no_next_line = line (codes "next" ∷ codes "none" ∷ [])
 
 abbrev pub told_line : List ℕ → ℕ → List ℕ
 told_line name seconds = line (codes "told" ∷ name ∷ decimal seconds ∷ [])
-
-abbrev pub yes_or_no : Bool → List ℕ
-yes_or_no is = if is then codes "yes" else codes "no"
 
 abbrev pub end_line : List ℕ → ℕ → Bool → List ℕ
 end_line name end renewable = line (codes "end" ∷ name ∷ decimal end ∷ yes_or_no renewable ∷ [])

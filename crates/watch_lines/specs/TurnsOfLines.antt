@@ -2,14 +2,13 @@
 -- answer, as the event of the request that it answers.
 -- Source: this project's own.
 use Rattle.std.specs.Prelude.{ℕ, ◌/◌, Bool, true, false, is_some, List, [], ◌∷◌, ◌++◌, Ok}
-use Rattle.keep_asking.specs.Told.{event_as, reply_as, terms_as}
+use Rattle.keep_asking.specs.Told.{event_of_answer}
 use Rattle.keep_inventory.specs.Inventories.{Inventory}
 use Rattle.keep_lanes.specs.declared.lanes.Answered.{Answered}
 use Rattle.watch_machine.specs.declared.command.Command.TheVariants.{Go}
 use Rattle.watch_machine.specs.declared.command.Output.{Output}
 use Rattle.watch_machine.specs.declared.event.Event.{Event}
 use Rattle.watch_machine.specs.declared.event.Event.TheVariants as events
-use Rattle.watch_machine.specs.declared.event.Operation.{Operation}
 use Rattle.watch_machine.specs.declared.lanes.Out.{Out}
 use Rattle.watch_machine.specs.History.{Turned}
 use Rattle.watch_machine.specs.State.{WatchState}
@@ -26,10 +25,6 @@ abbrev pub turn_with_output : Event → Output → WatchState → Turned
 turn_with_output event output new = record { event = event; result = Ok output; state = new }
 
 -- ---- answers
-
--- the event that an answer says, where that was asked of its entry: the reply, and the terms that a lookup tells
-abbrev pub event_of_answer : Inventory → Operation → Answered → Event
-event_of_answer s operation a = event_as operation a.index (reply_as operation s a.index a.answer) (terms_as operation s a.index a.answer)
 
 -- an answer, as that to the request that was out of its entry
 abbrev pub turn_of_told_answer : (s : Inventory) (a : Answered) (old new : WatchState) (text : List ℕ) → AnswerIsTakenAndTold s a old new text → Turned

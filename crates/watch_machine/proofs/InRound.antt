@@ -18,7 +18,7 @@ use Rattle.watch_machine.specs.Settling.{settled_track}
 use Rattle.watch_machine.specs.Wait.{latest, next_of, time_at, try_at}
 use Rattle.watch_machine.specs.Wanted.{is_alive, wants}
 use Rattle.watch_machine.specs.code.Line.{left_at, try_left}
-use Rattle.watch_machine.specs.code.Lull.{is_failed, is_owed_alone, time_due}
+use Rattle.watch_machine.specs.code.Lull.{is_failed_try, is_owed_alone, time_due}
 use Rattle.watch_machine.proofs.Quiet.{idle_time, is_kept, is_settled, never_waits, next_free, next_out, not_yet, opens_none, out_due, out_fresh, stays, time_waits, unwanted_fresh}
 
 -- of an entry nothing is to be done at this moment but to go out where it is due, as it was before; and then at that one
@@ -78,7 +78,7 @@ module _ (margin : ℕ) (e : Entry) (need : ℕ) (p : Presence) (since at : ℕ)
   or_true false = refl
 
   -- its request is out
-  left_out : is_failed x.attempt ≡ false → x.out ≡ true → IsLeft margin e need p since at x NEVER
+  left_out : is_failed_try x.attempt ≡ false → x.out ≡ true → IsLeft margin e need p since at x NEVER
   left_out settled out = record {
     settled = is_settled margin e need p at x settled;
     pressed = stays margin e need p at x (out_fresh margin e need p at x out) (ap (λ b. wants x need || b) out ∙ or_true (wants x need));
@@ -89,7 +89,7 @@ module _ (margin : ℕ) (e : Entry) (need : ℕ) (p : Presence) (since at : ℕ)
 
   -- it is wanted
   left_wanted :
-      is_failed x.attempt ≡ false → x.out ≡ false → wants x need ≡ true → at < own → at < time_due margin e x → IsLeft margin e need p since at x (min own (time_due margin e x))
+      is_failed_try x.attempt ≡ false → x.out ≡ false → wants x need ≡ true → at < own → at < time_due margin e x → IsLeft margin e need p since at x (min own (time_due margin e x))
   left_wanted settled free wanted ahead yet =
       let old = not_yet margin e need p at x low yet in record {
         settled = is_settled margin e need p at x settled;
@@ -105,7 +105,7 @@ module _ (margin : ℕ) (e : Entry) (need : ℕ) (p : Presence) (since at : ℕ)
 
   -- it is wanted no more, and has nothing to be let go
   left_loose :
-      is_failed x.attempt ≡ false → x.out ≡ false → wants x need ≡ false → is_owed_alone x.owes x.attempt ≡ true → at < own → IsLeft margin e need p since at x own
+      is_failed_try x.attempt ≡ false → x.out ≡ false → wants x need ≡ false → is_owed_alone x.owes x.attempt ≡ true → at < own → IsLeft margin e need p since at x own
   left_loose settled free unwanted alone ahead =
       let old = unwanted_fresh margin e need p at x unwanted in record {
         settled = is_settled margin e need p at x settled;
@@ -131,7 +131,7 @@ module _ (margin : ℕ) (e : Entry) (need : ℕ) (p : Presence) (since at : ℕ)
   abbrev any_left : ℕ
   any_left = if x.out then NEVER else free_left
 
-  loose_is : is_failed x.attempt ≡ false → x.out ≡ false → wants x need ≡ false → at < loose → IsLeft margin e need p since at x loose
+  loose_is : is_failed_try x.attempt ≡ false → x.out ≡ false → wants x need ≡ false → at < loose → IsLeft margin e need p since at x loose
   loose_is settled free unwanted ahead =
       elim (cases_Bool (is_owed_alone x.owes x.attempt)) as (λ _. IsLeft margin e need p since at x loose) [
         | inl alone ↦
@@ -140,7 +140,7 @@ module _ (margin : ℕ) (e : Entry) (need : ℕ) (p : Presence) (since at : ℕ)
         | inr other ↦ absurd (let is = cond-false (is_owed_alone x.owes x.attempt) own 0 other in omega (arith, ahead, is))
       ]
 
-  free_is : is_failed x.attempt ≡ false → x.out ≡ false → at < free_left → IsLeft margin e need p since at x free_left
+  free_is : is_failed_try x.attempt ≡ false → x.out ≡ false → at < free_left → IsLeft margin e need p since at x free_left
   free_is settled free ahead =
       elim (cases_Bool (wants x need)) as (λ _. IsLeft margin e need p since at x free_left) [
         | inl wanted ↦
@@ -152,7 +152,7 @@ module _ (margin : ℕ) (e : Entry) (need : ℕ) (p : Presence) (since at : ℕ)
             subst (IsLeft margin e need p since at x) (sym is) (loose_is settled free unwanted (subst (λ n. at < n) is ahead))
       ]
 
-  any_is : is_failed x.attempt ≡ false → at < any_left → IsLeft margin e need p since at x any_left
+  any_is : is_failed_try x.attempt ≡ false → at < any_left → IsLeft margin e need p since at x any_left
   any_is settled ahead =
       elim (cases_Bool x.out) as (λ _. IsLeft margin e need p since at x any_left) [
         | inl out ↦ subst (IsLeft margin e need p since at x) (sym (cond-true x.out NEVER free_left out)) (left_out settled out)
@@ -164,10 +164,10 @@ module _ (margin : ℕ) (e : Entry) (need : ℕ) (p : Presence) (since at : ℕ)
   pub left_is : at < left_at margin e need p since x → IsLeft margin e need p since at x (left_at margin e need p since x)
   unfolding left_at
   left_is ahead =
-      elim (cases_Bool (is_failed x.attempt)) as (λ _. IsLeft margin e need p since at x (if is_failed x.attempt then 0 else any_left)) [
-        | inl failed ↦ absurd (let is = cond-true (is_failed x.attempt) 0 any_left failed in omega (arith, ahead, is))
+      elim (cases_Bool (is_failed_try x.attempt)) as (λ _. IsLeft margin e need p since at x (if is_failed_try x.attempt then 0 else any_left)) [
+        | inl failed ↦ absurd (let is = cond-true (is_failed_try x.attempt) 0 any_left failed in omega (arith, ahead, is))
         | inr settled ↦
-            let is = cond-false (is_failed x.attempt) 0 any_left settled in
+            let is = cond-false (is_failed_try x.attempt) 0 any_left settled in
             subst (IsLeft margin e need p since at x) (sym is) (any_is settled (subst (λ n. at < n) is ahead))
       ]
 

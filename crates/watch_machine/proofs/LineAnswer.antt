@@ -25,7 +25,7 @@ use Rattle.watch_machine.specs.Sending.{is_alone_try, place_of}
 use Rattle.watch_machine.specs.State.{no_track, track_in}
 use Rattle.watch_machine.specs.Wanted.{believed, fixed_ends, is_fixed, least, least_over, limit, need_here, need_of, seen_entry, view, wants}
 use Rattle.watch_machine.specs.code.Line.{IsInLine, IsLine, IsPlain, entries_of, has, left_at, left_of, rest_of}
-use Rattle.watch_machine.specs.code.Lull.{is_failed}
+use Rattle.watch_machine.specs.code.Lull.{is_failed_try}
 use Rattle.watch_machine.proofs.Cases.{if_cases, not_both}
 use Rattle.watch_machine.proofs.Leasts.{least_capped}
 use Rattle.watch_machine.proofs.LineSent.{any_kept, each_has}
@@ -126,9 +126,9 @@ module _ (p : Presence) (since : ℕ) (x : Track) where
   unfolding is_due
   idle_not_due idle = ap (λ o. not x.out && is_due_try p since x o) idle ∙ and_no (not x.out) false refl
 
-  out_left : (margin need : ℕ) (e : Entry) → is_failed x.attempt ≡ false → x.out ≡ true → left_at margin e need p since x ≡ NEVER
+  out_left : (margin need : ℕ) (e : Entry) → is_failed_try x.attempt ≡ false → x.out ≡ true → left_at margin e need p since x ≡ NEVER
   unfolding left_at
-  out_left margin need e settled out = cond-false (is_failed x.attempt) 0 _ settled ∙ cond-true x.out NEVER _ out
+  out_left margin need e settled out = cond-false (is_failed_try x.attempt) 0 _ settled ∙ cond-true x.out NEVER _ out
 
   abbrev idle_one : Track
   idle_one = record x { attempt = None }

@@ -21,7 +21,7 @@ use Rattle.watch_machine.specs.Sending.{is_alone_try, is_before, is_partial, pla
 use Rattle.watch_machine.specs.State.{no_track, track_in}
 use Rattle.watch_machine.specs.Wanted.{believed, need_of}
 use Rattle.watch_machine.specs.code.Line.{IsInLine, IsLine, entries_of, has, left_at, left_of, moved, requests_of, rest_of, sent_on}
-use Rattle.watch_machine.specs.code.Lull.{is_failed}
+use Rattle.watch_machine.specs.code.Lull.{is_failed_try}
 use Rattle.watch_machine.specs.code.Places.{place_is}
 use Rattle.watch_machine.proofs.Leasts.{least_capped}
 use Rattle.watch_machine.proofs.Members.{AreDistinct, drop_distinct, left_has}
@@ -90,9 +90,9 @@ module _ (at : ℕ) (x : Track) where
       min last (left_at margin e need p since (sent_track at x)) ≡ min last (left_at margin e need p since x)
   unfolding left_at
   sent_left margin need since last beyond e p low never far =
-      elim (cases_Bool (is_failed x.attempt)) [
-        | inl failed ↦ (let a = cond-true (is_failed x.attempt) 0 NEVER failed in let b = cond-true (is_failed x.attempt) 0 _ failed in ap (min last) (a ∙ sym b))
-        | inr settled ↦ (let a = cond-false (is_failed x.attempt) 0 NEVER settled in omega (arith, low, never, far, a))
+      elim (cases_Bool (is_failed_try x.attempt)) [
+        | inl failed ↦ (let a = cond-true (is_failed_try x.attempt) 0 NEVER failed in let b = cond-true (is_failed_try x.attempt) 0 _ failed in ap (min last) (a ∙ sym b))
+        | inr settled ↦ (let a = cond-false (is_failed_try x.attempt) 0 NEVER settled in omega (arith, low, never, far, a))
       ]
 
 -- the same of places that are left in line

@@ -17,7 +17,7 @@ use Rattle.watch_machine.specs.Round.{opens}
 use Rattle.watch_machine.specs.Settling.{settled_track, settled_try}
 use Rattle.watch_machine.specs.Wait.{latest, next_of, time_at, try_at}
 use Rattle.watch_machine.specs.Wanted.{is_alive, wants}
-use Rattle.watch_machine.specs.code.Lull.{due_at, is_failed, is_owed_alone, time_due, try_due}
+use Rattle.watch_machine.specs.code.Lull.{due_at, is_failed_try, is_owed_alone, time_due, try_due}
 use Rattle.watch_machine.proofs.Tests.{and_no, not_true}
 
 -- of an entry nothing is to be done at this moment, but at that one
@@ -38,11 +38,11 @@ module _ (margin : ℕ) (e : Entry) (need : ℕ) (p : Presence) (at : ℕ) (x : 
   last = latest margin at
 
   -- no pause is set
-  try_settled : (o : Option Try) → is_failed o ≡ false → settled_try margin at x o ≡ o
+  try_settled : (o : Option Try) → is_failed_try o ≡ false → settled_try margin at x o ≡ o
   try_settled None h = refl
   try_settled (Some t) h = cond-false t.failed (Some _) (Some t) h
 
-  pub is_settled : is_failed x.attempt ≡ false → settled_track margin at x ≡ x
+  pub is_settled : is_failed_try x.attempt ≡ false → settled_track margin at x ≡ x
   unfolding settled_track
   is_settled h = ap (λ o. record x { attempt = o }) (try_settled x.attempt h)
 
@@ -148,7 +148,7 @@ module _ (margin : ℕ) (e : Entry) (need : ℕ) (p : Presence) (at : ℕ) (x : 
     next_out out = cond-true x.out last (min (try_at p at last x x.attempt) (time_at margin e x need last)) out
 
     -- its request is out
-    still_out : is_failed x.attempt ≡ false → x.out ≡ true → IsStill margin e need p at x NEVER
+    still_out : is_failed_try x.attempt ≡ false → x.out ≡ true → IsStill margin e need p at x NEVER
     still_out settled out = record {
       settled = is_settled settled;
       pressed = stays (out_fresh out) (ap (λ b. wants x need || b) out ∙ or_true (wants x need));
@@ -169,7 +169,7 @@ module _ (margin : ℕ) (e : Entry) (need : ℕ) (p : Presence) (at : ℕ) (x : 
         ]
 
     still_wanted :
-        is_failed x.attempt ≡ false → x.out ≡ false → wants x need ≡ true → at < try_due p x x.attempt → at < time_due margin e x →
+        is_failed_try x.attempt ≡ false → x.out ≡ false → wants x need ≡ true → at < try_due p x x.attempt → at < time_due margin e x →
         IsStill margin e need p at x (min (try_due p x x.attempt) (time_due margin e x))
     still_wanted settled free wanted later ahead = record {
       settled = is_settled settled;
@@ -185,7 +185,7 @@ module _ (margin : ℕ) (e : Entry) (need : ℕ) (p : Presence) (at : ℕ) (x : 
 
     -- it is wanted no more, and has nothing to be let go
     still_left :
-        is_failed x.attempt ≡ false → x.out ≡ false → wants x need ≡ false → is_owed_alone x.owes x.attempt ≡ true → at < try_due p x x.attempt →
+        is_failed_try x.attempt ≡ false → x.out ≡ false → wants x need ≡ false → is_owed_alone x.owes x.attempt ≡ true → at < try_due p x x.attempt →
         IsStill margin e need p at x (try_due p x x.attempt)
     still_left settled free unwanted alone later = record {
       settled = is_settled settled;
@@ -212,7 +212,7 @@ module _ (margin : ℕ) (e : Entry) (need : ℕ) (p : Presence) (at : ℕ) (x : 
     abbrev any_due : ℕ
     any_due = if x.out then NEVER else free_due
 
-    left_still : is_failed x.attempt ≡ false → x.out ≡ false → wants x need ≡ false → at < left → IsStill margin e need p at x left
+    left_still : is_failed_try x.attempt ≡ false → x.out ≡ false → wants x need ≡ false → at < left → IsStill margin e need p at x left
     left_still settled free unwanted ahead =
         elim (cases_Bool (is_owed_alone x.owes x.attempt)) as (λ _. IsStill margin e need p at x left) [
           | inl alone ↦
@@ -221,7 +221,7 @@ module _ (margin : ℕ) (e : Entry) (need : ℕ) (p : Presence) (at : ℕ) (x : 
           | inr other ↦ absurd (let is = cond-false (is_owed_alone x.owes x.attempt) (try_due p x x.attempt) 0 other in omega (arith, ahead, is))
         ]
 
-    free_still : is_failed x.attempt ≡ false → x.out ≡ false → at < free_due → IsStill margin e need p at x free_due
+    free_still : is_failed_try x.attempt ≡ false → x.out ≡ false → at < free_due → IsStill margin e need p at x free_due
     free_still settled free ahead =
         elim (cases_Bool (wants x need)) as (λ _. IsStill margin e need p at x free_due) [
           | inl wanted ↦
@@ -233,7 +233,7 @@ module _ (margin : ℕ) (e : Entry) (need : ℕ) (p : Presence) (at : ℕ) (x : 
               subst (IsStill margin e need p at x) (sym is) (left_still settled free unwanted (subst (λ n. at < n) is ahead))
         ]
 
-    any_still : is_failed x.attempt ≡ false → at < any_due → IsStill margin e need p at x any_due
+    any_still : is_failed_try x.attempt ≡ false → at < any_due → IsStill margin e need p at x any_due
     any_still settled ahead =
         elim (cases_Bool x.out) as (λ _. IsStill margin e need p at x any_due) [
           | inl out ↦ subst (IsStill margin e need p at x) (sym (cond-true x.out NEVER free_due out)) (still_out settled out)
@@ -245,10 +245,10 @@ module _ (margin : ℕ) (e : Entry) (need : ℕ) (p : Presence) (at : ℕ) (x : 
     pub still : at < due_at margin e need p x → IsStill margin e need p at x (due_at margin e need p x)
     unfolding due_at
     still ahead =
-        elim (cases_Bool (is_failed x.attempt)) as (λ _. IsStill margin e need p at x (if is_failed x.attempt then 0 else any_due)) [
-          | inl failed ↦ absurd (let is = cond-true (is_failed x.attempt) 0 any_due failed in omega (arith, ahead, is))
+        elim (cases_Bool (is_failed_try x.attempt)) as (λ _. IsStill margin e need p at x (if is_failed_try x.attempt then 0 else any_due)) [
+          | inl failed ↦ absurd (let is = cond-true (is_failed_try x.attempt) 0 any_due failed in omega (arith, ahead, is))
           | inr settled ↦
-              let is = cond-false (is_failed x.attempt) 0 any_due settled in
+              let is = cond-false (is_failed_try x.attempt) 0 any_due settled in
               subst (IsStill margin e need p at x) (sym is) (any_still settled (subst (λ n. at < n) is ahead))
         ]
 
@@ -261,5 +261,5 @@ try_paced p pace x (Some t) = refl
 pub due_paced : (margin : ℕ) (e : Entry) (need : ℕ) (p : Presence) (pace : ℕ) (x : Track) → due_at margin e need (record p { pace = pace }) x ≡ due_at margin e need p x
 unfolding due_at
 due_paced margin e need p pace x =
-    ap (λ n. if is_failed x.attempt then 0 else (if x.out then NEVER else (if wants x need then min n (time_due margin e x) else (if is_owed_alone x.owes x.attempt then n else 0))))
+    ap (λ n. if is_failed_try x.attempt then 0 else (if x.out then NEVER else (if wants x need then min n (time_due margin e x) else (if is_owed_alone x.owes x.attempt then n else 0))))
     (try_paced p pace x x.attempt)

@@ -6,7 +6,7 @@ ghost use Rattle.watch_machine.specs.Clocks.{sec};
 ghost use Rattle.watch_machine.specs.State.{track_in};
 ghost use Rattle.watch_machine.specs.Wanted.{HasNeeds, believed};
 ghost use Rattle.watch_machine.specs.declared.lull.TheConstants.{NEVER};
-ghost use Rattle.watch_machine.specs.code.Lull.{IsLull, due_at, is_failed, is_owed_alone, next_due, time_due, try_due};
+ghost use Rattle.watch_machine.specs.code.Lull.{IsLull, due_at, is_failed_try, is_owed_alone, next_due, time_due, try_due};
 
 use crate::beginning::is_pressed;
 use crate::clocks::Clocks;
@@ -37,7 +37,7 @@ pub(crate) struct Lull {
 
 /// Whether its try failed since the last clock, so that the next one sets its pause.
 pub(crate) fn is_failed(track: Track) -> bool
-    ensures { result ≡ is_failed track.attempt }
+    ensures { result ≡ is_failed_try track.attempt }
 {
     match track.attempt {
         None => false,

@@ -49,7 +49,7 @@ pub(crate) fn play<W: Sink>(
     last(alloc, agent, due, requests, out)
 }
 
-/// Behind the last wake-up that a run may have: its end, or that it would have another.
+/// After the last wake-up that a run may have: its end, or that it would have another.
 fn last<W: Sink>(
     alloc: Global,
     agent: &mut Agent,

@@ -25,7 +25,7 @@ use Rattle.watch_machine.specs.Settling.{pace_after, presence_after, settled_tra
 use Rattle.watch_machine.specs.State.{WatchState, each, track_in}
 use Rattle.watch_machine.specs.Step.{nothing_noted}
 use Rattle.watch_machine.specs.Wanted.{believed, is_fixed, least, need_of, wants}
-use Rattle.watch_machine.specs.code.Lull.{is_failed, is_owed_alone, paced_by, time_due, wait_by}
+use Rattle.watch_machine.specs.code.Lull.{is_failed_try, is_owed_alone, paced_by, time_due, wait_by}
 use Rattle.watch_machine.specs.code.Places.{place_is}
 
 -- the presence, whatever answers take
@@ -40,7 +40,7 @@ try_left p since x (Some t) = if nat_le (ready p x t) since then NEVER else read
 -- the moment at which something is to be done, but for those in line, of an entry that carries that need
 unfoldable pub left_at : ℕ → Entry → ℕ → Presence → ℕ → Track → ℕ
 left_at margin e need p since x =
-    if is_failed x.attempt then 0
+    if is_failed_try x.attempt then 0
     else (if x.out then NEVER
     else (if wants x need then min (try_left p since x x.attempt) (time_due margin e x)
     else (if is_owed_alone x.owes x.attempt then try_left p since x x.attempt else 0)))
@@ -100,7 +100,7 @@ moved line n = record line { from = min line.from (length line.places.items) + n
 -- an answer that made a track of the one before it leaves what is known of the others, and nothing is to be asked of its own
 pub record IsPlain (before after : Track) : Type 0 where
   pub out : before.out ≡ true
-  pub settled : is_failed before.attempt ≡ false
+  pub settled : is_failed_try before.attempt ≡ false
   pub loose : is_fixed before ≡ false
   pub still : is_fixed after ≡ false
   pub idle : after.attempt ≡ None

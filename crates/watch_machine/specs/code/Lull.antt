@@ -24,9 +24,9 @@ use Rattle.watch_machine.specs.Wait.{latest, next_of}
 use Rattle.watch_machine.specs.Wanted.{believed, is_alive, least, need_of, wants}
 
 -- a try that failed since the last clock
-abbrev pub is_failed : Option Try → Bool
-is_failed None = false
-is_failed (Some t) = t.failed
+abbrev pub is_failed_try : Option Try → Bool
+is_failed_try None = false
+is_failed_try (Some t) = t.failed
 
 -- nothing is to be asked, or only the lookup that is owed
 abbrev pub is_owed_alone : Bool → Option Try → Bool
@@ -45,7 +45,7 @@ time_due margin e x = if is_pressed x then NEVER else ms (time margin e x)
 -- let go; NEVER while its request is out
 unfoldable pub due_at : ℕ → Entry → ℕ → Presence → Track → ℕ
 due_at margin e need p x =
-    if is_failed x.attempt then 0
+    if is_failed_try x.attempt then 0
     else (if x.out then NEVER
     else (if wants x need then min (try_due p x x.attempt) (time_due margin e x)
     else (if is_owed_alone x.owes x.attempt then try_due p x x.attempt else 0)))

@@ -1,5 +1,5 @@
 -- What the standard library trims.
-use Rattle.keep_calling.proofs.Asked.{stripped_is}
+use Rattle.keep_words.proofs.Stripped.{stripped_is}
 use Rattle.keep_calling.proofs.words.stripped.Goals as goal
 
 pub returns : goal.returns

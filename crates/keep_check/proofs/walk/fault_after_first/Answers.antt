@@ -1,4 +1,4 @@
--- Behind its first wake-up a run fails at the second, or where the bound first reaches the need, or nowhere.
+-- After its first wake-up a run fails at the second, or where the bound first reaches the need, or nowhere.
 use Rattle.std.proofs.Common.{◌≡◌, ◌∙◌, ℕ, ◌+◌, ◌-◌, ◌*◌, ◌<◌, ◌≤◌, ◌++◌, Some, refl, ap, subst, arith, inl, inr}
 use Rattle.std.proofs.Math.Nat.{mul-le-mul_left}
 use Rattle.keep_tree.specs.declared.entry.Entry.{Entry}

@@ -1,5 +1,5 @@
 -- What the standard library trims.
-use Rattle.keep_secrets.proofs.Stripped.{stripped_is}
+use Rattle.keep_words.proofs.Stripped.{stripped_is}
 use Rattle.keep_secrets.proofs.credential.stripped.Goals as goal
 
 pub returns : goal.returns

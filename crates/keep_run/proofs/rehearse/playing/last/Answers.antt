@@ -1,4 +1,4 @@
--- Behind the last wake-up allowed the run ends, or tells that another is due.
+-- After the last wake-up allowed the run ends, or tells that another is due.
 use Rattle.std.proofs.Common.{subst}
 use Rattle.keep_run.specs.code.Playing.{OpensOrEnds}
 use Rattle.keep_run.proofs.Goes.{due_of}
