@@ -100,7 +100,7 @@ fn written_margin(was: &Served) -> Option<u32> {
 fn settled(alloc: Global, text: &str) -> Result<String, Fail> {
     let was = served(alloc, text)?;
     let rows = listed(alloc, &was)?;
-    Ok(settle(alloc, written_margin(&was), None, &rows)?.text)
+    Ok(settle(alloc, written_margin(&was), None, rows.list())?.text)
 }
 
 #[test]
@@ -120,7 +120,7 @@ fn a_margin_that_is_not_written_stays_so(rt: HostRuntime) -> Result<(), Fail> {
 }
 
 fn fault(alloc: Global, margin: u32, rows: &Rows) -> Option<SettleFault> {
-    settle(alloc, Some(margin), Some(86400), rows).err()
+    settle(alloc, Some(margin), Some(86400), rows.list()).err()
 }
 
 // Asserts that rows are settled with this margin, or why they are not.
@@ -137,9 +137,9 @@ const MIXED: [Entry; 4] = [
 ];
 
 // The names of rows, each with a space after it.
-fn names(alloc: Global, rows: &Rows) -> Result<Vec<u8>, AllocError> {
+fn names(alloc: Global, rows: &[Row]) -> Result<Vec<u8>, AllocError> {
     let mut names = Vec::new(alloc);
-    for row in rows.list() {
+    for row in rows {
         names.extend_from_slice(row.name.list())?;
         names.push(b' ')?;
     }
@@ -148,7 +148,7 @@ fn names(alloc: Global, rows: &Rows) -> Result<Vec<u8>, AllocError> {
 
 // Whether these are the names of rows, in the order in which they are settled.
 fn are_ordered(alloc: Global, rows: &Rows, settled: &[u8]) -> Result<bool, AllocError> {
-    let ordered = in_order(alloc, rows)?;
+    let ordered = in_order(alloc, rows.list())?;
     Ok(names(alloc, &ordered)?.as_slice() == settled)
 }
 
@@ -232,7 +232,7 @@ fn with_one_more(alloc: Global) -> Result<Settled, Fail> {
         b"new",
         What::Add(row(alloc, &("new", None, 9, "s.new"))?),
     )?;
-    Ok(settle(alloc, Some(30), None, &rows)?)
+    Ok(settle(alloc, Some(30), None, rows.list())?)
 }
 
 #[test]

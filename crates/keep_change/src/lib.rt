@@ -24,7 +24,7 @@ pub use change::{Change, Record, What};
 pub use compaction::voids;
 pub use fault::ChangeFault;
 pub use laws::{compaction_changes_nothing, records_are_read_back, settling_changes_nothing};
-pub use listed::rows_of;
+pub use listed::{listed_rows, rows_of};
 pub use reader::read_record;
 pub use replaying::{File, Note, Replayed, Why, replay};
 pub use row::Row;

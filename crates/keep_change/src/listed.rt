@@ -11,15 +11,22 @@ use keep_tree::Forest;
 use std::alloc::{AllocError, Global};
 
 /// The rows of what is served, one for each entry, in order. The only error is out of memory.
-#[tactic(auto, using(crate::proofs::Rowed::rows_none, crate::proofs::Rowed::rows_more), unfolding(crate::specs::Listed::rows_of_served))]
 pub fn rows_of(alloc: Global, served: &Served) -> Result<Rows, AllocError>
     ensures { IfOk result (λ rows. rows ≡ rows_of_served served.now) }
+{
+    Rows::of(alloc, listed_rows(alloc, served)?)
+}
+
+/// The same rows, without a look-up by name. The only error is out of memory.
+#[tactic(auto, using(crate::proofs::Rowed::rows_none, crate::proofs::Rowed::rows_more), unfolding(crate::specs::Listed::rows_of_served))]
+pub fn listed_rows(alloc: Global, served: &Served) -> Result<Vec<Row>, AllocError>
+    ensures { IfOk result (λ rows. rows.items ≡ rows_of_served served.now) }
 {
     let mut rows = Vec::new(alloc);
     for index in 0..served.inventory().forest().len() {
         rows.push(row_at(alloc, served, index)?)?;
     }
-    Rows::of(alloc, rows)
+    Ok(rows)
 }
 
 // The row of the entry at an index.

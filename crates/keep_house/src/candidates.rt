@@ -176,7 +176,7 @@ fn candidate_in(
     ensures found { IfOk result (IsAlone margin rows.now name.now) }
     ensures entry { IfOk result IsCandidate }
 {
-    let Ok(settled) = settle(alloc, Some(margin), None, rows) else {
+    let Ok(settled) = settle(alloc, Some(margin), None, rows.list()) else {
         return Err(AllocError);
     };
     let Ok(inventory) = read_for_good(alloc, settled.text.as_bytes()) else {

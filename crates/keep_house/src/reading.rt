@@ -12,7 +12,7 @@ use crate::demands::Demands;
 use crate::fault::StartFault;
 use crate::first_fault::first_fault;
 use crate::secret_files::fill_all;
-use keep_change::{Rows, rows_of};
+use keep_change::listed_rows;
 use keep_files::Inputs;
 use keep_inventory::{Inventory, Note, Served, read_served};
 use keep_served::{read_for_good, served_for_good};
@@ -88,9 +88,8 @@ fn filled_text<I: Inputs>(
     ensures unfilled { IfErr result (λ fault. (fault ≡ OutOfMemory) ⊎ (IsUnfilled (I.bytes_at inputs.old) folder.now served.now fault ⊎ NotTogether (I.bytes_at inputs.old) folder.now served.now fault)) }
     ensures same { (path : List ℕ) → I.bytes_at inputs.new path ≡ I.bytes_at inputs.old path }
 {
-    let rows = rows_of(alloc, served)?;
-    let filled = fill_all(alloc, rows.list(), folder.as_bytes(), inputs)?;
-    let filled = Rows::of(alloc, filled)?;
+    let rows = listed_rows(alloc, served)?;
+    let filled = fill_all(alloc, &rows, folder.as_bytes(), inputs)?;
     let margin = margin_with(served.inventory().forest(), earlier);
     let settled = settle(alloc, Some(margin), None, &filled)?;
     Ok(settled.text)
@@ -124,7 +123,7 @@ fn wide_text(alloc: Global, earlier: u32, text: &[u8]) -> Result<String, StartFa
     ensures { IfOk result (λ wide. IsWideText earlier text.now (string_bytes wide)) }
 {
     let served = read_served(alloc, text)?;
-    let rows = rows_of(alloc, &served)?;
+    let rows = listed_rows(alloc, &served)?;
     let margin = margin_with(served.inventory().forest(), earlier);
     let settled = settle(alloc, Some(margin), None, &rows)?;
     Ok(settled.text)

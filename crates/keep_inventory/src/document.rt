@@ -27,7 +27,7 @@ use toml::Table;
 pub fn read_served(alloc: Global, bytes: &[u8]) -> Result<Served, InvFault>
     ensures { GivesOrInvFault (λ served. served) result (read_served bytes.now) }
 {
-    let table = read_tree(alloc, bytes)?;
+    let table = read_document(alloc, bytes)?;
     served_in(alloc, &table)
 }
 
@@ -56,9 +56,13 @@ pub fn read(alloc: Global, bytes: &[u8]) -> Result<Inventory, InvFault>
     read_served(alloc, bytes)?.into_whole()
 }
 
-// The tree of a document.
+/// The tree of a document of TOML 1.1 in UTF-8.
+///
+/// # Errors
+///
+/// `NotToml`, or out of memory.
 #[tactic(auto, unfolding(crate::specs::Inventory::document_tree))]
-fn read_tree(alloc: Global, bytes: &[u8]) -> Result<Table, InvFault>
+pub fn read_document(alloc: Global, bytes: &[u8]) -> Result<Table, InvFault>
     ensures { GivesOrInvFault table_view result (document_tree bytes.now) }
 {
     let Ok(text) = std::str::from_utf8(bytes) else {
@@ -79,9 +83,14 @@ fn judged(read: Result<Table, toml::de::Error>) -> Result<Table, InvFault>
     }
 }
 
-// What is served by a document's tree.
+/// What a document's tree writes, with the tables `[[token]]` and `[[lease]]`, in the full language: [`read_served`] without its
+/// first step.
+///
+/// # Errors
+///
+/// The first fault in the order of [`InvFault`], of which there is no `NotToml`; or out of memory.
 #[tactic(auto, unfolding(crate::specs::Inventory::served_of))]
-fn served_in(alloc: Global, table: &Table) -> Result<Served, InvFault>
+pub fn served_in(alloc: Global, table: &Table) -> Result<Served, InvFault>
     ensures { GivesOrInvFault (λ served. served) result (served_of full (table_view table.now)) }
 {
     let draft = read_draft(alloc, table)?;

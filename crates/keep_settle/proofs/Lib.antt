@@ -1,3 +1,4 @@
 pub mod Ordered
 pub mod Fields
 pub mod Staying
+pub mod Read

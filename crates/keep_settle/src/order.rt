@@ -3,19 +3,19 @@ ghost use Rattle.std.specs.List.{filter};
 ghost use Rattle.keep_tree.specs.Push.{is_lease};
 ghost use Rattle.keep_settle.specs.Order.{in_order, is_lease_row, is_token_row};
 
-use keep_change::{Row, Rows};
+use keep_change::Row;
 use keep_tree::Kind;
 use std::alloc::{AllocError, Global};
 
 /// The rows as the tables of a file stand: tokens before leases, and each kind in its order. The only error is out of memory.
 #[tactic(auto, unfolding(crate::specs::Order::in_order))]
-pub fn in_order(alloc: Global, rows: &Rows) -> Result<Rows, AllocError>
-    ensures { IfOk result (λ ordered. ordered ≡ in_order rows.now) }
+pub fn in_order(alloc: Global, rows: &[Row]) -> Result<Vec<Row>, AllocError>
+    ensures { IfOk result (λ ordered. ordered.items ≡ in_order rows.now) }
 {
     let mut ordered = Vec::new(alloc);
-    push_tokens(rows.list(), &mut ordered)?;
-    push_leases(rows.list(), &mut ordered)?;
-    Rows::of(alloc, ordered)
+    push_tokens(rows, &mut ordered)?;
+    push_leases(rows, &mut ordered)?;
+    Ok(ordered)
 }
 
 // Appends the rows of the tokens.

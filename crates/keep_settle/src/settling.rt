@@ -3,7 +3,8 @@ ghost use Rattle.toml.specs.Data.{get_member};
 ghost use Rattle.toml.specs.View.{table_view, view};
 ghost use Rattle.keep_inventory.specs.Keys.{key_text};
 ghost use Rattle.keep_inventory.specs.declared.limits.TheConstants.{MOST_INVENTORY};
-ghost use Rattle.keep_inventory.specs.Inventory.{read_served};
+ghost use Rattle.keep_inventory.specs.Inventory.{document_tree, read_served, served_of};
+ghost use Rattle.keep_inventory.specs.Languages.{full};
 ghost use Rattle.keep_change.specs.Listed.{rows_of_served};
 ghost use Rattle.keep_settle.specs.Settled.{HasMost, TextIsSettled, TextWritesMost, in_seconds};
 
@@ -11,8 +12,8 @@ use crate::fault::SettleFault;
 use crate::order::in_order;
 use crate::same::are_same;
 use crate::table::document;
-use keep_change::{Rows, rows_of};
-use keep_inventory::{InvFault, Key, MOST_INVENTORY, Served, read_served};
+use keep_change::{Row, listed_rows};
+use keep_inventory::{InvFault, Key, MOST_INVENTORY, Served, read_document, served_in};
 use keep_moment::Span;
 use std::alloc::Global;
 use toml::{Table, Value};
@@ -35,19 +36,16 @@ pub fn settle(
     alloc: Global,
     margin: Option<u32>,
     system_max: Option<Span>,
-    rows: &Rows,
+    rows: &[Row],
 ) -> Result<Settled, SettleFault>
     ensures { IfOk result (λ s. TextIsSettled margin system_max rows.now (string_bytes s.text) s.served) }
 {
     let ordered = in_order(alloc, rows)?;
-    let table = document(alloc, margin, system_max, ordered.list())?;
+    let table = document(alloc, margin, system_max, &ordered)?;
     let text = print(alloc, &table)?;
-    let served = read(alloc, text.as_bytes())?;
-    if !is_with(margin, &served) || !writes_most(alloc, text.as_str(), system_max)? {
-        return Err(SettleFault::Differs);
-    }
-    let read = rows_of(alloc, &served)?;
-    if !are_same(read.list(), ordered.list()) {
+    let served = read_back(alloc, margin, system_max, text.as_bytes())?;
+    let listed = listed_rows(alloc, &served)?;
+    if !are_same(&listed, &ordered) {
         return Err(SettleFault::Differs);
     }
     Ok(Settled { text, served })
@@ -68,28 +66,56 @@ fn print(alloc: Global, table: &Table) -> Result<String, SettleFault>
     Ok(text)
 }
 
-// What is served by a text.
-fn read(alloc: Global, text: &[u8]) -> Result<Served, SettleFault>
-    ensures { IfOk result (λ served. read_served text.now ≡ Ok served) }
+// What is served by a text that writes that margin and that maximum TTL of the system, or none.
+#[tactic(auto, using(crate::proofs::Read::served_by_tree))]
+fn read_back(
+    alloc: Global,
+    margin: Option<u32>,
+    system_max: Option<Span>,
+    text: &[u8],
+) -> Result<Served, SettleFault>
+    ensures read { IfOk result (λ served. read_served text.now ≡ Ok served) }
+    ensures margin { IfOk result (λ served. served.inventory.forest.margin ≡ unwrap_or margin 1) }
+    ensures has_margin { IfOk result (λ served. served.has_margin ≡ is_some margin) }
+    ensures most { IfOk result (λ served. TextWritesMost system_max text.now) }
 {
-    match read_served(alloc, text) {
+    let tree = read(alloc, text)?;
+    let served = serve(alloc, &tree)?;
+    if !is_with(margin, &served) || !has_most(&tree, system_max) {
+        return Err(SettleFault::Differs);
+    }
+    Ok(served)
+}
+
+// The tree of a text.
+fn read(alloc: Global, text: &[u8]) -> Result<Table, SettleFault>
+    ensures { IfOk result (λ tree. document_tree text.now ≡ Ok (table_view tree)) }
+{
+    match read_document(alloc, text) {
+        Ok(tree) => Ok(tree),
+        Err(fault) => Err(refused(fault)),
+    }
+}
+
+// What is served by a tree.
+fn serve(alloc: Global, tree: &Table) -> Result<Served, SettleFault>
+    ensures { IfOk result (λ served. served_of full (table_view tree.now) ≡ Ok served) }
+{
+    match served_in(alloc, tree) {
         Ok(served) => Ok(served),
-        Err(InvFault::OutOfMemory) => Err(SettleFault::OutOfMemory),
-        Err(fault) => Err(SettleFault::Refused(fault)),
+        Err(fault) => Err(refused(fault)),
     }
 }
 
-// Whether a text writes that maximum TTL of the system, or none.
-fn writes_most(alloc: Global, text: &str, most: Option<Span>) -> Result<bool, SettleFault>
-    ensures { IfOk result (λ same. same ≡ true → TextWritesMost most text.now) }
-{
-    match toml::table_from_str(alloc, text) {
-        Ok(table) => Ok(has_most(&table, most)),
-        Err(error) if error.is_memory() => Err(SettleFault::OutOfMemory),
-        Err(_) => Ok(false),
+// Why a text is no inventory.
+fn refused(fault: InvFault) -> SettleFault {
+    match fault {
+        InvFault::OutOfMemory => SettleFault::OutOfMemory,
+        fault => SettleFault::Refused(fault),
     }
 }
 
+// Whether a document writes that maximum TTL of the system, or none.
 fn has_most(table: &Table, most: Option<Span>) -> bool
     ensures { result ≡ true → HasMost most (table_view table.now) }
 {

@@ -194,7 +194,7 @@ pub(crate) fn text_of(
 ) -> Result<String, SettleFault>
     ensures { IfOk result (λ text. IsTextOf margin secrets.now rows.now (string_bytes text)) }
 {
-    let handed = handed(alloc, secrets, rows)?;
+    let handed = handed(alloc, secrets, rows.list())?;
     let Settled { text, served: _ } = settle(alloc, Some(margin), None, &handed)?;
     Ok(text)
 }

@@ -10,13 +10,16 @@ use std::alloc::{AllocError, Global};
 /// The rows that are handed to a watch: with what their files have given, and without those whose file has given nothing yet and all
 /// under them. The only error is lack of memory.
 #[tactic(auto, unfolding(crate::specs::Handed::handed))]
-pub(crate) fn handed(alloc: Global, secrets: &[Secret], rows: &Rows) -> Result<Rows, AllocError>
-    ensures { IfOk result (λ left. left ≡ handed secrets.now rows.now) }
+pub(crate) fn handed(
+    alloc: Global,
+    secrets: &[Secret],
+    rows: &[Row],
+) -> Result<Vec<Row>, AllocError>
+    ensures { IfOk result (λ left. left.items ≡ handed secrets.now rows.now) }
 {
-    let filled = all_filled(alloc, secrets, rows.list())?;
+    let filled = all_filled(alloc, secrets, rows)?;
     let filled = Rows::of(alloc, filled)?;
-    let ready = all_ready(alloc, &filled)?;
-    Rows::of(alloc, ready)
+    all_ready(alloc, &filled)
 }
 
 // Each row with what its file has given.

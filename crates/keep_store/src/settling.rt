@@ -98,7 +98,12 @@ fn is_same(text: &Text, other: &Text) -> bool
 fn next_file(alloc: Global, book: &Book) -> Result<Option<Moving>, SettleFault>
     ensures { IfOk result (λ found. MatchOption found (SaysAlready book.now) (IsMoving book.now)) }
 {
-    let Settled { text, served } = settle(alloc, Some(book.file().margin), None, book.rows())?;
+    let Settled { text, served } = settle(
+        alloc,
+        Some(book.file().margin),
+        None,
+        book.rows().list(),
+    )?;
     let moved = book.moved(alloc, text.as_str(), &served)?;
     if is_same(&moved.file().mark, &book.file().mark) {
         return Ok(None);

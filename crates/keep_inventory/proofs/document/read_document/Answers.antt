@@ -1,7 +1,7 @@
 -- Bytes that are not UTF-8 have no tree, and others have the tree of their text.
 use Rattle.toml.specs.Parse.{parse_document}
 use Rattle.keep_inventory.proofs.Trees.{as_read, tree_of_bytes, tree_of_text}
-use Rattle.keep_inventory.proofs.document.read_tree.Goals as goal
+use Rattle.keep_inventory.proofs.document.read_document.Goals as goal
 
 pub returns-in_default : goal.returns-in_default
 returns-in_default c = tree_of_bytes c.args.bytes.now c.in_default.ensures.cases.0
