@@ -1,19 +1,15 @@
-ghost use Rattle.std.specs.Prelude.{◌≡◌, ◌⊎◌, Err, IfErr, IfOk, MatchResult, Ok, option_copied, option_map, string_bytes};
+ghost use Rattle.std.specs.Prelude.{◌≡◌, Err, IfOk, MatchResult, Ok, option_copied, option_map, string_bytes};
 ghost use Rattle.std.specs.List.{list_all};
 ghost use Rattle.std.specs.BTreeMap.{keys as map_keys};
 ghost use Rattle.toml.specs.Data.{get_member};
-ghost use Rattle.toml.specs.Errors.{IsMemory};
 ghost use Rattle.toml.specs.View.{items_view, table_view, view};
 ghost use Rattle.keep_tree.specs.Push.{is_name, is_name_byte};
-ghost use Rattle.keep_inventory.specs.Answers.{GivesOrInvFault};
-ghost use Rattle.keep_inventory.specs.declared.fault.InvFault.TheVariants as inventories;
-ghost use Rattle.keep_inventory.specs.Inventory.{document_tree, read_served};
 ghost use Rattle.keep_inventory.specs.Keys.{all_keys, is_one_of, key_text};
 ghost use Rattle.keep_state.specs.Tables.{GivesOr, beside, if_name, name_in, over_entry, over_in, over_item, over_items, over_of, place_after_parent, row_at_place, row_of_table};
 
 use crate::fault::TableFault;
 use keep_change::{Row, rows_of};
-use keep_inventory::{InvFault, Key, Served, read_served};
+use keep_inventory::{Key, Served, read_document, read_served};
 use keep_moment::Text;
 use keep_tree::NAME_MAX;
 use std::alloc::{AllocError, Global};
@@ -28,35 +24,12 @@ use toml::{Table, Value};
 pub fn read_table(alloc: Global, table: &[u8]) -> Result<Row, TableFault>
     ensures { GivesOr result (row_of_table table.now) }
 {
-    let tree = read_tree(alloc, table)?;
+    let tree = read_document(alloc, table)?;
     let over = over_entry(&tree)?;
     let text = beside(alloc, over, table)?;
     match read_served(alloc, text.list()) {
         Ok(served) => entry_at(alloc, &served, place_of(over)),
         Err(fault) => Err(TableFault::from(fault)),
-    }
-}
-
-// The tree of a document.
-#[tactic(auto, unfolding(keep_inventory::specs::Inventory::document_tree))]
-fn read_tree(alloc: Global, bytes: &[u8]) -> Result<Table, InvFault>
-    ensures { GivesOrInvFault table_view result (document_tree bytes.now) }
-{
-    let Ok(text) = std::str::from_utf8(bytes) else {
-        return Err(InvFault::NotToml);
-    };
-    judged(toml::table_from_str(alloc, text))
-}
-
-// The tree that was read; and why there is none: memory ran out only where the reader says so.
-fn judged(read: Result<Table, toml::de::Error>) -> Result<Table, InvFault>
-    ensures tree { IfOk read (λ table. result ≡ Ok table) }
-    ensures none { IfErr read (λ error. (IsMemory error × (result ≡ Err inventories.OutOfMemory)) ⊎ ((¬ IsMemory error) × (result ≡ Err inventories.NotToml))) }
-{
-    match read {
-        Ok(table) => Ok(table),
-        Err(error) if error.is_memory() => Err(InvFault::OutOfMemory),
-        Err(_) => Err(InvFault::NotToml),
     }
 }
 
