@@ -27,7 +27,7 @@ fills_as k other folder r f same = from r.file where
   from (Some path) h =
       (h.0, ((h.1.0.0, (subst (λ o. FileIsRead o MOST_SECRET (Ok h.1.0.0)) (same (placed folder path)) h.1.0.1.0, h.1.0.1.1)), h.1.1))
 
-wants_as : (k other : Files) (path : List ℕ) (i : ℕ) (fault : StartFault) → ((p : List ℕ) → k p ≡ other p) → FillingFails k path i fault → FillingFails other path i fault
+pub wants_as : (k other : Files) (path : List ℕ) (i : ℕ) (fault : StartFault) → ((p : List ℕ) → k p ≡ other p) → FillingFails k path i fault → FillingFails other path i fault
 wants_as k other path i (faults.NoFile j) same h = (h.0, ⊎_elim (λ untold. inl untold) (λ read. inr (subst (λ o. FileIsRead o MOST_SECRET (Err inputs.ReadFailed)) (same path) read)) h.1)
 wants_as k other path i (faults.NoSecret j) same h =
     (h.0, ⊎_elim (λ long. inl (subst (λ o. FileIsRead o MOST_SECRET (Err inputs.TooLong)) (same path) long)) (λ read. inr (read.0, (subst (λ o. FileIsRead o MOST_SECRET (Ok read.0)) (same path) read.1.0, read.1.1))) h.1)

@@ -1,7 +1,6 @@
 -- Ledgers: the state of an agent on a disk, and what the calls of its house do to it.
 -- Source: this project's own; what is on the disk is keep_state's.
-use Rattle.std.specs.Prelude.{◌≡◌, ◌⊎◌, ℕ, Bool, true, false, IsTrue, List, Option, Some, None, Result, Ok, Err, if◌then◌else◌}
-use Rattle.std.specs.List.{All}
+use Rattle.std.specs.Prelude.{◌≡◌, ◌≢◌, ◌⊎◌, ℕ, Bool, true, false, IsTrue, List, [], ◌∷◌, ◌++◌, Option, Some, None, Result, Ok, Err, codes, if◌then◌else◌, length}
 use Rattle.std.specs.declared.alloc.AllocError.{AllocError}
 use Rattle.keep_agent.specs.Waiting.{changed, is_rebuilding_due}
 use Rattle.keep_asking.specs.Sending.{Lanes}
@@ -30,7 +29,7 @@ use Rattle.keep_store.specs.declared.secret.Secret.{Secret}
 use Rattle.keep_waiting.specs.Keepers.{InventoryIsGiven, waiting_in}
 use Rattle.keep_secrets.specs.Stamps.{FileCall}
 use Rattle.keep_house.specs.Candidates.{IsCandidateFor}
-use Rattle.keep_house.specs.Gathering.{IsHeldBy}
+use Rattle.keep_house.specs.Gathering.{AreGathered}
 use Rattle.keep_house.specs.Inquiries.{AsksAbout, ProvesOn, asked_in}
 use Rattle.keep_house.specs.Keeping.{KeepCall, Look, LookUp, Prove, Rebuilt, Reload, Settle, Take, Why, Whys}
 use Rattle.keep_house.specs.Reading.{IsToServe, IsWide}
@@ -77,13 +76,36 @@ abbrev pub SettlesOn : {D : Type 0} → Bool → (D → DiskState) → Result (U
 SettlesOn known seen (Ok x) old new = (copy : Option DiskFault) × IsSettledState known old copy new (seen old.disk) (seen new.disk)
 SettlesOn known seen (Err why) old new = (book_in new ≡ book_in old) × SaysWhy (IsWhyUnsettledState known old (seen old.disk)) settle_words why
 
--- what these files have given is taken, and waits for a rebuilding; or all is as it was, as where it cannot be handed on
-abbrev pub FilledWith : {D : Type 0} → ℕ → List Secret → Kept D → Kept D → Type 0
-FilledWith now secrets old new = IsAsItWas old new ⊎ (HasSecrets (book_in old) secrets (book_in new) × (waiting_in new.keeper ≡ changed (waiting_in old.keeper) now))
+-- what files have given is taken, and waits for a rebuilding; or it cannot be handed on, and all is as it was, as where they gave nothing
+abbrev pub TakenIf : {D : Type 0} → Bool → ℕ → List Secret → Kept D → Kept D → Type 0
+TakenIf true now secrets old new = HasSecrets (book_in old) secrets (book_in new) × (waiting_in new.keeper ≡ changed (waiting_in old.keeper) now)
+TakenIf false now secrets old new = IsAsItWas old new
+
+abbrev pub FilledWith : {D : Type 0} → Bool → ℕ → List Secret → Kept D → Kept D → Type 0
+FilledWith is_taken now secrets old new = ((length secrets ≡ 0) × ((is_taken ≡ true) × IsAsItWas old new)) ⊎ ((length secrets ≢ 0) × TakenIf is_taken now secrets old new)
+
+abbrev pub apart_line : List ℕ
+apart_line = codes "what the files of credentials hold does not go together: the old ones stay"
+
+-- that is said, after what is said of files that hold none
+abbrev pub said_if : Bool → List (List ℕ) → List (List ℕ)
+said_if true said = said
+said_if false said = said ++ apart_line ∷ []
+
+-- no file of the state is touched: its disk, its paths and its journal are the same
+pub record StaysOnDisk {D : Type 0} (old new : Kept D) : Type 0 where
+  pub disk : new.disk ≡ old.disk
+  pub places : new.places ≡ old.places
+  pub journal : journal_of (store_in new) ≡ journal_of (store_in old)
 
 -- it is what the files of credentials hold that rows name
-abbrev pub IsFilledOn : {D : Type 0} → Files → List ℕ → ℕ → Kept D → Kept D → Type 0
-IsFilledOn files folder now old new = (secrets : List Secret) × (All (IsHeldBy files folder (book_in old).rows) secrets × FilledWith now secrets old new)
+pub record IsFilledOn {D : Type 0} (files : Files) (folder : List ℕ) (now : ℕ) (lines : List (List ℕ)) (old new : Kept D) : Type 0 where
+  pub secrets : List Secret
+  pub said : List (List ℕ)
+  pub is_taken : Bool
+  pub gathered : AreGathered files folder (book_in old).rows secrets said
+  pub taken : FilledWith is_taken now secrets old new
+  pub lines_are : lines ≡ said_if is_taken said
 
 -- a file that may be served is, with every change; and what is said of it. What was taken of files of credentials stays
 pub record IsReloadedOn {D : Type 0} (known : Bool) (seen : D → DiskState) (files : Files) (demands : Demands) (folder : List ℕ) (now : ℕ) (reread : Reread) (old new : Kept D) : Type 0 where

@@ -1,5 +1,5 @@
 //! The state of an agent on a disk.
-ghost use Rattle.std.specs.Prelude.{◌≡◌, ◌⊎◌, ◌++◌, ℕ, List, IfErr, IfOk, IfSome, None, OnErr, OnOk, Ok, Option, Some, take, true};
+ghost use Rattle.std.specs.Prelude.{◌≡◌, ◌⊎◌, ◌++◌, ℕ, List, IfErr, IfOk, IfSome, None, OnErr, OnOk, Ok, Option, Some, false, take, true};
 ghost use Rattle.keep_agent.specs.Waiting.{changed};
 ghost use Rattle.keep_change.specs.declared.replaying.Note.{Note};
 ghost use Rattle.keep_inventory.specs.Inventories.{Inventory};
@@ -12,7 +12,7 @@ ghost use Rattle.keep_store.specs.Entering.{IsWhyNot};
 ghost use Rattle.keep_store.specs.Records.{records_in};
 ghost use Rattle.keep_store.specs.Stores.{lines_in};
 ghost use Rattle.keep_waiting.specs.Keepers.{waiting_in};
-ghost use Rattle.keep_house.specs.Ledgers.{AreCompacted, FilledWith, IsFilledOn, IsTakenOn};
+ghost use Rattle.keep_house.specs.Ledgers.{AreCompacted, FilledWith, IsFilledOn, IsTakenOn, StaysOnDisk, apart_line};
 ghost use Rattle.keep_house.specs.Noting.{left_lines, said_notes};
 ghost use Rattle.keep_house.specs.Reading.{IsToServe, IsWide};
 ghost use Rattle.keep_house.specs.Reasons.{bare_words, left_words, table_words};
@@ -80,27 +80,17 @@ impl<'a, D: Disk, I: Inputs, L: Lanes> Ledger<'a, D, I, L> {
         wide(alloc, self.demands.earlier, self.state.text(), inventory)
     }
 
-    /// Has from now on what the files of credentials hold; and what is said of each entry whose file holds none: it is left out. The
-    /// only error is out of memory.
+    /// Has from now on what the files of credentials hold; and what is said of each entry whose file holds none: it is left out. Where
+    /// what they hold cannot be handed on, that is said too, and the old ones stay. The only error is out of memory: all is as it was then.
     pub fn fill(&mut self, alloc: Global, now: u64) -> Result<Vec<Text>, AllocError>
-        ensures filled { IsFilledOn (I.bytes_at self.old.inputs) self.old.folder.now now self.old.state self.new.state }
-        ensures demands { self.new.demands ≡ self.old.demands }
+        ensures filled { IfOk result (λ said. IsFilledOn (I.bytes_at self.old.inputs) self.old.folder.now now said.items self.old.state self.new.state) }
+        ensures unchanged { OnErr result (IsAsItWas self.old.state self.new.state) }
+        ensures stays { StaysOnDisk self.old.state self.new.state }
+        ensures same { (path : List ℕ) → I.bytes_at self.new.inputs path ≡ I.bytes_at self.old.inputs path }
+        ensures rest { self.new ≡ record self.old { state = self.new.state; inputs = self.new.inputs } }
     {
         let folder = self.folder;
-        let (mut said, is_taken) = fill_state(
-            alloc,
-            &mut self.state,
-            folder,
-            &mut self.inputs,
-            now,
-        )?;
-        if !is_taken? {
-            said.push(Text::of(
-                alloc,
-                b"what the files of credentials hold does not go together: the old ones stay",
-            )?)?;
-        }
-        Ok(said)
+        fill_state(alloc, &mut self.state, folder, &mut self.inputs, now)
     }
 
     // The bytes of the file; or why it is not read, in words.
@@ -215,21 +205,30 @@ fn unkept_words(alloc: Global, copy: Option<DiskFault>) -> Option<Text>
     }
 }
 
-// Has from now on what the files of credentials hold; what is said of those that hold none, and whether it can be handed on, where memory
-// sufficed for that.
-#[tactic(auto, using(crate::proofs::Gathered::filled_on))]
+// Has from now on what the files of credentials hold, and what is said of that.
 fn fill_state<D: Disk, I: Inputs>(
     alloc: Global,
     state: &mut State<'_, D>,
     folder: &str,
     inputs: &mut I,
     now: u64,
-) -> Result<(Vec<Text>, Result<bool, AllocError>), AllocError>
-    ensures { IsFilledOn (I.bytes_at inputs.old) folder.now now state.old state.new }
+) -> Result<Vec<Text>, AllocError>
+    ensures filled { IfOk result (λ said. IsFilledOn (I.bytes_at inputs.old) folder.now now said.items state.old state.new) }
+    ensures unchanged { OnErr result (IsAsItWas state.old state.new) }
+    ensures stays { StaysOnDisk state.old state.new }
+    ensures same { (path : List ℕ) → I.bytes_at inputs.new path ≡ I.bytes_at inputs.old path }
 {
-    let Gathered { secrets, said } = gather(alloc, state.rows().list(), folder.as_bytes(), inputs)?;
-    let is_taken = fill_with(state, now, secrets);
-    Ok((said, is_taken))
+    let Gathered { secrets, mut said } = gather(
+        alloc,
+        state.rows().list(),
+        folder.as_bytes(),
+        inputs,
+    )?;
+    if fill_with(state, now, secrets)? {
+        return Ok(said);
+    }
+    said.push(apart_line(alloc)?)?;
+    Ok(said)
 }
 
 // Has from now on what files have given, where they have given anything. Whether that can be handed on; the only error is out of memory.
@@ -238,7 +237,10 @@ fn fill_with<D: Disk>(
     now: u64,
     secrets: Vec<Secret>,
 ) -> Result<bool, AllocError>
-    ensures { FilledWith now secrets.items state.old state.new }
+    ensures filled { IfOk result (λ is_taken. FilledWith is_taken now secrets.items state.old state.new) }
+    ensures apart { result ≡ Ok false → IsAsItWas state.old state.new }
+    ensures unchanged { OnErr result (IsAsItWas state.old state.new) }
+    ensures stays { StaysOnDisk state.old state.new }
 {
     if secrets.is_empty() {
         return Ok(true);
@@ -248,6 +250,16 @@ fn fill_with<D: Disk>(
         Err(SettleFault::OutOfMemory) => Err(AllocError),
         Err(_) => Ok(false),
     }
+}
+
+// What files hold cannot be handed on.
+fn apart_line(alloc: Global) -> Result<Text, AllocError>
+    ensures { IfOk result (λ line. line ≡ apart_line) }
+{
+    Text::of(
+        alloc,
+        b"what the files of credentials hold does not go together: the old ones stay",
+    )
 }
 
 // Takes the records out of the journal that are void, where that is worth while. (Where it fails, the journal has more records than it
