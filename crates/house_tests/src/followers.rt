@@ -83,6 +83,12 @@ fn one_whose_call_fails_changes_nothing(rt: HostRuntime) -> Result<(), Fail> {
 
 const NINTH: &str = "error: 8 clients follow the log already\n";
 
+/// A turn takes what one client asks, so nine of them take nine turns after the one in which they come.
+const MORE_MOMENTS: [u64; 14] = [
+    1_000_000, 1_000_000, 1_000_000, 1_000_000, 1_000_000, 1_000_000, 1_000_000, 1_000_000,
+    1_000_000, 1_000_000, 1_000_000, 1_000_000, 1_059_000, 1_059_000,
+];
+
 /// Eight come before the one that is told so.
 const NINE: [Step; 12] = [
     Step::OtherComes(FOLLOW, FOLLOWED),
@@ -93,7 +99,7 @@ const NINE: [Step; 12] = [
     Step::OtherComes(FOLLOW, FOLLOWED),
     Step::OtherComes(FOLLOW, FOLLOWED),
     Step::OtherComes(FOLLOW, FOLLOWED),
-    Step::Turns(6),
+    Step::Turns(14),
     Step::WasSent(NINTH),
     Step::OthersWereSent(FOLLOWED),
     Step::Said(LINES),
@@ -101,5 +107,5 @@ const NINE: [Step; 12] = [
 
 #[test]
 fn eight_follow_and_the_ninth_is_told_so(rt: HostRuntime) -> Result<(), Fail> {
-    plays(&rt, &client(&MOMENTS, prompt(FOLLOW, NINTH)), &NINE)
+    plays(&rt, &client(&MORE_MOMENTS, prompt(FOLLOW, NINTH)), &NINE)
 }
