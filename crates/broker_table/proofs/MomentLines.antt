@@ -1,7 +1,7 @@
 -- Lines: what is read up to a line feed, and that a line of a moment stands in front of an input in one way alone.
 use Rattle.std.proofs.Common.{◌≡◌, ◌==◌, ℕ, ◌<◌, ◌≤◌, not, true, false, ◌&&◌, List, [], ◌∷◌, ◌++◌, Option, Some, None, IfSome, length, refl, sym, ap, ◌∙◌, arith, rules, inl, inr}
 use Rattle.std.specs.Char.{is_ascii_digit}
-use Rattle.std.specs.Io.KnownBytes.{Consumes, IsAtEnd}
+use Rattle.std.specs.Io.KnownBytes.{Consumes}
 use Rattle.std.specs.List.{list_all}
 use Rattle.std.specs.Prelude.{decimal}
 use Rattle.std.specs.Str.Parse.{digits_value}
@@ -43,18 +43,6 @@ no_feed (b ∷ bs) [] more rest one e h =
 no_feed (b ∷ bs) (c ∷ cs) more rest one e h =
     let tails : bs ++ more ≡ cs ++ (10 ∷ rest) = cc in
     no_feed bs cs more rest (and_parts (not (b == 10)) (list_all (λ x. not (x == 10)) bs) one).1 tails (omega (arith, h))
-
-pub none_at_end : (a b : Option (List ℕ)) (line : List ℕ) → Consumes a b line → IsAtEnd b → IsOneLine line → IfSome a HasNoLine
-none_at_end None b line given end one = tt
-none_at_end (Some xs) None line given end one = absurd given
-none_at_end (Some xs) (Some ys) line given end one = λ text rest plain short is.
-    let e : line ++ ys ≡ text ++ (10 ∷ rest) = sym given ∙ is in
-    let none : ys ≡ [] = end in
-    let l = length-append line ys in
-    let k = length-append text (10 ∷ rest) in
-    let zero' : length ys ≡ 0 = ap length none in
-    let sum : length (line ++ ys) ≡ length (text ++ (10 ∷ rest)) = ap length e in
-    no_feed line text ys rest one e (omega (arith, l, k, zero', sum))
 
 pub none_so_long : (a b : Option (List ℕ)) (line : List ℕ) → Consumes a b line → MOST_LINE ≤ length line → IsOneLine line → IfSome a HasNoLine
 none_so_long None b line given long one = tt

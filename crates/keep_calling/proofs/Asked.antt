@@ -6,7 +6,7 @@ use Rattle.serde_json.specs.Data.{Data}
 use Rattle.serde_json.specs.Written.{compact_text}
 use Rattle.json.proofs.Printed.Utf8.{IsUtf8-are_ascii}
 use Rattle.keep_words.specs.Laws.{Lacks}
-use Rattle.keep_control.specs.Answer.{◌>>=◌, FailsWithRequestFault}
+use Rattle.keep_control.specs.Answer.{◌>>=◌}
 use Rattle.keep_control.specs.Front.{IsLineFront}
 use Rattle.keep_control.specs.Requests.{asked_by_line, command_of, request_in_line}
 use Rattle.keep_control.specs.Words.{or_not_words, tree_of_words, words_in_tree, words_of}
@@ -143,14 +143,3 @@ unsent_is_refused ask input fault is e =
     (λ (first : words_line ask input ≡ Err fault). inl (is_no_text ask input fault first))
     (λ (second : (line : List ℕ) × ((words_line ask input ≡ Ok line) × (request_in_line line >>= (λ request. Ok (line ++ 10 ∷ [])) ≡ Err fault))). inr (unread ask input second.0 fault is second.1.0 second.1.1))
     (then_err (words_line ask input) (λ line. request_in_line line >>= (λ request. Ok (line ++ 10 ∷ []))) fault e)
-
--- ---- a fault that is not lack of memory
-
-pub fault_is : {A : Type 0} (fault : RequestFault) (answer : Result A RequestFault) → (fault ≡ faults.OutOfMemory → ⊥) → FailsWithRequestFault fault answer → answer ≡ Err fault
-fault_is faults.TooLong answer other is = is
-fault_is faults.NotWords answer other is = is
-fault_is faults.NoCommand answer other is = is
-fault_is faults.BadName answer other is = is
-fault_is faults.BadWhen answer other is = is
-fault_is faults.BadCredential answer other is = is
-fault_is faults.OutOfMemory answer other is = absurd (other refl)

@@ -1,5 +1,5 @@
 -- Heard: a request that was sent, or not whole, and the answer that was read after it.
-use Rattle.std.proofs.Common.{◌≡◌, ◌∙◌, ◌⊎◌, ap, ℕ, Bool, IsTrue, IfSome, IsErr, IsErrAnd, List, [], ◌∷◌, MatchResult, OnOk, Result, Ok, Err, refl, sym, subst, inl, inr}
+use Rattle.std.proofs.Common.{◌≡◌, ◌∙◌, ◌⊎◌, ap, ℕ, Bool, IsTrue, IfSome, IsErr, IsErrAnd, List, MatchResult, OnOk, Result, Ok, Err, refl, sym, subst, inl, inr}
 use Rattle.std.specs.Prelude.{IsErrOf}
 use Rattle.std.specs.Io.KnownBytes.{Appends, Keeps}
 use Rattle.keep_device.specs.Failures.{Counts, CountsInput}
@@ -14,8 +14,7 @@ use Rattle.std.proofs.KnownBytes.{Appends-kept}
 use Rattle.keep_report.proofs.Counting.{failed_once, later_once}
 use Rattle.keep_report.proofs.Fronts.{whole_front}
 use Rattle.keep_report.specs.Sent.{IsAll}
-use Rattle.keep_control.specs.Replies.{reply_in_text}
-use Rattle.keep_calling.specs.Hearing.{HearsReply, IsSentOrGivenUp, ListensToEnd, fault_of_read, fault_of_write, heard_of, or_cut}
+use Rattle.keep_calling.specs.Hearing.{HearsReply, IsSentOrGivenUp, ListensToEnd, fault_of_read, fault_of_write, heard_of}
 use Rattle.keep_calling.specs.Requesting.{ReadsDevice}
 use Rattle.keep_calling.specs.declared.fault.CallFault.{CallFault}
 use Rattle.keep_calling.specs.declared.fault.CallFault.TheVariants.{Memory}
@@ -90,7 +89,3 @@ pub read_answers : (r : Result Heard CallFault) (text : List ℕ) (line : Change
     → MatchResult r (λ h. heard_of text ≡ Ok h.reply) (λ e. (heard_of text ≡ Err e) ⊎ (e ≡ Memory)) → Answers r (λ heard. ListensToEnd heard line)
 read_answers (Ok h) text line reads is = (Ok text, (reads, inl is))
 read_answers (Err e) text line reads is = read_or_memory e text line reads is
-
-pub heard_is : (text : List ℕ) → (text ≡ [] → ⊥) → heard_of text ≡ or_cut (reply_in_text text)
-heard_is [] some = absurd (some refl)
-heard_is (byte ∷ bytes) some = refl

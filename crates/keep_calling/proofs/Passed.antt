@@ -1,6 +1,6 @@
 -- Passed: what came so far is shown, and one read more. For `pass_on`, `begin` and `follow`.
-use Rattle.std.proofs.Common.{◌≡◌, ◌∙◌, ◌⊎◌, ℕ, Bool, IsTrue, List, [], ◌++◌, Option, Some, None, Result, Ok, Err, ap, append-nil, inl, inr, refl, subst, sym}
-use Rattle.std.proofs.KnownBytes.{Appends-nil, Appends-trans, Consumes-nil, Consumes-trans}
+use Rattle.std.proofs.Common.{◌≡◌, ◌∙◌, ◌⊎◌, ℕ, Bool, IsTrue, List, [], ◌++◌, Option, Some, None, Result, Ok, Err, ap, append-nil, inl, inr, subst, sym}
+use Rattle.std.proofs.KnownBytes.{Appends-trans, Consumes-trans}
 use Rattle.std.specs.Io.KnownBytes.{Appends, Consumes, IsAtEnd}
 use Rattle.keep_control.specs.declared.reply.Reply.{Reply}
 use Rattle.keep_device.specs.Failures.{HasFailed}
@@ -18,9 +18,6 @@ use Rattle.keep_calling.specs.declared.following.Followed.TheVariants as ways
 -- what came so far is shown, and the output has not failed
 abbrev pub SoFar : Change → Change → Type 0
 SoFar line out = (came : List ℕ) × (TakesBytes came line × (ShowsAll came out × (out.new.failed_calls ≡ out.old.failed_calls)))
-
-pub none_yet : (line out : Seen) (a b : Bool) → SoFar (change a line line) (change b out out)
-none_yet line out a b = ([], ((Consumes-nil line.input.remaining, refl), ((Appends-nil out.output.written, inl refl), refl)))
 
 module _ (l0 l1 l2 o0 o1 o2 : Seen) (a b : Bool) where
   pub one_more : SoFar (change a l0 l1) (change b o0 o1) → PassesOne None (change a l1 l2) (change b o1 o2) → SoFar (change a l0 l2) (change b o0 o2)
@@ -60,7 +57,3 @@ module _ (l0 l1 l2 o0 o1 o2 : Seen) (a b : Bool) where
   ended ways.Ended s p = (s.0, (takes_no_more s.0 p.0 p.1.1.0 s.1.0 p.1.0, (p.1.1.1.0, shows_no_more s.0 p.1.1.1.1 s.1.1.0)))
   ended ways.Lost s p = (s.0, (takes_no_more s.0 p.0 p.1.1.0 s.1.0 p.1.0, shows_no_more s.0 p.1.1.1 s.1.1.0))
   ended (ways.Stopped stop) s p = (s.0 ++ p.0, ((Consumes-trans _ _ _ s.0 p.0 s.1.0.0 p.1.0.0, p.1.0.1 ∙ s.1.0.1), stopped stop s.0 p.0 s.1.1.0 s.1.1.1 p.1.1))
-
--- as long as it goes on it is lost at the end
-pub never_ended : (line out : Change) → SoFar line out → PassesOn ways.Lost line out
-never_ended line out s = (s.0, (s.1.0, s.1.1.0))

@@ -23,17 +23,10 @@ joined (Some l) b c n k xs ys p q =
     let next : AskedFor (Some (record { asks = l.asks + n; given = l.given ++ xs })) c k ys = subst (λ o. AskedFor o c k ys) p q in
     next ∙ log_of (l.asks + n + k) (l.asks + (n + k)) ((l.given ++ xs) ++ ys) (l.given ++ (xs ++ ys)) (omega arith) (append_assoc l.given xs ys)
 
-none_asked : {T : Type 0} (a : Option (DoorLog T)) → AskedFor a a 0 []
-none_asked None = tt
-none_asked (Some l) = log_of l.asks (l.asks + 0) l.given (l.given ++ []) (omega arith) (sym (append-nil l.given))
-
 module _ {T F : Type 0} (now : ℕ) where
   arrive_more : (old : GuestTable T F) (ts : List T) (t : T) → arrive_all now old (ts ++ t ∷ []) ≡ arrive now (arrive_all now old ts) t
   arrive_more old [] t = refl
   arrive_more old (u ∷ us) t = arrive_more (arrive now old u) us t
-
-  pub so_first : (old : GuestTable T F) (a : Option (DoorLog T)) → SoFar now old old a a 0
-  so_first old a = record { talks = []; many = refl; asked = none_asked a; arrived = refl }
 
   pub so_next : (old mid new : GuestTable T F) (a b c : Option (DoorLog T)) (n : ℕ) (t : T) → SoFar now old mid a b n → AskedFor b c 1 (t ∷ []) → new ≡ arrive now mid t → SoFar now old new a c (n + 1)
   so_next old mid new a b c n t so one is = record {

@@ -2,8 +2,8 @@
 use Rattle.std.proofs.Common.{◌≡◌, ℕ, suc, zero, ◌<◌, ◌∙◌, Bool, true, false, cond, List, [], ◌∷◌, length, get_or, set, Option, Some, None, Result, refl, sym, subst, ap, arith}
 use Rattle.std.proofs.lemmas.List.Quantifiers.{position-Some}
 use Rattle.std.specs.List.{position, slice_get}
-use Rattle.keep_clients.specs.Guests.{GuestIsFed, asked_bytes, is_stage_asked}
-use Rattle.keep_clients.specs.Tables.{BecomesAt, Feeds, FeedsAt, GuestTable, TakesAt, TakesFrom, TakesRequest, first_asked, follows_as, request_asked_at, request_of_guest}
+use Rattle.keep_clients.specs.Guests.{GuestIsFed, is_stage_asked}
+use Rattle.keep_clients.specs.Tables.{BecomesAt, Feeds, FeedsAt, GuestTable, TakesAt, TakesFrom, TakesRequest, follows_as}
 use Rattle.keep_clients.specs.declared.clients.Request.{Request}
 use Rattle.keep_clients.specs.declared.fed.Fed.{Fed}
 use Rattle.keep_clients.specs.declared.guest.Guest.{Guest}
@@ -52,11 +52,3 @@ module _ {T F : Type 0} (next : ℕ) (limits : Limits) (framing : F) where
       let asked : is_stage_asked g.stage ≡ true = ap (λ (it : Guest T). is_stage_asked it.stage) here ∙ first.1 in
       subst (λ o. TakesRequest o r (table (set xs i n))) is
       (subst (λ o. TakesAt o (table xs) r (table (set xs i n))) (sym at) (asked_taken r xs i g n asked (got xs i g inside here) done))
-
-  -- the request that is found at a place
-  pub asked_here : (old : GuestTable T F) (xs ys : List (Guest T)) (i : ℕ) (found : Option ℕ) (g : Guest T) (r : Option (List ℕ)) → table xs ≡ old → ys ≡ xs
-      → found ≡ position (λ (it : Guest T). is_stage_asked it.stage) ys → found ≡ Some i → slice_get ys i ≡ Some g → r ≡ asked_bytes g.stage → r ≡ first_asked old
-  asked_here old xs ys i found g r is same found_is some here asked =
-      let at : position (λ (it : Guest T). is_stage_asked it.stage) xs ≡ Some i = ap (position (λ (it : Guest T). is_stage_asked it.stage)) (sym same) ∙ sym found_is ∙ some in
-      subst (λ (o : GuestTable T F). r ≡ first_asked o) is
-      (asked ∙ ap (λ (o : Option (Guest T)). request_of_guest o) (sym here ∙ ap (λ l. slice_get l i) same) ∙ ap (λ (o : Option ℕ). request_asked_at o xs) (sym at))

@@ -1,5 +1,4 @@
 pub mod Trees
-pub mod Fronts
 pub mod Chosen
 pub mod Spans
 pub mod Whens

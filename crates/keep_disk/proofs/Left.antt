@@ -1,5 +1,5 @@
 -- What a crash may leave at one path goes on through the calls of a disk in memory.
-use Rattle.std.proofs.Common.{◌≡◌, ◌⊎◌, inl, inr, ⊎_elim, ℕ, suc, zero, ◌+◌, ◌-◌, ◌<◌, ◌≤◌, max, min, List, [], ◌∷◌, ◌++◌, length, take, drop, get_or, Bool, true, false, if◌then◌else◌, not, Option, None, Some, refl, sym, ◌∙◌, ap, subst, arith, length-append, length-take, length-drop}
+use Rattle.std.proofs.Common.{◌≡◌, ◌⊎◌, inl, inr, ⊎_elim, ℕ, suc, zero, ◌+◌, ◌-◌, ◌<◌, ◌≤◌, max, min, List, [], ◌∷◌, ◌++◌, length, take, drop, get_or, Bool, true, false, if◌then◌else◌, not, Option, Some, refl, sym, ◌∙◌, ap, subst, arith, length-append, length-take, length-drop}
 use Rattle.std.proofs.lemmas.Bool.{true≢false, false≢true, cases_Bool}
 use Rattle.std.proofs.lemmas.Slice.Eq.{bytes_eq-Decides}
 use Rattle.std.proofs.lemmas.List.{take_at, drop_at, take_all, drop_all, take_more}
@@ -8,12 +8,10 @@ use Rattle.keep_disk.specs.Image.{File, Image, image_changed, with_file_at, with
 use Rattle.keep_disk.specs.Torn.{Torn, Cut, Tears, MovesFile, IsTornFile}
 use Rattle.keep_disk.specs.State.{DiskState}
 use Rattle.keep_disk.specs.History.{state_after_call, state_after_calls, left_after_what, file_after, sound_after}
-use Rattle.keep_disk.specs.Memory.{at_first}
 use Rattle.keep_disk.specs.Left.{MayStand, MayMake, PathIsFollowed}
 use Rattle.keep_disk.specs.declared.call.Call.{Call}
 use Rattle.keep_disk.specs.declared.call.What.{What}
 use Rattle.keep_disk.specs.declared.call.What.TheVariants as what
-use Rattle.keep_disk.specs.declared.fault.Why.{Why}
 use Rattle.keep_disk.proofs.Runs.{after_all_push}
 
 yes_side : {X : Type 0} (b : Bool) (x y : X) → b ≡ true → (if b then x else y) ≡ x
@@ -128,10 +126,6 @@ stands_past (what.Move mode bytes done) q p may_leave sound seen f apart stands 
     here (inl is) = inl (λ i. image_changed p (λ _. f) (is i))
     here (inr moved) = inr ((λ i. image_changed p (λ _. f) (moved i)) ∙ put_both p q f (Some (record { mode = mode; bytes = bytes.items })) left.0 apart)
 
--- before the first call, what was there
-pub stands_first : (path : List ℕ) (image : Image) (why : Why) → MayStand path (image path) (at_first image why)
-stands_first path image why c is = (λ i. image_changed path (λ _. image path) (is i)) ∙ put_back path image
-
 pub stands_after : (call : Call) (path : List ℕ) (s : DiskState) (old new : Option File) → call.path.items ≡ path
     → MayMake call.what (s.is_sound path) (s.seen path) old new → MayStand path old s → MayStand path new (state_after_call call s)
 stands_after call path s old new is made stands =
@@ -182,30 +176,6 @@ torn_piece at n piece old short within =
 pub torn_in_file : (at n : ℕ) (piece : List ℕ) (file : File) → length piece ≤ n → at ≤ length file.bytes
     → IsTornFile (Torn at n) (Some file) (with_bytes (overwritten at piece) (Some file))
 torn_in_file at n piece file short within = (refl, torn_piece at n piece file.bytes short within)
-
--- a cut to a length that is not below the one that was asked for
-pub cut_longer : (len n : ℕ) (old : Option File) → len ≤ n → IsTornFile (Cut len) old (with_bytes (take n) old)
-cut_longer len n None le = tt
-cut_longer len n (Some file) le = (
-  refl,
-  record {
-    no_shorter = omega (arith, length-take n file.bytes);
-    front = fronts n file.bytes;
-  },
-)
-  where
-    fronts : (n : ℕ) (xs : List ℕ) → take (length (take n xs)) xs ≡ take n xs
-    fronts zero xs = refl
-    fronts (suc n) [] = refl
-    fronts (suc n) (x ∷ xs) = ap (λ (l : List ℕ). x ∷ l) (fronts n xs)
-
--- the calls before the first, one more on the path, and one elsewhere
-pub followed_first : (path : List ℕ) (image : Image) (why : Why) (seen left : Option File) → seen ≡ image path → left ≡ image path → PathIsFollowed path seen left true (at_first image why)
-followed_first path image why seen left seen_is left_is = record {
-  seen_is = seen_is;
-  sound_is = refl;
-  stands = subst (λ (f : Option File). MayStand path f (at_first image why)) (sym left_is) (stands_first path image why);
-}
 
 pub followed_here : (call : Call) (path : List ℕ) (seen left new : Option File) (sound : Bool) (s : DiskState) → call.path.items ≡ path → PathIsFollowed path seen left sound s
     → MayMake call.what sound seen left new → PathIsFollowed path (file_after call.what seen) new (sound_after call.what sound) (state_after_call call s)

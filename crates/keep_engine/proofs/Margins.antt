@@ -41,27 +41,12 @@ pub pair_matched : (g : Forest) (s : ℕ) (found : Option Shortfall) → IsFores
 pair_matched g s None forest all some = some
 pair_matched g s (Some p) forest short none = pair_found g s p.entry p.needed forest short none
 
-pub pair_line : (g : Forest) (s entry needed : ℕ) (text : List ℕ) → IsShortfall g s entry needed → NoneKeeps g s → text ≡ unkeepable_text g.entries entry needed → IsPairLine g s text
-pair_line g s entry needed text short none spelled = record { entry = entry; needed = needed; short = short; none = none; spelled = spelled }
-
-pub refusal_with_least : (g : Forest) (s entry needed : ℕ) (other text : List ℕ) → IsPair (with_least g) s entry needed → text ≡ unkeepable_text g.entries entry needed → IsRefusal g s other exits.Unkeepable text
-refusal_with_least g s entry needed other text pair spelled = (refl, inl (pair_line (with_least g) s entry needed text pair.short pair.none spelled))
-
-pub refusal_else : (g : Forest) (s : ℕ) (other text : List ℕ) → SomeKeeps (with_least g) s → text ≡ other → IsRefusal g s other exits.Unkeepable text
-refusal_else g s other text some spelled = (refl, inr (some, spelled))
-
 -- ---- the text of each question
 
 -- a text that is so where it is another that is
 no_margin_else : (g : Forest) (s : ℕ) (Other : List ℕ → Type 0) (other text : List ℕ) → Other other → IsNoMargin g s (λ t. t ≡ other) text → IsNoMargin g s Other text
 no_margin_else g s Other other text is (inl pair) = inl pair
 no_margin_else g s Other other text is (inr some) = inr (some.0, subst Other (sym some.1) is)
-
-pub own_refused : (g : Forest) (s entry needed : ℕ) (own text : List ℕ) (exit : Exit) → IsShortfall g s entry needed → NoneKeeps g s → own ≡ unkeepable_text g.entries entry needed
-    → IsRefusal g s own exit text → IsMarginText g s None exit text
-own_refused g s entry needed own text exit short none spelled refusal =
-    subst (λ (e : Exit). IsMarginText g s None e text) (sym refusal.0)
-    (none, no_margin_else g s (IsPairLine g s) own text (pair_line g s entry needed own short none spelled) refusal.1)
 
 pub none_refused : (g : Forest) (s most : ℕ) (other text : List ℕ) (exit : Exit) → NoneIsEnough g s (min most LIMIT) → IsNone other → IsRefusal g s other exit text → IsMarginText g s (Some most) exit text
 none_refused g s most other text exit none spelled refusal =

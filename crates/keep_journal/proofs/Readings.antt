@@ -2,7 +2,7 @@
 use Rattle.std.proofs.Common.{◌≡◌, ◌≢◌, inl, inr, ℕ, zero, suc, ◌+◌, ◌≤◌, ◌-◌, Bool, true, false, if◌then◌else◌, slice_index, ◌<◌, List, [], ◌∷◌, ◌++◌, length, take, drop, get_or, refl, sym, ◌∙◌, ap, subst, arith, append_assoc, length-append, take-append-drop, length-drop}
 use Rattle.std.proofs.lemmas.Bool.{cases_eq}
 use Rattle.std.proofs.lemmas.List.{append-nil, take_at, drop_at, drop_more, take_all, drop_all}
-use Rattle.std.proofs.lemmas.Bool.{eqb-true, eq-eqb}
+use Rattle.std.proofs.lemmas.Bool.{eq-eqb}
 use Rattle.memchr.specs.Find.{Nowhere, Passes, NoneBefore, is_byte}
 use Rattle.keep_disk.specs.Torn.{Torn, Cut}
 use Rattle.keep_disk.specs.Image.{overwritten}
@@ -199,19 +199,6 @@ pub line_from : (k : ℕ) (xs : List ℕ) → k ≤ length xs → ((j : ℕ) →
 line_from zero xs le none = tt
 line_from (suc k) [] le none = absurd (omega arith)
 line_from (suc k) (x ∷ xs) le none = (none 0 (omega arith), line_from k xs (omega arith) (λ j below. none (suc j) (omega arith)))
-
--- and in a line there is none
-pub line_has_none : (xs : List ℕ) → IsRecordLine xs → (j : ℕ) → j < length xs → slice_index xs j ≢ 10
-line_has_none [] is j below = absurd (omega arith)
-line_has_none (x ∷ xs) is zero below = is.0
-line_has_none (x ∷ xs) is (suc j) below = line_has_none xs is.1 j (omega arith)
-
-pub line_when_none : (xs : List ℕ) → Nowhere (Passes (is_byte 10) xs) 0 (length xs) → IsRecordLine xs
-line_when_none xs nowhere = subst IsRecordLine (take_all (length xs) xs (omega arith))
-    (line_from (length xs) xs (omega arith) (λ j below is. nowhere j (omega arith) below (eq-eqb (slice_index xs j) 10 is)))
-
-pub nowhere_in_line : (xs : List ℕ) → IsRecordLine xs → Nowhere (Passes (is_byte 10) xs) 0 (length xs)
-nowhere_in_line xs is j low below passes = line_has_none xs is j below (eqb-true (slice_index xs j) 10 passes)
 
 -- what comes before the first line feed is a line
 pub line_before : (xs : List ℕ) (k : ℕ) → NoneBefore (Passes (is_byte 10) xs) 0 (length xs) k → IsRecordLine (take k xs)

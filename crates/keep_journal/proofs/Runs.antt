@@ -2,13 +2,12 @@
 use Rattle.std.proofs.Common.{◌≡◌, inl, ℕ, ◌≤◌, List, [], ◌∷◌, ◌++◌, false, Option, None, Some, refl, sym, ◌∙◌, ap, subst}
 use Rattle.std.specs.Str.{bytes_eq}
 use Rattle.keep_disk.specs.Image.{File, Image, with_file_at}
-use Rattle.keep_disk.specs.Torn.{MovesFile}
-use Rattle.keep_disk.specs.State.{DiskState, DiskKeeps, OutcomesFollow, IsAfter, LeavesAlone, Elapses, LeavesOnly}
+use Rattle.keep_disk.specs.State.{DiskState, DiskKeeps, LeavesAlone, Elapses, LeavesOnly}
 use Rattle.keep_disk.proofs.Moments.{started, goes_on, weaker, and_then}
 use Rattle.keep_journal.specs.Records.{at_rest, StandsFor, IsBeforeOrAfter}
 use Rattle.keep_journal.specs.Journals.{bytes_of_file, JournalIsAtRest, CrashLeaves, KeepsOthers, Exchanging, Settling, FileIsThere}
 use Rattle.keep_journal.proofs.Readings.{stands_at_rest, stands_once, nothing_in_nil}
-use Rattle.keep_journal.proofs.Steps.{at_path, at_end, leaves_weaker, leaves_then, leaves_past, still_leaves, kept_has, kept_past, moves_elsewhere, first_in_place, then_anew, first_put, then_exchanged}
+use Rattle.keep_journal.proofs.Steps.{at_path, at_end, leaves_weaker, leaves_then, leaves_past, still_leaves, kept_has, kept_past, first_put, then_exchanged}
 
 -- the file's records, where it is at rest with them
 pub rest_has : (path : List ℕ) (lines : List (List ℕ)) (size : ℕ) (t : DiskState) → JournalIsAtRest path lines size t → (d : Image) → t.may_leave d → StandsFor (bytes_of_file (d path)) lines
@@ -27,27 +26,9 @@ put_leaves path lines line size s t u first counts rest second =
 
 -- a file is put in its place, which is not the journal's
 module _ (path target : List ℕ) (file : File) (apart : bytes_eq path target ≡ false) (s t : DiskState) where
-  pub others_past : MovesFile target file s.seen t.seen → ((other : List ℕ) → bytes_eq target other ≡ false → t.is_sound other ≡ s.is_sound other) → KeepsOthers target s t
-  others_past moves sound = record { seen = moves_elsewhere target file s.seen t.seen moves; sound = sound }
-
-  pub rest_past : (lines : List (List ℕ)) (size : ℕ) → bytes_eq target path ≡ false → KeepsOthers target s t → OutcomesFollow (MovesFile target file) s t → JournalIsAtRest path lines size s → JournalIsAtRest path lines size t
-  rest_past lines size back others before rest = record {
-    are_lines = rest.are_lines;
-    mode = rest.mode;
-    seen = others.seen path back ∙ rest.seen;
-    size_is = rest.size_is;
-    is_kept = kept_past target path s t back others rest.is_kept (λ c left. let from = before c left in (from.0, from.1, moves_elsewhere target file from.0 c from.2));
-  }
 
   pub in_place : t.seen ≡ with_file_at target file s.seen → DiskKeeps target t → FileIsThere target file t
   in_place placed_is is_kept = record { seen = ap (λ (image : Image). image target) placed_is ∙ at_path target (λ _. Some file) s.seen; is_kept = is_kept }
-
-  pub exchanged_leaves : (P : List ℕ → Type 0) (u : DiskState) → LeavesOnly s t (IsAfter (MovesFile target file) s) → OutcomesFollow (MovesFile target file) s t → FileIsThere target file t
-      → LeavesOnly t u (CrashLeaves path P t) → LeavesOnly s u (Exchanging path target file P s)
-  exchanged_leaves P u first before there second =
-      and_then s t u (Exchanging path target file P s) (CrashLeaves path P t)
-      (weaker s t (IsAfter (MovesFile target file) s) (Exchanging path target file P s) first (first_in_place path target file P apart s))
-      second (then_anew path target file P apart s t there before)
 
   -- it stays there while the journal is made anew
   pub there_past : (P : List ℕ → Type 0) (u : DiskState) → FileIsThere target file t → KeepsOthers path t u → LeavesOnly t u (CrashLeaves path P t)

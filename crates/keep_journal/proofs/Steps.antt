@@ -1,13 +1,13 @@
 -- What each step of a journal leaves on its disk.
-use Rattle.std.proofs.Common.{◌≡◌, ◌⊎◌, inl, inr, ⊎_elim, ℕ, ◌≤◌, List, [], ◌∷◌, ◌++◌, length, Option, None, Some, IfSome, Bool, true, false, if◌then◌else◌, Result, Ok, Err, OnOk, refl, sym, ◌∙◌, ap, subst}
+use Rattle.std.proofs.Common.{◌≡◌, ◌⊎◌, inl, inr, ⊎_elim, ℕ, ◌≤◌, List, [], ◌∷◌, ◌++◌, Option, None, Some, Bool, true, false, if◌then◌else◌, Result, Ok, Err, OnOk, refl, sym, ◌∙◌, ap, subst}
 use Rattle.std.proofs.lemmas.Bool.{true≢false, cases_Bool}
 use Rattle.std.proofs.lemmas.Slice.Eq.{bytes_eq-Decides}
 use Rattle.std.specs.Str.{bytes_eq}
 use Rattle.keep_disk.specs.Image.{File, Image, SameElsewhere, image_changed, with_bytes}
 use Rattle.keep_disk.specs.Torn.{Tears, MovesFile, IsTornFile}
-use Rattle.keep_disk.specs.State.{DiskState, DiskKeeps, Touches, OutcomesFollow, IsAfter, LeavesOnly}
+use Rattle.keep_disk.specs.State.{DiskState, DiskKeeps, OutcomesFollow, IsAfter, LeavesOnly}
 use Rattle.keep_journal.specs.Records.{StandsFor, IsBeforeOrAfter}
-use Rattle.keep_journal.specs.Journals.{bytes_of_file, CrashLeaves, KeepsOthers, Exchanging, Settling, FileIsThere}
+use Rattle.keep_journal.specs.Journals.{bytes_of_file, CrashLeaves, KeepsOthers, Exchanging, Settling}
 
 pub other_side : {X : Type 0} (b : Bool) (x y : X) → b ≡ false → (if b then x else y) ≡ y
 other_side true x y is = absurd (true≢false is)
@@ -34,10 +34,6 @@ torn_bytes step a b mode bytes is torn = there b (subst (λ (o : Option File). I
     there : (o : Option File) → IsTornFile step (Some (record { mode = mode; bytes = bytes })) o → step bytes (bytes_of_file o)
     there None none = absurd none
     there (Some file) some = some.1
-
--- where a file is known, so is how long it is
-pub long_enough : (file : Option File) (mode at : ℕ) (bytes : List ℕ) → file ≡ Some (record { mode = mode; bytes = bytes }) → at ≤ length bytes → IfSome file (λ f. at ≤ length f.bytes)
-long_enough file mode at bytes is long = subst (λ (o : Option File). IfSome o (λ f. at ≤ length f.bytes)) (sym is) long
 
 -- a write or a cut of a file that is known
 pub seen_then : (path : List ℕ) (s t : DiskState) (change : List ℕ → List ℕ) (mode : ℕ) (bytes : List ℕ) → s.seen path ≡ Some (record { mode = mode; bytes = bytes })
@@ -93,42 +89,9 @@ leaves_then path s t P Q R before stands means c left =
       inr (⊎_elim (λ same. subst (λ (o : Option File). R (bytes_of_file o)) (sym same) (stands left.0 left.1)) (means (bytes_of_file (c path))) left.3),
     )
 
--- a file that is moved to its place
-pub moved_leaves : (path : List ℕ) (s : DiskState) (file : File) (P : List ℕ → Type 0) → P file.bytes → (c : Image) → IsAfter (MovesFile path file) s c → CrashLeaves path P s c
-moved_leaves path s file P has c after = there after.2
-  where
-    there : MovesFile path file after.0 c → CrashLeaves path P s c
-    there (inl same) = (after.0, after.1, (λ other apart. ap (λ (image : Image). image other) same), inl (ap (λ (image : Image). image path) same))
-    there (inr moved) = (
-      after.0,
-      after.1,
-      (λ other apart. ap (λ (image : Image). image other) moved ∙ elsewhere_changed path (λ _. Some file) after.0 other apart),
-      inr (subst (λ (o : Option File). P (bytes_of_file o)) (sym (ap (λ (image : Image). image path) moved ∙ at_path path (λ _. Some file) after.0)) has),
-    )
-
 pub moves_elsewhere : (path : List ℕ) (file : File) (a b : Image) → MovesFile path file a b → SameElsewhere path a b
 moves_elsewhere path file a b (inl same) other apart = ap (λ (image : Image). image other) same
 moves_elsewhere path file a b (inr moved) other apart = ap (λ (image : Image). image other) moved ∙ elsewhere_changed path (λ _. Some file) a other apart
-
--- others are kept through several calls
-pub touches_then : (path : List ℕ) (s t u : DiskState) → Touches path s t → Touches path t u → Touches path s u
-touches_then path s t u first second = record {
-  seen = λ other apart. second.seen other apart ∙ first.seen other apart;
-  beside = second.beside ∙ first.beside;
-  sound = λ other apart. second.sound other apart ∙ first.sound other apart;
-}
-
-pub others_then : (path : List ℕ) (s t u : DiskState) → KeepsOthers path s t → KeepsOthers path t u → KeepsOthers path s u
-others_then path s t u first second = record {
-  seen = λ other apart. second.seen other apart ∙ first.seen other apart;
-  sound = λ other apart. second.sound other apart ∙ first.sound other apart;
-}
-
-pub others_still : (path : List ℕ) (s : DiskState) → KeepsOthers path s s
-others_still path s = record { seen = λ other apart. refl; sound = λ other apart. refl }
-
-pub touches_others : (path : List ℕ) (s t : DiskState) → Touches path s t → KeepsOthers path s t
-touches_others path s t touches = record { seen = touches.seen; sound = touches.sound }
 
 -- a file that another call left alone is still on the disk
 pub kept_past : (path other : List ℕ) (s t : DiskState) → bytes_eq path other ≡ false → KeepsOthers path s t → DiskKeeps other s
@@ -142,8 +105,6 @@ kept_past path other s t apart others was from = record {
 
 -- the two files of an exchange
 module _ (path target : List ℕ) (file : File) (P : List ℕ → Type 0) (apart : bytes_eq path target ≡ false) (s : DiskState) where
-  pub still_exchanging : (c : Image) → s.may_leave c → Exchanging path target file P s c
-  still_exchanging c now = record { was = c; before = now; elsewhere = λ other p q. refl; both = inl (refl, refl) }
 
   -- the first takes its place
   pub first_in_place : (c : Image) → IsAfter (MovesFile target file) s c → Exchanging path target file P s c
@@ -160,20 +121,6 @@ module _ (path target : List ℕ) (file : File) (P : List ℕ → Type 0) (apart
         ap (λ (image : Image). image target) moved ∙ at_path target (λ _. Some file) after.0,
         inl (ap (λ (image : Image). image path) moved ∙ elsewhere_changed target (λ _. Some file) after.0 path (apart_back path target apart)),
       )
-
-  -- and then the journal is made anew
-  pub then_anew : (t : DiskState) → FileIsThere target file t → OutcomesFollow (MovesFile target file) s t → (c : Image) → CrashLeaves path P t c → Exchanging path target file P s c
-  then_anew t there before c left =
-      let from = before left.0 left.1 in
-      record {
-        was = from.0;
-        before = from.1;
-        elsewhere = λ other p q. left.2 other p ∙ moves_elsewhere target file from.0 left.0 from.2 other q;
-        both = inr (
-          left.2 target apart ∙ there.is_kept.durable left.0 left.1 ∙ there.seen,
-          ⊎_elim (λ same. inl (same ∙ moves_elsewhere target file from.0 left.0 from.2 path (apart_back path target apart))) (λ p. inr p) left.3,
-        );
-      }
 
 -- a journal that is settled
 module _ (path target : List ℕ) (file : File) (lines : List (List ℕ)) (line : List ℕ) (apart : bytes_eq path target ≡ false) (s : DiskState) where

@@ -1,18 +1,16 @@
 -- What the calls that write a journal's file make of it: a record that is added, an end that is mended, a file that is made anew.
-use Rattle.std.proofs.Common.{◌≡◌, inl, ℕ, ◌+◌, ◌-◌, ◌≤◌, List, [], ◌∷◌, ◌++◌, length, take, Some, IfSome, ◌∙◌, ap, subst, sym, refl, arith}
+use Rattle.std.proofs.Common.{◌≡◌, inl, ℕ, ◌+◌, ◌-◌, List, [], ◌∷◌, ◌++◌, length, take, Some, ◌∙◌, ap, subst, sym, refl, arith}
 use Rattle.keep_disk.specs.Image.{File, Image, image_changed, with_file_at, with_bytes, overwritten}
-use Rattle.keep_disk.specs.Torn.{Torn, Cut, Tears, MovesFile}
+use Rattle.keep_disk.specs.Torn.{Torn, Cut, Tears}
 use Rattle.keep_disk.specs.State.{DiskState, DiskKeeps, OutcomesFollow, IsAfter}
 use Rattle.keep_journal.specs.Records.{IsRecordLine, AreLines, blocks, at_rest, StandsFor, IsBeforeOrAfter}
 use Rattle.keep_journal.specs.Journals.{JournalIsAtRest, JournalIsWhole, Untidy, CrashLeaves, path_of_journal, lines_of_journal}
 use Rattle.keep_journal.specs.declared.journal.Journal.{Journal}
-use Rattle.keep_journal.proofs.Readings.{staged, length-at_rest, length-staged, torn_behind, written_behind, torn_gate, written_gate, size_then, lines_push, stands_at_rest, no_longer, cut_keeps, cut_done, torn_end, written_end}
-use Rattle.keep_journal.proofs.Steps.{at_path, long_enough, seen_then, torn_leaves, torn_again, moved_leaves}
+use Rattle.keep_journal.proofs.Readings.{staged, length-at_rest, torn_behind, written_behind, torn_gate, written_gate, size_then, lines_push, cut_keeps, cut_done, torn_end, written_end}
+use Rattle.keep_journal.proofs.Steps.{at_path, seen_then, torn_leaves, torn_again}
 
 -- a record is added
 module _ (path : List ℕ) (lines : List (List ℕ)) (size : ℕ) (s : DiskState) (rest : JournalIsAtRest path lines size s) (line : List ℕ) (is_line : IsRecordLine line) where
-  pub behind_fits : IfSome (s.seen path) (λ f. size + 1 ≤ length f.bytes)
-  behind_fits = long_enough (s.seen path) rest.mode (size + 1) (at_rest lines) rest.seen (omega (arith, length-at_rest lines size rest.are_lines rest.size_is))
 
   pub behind_leaves : (n : ℕ) (c : Image) → IsAfter (Tears path (Torn (size + 1) n)) s c → CrashLeaves path (IsBeforeOrAfter lines line) s c
   behind_leaves n c after = torn_leaves path s (Torn (size + 1) n) (IsBeforeOrAfter lines line) rest.mode (at_rest lines) rest.seen rest.is_kept
@@ -25,9 +23,6 @@ module _ (path : List ℕ) (lines : List (List ℕ)) (size : ℕ) (s : DiskState
         written_behind lines size rest.are_lines rest.size_is tail ∙ ap (λ (l : List ℕ). blocks lines ++ 45 ∷ l) tail_is in
         seen_then path s t (overwritten (size + 1) tail) rest.mode (at_rest lines) rest.seen written
         ∙ (λ i. Some (record { mode = rest.mode; bytes = bytes i }))
-
-    pub gate_fits : IfSome (t.seen path) (λ f. size ≤ length f.bytes)
-    gate_fits = long_enough (t.seen path) rest.mode size (staged lines line) staged_seen (omega (arith, length-staged lines size rest.are_lines rest.size_is line is_line))
 
     pub appended : (u : DiskState) → u.seen ≡ image_changed path (with_bytes (overwritten size (43 ∷ []))) t.seen → DiskKeeps path u
         → JournalIsAtRest path (lines ++ line ∷ []) (size + (length line + 2)) u
@@ -48,8 +43,6 @@ module _ (path : List ℕ) (lines : List (List ℕ)) (size : ℕ) (s : DiskState
 
 -- an end is mended
 module _ (journal : Journal) (s : DiskState) (u : Untidy journal s) where
-  pub cut_fits : IfSome (s.seen (path_of_journal journal)) (λ f. journal.size ≤ length f.bytes)
-  cut_fits = long_enough (s.seen (path_of_journal journal)) u.mode journal.size u.file u.seen (no_longer u.file (lines_of_journal journal) u.stands journal.size u.size_is)
 
   pub cut_leaves : (c : Image) → IsAfter (Tears (path_of_journal journal) (Cut journal.size)) s c → CrashLeaves (path_of_journal journal) (λ f. StandsFor f (lines_of_journal journal)) s c
   cut_leaves c after = torn_leaves (path_of_journal journal) s (Cut journal.size) (λ f. StandsFor f (lines_of_journal journal)) u.mode u.file u.seen u.is_kept
@@ -60,9 +53,6 @@ module _ (journal : Journal) (s : DiskState) (u : Untidy journal s) where
     cut_seen =
         seen_then (path_of_journal journal) s t (take journal.size) u.mode u.file u.seen was_cut
         ∙ (λ i. Some (record { mode = u.mode; bytes = cut_done u.file (lines_of_journal journal) u.stands journal.size u.size_is i }))
-
-    pub end_fits : IfSome (t.seen (path_of_journal journal)) (λ f. journal.size ≤ length f.bytes)
-    end_fits = long_enough (t.seen (path_of_journal journal)) u.mode journal.size (blocks (lines_of_journal journal)) cut_seen (omega (arith, u.size_is))
 
     pub mended : (v : DiskState) → v.seen ≡ image_changed (path_of_journal journal) (with_bytes (overwritten journal.size (45 ∷ []))) t.seen → DiskKeeps (path_of_journal journal) v → JournalIsWhole journal v
     mended v closed is_kept = record {
@@ -91,10 +81,6 @@ module _ (path : List ℕ) (lines : List (List ℕ)) (are : AreLines lines) (s t
     size_is = let long : length text ≡ length (at_rest lines) = ap length text_is in omega (arith, size_is, long, length-at_rest lines (length (blocks lines)) are refl);
     is_kept = is_kept;
   }
-
-  pub anew_leaves : (c : Image) → IsAfter (MovesFile path (record { mode = mode; bytes = text })) s c → CrashLeaves path (λ f. StandsFor f lines) s c
-  anew_leaves c after = moved_leaves path s (record { mode = mode; bytes = text }) (λ f. StandsFor f lines)
-      (subst (λ (f : List ℕ). StandsFor f lines) (sym text_is) (stands_at_rest lines are)) c after
 
 -- a file that was read
 module _ (path : List ℕ) (lines : List (List ℕ)) (size : ℕ) (s : DiskState) (bytes : List ℕ) (stands : StandsFor bytes lines) (size_is : size ≡ length (blocks lines))

@@ -1,10 +1,9 @@
 -- What is heard of a reply, piece by piece: for `Lane` and `read_on`.
-use Rattle.std.proofs.Common.{◌≡◌, ℕ, zero, suc, ◌<◌, ◌++◌, List, [], ◌∷◌, length, take, arith, append_assoc, append-nil, refl, ap, subst, sym, ◌∙◌, Option, None, Some, IfSome, Ok, Err}
-use Rattle.std.specs.Io.KnownBytes.{Consumes, IsAtEnd, Keeps}
-use Rattle.std.proofs.KnownBytes.{Consumes-kept, Consumes-nil, Consumes-trans}
+use Rattle.std.proofs.Common.{◌≡◌, ℕ, zero, suc, ◌<◌, ◌++◌, List, [], ◌∷◌, length, take, arith, append_assoc, refl, ap, subst, sym, ◌∙◌, Option, None, Some, IfSome, Ok, Err}
+use Rattle.std.specs.Io.KnownBytes.{Consumes, IsAtEnd}
+use Rattle.std.proofs.KnownBytes.{Consumes-trans}
 use Rattle.keep_lanes.specs.Lanes.{AnswerIsTold, NothingFollowsEnd, ReplyIsHeard, TellsAnswer}
 use Rattle.keep_lanes.specs.Losses.{Answer, loss_of}
-use Rattle.keep_lanes.specs.declared.loss.Loss.{Loss}
 use Rattle.keep_lanes.specs.declared.loss.Loss.TheVariants as losses
 use Rattle.vault_http.specs.Dates.{IsDatedReply}
 use Rattle.vault_http.specs.declared.http_fault.HttpFault.{HttpFault}
@@ -43,63 +42,11 @@ heard_answer old came piece before mid now a last new first then' end is told = 
     by_answer (Err losses.Closed) h = tt
     by_answer (Err (losses.Status status)) h = tt
 
--- nothing more came, and it is lost for a reason that is not told of the bytes
-pub heard_lost : (old came last new : List ℕ) (before mid now : Option (List ℕ)) (loss : Loss) → Consumes before mid came → Keeps mid now → (loss ≡ losses.Reply → ⊥) → ReplyIsHeard old (Some (Err loss)) new before now
-heard_lost old came last new before mid now loss first kept other = record {
-  came = came;
-  consumed = Consumes-kept before mid now came first kept;
-  tells = by_loss loss other;
-}
-  where
-    by_loss : (loss : Loss) → (loss ≡ losses.Reply → ⊥) → TellsAnswer old came before (Some (Err loss)) new
-    by_loss losses.Reply other = absurd (other refl)
-    by_loss losses.Connect other = tt
-    by_loss losses.Timeout other = tt
-    by_loss losses.Closed other = tt
-    by_loss (losses.Status status) other = tt
-
 -- so much came since, and there is no answer yet
 pub record Came (old new : List ℕ) (before now : Option (List ℕ)) : Type 0 where
   pub came : List ℕ
   pub consumed : Consumes before now came
   pub kept : new ≡ old ++ came
-
-pub came_none : (old : List ℕ) (before : Option (List ℕ)) → Came old old before before
-came_none old before = record { came = []; consumed = Consumes-nil before; kept = sym (append-nil old) }
-
-pub came_more : (old last new piece : List ℕ) (before mid now : Option (List ℕ)) → Came old last before mid → Consumes mid now piece → new ≡ last ++ piece → Came old new before now
-came_more old last new piece before mid now h then' is = record {
-  came = h.came ++ piece;
-  consumed = Consumes-trans before mid now h.came piece h.consumed then';
-  kept = is ∙ ap (λ l. l ++ piece) h.kept ∙ append_assoc old h.came piece;
-}
-
-pub heard_none : (old new : List ℕ) (before mid now : Option (List ℕ)) → Came old new before mid → Keeps mid now → ReplyIsHeard old None new before now
-heard_none old new before mid now h kept = record {
-  came = h.came;
-  consumed = Consumes-kept before mid now h.came h.consumed kept;
-  tells = h.kept;
-}
-
--- what is told of bytes is told where they are not known
-told_blind : (old came new : List ℕ) (before : Option (List ℕ)) (answer : Option Answer) → TellsAnswer old came before answer new → TellsAnswer old came None answer new
-told_blind old came new before None h = h
-told_blind old came new before (Some (Ok dated)) h = tt
-told_blind old came new before (Some (Err losses.Reply)) h = tt
-told_blind old came new before (Some (Err losses.Connect)) h = tt
-told_blind old came new before (Some (Err losses.Timeout)) h = tt
-told_blind old came new before (Some (Err losses.Closed)) h = tt
-told_blind old came new before (Some (Err (losses.Status status))) h = tt
-
--- nothing was read before
-pub heard_from : (old : List ℕ) (answer : Option Answer) (new : List ℕ) (first before now : Option (List ℕ)) → Keeps first before → ReplyIsHeard old answer new before now → ReplyIsHeard old answer new first now
-heard_from old answer new None before now kept h = record {
-  came = h.came;
-  consumed = tt;
-  tells = told_blind old h.came new before answer h.tells;
-}
-heard_from old answer new (Some xs) None now kept h = absurd kept
-heard_from old answer new (Some xs) (Some ys) now kept h = subst (λ l. ReplyIsHeard old answer new (Some l) now) kept h
 
 -- an answer by a read of n bytes
 pub heard_read : (old last buf : List ℕ) (before mid now : Option (List ℕ)) (n : ℕ) (got : Option Answer) (a : Answer) (new : List ℕ) → Came old last before mid

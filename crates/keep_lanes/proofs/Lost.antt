@@ -3,26 +3,19 @@ use Rattle.std.proofs.Common.{◌≡◌, ◌==◌, ℕ, ◌≤◌, inr, List, []
 use Rattle.std.proofs.Math.Dec.{eqb-suc-zero}
 use Rattle.std.proofs.lemmas.Bool.{false≢true}
 use Rattle.keep_lanes.specs.Allowed.{most_reads}
-use Rattle.keep_lanes.specs.Lanes.{AnswerIsTold, IsCounted, NothingFollowsEnd, ReplyIsRead, RequestIsLost, RequestIsSettled}
+use Rattle.keep_lanes.specs.Lanes.{AnswerIsTold, IsCounted, NothingFollowsEnd, ReplyIsRead, RequestIsSettled}
 use Rattle.keep_lanes.specs.Losses.{Answer}
-use Rattle.keep_lanes.specs.Stages.{failed, reads_with}
+use Rattle.keep_lanes.specs.Stages.{reads_with}
 use Rattle.keep_lanes.specs.declared.allowance.Allowance.{Allowance}
 use Rattle.keep_lanes.specs.declared.loss.Loss.TheVariants as losses
 use Rattle.keep_lanes.specs.declared.stage.Stage.{Stage}
-use Rattle.keep_lanes.specs.declared.stage.Stage.TheVariants.{Connecting, Sending, Silent, Coming}
+use Rattle.keep_lanes.specs.declared.stage.Stage.TheVariants.{Connecting}
 use Rattle.vault_http.specs.Dates.{IsDatedReply}
 use Rattle.vault_http.specs.Messages.{UnlessMemory}
 use Rattle.vault_http.specs.declared.dated_reply.DatedReply.{DatedReply}
 use Rattle.vault_http.specs.declared.http_fault.HttpFault.{HttpFault}
 use Rattle.vault_http.specs.declared.http_fault.HttpFault.TheVariants as https
 use Rattle.vault_http.specs.declared.known.TheConstants.{MOST_MESSAGE}
-
--- a connection that failed lost it
-pub lost_failed : (a : Allowance) (now : ℕ) (stage : Stage) (unsent : List ℕ) → RequestIsLost a now stage unsent (failed stage)
-lost_failed a now Connecting unsent = refl
-lost_failed a now Sending unsent = λ e. cc
-lost_failed a now Silent unsent = λ e. cc
-lost_failed a now (Coming reads since) unsent = λ e. cc
 
 -- no bytes are the piece that ends it
 none_left : (piece : List ℕ) → (length piece == 0) ≡ true → piece ≡ []
@@ -70,7 +63,3 @@ settled_by a now old new (Err losses.Closed) sent h = λ e. sent (sym h ∙ e)
 settled_by a now old new (Err losses.Timeout) sent h = inr (subst (λ s. most_reads a ≤ reads_with s) (sym h.1) h.0)
 settled_by a now old new (Err losses.Connect) sent h = absurd h
 settled_by a now old new (Err (losses.Status status)) sent h = absurd h
-
--- bytes of its reply have come: then it was sent
-pub came_sent : (old new : Stage) (reads since : ℕ) → new ≡ Coming reads since → new ≡ Connecting → ⊥
-came_sent old new reads since is e = cc

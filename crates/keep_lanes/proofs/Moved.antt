@@ -22,14 +22,6 @@ module _ {L : Type 0} (written remaining : L → Option (List ℕ)) (now : ℕ) 
   move_more (o ∷ os) [] s n h one = absurd h
   move_more (o ∷ os) (x ∷ xs) s n h one = (h.0, move_more os xs s n h.1 one)
 
-  -- they are for the same indices
-  pub outs_move : (old new : List (Seat (Way L))) → Move written remaining now old new → outs (λ _. None) new ≡ outs (λ _. None) old
-  outs_move [] new h = ap (outs (λ _. None)) h
-  outs_move (o ∷ os) [] h = absurd h
-  outs_move (o ∷ os) (x ∷ xs) h =
-      let first : out_of_seat {T = Way L} (λ _. None) x ≡ out_of_seat (λ _. None) o = ap (λ (i : ℕ). let it : outs_of.Out = record { index = i; comes = None } in it) h.0.0 in
-      ap (λ (it : outs_of.Out). it ∷ outs (λ _. None) xs) first ∙ ap (λ l. out_of_seat (λ _. None) o ∷ l) (outs_move os xs h.1)
-
   pub rest_next : (old out : List (Seat (Way L))) (i : ℕ) (n : Seat (Way L)) → drop i out ≡ drop i old → drop (i + 1) (set out i n) ≡ drop (i + 1) old
   rest_next old out i n rest = drop-set-lt (i + 1) out i n (omega arith) ∙ drop_more_same out old i rest
 

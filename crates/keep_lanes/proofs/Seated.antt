@@ -1,7 +1,7 @@
 -- One more among those that are out: for `place_for` and `put`.
-use Rattle.std.proofs.Common.{◌≡◌, ℕ, ◌<◌, ◌≤◌, ◌+◌, ◌++◌, List, [], ◌∷◌, length, take, drop, get_or, sym, subst, ap, ◌∙◌, All, Option, take-append-drop}
-use Rattle.std.proofs.lemmas.List.{drop_all, drop_more, map-append}
-use Rattle.std.proofs.lemmas.List.Elements.{All-map, All-more}
+use Rattle.std.proofs.Common.{◌≡◌, ℕ, ◌≤◌, ◌+◌, ◌++◌, List, [], ◌∷◌, take, drop, sym, ap, ◌∙◌, All, Option, take-append-drop}
+use Rattle.std.proofs.lemmas.List.{map-append}
+use Rattle.std.proofs.lemmas.List.Elements.{All-map}
 use Rattle.keep_lanes.specs.Out.{IsBelow, Out, OutIsPut}
 use Rattle.keep_lanes.specs.code.Seats.{out_of_seat, outs}
 use Rattle.keep_lanes.specs.declared.coming.Coming.{Coming}
@@ -12,20 +12,6 @@ module _ {T : Type 0} where
   below_known : (comes other : T → Option Coming) (index : ℕ) (seats : List (Seat T)) → IsBelow index (outs comes seats) → IsBelow index (outs other seats)
   below_known comes other index [] h = h
   below_known comes other index (s ∷ ss) h = h
-
-  -- one more of no greater index
-  pub lower_more : (seats : List (Seat T)) (index place : ℕ) (s : Seat T) → place < length seats → s ≡ get_or seats place s → s.index ≤ index
-      → All (λ x. x.index ≤ index) (take place seats) → All (λ x. x.index ≤ index) (take (place + 1) seats)
-  lower_more seats index place s within is h lower =
-      All-more (λ (x : Seat T). x.index ≤ index) seats place s within lower (subst (λ (x : Seat T). x.index ≤ index) is h)
-
-  pub below_at : (comes : T → Option Coming) (seats : List (Seat T)) (index place : ℕ) (s : Seat T) → place < length seats → s ≡ get_or seats place s → index < s.index
-      → IsBelow index (outs comes (drop place seats))
-  below_at comes seats index place s within is h =
-      subst (λ ss. IsBelow index (outs comes ss)) (sym (drop_more seats place s within ∙ ap (λ x. x ∷ drop (place + 1) seats) (sym is))) h
-
-  pub below_end : (comes : T → Option Coming) (seats : List (Seat T)) (index place : ℕ) → length seats ≤ place → IsBelow index (outs comes (drop place seats))
-  below_end comes seats index place past = subst (λ ss. IsBelow index (outs comes ss)) (sym (drop_all place seats past)) tt
 
   pub is_put : (comes other : T → Option Coming) (old new : List (Seat T)) (s : Seat T) (place : ℕ) → All (λ x. x.index ≤ s.index) (take place old) → IsBelow s.index (outs other (drop place old))
       → new ≡ take place old ++ s ∷ drop place old → OutIsPut (out_of_seat comes s) (outs comes old) (outs comes new)

@@ -267,8 +267,3 @@ module _ (S : Type 0) (h : Hearing S) where
     listens_then a b same limits read number old behind t u (Err (stops.Broker name)) new fed first ends = (ends.0, halts_then a b same number old behind t u (stops.Broker name) new (HasEnded limits read fed) first ends.1)
     listens_then a b same limits read number old behind t u (Err (stops.Line n)) new fed first ends = (ends.0, halts_then a b same number old behind t u (stops.Line n) new (HasEnded limits read fed) first ends.1)
     listens_then a b same limits read number old behind t u (Err stops.Memory) new fed first ends = (ends.0, halts_then a b same number old behind t u stops.Memory new (HasEnded limits read fed) first ends.1)
-
--- all of a text was written and flushed, where the output is flushed now
-pub all_flushed : (text : List ℕ) (out : Change) → TextIsSaid text out → IsTrue out.new.output.is_flushed → IsAll text out
-all_flushed text out (inl all) flushed = all
-all_flushed text out (inr none) flushed = (said_appends text out (inr none), flushed)

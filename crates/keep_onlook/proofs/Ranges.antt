@@ -1,5 +1,5 @@
 -- Ranges: whether something holds of some piece of a text, piece by piece.
-use Rattle.std.proofs.Common.{◌≡◌, ◌≢◌, ℕ, ◌<◌, Bool, true, false, ◌||◌, List, [], ◌∷◌, ◌++◌, length, refl, sym, ap, ◌∙◌, arith, length-append}
+use Rattle.std.proofs.Common.{◌≡◌, ◌≢◌, ℕ, ◌<◌, Bool, false, ◌||◌, List, [], ◌∷◌, ◌++◌, length, refl, sym, ap, ◌∙◌, arith, length-append}
 use Rattle.std.specs.List.{join_with_byte, list_any}
 use Rattle.keep_words.specs.Pieces.{pieces}
 use Rattle.keep_words.proofs.Cutting.{has_piece}
@@ -19,8 +19,3 @@ shorter b rest piece after e =
 pub later : (f : List ℕ → Bool) (b : ℕ) (rest piece after : List ℕ) → pieces b rest ≡ piece ∷ pieces b after → f piece ≡ false
     → list_any f (pieces b rest) ≡ list_any f (pieces b after)
 later f b rest piece after e misses = ap (list_any f) e ∙ ap (λ t. t || list_any f (pieces b after)) misses
-
--- and where it does, it holds of some
-pub here : (f : List ℕ → Bool) (b : ℕ) (rest piece after : List ℕ) → pieces b rest ≡ piece ∷ pieces b after → f piece ≡ true
-    → list_any f (pieces b rest) ≡ true
-here f b rest piece after e holds = ap (list_any f) e ∙ ap (λ t. t || list_any f (pieces b after)) holds

@@ -1,11 +1,10 @@
 -- Runs that are taken from a schedule one by one: what they are together; for `collect`.
-use Rattle.std.proofs.Common.{◌≡◌, ◌∙◌, ℕ, ◌+◌, ◌-◌, ◌<◌, ◌≤◌, ◌++◌, List, [], ◌∷◌, length, refl, sym, ap, subst, arith}
+use Rattle.std.proofs.Common.{◌≡◌, ◌∙◌, ℕ, ◌+◌, ◌-◌, ◌<◌, ◌≤◌, ◌++◌, List, [], ◌∷◌, length, sym, ap, subst, arith}
 use Rattle.std.proofs.lemmas.List.{append-nil, append_assoc, length-append}
 use Rattle.keep_rule.specs.declared.force.Force.{Force}
 use Rattle.keep_rule.specs.declared.run.Run.{Run}
 use Rattle.keep_rule.specs.Runs.{AreRuns, IsRun, all_wakes, wakes}
 use Rattle.keep_schedule.specs.Given.{IsFirstRun}
-use Rattle.keep_rule.specs.declared.limit.TheConstants.{LIMIT}
 use Rattle.keep_plan.specs.code.Collecting.{AreLongestBefore, ListIsOverlong, RunsAreTaken, RunsAreWhole}
 use Rattle.keep_plan.specs.Decides.{AreLongest}
 use Rattle.keep_plan.proofs.Walking.{length_wakes_of}
@@ -36,17 +35,6 @@ longest_more (q ∷ rs) r rest before last =
 longest_alone : (rs : List Run) → AreLongestBefore rs [] → AreLongest rs
 longest_alone [] before = tt
 longest_alone (r ∷ rs) before = (λ other rest e. before.0 other rest (append-nil (all_wakes (r ∷ rs)) ∙ e), longest_alone rs before.1)
-
-pub none_taken : (comes : List Force → Type 0) (most : ℕ) → RunsAreTaken comes comes most most [] (LIMIT + 1)
-none_taken comes most = record {
-  runs = tt;
-  some = omega arith;
-  filled = omega arith;
-  joins = λ rest h. h;
-  splits = λ xs h. (xs, (refl, h));
-  longest = λ rest h short. tt;
-  most = omega arith;
-}
 
 -- one run more
 pub one_more :

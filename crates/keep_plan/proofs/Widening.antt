@@ -3,14 +3,13 @@ use Rattle.std.proofs.Common.{◌≡◌, ◌∙◌, ℕ, ◌-◌, ◌<◌, ◌�
 use Rattle.std.proofs.lemmas.Bool.{cases_lt}
 use Rattle.std.proofs.lemmas.List.{length-map}
 use Rattle.keep_tree.specs.Forest.{Forest, end_of}
-use Rattle.keep_tree.specs.Margins.{IsMargin, IsMostMargin}
+use Rattle.keep_tree.specs.Margins.{IsMostMargin}
 use Rattle.keep_tree.specs.Push.{IsForest}
 use Rattle.keep_tree.proofs.Margins.{forest_with, less_allowed}
-use Rattle.keep_rule.specs.declared.limit.TheConstants.{LIMIT}
 use Rattle.keep_rule.proofs.Margin.{margin}
 use Rattle.keep_plan.specs.declared.widest.Widest.{Widest}
 use Rattle.keep_plan.specs.code.Widening.{WidestIsBetween}
-use Rattle.keep_plan.specs.Decides.{IsBestPlan, NoneKeeps, PlanIsTooLong}
+use Rattle.keep_plan.specs.Decides.{IsBestPlan}
 use Rattle.keep_plan.specs.Planned.{Planned, to_come}
 use Rattle.keep_plan.specs.Widest.{IsEnough, IsFewest, KeepsWithin}
 use Rattle.keep_plan.proofs.Deciding.{length_moments}
@@ -34,22 +33,6 @@ not_within g s most n fewest many within =
     let l = fewest.least within.0 within.1.0 within.1.1.0 in
     let few = within.1.1.1 in
     omega (arith, l, few, many)
-
-pub none_within : (g : Forest) (s most : ℕ) → NoneKeeps g s → KeepsWithin g s most → ⊥
-none_within g s most none within = none within.0 within.1.0 within.1.1.0
-
-pub too_long_within : (g : Forest) (s most : ℕ) → most ≤ LIMIT → PlanIsTooLong g s → KeepsWithin g s most → ⊥
-too_long_within g s most few long within =
-    let more = long.long within.0 within.1.0 within.1.1.0 in
-    let less = within.1.1.1 in
-    omega arith
-
--- the fewest, where they are no more
-pub fewest_within : (g : Forest) (s most n : ℕ) → IsFewest g s n → n ≤ most → KeepsWithin g s most
-fewest_within g s most n fewest few =
-    let some = fewest.some in
-    let l = some.1.1.1 in
-    (some.0, (some.1.0, (some.1.1.0, omega (arith, l, few))))
 
 -- what is told of a plan's number of wake-ups
 pub told_fewest : (g : Forest) (s most n : ℕ) (p : Planned) (found : Option ℕ) → IsBestPlan g s p → n ≡ length (to_come p) → MatchOption found (most < n) (λ k. (k ≡ n) × (k ≤ most)) →
@@ -79,20 +62,6 @@ between_first g s most high greatest =
       fewest = λ h. absurd (omega arith);
       allowed = λ h. greatest.allowed;
       none_over = λ margin enough. greatest.most margin enough.allowed;
-    }
-
-pub between_allows : (g : Forest) (s most : ℕ) (low : Widest) (high middle : ℕ) → WidestIsBetween g s most low high → 0 < middle → middle ≤ high → IsMargin g.entries middle
-between_allows g s most low high middle between above small = less_allowed g.entries high middle above small (between.allowed (omega arith))
-
-pub between_up : (g : Forest) (s most : ℕ) (low : Widest) (high middle wakes : ℕ) → WidestIsBetween g s most low high → 0 < middle → middle ≤ high → wakes ≤ most
-    → IsFewest (record g { margin = middle }) s wakes → WidestIsBetween g s most (record { margin = middle; wakes = wakes }) high
-between_up g s most low high middle wakes between above small few fewest =
-    record {
-      ordered = small;
-      enough = λ h. record { allowed = between_allows g s most low high middle between above small; keeps = fewest_within (record g { margin = middle }) s most wakes fewest few };
-      fewest = λ h. fewest;
-      allowed = between.allowed;
-      none_over = between.none_over;
     }
 
 pub between_down :

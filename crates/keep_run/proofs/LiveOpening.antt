@@ -3,7 +3,7 @@ use Rattle.std.proofs.Common.{◌≡◌, ℕ, ◌⊎◌, inl, inr, Bool, List, [
 use Rattle.std.specs.Io.KnownBytes.{Appends}
 use Rattle.std.specs.Result.{IfErr, IsErr, IsErrAnd}
 use Rattle.std.proofs.lemmas.List.{append-nil}
-use Rattle.keep_device.specs.Seen.{Change, Seen, change}
+use Rattle.keep_device.specs.Seen.{Seen, change}
 use Rattle.keep_core.proofs.Shaped.{replanned}
 use Rattle.keep_start.specs.Start.{from_start}
 use Rattle.keep_start.proofs.Started.{shaped_start}
@@ -18,26 +18,13 @@ use Rattle.keep_report.specs.declared.stop.Stop.TheVariants as stops
 use Rattle.keep_report.specs.Sent.{IsAll, SendsText}
 use Rattle.keep_run.specs.Closed.{shorts_taken}
 use Rattle.keep_run.specs.LiveRun.{EndsEarly, IsLiveOpening, RunIsOpened}
-use Rattle.keep_run.specs.Looking.{Looked, LooksAll, LooksAllUp, first_indices, looked_text}
+use Rattle.keep_run.specs.Looking.{Looked, LooksAll, first_indices, looked_text}
 use Rattle.keep_run.specs.Stops.{both}
 use Rattle.keep_run.specs.Text.{short_need_lines}
 use Rattle.keep_run.proofs.LookedUp.{left_alone, said_appends, same_credentials}
 use Rattle.keep_run.proofs.Texts.{same_shorts}
 use Rattle.keep_run.proofs.Written.{appends_then, front_then, whole_front}
 use Rattle.keep_tree.specs.Forest.{Forest}
-
--- ---- a lookup that stops it
-
-pub looking_early : (port t : ℕ) (always : List Bool) (old : Looked) (stop : Stop) (out : Change) (inventory : Inventory) (new : Option Behind) → LooksAllUp port t old (Err stop) out inventory new → EndsEarly port t always old stop out new
-looking_early port t always old (stops.Broker name) out inventory new h = h
-looking_early port t always old stops.Write out inventory new h = (h.4, inl (h.0, h.1, h.2, h.3))
-looking_early port t always old stops.Memory out inventory new h = inl h
-looking_early port t always old stops.TooLong out inventory new h = absurd h
-looking_early port t always old stops.Read out inventory new h = absurd h
-looking_early port t always old (stops.Inventory fault) out inventory new h = absurd h
-looking_early port t always old (stops.Moments fault) out inventory new h = absurd h
-looking_early port t always old (stops.FaultWord n) out inventory new h = absurd h
-looking_early port t always old (stops.Line n) out inventory new h = absurd h
 
 -- ---- after all lookups
 

@@ -85,10 +85,6 @@ unfolding is_entry_alive
 alive_before g t m i le alive =
     last_from_alive g.entries (end_of g.entries) t i (λ a over. let l : m < end_of g.entries a = alive_from_last g.entries (end_of g.entries) m i alive a over in omega arith)
 
-pub dies_later : (g : Forest) (t m i : ℕ) → t ≤ m → is_entry_alive g t i ≡ false → is_entry_alive g m i ≡ false
-dies_later g t m i le gone = elim (cases_Bool (is_entry_alive g m i)) [
-  | inl alive ↦ absurd (let bad : true ≡ false = sym (alive_before g t m i le alive) ∙ gone in cc)
-  | inr no' ↦ no'
 ]
 
 -- ---- the rows

@@ -62,10 +62,6 @@ comes_at : (t last : ℕ) (due : Option ℕ) → last ≡ t → MayCome t due �
 comes_at t last None same comes = tt
 comes_at t last (Some u) same comes = let le : t ≤ u = comes.0 in (omega arith, comes.1)
 
--- a moment that is not before the last one comes
-pub told_comes : (t a b last c k : ℕ) → a ≡ t → b ≡ t → last ≡ k → c ≡ last → a ≤ LAST → c ≤ a → MayCome k (Some b)
-told_comes t a b last c k a_is b_is last_is c_is late not_before = (omega arith, omega arith)
-
 -- ---- refusals
 
 tick_free : (s : CoreState) (t : ℕ) → s.round ≡ None → MayCome s.last (Some t) → step_refusal s (Tick t) ≡ None

@@ -43,9 +43,6 @@ module _ (inventory : Inventory) (faults : List NumberedFault) (start : ℕ) (k 
   opens : IsRunOpening inventory faults start k.shortened (both (shorts_taken k) (Some (fresh_broker inventory faults)))
   opens = record { keeper = k; planned = r; short_is = refl; is = refl }
 
-  shorts : List ℕ
-  shorts = short_need_lines inventory.forest k.shortened
-
   pub shorts_are : (lines : List ℕ) → lines ≡ short_need_lines k.forest k.shortened → lines ≡ short_need_lines inventory.forest k.shortened
   shorts_are lines is = is ∙ same_shorts inventory.forest k.forest like k.shortened
 

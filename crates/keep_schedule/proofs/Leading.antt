@@ -1,9 +1,8 @@
 -- Who leads: at most one entry at a time, and so at most one list of wake-ups.
-use Rattle.std.proofs.Common.{◌≡◌, ℕ, ◌+◌, ◌-◌, ◌<◌, ◌≤◌, max, List, [], ◌∷◌, Option, Some, None, refl, sym, ap, ◌∙◌, subst, arith, inl, inr}
+use Rattle.std.proofs.Common.{◌≡◌, ℕ, ◌-◌, ◌<◌, ◌≤◌, List, [], ◌∷◌, Option, Some, None, refl, sym, ap, ◌∙◌, subst, arith, inl, inr}
 use Rattle.std.proofs.lemmas.Bool.{cases_lt}
 use Rattle.keep_rule.specs.declared.force.Force.{Force}
 use Rattle.keep_schedule.specs.Terms.{Ahead, AreLed, Leads, Terms, lasts_until}
-use Rattle.keep_schedule.specs.code.Sound.{TermsAreSound}
 
 pub ahead : (x i y j : ℕ) → x ≤ y → (x ≡ y → i ≤ j) → Ahead x i y j
 ahead x i y j le tie = elim (cases_lt x y) [ inl less ↦ inl less | inr more ↦ let e : x ≡ y = omega arith in inr (e, tie e) ]
@@ -36,15 +35,3 @@ one_led t prev (x ∷ xs) (y ∷ ys) a b =
     let head : x ≡ y = same_force x y at entry needed in
     let rest : xs ≡ ys = one_led t (Some y.at) xs ys (subst (λ v. AreLed t (Some v) xs) at a.1.1.1) b.1.1.1 in
     cc
-
--- the wake-up of the one that leads, where that is not before the margin, is the margin before its deadline
-pub apart : (t : Terms) (prev : Option ℕ) (x y : Force) (xs : List Force) → TermsAreSound t → AreLed t prev (x ∷ (y ∷ xs)) → x.entry ≡ y.entry → y.at ≡ x.at + (t.step x.entry - t.margin)
-apart t prev x y xs sound led same =
-    let f = x.entry in
-    let before : t.end f < t.need f = short_before t prev f led.0.short in
-    let s = sound.step f before in
-    let e = sound.end f before in
-    let d = end_below_deadline t prev f in
-    let at : x.at ≡ lasts_until t prev f - t.margin = led.1.0 in
-    let next : y.at ≡ max (t.end f) (x.at + t.step f) - t.margin = led.1.1.1.1.0 ∙ ap (λ i. max (t.end i) (x.at + t.step i) - t.margin) (sym same) in
-    omega arith

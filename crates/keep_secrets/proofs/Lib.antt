@@ -1,4 +1,3 @@
 pub mod Passing
 pub mod Placing
 pub mod Staying
-pub mod Readings

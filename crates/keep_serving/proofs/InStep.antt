@@ -46,12 +46,6 @@ first_of (x ∷ xs) d some = refl
 pub first_within : (width : ℕ) (out : List lanes.Out) (h : Held) (r : Request) → IsInStep width out h → 0 < length h.unsent → r ≡ slice_index_or h.unsent 0 r → r.entry < length h.agent.machine.forest.entries
 first_within width out h r step some is = unsent_within width out h r (drop 1 h.unsent) step (first_of h.unsent r some ∙ ap (λ x. x ∷ drop 1 h.unsent) (sym is))
 
-pub lane_free : (width : ℕ) (out : List lanes.Out) (h : Held) → IsInStep width out h → 0 < length h.unsent → length out < width
-lane_free width out h step some =
-    let n = step.count in
-    let room = step.room in
-    omega (arith, n, room, some)
-
 -- ---- requests have gone out
 
 pub in_step_gone : (port width : ℕ) (old new : ServingSide) → HaveGone port old new → IsInStep width old.lanes.out old.held → IsInStep width new.lanes.out new.held

@@ -15,5 +15,4 @@ pub mod Called
 pub mod Bounded
 pub mod Alike
 pub mod Waited
-pub mod Asked
 pub mod Due

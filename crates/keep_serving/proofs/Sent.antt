@@ -10,10 +10,6 @@ use Rattle.keep_serving.specs.Held.{Held, ServingSide, serving_side}
 use Rattle.keep_serving.specs.Stages.{HaveGone, IsKeptBack}
 use Rattle.keep_serving.specs.code.Firsts.{GoesFirst}
 
--- none went out yet
-pub none_gone : (port : ℕ) (s : ServingSide) → HaveGone port s s
-none_gone port s = record { sent = []; parts = refl; out = refl; held = refl }
-
 -- and one more
 pub gone_on : (port : ℕ) (old mid new : ServingSide) → HaveGone port old mid → GoesFirst port mid new → HaveGone port old new
 gone_on port old mid new h one =

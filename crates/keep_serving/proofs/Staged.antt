@@ -1,5 +1,5 @@
 -- Staged: one stage after another; and that each leaves what is held in step with the lanes. For the parts of a turn.
-use Rattle.std.proofs.Common.{◌≡◌, ℕ, Bool, true, false, List, refl, sym, subst, inl, inr}
+use Rattle.std.proofs.Common.{◌≡◌, ℕ, Bool, true, false, List, sym, subst, inl, inr}
 use Rattle.keep_clock.specs.declared.reading.Reading.{Reading}
 use Rattle.keep_lanes.specs.Out as lanes
 use Rattle.keep_serving.specs.Held.{IsInStep, ServingSide}
@@ -8,9 +8,6 @@ use Rattle.keep_serving.proofs.InStep.{in_step_come, in_step_gone, in_step_kept,
 
 pub then_on : (first second : ServingSide → Bool → ServingSide → Type 0) (old mid new : ServingSide) (is_whole : Bool) → first old true mid → second mid is_whole new → Then first second old is_whole new
 then_on first second old mid new is_whole a b = inl (mid, (a, b))
-
-pub then_not : (first second : ServingSide → Bool → ServingSide → Type 0) (old new : ServingSide) → first old false new → Then first second old false new
-then_not first second old new a = inr (a, refl)
 
 -- ---- in step
 

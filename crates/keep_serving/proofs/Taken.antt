@@ -10,10 +10,6 @@ taken_more : (answers : List Answered) (a : Answered) (old mid new : Agent) → 
 taken_more [] a old mid new h one = (new, (subst (λ (x : Agent). AnswerIsTaken a x new) h one, refl))
 taken_more (b ∷ rest) a old mid new h one = (h.0, (h.1.0, taken_more rest a h.0 mid new h.1.1 one))
 
--- none was handed in yet
-pub none_taken : (h : Held) → HaveTaken h h
-none_taken h = record { taken = []; parts = refl; agent = refl; held = refl }
-
 -- and one more
 pub taken_on : (old mid new : Held) → HaveTaken old mid → TakesFirst mid new → HaveTaken old new
 taken_on old mid new h one = record {

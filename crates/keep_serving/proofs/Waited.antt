@@ -21,9 +21,6 @@ use Rattle.keep_serving.proofs.Turned.{given_none}
 
 -- ---- one pause
 
-pub ended_unread : {N : Type 0} → (does : NeighbourCall → N → N → Type 0) (until : ℕ) (s : ServingSide) (g : Option (List Change)) (a : N) → IsEnded does until None s s g g a a
-ended_unread does until s g a = record { ending = Unread; read = refl; is = refl; gives = given_none g; calls = refl }
-
 pub ended_over : {N : Type 0} → (does : NeighbourCall → N → N → Type 0) (until : ℕ) (r : Reading) (s : ServingSide) (g : Option (List Change)) (a : N) → until ≤ r.elapsed → IsEnded does until (Some r) s s g g a a
 ended_over does until r s g a over = record { ending = Over r; read = refl; is = (over, refl); gives = given_none g; calls = refl }
 

@@ -7,7 +7,7 @@ use Rattle.keep_disk.specs.declared.fault.DiskFault.{DiskFault}
 use Rattle.keep_disk.specs.Image.{File, Image}
 use Rattle.keep_disk.specs.State.{DiskState, OutcomesFollow, IsAfter, LeavesAlone, LeavesOnly}
 use Rattle.keep_disk.specs.Torn.{MovesFile}
-use Rattle.keep_disk.proofs.Moments.{and_then, started, weaker}
+use Rattle.keep_disk.proofs.Moments.{and_then, weaker}
 use Rattle.keep_journal.specs.Journals.{FileIsThere, JournalIsWhole, KeepsOthers}
 use Rattle.keep_journal.specs.Journals as journals
 use Rattle.keep_state.proofs.Others.{apart_back, at_end, rest_past, there_past}
@@ -23,19 +23,11 @@ copy_is_other p apart =
     let rest = (or_parts (bytes_eq p.file p.journal) (bytes_eq p.file p.copy || (bytes_eq p.file p.aside || bytes_eq p.file p.lock)) apart.inside).1 in
     apart_back p.file p.copy (or_parts (bytes_eq p.file p.copy) (bytes_eq p.file p.aside || bytes_eq p.file p.lock) rest).0
 
-pub journal_is_other : (p : Places) → PlacesAreApart p → bytes_eq p.journal p.file ≡ false
-journal_is_other p apart = apart_back p.file p.journal (or_parts (bytes_eq p.file p.journal) (bytes_eq p.file p.copy || (bytes_eq p.file p.aside || bytes_eq p.file p.lock)) apart.inside).0
-
 -- what a crash leaves before the copy
 abbrev Half : Store → Places → DiskState → Image → Type 0
 Half store places s c = s.may_leave c ⊎ ((file : File) × (s.seen places.file ≡ Some file) × LeftByMove store places.file (mode_of file.mode) s c)
 
 module _ (store : Store) (places : Places) (s : DiskState) where
-  pub not_read : ((c : Image) → s.left_since s.moment c → s.may_leave c) → LeavesOnly s s (LeftBySettling store places s)
-  not_read only = started s (LeftBySettling store places s) only (λ c left. inl left)
-
-  pub only_read : (t : DiskState) → LeavesOnly s t s.may_leave → LeavesOnly s t (LeftBySettling store places s)
-  only_read t run = weaker s t s.may_leave (LeftBySettling store places s) run (λ c left. inl left)
 
   module _ (file : File) (seen : s.seen places.file ≡ Some file) (t u : DiskState) (alone : LeavesAlone s t) (run : LeavesOnly s t s.may_leave)
       (second : LeavesOnly t u (LeftByMove store places.file (mode_of file.mode) t)) where

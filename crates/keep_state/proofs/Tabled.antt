@@ -9,7 +9,6 @@ use Rattle.keep_inventory.specs.declared.fault.InvFault.TheVariants as inventori
 use Rattle.keep_inventory.specs.declared.key.Key.{Key}
 use Rattle.keep_inventory.specs.Answers.{FailsWithInvFault}
 use Rattle.keep_inventory.specs.Inventory.{document_tree, read_served}
-use Rattle.keep_inventory.specs.Served.{Served}
 use Rattle.keep_state.specs.declared.fault.TableFault.{TableFault}
 use Rattle.keep_state.specs.declared.fault.TableFault.TheVariants.{NotToml, NotOne, Missing, Unknown, Bad, Tree, OutOfMemory}
 use Rattle.keep_state.specs.Tables.{GivesOr, beside, entry_in, entry_under, over_entry, over_item, over_items, place_after_parent, row_at_place, row_of_table, table_fault}
@@ -43,17 +42,6 @@ no_over bytes ms fault tree is = gives_err fault (entry_in bytes (document_tree 
 pub by_steps : (bytes : List ℕ) (ms : Members) (over : Option (List ℕ)) (r : Result Row TableFault) → document_tree bytes ≡ Ok ms → over_entry ms ≡ Ok over → GivesOr r (row_at_place (place_after_parent over) (read_served (beside over bytes))) → GivesOr r (row_of_table bytes)
 unfolding row_of_table
 by_steps bytes ms over r tree is gives = subst (GivesOr r) (sym (ap (entry_in bytes) tree ∙ ap (entry_under bytes) is)) gives
-
-pub not_served : (place : ℕ) (text : List ℕ) (fault : InvFault) → FailsWithInvFault fault (read_served text) → GivesOr (Err (table_fault fault)) (row_at_place place (read_served text))
-not_served place text inventories.NotToml fails = sym (ap (row_at_place place) fails)
-not_served place text (inventories.MissingKey i k) fails = sym (ap (row_at_place place) fails)
-not_served place text (inventories.UnknownKey i) fails = sym (ap (row_at_place place) fails)
-not_served place text (inventories.BadValue i k) fails = sym (ap (row_at_place place) fails)
-not_served place text (inventories.Tree i t) fails = sym (ap (row_at_place place) fails)
-not_served place text inventories.OutOfMemory fails = tt
-
-pub served_so : (place : ℕ) (text : List ℕ) (v : Served) (r : Result Row TableFault) → read_served text ≡ Ok v → GivesOr r (row_at_place place (Ok v)) → GivesOr r (row_at_place place (read_served text))
-served_so place text v r is gives = subst (λ (o : Result Served InvFault). GivesOr r (row_at_place place o)) (sym is) gives
 
 -- ---- an array of one table
 

@@ -1,10 +1,10 @@
 -- The entries of a forest with another margin that they allow: for `set_margin` and `most_margin`.
-use Rattle.std.proofs.Common.{◌≡◌, ℕ, ◌+◌, ◌-◌, ◌<◌, ◌≤◌, List, length, min, arith, subst, sym, inl, inr}
+use Rattle.std.proofs.Common.{◌≡◌, ℕ, ◌+◌, ◌-◌, ◌<◌, ◌≤◌, List, min, arith, subst, sym, inl, inr}
 use Rattle.std.proofs.lemmas.Bool.{cases_lt}
 use Rattle.keep_tree.specs.declared.entry.Entry.{Entry}
 use Rattle.keep_tree.specs.declared.forest.TheConstants.{MARGIN_MAX}
 use Rattle.keep_tree.specs.Forest.{Forest, entry_at}
-use Rattle.keep_tree.specs.Margins.{IsMargin, IsMostMargin}
+use Rattle.keep_tree.specs.Margins.{IsMargin}
 use Rattle.keep_tree.specs.Push.{IsForest, IsPlaced}
 
 -- what is said of each entry does not speak of the margin, but that it is less than each step
@@ -50,9 +50,6 @@ pub record IsMostOf (es : List Entry) (n most : ℕ) : Type 0 where
   pub below : (i : ℕ) → i < n → most < (entry_at es i).step
   pub greatest : (other : ℕ) → other ≤ MARGIN_MAX → ((i : ℕ) → i < n → other < (entry_at es i).step) → other ≤ most
 
-pub most_of_none : (es : List Entry) → IsMostOf es 0 MARGIN_MAX
-most_of_none es = record { above = omega arith; within = omega arith; below = λ i h. absurd (omega arith); greatest = λ other h below. h }
-
 pub most_of_more : (es : List Entry) (n most : ℕ) → 1 < (entry_at es n).step → IsMostOf es n most → IsMostOf es (n + 1) (min most ((entry_at es n).step - 1))
 most_of_more es n most step so =
     let above = so.above in
@@ -65,11 +62,4 @@ most_of_more es n most step so =
         | inr last ↦ let here : i ≡ n = omega arith in subst (λ k. min most ((entry_at es n).step - 1) < (entry_at es k).step) (sym here) (omega arith)
       ];
       greatest = λ other h below. let l = so.greatest other h (λ i before. below i (omega arith)) in let k = below n (omega arith) in omega arith;
-    }
-
-pub most_of_all : (es : List Entry) (most : ℕ) → IsMostOf es (length es) most → IsMostMargin es most
-most_of_all es most so =
-    record {
-      allowed = record { above = so.above; within = so.within; below = so.below };
-      most = λ other allowed. so.greatest other allowed.within allowed.below;
     }

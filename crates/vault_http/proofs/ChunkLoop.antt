@@ -1,5 +1,5 @@
 -- The chunks that a walk has passed: for `judge_chunks`.
-use Rattle.std.proofs.Common.{◌≡◌, ℕ, ◌+◌, ◌-◌, ◌≤◌, List, [], ◌∷◌, ◌++◌, length, take, drop, flat_map, refl, sym, ap, ◌∙◌, arith, append_assoc, subst, append-nil, length-append, take-append-drop, Result, Err}
+use Rattle.std.proofs.Common.{◌≡◌, ℕ, ◌+◌, ◌-◌, ◌≤◌, List, [], ◌∷◌, ◌++◌, length, take, drop, flat_map, sym, ap, ◌∙◌, arith, append_assoc, subst, append-nil, length-append, take-append-drop, Result, Err}
 use Rattle.std.proofs.lemmas.List.{take_at, drop_at, drop-drop, length-take-le}
 use Rattle.std.proofs.lemmas.List.Concat.{flat_map-append}
 use Rattle.std.specs.List.{AllByRecursion}
@@ -9,9 +9,6 @@ use Rattle.vault_http.specs.Messages.{UnlessBodyMemory}
 use Rattle.vault_http.specs.declared.chunk.Step.TheVariants as step
 use Rattle.vault_http.specs.Chunks.{line_end, Chunk, IsChunk, print_chunk, print_chunks, content, joined_bytes, StopsAt, IsChunked, HasChunks}
 use Rattle.vault_http.specs.Steps.{IsStep}
-
-pub at_first : (text body : List ℕ) → body ≡ [] → HasChunks text 0 body
-at_first text body e = record { chunks = []; are_chunks = tt; text_is = refl; body_is = e }
 
 all_push : (chunks : List Chunk) (c : Chunk) → AllByRecursion IsChunk chunks → IsChunk c → AllByRecursion IsChunk (chunks ++ c ∷ [])
 all_push [] c all is = (is, tt)

@@ -1,6 +1,6 @@
 -- What stands after the line of a size: for `sized_step` and `next_step`.
 use Rattle.std.proofs.Common.{◌≡◌, ℕ, ◌+◌, ◌-◌, ◌<◌, ◌≤◌, ◌⊎◌, inl, inr, List, [], ◌∷◌, ◌++◌, length, take, drop, replicate, refl, sym, ap, ◌∙◌, arith, append_assoc, subst, append-nil, length-append, length-drop, take-append-drop, Ok, Err}
-use Rattle.std.proofs.lemmas.List.{drop_at, drop-drop, take_all, length-take-le, take-append-le, nil_from_length, length-replicate}
+use Rattle.std.proofs.lemmas.List.{drop_at, drop-drop, length-take-le, nil_from_length, length-replicate}
 use Rattle.std.proofs.Math.Seq.{take-append-add}
 use Rattle.vault_http.proofs.Fronts.{take-onward}
 use Rattle.vault_http.specs.declared.body.BodyFault.TheVariants.{TooLong, BadChunk}
@@ -172,15 +172,6 @@ whole_chunk text room d v h fits all some whole =
     let long : length (print_chunk c) ≡ length h.part + length (line_end ++ (payload ++ line_end)) = length-append h.part (line_end ++ (payload ++ line_end)) in
     let long_data : length (payload ++ line_end) ≡ length payload + 2 = length-append payload line_end in
     (c, after, (h.is_size, sym h.value ∙ sym many, omega (arith, many, some)), text_is, omega (arith, long, long_data, many, h.many, fits), omega (arith, h.many), many)
-
--- a line that may yet come, where there are more bytes than may be read, or not
-pub open_line_long : (text : List ℕ) (room : ℕ) → room < length text → MayHave IsSize (take room text) → (more : List ℕ) → StopsAt room (text ++ more) (Err TooLong)
-open_line_long text room long may more =
-    let same : take room (text ++ more) ≡ take room text = take-append-le room text more (omega (arith, long)) in
-    inr (omega (arith, long, length-append text more), subst (MayHave IsSize) (sym same) may)
-
-pub open_line_short : (text : List ℕ) (room n : ℕ) → length text ≤ room → MayHave IsSize (take room text) → IsStep text room step.Open
-open_line_short text room n short may = (short, inl (short, subst (MayHave IsSize) (take_all room text short) may))
 
 -- a front that never begins with a line, in a text that goes on
 pub bad_front : (text : List ℕ) (room : ℕ) → NeverHas IsSize (take room text) → (more : List ℕ) → StopsAt room (text ++ more) (Err BadChunk)

@@ -1,10 +1,9 @@
 -- Judging a message by a part of it: what holds of its first bytes holds of every input that goes on from them.
-use Rattle.std.proofs.Common.{◌≡◌, ℕ, ◌+◌, ◌-◌, ◌≤◌, inl, inr, Bool, true, false, IsTrue, List, [], ◌++◌, length, take, drop, refl, sym, ap, ◌∙◌, arith, append_assoc, subst, length-append, take-append-drop, Option, None, Some, IfSome, Result, Ok, Err}
+use Rattle.std.proofs.Common.{◌≡◌, ℕ, ◌+◌, ◌-◌, ◌≤◌, inl, inr, Bool, true, IsTrue, List, [], ◌++◌, length, take, drop, refl, sym, ap, ◌∙◌, arith, append_assoc, subst, length-append, take-append-drop, Option, None, Some, IfSome, Result, Ok, Err}
 use Rattle.std.proofs.lemmas.List.{drop_at, length-take}
 use Rattle.std.specs.Io.KnownBytes.{Consumes, IsAtEnd}
 use Rattle.httparse.specs.Grammar.{print_response, ReadsResponse, status_code}
 use Rattle.httparse.specs.Spans.{ResponseOverflows}
-use Rattle.vault_http.specs.declared.body.BodyFault.{BodyFault}
 use Rattle.vault_http.specs.declared.body.BodyFault.TheVariants as bodies
 use Rattle.vault_http.specs.declared.framing.Framing.{Framing}
 use Rattle.vault_http.specs.declared.framing.LengthFault.{LengthFault}
@@ -14,7 +13,7 @@ use Rattle.vault_http.specs.declared.http_fault.HttpFault.TheVariants.{ReadFaile
 use Rattle.vault_http.specs.declared.reply.Reply.{Reply}
 use Rattle.vault_http.specs.Body.{HasBody}
 use Rattle.vault_http.specs.Heads.{FoundReply, framing_of_response}
-use Rattle.vault_http.specs.Messages.{IsHeadless, IsOpenReply, IsBehind, is_informational, reply_from_parts, IsHttpReply, UnlessMemory, body_fault, length_fault}
+use Rattle.vault_http.specs.Messages.{IsBehind, is_informational, IsHttpReply, UnlessMemory}
 use Rattle.vault_http.specs.Reading.{SettlesMessage, CountsMessage}
 use Rattle.vault_http.proofs.Fronts.{take-grows}
 use Rattle.vault_http.specs.declared.found_head.TheConstants.{MOST_FIELDS}
@@ -61,41 +60,6 @@ headed_reply max bytes more len status framed a f behind =
 abbrev pub HasBodyOf : Result Framing LengthFault → ℕ → List ℕ → Type 0
 HasBodyOf (Ok framed) room rest = HasBody framed room rest
 HasBodyOf (Err fault) room rest = ⊥
-
--- ---- no answer but a failed read is `ReadFailed`
-
-pub not_length : (f : LengthFault) → length_fault f ≡ ReadFailed → ⊥
-not_length lengths.BadLength e = cc
-not_length lengths.TwoLengths e = cc
-
-pub not_body : (f : BodyFault) → body_fault f ≡ ReadFailed → ⊥
-not_body bodies.TooLong e = cc
-not_body bodies.Truncated e = cc
-not_body bodies.BadChunk e = cc
-not_body bodies.OutOfMemory e = cc
-
-pub not_headless : (IsOpen Overflows : List ℕ → Type 0) (max : ℕ) (bytes : List ℕ) (fault : HttpFault) → IsHeadless IsOpen Overflows max bytes fault → fault ≡ ReadFailed → ⊥
-not_headless IsOpen Overflows max bytes ReadFailed h e = h
-not_headless IsOpen Overflows max bytes BadHead h e = cc
-not_headless IsOpen Overflows max bytes BadLength h e = cc
-not_headless IsOpen Overflows max bytes BadChunk h e = cc
-not_headless IsOpen Overflows max bytes Truncated h e = cc
-not_headless IsOpen Overflows max bytes TooLong h e = cc
-not_headless IsOpen Overflows max bytes TwoLengths h e = cc
-not_headless IsOpen Overflows max bytes OutOfMemory h e = cc
-
-not_reply_of : (status : ℕ) (body : Result (List ℕ) BodyFault) → reply_from_parts status body ≡ Err ReadFailed → ⊥
-not_reply_of status (Ok b) e = cc
-not_reply_of status (Err f) e = not_body f (cc)
-
-not_behind : (b : Bool) (status : ℕ) (framed : Result Framing LengthFault) (room : ℕ) (rest : List ℕ) → IsBehind b status framed room rest (Err ReadFailed) → ⊥
-not_behind true status framed room rest e = cc
-not_behind false status (Err f) room rest e = not_length f (cc)
-not_behind false status (Ok f) room rest h = not_reply_of status h.0 (sym h.2)
-
-pub not_read_failed : (max : ℕ) (bytes : List ℕ) → IsHttpReply max bytes (Err ReadFailed) → ⊥
-not_read_failed max bytes (inl h) = not_headless IsOpenReply (ResponseOverflows MOST_FIELDS) max bytes h.0 h.1 (cc (h.2))
-not_read_failed max bytes (inr h) = not_behind (is_informational (status_code h.head)) (status_code h.head) (framing_of_response h.head) (max - length (print_response h.head)) h.rest h.behind
 
 -- ---- reading
 

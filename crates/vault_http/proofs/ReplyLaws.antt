@@ -8,21 +8,14 @@ use Rattle.httparse.proofs.GrammarLemmas.{print_response-append, response_unique
 use Rattle.vault_http.specs.declared.body.BodyFault.{BodyFault}
 use Rattle.vault_http.specs.declared.framing.Framing.{Framing}
 use Rattle.vault_http.specs.declared.framing.LengthFault.{LengthFault}
-use Rattle.vault_http.specs.declared.http_fault.HttpFault.TheVariants.{ReadFailed, BadHead}
+use Rattle.vault_http.specs.declared.http_fault.HttpFault.TheVariants.{BadHead}
 use Rattle.vault_http.specs.declared.reply.Reply.{Reply}
 use Rattle.vault_http.specs.EmptyLine.{HasLineBehind, is_line_end_byte}
 use Rattle.vault_http.specs.Heads.{FoundReply, framing_of_response}
 use Rattle.vault_http.specs.Known.{IsHeaded, message_with_body}
 use Rattle.vault_http.specs.Messages.{IsBehind, IsHttpReply, is_informational, length_fault, reply_from_parts, reply_with}
 use Rattle.vault_http.proofs.EmptyLines.{front_split, line_behind, response_ends, not_blank}
-use Rattle.vault_http.proofs.MessageLemmas.{HasBodyOf, head_on, headed_reply, not_read_failed}
-
-pub never_read_failed : (max : ℕ) (bytes : List ℕ) → IsHttpReply max bytes (Err ReadFailed) → ⊥
-never_read_failed max bytes h = not_read_failed max bytes h
-
-pub message_has_head : (max : ℕ) (bytes : List ℕ) (message : Reply) → IsHttpReply max bytes (Ok message) → HasNoResponse bytes → ⊥
-message_has_head max bytes message (inl h) none = absurd (cc (h.2))
-message_has_head max bytes message (inr h) none = none h.head h.rest h.reads
+use Rattle.vault_http.proofs.MessageLemmas.{HasBodyOf, head_on, headed_reply}
 
 pub blank_has_no_head : (bytes : List ℕ) → IsTrue (list_all is_line_end_byte bytes) → HasNoResponse bytes
 blank_has_no_head bytes all h rest reads =

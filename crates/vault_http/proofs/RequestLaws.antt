@@ -10,7 +10,7 @@ use Rattle.vault_http.specs.declared.body.BodyFault.{BodyFault}
 use Rattle.vault_http.specs.declared.framing.Framing.{Framing}
 use Rattle.vault_http.specs.declared.framing.LengthFault.{LengthFault}
 use Rattle.vault_http.specs.declared.found_head.Start.{Start}
-use Rattle.vault_http.specs.declared.http_fault.HttpFault.TheVariants.{ReadFailed, TooLong, Truncated}
+use Rattle.vault_http.specs.declared.http_fault.HttpFault.TheVariants.{TooLong, Truncated}
 use Rattle.vault_http.specs.declared.request.Request.{Request}
 use Rattle.vault_http.specs.EmptyLine.{HasLineBehind, is_line_end_byte}
 use Rattle.vault_http.specs.Heads.{FoundRequest, framing_of_request, token_of}
@@ -19,14 +19,7 @@ use Rattle.vault_http.specs.Messages.{IsFramed, IsHttpRequest, IsOpenRequest, re
 use Rattle.vault_http.specs.Starts.{request_at}
 use Rattle.vault_http.proofs.EmptyLines.{front_split, line_behind, request_ends, not_blank}
 use Rattle.vault_http.proofs.MessageLemmas.{HasBodyOf, head_on}
-use Rattle.vault_http.proofs.RequestLemmas.{headed_request, not_read_failed}
-
-pub never_read_failed : (max : ℕ) (bytes : List ℕ) → IsHttpRequest max bytes (Err ReadFailed) → ⊥
-never_read_failed max bytes h = not_read_failed max bytes h
-
-pub message_has_head : (max : ℕ) (bytes : List ℕ) (message : Request) → IsHttpRequest max bytes (Ok message) → HasNoRequest bytes → ⊥
-message_has_head max bytes message (inl h) none = absurd (cc (h.2))
-message_has_head max bytes message (inr h) none = none h.head h.rest h.reads
+use Rattle.vault_http.proofs.RequestLemmas.{headed_request}
 
 pub blank_has_no_head : (bytes : List ℕ) → IsTrue (list_all is_line_end_byte bytes) → HasNoRequest bytes
 blank_has_no_head bytes all h rest reads =

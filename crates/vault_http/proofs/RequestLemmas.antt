@@ -1,22 +1,21 @@
 -- Judging a request by a part of it, as `MessageLemmas` does a reply.
-use Rattle.std.proofs.Common.{◌≡◌, ℕ, ◌-◌, inl, inr, List, ◌++◌, length, take, drop, refl, sym, append_assoc, subst, map, Option, None, Some, option_map, Result, Ok, Err}
+use Rattle.std.proofs.Common.{◌≡◌, ℕ, ◌-◌, inl, inr, List, ◌++◌, length, take, drop, refl, sym, append_assoc, subst, map, Option, None, Some, option_map, Result, Err}
 use Rattle.http.specs.Token as header
 use Rattle.httparse.specs.declared.spans.Span.{Span}
 use Rattle.httparse.specs.Grammar as grammar
 use Rattle.httparse.specs.Grammar.{print_request, ReadsRequest}
 use Rattle.httparse.specs.Spans.{RequestOverflows, span_bytes, name_and_value}
-use Rattle.vault_http.specs.declared.body.BodyFault.{BodyFault}
 use Rattle.vault_http.specs.declared.framing.Framing.{Framing}
 use Rattle.vault_http.specs.declared.framing.LengthFault.{LengthFault}
 use Rattle.vault_http.specs.declared.found_head.Start.{Start}
 use Rattle.vault_http.specs.declared.http_fault.HttpFault.{HttpFault}
-use Rattle.vault_http.specs.declared.http_fault.HttpFault.TheVariants.{ReadFailed, BadHead}
+use Rattle.vault_http.specs.declared.http_fault.HttpFault.TheVariants.{BadHead}
 use Rattle.vault_http.specs.declared.request.Request.{Request}
 use Rattle.vault_http.specs.Heads.{FoundRequest, framing_of_request, token_of, IsAt}
-use Rattle.vault_http.specs.Messages.{IsOpenRequest, IsFramed, request_from_parts, IsHttpRequest}
+use Rattle.vault_http.specs.Messages.{IsFramed, request_from_parts, IsHttpRequest}
 use Rattle.vault_http.specs.Starts.{IsStart, IsTokenWithin, request_at}
 use Rattle.vault_http.proofs.Fronts.{take-grows}
-use Rattle.vault_http.proofs.MessageLemmas.{head_on, not_headless, not_length, not_body}
+use Rattle.vault_http.proofs.MessageLemmas.{head_on}
 use Rattle.vault_http.specs.declared.found_head.TheConstants.{MOST_FIELDS}
 
 overflows_on : (front more : List ℕ) → RequestOverflows MOST_FIELDS front → RequestOverflows MOST_FIELDS (front ++ more)
@@ -62,15 +61,3 @@ headed_request max bytes more len start framed a f behind =
     let by_framing = subst (λ g. IsFramed (request_from_parts f.head.method f.head.target carried) g (max - len) rest a) f.framing_is by_token in
     let by_len = subst (λ k. IsFramed (request_from_parts f.head.method f.head.target carried) (framing_of_request f.head) (max - k) rest a) f.len_is by_framing in
     inr (record { head = f.head; rest = rest; reads = (f.reads.0, on.0); few = f.few; within = on.1; behind = by_len })
-
-not_request_of : (method path : List ℕ) (token : Option (List ℕ)) (body : Result (List ℕ) BodyFault) → request_from_parts method path token body ≡ Err ReadFailed → ⊥
-not_request_of method path token (Ok b) e = cc
-not_request_of method path token (Err f) e = not_body f (cc)
-
-not_framed : (method path : List ℕ) (token : Option (List ℕ)) (framed : Result Framing LengthFault) (room : ℕ) (rest : List ℕ) → IsFramed (request_from_parts method path token) framed room rest (Err ReadFailed) → ⊥
-not_framed method path token (Err f) room rest e = not_length f (cc)
-not_framed method path token (Ok f) room rest h = not_request_of method path token h.0 (sym h.2)
-
-pub not_read_failed : (max : ℕ) (bytes : List ℕ) → IsHttpRequest max bytes (Err ReadFailed) → ⊥
-not_read_failed max bytes (inl h) = not_headless IsOpenRequest (RequestOverflows MOST_FIELDS) max bytes h.0 h.1 (cc (h.2))
-not_read_failed max bytes (inr h) = not_framed h.head.method h.head.target (token_of (map name_and_value h.head.fields)) (framing_of_request h.head) (max - length (print_request h.head)) h.rest h.behind

@@ -51,10 +51,6 @@ pub total_more : (n : ℕ) (f : ℕ → ℕ) (p q : ℕ → Bool) → ((j : ℕ)
 total_more zero f p q each' = omega arith
 total_more (suc n) f p q each' = let rest = total_more n f p q each' in let here = less (p n) (q n) (f n) (each' n) in omega (arith, rest, here)
 
-pub total_none : (n : ℕ) (f : ℕ → ℕ) → total n f (λ j. false) ≡ 0
-total_none zero f = refl
-total_none (suc n) f = let rest = total_none n f in omega (arith, rest)
-
 -- one more that passes adds its own
 one_more : (n k : ℕ) (f : ℕ → ℕ) (p q : ℕ → Bool) → k < n → p k ≡ false → q k ≡ true → ((j : ℕ) → p j ≡ true → q j ≡ true) → f k + total n f p ≤ total n f q
 one_more zero k f p q below no' yes' each' = absurd (omega (arith, below))

@@ -71,13 +71,6 @@ unfolding IsDistinct
 row_distinct a zero = tt
 row_distinct a (suc n) = (off_head a (range_with_len (a + 1) n) (row_off a (a + 1) n (omega arith)), row_distinct (a + 1) n)
 
--- and those of some that pass a test
-and_or : (b c t : Bool) → (b && t) || (c && t) ≡ (b || c) && t
-and_or true c true = refl
-and_or true true false = refl
-and_or true false false = refl
-and_or false c t = refl
-
 no_test : (b c t : Bool) → (b ≡ true → t ≡ false) → c && t ≡ (b || c) && t
 no_test true c t no' = let off = no' refl in and_off c t off ∙ sym off where
   and_off : (c t : Bool) → t ≡ false → c && t ≡ false
