@@ -26,7 +26,6 @@ put_leaves path lines line size s t u first counts rest second =
 
 -- a file is put in its place, which is not the journal's
 module _ (path target : List ℕ) (file : File) (apart : bytes_eq path target ≡ false) (s t : DiskState) where
-
   pub in_place : t.seen ≡ with_file_at target file s.seen → DiskKeeps target t → FileIsThere target file t
   in_place placed_is is_kept = record { seen = ap (λ (image : Image). image target) placed_is ∙ at_path target (λ _. Some file) s.seen; is_kept = is_kept }
 

@@ -105,7 +105,6 @@ kept_past path other s t apart others was from = record {
 
 -- the two files of an exchange
 module _ (path target : List ℕ) (file : File) (P : List ℕ → Type 0) (apart : bytes_eq path target ≡ false) (s : DiskState) where
-
   -- the first takes its place
   pub first_in_place : (c : Image) → IsAfter (MovesFile target file) s c → Exchanging path target file P s c
   first_in_place c after = record {

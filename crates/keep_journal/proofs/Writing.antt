@@ -11,7 +11,6 @@ use Rattle.keep_journal.proofs.Steps.{at_path, seen_then, torn_leaves, torn_agai
 
 -- a record is added
 module _ (path : List ℕ) (lines : List (List ℕ)) (size : ℕ) (s : DiskState) (rest : JournalIsAtRest path lines size s) (line : List ℕ) (is_line : IsRecordLine line) where
-
   pub behind_leaves : (n : ℕ) (c : Image) → IsAfter (Tears path (Torn (size + 1) n)) s c → CrashLeaves path (IsBeforeOrAfter lines line) s c
   behind_leaves n c after = torn_leaves path s (Torn (size + 1) n) (IsBeforeOrAfter lines line) rest.mode (at_rest lines) rest.seen rest.is_kept
       (λ f torn. inl (torn_behind lines size rest.are_lines rest.size_is n f torn)) c after
@@ -43,7 +42,6 @@ module _ (path : List ℕ) (lines : List (List ℕ)) (size : ℕ) (s : DiskState
 
 -- an end is mended
 module _ (journal : Journal) (s : DiskState) (u : Untidy journal s) where
-
   pub cut_leaves : (c : Image) → IsAfter (Tears (path_of_journal journal) (Cut journal.size)) s c → CrashLeaves (path_of_journal journal) (λ f. StandsFor f (lines_of_journal journal)) s c
   cut_leaves c after = torn_leaves (path_of_journal journal) s (Cut journal.size) (λ f. StandsFor f (lines_of_journal journal)) u.mode u.file u.seen u.is_kept
       (cut_keeps u.file (lines_of_journal journal) u.stands journal.size u.size_is) c after

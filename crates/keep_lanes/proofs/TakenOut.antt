@@ -38,7 +38,6 @@ pub record SoFar {T : Type 0} (comes : T → Option Coming) (there : T → Bool)
   pub indices : map (λ (a : Answered). a.index) answers ≡ map (λ (seat : Seat T). seat.index) (filter (λ seat. there seat.standing) (take done all))
 
 module _ {T : Type 0} (comes : T → Option Coming) (there : T → Bool) where
-
   next_is : (out all : List (Seat T)) (at done : ℕ) (s : Seat T) → at < length out → s ≡ get_or out at s → drop at out ≡ drop done all → drop done all ≡ s ∷ drop (at + 1) out
   next_is out all at done s within is rest = sym rest ∙ drop_more out at s within ∙ ap (λ x. x ∷ drop (at + 1) out) (sym is)
 

@@ -85,8 +85,6 @@ unfolding is_entry_alive
 alive_before g t m i le alive =
     last_from_alive g.entries (end_of g.entries) t i (λ a over. let l : m < end_of g.entries a = alive_from_last g.entries (end_of g.entries) m i alive a over in omega arith)
 
-]
-
 -- ---- the rows
 
 -- a row, by the names of the entries

@@ -28,7 +28,6 @@ abbrev Half : Store → Places → DiskState → Image → Type 0
 Half store places s c = s.may_leave c ⊎ ((file : File) × (s.seen places.file ≡ Some file) × LeftByMove store places.file (mode_of file.mode) s c)
 
 module _ (store : Store) (places : Places) (s : DiskState) where
-
   module _ (file : File) (seen : s.seen places.file ≡ Some file) (t u : DiskState) (alone : LeavesAlone s t) (run : LeavesOnly s t s.may_leave)
       (second : LeavesOnly t u (LeftByMove store places.file (mode_of file.mode) t)) where
     move_past : (c : Image) → LeftByMove store places.file (mode_of file.mode) t c → LeftByMove store places.file (mode_of file.mode) s c

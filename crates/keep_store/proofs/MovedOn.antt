@@ -33,9 +33,7 @@ is_moving b m v says is other line = record {
 }
 
 module _ (old : Store) (m : Moving) (is : IsMoving (book_of old) m) where
-
   module _ (new : Store) where
-
     -- with the mark or without it the old file gives the same rows
     pub marked_replays : IsReplayed old → book_of new ≡ book_of old → (lines_in new ≡ lines_in old) ⊎ (lines_in new ≡ lines_in old ++ m.line ∷ []) → IsReplayed new
     marked_replays so booked (inl same) =

@@ -25,7 +25,6 @@ rows_made b = Ok b.rows
 -- the book has the rows and the text of the change, and the journal has its line
 module _ (old new : Store) (name : List ℕ) (w : What) (e : Entered) (is : IsEntered (book_of old) name w e) (booked : book_of new ≡ record (book_of old) { rows = e.rows; text = string_bytes e.text })
     (lined : lines_in new ≡ lines_in old ++ e.line ∷ []) where
-
   pub goes_on_replaying : IsReplayed old → IsReplayed new
   goes_on_replaying so =
       ap (λ (b : Book). (replayed b.file (records_in (lines_in new))).rows) booked
