@@ -13,6 +13,7 @@ use Rattle.keep_ends.specs.Files.{EndsFileGoesOn}
 use Rattle.keep_ends.specs.declared.file.EndsFile.{EndsFile}
 use Rattle.keep_inventory.specs.Inventories.{Inventory}
 use Rattle.keep_secrets.specs.declared.news.Looked.{Looked}
+use Rattle.keep_serving.specs.Changes.{given_by}
 use Rattle.keep_serving.specs.Days.{PassesToOthers, SettlesOthers}
 use Rattle.keep_serving.specs.Neighbours.{AllCalled, Give, GoOn, Hear, NeighbourCall, Settle, calls_at}
 use Rattle.keep_serving.specs.declared.change.Change.{Change}
@@ -109,7 +110,7 @@ module _ {K N : Type 0} (asks : KeepCall → K → K → Type 0) (does : Neighbo
   pub asks_law : AsksLittle does asks keeper
   asks_law width t old new h =
       let calls = calls_at t.reading h.answers h.is_handed t in
-      within_more asks (weight goes calls) (weight gives calls) 1 (length t.changes) (keeper old) (keeper new) (goes_once t.reading h.answers h.is_handed t) (gives_few t.reading h.answers h.is_handed t)
+      within_more asks (weight goes calls) (weight gives calls) 1 (length (given_by t.made)) (keeper old) (keeper new) (goes_once t.reading h.answers h.is_handed t) (gives_few t.reading h.answers h.is_handed t)
       (asked_of calls old new h.called)
 
 -- ---- a house

@@ -21,6 +21,7 @@ use Rattle.keep_secrets.specs.declared.looking.Step.{Step}
 use Rattle.keep_secrets.specs.declared.looking.Step.TheVariants.{Bare, Same, Ends}
 use Rattle.keep_secrets.specs.declared.news.Looked.{Looked}
 use Rattle.keep_secrets.specs.declared.secret_files.FileStamp.{FileStamp}
+use Rattle.keep_serving.specs.Changes.{given_by}
 use Rattle.keep_serving.specs.Neighbours.{NeighbourCall}
 use Rattle.keep_store.specs.declared.secret.Secret.{Secret}
 use Rattle.keep_house.specs.Disks.{AllAsked, AsksLittle, FewAreMade, KeeperIsCalled, LedgerIsSpared, LedgerLaw, SparesIf, SparesLedger, looks_of, makes_of, opens_of, stamps_of}
@@ -248,5 +249,5 @@ module _ {D I L : Type 0} (known : Bool) (seen : D → DiskState) (files : I →
   spares_law does ledger little width t old new h none =
       let within = little width t old new h in
       let makes = within.few_makes in
-      let no_change = ap length none in
+      let no_change = ap (λ made. length (given_by made)) none in
       spared_by within.calls (ledger old) (ledger new) within.asked (omega (arith, makes, no_change)) within.few_looks

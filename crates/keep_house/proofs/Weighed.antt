@@ -1,8 +1,8 @@
 -- Weighed: what the calls of a turn weigh, where hearing weighs nothing. For the laws of what a turn calls at most.
 use Rattle.std.proofs.Common.{◌≡◌, ℕ, zero, suc, ◌+◌, ◌≤◌, Bool, true, false, List, [], ◌∷◌, ◌++◌, Option, None, Some, arith, length, refl, replicate}
 use Rattle.keep_clock.specs.declared.reading.Reading.{Reading}
-use Rattle.keep_serving.specs.Changes.{MadeChange}
-use Rattle.keep_serving.specs.Neighbours.{Answer, Give, GoOn, Hear, NeighbourCall, Needs, Settle, Thing, Time, Want, calls_at, calls_of_change, calls_of_hearing, heard_of_time, heard_of_want}
+use Rattle.keep_serving.specs.Changes.{MadeChange, given_by}
+use Rattle.keep_serving.specs.Neighbours.{Answer, Give, GoOn, Hear, NeighbourCall, Needs, Settle, Thing, Time, Want, calls_at, calls_for_change, calls_of_hearing, heard_of_time, heard_of_want}
 use Rattle.keep_serving.specs.Turns.{ServingTurn}
 
 -- how often they go on, and how many changes they give
@@ -41,9 +41,9 @@ module _ (w : NeighbourCall → ℕ) (light : (thing : Thing) → w (Hear thing)
   weight_want false = (let want = light Want in omega (arith, want))
 
   -- what is heard weighs nothing
-  pub weight_at : (r : Reading) (answers : ℕ) (is_handed : Bool) (t : ServingTurn) → weight w (calls_at (Some r) answers is_handed t) ≡ w (GoOn t.is_busy) + weight w (calls_of_change t.changes)
+  pub weight_at : (r : Reading) (answers : ℕ) (is_handed : Bool) (t : ServingTurn) → weight w (calls_at (Some r) answers is_handed t) ≡ w (GoOn t.is_busy) + weight w (calls_for_change t.made)
   weight_at r answers is_handed t =
-      let rest = GoOn t.is_busy ∷ calls_of_change t.changes in
+      let rest = GoOn t.is_busy ∷ calls_for_change t.made in
       let all = weight_join (calls_of_hearing answers is_handed) (heard_of_want t.is_whole ++ rest) in
       let told = weight_join (heard_of_want t.is_whole) rest in
       let heard = weight_join (replicate answers (Hear Answer)) (heard_of_time is_handed) in
@@ -54,24 +54,24 @@ module _ (w : NeighbourCall → ℕ) (light : (thing : Thing) → w (Hear thing)
 
 -- ---- a turn goes on once, and gives no more changes than it takes
 
-goes_for_change : (made : List MadeChange) → weight goes (calls_of_change made) ≡ 0
-goes_for_change [] = refl
-goes_for_change (m ∷ rest) = refl
+goes_for_change : (made : Option MadeChange) → weight goes (calls_for_change made) ≡ 0
+goes_for_change None = refl
+goes_for_change (Some m) = refl
 
-gives_for_change : (made : List MadeChange) → weight gives (calls_of_change made) ≤ length made
-gives_for_change [] = omega arith
-gives_for_change (m ∷ rest) = omega arith
+gives_for_change : (made : Option MadeChange) → weight gives (calls_for_change made) ≤ length (given_by made)
+gives_for_change None = omega arith
+gives_for_change (Some m) = omega arith
 
 pub goes_once : (reading : Option Reading) (answers : ℕ) (is_handed : Bool) (t : ServingTurn) → weight goes (calls_at reading answers is_handed t) ≤ 1
 goes_once None answers is_handed t = omega arith
 goes_once (Some r) answers is_handed t =
-    let all : weight goes (calls_at (Some r) answers is_handed t) ≡ 1 + weight goes (calls_of_change t.changes) = weight_at goes (λ thing. refl) r answers is_handed t in
-    let last = goes_for_change t.changes in
+    let all : weight goes (calls_at (Some r) answers is_handed t) ≡ 1 + weight goes (calls_for_change t.made) = weight_at goes (λ thing. refl) r answers is_handed t in
+    let last = goes_for_change t.made in
     omega (arith, all, last)
 
-pub gives_few : (reading : Option Reading) (answers : ℕ) (is_handed : Bool) (t : ServingTurn) → weight gives (calls_at reading answers is_handed t) ≤ length t.changes
+pub gives_few : (reading : Option Reading) (answers : ℕ) (is_handed : Bool) (t : ServingTurn) → weight gives (calls_at reading answers is_handed t) ≤ length (given_by t.made)
 gives_few None answers is_handed t = omega arith
 gives_few (Some r) answers is_handed t =
-    let all : weight gives (calls_at (Some r) answers is_handed t) ≡ 0 + weight gives (calls_of_change t.changes) = weight_at gives (λ thing. refl) r answers is_handed t in
-    let last = gives_for_change t.changes in
+    let all : weight gives (calls_at (Some r) answers is_handed t) ≡ 0 + weight gives (calls_for_change t.made) = weight_at gives (λ thing. refl) r answers is_handed t in
+    let last = gives_for_change t.made in
     omega (arith, all, last)

@@ -30,9 +30,9 @@ use Rattle.watch_machine.specs.History.{Turn}
 use Rattle.watch_machine.specs.State.{WatchState, opened}
 use Rattle.watch_machine.specs.Step.{TurnMayWantMemory}
 use Rattle.keep_serving.specs.Alike.{AlikeLaw, AreAgentsAlike, AreHeldAlike, AreInventoriesAlike, AreWordsAlike, Content, RebuiltAlikeLaw, contents_at, contents_in, contents_taken}
-use Rattle.keep_serving.specs.Changes.{AgentIsTurned, AreMade, ChangeIsMade, MadeChange}
+use Rattle.keep_serving.specs.Changes.{AgentIsTurned, ChangeIsMade, MadeChange, OneIsMade}
 use Rattle.keep_serving.specs.Held.{Held, ServingSide, serving_side}
-use Rattle.keep_serving.specs.Laws.{KeepInventory, KeepsInventory}
+use Rattle.keep_serving.specs.Laws.{OneKeepsInventory, KeepsInventory}
 use Rattle.keep_serving.specs.Stages.{AnswerIsTaken, AnswersAreTaken}
 use Rattle.keep_serving.specs.Words.{HandsBy, SaysBy, TurnFollowsWords, Words, WordsHandIn}
 use Rattle.keep_serving.specs.declared.change.Change.{Change}
@@ -174,18 +174,16 @@ change_alike Begin true h k l m a b keep alike one two = event_alike events.Begi
 change_alike (Serve s) true h k l m a b keep alike one two = absurd keep
 change_alike Kept true h k l m a b keep alike one two = same_held h k a.held b.held (ap (λ (x : ServingSide). x.held) one) (ap (λ (x : ServingSide). x.held) two) alike
 
-changes_alike : (made : List MadeChange) (h k : Held) (l m : Lanes) (a b : ServingSide) → KeepInventory made → AreHeldAlike h k → AreMade made (serving_side h l) a → AreMade made (serving_side k m) b → AreHeldAlike a.held b.held
-changes_alike [] h k l m a b keep alike one two = same_held h k a.held b.held (ap (λ (x : ServingSide). x.held) one) (ap (λ (x : ServingSide). x.held) two) alike
-changes_alike (c ∷ rest) h k l m a b keep alike one two =
-    let mid = change_alike c.change c.is_made h k l m one.0 two.0 keep.0 alike one.1.0 two.1.0 in
-    changes_alike rest one.0.held two.0.held one.0.lanes two.0.lanes a b keep.1 mid one.1.1 two.1.1
+made_alike : (made : Option MadeChange) (h k : Held) (l m : Lanes) (a b : ServingSide) → OneKeepsInventory made → AreHeldAlike h k → OneIsMade made (serving_side h l) a → OneIsMade made (serving_side k m) b → AreHeldAlike a.held b.held
+made_alike None h k l m a b keep alike one two = same_held h k a.held b.held (ap (λ (x : ServingSide). x.held) one) (ap (λ (x : ServingSide). x.held) two) alike
+made_alike (Some c) h k l m a b keep alike one two = change_alike c.change c.is_made h k l m a b keep alike one two
 
 -- ---- turns
 
 follows_alike : (w v : Words) (h k a b : Held) (sent out : List Request) → AreHeldAlike h k → AreWordsAlike w v → (one : TurnFollowsWords w h sent a) (two : TurnFollowsWords v k out b) → contents_in v k out b two ≡ contents_in w h sent a one → (out ≡ sent) × AreHeldAlike a b
 follows_alike w v h k a b sent out alike words one two same =
     let hands = by v.reading words.reading v.is_said words.is_said two.hands same in
-    (hands.0, changes_alike w.changes one.mid two.mid one.before two.before (serving_side a one.after) (serving_side b two.after) words.keep hands.1 one.changes (subst (λ made. AreMade made (serving_side two.mid two.before) (serving_side b two.after)) words.changes two.changes)) where
+    (hands.0, made_alike w.made one.mid two.mid one.before two.before (serving_side a one.after) (serving_side b two.after) words.keep hands.1 one.made (subst (λ made. OneIsMade made (serving_side two.mid two.before) (serving_side b two.after)) words.made two.made)) where
       by : (reading : Option Reading) → reading ≡ w.reading → (is_said : Bool) → is_said ≡ w.is_said → (hands : HandsBy reading v.came is_said k out two.mid) →
           contents_at reading v.came is_said k out two.mid hands ≡ contents_at w.reading w.came w.is_said h sent one.mid one.hands → (out ≡ sent) × AreHeldAlike one.mid two.mid
       by reading read is_said said =

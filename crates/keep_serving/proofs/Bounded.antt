@@ -1,11 +1,11 @@
 -- Bounded: a turn waits for a second at most, and calls its neighbours so often at most. For `a_turn_is_bounded`.
-use Rattle.std.proofs.Common.{◌≡◌, ◌∙◌, ℕ, ◌+◌, ◌-◌, ◌≤◌, Bool, true, false, ◌||◌, List, [], ◌∷◌, ◌++◌, Option, None, Some, length, replicate, ap, arith}
+use Rattle.std.proofs.Common.{◌≡◌, ◌∙◌, ℕ, ◌+◌, ◌-◌, ◌≤◌, Bool, true, false, ◌||◌, List, ◌∷◌, ◌++◌, Option, None, Some, length, replicate, ap, arith}
 use Rattle.std.proofs.lemmas.List.{length-append, length-replicate}
 use Rattle.keep_clock.specs.declared.reading.Reading.{Reading}
-use Rattle.keep_serving.specs.Changes.{MadeChange}
+use Rattle.keep_serving.specs.Changes.{MadeChange, is_one_made}
 use Rattle.keep_serving.specs.Laws.{CallsLaw, TurnWaitLaw}
-use Rattle.keep_serving.specs.Neighbours.{Answer, GoOn, Hear, NeighbourCall, calls_at, calls_of_change, calls_of_hearing, heard_of_time, heard_of_want}
-use Rattle.keep_serving.specs.Turns.{ServingTurn, is_some_made, turn_wait_by}
+use Rattle.keep_serving.specs.Neighbours.{Answer, GoOn, Hear, NeighbourCall, calls_at, calls_for_change, calls_of_hearing, heard_of_time, heard_of_want}
+use Rattle.keep_serving.specs.Turns.{ServingTurn, turn_wait_by}
 
 -- ---- the wait
 
@@ -21,7 +21,7 @@ in_time false until due r = omega arith
 
 pub wait_law : TurnWaitLaw
 wait_law port old new t h =
-    let is_more = is_some_made t.changes || t.is_busy in
+    let is_more = is_one_made t.made || t.is_busy in
     let until = new.held.until in
     let waits = h.waits in
     let most = a_second is_more t.is_whole until t.due t.reading in (
@@ -45,9 +45,9 @@ few_heard answers is_handed =
     let last = few_of_time is_handed in
     omega (arith, all, first, last)
 
-few_of_change : (made : List MadeChange) → length (calls_of_change made) ≤ 2
-few_of_change [] = omega arith
-few_of_change (m ∷ rest) = omega arith
+few_of_change : (made : Option MadeChange) → length (calls_for_change made) ≤ 2
+few_of_change None = omega arith
+few_of_change (Some m) = omega arith
 
 few_of_want : (is_whole : Bool) → length (heard_of_want is_whole) ≤ 1
 few_of_want true = omega arith
@@ -64,8 +64,8 @@ few_at answers is_handed is_whole rest last =
 few_calls : (reading : Option Reading) (answers : ℕ) (is_handed : Bool) (t : ServingTurn) → length (calls_at reading answers is_handed t) ≤ answers + 5 + length (heard_of_want t.is_whole)
 few_calls None answers is_handed t = omega arith
 few_calls (Some r) answers is_handed t =
-    let last = few_of_change t.changes in
-    few_at answers is_handed t.is_whole (GoOn t.is_busy ∷ calls_of_change t.changes) (omega (arith, last))
+    let last = few_of_change t.made in
+    few_at answers is_handed t.is_whole (GoOn t.is_busy ∷ calls_for_change t.made) (omega (arith, last))
 
 pub calls_law : CallsLaw
 calls_law answers is_handed t =

@@ -1,5 +1,5 @@
 -- Changed: a change is made, and leaves what is held in step with the lanes. For `make_change` and the turn.
-use Rattle.std.proofs.Common.{◌≡◌, ◌∙◌, ℕ, zero, suc, ◌+◌, Bool, true, false, ◌||◌, List, [], ◌∷◌, ◌++◌, Option, Some, None, Result, Ok, Err, append_assoc, length, map, refl, sym, ap, subst, arith}
+use Rattle.std.proofs.Common.{◌≡◌, ◌∙◌, ℕ, zero, suc, ◌+◌, Bool, true, false, List, [], ◌++◌, Option, Some, None, Result, Ok, Err, append_assoc, length, map, refl, sym, ap, subst, arith}
 use Rattle.keep_agent.specs.declared.standing.Told.{Told}
 use Rattle.keep_agent.specs.Agent.{Agent}
 use Rattle.keep_agent.specs.Rebuilding.{AreHanded, IsHanded, carried_told}
@@ -15,19 +15,12 @@ use Rattle.watch_machine.specs.declared.event.Event.TheVariants as events
 use Rattle.watch_machine.specs.declared.fault.WatchFault.{WatchFault}
 use Rattle.watch_machine.specs.declared.lanes.Out.{Out}
 use Rattle.watch_machine.specs.State.{WatchState, opened}
-use Rattle.keep_serving.specs.Changes.{AllGiven, AreMade, ChangeIsMade, InventoryIsServed, MadeChange}
+use Rattle.keep_serving.specs.Changes.{AllGiven, ChangeIsMade, InventoryIsServed, MadeChange, OneIsMade}
 use Rattle.keep_serving.specs.Held.{Held, IsInStep, ServingSide}
 use Rattle.keep_serving.specs.declared.change.Change.{Change}
 use Rattle.keep_serving.specs.declared.change.Change.TheVariants.{Need, Begin, Serve, Kept}
 
 -- ---- one change
-
-pub one_made : (c : Change) (is_made : Bool) (old new : ServingSide) → ChangeIsMade c is_made old new → AreMade (record { change = c; is_made = is_made } ∷ []) old new
-one_made c is_made old new h = (new, (h, refl))
-
-pub or_none : (b : Bool) → b ≡ b || false
-or_none true = refl
-or_none false = refl
 
 -- ---- one after another
 
@@ -99,6 +92,6 @@ made_one width Begin true old new h step =
 made_one width (Serve s) true old new h step = served_in_step width s old new h step
 made_one width Kept true old new h step = subst (λ (s : ServingSide). IsInStep width s.lanes.out s.held) (sym h) step
 
-pub made_keeps : (width : ℕ) (made : List MadeChange) (old new : ServingSide) → AreMade made old new → IsInStep width old.lanes.out old.held → IsInStep width new.lanes.out new.held
-made_keeps width [] old new h step = subst (λ (s : ServingSide). IsInStep width s.lanes.out s.held) (sym h) step
-made_keeps width (m ∷ rest) old new h step = made_keeps width rest h.0 new h.1.1 (made_one width m.change m.is_made old h.0 h.1.0 step)
+pub made_keeps : (width : ℕ) (made : Option MadeChange) (old new : ServingSide) → OneIsMade made old new → IsInStep width old.lanes.out old.held → IsInStep width new.lanes.out new.held
+made_keeps width None old new h step = subst (λ (s : ServingSide). IsInStep width s.lanes.out s.held) (sym h) step
+made_keeps width (Some m) old new h step = made_one width m.change m.is_made old new h step

@@ -89,18 +89,18 @@ heard port r old new h =
 -- ---- turns
 
 abbrev Given : ServingTurn → Option Reading → ServingSide → ServingSide → Type 0
-Given t reading old new = (came : List Answered) × ((is_said : Bool) × ((sent : List Request) × TurnFollowsWords (record { reading = reading; came = came; is_said = is_said; changes = t.changes }) old.held sent new.held))
+Given t reading old new = (came : List Answered) × ((is_said : Bool) × ((sent : List Request) × TurnFollowsWords (record { reading = reading; came = came; is_said = is_said; made = t.made }) old.held sent new.held))
 
 one_turn_by : (port : ℕ) (old new : ServingSide) (t : ServingTurn) (h : IsServingTurn port old t new) (reading : Option Reading) → TurnHears port reading old t.is_whole h.mid → SufficesBy reading t.is_whole → Given t reading old new
-one_turn_by port old new t h None hears enough = ([], (false, ([], record { mid = h.mid.held; hands = (refl, ap (λ (x : ServingSide). x.held) hears.1); before = h.mid.lanes; after = new.lanes; changes = h.made })))
+one_turn_by port old new t h None hears enough = ([], (false, ([], record { mid = h.mid.held; hands = (refl, ap (λ (x : ServingSide). x.held) hears.1); before = h.mid.lanes; after = new.lanes; made = h.made })))
 one_turn_by port old new t h (Some r) hears enough =
     let it = heard port r old h.mid (subst (λ b. LeftOverGoesFirst port r old b h.mid) enough hears) in
-    (it.0, (it.1.0, (it.1.1.0, record { mid = h.mid.held; hands = it.1.1.1; before = h.mid.lanes; after = new.lanes; changes = h.made })))
+    (it.0, (it.1.0, (it.1.1.0, record { mid = h.mid.held; hands = it.1.1.1; before = h.mid.lanes; after = new.lanes; made = h.made })))
 
 pub words_law : WordsLaw
 words_law port old new [] h enough = ([], ([], (tt, (refl, ap (λ (x : ServingSide). x.held) h))))
 words_law port old new (t ∷ rest) h enough =
     let one = one_turn_by port old h.0 t h.1.0 t.reading h.1.0.hears (All-head Suffices t rest enough) in
     let more = words_law port h.0 new rest h.1.1 (All-tail Suffices t rest enough) in
-    let w : Words = record { reading = t.reading; came = one.0; is_said = one.1.0; changes = t.changes } in
-    (w ∷ more.0, (one.1.1.0 ∷ more.1.0, ((record { reading = refl; changes = refl }, more.1.1.0), (h.0.held, (one.1.1.1, more.1.1.1)))))
+    let w : Words = record { reading = t.reading; came = one.0; is_said = one.1.0; made = t.made } in
+    (w ∷ more.0, (one.1.1.0 ∷ more.1.0, ((record { reading = refl; made = refl }, more.1.1.0), (h.0.held, (one.1.1.1, more.1.1.1)))))

@@ -27,7 +27,7 @@ use Rattle.watch_machine.specs.declared.lanes.Out.{Out}
 use Rattle.watch_machine.specs.History.{Turn}
 use Rattle.watch_machine.specs.State.{WatchState, opened}
 use Rattle.watch_machine.specs.Step.{TurnMayWantMemory}
-use Rattle.keep_serving.specs.Changes.{AgentIsTurned, AreMade, ChangeIsMade, InventoryIsServed, MadeChange}
+use Rattle.keep_serving.specs.Changes.{AgentIsTurned, ChangeIsMade, InventoryIsServed, MadeChange, OneIsMade}
 use Rattle.keep_serving.specs.Held.{Held, ServingSide, serving_side}
 use Rattle.keep_serving.specs.Laws.{OneWayLaw}
 use Rattle.keep_serving.specs.Stages.{AnswerIsTaken, AnswersAreTaken}
@@ -146,18 +146,16 @@ change_same Begin true h l k a b one two = event_same events.Begin h l k a b (λ
 change_same (Serve s) true h l k a b one two = served_same s h l k a b one two
 change_same Kept true h l k a b one two = ap (λ (x : ServingSide). x.held) two ∙ sym (ap (λ (x : ServingSide). x.held) one)
 
-changes_same : (made : List MadeChange) (h : Held) (l k : Lanes) (a b : ServingSide) → AreMade made (serving_side h l) a → AreMade made (serving_side h k) b → b.held ≡ a.held
-changes_same [] h l k a b one two = ap (λ (x : ServingSide). x.held) two ∙ sym (ap (λ (x : ServingSide). x.held) one)
-changes_same (m ∷ rest) h l k a b one two =
-    let mid = change_same m.change m.is_made h l k one.0 two.0 one.1.0 two.1.0 in
-    changes_same rest one.0.held one.0.lanes two.0.lanes a b one.1.1 (subst (λ (x : Held). AreMade rest (serving_side x two.0.lanes) b) mid two.1.1)
+one_same : (made : Option MadeChange) (h : Held) (l k : Lanes) (a b : ServingSide) → OneIsMade made (serving_side h l) a → OneIsMade made (serving_side h k) b → b.held ≡ a.held
+one_same None h l k a b one two = ap (λ (x : ServingSide). x.held) two ∙ sym (ap (λ (x : ServingSide). x.held) one)
+one_same (Some m) h l k a b one two = change_same m.change m.is_made h l k a b one two
 
 -- ---- turns
 
 follows_same : (w : Words) (old a b : Held) (sent out : List Request) → TurnFollowsWords w old sent a → TurnFollowsWords w old out b → (out ≡ sent) × (b ≡ a)
 follows_same w old a b sent out one two =
     let hands = hands_by_same w.reading w.came w.is_said old one.mid two.mid sent out one.hands two.hands in
-    (hands.0, changes_same w.changes one.mid one.before two.before (serving_side a one.after) (serving_side b two.after) one.changes (subst (λ (x : Held). AreMade w.changes (serving_side x two.before) (serving_side b two.after)) hands.1 two.changes))
+    (hands.0, one_same w.made one.mid one.before two.before (serving_side a one.after) (serving_side b two.after) one.made (subst (λ (x : Held). OneIsMade w.made (serving_side x two.before) (serving_side b two.after)) hands.1 two.made))
 
 pub one_way_law : OneWayLaw
 one_way_law [] old a b sent out one two = (two.0 ∙ sym one.0, two.1 ∙ sym one.1)

@@ -12,14 +12,14 @@ use Rattle.watch_machine.specs.declared.event.Event.TheVariants as events
 use Rattle.watch_machine.specs.History.{IsWatchRun, Turned}
 use Rattle.watch_machine.specs.State.{WatchState, opened}
 use Rattle.keep_serving.specs.Apart.{Ending, EndsBy, Spent, Unread, Over, Wanting, Changed}
-use Rattle.keep_serving.specs.Changes.{AreMade, ChangeIsMade, MadeChange}
+use Rattle.keep_serving.specs.Changes.{ChangeIsMade, MadeChange, OneIsMade}
 use Rattle.keep_serving.specs.Held.{Held, ServingSide}
-use Rattle.keep_serving.specs.Laws.{KeepInventory, KeepsInventory, Lead}
+use Rattle.keep_serving.specs.Laws.{OneKeepsInventory, KeepsInventory, Lead}
 use Rattle.keep_serving.specs.Resuming.{AreResumed, IsResumed}
 use Rattle.keep_serving.specs.Runs.{AreTurns}
-use Rattle.keep_serving.specs.RunsOfWatch.{AreRunsOfWatches, CarriedLaw, OneRunLaw, ResumedLaw, ServingLaw, RunOfWatch, RunsOfWatches, events_of, is_told_before, rebuilt_run, resumed_run, runs_and, runs_at_first, runs_of_change, runs_of_changes, runs_of_turn, runs_of_turns, runs_of_wait, runs_then, turns_of_carrying, turns_of_known, turns_of_resuming, turns_of_told}
+use Rattle.keep_serving.specs.RunsOfWatch.{AreRunsOfWatches, CarriedLaw, OneRunLaw, ResumedLaw, ServingLaw, RunOfWatch, RunsOfWatches, events_of, is_told_before, rebuilt_run, resumed_run, runs_and, runs_at_first, runs_of_change, runs_of_one, runs_of_turn, runs_of_turns, runs_of_wait, runs_then, turns_of_carrying, turns_of_known, turns_of_resuming, turns_of_told}
 use Rattle.keep_serving.specs.Turns.{IsServingTurn, ServingTurn}
-use Rattle.keep_serving.specs.TurnsOfWatch.{turns_in, turns_of, turns_of_change, turns_of_changes, turns_of_hearing}
+use Rattle.keep_serving.specs.TurnsOfWatch.{turns_in, turns_of, turns_of_change, turns_of_hearing, turns_of_one}
 use Rattle.keep_serving.specs.declared.change.Change.{Change}
 use Rattle.keep_serving.specs.declared.change.Change.TheVariants.{Need, Begin, Serve, Kept}
 use Rattle.keep_serving.proofs.Stretch.{and_then, by_change, by_event, by_hears, nowhere}
@@ -81,15 +81,14 @@ run_change (Need i until) is_made old new h runs are = are_and runs old.held.age
 run_change Begin is_made old new h runs are = are_and runs old.held.agent.machine new.held.agent.machine (turns_of_change Begin is_made old new h) are (by_change Begin is_made old new tt h)
 run_change Kept is_made old new h runs are = are_and runs old.held.agent.machine new.held.agent.machine (turns_of_change Kept is_made old new h) are (by_change Kept is_made old new tt h)
 
-run_changes : (made : List MadeChange) (old new : ServingSide) (h : AreMade made old new) (runs : RunsOfWatches) → AreRunsOfWatches runs old.held.agent.machine → AreRunsOfWatches (runs_of_changes made old new h runs) new.held.agent.machine
-run_changes [] old new h runs are = stays old new h runs are
-run_changes (m ∷ rest) old new h runs are =
-    run_changes rest h.0 new h.1.1 (runs_of_change m.change m.is_made old h.0 h.1.0 runs) (run_change m.change m.is_made old h.0 h.1.0 runs are)
+run_one : (made : Option MadeChange) (old new : ServingSide) (h : OneIsMade made old new) (runs : RunsOfWatches) → AreRunsOfWatches runs old.held.agent.machine → AreRunsOfWatches (runs_of_one made old new h runs) new.held.agent.machine
+run_one None old new h runs are = stays old new h runs are
+run_one (Some m) old new h runs are = run_change m.change m.is_made old new h runs are
 
 run_turn : (port : ℕ) (old : ServingSide) (t : ServingTurn) (new : ServingSide) (h : IsServingTurn port old t new) (runs : RunsOfWatches) → AreRunsOfWatches runs old.held.agent.machine → AreRunsOfWatches (runs_of_turn port old t new h runs) new.held.agent.machine
 run_turn port old t new h runs are =
     let heard = turns_of_hearing port t.reading old t.is_whole h.mid h.hears in
-    run_changes t.changes h.mid new h.made (runs_and heard runs) (are_and runs old.held.agent.machine h.mid.held.agent.machine heard are (by_hears port t.reading old t.is_whole h.mid h.hears))
+    run_one t.made h.mid new h.made (runs_and heard runs) (are_and runs old.held.agent.machine h.mid.held.agent.machine heard are (by_hears port t.reading old t.is_whole h.mid h.hears))
 
 run_turns : (port : ℕ) (old : ServingSide) (turns : List ServingTurn) (new : ServingSide) (h : AreTurns port old turns new) (runs : RunsOfWatches) → AreRunsOfWatches runs old.held.agent.machine → AreRunsOfWatches (runs_of_turns port old turns new h runs) new.held.agent.machine
 run_turns port old [] new h runs are = stays old new h runs are
@@ -156,17 +155,14 @@ one_change (Need i until) is_made old new keeps h runs = refl
 one_change Begin is_made old new keeps h runs = refl
 one_change Kept is_made old new keeps h runs = refl
 
-one_by_changes : (made : List MadeChange) (old new : ServingSide) → KeepInventory made → (h : AreMade made old new) (runs : RunsOfWatches) → runs_of_changes made old new h runs ≡ runs_and (turns_of_changes made old new h) runs
-one_by_changes [] old new keeps h runs = and_none runs
-one_by_changes (m ∷ rest) old new keeps h runs =
-    let first = turns_of_change m.change m.is_made old h.0 h.1.0 in
-    let more = turns_of_changes rest h.0 new h.1.1 in
-    ap (runs_of_changes rest h.0 new h.1.1) (one_change m.change m.is_made old h.0 keeps.0 h.1.0 runs) ∙ one_by_changes rest h.0 new keeps.1 h.1.1 (runs_and first runs) ∙ and_both runs first more
+one_if_made : (made : Option MadeChange) (old new : ServingSide) → OneKeepsInventory made → (h : OneIsMade made old new) (runs : RunsOfWatches) → runs_of_one made old new h runs ≡ runs_and (turns_of_one made old new h) runs
+one_if_made None old new keeps h runs = and_none runs
+one_if_made (Some m) old new keeps h runs = one_change m.change m.is_made old new keeps h runs
 
-one_by_turn : (port : ℕ) (old : ServingSide) (t : ServingTurn) (new : ServingSide) → KeepInventory t.changes → (h : IsServingTurn port old t new) (runs : RunsOfWatches) → runs_of_turn port old t new h runs ≡ runs_and (turns_in port old t new h) runs
+one_by_turn : (port : ℕ) (old : ServingSide) (t : ServingTurn) (new : ServingSide) → OneKeepsInventory t.made → (h : IsServingTurn port old t new) (runs : RunsOfWatches) → runs_of_turn port old t new h runs ≡ runs_and (turns_in port old t new h) runs
 one_by_turn port old t new keeps h runs =
     let heard = turns_of_hearing port t.reading old t.is_whole h.mid h.hears in
-    one_by_changes t.changes h.mid new keeps h.made (runs_and heard runs) ∙ and_both runs heard (turns_of_changes t.changes h.mid new h.made)
+    one_if_made t.made h.mid new keeps h.made (runs_and heard runs) ∙ and_both runs heard (turns_of_one t.made h.mid new h.made)
 
 pub one_run_law : OneRunLaw
 one_run_law port old new [] h runs stretch = and_none runs

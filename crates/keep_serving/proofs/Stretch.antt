@@ -13,13 +13,13 @@ use Rattle.watch_machine.specs.declared.event.Event.TheVariants as events
 use Rattle.watch_machine.specs.declared.fault.WatchFault.{WatchFault}
 use Rattle.watch_machine.specs.History.{History, Turn, Turned, after_all}
 use Rattle.watch_machine.specs.State.{WatchState}
-use Rattle.keep_serving.specs.Changes.{AreMade, ChangeIsMade, MadeChange}
+use Rattle.keep_serving.specs.Changes.{ChangeIsMade, MadeChange, OneIsMade}
 use Rattle.keep_serving.specs.Held.{Held, ServingSide}
-use Rattle.keep_serving.specs.Laws.{KeepInventory, KeepsInventory, Lead, StretchLaw}
+use Rattle.keep_serving.specs.Laws.{OneKeepsInventory, KeepsInventory, Lead, StretchLaw}
 use Rattle.keep_serving.specs.Stages.{AnswerIsTaken, AnswersAreTaken, AnswersCome, Commands, HandsInAnswers, LeftOverGoesFirst, OnHeld, SendsRequests, TakesAnswers, TakesReadings, TakesUp, Then}
 use Rattle.keep_serving.specs.Turns as turns
 use Rattle.keep_serving.specs.Turns.{IsServingTurn, TurnHears}
-use Rattle.keep_serving.specs.TurnsOfWatch.{TurnsOf, no_turns, one_and_then, turn_of_answer, turned, turns_in, turns_of, turns_of_answers, turns_of_change, turns_of_changes, turns_of_hearing, turns_of_readings, turns_of_stages, turns_of_taking}
+use Rattle.keep_serving.specs.TurnsOfWatch.{TurnsOf, no_turns, one_and_then, turn_of_answer, turned, turns_in, turns_of, turns_of_answers, turns_of_change, turns_of_hearing, turns_of_one, turns_of_readings, turns_of_stages, turns_of_taking}
 use Rattle.keep_serving.specs.declared.change.Change.{Change}
 use Rattle.keep_serving.specs.declared.change.Change.TheVariants.{Need, Begin, Serve, Kept}
 use Rattle.keep_serving.proofs.InStep.{said_machine}
@@ -110,18 +110,16 @@ by_change Begin true old new keeps h = by_event events.Begin old.held.agent new.
 by_change (Serve s) true old new keeps h = absurd keeps
 by_change Kept true old new keeps h = nowhere old.held.agent.machine new.held.agent.machine (ap (λ (s : ServingSide). s.held.agent.machine) h)
 
-by_changes : (made : List MadeChange) (old new : ServingSide) → KeepInventory made → (h : AreMade made old new) → Lead old.held.agent.machine (turns_of_changes made old new h) new.held.agent.machine
-by_changes [] old new keeps h = nowhere old.held.agent.machine new.held.agent.machine (ap (λ (s : ServingSide). s.held.agent.machine) h)
-by_changes (m ∷ rest) old new keeps h =
-    and_then old.held.agent.machine h.0.held.agent.machine new.held.agent.machine (turns_of_change m.change m.is_made old h.0 h.1.0) (turns_of_changes rest h.0 new h.1.1)
-    (by_change m.change m.is_made old h.0 keeps.0 h.1.0) (by_changes rest h.0 new keeps.1 h.1.1)
+by_one_made : (made : Option MadeChange) (old new : ServingSide) → OneKeepsInventory made → (h : OneIsMade made old new) → Lead old.held.agent.machine (turns_of_one made old new h) new.held.agent.machine
+by_one_made None old new keeps h = nowhere old.held.agent.machine new.held.agent.machine (ap (λ (s : ServingSide). s.held.agent.machine) h)
+by_one_made (Some m) old new keeps h = by_change m.change m.is_made old new keeps h
 
 -- ---- by turn
 
-by_one : (port : ℕ) (old : ServingSide) (t : turns.ServingTurn) (new : ServingSide) → KeepInventory t.changes → (h : IsServingTurn port old t new) → Lead old.held.agent.machine (turns_in port old t new h) new.held.agent.machine
+by_one : (port : ℕ) (old : ServingSide) (t : turns.ServingTurn) (new : ServingSide) → OneKeepsInventory t.made → (h : IsServingTurn port old t new) → Lead old.held.agent.machine (turns_in port old t new h) new.held.agent.machine
 by_one port old t new keeps h =
-    and_then old.held.agent.machine h.mid.held.agent.machine new.held.agent.machine (turns_of_hearing port t.reading old t.is_whole h.mid h.hears) (turns_of_changes t.changes h.mid new h.made)
-    (by_hears port t.reading old t.is_whole h.mid h.hears) (by_changes t.changes h.mid new keeps h.made)
+    and_then old.held.agent.machine h.mid.held.agent.machine new.held.agent.machine (turns_of_hearing port t.reading old t.is_whole h.mid h.hears) (turns_of_one t.made h.mid new h.made)
+    (by_hears port t.reading old t.is_whole h.mid h.hears) (by_one_made t.made h.mid new keeps h.made)
 
 pub stretch_law : StretchLaw
 stretch_law port old new [] h stretch = nowhere old.held.agent.machine new.held.agent.machine (ap (λ (s : ServingSide). s.held.agent.machine) h)

@@ -1,18 +1,18 @@
 -- Turned: one turn is what its parts were. For `turn` and `turn_at`.
-use Rattle.std.proofs.Common.{◌≡◌, ℕ, ◌≤◌, Bool, false, ◌||◌, List, [], ◌∷◌, ◌++◌, Option, Some, None, length, ap, refl, sym, arith}
+use Rattle.std.proofs.Common.{◌≡◌, ℕ, Bool, false, ◌||◌, List, [], ◌∷◌, ◌++◌, Option, Some, None, ap, refl, sym}
 use Rattle.keep_clock.specs.declared.reading.Reading.{Reading}
-use Rattle.keep_serving.specs.Changes.{AllGiven, AreMade, MadeChange}
+use Rattle.keep_serving.specs.Changes.{AllGiven, MadeChange, OneIsMade, is_one_made}
 use Rattle.keep_serving.specs.Held.{ServingSide}
 use Rattle.keep_serving.specs.Stages.{LeftOverGoesFirst}
-use Rattle.keep_serving.specs.Turns.{IsServingTurn, ServingTurn, is_some_made, turn_wait_by}
+use Rattle.keep_serving.specs.Turns.{IsServingTurn, ServingTurn, turn_wait_by}
 use Rattle.keep_serving.specs.declared.change.Change.{Change}
 
 -- no clock could be read
 abbrev pub unread : ServingTurn
-unread = record { reading = None; is_whole = false; changes = []; is_busy = false; due = 0; millis = 100 }
+unread = record { reading = None; is_whole = false; made = None; is_busy = false; due = 0; millis = 100 }
 
 pub unread_turn : (port : ℕ) (s : ServingSide) → IsServingTurn port s unread s
-unread_turn port s = record { mid = s; hears = (refl, refl); made = refl; few = omega arith; waits = refl }
+unread_turn port s = record { mid = s; hears = (refl, refl); made = refl; waits = refl }
 
 append_none : (xs : List Change) → xs ++ [] ≡ xs
 append_none [] = refl
@@ -22,10 +22,10 @@ pub given_none : (a : Option (List Change)) → AllGiven [] a a
 given_none None = tt
 given_none (Some given) = (given, (refl, sym (append_none given)))
 
-abbrev pub turned : Reading → Bool → List MadeChange → Bool → ℕ → ℕ → ServingTurn
-turned r is_whole made is_busy due millis = record { reading = Some r; is_whole = is_whole; changes = made; is_busy = is_busy; due = due; millis = millis }
+abbrev pub turned : Reading → Bool → Option MadeChange → Bool → ℕ → ℕ → ServingTurn
+turned r is_whole made is_busy due millis = record { reading = Some r; is_whole = is_whole; made = made; is_busy = is_busy; due = due; millis = millis }
 
 pub whole_turn :
-    (port : ℕ) (r : Reading) (is_whole is_busy : Bool) (made : List MadeChange) (due millis : ℕ) (old mid new : ServingSide) → LeftOverGoesFirst port r old is_whole mid → AreMade made mid new → length made ≤ 1 →
-    millis ≡ turn_wait_by (is_some_made made || is_busy) is_whole new.held.until due (Some r) → IsServingTurn port old (turned r is_whole made is_busy due millis) new
-whole_turn port r is_whole is_busy made due millis old mid new goes are few waits = record { mid = mid; hears = goes; made = are; few = few; waits = waits }
+    (port : ℕ) (r : Reading) (is_whole is_busy : Bool) (made : Option MadeChange) (due millis : ℕ) (old mid new : ServingSide) → LeftOverGoesFirst port r old is_whole mid → OneIsMade made mid new →
+    millis ≡ turn_wait_by (is_one_made made || is_busy) is_whole new.held.until due (Some r) → IsServingTurn port old (turned r is_whole made is_busy due millis) new
+whole_turn port r is_whole is_busy made due millis old mid new goes is waits = record { mid = mid; hears = goes; made = is; waits = waits }

@@ -1,5 +1,5 @@
 -- Waited: a start waits pause after pause, and then its wait ends. For `wait_apart` and its parts.
-use Rattle.std.proofs.Common.{◌≡◌, ◌∙◌, ℕ, ◌+◌, ◌≤◌, ◌<◌, Bool, true, false, not, ◌||◌, List, [], ◌∷◌, ◌++◌, Option, Some, None, append-nil, length, refl, sym, ap, subst, arith}
+use Rattle.std.proofs.Common.{◌≡◌, ℕ, ◌+◌, ◌≤◌, ◌<◌, Bool, true, false, not, ◌||◌, List, [], ◌∷◌, ◌++◌, Option, Some, None, append-nil, length, refl, sym, subst, arith}
 use Rattle.std.proofs.lemmas.List.{flat_map_more, length-append}
 use Rattle.std.proofs.lemmas.List.Elements.{All-nil, All-push}
 use Rattle.std.specs.List.{All, flat_map}
@@ -8,14 +8,14 @@ use Rattle.keep_clock.specs.declared.call.Call.{Call}
 use Rattle.keep_clock.specs.declared.call.Call.TheVariants.{Wait}
 use Rattle.keep_clock.specs.declared.reading.Reading.{Reading}
 use Rattle.keep_clock.proofs.Joined.{joined_law, none_law}
-use Rattle.keep_serving.specs.Apart.{Changed, Ending, EndsAfter, EndsBy, IsPause, IsWaitedApart, Over, Pause, Spent, Unread, Waited, Wanting, all_called, all_clocked, all_given, called_at, called_in, clocked_at, clocked_in, given_at, given_by, goes_on, is_change_kept, pause_by}
-use Rattle.keep_serving.specs.Changes.{AllGiven, ChangeIsMade, MadeChange}
+use Rattle.keep_serving.specs.Apart.{Changed, Ending, EndsAfter, EndsBy, IsPause, IsWaitedApart, Over, Pause, Spent, Unread, Waited, Wanting, all_called, all_clocked, all_given, called_at, called_in, clocked_at, clocked_in, given_at, goes_on, is_change_kept, pause_by}
+use Rattle.keep_serving.specs.Changes.{AllGiven, ChangeIsMade, MadeChange, given_by}
 use Rattle.keep_serving.specs.Held.{IsInStep, ServingSide}
 use Rattle.keep_serving.specs.Neighbours.{AllCalled, Give, GoOn, NeighbourCall, Settle}
 use Rattle.keep_serving.specs.code.Pauses.{IsEnded, IsPausedApart}
 use Rattle.keep_serving.specs.declared.change.Change.{Change}
 use Rattle.keep_serving.specs.declared.change.Change.TheVariants.{Need, Begin, Serve, Kept}
-use Rattle.keep_serving.proofs.Called.{called_join, called_once, called_twice}
+use Rattle.keep_serving.proofs.Called.{called_join, called_twice}
 use Rattle.keep_serving.proofs.Changed.{given_join, made_keeps}
 use Rattle.keep_serving.proofs.Turned.{given_none}
 
@@ -187,4 +187,4 @@ ended_in_step until width (Over r) old new ends step = subst (λ (s : ServingSid
 ended_in_step until width (Wanting r) old new ends step = subst (λ (s : ServingSide). IsInStep width s.lanes.out s.held) (sym ends.1) step
 ended_in_step until width (Changed r is_busy change) old new ends step =
     let m : MadeChange = record { change = change; is_made = true } in
-    made_keeps width (m ∷ []) old new (new, (ends.1.1, refl)) step
+    made_keeps width (Some m) old new ends.1.1 step

@@ -9,7 +9,7 @@ use Rattle.keep_inventory.specs.Inventories.{Inventory}
 use Rattle.keep_lanes.specs.declared.lanes.Answered.{Answered}
 use Rattle.watch_machine.specs.declared.command.Request.{Request}
 use Rattle.keep_serving.specs.Held.{Held}
-use Rattle.keep_serving.specs.Laws.{KeepInventory}
+use Rattle.keep_serving.specs.Laws.{OneKeepsInventory}
 use Rattle.keep_serving.specs.Stages.{AnswersAreTaken}
 use Rattle.keep_serving.specs.Words.{AllFollow, HandsBy, TurnFollowsWords, Words}
 
@@ -35,8 +35,8 @@ pub record AreHeldAlike (h k : Held) : Type 0 where
 pub record AreWordsAlike (w v : Words) : Type 0 where
   pub reading : v.reading ≡ w.reading
   pub is_said : v.is_said ≡ w.is_said
-  pub changes : v.changes ≡ w.changes
-  pub keep : KeepInventory w.changes
+  pub made : v.made ≡ w.made
+  pub keep : OneKeepsInventory w.made
 
 abbrev pub AllWordsAlike : List Words → List Words → Type 0
 AllWordsAlike [] [] = Unit {0}

@@ -10,9 +10,9 @@ use Rattle.keep_clock.specs.declared.call.Call.{Call}
 use Rattle.keep_clock.specs.declared.call.Call.TheVariants.{Wait}
 use Rattle.keep_clock.specs.declared.reading.Reading.{Reading}
 use Rattle.keep_tree.specs.Carried.{carried}
-use Rattle.keep_serving.specs.Changes.{MadeChange, MakesChange}
+use Rattle.keep_serving.specs.Changes.{MadeChange, MakesChange, given_by, is_one_made}
 use Rattle.keep_serving.specs.Held.{ServingSide}
-use Rattle.keep_serving.specs.Neighbours.{Give, GoOn, NeighbourCall, Settle}
+use Rattle.keep_serving.specs.Neighbours.{GoOn, NeighbourCall, calls_for_change}
 use Rattle.keep_serving.specs.declared.change.Change.{Change}
 use Rattle.keep_serving.specs.declared.change.Change.TheVariants.{Need, Begin, Serve, Kept}
 
@@ -56,10 +56,6 @@ is_change_kept Kept = true
 abbrev pub goes_on : Option MadeChange → Bool
 goes_on None = true
 goes_on (Some m) = is_change_kept m.change || not m.is_made
-
-abbrev pub is_one_made : Option MadeChange → Bool
-is_one_made None = false
-is_one_made (Some m) = m.is_made
 
 -- no wait where a change was made, or a neighbour can go on; else until the moment, a second at most
 abbrev pub pause_by : Bool → ℕ → Reading → ℕ
@@ -117,10 +113,6 @@ all_clocked w = flat_map clocked_in w.pauses ++ clocked_at w.ending
 
 -- ---- what the neighbours are called for: they go on once a pause, and are asked for one change
 
-abbrev pub calls_for_change : Option MadeChange → List NeighbourCall
-calls_for_change None = Give None ∷ []
-calls_for_change (Some m) = Give (Some m.change) ∷ Settle m.is_made ∷ []
-
 abbrev pub called_in : Pause → List NeighbourCall
 called_in p = GoOn p.is_busy ∷ calls_for_change p.made
 
@@ -132,10 +124,6 @@ abbrev pub all_called : Waited → List NeighbourCall
 all_called w = flat_map called_in w.pauses ++ called_at w.ending
 
 -- ---- the changes that they give
-
-abbrev pub given_by : Option MadeChange → List Change
-given_by None = []
-given_by (Some m) = m.change ∷ []
 
 abbrev pub given_at : Ending → List Change
 given_at (Changed r is_busy change) = change ∷ []

@@ -1,6 +1,6 @@
 -- Changes: what is taken from clients and files while the agent runs, and what it makes of the agent.
 -- Source: this project's own.
-use Rattle.std.specs.Prelude.{◌≡◌, ◌++◌, Bool, true, false, List, [], ◌∷◌, Option, Some, IfSome, Result, map}
+use Rattle.std.specs.Prelude.{◌≡◌, ◌++◌, Bool, true, false, List, [], ◌∷◌, Option, Some, None, IfSome, Result}
 use Rattle.keep_agent.specs.Rebuilding.{AgentIsRebuilt}
 use Rattle.keep_agent.specs.Turns.{AgentTurn}
 use Rattle.keep_inventory.specs.Inventories.{Inventory}
@@ -40,12 +40,18 @@ abbrev pub ChangeIsMade : Change → Bool → ServingSide → ServingSide → Ty
 ChangeIsMade change true old new = MakesChange change old new
 ChangeIsMade change false old new = new ≡ old
 
-abbrev pub AreMade : List MadeChange → ServingSide → ServingSide → Type 0
-AreMade [] old new = new ≡ old
-AreMade (m ∷ rest) old new = (mid : ServingSide) × (ChangeIsMade m.change m.is_made old mid × AreMade rest mid new)
+-- that of a turn or of a pause, where one was given
+abbrev pub OneIsMade : Option MadeChange → ServingSide → ServingSide → Type 0
+OneIsMade None old new = new ≡ old
+OneIsMade (Some m) old new = ChangeIsMade m.change m.is_made old new
 
-abbrev pub changes_of : List MadeChange → List Change
-changes_of made = map (λ (m : MadeChange). m.change) made
+abbrev pub is_one_made : Option MadeChange → Bool
+is_one_made None = false
+is_one_made (Some m) = m.is_made
+
+abbrev pub given_by : Option MadeChange → List Change
+given_by None = []
+given_by (Some m) = m.change ∷ []
 
 -- ---- what the neighbours that give changes have given
 

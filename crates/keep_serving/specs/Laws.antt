@@ -1,6 +1,6 @@
 -- Laws: what holds of all turns. The contract of a public function without a body.
 -- Source: this project's own.
-use Rattle.std.specs.Prelude.{◌≡◌, ℕ, ◌+◌, ◌-◌, ◌≤◌, Bool, true, List, [], ◌∷◌, Some, length}
+use Rattle.std.specs.Prelude.{◌≡◌, ℕ, ◌+◌, ◌-◌, ◌≤◌, Bool, true, List, [], ◌∷◌, Some, length, Option, None}
 use Rattle.std.specs.List.{All}
 use Rattle.keep_clock.specs.declared.reading.Reading.{Reading}
 use Rattle.watch_machine.specs.History.{History, Turned, after_all}
@@ -16,20 +16,20 @@ use Rattle.keep_serving.specs.Words.{AllAreWordsOf, AllFollow, Suffices, Words}
 use Rattle.keep_serving.specs.declared.change.Change.{Change}
 use Rattle.keep_serving.specs.declared.change.Change.TheVariants.{Need, Begin, Serve, Kept}
 
--- the same inventory is served after a change, after all changes of a turn, and after some turns
+-- the same inventory is served after a change, after that of a turn, and after some turns
 abbrev pub KeepsInventory : Change → Type 0
 KeepsInventory (Need i until) = Unit {0}
 KeepsInventory Begin = Unit {0}
 KeepsInventory (Serve s) = ⊥
 KeepsInventory Kept = Unit {0}
 
-abbrev pub KeepInventory : List MadeChange → Type 0
-KeepInventory [] = Unit {0}
-KeepInventory (m ∷ rest) = KeepsInventory m.change × KeepInventory rest
+abbrev pub OneKeepsInventory : Option MadeChange → Type 0
+OneKeepsInventory None = Unit {0}
+OneKeepsInventory (Some m) = KeepsInventory m.change
 
 abbrev pub IsStretch : List ServingTurn → Type 0
 IsStretch [] = Unit {0}
-IsStretch (t ∷ rest) = KeepInventory t.changes × IsStretch rest
+IsStretch (t ∷ rest) = OneKeepsInventory t.made × IsStretch rest
 
 -- the turns of a Watch lead from the one state to the other
 abbrev pub Lead : WatchState → List Turned → WatchState → Type 0

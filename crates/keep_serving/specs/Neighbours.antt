@@ -1,6 +1,6 @@
 -- Neighbours: what the loop calls them for, and what it calls them for in one turn.
 -- Source: this project's own.
-use Rattle.std.specs.Prelude.{◌≡◌, ℕ, zero, suc, ◌≤◌, Bool, true, false, List, [], ◌∷◌, ◌++◌, Option, Some, None, replicate}
+use Rattle.std.specs.Prelude.{◌≡◌, ℕ, ◌≤◌, Bool, true, false, List, [], ◌∷◌, ◌++◌, Option, Some, None, replicate}
 use Rattle.keep_clock.specs.declared.reading.Reading.{Reading}
 use Rattle.keep_serving.specs.Changes.{MadeChange}
 use Rattle.keep_serving.specs.Turns.{ServingTurn}
@@ -54,14 +54,14 @@ heard_of_want true = []
 heard_of_want false = Hear Want ∷ []
 
 -- they are asked for a change, once, and told of one that they gave whether it was made
-abbrev pub calls_of_change : List MadeChange → List NeighbourCall
-calls_of_change [] = Give None ∷ []
-calls_of_change (m ∷ rest) = Give (Some m.change) ∷ Settle m.is_made ∷ []
+abbrev pub calls_for_change : Option MadeChange → List NeighbourCall
+calls_for_change None = Give None ∷ []
+calls_for_change (Some m) = Give (Some m.change) ∷ Settle m.is_made ∷ []
 
 -- at readings they hear, go on, once, and are asked for a change; where the clocks could not be read they are not called
 abbrev pub calls_at : Option Reading → ℕ → Bool → ServingTurn → List NeighbourCall
 calls_at None answers is_handed t = []
-calls_at (Some r) answers is_handed t = calls_of_hearing answers is_handed ++ (heard_of_want t.is_whole ++ GoOn t.is_busy ∷ calls_of_change t.changes)
+calls_at (Some r) answers is_handed t = calls_of_hearing answers is_handed ++ (heard_of_want t.is_whole ++ GoOn t.is_busy ∷ calls_for_change t.made)
 
 abbrev pub calls_in : ℕ → Bool → ServingTurn → List NeighbourCall
 calls_in answers is_handed t = calls_at t.reading answers is_handed t

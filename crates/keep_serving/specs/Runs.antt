@@ -3,7 +3,7 @@
 use Rattle.std.specs.Prelude.{◌≡◌, ℕ, List, [], ◌∷◌}
 use Rattle.std.specs.List.{flat_map}
 use Rattle.keep_clock.specs.declared.call.Call.{Call}
-use Rattle.keep_serving.specs.Changes.{changes_of}
+use Rattle.keep_serving.specs.Changes.{given_by}
 use Rattle.keep_serving.specs.Held.{ServingSide}
 use Rattle.keep_serving.specs.declared.change.Change.{Change}
 use Rattle.keep_serving.specs.Turns.{IsServingTurn, ServingTurn, calls_of_turn}
@@ -17,4 +17,4 @@ abbrev pub all_calls : List ServingTurn → List Call
 all_calls turns = flat_map calls_of_turn turns
 
 abbrev pub all_changes : List ServingTurn → List Change
-all_changes turns = flat_map (λ (t : ServingTurn). changes_of t.changes) turns
+all_changes turns = flat_map (λ (t : ServingTurn). given_by t.made) turns

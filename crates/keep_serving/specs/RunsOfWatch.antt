@@ -14,7 +14,7 @@ use Rattle.watch_machine.specs.declared.event.Event.TheVariants as events
 use Rattle.watch_machine.specs.History.{IsWatchRun, Turned, after_all}
 use Rattle.watch_machine.specs.State.{WatchState, opened}
 use Rattle.keep_serving.specs.Apart.{Ending, EndsBy, IsWaitedApart, Waited, Spent, Unread, Over, Wanting, Changed}
-use Rattle.keep_serving.specs.Changes.{AreMade, ChangeIsMade, MadeChange}
+use Rattle.keep_serving.specs.Changes.{ChangeIsMade, MadeChange, OneIsMade}
 use Rattle.keep_serving.specs.Held.{ServingSide, held_at_first}
 use Rattle.keep_serving.specs.Laws.{IsStretch}
 use Rattle.keep_serving.specs.Resuming.{AreResumed, IsResumed}
@@ -90,14 +90,14 @@ abbrev pub runs_of_change :
 runs_of_change (Serve s) true old new h runs = runs_then (rebuilt_run old.held.agent s old.held.agent.machine.width new.held.agent h.agent) runs
 runs_of_change c is_made old new h runs = runs_and (turns_of_change c is_made old new h) runs
 
-abbrev pub runs_of_changes : (made : List MadeChange) (old new : ServingSide) → AreMade made old new → RunsOfWatches → RunsOfWatches
-runs_of_changes [] old new h runs = runs
-runs_of_changes (m ∷ rest) old new h runs = runs_of_changes rest h.0 new h.1.1 (runs_of_change m.change m.is_made old h.0 h.1.0 runs)
+abbrev pub runs_of_one : (made : Option MadeChange) (old new : ServingSide) → OneIsMade made old new → RunsOfWatches → RunsOfWatches
+runs_of_one None old new h runs = runs
+runs_of_one (Some m) old new h runs = runs_of_change m.change m.is_made old new h runs
 
 abbrev pub runs_of_turn :
     (port : ℕ) (old : ServingSide) (t : ServingTurn) (new : ServingSide) → IsServingTurn port old t new → RunsOfWatches → RunsOfWatches
 runs_of_turn port old t new h runs =
-    runs_of_changes t.changes h.mid new h.made (runs_and (turns_of_hearing port t.reading old t.is_whole h.mid h.hears) runs)
+    runs_of_one t.made h.mid new h.made (runs_and (turns_of_hearing port t.reading old t.is_whole h.mid h.hears) runs)
 
 abbrev pub runs_of_turns :
     (port : ℕ) (old : ServingSide) (turns : List ServingTurn) (new : ServingSide) → AreTurns port old turns new → RunsOfWatches → RunsOfWatches

@@ -1,20 +1,20 @@
--- Turns: one round of the loop: the time is handed in, changes are taken, and one wait follows.
+-- Turns: one round of the loop: the time is handed in, a change is taken, and one wait follows.
 -- Source: this project's own.
-use Rattle.std.specs.Prelude.{◌≡◌, ℕ, ◌-◌, ◌≤◌, Bool, true, false, ◌||◌, if◌then◌else◌, List, [], ◌∷◌, Option, Some, None, length, min}
+use Rattle.std.specs.Prelude.{◌≡◌, ℕ, ◌-◌, Bool, false, ◌||◌, if◌then◌else◌, List, [], ◌∷◌, Option, Some, None, min}
 use Rattle.keep_clock.specs.Seen.{read_call}
 use Rattle.keep_clock.specs.declared.call.Call.{Call}
 use Rattle.keep_clock.specs.declared.call.Call.TheVariants.{Wait}
 use Rattle.keep_clock.specs.declared.reading.Reading.{Reading}
-use Rattle.keep_serving.specs.Changes.{AreMade, MadeChange}
+use Rattle.keep_serving.specs.Changes.{MadeChange, OneIsMade, is_one_made}
 use Rattle.keep_serving.specs.Held.{ServingSide}
 use Rattle.keep_serving.specs.Stages.{LeftOverGoesFirst}
 
--- what a turn read, where it could; whether memory sufficed to hand the time in; the changes that it took; whether a neighbour
--- could go on at once; the moment by which a lane has to be looked at; and for how long it then waited, in milliseconds
+-- what a turn read, where it could; whether memory sufficed to hand the time in; the change that it took, where one was given;
+-- whether a neighbour could go on at once; the moment by which a lane has to be looked at; and for how long it then waited, in milliseconds
 pub record ServingTurn : Type 0 where
   pub reading : Option Reading
   pub is_whole : Bool
-  pub changes : List MadeChange
+  pub made : Option MadeChange
   pub is_busy : Bool
   pub due : ℕ
   pub millis : ℕ
@@ -23,10 +23,6 @@ pub record ServingTurn : Type 0 where
 abbrev pub TurnHears : ℕ → Option Reading → ServingSide → Bool → ServingSide → Type 0
 TurnHears port None old is_whole new = (is_whole ≡ false) × (new ≡ old)
 TurnHears port (Some r) old is_whole new = LeftOverGoesFirst port r old is_whole new
-
-abbrev pub is_some_made : List MadeChange → Bool
-is_some_made [] = false
-is_some_made (m ∷ rest) = m.is_made || is_some_made rest
 
 -- no wait where a change was made, or a neighbour can go on. Else until the Watch's moment, or until a lane has to be looked at, or a
 -- second; a tenth of one where memory is wanting or no clock is read
@@ -41,13 +37,12 @@ abbrev pub turn_wait_by : Bool → Bool → ℕ → ℕ → Option Reading → �
 turn_wait_by is_more is_whole until due reading = if is_more then 0 else wait_after is_whole until due reading
 
 abbrev pub wait_of : ServingTurn → ℕ → ℕ
-wait_of t until = turn_wait_by (is_some_made t.changes || t.is_busy) t.is_whole until t.due t.reading
+wait_of t until = turn_wait_by (is_one_made t.made || t.is_busy) t.is_whole until t.due t.reading
 
 pub record IsServingTurn (port : ℕ) (old : ServingSide) (t : ServingTurn) (new : ServingSide) : Type 0 where
   pub mid : ServingSide
   pub hears : TurnHears port t.reading old t.is_whole mid
-  pub made : AreMade t.changes mid new
-  pub few : length t.changes ≤ 1
+  pub made : OneIsMade t.made mid new
   pub waits : t.millis ≡ wait_of t new.held.until
 
 -- what is asked of the clock: one reading, and one wait

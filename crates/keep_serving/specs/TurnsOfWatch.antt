@@ -13,7 +13,7 @@ use Rattle.watch_machine.specs.declared.event.Event.{Event}
 use Rattle.watch_machine.specs.declared.event.Event.TheVariants as events
 use Rattle.watch_machine.specs.declared.fault.WatchFault.{WatchFault}
 use Rattle.watch_machine.specs.History.{Turned}
-use Rattle.keep_serving.specs.Changes.{AreMade, ChangeIsMade, MadeChange}
+use Rattle.keep_serving.specs.Changes.{ChangeIsMade, MadeChange, OneIsMade}
 use Rattle.keep_serving.specs.Held.{ServingSide}
 use Rattle.keep_serving.specs.Runs.{AreTurns}
 use Rattle.keep_serving.specs.Stages.{AnswerIsTaken, AnswersAreTaken, AnswersCome, Commands, HandsInAnswers, LeftOverGoesFirst, OnHeld, SendsRequests, TakesAnswers, TakesReadings, TakesUp, Then}
@@ -81,15 +81,15 @@ turns_of_change Begin true old new h = turned events.Begin h.result new.held.age
 turns_of_change (Serve s) true old new h = []
 turns_of_change Kept true old new h = []
 
-abbrev pub turns_of_changes : (made : List MadeChange) (old new : ServingSide) → AreMade made old new → List Turned
-turns_of_changes [] old new h = []
-turns_of_changes (m ∷ rest) old new h = turns_of_change m.change m.is_made old h.0 h.1.0 ++ turns_of_changes rest h.0 new h.1.1
+abbrev pub turns_of_one : (made : Option MadeChange) (old new : ServingSide) → OneIsMade made old new → List Turned
+turns_of_one None old new h = []
+turns_of_one (Some m) old new h = turns_of_change m.change m.is_made old new h
 
 -- ---- turns of the loop
 
 -- one, and one after another
 abbrev pub turns_in : (port : ℕ) (old : ServingSide) (t : ServingTurn) (new : ServingSide) → IsServingTurn port old t new → List Turned
-turns_in port old t new h = turns_of_hearing port t.reading old t.is_whole h.mid h.hears ++ turns_of_changes t.changes h.mid new h.made
+turns_in port old t new h = turns_of_hearing port t.reading old t.is_whole h.mid h.hears ++ turns_of_one t.made h.mid new h.made
 
 abbrev pub turns_of : (port : ℕ) (old : ServingSide) (turns : List ServingTurn) (new : ServingSide) → AreTurns port old turns new → List Turned
 turns_of port old [] new h = []

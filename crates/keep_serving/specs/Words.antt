@@ -12,18 +12,18 @@ use Rattle.watch_machine.specs.declared.command.Command.TheVariants.{Go}
 use Rattle.watch_machine.specs.declared.command.Request.{Request}
 use Rattle.watch_machine.specs.declared.event.Event.TheVariants.{Clock}
 use Rattle.watch_machine.specs.declared.notes.Notes.{Notes}
-use Rattle.keep_serving.specs.Changes.{AreMade, MadeChange}
+use Rattle.keep_serving.specs.Changes.{MadeChange, OneIsMade}
 use Rattle.keep_serving.specs.Held.{Held, serving_side}
 use Rattle.keep_serving.specs.Stages.{AnswersAreTaken}
 use Rattle.keep_serving.specs.Turns.{ServingTurn}
 
 -- the readings, where the clocks could be read; the answers that came off their lanes; whether memory sufficed to say what is short;
--- and the changes that were taken
+-- and the change that was taken, where one was given
 pub record Words : Type 0 where
   pub reading : Option Reading
   pub came : List Answered
   pub is_said : Bool
-  pub changes : List MadeChange
+  pub made : Option MadeChange
 
 abbrev pub SaysBy : Bool → Agent → Agent → Type 0
 SaysBy true old new = new ≡ all_said old
@@ -53,7 +53,7 @@ pub record TurnFollowsWords (w : Words) (old : Held) (sent : List Request) (new 
   pub hands : HandsBy w.reading w.came w.is_said old sent mid
   pub before : Lanes
   pub after : Lanes
-  pub changes : AreMade w.changes (serving_side mid before) (serving_side new after)
+  pub made : OneIsMade w.made (serving_side mid before) (serving_side new after)
 
 -- and in turns one after another
 abbrev pub AllFollow : List Words → Held → List (List Request) → Held → Type 0
@@ -61,10 +61,10 @@ AllFollow [] old sent new = (sent ≡ []) × (new ≡ old)
 AllFollow (w ∷ rest) old [] new = ⊥
 AllFollow (w ∷ rest) old (s ∷ later) new = (mid : Held) × (TurnFollowsWords w old s mid × AllFollow rest mid later new)
 
--- words that a turn heard: its readings and its changes
+-- words that a turn heard: its readings and its change
 pub record AreWordsOf (t : ServingTurn) (w : Words) : Type 0 where
   pub reading : w.reading ≡ t.reading
-  pub changes : w.changes ≡ t.changes
+  pub made : w.made ≡ t.made
 
 abbrev pub AllAreWordsOf : List ServingTurn → List Words → Type 0
 AllAreWordsOf [] [] = Unit {0}

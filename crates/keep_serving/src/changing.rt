@@ -1,13 +1,12 @@
 //! A change is made.
-ghost use Rattle.std.specs.Prelude.{◌≡◌, ◌≤◌, List, Result, length};
+ghost use Rattle.std.specs.Prelude.{◌≡◌, Option, Result};
 ghost use Rattle.keep_agent.specs.Turns.{AgentTurn};
-ghost use Rattle.keep_serving.specs.Changes.{AllGiven, AreMade, ChangeIsMade, MadeChange, changes_of};
+ghost use Rattle.keep_serving.specs.Changes.{AllGiven, ChangeIsMade, MadeChange, OneIsMade, given_by, is_one_made};
 ghost use Rattle.keep_serving.specs.Held.{serving_side};
-ghost use Rattle.keep_serving.specs.Neighbours.{AllCalled, calls_of_change};
+ghost use Rattle.keep_serving.specs.Neighbours.{AllCalled, calls_for_change};
 ghost use Rattle.keep_serving.specs.declared.change.Change.TheVariants.{Serve};
 ghost use Rattle.watch_machine.specs.declared.command.Output.{Output};
 ghost use Rattle.watch_machine.specs.declared.fault.WatchFault.{WatchFault};
-ghost use Rattle.keep_serving.specs.Turns.{is_some_made};
 
 use crate::change::Change;
 use crate::neighbours::Neighbours;
@@ -30,7 +29,7 @@ impl Serving {
         lanes: &mut L,
         neighbours: &mut N,
     ) -> bool
-        ensures made { (made : List MadeChange) × ((AreMade made (serving_side self.old (⟦<L as SeenLanes>⟧.seen lanes.old)) (serving_side self.new (⟦<L as SeenLanes>⟧.seen lanes.new))) × ((length made ≤ 1) × ((result ≡ is_some_made made) × (AllGiven (changes_of made) (N.given neighbours.old) (N.given neighbours.new) × AllCalled N.does (calls_of_change made) neighbours.old neighbours.new)))) }
+        ensures made { (made : Option MadeChange) × ((OneIsMade made (serving_side self.old (⟦<L as SeenLanes>⟧.seen lanes.old)) (serving_side self.new (⟦<L as SeenLanes>⟧.seen lanes.new))) × ((result ≡ is_one_made made) × (AllGiven (given_by made) (N.given neighbours.old) (N.given neighbours.new) × AllCalled N.does (calls_for_change made) neighbours.old neighbours.new))) }
         ensures width { L.width lanes.new ≡ L.width lanes.old }
         ensures port { L.host_port lanes.new ≡ L.host_port lanes.old }
     {

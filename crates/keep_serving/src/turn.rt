@@ -1,7 +1,7 @@
 //! One turn: the time is handed in, a change is taken, and one wait follows.
 ghost use Rattle.std.specs.Prelude.{◌≡◌, ◌+◌, ◌||◌, [], Some, is_ok, length};
 ghost use Rattle.keep_clock.specs.Seen.{AllMade};
-ghost use Rattle.keep_serving.specs.Changes.{AllGiven, changes_of};
+ghost use Rattle.keep_serving.specs.Changes.{AllGiven, given_by};
 ghost use Rattle.keep_serving.specs.Held.{IsInStep, serving_side};
 ghost use Rattle.keep_serving.specs.Neighbours.{AllCalled, AnswersAreHeardOf, AreCalled, heard_of_want};
 ghost use Rattle.keep_serving.specs.Stages.{Commands, HandsInAnswers, LeftOverGoesFirst, OnHeld, TakesAnswers, TakesUp, Then};
@@ -30,7 +30,7 @@ impl Serving {
         neighbours: &mut N,
     )
         requires in_step { IsInStep (L.width lanes.old) (L.out lanes.old) self.old }
-        ensures turn { (t : ServingTurn) × (IsServingTurn (L.host_port lanes.old) (serving_side self.old (⟦<L as SeenLanes>⟧.seen lanes.old)) t (serving_side self.new (⟦<L as SeenLanes>⟧.seen lanes.new)) × (AllMade (calls_of_turn t) (C.seen clock.old) (C.seen clock.new) × (AllGiven (changes_of t.changes) (N.given neighbours.old) (N.given neighbours.new) × AreCalled N.does (L.width lanes.old) t neighbours.old neighbours.new))) }
+        ensures turn { (t : ServingTurn) × (IsServingTurn (L.host_port lanes.old) (serving_side self.old (⟦<L as SeenLanes>⟧.seen lanes.old)) t (serving_side self.new (⟦<L as SeenLanes>⟧.seen lanes.new)) × (AllMade (calls_of_turn t) (C.seen clock.old) (C.seen clock.new) × (AllGiven (given_by t.made) (N.given neighbours.old) (N.given neighbours.new) × AreCalled N.does (L.width lanes.old) t neighbours.old neighbours.new))) }
         ensures in_step { IsInStep (L.width lanes.new) (L.out lanes.new) self.new }
         ensures width { L.width lanes.new ≡ L.width lanes.old }
         ensures port { L.host_port lanes.new ≡ L.host_port lanes.old }
@@ -53,7 +53,7 @@ impl Serving {
         neighbours: &mut N,
     ) -> u64
         requires in_step { IsInStep (L.width lanes.old) (L.out lanes.old) self.old }
-        ensures turn { (t : ServingTurn) × ((t.reading ≡ Some reading) × ((t.millis ≡ result) × (IsServingTurn (L.host_port lanes.old) (serving_side self.old (⟦<L as SeenLanes>⟧.seen lanes.old)) t (serving_side self.new (⟦<L as SeenLanes>⟧.seen lanes.new)) × (AllGiven (changes_of t.changes) (N.given neighbours.old) (N.given neighbours.new) × AreCalled N.does (L.width lanes.old) t neighbours.old neighbours.new)))) }
+        ensures turn { (t : ServingTurn) × ((t.reading ≡ Some reading) × ((t.millis ≡ result) × (IsServingTurn (L.host_port lanes.old) (serving_side self.old (⟦<L as SeenLanes>⟧.seen lanes.old)) t (serving_side self.new (⟦<L as SeenLanes>⟧.seen lanes.new)) × (AllGiven (given_by t.made) (N.given neighbours.old) (N.given neighbours.new) × AreCalled N.does (L.width lanes.old) t neighbours.old neighbours.new)))) }
         ensures in_step { IsInStep (L.width lanes.new) (L.out lanes.new) self.new }
         ensures width { L.width lanes.new ≡ L.width lanes.old }
         ensures port { L.host_port lanes.new ≡ L.host_port lanes.old }

@@ -3,8 +3,8 @@
 use Rattle.std.specs.Prelude.{◌≡◌, ℕ, List, [], ◌∷◌, Option, Some, None}
 use Rattle.keep_clock.specs.Seen.{read_call}
 use Rattle.keep_clock.specs.declared.reading.Reading.{Reading}
-use Rattle.keep_serving.specs.Apart.{Ending, EndsBy, IsPause, Pause, called_at, called_in, clocked_at, given_at, given_by}
-use Rattle.keep_serving.specs.Changes.{AllGiven}
+use Rattle.keep_serving.specs.Apart.{Ending, EndsBy, IsPause, Pause, called_at, called_in, clocked_at, given_at}
+use Rattle.keep_serving.specs.Changes.{AllGiven, given_by}
 use Rattle.keep_serving.specs.Held.{ServingSide}
 use Rattle.keep_serving.specs.Neighbours.{AllCalled, NeighbourCall}
 use Rattle.keep_serving.specs.declared.change.Change.{Change}

@@ -1,36 +1,27 @@
 -- A change is made, or there was none.
-use Rattle.std.proofs.Common.{◌∷◌, List, Option, Some, None, [], arith, refl, subst, sym}
-use Rattle.keep_asking.specs.Sending.{Lanes, lanes_of}
-use Rattle.keep_serving.specs.Changes.{AllGiven, MadeChange}
-use Rattle.keep_serving.specs.Held.{serving_side}
+use Rattle.std.proofs.Common.{◌∷◌, List, Option, Some, None, [], refl, subst, sym}
+use Rattle.keep_serving.specs.Changes.{AllGiven}
 use Rattle.keep_serving.specs.Neighbours.{Give, Settle}
 use Rattle.keep_serving.specs.declared.change.Change.{Change}
 use Rattle.keep_serving.proofs.Called.{called_once, called_twice}
-use Rattle.keep_serving.proofs.Changed.{one_made, or_none}
 use Rattle.keep_serving.proofs.serving.Serving.make_change.Goals as goal
 
 pub returns-clause-made : goal.returns-clause-made
 returns-clause-made g c =
-    let old : Lanes = lanes_of (g.L.Lanes.behind c.args.lanes.now) (g.L.Lanes.out c.args.lanes.now) (g.L.Lanes.seconds c.args.lanes.now) in
-    let new : Lanes = lanes_of (g.L.Lanes.behind c.make-is_made.new.lanes) (g.L.Lanes.out c.make-is_made.new.lanes) (g.L.Lanes.seconds c.make-is_made.new.lanes) in
     let change = c.in-Some.change in
     let is_made = c.make-is_made.result in
-    let m : MadeChange = record { change = change; is_made = is_made } in
     let given : AllGiven (change ∷ []) (g.N.Neighbours.given c.args.neighbours.now) (g.N.Neighbours.given c.settle.new.self) =
     subst (λ (x : Option (List Change)). AllGiven (change ∷ []) (g.N.Neighbours.given c.args.neighbours.now) x) (sym c.settle.ensures.given) c.in-Some.ensures.given in (
-      m ∷ [],
+      Some (record { change = change; is_made = is_made }),
       (
-        one_made change is_made (serving_side c.args.self.now old) (serving_side c.make-is_made.new.self new) c.make-is_made.ensures.made,
+        c.make-is_made.ensures.made,
         (
-          omega arith,
-          (
-            or_none is_made,
-            (given, called_twice g.N.Neighbours.does (Give (Some change)) (Settle is_made) c.args.neighbours.now c.change.new.self c.settle.new.self c.in-Some.ensures.does c.settle.ensures.does),
-          ),
+          refl,
+          (given, called_twice g.N.Neighbours.does (Give (Some change)) (Settle is_made) c.args.neighbours.now c.change.new.self c.settle.new.self c.in-Some.ensures.does c.settle.ensures.does),
         ),
       ),
     )
 
 pub returns-in_default-clause-made : goal.returns-in_default-clause-made
 returns-in_default-clause-made g c =
-    ([], (refl, (omega arith, (refl, (c.in_default.ensures.given, called_once g.N.Neighbours.does (Give None) c.args.neighbours.now c.change.new.self c.in_default.ensures.does)))))
+    (None, (refl, (refl, (c.in_default.ensures.given, called_once g.N.Neighbours.does (Give None) c.args.neighbours.now c.change.new.self c.in_default.ensures.does))))

@@ -1,10 +1,10 @@
--- The time was handed in, and then changes were made.
+-- The time was handed in, and then a change was made.
 use Rattle.std.proofs.Common.{◌≡◌, ◌∙◌, ◌++◌, ◌∷◌, ◌||◌, Some, ap, is_ok, refl, subst, sym}
 use Rattle.keep_asking.specs.Sending.{Lanes, lanes_of}
-use Rattle.keep_serving.specs.Changes.{AllGiven, changes_of}
+use Rattle.keep_serving.specs.Changes.{AllGiven, given_by, is_one_made}
 use Rattle.keep_serving.specs.Held.{Held, IsInStep, serving_side}
-use Rattle.keep_serving.specs.Neighbours.{AllCalled, GoOn, calls_of_change, calls_of_hearing, heard_of_want}
-use Rattle.keep_serving.specs.Turns.{is_some_made, turn_wait_by}
+use Rattle.keep_serving.specs.Neighbours.{AllCalled, GoOn, calls_for_change, calls_of_hearing, heard_of_want}
+use Rattle.keep_serving.specs.Turns.{turn_wait_by}
 use Rattle.keep_serving.proofs.Called.{called_join}
 use Rattle.keep_serving.proofs.Changed.{made_keeps}
 use Rattle.keep_serving.proofs.Staged.{goes_keeps}
@@ -25,27 +25,27 @@ returns-clause-turn g c =
     let heard = c.hand_in.ensures.heard in
     let told : AllCalled g.N.Neighbours.does (heard_of_want whole) c.hand_in.new.neighbours c.tell_want.new.neighbours =
     subst (λ w. AllCalled g.N.Neighbours.does (heard_of_want w) c.hand_in.new.neighbours c.tell_want.new.neighbours) c.is_ok-is_whole.ensures.value c.tell_want.ensures.heard in
-    let waits : c.wait_of.result ≡ turn_wait_by (is_some_made made.0 || busy) whole held.until due (Some r) =
-    c.wait_of.ensures ∙ ap (λ b. turn_wait_by (b || busy) c.is_ok-is_whole.result c.self-2.inside.until due (Some r)) made.1.1.1.0
-    ∙ ap (λ w. turn_wait_by (is_some_made made.0 || busy) w c.self-2.inside.until due (Some r)) c.is_ok-is_whole.ensures.value
-    ∙ ap (λ (h : Held). turn_wait_by (is_some_made made.0 || busy) whole h.until due (Some r)) c.self-2.view_is in (
+    let waits : c.wait_of.result ≡ turn_wait_by (is_one_made made.0 || busy) whole held.until due (Some r) =
+    c.wait_of.ensures ∙ ap (λ b. turn_wait_by (b || busy) c.is_ok-is_whole.result c.self-2.inside.until due (Some r)) made.1.1.0
+    ∙ ap (λ w. turn_wait_by (is_one_made made.0 || busy) w c.self-2.inside.until due (Some r)) c.is_ok-is_whole.ensures.value
+    ∙ ap (λ (h : Held). turn_wait_by (is_one_made made.0 || busy) whole h.until due (Some r)) c.self-2.view_is in (
       turned r whole made.0 busy due c.wait_of.result,
       (
         refl,
         (
           refl,
           (
-            whole_turn (g.L.Lanes.host_port c.args.lanes.now) r whole busy made.0 due c.wait_of.result (serving_side c.args.self.now old) (serving_side c.hand_in.new.self mid) (serving_side held new) c.hand_in.ensures.goes made.1.0 made.1.1.0 waits,
+            whole_turn (g.L.Lanes.host_port c.args.lanes.now) r whole busy made.0 due c.wait_of.result (serving_side c.args.self.now old) (serving_side c.hand_in.new.self mid) (serving_side held new) c.hand_in.ensures.goes made.1.0 waits,
             (
-              subst (λ a. AllGiven (changes_of made.0) a (g.N.Neighbours.given c.make_change-is_changed.new.neighbours)) (c.go_on-is_busy.ensures.given ∙ c.tell_want.ensures.given ∙ c.hand_in.ensures.given) made.1.1.1.1.0,
+              subst (λ a. AllGiven (given_by made.0) a (g.N.Neighbours.given c.make_change-is_changed.new.neighbours)) (c.go_on-is_busy.ensures.given ∙ c.tell_want.ensures.given ∙ c.hand_in.ensures.given) made.1.1.1.0,
               record {
                 answers = heard.answers;
                 few = heard.few;
                 is_handed = heard.is_handed;
                 whole = heard.whole;
-                called = called_join g.N.Neighbours.does (calls_of_hearing heard.answers heard.is_handed) (heard_of_want whole ++ GoOn busy ∷ calls_of_change made.0) c.args.neighbours.now c.hand_in.new.neighbours c.make_change-is_changed.new.neighbours heard.called
-                    (called_join g.N.Neighbours.does (heard_of_want whole) (GoOn busy ∷ calls_of_change made.0) c.hand_in.new.neighbours c.tell_want.new.neighbours c.make_change-is_changed.new.neighbours told
-                    (c.go_on-is_busy.new.self, (c.go_on-is_busy.ensures.does, made.1.1.1.1.1)));
+                called = called_join g.N.Neighbours.does (calls_of_hearing heard.answers heard.is_handed) (heard_of_want whole ++ GoOn busy ∷ calls_for_change made.0) c.args.neighbours.now c.hand_in.new.neighbours c.make_change-is_changed.new.neighbours heard.called
+                    (called_join g.N.Neighbours.does (heard_of_want whole) (GoOn busy ∷ calls_for_change made.0) c.hand_in.new.neighbours c.tell_want.new.neighbours c.make_change-is_changed.new.neighbours told
+                    (c.go_on-is_busy.new.self, (c.go_on-is_busy.ensures.does, made.1.1.1.1)));
               },
             ),
           ),
