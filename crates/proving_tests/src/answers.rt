@@ -3,7 +3,7 @@ use keep_inventory::read;
 use keep_lanes::Loss;
 use keep_moment::Text;
 use keep_proving::{Candidate, Verdict, verdict_on};
-use std::alloc::Global;
+use std::alloc::{AllocError, Global};
 use std::process::Abort;
 use std::test::Fail;
 use vault_http::{DatedReply, Reply};
@@ -44,7 +44,7 @@ const ANSWERS: [(&str, u32, u16, &str, Verdict); 9] = [
     (LEASE, 1, 200, OTHERS, Verdict::Missing(Loss::Reply)),
 ];
 
-fn reply(alloc: Global, status: u16, body: &str) -> Result<DatedReply, Fail> {
+fn reply(alloc: Global, status: u16, body: &str) -> Result<DatedReply, AllocError> {
     Ok(DatedReply {
         reply: Reply {
             status,
@@ -54,39 +54,67 @@ fn reply(alloc: Global, status: u16, body: &str) -> Result<DatedReply, Fail> {
     })
 }
 
-fn verdict(
+/// Whether this is the verdict on a credential by that answer.
+fn is_said(
+    alloc: Global,
+    candidate: &Candidate,
+    answer: &Result<DatedReply, Loss>,
+    verdict: Verdict,
+) -> Result<bool, AllocError> {
+    if candidate.entry >= candidate.inventory.forest().len() {
+        return Ok(false);
+    }
+    Ok(verdict_on(alloc, candidate, answer)? == verdict)
+}
+
+/// The same of the entry at an index of this inventory.
+fn is_said_in(
     alloc: Global,
     text: &str,
     entry: u32,
-    answer: Result<DatedReply, Loss>,
-) -> Result<Verdict, Fail> {
+    answer: &Result<DatedReply, Loss>,
+    verdict: Verdict,
+) -> Result<bool, Fail> {
     let inventory = read(alloc, text.as_bytes())?;
-    if entry >= inventory.forest().len() {
-        return Err("an entry".into());
-    }
     let candidate = Candidate { inventory, entry };
-    Ok(verdict_on(alloc, &candidate, &answer)?)
+    Ok(is_said(alloc, &candidate, answer, verdict)?)
+}
+
+/// Whether it is the verdict by a reply of this status and this body.
+fn is_that_of(
+    alloc: Global,
+    text: &str,
+    entry: u32,
+    status: u16,
+    body: &str,
+    verdict: Verdict,
+) -> Result<bool, Fail> {
+    let answer = Ok(reply(alloc, status, body)?);
+    is_said_in(alloc, text, entry, &answer, verdict)
 }
 
 #[test]
 fn a_verdict_is_that_of_the_reply(rt: HostRuntime) -> Result<(), Fail> {
-    let alloc = rt.alloc();
-    for (text, entry, status, body, wanted) in &ANSWERS {
-        let answer = Ok(reply(alloc, *status, body)?);
+    for (text, entry, status, body, verdict) in &ANSWERS {
         assert!(rt;
-            verdict(alloc, text, *entry, answer)? == *wanted,
+            is_that_of(rt.alloc(), text, *entry, *status, body, *verdict)?,
             "{status} {body}"
         );
     }
     Ok(())
 }
 
+const LOSSES: [Loss; 4] = [Loss::Connect, Loss::Timeout, Loss::Closed, Loss::Reply];
+
+/// Whether a loss gives the verdict that names it.
+fn is_kept(alloc: Global, loss: Loss) -> Result<bool, Fail> {
+    is_said_in(alloc, LEASE, 1, &Err(loss), Verdict::Missing(loss))
+}
+
 #[test]
 fn a_loss_keeps_its_reason(rt: HostRuntime) -> Result<(), Fail> {
-    let alloc = rt.alloc();
-    for loss in &[Loss::Connect, Loss::Timeout, Loss::Closed, Loss::Reply] {
-        let verdict = verdict(alloc, LEASE, 1, Err(*loss))?;
-        assert!(rt; verdict == Verdict::Missing(*loss), "{loss}");
+    for loss in &LOSSES {
+        assert!(rt; is_kept(rt.alloc(), *loss)?, "{loss}");
     }
     Ok(())
 }
