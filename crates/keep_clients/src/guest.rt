@@ -1,13 +1,14 @@
 //! One guest, and what it becomes by one call of its connection.
-ghost use Rattle.std.specs.Prelude.{◌≡◌, ◌++◌, ◌<◌, ◌≤◌, [], OnErr, OnOk, drop, length, take, vec_len};
-ghost use Rattle.keep_clients.specs.Guests.{AddsFront, FeedsOn, GuestGoesOn, GuestIsFed, GuestIsLost, GuestIsWrittenTo, IsListenedTo, IsReadOn, IsToldOn, IsWrittenOn, can_go_on, count, newcomer};
+ghost use Rattle.std.specs.Prelude.{◌≡◌, ◌++◌, ◌<◌, ◌≤◌, [], OnErr, OnOk, drop, length, take};
+ghost use Rattle.keep_clients.specs.Guests.{FeedsOn, GuestGoesOn, GuestIsFed, GuestIsLost, GuestIsWrittenTo, IsListenedTo, IsReadOn, IsToldOn, IsWrittenOn, can_go_on, count, newcomer};
 ghost use Rattle.keep_clients.specs.Tables.{TakesFrom, following, guest_answered};
 ghost use Rattle.keep_clients.specs.declared.stage.Stage.TheVariants.{Over};
 
 use crate::clients::Request;
 use crate::fed::Fed;
 use crate::framing::Framing;
-use crate::limits::{MOST_PIECE, PATIENCE};
+use crate::left::Left;
+use crate::limits::PATIENCE;
 use crate::stage::{Stage, count, has_waited, heard_to, moved_by, read_to, told_to, written_to};
 use crate::talk::Talk;
 use keep_device::Tried;
@@ -62,7 +63,7 @@ impl<T> Guest<T> {
     pub(crate) fn set_answer(&mut self, answer: Vec<u8>, now: u64)
         ensures { self.new ≡ guest_answered now answer.items self.old }
     {
-        self.stage = Stage::Answering(Text::from_vec(answer));
+        self.stage = Stage::Answering(Left::of(answer));
         self.by = now.saturating_add(PATIENCE);
         self.moved = now;
         self.waits = false;
@@ -72,7 +73,7 @@ impl<T> Guest<T> {
     pub(crate) fn set_following(&mut self, answer: Vec<u8>)
         ensures { self.new ≡ following answer.items self.old }
     {
-        self.stage = Stage::Following(Text::from_vec(answer));
+        self.stage = Stage::Following(Left::of(answer));
         self.waits = false;
     }
 
@@ -82,7 +83,7 @@ impl<T> Guest<T> {
         ensures { GuestIsFed bytes.now result self.old self.new }
     {
         match mem::replace(&mut self.stage, Stage::Waiting) {
-            Stage::Following(left) => self.feed_on(left.into_vec(), bytes),
+            Stage::Following(left) => self.feed_on(left, bytes),
             stage => {
                 self.stage = stage;
                 Ok(Fed::Gone)
@@ -91,11 +92,11 @@ impl<T> Guest<T> {
     }
 
     /// The same where this is left of what it was given.
-    fn feed_on(&mut self, mut left: Vec<u8>, bytes: &[u8]) -> Result<Fed, AllocError>
-        ensures { FeedsOn bytes.now left.items result self.old self.new }
+    fn feed_on(&mut self, mut left: Left, bytes: &[u8]) -> Result<Fed, AllocError>
+        ensures { FeedsOn bytes.now left result self.old self.new }
     {
-        let fed = add_front(&mut left, bytes);
-        self.stage = Stage::Following(Text::from_vec(left));
+        let fed = left.add_front(bytes);
+        self.stage = Stage::Following(left);
         fed
     }
 
@@ -124,12 +125,12 @@ impl<T: Talk> Guest<T> {
     {
         match mem::replace(&mut self.stage, Stage::Over) {
             Stage::Reading(bytes) => self.read_on(room, framing, most, bytes.into_vec(), now),
-            Stage::Answering(answer) => {
-                self.write_on(answer.into_vec(), now);
+            Stage::Answering(left) => {
+                self.write_on(left, now);
                 Ok(())
             }
             Stage::Following(left) => {
-                self.tell_on(room, left.into_vec(), now);
+                self.tell_on(room, left, now);
                 Ok(())
             }
             stage => {
@@ -165,18 +166,18 @@ impl<T: Talk> Guest<T> {
     }
 
     /// Writes once, where this is left of its answer.
-    fn write_on(&mut self, mut left: Vec<u8>, now: u64)
-        ensures { IsWrittenOn T.remaining T.written T.calls now left.items self.old self.new }
+    fn write_on(&mut self, mut left: Left, now: u64)
+        ensures { IsWrittenOn T.remaining T.written T.calls now left self.old self.new }
     {
         let tried = self.write(&mut left, now);
         self.stage = written_to(tried, left).in_time(now, self.by);
     }
 
     /// Goes on where its answer goes on, and this is left of what it was given. `room` is what a read is offered.
-    fn tell_on(&mut self, room: &mut [u8], mut left: Vec<u8>, now: u64)
+    fn tell_on(&mut self, room: &mut [u8], mut left: Left, now: u64)
         requires { length room.old ≡ 4096 }
         ensures room { length room.new ≡ 4096 }
-        ensures on { IsToldOn T.remaining T.written T.calls now left.items self.old self.new }
+        ensures on { IsToldOn T.remaining T.written T.calls now left self.old self.new }
     {
         if left.is_empty() {
             self.listen(room, left);
@@ -187,8 +188,8 @@ impl<T: Talk> Guest<T> {
     }
 
     /// Reads once, where all that it was given is written: `left` is empty.
-    fn listen(&mut self, room: &mut [u8], left: Vec<u8>)
-        requires { left.items ≡ [] }
+    fn listen(&mut self, room: &mut [u8], left: Left)
+        requires { left ≡ [] }
         ensures room { length room.new ≡ length room.old }
         ensures on { IsListenedTo T.remaining T.written T.calls self.old self.new }
     {
@@ -198,50 +199,16 @@ impl<T: Talk> Guest<T> {
     }
 
     /// Writes once, and takes what was written off the front of what is left.
-    fn write(&mut self, left: &mut Vec<u8>, now: u64) -> Tried
-        ensures rest { left.new.items ≡ drop (count result) left.old.items }
-        ensures written { GuestIsWrittenTo T.remaining T.written T.calls now result self.old.stage left.old.items self.old self.new }
+    fn write(&mut self, left: &mut Left, now: u64) -> Tried
+        ensures rest { left.new ≡ drop (count result) left.old }
+        ensures written { GuestIsWrittenTo T.remaining T.written T.calls now result self.old.stage left.old self.old self.new }
     {
-        let tried = self.talk.give(piece(left));
-        drop_front(left, count(tried));
+        let tried = self.talk.give(left.piece());
+        left.take(count(tried));
         self.moved = moved_by(tried, now, self.moved);
         self.waits = has_waited(tried);
         tried
     }
-}
-
-/// The front of what is left, as much of it as one call is offered.
-fn piece(left: &[u8]) -> &[u8]
-    ensures { result.now ≡ take 4096 left.now }
-{
-    if left.len() <= MOST_PIECE {
-        left
-    } else {
-        &left[..MOST_PIECE]
-    }
-}
-
-/// Adds what one call writes of these bytes, where nothing is left. The only error is out of memory.
-fn add_front(left: &mut Vec<u8>, bytes: &[u8]) -> Result<Fed, AllocError>
-    ensures { AddsFront bytes.now result left.old.items left.new.items }
-{
-    if !left.is_empty() {
-        return Ok(Fed::Full);
-    }
-    let front = piece(bytes);
-    left.reserve(front.len())?;
-    left.extend_from_slice(front).unwrap();
-    Ok(Fed::Taken(front.len()))
-}
-
-/// Takes so many bytes off the front.
-fn drop_front(left: &mut Vec<u8>, count: usize)
-    requires { count ≤ vec_len left.old }
-    ensures { left.new.items ≡ drop count left.old.items }
-{
-    let rest = left.len() - count;
-    left.rotate_left(count);
-    left.truncate(rest);
 }
 
 /// Adds so many bytes from the front of the room.

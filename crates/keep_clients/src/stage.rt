@@ -2,6 +2,7 @@
 ghost use Rattle.std.specs.Prelude.{◌≡◌, option_map};
 ghost use Rattle.keep_clients.specs.Guests.{asked_bytes, count, has_waited, heard_to, in_time, is_following, is_stage_asked, is_stage_busy, is_stage_over, is_waiting, moved_by, read_to, told_to, written_to};
 
+use crate::left::Left;
 use keep_device::Tried;
 use keep_moment::Text;
 
@@ -15,9 +16,9 @@ pub enum Stage {
     /// Its request was taken, and there is no answer yet.
     Waiting,
     /// This has still to be written of its answer.
-    Answering(Text),
+    Answering(Left),
     /// Its answer goes on: this has still to be written of what it was given so far, and more may be given.
-    Following(Text),
+    Following(Left),
     /// Its connection is to be closed.
     Over,
 }
@@ -109,7 +110,7 @@ impl Stage {
     {
         match self {
             Stage::Reading(bytes) if now < by => Stage::Reading(bytes),
-            Stage::Answering(answer) if now < by => Stage::Answering(answer),
+            Stage::Answering(left) if now < by => Stage::Answering(left),
             Stage::Reading(_) | Stage::Answering(_) | Stage::Over => Stage::Over,
             Stage::Asked(bytes) => Stage::Asked(bytes),
             Stage::Waiting => Stage::Waiting,
@@ -133,33 +134,33 @@ pub(crate) fn read_to(tried: Tried, is_whole: bool, most: usize, bytes: Vec<u8>)
 }
 
 /// What a guest becomes by a write, with all that has still to be written of its answer.
-pub(crate) fn written_to(tried: Tried, left: Vec<u8>) -> Stage
-    ensures { result ≡ written_to tried left.items }
+pub(crate) fn written_to(tried: Tried, left: Left) -> Stage
+    ensures { result ≡ written_to tried left }
 {
     match tried {
         Tried::Failed => Stage::Over,
         Tried::Done(_) | Tried::Waits if left.is_empty() => Stage::Over,
-        Tried::Done(_) | Tried::Waits => Stage::Answering(Text::from_vec(left)),
+        Tried::Done(_) | Tried::Waits => Stage::Answering(left),
     }
 }
 
 /// What a guest whose answer goes on becomes by a write, with all that has still to be written of what it was given.
-pub(crate) fn told_to(tried: Tried, left: Vec<u8>) -> Stage
-    ensures { result ≡ told_to tried left.items }
+pub(crate) fn told_to(tried: Tried, left: Left) -> Stage
+    ensures { result ≡ told_to tried left }
 {
     match tried {
         Tried::Failed => Stage::Over,
-        Tried::Done(_) | Tried::Waits => Stage::Following(Text::from_vec(left)),
+        Tried::Done(_) | Tried::Waits => Stage::Following(left),
     }
 }
 
 /// What it becomes by a read, where all that it was given is written: one that sends more, or has gone, is sent away.
-pub(crate) fn heard_to(tried: Tried, left: Vec<u8>) -> Stage
-    ensures { result ≡ heard_to tried left.items }
+pub(crate) fn heard_to(tried: Tried, left: Left) -> Stage
+    ensures { result ≡ heard_to tried left }
 {
     match tried {
         Tried::Done(_) | Tried::Failed => Stage::Over,
-        Tried::Waits => Stage::Following(Text::from_vec(left)),
+        Tried::Waits => Stage::Following(left),
     }
 }
 
