@@ -1,61 +1,110 @@
 //! The commands of a running agent: how the command line has them, and what its words ask.
+use crate::described::{Described, Takes, Value, Word};
 use crate::job::Called;
-use clap::{Arg, ArgAction, ArgMatches, Command};
+use clap::{ArgMatches, Command};
 use keep_calling::Ask;
 use std::alloc::{AllocError, Global};
 
-const NEED_ABOUT: &str = "Changes until when an entry is needed";
-
-const NEED_AFTER: &str = "\
+/// `need NAME WHEN [--control SOCKET]`
+const NEED: Described = Described {
+    name: "need",
+    about: "Changes until when an entry is needed",
+    after: "\
 WHEN is a moment in whole seconds since 1970-01-01T00:00:00Z, a date as 2026-11-22T09:00:00Z, a time from now as +90s, +30m, +6h
 or +2d, or always.
 
 Example:
   leasekeep need app-db +6h
 
-Exit status: 0 done, 1 refused or no answer, 2 command line, 6 write, 7 memory";
+Exit status: 0 done, 1 refused or no answer, 2 command line, 6 write, 7 memory",
+    words: &[
+        CONTROL,
+        NAME,
+        Word {
+            name: "WHEN",
+            takes: Takes::Text,
+            help: "Until when it is needed",
+        },
+    ],
+};
 
-const REPLACE_ABOUT: &str =
-    "Gives an entry a new secret or lease id, which is read from standard input";
-
-const REPLACE_AFTER: &str = "\
+/// `replace NAME [--control SOCKET]`
+const REPLACE: Described = Described {
+    name: "replace",
+    about: "Gives an entry a new secret or lease id, which is read from standard input",
+    after: "\
 Standard input is read to its end; the white space around the credential does not count. It is sent to the agent alone, which
 looks it up at the broker and keeps the old one where the broker refuses it.
 
 Example:
   leasekeep replace app < new-secret
 
-Exit status: 0 done, 1 refused or no answer, 2 command line, 6 read or write, 7 memory";
+Exit status: 0 done, 1 refused or no answer, 2 command line, 6 read or write, 7 memory",
+    words: &[CONTROL, NAME],
+};
 
-const ADD_ABOUT: &str = "Adds the entry whose table is read from standard input";
-
-const ADD_AFTER: &str = "\
+/// `add [--control SOCKET]`
+const ADD: Described = Described {
+    name: "add",
+    about: "Adds the entry whose table is read from standard input",
+    after: "\
 Standard input is one table [[token]] or [[lease]] in TOML, as the inventory has it. It is sent to the agent alone.
 
 Example:
   leasekeep add < job.toml
 
-Exit status: 0 done, 1 refused or no answer, 2 command line, 6 read or write, 7 memory";
+Exit status: 0 done, 1 refused or no answer, 2 command line, 6 read or write, 7 memory",
+    words: &[CONTROL],
+};
 
-const DROP_ABOUT: &str = "Stops keeping an entry";
+/// `drop NAME [--control SOCKET]`
+const DROP: Described = Described {
+    name: "drop",
+    about: "Stops keeping an entry",
+    after: EXITS,
+    words: &[CONTROL, NAME],
+};
 
-const STATUS_ABOUT: &str = "Shows how the agent and each entry stand";
+/// `status [--control SOCKET]`
+const STATUS: Described = Described {
+    name: "status",
+    about: "Shows how the agent and each entry stand",
+    after: EXITS,
+    words: &[CONTROL],
+};
 
-const HEALTH_ABOUT: &str = "Tells whether every needed entry is kept, for health checks";
-
-const HEALTH_AFTER: &str = "\
+/// `health [--control SOCKET]`
+const HEALTH: Described = Described {
+    name: "health",
+    about: "Tells whether every needed entry is kept, for health checks",
+    after: "\
 Prints `every needed entry is kept`, or a line for each entry that is not, and why.
 
-Exit status: 0 all are kept, 1 some are not or no agent answers, 2 command line, 6 write, 7 memory";
+Exit status: 0 all are kept, 1 some are not or no agent answers, 2 command line, 6 write, 7 memory",
+    words: &[CONTROL],
+};
 
-const SETTLE_ABOUT: &str =
-    "Writes the inventory's file, with the changes since it was read, as one new file";
+/// `settle [--control SOCKET]`
+const SETTLE: Described = Described {
+    name: "settle",
+    about: "Writes the inventory's file, with the changes since it was read, as one new file",
+    after: EXITS,
+    words: &[CONTROL],
+};
 
-const RELOAD_ABOUT: &str = "Has the agent read the inventory's file again";
+/// `reload [--control SOCKET]`
+const RELOAD: Described = Described {
+    name: "reload",
+    about: "Has the agent read the inventory's file again",
+    after: EXITS,
+    words: &[CONTROL],
+};
 
-const FOLLOW_ABOUT: &str = "Shows the agent's log as it comes";
-
-const FOLLOW_AFTER: &str = "\
+/// `follow [--control SOCKET] [--alerts]`
+const FOLLOW: Described = Described {
+    name: "follow",
+    about: "Shows the agent's log as it comes",
+    after: "\
 Shows each line that the agent says from now on, until the agent ends or the command is ended. Lines that it does not read in time
 are dropped, and `warning: log dropped N lines` stands in their place. At most 8 clients follow at a time.
 
@@ -63,37 +112,46 @@ Examples:
   leasekeep follow
   leasekeep follow --alerts | while read -r line; do logger -p user.err \"$line\"; done
 
-Exit status: 0 the agent ended, 1 refused or no answer, 2 command line, 6 write, 7 memory";
-
-const ALERTS_HELP: &str = "Warnings and alerts alone";
+Exit status: 0 the agent ended, 1 refused or no answer, 2 command line, 6 write, 7 memory",
+    words: &[
+        CONTROL,
+        Word {
+            name: "alerts",
+            takes: Takes::Flag,
+            help: "Warnings and alerts alone",
+        },
+    ],
+};
 
 const EXITS: &str =
     "Exit status: 0 done, 1 refused or no answer, 2 command line, 6 write, 7 memory";
 
-const CONTROL_HELP: &str = "\
-The agent's control socket [default: control.sock in $RUNTIME_DIRECTORY, else in $XDG_RUNTIME_DIR/leasekeep, else in /run/leasekeep]";
+/// The agent's socket, which each of them may name.
+const CONTROL: Word = Word {
+    name: "control",
+    takes: Takes::Option("SOCKET", Value::Text),
+    help: "\
+The agent's control socket [default: control.sock in $RUNTIME_DIRECTORY, else in $XDG_RUNTIME_DIR/leasekeep, else in /run/leasekeep]",
+};
 
-/// A command line that also takes the commands of a running agent.
-pub fn with_calls<'a>(alloc: Global, program: Command<'a>) -> Result<Command<'a>, AllocError> {
-    program
-        .subcommand(
-            command(alloc, "need", NEED_ABOUT, NEED_AFTER)?
-                .arg(entry(alloc))?
-                .arg(word(alloc, "WHEN", "Until when it is needed"))?,
-        )?
-        .subcommand(command(alloc, "replace", REPLACE_ABOUT, REPLACE_AFTER)?.arg(entry(alloc))?)?
-        .subcommand(command(alloc, "add", ADD_ABOUT, ADD_AFTER)?)?
-        .subcommand(command(alloc, "drop", DROP_ABOUT, EXITS)?.arg(entry(alloc))?)?
-        .subcommand(command(alloc, "status", STATUS_ABOUT, EXITS)?)?
-        .subcommand(command(alloc, "health", HEALTH_ABOUT, HEALTH_AFTER)?)?
-        .subcommand(command(alloc, "settle", SETTLE_ABOUT, EXITS)?)?
-        .subcommand(command(alloc, "reload", RELOAD_ABOUT, EXITS)?)?
-        .subcommand(command(alloc, "follow", FOLLOW_ABOUT, FOLLOW_AFTER)?.arg(
-            Arg::new(alloc, "alerts")
-                .long("alerts")
-                .help(ALERTS_HELP)
-                .action(ArgAction::SetTrue),
-        )?)
+/// The name of an entry.
+const NAME: Word = Word {
+    name: "NAME",
+    takes: Takes::Text,
+    help: "The entry",
+};
+
+/// Appends the commands of a running agent.
+pub fn add_calls<'a>(alloc: Global, commands: &mut Vec<Command<'a>>) -> Result<(), AllocError> {
+    NEED.add_to(alloc, commands)?;
+    REPLACE.add_to(alloc, commands)?;
+    ADD.add_to(alloc, commands)?;
+    DROP.add_to(alloc, commands)?;
+    STATUS.add_to(alloc, commands)?;
+    HEALTH.add_to(alloc, commands)?;
+    SETTLE.add_to(alloc, commands)?;
+    RELOAD.add_to(alloc, commands)?;
+    FOLLOW.add_to(alloc, commands)
 }
 
 /// What is asked of a running agent, if this command asks something of one. `None` also where one of its words is not there, which
@@ -127,32 +185,4 @@ fn ask<'a>(command: &str, matches: &ArgMatches<'a>) -> Option<Ask<'a>> {
         }),
         _ => None,
     }
-}
-
-// A command that may name the agent's socket.
-fn command<'a>(
-    alloc: Global,
-    name: &'a str,
-    about: &'a str,
-    after: &'a str,
-) -> Result<Command<'a>, AllocError> {
-    Command::new(alloc, name).about(about).after_help(after).arg(
-        Arg::new(alloc, "control")
-            .long("control")
-            .value_name("SOCKET")
-            .help(CONTROL_HELP),
-    )
-}
-
-// The name of an entry.
-fn entry<'a>(alloc: Global) -> Arg<'a> {
-    word(alloc, "NAME", "The entry")
-}
-
-// A word that has to be there.
-fn word<'a>(alloc: Global, name: &'a str, help: &'a str) -> Arg<'a> {
-    Arg::new(alloc, name)
-        .help(help)
-        .required(true)
-        .action(ArgAction::Set)
 }

@@ -5,6 +5,7 @@
 #![tactic(auto)]
 
 mod call_commands;
+mod described;
 mod job;
 mod parser;
 mod words;

@@ -1,29 +1,42 @@
-use crate::call_commands::with_calls;
+//! What the command line takes, and its help.
+use crate::call_commands::add_calls;
+use crate::described::{Described, Takes, Value, Word};
 use clap::error::ErrorKind;
-use clap::{Arg, ArgAction, ArgMatches, Command, Error};
+use clap::{ArgMatches, Command, Error};
 use keep_engine::{LIMIT, PROGRAM};
-use keep_moment::LAST;
 use std::alloc::{AllocError, Global};
 use watch_machine::WIDTH_MAX;
 
 const ABOUT: &str = "Keeps Vault tokens and leases alive with the fewest wake-ups.";
 
-const ENDS_ABOUT: &str =
-    "Shows when each entry ends if all are asked to renew at each moment, and whether every need is kept";
-
-const ENDS_AFTER: &str = "\
+/// `ends FILE START [MOMENT..]`
+const ENDS: Described = Described {
+    name: "ends",
+    about: "Shows when each entry ends if all are asked to renew at each moment, and whether every need is kept",
+    after: "\
 The inventory is a TOML document. docs/inventory.md describes its keys and what each fault means.
 Moments are whole seconds since 1970-01-01T00:00:00Z; $(date +%s) is now.
 
 Example:
   leasekeep ends web.toml 1000 1059 1118 1177
 
-Exit status: 0 done, 1 inventory, 2 command line or moments, 6 read or write, 7 memory";
+Exit status: 0 done, 1 inventory, 2 command line or moments, 6 read or write, 7 memory",
+    words: &[
+        FILE,
+        START,
+        Word {
+            name: "MOMENT",
+            takes: Takes::Moments,
+            help: "A moment at which every entry is asked to be renewed",
+        },
+    ],
+};
 
-const PLAN_ABOUT: &str =
-    "Plans the fewest wake-ups that keep every need, each as late as possible, and prints them as a certificate";
-
-const PLAN_AFTER: &str = "\
+/// `plan FILE START [--dates]`
+const PLAN: Described = Described {
+    name: "plan",
+    about: "Plans the fewest wake-ups that keep every need, each as late as possible, and prints them as a certificate",
+    after: "\
 A line `run FIRST STEP COUNT ENTRY NEEDED` stands for COUNT wake-ups, the first at FIRST, STEP seconds apart. No plan can put
 any of them off: without it ENTRY would end while NEEDED still needs it. docs/certificate.md describes the whole text.
 
@@ -34,12 +47,23 @@ Examples:
   leasekeep plan web.toml 1000 > web.plan
   leasekeep plan --dates web.toml $(date +%s)
 
-Exit status: 0 done, 1 inventory, 2 command line, 3 unkeepable, 5 more than 10000000 wake-ups, 6 read or write, 7 memory";
+Exit status: 0 done, 1 inventory, 2 command line, 3 unkeepable, 5 more than 10000000 wake-ups, 6 read or write, 7 memory",
+    words: &[
+        FILE,
+        START,
+        Word {
+            name: "dates",
+            takes: Takes::Flag,
+            help: "Shows the plan to people, with moments as RFC 3339 dates: `check` does not read that",
+        },
+    ],
+};
 
-const MARGIN_ABOUT: &str =
-    "Shows the widest margin that takes no more wake-ups: the longest outage that you survive for the same cost";
-
-const MARGIN_AFTER: &str = "\
+/// `margin FILE START [WAKES] [--renewed]`
+const MARGIN: Described = Described {
+    name: "margin",
+    about: "Shows the widest margin that takes no more wake-ups: the longest outage that you survive for the same cost",
+    after: "\
 Each line is `MARGIN WAKES`: a margin in seconds, and the fewest wake-ups with it. Without WAKES the first line has the
 inventory's own margin, and the second the widest margin that takes no more wake-ups. With WAKES there is one line: the widest
 margin with which so many are enough. A margin is 1 to 3600 seconds, and less than each increment and period.
@@ -55,11 +79,28 @@ Example:
   leasekeep margin --renewed web.toml $(date +%s)
 
 Exit status: 0 done, 1 inventory, 2 command line, 3 unkeepable or none, 5 more than 10000000 wake-ups, 6 read or write,
-7 memory";
+7 memory",
+    words: &[
+        FILE,
+        START,
+        Word {
+            name: "WAKES",
+            takes: Takes::NumberUpTo(LIMIT as i64),
+            help: "How many wake-ups may be spent; as many as with the inventory's own margin unless given",
+        },
+        Word {
+            name: "renewed",
+            takes: Takes::Flag,
+            help: "Asks every entry once at START first, and answers for the ends that this leaves",
+        },
+    ],
+};
 
-const REACH_ABOUT: &str = "Shows how long each entry can live, and whether every need can be kept";
-
-const REACH_AFTER: &str = "\
+/// `reach FILE START [--dates]`
+const REACH: Described = Described {
+    name: "reach",
+    about: "Shows how long each entry can live, and whether every need can be kept",
+    after: "\
 Each entry has a line `NAME UNTIL BY NEED`. UNTIL is the moment at which it ends at the latest, `always` if nothing limits it.
 BY is the entry whose ceiling or end that is: the entry itself, or a token over it. NEED is the moment until which it is needed,
 0 if it is not. The last line is `keeps yes` if some plan from START on keeps every entry until its need, else `keeps no`.
@@ -67,12 +108,23 @@ BY is the entry whose ceiling or end that is: the entry itself, or a token over 
 Example:
   leasekeep reach web.toml 1000
 
-Exit status: 0 done, 1 inventory, 2 command line, 6 read or write, 7 memory";
+Exit status: 0 done, 1 inventory, 2 command line, 6 read or write, 7 memory",
+    words: &[
+        FILE,
+        START,
+        Word {
+            name: "dates",
+            takes: Takes::Flag,
+            help: "Shows moments as RFC 3339 dates where they have one",
+        },
+    ],
+};
 
-const REHEARSE_ABOUT: &str =
-    "Plays an inventory against a broker in memory, with faults if you like, and shows what happens";
-
-const REHEARSE_AFTER: &str = "\
+/// `rehearse FILE START [FAULT..]`
+const REHEARSE: Described = Described {
+    name: "rehearse",
+    about: "Plays an inventory against a broker in memory, with faults if you like, and shows what happens",
+    after: "\
 A FAULT word says what goes wrong with renewal request number K: `K=short:SECONDS` grants it that many seconds at most,
 `K=drop` loses its reply, `K=deny` refuses it.
 
@@ -83,11 +135,23 @@ keeps the need of NAME any more, and until when it is kept. The last line is `do
 Example:
   leasekeep rehearse web.toml 1000 1=drop
 
-Exit status: 0 done, 1 inventory, 2 command line or FAULT words, 5 more than 100000 wake-ups, 6 read or write, 7 memory";
+Exit status: 0 done, 1 inventory, 2 command line or FAULT words, 5 more than 100000 wake-ups, 6 read or write, 7 memory",
+    words: &[
+        FILE,
+        START,
+        Word {
+            name: "FAULT",
+            takes: Takes::Texts,
+            help: "What goes wrong with a renewal request: K=short:SECONDS, K=drop or K=deny",
+        },
+    ],
+};
 
-const CHECK_ABOUT: &str = "Judges a certificate against an inventory, whoever wrote it";
-
-const CHECK_AFTER: &str = "\
+/// `check FILE CERT [START]`
+const CHECK: Described = Described {
+    name: "check",
+    about: "Judges a certificate against an inventory, whoever wrote it",
+    after: "\
 Prints `yes` if what the certificate claims is true: you need not trust the planner. Otherwise prints `no` with the first test
 that fails, or `unreadable` with the fault of the first faulty line. A certificate is true from its own start on: give START to
 have one from any other start answered `no start`.
@@ -95,12 +159,27 @@ have one from any other start answered `no start`.
 Example:
   leasekeep check web.toml web.plan 1000
 
-Exit status: 0 yes, 1 inventory, 2 command line, 4 no or unreadable, 6 read or write, 7 memory";
+Exit status: 0 yes, 1 inventory, 2 command line, 4 no or unreadable, 6 read or write, 7 memory",
+    words: &[
+        FILE,
+        Word {
+            name: "CERT",
+            takes: Takes::Text,
+            help: "The certificate, at most 16 MiB; read after FILE",
+        },
+        Word {
+            name: "START",
+            takes: Takes::MomentIfAny,
+            help: "The moment that the certificate has to start from; any, unless given",
+        },
+    ],
+};
 
-const RUN_ABOUT: &str =
-    "Keeps the entries alive against a broker: looks each one up, then renews as event lines on standard input say";
-
-const RUN_AFTER: &str = "\
+/// `run FILE PORT START [--timeout SECONDS]`
+const RUN: Described = Described {
+    name: "run",
+    about: "Keeps the entries alive against a broker: looks each one up, then renews as event lines on standard input say",
+    after: "\
 It reads no clock: each line of standard input gives the moment, `tick T`, or a new need, `need NAME T`, in whole seconds since
 1970-01-01T00:00:00Z. Each line is answered before the next one is read:
   entry NAME END    a lookup: NAME ends at END
@@ -122,12 +201,28 @@ Example (lines that begin with > are typed):
   next 1118
 
 Exit status: 0 the lines have ended, 1 inventory, 2 command line, 5 more than 10000000 wake-ups, 6 read, write, a lookup or a
-malformed line, 7 memory";
+malformed line, 7 memory",
+    words: &[
+        FILE,
+        PORT,
+        Word {
+            name: "START",
+            takes: Takes::Moment,
+            help: "The moment of the lookups, from which entries are kept; $(date +%s) is now",
+        },
+        Word {
+            name: "timeout",
+            takes: Takes::Option("SECONDS", Value::Number(1, 60)),
+            help: "How long one connect, read or write may take, 1 to 60 seconds [default: 5]",
+        },
+    ],
+};
 
-const WATCH_ABOUT: &str =
-    "Keeps the entries alive against a broker in real time: decides what to ask and when, as two clocks on standard input say";
-
-const WATCH_AFTER: &str = "\
+/// `watch FILE PORT [--timeout SECONDS] [--width K]`
+const WATCH: Described = Described {
+    name: "watch",
+    about: "Keeps the entries alive against a broker in real time: decides what to ask and when, as two clocks on standard input say",
+    after: "\
 It reads no clock: each line of standard input hands in both, or a change, and is answered before the next one is read.
   clock WALL ELAPSED     the time, and that of a clock which never steps (CLOCK_BOOTTIME), both in milliseconds
   need NAME T            NAME is needed until T, in seconds since 1970-01-01T00:00:00Z
@@ -159,12 +254,16 @@ Example (lines that begin with > are typed):
   next 1059 web
   wait 1001000
 
-Exit status: 0 the lines have ended, 1 inventory, 2 command line, 6 read, write or a malformed line, 7 memory";
+Exit status: 0 the lines have ended, 1 inventory, 2 command line, 6 read, write or a malformed line, 7 memory",
+    words: &[FILE, PORT, TIMEOUT_OF_LANES, WIDTH],
+};
 
-const SERVE_ABOUT: &str =
-    "Keeps the entries alive against a broker, by itself: the agent, with its log on standard output";
-
-const SERVE_AFTER: &str = "\
+/// `serve FILE PORT [--timeout SECONDS] [--width K] [--names-are-secrets] [--log text|json] [--state FOLDER] [--control SOCKET]
+/// [--listen PLACE] [--runtime FOLDER] [--spread SECONDS] [--name NAME]`
+const SERVE: Described = Described {
+    name: "serve",
+    about: "Keeps the entries alive against a broker, by itself: the agent, with its log on standard output",
+    after: "\
 It reads the clocks, sleeps, looks the entries up and renews them until it is ended; SIGTERM, SIGINT and SIGHUP end it, and the
 entries then live until their ends. The inventory needs a margin of at least four times the time-out, and a `secret` for each
 token and a `lease_id` for each lease, or a file that holds it (`secret_file`, `lease_id_file`), which is read at the start.
@@ -182,12 +281,86 @@ socket, which keeps strangers out.
 Example:
   leasekeep serve fleet.toml /run/vault-proxy/vault.sock --state ./state --control ./control.sock --listen 9105
 
-Exit status: 1 the inventory is refused, or another agent holds FOLDER, 2 command line, 6 read, 7 memory";
+Exit status: 1 the inventory is refused, or another agent holds FOLDER, 2 command line, 6 read, 7 memory",
+    words: &[
+        FILE,
+        PORT,
+        TIMEOUT_OF_LANES,
+        WIDTH,
+        Word {
+            name: "names-are-secrets",
+            takes: Takes::Flag,
+            help: "Sends the name of an entry in the place of a credential that is not written, for trials",
+        },
+        Word {
+            name: "log",
+            takes: Takes::Option("FORM", Value::OneOf(LOG_FORMS)),
+            help: "How the lines of the log are written: text or json [default: text]",
+        },
+        Word {
+            name: "state",
+            takes: Takes::Option("FOLDER", Value::Text),
+            help: "Keeps the changes that commands make in this folder, which one agent alone may use; it is made where there is none",
+        },
+        Word {
+            name: "control",
+            takes: Takes::Option("SOCKET", Value::Text),
+            help: "Takes commands at this UNIX socket, a path with a `/` in it, for its user and its group",
+        },
+        Word {
+            name: "listen",
+            takes: Takes::Option("PLACE", Value::Text),
+            help: "Shows /metrics, /health and /status over HTTP: a port of 127.0.0.1, ADDR:PORT, or the path of a UNIX socket, with a `/` in it",
+        },
+        Word {
+            name: "runtime",
+            takes: Takes::Option("FOLDER", Value::Text),
+            help: "Keeps the ends in this folder for a restart in the same boot, in the file `ends` [default: the folder of SOCKET]",
+        },
+        Word {
+            name: "name",
+            takes: Takes::Option("NAME", Value::Text),
+            help: "This agent's name, for --spread [default: the machine's name and the path FILE]",
+        },
+        Word {
+            name: "spread",
+            takes: Takes::Option("SECONDS", Value::Number(0, 3600)),
+            help: "Wakes up earlier by this agent's own part of so many seconds, 0 to 3600, so that agents are apart [default: 0]",
+        },
+    ],
+};
+
+const FILE: Word = Word {
+    name: "FILE",
+    takes: Takes::Text,
+    help: "The inventory, at most 1 MiB; read first. `leasekeepd lint FILE` shows every fault, its line and its fix",
+};
+
+const START: Word = Word {
+    name: "START",
+    takes: Takes::Moment,
+    help: "The moment from which entries are kept, in whole seconds since 1970-01-01T00:00:00Z; $(date +%s) is now",
+};
+
+const PORT: Word = Word {
+    name: "PORT",
+    takes: Takes::Text,
+    help: "The broker: a port of 127.0.0.1, or the path of a UNIX socket, with a `/` in it",
+};
+
+const TIMEOUT_OF_LANES: Word = Word {
+    name: "timeout",
+    takes: Takes::Option("SECONDS", Value::Number(1, 60)),
+    help: "How long the connects, writes and first reads of requests side by side may take, 1 to 60 seconds [default: 5]",
+};
+
+const WIDTH: Word = Word {
+    name: "width",
+    takes: Takes::Option("K", Value::Number(1, WIDTH_MAX as i64)),
+    help: "How many requests go out side by side at most, 1 to 32 [default: 8]",
+};
 
 const LOG_FORMS: &[&str] = &["text", "json"];
-
-const START_HELP: &str = "\
-The moment from which entries are kept, in whole seconds since 1970-01-01T00:00:00Z; $(date +%s) is now";
 
 /// The command line's words, read.
 pub fn parse<'a>(alloc: Global, words: &'a [String]) -> Result<ArgMatches<'a>, Error> {
@@ -197,298 +370,51 @@ pub fn parse<'a>(alloc: Global, words: &'a [String]) -> Result<ArgMatches<'a>, E
 /// The mistake of a value of this command that the parser takes as a word. Its text has the usage of the command, which is one
 /// of those that name a place: `run`, `watch` or `serve`.
 pub fn mistake(alloc: Global, command: &str, message: &str) -> Result<Error, AllocError> {
-    let mut taken = match command {
-        "run" => run(alloc)?.bin_name("leasekeep run")?,
-        "watch" => watch(alloc)?.bin_name("leasekeep watch")?,
-        _ => serve(alloc)?.bin_name("leasekeep serve")?,
-    };
+    match command {
+        "run" => mistake_of(alloc, &RUN, "leasekeep run", message),
+        "watch" => mistake_of(alloc, &WATCH, "leasekeep watch", message),
+        _ => mistake_of(alloc, &SERVE, "leasekeep serve", message),
+    }
+}
+
+/// The mistake of a value of a command, whose whole name its usage has.
+fn mistake_of(
+    alloc: Global,
+    described: &Described,
+    whole_name: &str,
+    message: &str,
+) -> Result<Error, AllocError> {
+    let mut taken = described.command(alloc)?.bin_name(whole_name)?;
     taken.error(ErrorKind::ValueValidation, message)
 }
 
 /// All commands.
 fn whole<'a>(alloc: Global) -> Result<Command<'a>, AllocError> {
-    with_calls(alloc, leasekeep(alloc)?)
-}
-
-/// The commands that need no running agent.
-fn leasekeep<'a>(alloc: Global) -> Result<Command<'a>, AllocError> {
+    let mut commands = Vec::new(alloc);
+    add_offline(alloc, &mut commands)?;
+    add_agents(alloc, &mut commands)?;
+    add_calls(alloc, &mut commands)?;
     Command::new(alloc, PROGRAM)
         .version("0.1.0")
         .about(ABOUT)
         .subcommand_required(true)
         .arg_required_else_help(true)
-        .subcommand(ends(alloc)?)?
-        .subcommand(plan(alloc)?)?
-        .subcommand(margin(alloc)?)?
-        .subcommand(reach(alloc)?)?
-        .subcommand(check(alloc)?)?
-        .subcommand(rehearse(alloc)?)?
-        .subcommand(run(alloc)?)?
-        .subcommand(watch(alloc)?)?
-        .subcommand(serve(alloc)?)
+        .subcommands(commands)
 }
 
-/// `ends FILE START [MOMENT..]`
-fn ends<'a>(alloc: Global) -> Result<Command<'a>, AllocError> {
-    Command::new(alloc, "ends")
-        .about(ENDS_ABOUT)
-        .after_help(ENDS_AFTER)
-        .arg(file(alloc))?
-        .arg(start(alloc))?
-        .arg(
-            moment(
-                alloc,
-                "MOMENT",
-                "A moment at which every entry is asked to be renewed",
-            )
-            .action(ArgAction::Append)
-            .num_args(0..),
-        )
+/// The commands over files alone.
+fn add_offline<'a>(alloc: Global, commands: &mut Vec<Command<'a>>) -> Result<(), AllocError> {
+    ENDS.add_to(alloc, commands)?;
+    PLAN.add_to(alloc, commands)?;
+    MARGIN.add_to(alloc, commands)?;
+    REACH.add_to(alloc, commands)?;
+    CHECK.add_to(alloc, commands)?;
+    REHEARSE.add_to(alloc, commands)
 }
 
-/// `plan FILE START [--dates]`
-fn plan<'a>(alloc: Global) -> Result<Command<'a>, AllocError> {
-    Command::new(alloc, "plan")
-        .about(PLAN_ABOUT)
-        .after_help(PLAN_AFTER)
-        .arg(file(alloc))?
-        .arg(start(alloc))?
-        .arg(
-            Arg::new(alloc, "dates")
-                .long("dates")
-                .help(
-                    "Shows the plan to people, with moments as RFC 3339 dates: `check` does not read that",
-                )
-                .action(ArgAction::SetTrue),
-        )
-}
-
-/// `margin FILE START [WAKES] [--renewed]`
-fn margin<'a>(alloc: Global) -> Result<Command<'a>, AllocError> {
-    Command::new(alloc, "margin")
-        .about(MARGIN_ABOUT)
-        .after_help(MARGIN_AFTER)
-        .arg(file(alloc))?
-        .arg(start(alloc))?
-        .arg(
-            Arg::new(alloc, "WAKES")
-                .help(
-                    "How many wake-ups may be spent; as many as with the inventory's own margin unless given",
-                )
-                .value_parser(clap::value_parser!(u64).range(0..=LIMIT as i64)),
-        )?
-        .arg(
-            Arg::new(alloc, "renewed")
-                .long("renewed")
-                .help(
-                    "Asks every entry once at START first, and answers for the ends that this leaves",
-                )
-                .action(ArgAction::SetTrue),
-        )
-}
-
-/// `reach FILE START [--dates]`
-fn reach<'a>(alloc: Global) -> Result<Command<'a>, AllocError> {
-    Command::new(alloc, "reach")
-        .about(REACH_ABOUT)
-        .after_help(REACH_AFTER)
-        .arg(file(alloc))?
-        .arg(start(alloc))?
-        .arg(
-            Arg::new(alloc, "dates")
-                .long("dates")
-                .help("Shows moments as RFC 3339 dates where they have one")
-                .action(ArgAction::SetTrue),
-        )
-}
-
-/// `rehearse FILE START [FAULT..]`
-fn rehearse<'a>(alloc: Global) -> Result<Command<'a>, AllocError> {
-    Command::new(alloc, "rehearse")
-        .about(REHEARSE_ABOUT)
-        .after_help(REHEARSE_AFTER)
-        .arg(file(alloc))?
-        .arg(start(alloc))?
-        .arg(
-            Arg::new(alloc, "FAULT")
-                .help("What goes wrong with a renewal request: K=short:SECONDS, K=drop or K=deny")
-                .action(ArgAction::Append)
-                .num_args(0..),
-        )
-}
-
-/// `check FILE CERT [START]`
-fn check<'a>(alloc: Global) -> Result<Command<'a>, AllocError> {
-    Command::new(alloc, "check")
-        .about(CHECK_ABOUT)
-        .after_help(CHECK_AFTER)
-        .arg(file(alloc))?
-        .arg(word(
-            alloc,
-            "CERT",
-            "The certificate, at most 16 MiB; read after FILE",
-        ))?
-        .arg(moment(
-            alloc,
-            "START",
-            "The moment that the certificate has to start from; any, unless given",
-        ))
-}
-
-/// `run FILE PORT START [--timeout SECONDS]`
-fn run<'a>(alloc: Global) -> Result<Command<'a>, AllocError> {
-    Command::new(alloc, "run")
-        .about(RUN_ABOUT)
-        .after_help(RUN_AFTER)
-        .arg(file(alloc))?
-        .arg(broker(alloc))?
-        .arg(moment(
-            alloc,
-            "START",
-            "The moment of the lookups, from which entries are kept; $(date +%s) is now",
-        )
-        .required(true))?
-        .arg(
-            Arg::new(alloc, "timeout")
-                .long("timeout")
-                .value_name("SECONDS")
-                .help("How long one connect, read or write may take, 1 to 60 seconds [default: 5]")
-                .value_parser(clap::value_parser!(u64).range(1..=60)),
-        )
-}
-
-/// `watch FILE PORT [--timeout SECONDS] [--width K]`
-fn watch<'a>(alloc: Global) -> Result<Command<'a>, AllocError> {
-    Command::new(alloc, "watch")
-        .about(WATCH_ABOUT)
-        .after_help(WATCH_AFTER)
-        .arg(file(alloc))?
-        .arg(broker(alloc))?
-        .arg(timeout_of_lanes(alloc))?
-        .arg(width(alloc))
-}
-
-/// `serve FILE PORT [--timeout SECONDS] [--width K] [--names-are-secrets] [--log text|json] [--state FOLDER] [--control SOCKET]
-/// [--listen PLACE] [--runtime FOLDER] [--spread SECONDS] [--name NAME]`
-fn serve<'a>(alloc: Global) -> Result<Command<'a>, AllocError> {
-    Command::new(alloc, "serve")
-        .about(SERVE_ABOUT)
-        .after_help(SERVE_AFTER)
-        .arg(file(alloc))?
-        .arg(broker(alloc))?
-        .arg(timeout_of_lanes(alloc))?
-        .arg(width(alloc))?
-        .arg(
-            Arg::new(alloc, "names-are-secrets")
-                .long("names-are-secrets")
-                .help(
-                    "Sends the name of an entry in the place of a credential that is not written, for trials",
-                )
-                .action(ArgAction::SetTrue),
-        )?
-        .arg(
-            Arg::new(alloc, "log")
-                .long("log")
-                .value_name("FORM")
-                .help("How the lines of the log are written: text or json [default: text]")
-                .value_parser(LOG_FORMS),
-        )?
-        .arg(
-            Arg::new(alloc, "state")
-                .long("state")
-                .value_name("FOLDER")
-                .help(
-                    "Keeps the changes that commands make in this folder, which one agent alone may use; it is made where there is none",
-                ),
-        )?
-        .arg(
-            Arg::new(alloc, "control")
-                .long("control")
-                .value_name("SOCKET")
-                .help(
-                    "Takes commands at this UNIX socket, a path with a `/` in it, for its user and its group",
-                ),
-        )?
-        .arg(
-            Arg::new(alloc, "listen")
-                .long("listen")
-                .value_name("PLACE")
-                .help(
-                    "Shows /metrics, /health and /status over HTTP: a port of 127.0.0.1, ADDR:PORT, or the path of a UNIX socket, with a `/` in it",
-                ),
-        )?
-        .arg(
-            Arg::new(alloc, "runtime")
-                .long("runtime")
-                .value_name("FOLDER")
-                .help(
-                    "Keeps the ends in this folder for a restart in the same boot, in the file `ends` [default: the folder of SOCKET]",
-                ),
-        )?
-        .arg(
-            Arg::new(alloc, "name").long("name").value_name("NAME").help(
-                "This agent's name, for --spread [default: the machine's name and the path FILE]",
-            ),
-        )?
-        .arg(
-            Arg::new(alloc, "spread")
-                .long("spread")
-                .value_name("SECONDS")
-                .help(
-                    "Wakes up earlier by this agent's own part of so many seconds, 0 to 3600, so that agents are apart [default: 0]",
-                )
-                .value_parser(clap::value_parser!(u64).range(0..=3600)),
-        )
-}
-
-fn timeout_of_lanes<'a>(alloc: Global) -> Arg<'a> {
-    Arg::new(alloc, "timeout")
-        .long("timeout")
-        .value_name("SECONDS")
-        .help(
-            "How long the connects, writes and first reads of requests side by side may take, 1 to 60 seconds [default: 5]",
-        )
-        .value_parser(clap::value_parser!(u64).range(1..=60))
-}
-
-fn width<'a>(alloc: Global) -> Arg<'a> {
-    Arg::new(alloc, "width")
-        .long("width")
-        .value_name("K")
-        .help("How many requests go out side by side at most, 1 to 32 [default: 8]")
-        .value_parser(clap::value_parser!(u64).range(1..=WIDTH_MAX as i64))
-}
-
-fn broker<'a>(alloc: Global) -> Arg<'a> {
-    word(
-        alloc,
-        "PORT",
-        "The broker: a port of 127.0.0.1, or the path of a UNIX socket, with a `/` in it",
-    )
-}
-
-fn file<'a>(alloc: Global) -> Arg<'a> {
-    word(
-        alloc,
-        "FILE",
-        "The inventory, at most 1 MiB; read first. `leasekeepd lint FILE` shows every fault, its line and its fix",
-    )
-}
-
-// A word that has to be there.
-fn word<'a>(alloc: Global, name: &'a str, help: &'a str) -> Arg<'a> {
-    Arg::new(alloc, name)
-        .help(help)
-        .required(true)
-        .action(ArgAction::Set)
-}
-
-fn start<'a>(alloc: Global) -> Arg<'a> {
-    moment(alloc, "START", START_HELP).required(true)
-}
-
-fn moment<'a>(alloc: Global, name: &'a str, help: &'a str) -> Arg<'a> {
-    Arg::new(alloc, name)
-        .help(help)
-        .value_parser(clap::value_parser!(u64).range(0..=LAST as i64))
+/// The commands that keep entries alive.
+fn add_agents<'a>(alloc: Global, commands: &mut Vec<Command<'a>>) -> Result<(), AllocError> {
+    RUN.add_to(alloc, commands)?;
+    WATCH.add_to(alloc, commands)?;
+    SERVE.add_to(alloc, commands)
 }

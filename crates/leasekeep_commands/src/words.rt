@@ -88,18 +88,30 @@ pub fn read_command<'a, R: AllocGlobal + Print, E: Sink>(
     };
     match job_of(alloc, &matches) {
         Ok(job) => Ok(job),
-        Err(Unread::Place(word)) => {
+        Err(why) => {
             let command = matches.subcommand_name().unwrap_or("");
-            match mistake(alloc, command, word.mistake()) {
-                Ok(error) => Err(show_with_tip(rt, &error, errors)),
-                Err(_) => Err(Stop::Memory.report(PROGRAM, errors)),
-            }
+            Err(refuse(rt, command, why, errors))
         }
-        Err(Unread::Value) => {
+    }
+}
+
+/// Tells why the matches of this command give none.
+fn refuse<R: AllocGlobal + Print, E: Sink>(
+    rt: &R,
+    command: &str,
+    why: Unread,
+    errors: &mut E,
+) -> Exit {
+    match why {
+        Unread::Place(word) => match mistake(rt.alloc(), command, word.mistake()) {
+            Ok(error) => show_with_tip(rt, &error, errors),
+            Err(_) => Stop::Memory.report(PROGRAM, errors),
+        },
+        Unread::Value => {
             tell(errors, UNREADABLE);
-            Err(Exit::CommandLine)
+            Exit::CommandLine
         }
-        Err(Unread::Memory) => Err(Stop::Memory.report(PROGRAM, errors)),
+        Unread::Memory => Stop::Memory.report(PROGRAM, errors),
     }
 }
 
@@ -139,26 +151,37 @@ fn job_of<'a>(alloc: Global, matches: &ArgMatches<'a>) -> Result<Job<'a>, Unread
         return Ok(Job::Call(called));
     }
     match matches.subcommand() {
-        Some(("run", matches)) => Ok(Job::Live(Live {
-            file: matches.get_str("FILE").ok_or(Unread::Value)?,
-            place: place(matches)?,
-            start: start(matches)?,
-            patience: number_or(matches, "timeout", PATIENCE).ok_or(Unread::Value)?,
-        })),
-        Some(("watch", matches)) => Ok(Job::Watch(Watched {
-            file: matches.get_str("FILE").ok_or(Unread::Value)?,
-            place: place(matches)?,
-            patience: number_or(matches, "timeout", PATIENCE).ok_or(Unread::Value)?,
-            width: number_or(matches, "width", WIDTH as u64).ok_or(Unread::Value)?,
-        })),
-        Some(("serve", matches)) => Ok(Job::Serve(served(matches)?)),
-        _ => Ok(Job::Offline(command_of(alloc, matches)?)),
+        Some(("run", matches)) => live(matches),
+        Some(("watch", matches)) => watched(matches),
+        Some(("serve", matches)) => served(matches),
+        Some((command, matches)) => Ok(Job::Offline(command_of(alloc, command, matches)?)),
+        None => Err(Unread::Value),
     }
 }
 
+/// What `run` asks.
+fn live<'a>(matches: &ArgMatches<'a>) -> Result<Job<'a>, Unread> {
+    Ok(Job::Live(Live {
+        file: matches.get_str("FILE").ok_or(Unread::Value)?,
+        place: place(matches)?,
+        start: start(matches)?,
+        patience: number_or(matches, "timeout", PATIENCE).ok_or(Unread::Value)?,
+    }))
+}
+
+/// What `watch` asks.
+fn watched<'a>(matches: &ArgMatches<'a>) -> Result<Job<'a>, Unread> {
+    Ok(Job::Watch(Watched {
+        file: matches.get_str("FILE").ok_or(Unread::Value)?,
+        place: place(matches)?,
+        patience: number_or(matches, "timeout", PATIENCE).ok_or(Unread::Value)?,
+        width: number_or(matches, "width", WIDTH as u64).ok_or(Unread::Value)?,
+    }))
+}
+
 /// What `serve` asks.
-fn served<'a>(matches: &ArgMatches<'a>) -> Result<Served<'a>, Unread> {
-    Ok(Served {
+fn served<'a>(matches: &ArgMatches<'a>) -> Result<Job<'a>, Unread> {
+    Ok(Job::Serve(Served {
         file: matches.get_str("FILE").ok_or(Unread::Value)?,
         place: place(matches)?,
         patience: number_or(matches, "timeout", PATIENCE).ok_or(Unread::Value)?,
@@ -171,7 +194,7 @@ fn served<'a>(matches: &ArgMatches<'a>) -> Result<Served<'a>, Unread> {
         name: matches.get_str("name"),
         state: matches.get_str("state"),
         spread: number_or(matches, "spread", 0).ok_or(Unread::Value)?,
-    })
+    }))
 }
 
 /// Where commands come in, if a socket for them is asked for.
@@ -226,44 +249,68 @@ fn place<'a>(matches: &ArgMatches<'a>) -> Result<Place<'a>, Unread> {
     place_to_ask(word).ok_or(Unread::Place(PlaceWord::Port))
 }
 
-/// The command, with all its values. After this nothing asks for a value by its name.
-fn command_of(alloc: Global, matches: &ArgMatches<'_>) -> Result<Command, Unread> {
-    match matches.subcommand() {
-        Some(("ends", matches)) => Ok(Command::Ends {
-            file: word(alloc, matches, "FILE")?,
-            start: start(matches)?,
-            moments: moments(alloc, matches)?,
-        }),
-        Some(("plan", matches)) => Ok(Command::Plan {
-            file: word(alloc, matches, "FILE")?,
-            start: start(matches)?,
-            dates: matches.get_flag("dates"),
-        }),
-        Some(("margin", matches)) => Ok(Command::Margin {
-            file: word(alloc, matches, "FILE")?,
-            query: MarginQuery {
-                start: start(matches)?,
-                most_wakes: most_wakes(matches)?,
-                renewed: matches.get_flag("renewed"),
-            },
-        }),
-        Some(("reach", matches)) => Ok(Command::Reach {
-            file: word(alloc, matches, "FILE")?,
-            start: start(matches)?,
-            dates: matches.get_flag("dates"),
-        }),
-        Some(("rehearse", matches)) => Ok(Command::Rehearse {
-            file: word(alloc, matches, "FILE")?,
-            start: start(matches)?,
-            words: faults(alloc, matches)?,
-        }),
-        Some(("check", matches)) => Ok(Command::Check {
-            file: word(alloc, matches, "FILE")?,
-            certificate: word(alloc, matches, "CERT")?,
-            start: start_if_any(matches)?,
-        }),
+/// The command of this name, with all its values. After this nothing asks for a value by its name.
+fn command_of(alloc: Global, command: &str, matches: &ArgMatches<'_>) -> Result<Command, Unread> {
+    match command {
+        "ends" => ends(alloc, matches),
+        "plan" => plan(alloc, matches),
+        "margin" => margin(alloc, matches),
+        "reach" => reach(alloc, matches),
+        "rehearse" => rehearse(alloc, matches),
+        "check" => check(alloc, matches),
         _ => Err(Unread::Value),
     }
+}
+
+fn ends(alloc: Global, matches: &ArgMatches<'_>) -> Result<Command, Unread> {
+    Ok(Command::Ends {
+        file: word(alloc, matches, "FILE")?,
+        start: start(matches)?,
+        moments: moments(alloc, matches)?,
+    })
+}
+
+fn plan(alloc: Global, matches: &ArgMatches<'_>) -> Result<Command, Unread> {
+    Ok(Command::Plan {
+        file: word(alloc, matches, "FILE")?,
+        start: start(matches)?,
+        dates: matches.get_flag("dates"),
+    })
+}
+
+fn margin(alloc: Global, matches: &ArgMatches<'_>) -> Result<Command, Unread> {
+    Ok(Command::Margin {
+        file: word(alloc, matches, "FILE")?,
+        query: MarginQuery {
+            start: start(matches)?,
+            most_wakes: most_wakes(matches)?,
+            renewed: matches.get_flag("renewed"),
+        },
+    })
+}
+
+fn reach(alloc: Global, matches: &ArgMatches<'_>) -> Result<Command, Unread> {
+    Ok(Command::Reach {
+        file: word(alloc, matches, "FILE")?,
+        start: start(matches)?,
+        dates: matches.get_flag("dates"),
+    })
+}
+
+fn rehearse(alloc: Global, matches: &ArgMatches<'_>) -> Result<Command, Unread> {
+    Ok(Command::Rehearse {
+        file: word(alloc, matches, "FILE")?,
+        start: start(matches)?,
+        words: faults(alloc, matches)?,
+    })
+}
+
+fn check(alloc: Global, matches: &ArgMatches<'_>) -> Result<Command, Unread> {
+    Ok(Command::Check {
+        file: word(alloc, matches, "FILE")?,
+        certificate: word(alloc, matches, "CERT")?,
+        start: start_if_any(matches)?,
+    })
 }
 
 fn word(alloc: Global, matches: &ArgMatches<'_>, name: &str) -> Result<String, Unread> {
