@@ -4,7 +4,8 @@ ghost use Rattle.std.specs.Prelude.{None, Some};
 use keep_device::InputFault;
 use keep_files::Inputs;
 use keep_house::{
-    Demands, StartFault, faults_to_serve, line_of_fault, read_to_serve, why_not_served,
+    Demands, StartFault, faults_as_written, faults_to_serve, line_of_fault, read_to_serve,
+    why_not_served,
 };
 use keep_inventory::{Inventory, read_served};
 use keep_moment::Text;
@@ -135,6 +136,22 @@ fn files_go_together_or_do_not(rt: HostRuntime) -> Result<(), Fail> {
     Ok(())
 }
 
+#[test]
+fn what_files_hold_is_no_fault_of_what_is_written(rt: HostRuntime) -> Result<(), Fail> {
+    let alloc = rt.alloc();
+    let faults = faults_as_written(alloc, FAULTY.as_bytes(), demands(false))?;
+    let written = [
+        StartFault::NoMargin,
+        StartFault::NoCredential(0),
+        StartFault::NoCredential(3),
+    ];
+    assert!(rt; faults.as_slice() == written.as_slice());
+    for text in [OF_NONE, OF_BLANKS, ALIKE] {
+        assert!(rt; why_not_served(alloc, text.as_bytes(), demands(false))?.is_none());
+    }
+    Ok(())
+}
+
 /// So many entries without a secret.
 fn bare_entries(alloc: Global, count: u32) -> Result<String, Fail> {
     let mut text = String::new(alloc);
@@ -150,13 +167,7 @@ fn bare_entries(alloc: Global, count: u32) -> Result<String, Fail> {
 fn a_hundred_faults_are_said(rt: HostRuntime) -> Result<(), Fail> {
     let alloc = rt.alloc();
     let text = bare_entries(alloc, 142)?;
-    let whys = why_not_served(
-        alloc,
-        text.as_bytes(),
-        demands(false),
-        "folder/",
-        &mut Paths,
-    );
+    let whys = why_not_served(alloc, text.as_bytes(), demands(false))?.ok_or("why")?;
     assert!(rt; whys.len() == 101 && whys[100].list() == b"and 42 more".as_slice());
     Ok(())
 }

@@ -1,4 +1,5 @@
--- Faulty: all faults of a start, and that the first of them is why it is refused. For `faults_to_serve`, `faults_of` and `last_fault`.
+-- Faulty: all faults of a start, and that the first of them is why it is refused. For `faults_to_serve`,
+-- `faults_as_written`, `faults_of`, `last_fault` and `why_not_served`.
 use Rattle.std.proofs.Common.{◌≡◌, ◌∙◌, ◌==◌, ℕ, List, [], ◌∷◌, ◌++◌, Bool, false, true, Result, Ok, Err, IfOk, ap, arith, inl, inr, length, refl, subst, sym}
 use Rattle.std.proofs.lemmas.Bool.{eqb-false, eqb-true}
 use Rattle.std.specs.Prelude.{Vec}
@@ -15,7 +16,9 @@ use Rattle.keep_inventory.specs.Served.{Served}
 use Rattle.keep_inventory.specs.declared.fault.InvFault.{InvFault}
 use Rattle.keep_inventory.specs.declared.fault.InvFault.TheVariants as inventories
 use Rattle.keep_house.specs.Filling.{AreUnfilled}
-use Rattle.keep_house.specs.Reading.{AreAllOr, AreFaults, AreFaultsOf, AreLast, FirstIsWhy, IsStartFaultOf}
+use Rattle.keep_house.specs.Noting.{AreWhysNotServed}
+use Rattle.keep_house.specs.Reading.{AreAllOr, AreFaults, AreFaultsOf, AreLast, AreOfNoInventory, AreWrittenFaults, FirstIsWhy, IsStartFaultOf, IsWellWritten}
+use Rattle.keep_house.specs.Rereading.{SaysFaults}
 use Rattle.keep_house.specs.Starts.{first_listed_fault, first_start_fault, written_faults}
 use Rattle.keep_house.specs.declared.demands.Demands.{Demands}
 use Rattle.keep_house.specs.declared.fault.StartFault.{StartFault}
@@ -24,18 +27,27 @@ use Rattle.keep_house.proofs.Unfilled.{first_unfilled}
 
 -- ---- a text that is no inventory
 
+of_none : (bytes : List ℕ) (fault : InvFault) (fs : List StartFault) → (fault ≡ inventories.OutOfMemory → ⊥) → FailsWithInvFault fault (read_served bytes) → fs ≡ faults.Inventory fault ∷ [] → AreOfNoInventory bytes fs
+of_none bytes inventories.OutOfMemory fs other h is = absurd (other refl)
+of_none bytes inventories.NotToml fs other h is = (faults.Inventory inventories.NotToml, ((inventories.NotToml, (refl, h)), is))
+of_none bytes (inventories.MissingKey i k) fs other h is = (faults.Inventory (inventories.MissingKey i k), ((inventories.MissingKey i k, (refl, h)), is))
+of_none bytes (inventories.UnknownKey i) fs other h is = (faults.Inventory (inventories.UnknownKey i), ((inventories.UnknownKey i, (refl, h)), is))
+of_none bytes (inventories.BadValue i k) fs other h is = (faults.Inventory (inventories.BadValue i k), ((inventories.BadValue i k, (refl, h)), is))
+of_none bytes (inventories.Tree i f) fs other h is = (faults.Inventory (inventories.Tree i f), ((inventories.Tree i f, (refl, h)), is))
+
 pub no_inventory : (d : Demands) (known : Files) (folder bytes : List ℕ) (fault : InvFault) (fs : List StartFault) → (fault ≡ inventories.OutOfMemory → ⊥) → FailsWithInvFault fault (read_served bytes) → fs ≡ faults.Inventory fault ∷ [] → AreFaults d known folder bytes fs
-no_inventory d known folder bytes inventories.OutOfMemory fs other h is = absurd (other refl)
-no_inventory d known folder bytes inventories.NotToml fs other h is = inl (faults.Inventory inventories.NotToml, ((inventories.NotToml, (refl, h)), is))
-no_inventory d known folder bytes (inventories.MissingKey i k) fs other h is = inl (faults.Inventory (inventories.MissingKey i k), ((inventories.MissingKey i k, (refl, h)), is))
-no_inventory d known folder bytes (inventories.UnknownKey i) fs other h is = inl (faults.Inventory (inventories.UnknownKey i), ((inventories.UnknownKey i, (refl, h)), is))
-no_inventory d known folder bytes (inventories.BadValue i k) fs other h is = inl (faults.Inventory (inventories.BadValue i k), ((inventories.BadValue i k, (refl, h)), is))
-no_inventory d known folder bytes (inventories.Tree i f) fs other h is = inl (faults.Inventory (inventories.Tree i f), ((inventories.Tree i f, (refl, h)), is))
+no_inventory d known folder bytes fault fs other h is = inl (of_none bytes fault fs other h is)
+
+pub none_written : (d : Demands) (bytes : List ℕ) (fault : InvFault) (fs : List StartFault) → (fault ≡ inventories.OutOfMemory → ⊥) → FailsWithInvFault fault (read_served bytes) → fs ≡ faults.Inventory fault ∷ [] → AreWrittenFaults d bytes fs
+none_written d bytes fault fs other h is = inl (of_none bytes fault fs other h is)
 
 -- ---- one that is
 
 pub read_so : (d : Demands) (known : Files) (folder bytes : List ℕ) (v : Served) (fs : List StartFault) → read_served bytes ≡ Ok v → AreFaultsOf d known folder bytes v fs → AreFaults d known folder bytes fs
 read_so d known folder bytes v fs reads are = inr (v, (reads, are))
+
+pub written_so : (d : Demands) (bytes : List ℕ) (v : Served) (fs : List StartFault) → read_served bytes ≡ Ok v → fs ≡ written_faults d v → AreWrittenFaults d bytes fs
+written_so d bytes v fs reads are = inr (v, (reads, are))
 
 nil_of : (fs : List StartFault) → (length fs == 0) ≡ true → fs ≡ []
 nil_of [] e = refl
@@ -88,3 +100,13 @@ first_of_all d known folder bytes v (fault ∷ more) unfilled fs reads are e is 
 pub first_is_why : (d : Demands) (known : Files) (folder bytes : List ℕ) (fs : List StartFault) → AreFaults d known folder bytes fs → FirstIsWhy d known folder bytes fs
 first_is_why d known folder bytes fs (inl (fault, (none, is))) = subst (FirstIsWhy d known folder bytes) (sym is) (inr (inl none))
 first_is_why d known folder bytes fs (inr (v, (reads, (unfilled, (are, all))))) = first_of_all d known folder bytes v (written_faults d v ++ unfilled) unfilled fs reads are refl all
+
+-- ---- in words
+
+pub well_written : (d : Demands) (bytes : List ℕ) (fs : List StartFault) → AreWrittenFaults d bytes fs → length fs ≡ 0 → IsWellWritten d bytes
+well_written d bytes [] are none = are
+well_written d bytes (fault ∷ more) are none = absurd (omega (arith, none))
+
+pub says_each : (d : Demands) (bytes : List ℕ) (fs : List StartFault) (whys : List (List ℕ)) → AreWrittenFaults d bytes fs → (length fs ≡ 0 → ⊥) → AreWhysNotServed d bytes fs whys → SaysFaults d bytes whys
+says_each d bytes [] whys are some says = absurd (some refl)
+says_each d bytes (fault ∷ more) whys are some says = (fault, (more, (are, says)))

@@ -8,7 +8,6 @@ use Rattle.keep_change.specs.declared.row.Row.{Row}
 use Rattle.keep_clock.specs.declared.reading.Reading.{Reading}
 use Rattle.keep_device.specs.declared.fault.InputFault.{InputFault}
 use Rattle.keep_disk.specs.State.{DiskState}
-use Rattle.keep_files.specs.Files.{Files}
 use Rattle.keep_proving.specs.declared.verdict.Verdict.{Verdict}
 use Rattle.keep_secrets.specs.Looking.{Passes, PassesByStep, Steps}
 use Rattle.keep_secrets.specs.Stamps.{FileCall, Made, Opened, Stamped}
@@ -204,9 +203,9 @@ module _ {D I L : Type 0} (calls : I → Option (List FileCall)) (lanes_seen : L
 
 -- ---- each call of a ledger
 
-module _ {D I L : Type 0} (known : Bool) (seen : D → DiskState) (files : I → Files) (calls : I → Option (List FileCall)) (lanes_seen : L → Lanes) (port : L → ℕ) where
+module _ {D I L : Type 0} (known : Bool) (seen : D → DiskState) (calls : I → Option (List FileCall)) (lanes_seen : L → Lanes) (port : L → ℕ) where
   abbrev Does : KeepCall → Ledger D I L → Ledger D I L → Type 0
-  Does = DoesLedger known seen files calls lanes_seen port
+  Does = DoesLedger known seen calls lanes_seen port
 
   untouched : (old new : Ledger D I L) → new.inputs ≡ old.inputs → new.state.disk ≡ old.state.disk → LedgerIsSpared calls 0 0 old new
   untouched old new inputs disk = record { files = few_same 0 0 (calls old.inputs) (calls new.inputs) (ap calls inputs); disk = disk }
@@ -220,7 +219,7 @@ module _ {D I L : Type 0} (known : Bool) (seen : D → DiskState) (files : I →
   by_call (Look now looked) old new none h = looks_few calls lanes_seen port now looked old.asked old new h
   by_call Rebuilt old new none h = untouched old new (ap (λ l. l.inputs) h.1.1.1) h.1.1.0
 
-  pub ledger_law : LedgerLaw known seen files calls lanes_seen port
+  pub ledger_law : LedgerLaw known seen calls lanes_seen port
   ledger_law = by_call
 
   -- ---- and calls one after another

@@ -1,12 +1,9 @@
--- WhyUnserved: why a file that is read again is not served, or that it is. For `judge`, `judged` and `reload`.
-use Rattle.std.proofs.Common.{◌≡◌, ◌∙◌, ℕ, Bool, List, Option, Some, None, Ok, Err, IfSome, ap, inl, inr, subst, sym}
-use Rattle.std.proofs.Math.Path.{fun_ext}
+-- WhyUnserved: why a file that is read again is not served, or that it is. For `judged` and `reload`.
+use Rattle.std.proofs.Common.{◌≡◌, ◌∙◌, ℕ, Bool, List, [], Option, Some, None, Ok, Err, IfSome, ap, inl, inr, subst, sym}
 use Rattle.keep_agent.specs.Waiting.{changed}
 use Rattle.keep_change.specs.declared.replaying.Note.{Note}
 use Rattle.keep_disk.specs.State.{DiskState}
 use Rattle.keep_disk.specs.declared.fault.DiskFault.{DiskFault}
-use Rattle.keep_files.specs.Files.{Files}
-use Rattle.keep_inventory.specs.Inventories.{Inventory}
 use Rattle.keep_state.specs.Settles.{IsCopied}
 use Rattle.keep_state.specs.States.{Kept, book_in, store_in}
 use Rattle.keep_store.specs.Books.{IsBookIf}
@@ -15,7 +12,7 @@ use Rattle.keep_store.specs.Stores.{book_of, lines_in}
 use Rattle.keep_waiting.specs.Keepers.{store_of, waiting_in}
 use Rattle.keep_house.specs.Keeping.{Whys}
 use Rattle.keep_house.specs.Ledgers.{ReloadsOn}
-use Rattle.keep_house.specs.Reading.{IsToServe}
+use Rattle.keep_house.specs.Reading.{IsWellWritten}
 use Rattle.keep_house.specs.Rereading.{AreAtMost, AreBytesOf, IsOneWhy, IsWhyNotReread, SaysCopy, SaysFaults, SaysNoBook, SaysNotes, SaysUnread}
 use Rattle.keep_house.specs.declared.demands.Demands.{Demands}
 use Rattle.keep_house.specs.Untouched.{IsAsItWas}
@@ -28,31 +25,31 @@ one_says P None whys h none = subst (IsOneWhy P) (sym none) tt
 one_says P (Some why) whys h (inl none) = subst (IsOneWhy P) (sym none) tt
 one_says P (Some why) whys h (inr one) = subst (IsOneWhy P) (sym one) h
 
--- what files say that others say too
-pub says_as : (k other : Files) (demands : Demands) (folder bytes : List ℕ) (whys : List (List ℕ)) → ((path : List ℕ) → other path ≡ k path) → SaysFaults other demands folder bytes whys → SaysFaults k demands folder bytes whys
-says_as k other demands folder bytes whys same says = subst (λ (f : Files). SaysFaults f demands folder bytes whys) (fun_ext same) says
+pub unread_why : {D : Type 0} (known : Bool) (seen : D → DiskState) (demands : Demands) (kept : Kept D) (why : Option (List ℕ)) (whys : List (List ℕ)) → IfSome why (SaysUnread known seen kept)
+    → AreAtMost why whys → IsWhyNotReread known seen demands kept whys
+unread_why known seen demands kept why whys says most = inl (one_says (SaysUnread known seen kept) why whys says most)
 
-pub unread_why : {D : Type 0} (known : Bool) (seen : D → DiskState) (files : Files) (demands : Demands) (folder : List ℕ) (kept : Kept D) (why : Option (List ℕ)) (whys : List (List ℕ)) → IfSome why (SaysUnread known seen kept)
-    → AreAtMost why whys → IsWhyNotReread known seen files demands folder kept whys
-unread_why known seen files demands folder kept why whys says most = inl (one_says (SaysUnread known seen kept) why whys says most)
+pub unserved_why : {D : Type 0} (known : Bool) (seen : D → DiskState) (demands : Demands) (kept : Kept D) (bytes : List ℕ) (whys : List (List ℕ))
+    → AreBytesOf known seen kept bytes → SaysFaults demands bytes whys → IsWhyNotReread known seen demands kept whys
+unserved_why known seen demands kept bytes whys stand says = inr (bytes, (stand, inl (inr says)))
 
-pub unserved_why : {D : Type 0} (known : Bool) (seen : D → DiskState) (files : Files) (demands : Demands) (folder : List ℕ) (kept : Kept D) (bytes : List ℕ) (whys : List (List ℕ))
-    → AreBytesOf known seen kept bytes → SaysFaults files demands folder bytes whys → IsWhyNotReread known seen files demands folder kept whys
-unserved_why known seen files demands folder kept bytes whys stand says = inr (bytes, (stand, inl says))
+-- or memory is wanting for the reasons
+pub wanting_why : {D : Type 0} (known : Bool) (seen : D → DiskState) (demands : Demands) (kept : Kept D) (bytes : List ℕ) (whys : List (List ℕ))
+    → AreBytesOf known seen kept bytes → whys ≡ [] → IsWhyNotReread known seen demands kept whys
+wanting_why known seen demands kept bytes whys stand none = inr (bytes, (stand, inl (inl none)))
 
 -- one that is read again is served with every change
 pub reread_as :
-    {D : Type 0} → (known : Bool) (seen : D → DiskState) (files : Files) (demands : Demands) (folder : List ℕ) (now : ℕ) (bytes : List ℕ) (inventory : Inventory) (r : Reread) (old mid new : Kept D) →
-    AreBytesOf known seen old bytes → IsToServe demands files folder bytes (Ok inventory) → mid.keeper ≡ old.keeper → mid.places ≡ old.places →
+    {D : Type 0} → (known : Bool) (seen : D → DiskState) (demands : Demands) (now : ℕ) (bytes : List ℕ) (r : Reread) (old mid new : Kept D) →
+    AreBytesOf known seen old bytes → IsWellWritten demands bytes → mid.keeper ≡ old.keeper → mid.places ≡ old.places →
     (notes : List Note) × (IsBookIf (Some bytes) (records_in (lines_in (store_in mid))) (book_in mid).secrets (book_in new) notes
     × SaysNotes (book_in new).file.margin (records_in (lines_in (store_in new))) notes r.notes.items) →
     (copy : Option DiskFault) × (IsCopied known mid.places bytes copy (seen new.disk) × SaysCopy copy r.unkept) →
-    waiting_in new.keeper ≡ changed (waiting_in mid.keeper) now → ReloadsOn known seen files demands folder now (Ok r) old new
-reread_as known seen files demands folder now bytes inventory r old mid new stand served keeper places reloaded copied waiting = record {
+    waiting_in new.keeper ≡ changed (waiting_in mid.keeper) now → ReloadsOn known seen demands now (Ok r) old new
+reread_as known seen demands now bytes r old mid new stand written keeper places reloaded copied waiting = record {
   bytes = bytes;
   stand = stand;
-  inventory = inventory;
-  served = served;
+  written = written;
   notes = reloaded.0;
   book = subst (λ k. IsBookIf (Some bytes) (records_in (lines_in (store_of k))) (book_of (store_of k)).secrets (book_in new) reloaded.0) keeper reloaded.1.0;
   waiting = waiting ∙ ap (λ k. changed (waiting_in k) now) keeper;
@@ -64,9 +61,9 @@ reread_as known seen files demands folder now bytes inventory r old mid new stan
 
 -- or is none with them, and all is as it was
 pub none_as :
-    {D : Type 0} → (known : Bool) (seen : D → DiskState) (files : Files) (demands : Demands) (folder : List ℕ) (now : ℕ) (bytes : List ℕ) (why : Option (List ℕ)) (whys : Whys) (old mid new : Kept D) →
-    AreBytesOf known seen old bytes → mid.keeper ≡ old.keeper → IfSome why (SaysNoBook bytes) → AreAtMost why whys.items → IsAsItWas mid new → ReloadsOn known seen files demands folder now (Err whys) old new
-none_as known seen files demands folder now bytes why whys old mid new stand keeper says most same = (
+    {D : Type 0} → (known : Bool) (seen : D → DiskState) (demands : Demands) (now : ℕ) (bytes : List ℕ) (why : Option (List ℕ)) (whys : Whys) (old mid new : Kept D) →
+    AreBytesOf known seen old bytes → mid.keeper ≡ old.keeper → IfSome why (SaysNoBook bytes) → AreAtMost why whys.items → IsAsItWas mid new → ReloadsOn known seen demands now (Err whys) old new
+none_as known seen demands now bytes why whys old mid new stand keeper says most same = (
   record {
     book = same.book ∙ ap (λ k. book_of (store_of k)) keeper;
     lines = same.lines ∙ ap (λ k. lines_in (store_of k)) keeper;
@@ -75,8 +72,7 @@ none_as known seen files demands folder now bytes why whys old mid new stand kee
   inr (bytes, (stand, inr (one_says (SaysNoBook bytes) why whys.items says most))),
 )
 
--- both steps of a reload touch the state and the files of credentials alone
+-- both steps of a reload touch the state alone
 module _ {D I L : Type 0} where
-  pub touched : (old mid new : Ledger D I L) → mid ≡ record old { state = mid.state; inputs = mid.inputs } → new ≡ record mid { state = new.state } → new ≡ record old { state = new.state; inputs = new.inputs }
-  touched old mid new first second =
-      second ∙ ap (λ (l : Ledger D I L). record l { state = new.state }) first ∙ ap (λ (i : I). record old { state = new.state; inputs = i }) (sym (ap (λ (l : Ledger D I L). l.inputs) second))
+  pub touched : (old mid new : Ledger D I L) → mid ≡ record old { state = mid.state } → new ≡ record mid { state = new.state } → new ≡ record old { state = new.state }
+  touched old mid new first second = second ∙ ap (λ (l : Ledger D I L). record l { state = new.state }) first

@@ -12,7 +12,6 @@ use Rattle.keep_disk.specs.State.{DiskState}
 use Rattle.keep_disk.specs.declared.fault.DiskFault.{DiskFault}
 use Rattle.keep_ends.specs.Files.{FileIsTried, is_file_due}
 use Rattle.keep_ends.specs.declared.file.EndsFile.{EndsFile}
-use Rattle.keep_files.specs.Files.{Files}
 use Rattle.keep_inventory.specs.Inventories.{Inventory}
 use Rattle.keep_secrets.specs.Stamps.{FileCall, Opened, Stamped}
 use Rattle.keep_secrets.specs.declared.looking.TheConstants.{MOST_LOOKS}
@@ -116,11 +115,11 @@ pub record LedgerIsSpared {D I L : Type 0} (calls : I → Option (List FileCall)
   pub files : FewAreMade stamps reads (calls old.inputs) (calls new.inputs)
   pub disk : new.state.disk ≡ old.state.disk
 
-module _ {D I L : Type 0} (known : Bool) (seen : D → DiskState) (files : I → Files) (calls : I → Option (List FileCall)) (lanes_seen : L → Lanes) (port : L → ℕ) where
+module _ {D I L : Type 0} (known : Bool) (seen : D → DiskState) (calls : I → Option (List FileCall)) (lanes_seen : L → Lanes) (port : L → ℕ) where
   -- a look looks at 64 stamps at most, and reads one file at most; the other calls but those that make a change call no disk
   abbrev pub LedgerLaw : Type 0
   LedgerLaw =
-      (call : KeepCall) (old new : Ledger D I L) → makes_of call ≡ 0 → DoesLedger known seen files calls lanes_seen port call old new →
+      (call : KeepCall) (old new : Ledger D I L) → makes_of call ≡ 0 → DoesLedger known seen calls lanes_seen port call old new →
       LedgerIsSpared calls (MOST_LOOKS * looks_of call) (looks_of call) old new
 
 abbrev pub SparesIf : {D I L : Type 0} → (I → Option (List FileCall)) → Option (Ledger D I L) → Option (Ledger D I L) → Type 0
@@ -151,13 +150,13 @@ module _ {S T D K E : Type 0} (given : S → Option (List ℕ)) (failures tries 
 
 -- a house whose changes are kept by a ledger
 module _ {S T O D I L E : Type 0} (given : S → Option (List ℕ)) (failures tries : S → ℕ) (remaining written : T → Option (List ℕ)) (calls : T → Option (List Call)) (log : O → Option (DoorLog T))
-    (disk_known : Bool) (seen : D → DiskState) (files : I → Files) (file_calls : I → Option (List FileCall)) (lanes_seen : L → Lanes) (port : L → ℕ) (known : Bool) (state : E → DiskState) where
+    (disk_known : Bool) (seen : D → DiskState) (file_calls : I → Option (List FileCall)) (lanes_seen : L → Lanes) (port : L → ℕ) (known : Bool) (state : E → DiskState) where
   abbrev pub HasLedger : Type 0
   HasLedger = House S T O (Ledger D I L) E
 
   abbrev pub ToLedger : NeighbourCall → HasLedger → HasLedger → Type 0
   ToLedger =
-      ToHouse given failures tries remaining written calls log (DoesLedger disk_known seen files file_calls lanes_seen port) (λ (l : Ledger D I L). (book_in l.state).rows) (λ (l : Ledger D I L). l.state.places.file) ReadsTable GivesLedger known state
+      ToHouse given failures tries remaining written calls log (DoesLedger disk_known seen file_calls lanes_seen port) (λ (l : Ledger D I L). (book_in l.state).rows) (λ (l : Ledger D I L). l.state.places.file) ReadsTable GivesLedger known state
 
   abbrev pub SparesLaw : Type 0
   SparesLaw =

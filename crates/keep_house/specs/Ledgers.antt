@@ -32,7 +32,7 @@ use Rattle.keep_house.specs.Candidates.{IsCandidateFor}
 use Rattle.keep_house.specs.Gathering.{AreGathered}
 use Rattle.keep_house.specs.Inquiries.{AsksAbout, ProvesOn, asked_in}
 use Rattle.keep_house.specs.Keeping.{KeepCall, Look, LookUp, Prove, Rebuilt, Reload, Settle, Take, Why, Whys}
-use Rattle.keep_house.specs.Reading.{IsToServe, IsWide}
+use Rattle.keep_house.specs.Reading.{IsWellWritten, IsWide}
 use Rattle.keep_house.specs.Reasons.{bare_words, settle_words, table_words, take_words}
 use Rattle.keep_house.specs.Rereading.{AreBytesOf, IsWhyNotReread, SaysCopy, SaysNotes}
 use Rattle.keep_house.specs.Starts.{is_bare_row}
@@ -107,12 +107,11 @@ pub record IsFilledOn {D : Type 0} (files : Files) (folder : List ℕ) (now : �
   pub taken : FilledWith is_taken now secrets old new
   pub lines_are : lines ≡ said_if is_taken said
 
--- a file that may be served is, with every change; and what is said of it. What was taken of files of credentials stays
-pub record IsReloadedOn {D : Type 0} (known : Bool) (seen : D → DiskState) (files : Files) (demands : Demands) (folder : List ℕ) (now : ℕ) (reread : Reread) (old new : Kept D) : Type 0 where
+-- a file that may be served is, with every change; and what is said of it. What was taken of files of credentials stays, and none is read
+pub record IsReloadedOn {D : Type 0} (known : Bool) (seen : D → DiskState) (demands : Demands) (now : ℕ) (reread : Reread) (old new : Kept D) : Type 0 where
   pub bytes : List ℕ
   pub stand : AreBytesOf known seen old bytes
-  pub inventory : Inventory
-  pub served : IsToServe demands files folder bytes (Ok inventory)
+  pub written : IsWellWritten demands bytes
   pub notes : List Note
   pub book : IsBookIf (Some bytes) (records_in (lines_in (store_in old))) (book_in old).secrets (book_in new) notes
   pub waiting : waiting_in new.keeper ≡ changed (waiting_in old.keeper) now
@@ -122,16 +121,16 @@ pub record IsReloadedOn {D : Type 0} (known : Bool) (seen : D → DiskState) (fi
   pub unkept : SaysCopy copy reread.unkept
 
 -- one that may not leaves all as it was, and the lines say why, unless memory was wanting for them
-abbrev pub ReloadsOn : {D : Type 0} → Bool → (D → DiskState) → Files → Demands → List ℕ → ℕ → Result Reread Whys → Kept D → Kept D → Type 0
-ReloadsOn known seen files demands folder now (Ok reread) old new = IsReloadedOn known seen files demands folder now reread old new
-ReloadsOn known seen files demands folder now (Err whys) old new = IsAsItWas old new × IsWhyNotReread known seen files demands folder old whys.items
+abbrev pub ReloadsOn : {D : Type 0} → Bool → (D → DiskState) → Demands → ℕ → Result Reread Whys → Kept D → Kept D → Type 0
+ReloadsOn known seen demands now (Ok reread) old new = IsReloadedOn known seen demands now reread old new
+ReloadsOn known seen demands now (Err whys) old new = IsAsItWas old new × IsWhyNotReread known seen demands old whys.items
 
 -- a verdict on what a file holds is none of a client's
 abbrev pub ProvesIf : {L : Type 0} → (L → Lanes) → Option AskedFile → ℕ → Result (Option Verdict) AllocError → Option (Inquiry L) → Option (Inquiry L) → Type 0
 ProvesIf lanes_seen (Some other) now result old new = (result ≡ Ok None) × (new ≡ old)
 ProvesIf lanes_seen None now result old new = ProvesOn lanes_seen now result old new
 
-module _ {D I L : Type 0} (known : Bool) (seen : D → DiskState) (files : I → Files) (calls : I → Option (List FileCall)) (lanes_seen : L → Lanes) (port : L → ℕ) where
+module _ {D I L : Type 0} (known : Bool) (seen : D → DiskState) (calls : I → Option (List FileCall)) (lanes_seen : L → Lanes) (port : L → ℕ) where
   -- what a change brings is looked up, and nothing else changes
   abbrev pub LooksUpOn : Reading → List ℕ → What → Result LookedUp AllocError → Ledger D I L → Ledger D I L → Type 0
   LooksUpOn now name w (Ok result) old new =
@@ -144,8 +143,7 @@ module _ {D I L : Type 0} (known : Bool) (seen : D → DiskState) (files : I →
   DoesLedger (Prove now result) old new = ProvesIf lanes_seen old.asked now result old.proving new.proving × (new ≡ record old { proving = new.proving })
   DoesLedger (Take now name w result) old new = TakesOn known seen now name w result old.state new.state × (new ≡ record old { state = new.state })
   DoesLedger (Settle result) old new = SettlesOn known seen result old.state new.state × (new ≡ record old { state = new.state })
-  DoesLedger (Reload now result) old new =
-      ReloadsOn known seen (files old.inputs) old.demands old.folder.now now result old.state new.state × (new ≡ record old { state = new.state; inputs = new.inputs })
+  DoesLedger (Reload now result) old new = ReloadsOn known seen old.demands now result old.state new.state × (new ≡ record old { state = new.state })
   DoesLedger (Look now looked) old new = LooksOrHears calls lanes_seen port now looked old new
   DoesLedger Rebuilt old new =
       (waiting_in new.state.keeper ≡ None) × ((store_in new.state ≡ store_in old.state) × ((new.state.disk ≡ old.state.disk) × (new ≡ record old { state = new.state })))

@@ -83,14 +83,27 @@ AreFaultsOf d known folder bytes v faults =
     (unfilled : List StartFault) × (AreUnfilled known folder 0 (rows_of_served v) unfilled × AreAllOr (AreLast d known folder bytes) (written_faults d v ++ unfilled) faults)
 
 -- a text that is no inventory has one
+abbrev pub AreOfNoInventory : List ℕ → List StartFault → Type 0
+AreOfNoInventory bytes faults = (fault : StartFault) × (IsNoInventory bytes fault × (faults ≡ fault ∷ []))
+
 abbrev pub AreFaults : Demands → Files → List ℕ → List ℕ → List StartFault → Type 0
 AreFaults d known folder bytes faults =
-    ((fault : StartFault) × (IsNoInventory bytes fault × (faults ≡ fault ∷ []))) ⊎ ((v : Served) × ((read_served bytes ≡ Ok v) × AreFaultsOf d known folder bytes v faults))
+    AreOfNoInventory bytes faults ⊎ ((v : Served) × ((read_served bytes ≡ Ok v) × AreFaultsOf d known folder bytes v faults))
 
 -- the first is why it is not served; where there is none, it is
 abbrev pub FirstIsWhy : Demands → Files → List ℕ → List ℕ → List StartFault → Type 0
 FirstIsWhy d known folder bytes [] = (inventory : Inventory) × IsToServe d known folder bytes (Ok inventory)
 FirstIsWhy d known folder bytes (fault ∷ faults) = IsToServe d known folder bytes (Err fault)
+
+-- ---- all faults of what is written
+
+-- whatever the files hold that the text names: those of its margin and of its entries
+abbrev pub AreWrittenFaults : Demands → List ℕ → List StartFault → Type 0
+AreWrittenFaults d bytes faults = AreOfNoInventory bytes faults ⊎ ((v : Served) × ((read_served bytes ≡ Ok v) × (faults ≡ written_faults d v)))
+
+-- it has none, and may be served: each file that it names is waited for
+abbrev pub IsWellWritten : Demands → List ℕ → Type 0
+IsWellWritten d bytes = AreWrittenFaults d bytes []
 
 -- ---- an inventory that is served already, with a wider margin
 

@@ -5,14 +5,14 @@ use Rattle.keep_change.specs.declared.change.Record.{Record}
 use Rattle.keep_change.specs.declared.replaying.Note.{Note}
 use Rattle.keep_disk.specs.State.{DiskState}
 use Rattle.keep_disk.specs.declared.fault.DiskFault.{DiskFault}
-use Rattle.keep_files.specs.Files.{Files}
 use Rattle.keep_state.specs.Reading.{IsWhyUnread}
 use Rattle.keep_state.specs.States.{Kept}
 use Rattle.keep_state.specs.declared.fault.ReadFault.{ReadFault}
 use Rattle.keep_store.specs.Books.{IsFileFaultOf}
 use Rattle.keep_store.specs.declared.fault.FileFault.{FileFault}
+use Rattle.keep_house.specs.Keeping.{Whys}
 use Rattle.keep_house.specs.Noting.{AreWhysNotServed, said_notes}
-use Rattle.keep_house.specs.Reading.{AreFaults}
+use Rattle.keep_house.specs.Reading.{AreWrittenFaults, IsWellWritten}
 use Rattle.keep_house.specs.Reasons.{book_words, disk_words, unread_words}
 use Rattle.keep_house.specs.declared.demands.Demands.{Demands}
 use Rattle.keep_house.specs.declared.fault.StartFault.{StartFault}
@@ -27,9 +27,14 @@ AreBytesOf known seen kept bytes = (mode : ℕ) × (IsTrue known → (seen kept.
 abbrev pub SaysUnread : {D : Type 0} → Bool → (D → DiskState) → Kept D → List ℕ → Type 0
 SaysUnread known seen kept why = (fault : ReadFault) × ((IsTrue known → IsWhyUnread kept.places.file (seen kept.disk) fault) × (why ≡ unread_words fault))
 
--- it may not be served, for each of these reasons; none is said where memory was wanting for them
-abbrev pub SaysFaults : Files → Demands → List ℕ → List ℕ → List (List ℕ) → Type 0
-SaysFaults files demands folder bytes whys = (whys ≡ []) ⊎ ((faults : List StartFault) × (AreFaults demands files folder bytes faults × AreWhysNotServed demands bytes faults whys))
+-- it may not be served, for each of these reasons
+abbrev pub SaysFaults : Demands → List ℕ → List (List ℕ) → Type 0
+SaysFaults demands bytes whys = (fault : StartFault) × ((more : List StartFault) × (AreWrittenFaults demands bytes (fault ∷ more) × AreWhysNotServed demands bytes (fault ∷ more) whys))
+
+-- it may be served, or these are the reasons why not
+abbrev pub SaysIfFaulty : Demands → List ℕ → Option Whys → Type 0
+SaysIfFaulty demands bytes None = IsWellWritten demands bytes
+SaysIfFaulty demands bytes (Some whys) = SaysFaults demands bytes whys.items
 
 -- it is none with the changes of the journal
 abbrev pub SaysNoBook : List ℕ → List ℕ → Type 0
@@ -46,13 +51,13 @@ IsOneWhy Says [] = Unit {0}
 IsOneWhy Says (why ∷ []) = Says why
 IsOneWhy Says (why ∷ next ∷ whys) = ⊥
 
--- what may be wrong with these bytes
-abbrev pub SaysBad : Files → Demands → List ℕ → List ℕ → List (List ℕ) → Type 0
-SaysBad files demands folder bytes whys = SaysFaults files demands folder bytes whys ⊎ IsOneWhy (SaysNoBook bytes) whys
+-- what may be wrong with these bytes; nothing is said of their faults where memory was wanting for that
+abbrev pub SaysBad : Demands → List ℕ → List (List ℕ) → Type 0
+SaysBad demands bytes whys = ((whys ≡ []) ⊎ SaysFaults demands bytes whys) ⊎ IsOneWhy (SaysNoBook bytes) whys
 
-abbrev pub IsWhyNotReread : {D : Type 0} → Bool → (D → DiskState) → Files → Demands → List ℕ → Kept D → List (List ℕ) → Type 0
-IsWhyNotReread known seen files demands folder kept whys =
-    IsOneWhy (SaysUnread known seen kept) whys ⊎ ((bytes : List ℕ) × (AreBytesOf known seen kept bytes × SaysBad files demands folder bytes whys))
+abbrev pub IsWhyNotReread : {D : Type 0} → Bool → (D → DiskState) → Demands → Kept D → List (List ℕ) → Type 0
+IsWhyNotReread known seen demands kept whys =
+    IsOneWhy (SaysUnread known seen kept) whys ⊎ ((bytes : List ℕ) × (AreBytesOf known seen kept bytes × SaysBad demands bytes whys))
 
 -- ---- what is said where it is served
 

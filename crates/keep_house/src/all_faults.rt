@@ -2,7 +2,7 @@
 ghost use Rattle.std.specs.Prelude.{◌≡◌, ◌∷◌, [], List, ℕ, IfOk, Ok};
 ghost use Rattle.keep_inventory.specs.Inventory.{read_served};
 ghost use Rattle.keep_inventory.specs.Served.{Served};
-ghost use Rattle.keep_house.specs.Reading.{AreFaults, AreFaultsOf, AreLast, FirstIsWhy};
+ghost use Rattle.keep_house.specs.Reading.{AreFaults, AreFaultsOf, AreLast, AreWrittenFaults, FirstIsWhy};
 
 use crate::demands::Demands;
 use crate::fault::StartFault;
@@ -33,6 +33,25 @@ pub fn faults_to_serve<I: Inputs>(
 {
     match read_served(alloc, bytes) {
         Ok(served) => faults_of(alloc, bytes, &served, demands, folder, inputs),
+        Err(InvFault::OutOfMemory) => Err(AllocError),
+        Err(fault) => one(alloc, StartFault::Inventory(fault)),
+    }
+}
+
+/// All faults of what the text of an inventory writes, whatever the files hold that it names, in the order of [`StartFault`] and then
+/// of the entries; none, where it may be served once they are waited for. A text that is no inventory has one.
+///
+/// The only error is out of memory.
+#[tactic(auto, using(crate::proofs::Faulty::none_written, crate::proofs::Faulty::written_so))]
+pub fn faults_as_written(
+    alloc: Global,
+    bytes: &[u8],
+    demands: Demands,
+) -> Result<Vec<StartFault>, AllocError>
+    ensures { IfOk result (λ faults. AreWrittenFaults demands bytes.now faults.items) }
+{
+    match read_served(alloc, bytes) {
+        Ok(served) => written_faults(alloc, demands, &served),
         Err(InvFault::OutOfMemory) => Err(AllocError),
         Err(fault) => one(alloc, StartFault::Inventory(fault)),
     }

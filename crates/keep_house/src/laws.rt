@@ -65,7 +65,7 @@ pub fn a_turn_spares_disks<S: LogSink, T: Talk, D: Door<T>, K: Keeping, E: Disk>
 /// The law that a look at files of credentials looks at 64 stamps and reads one file at most, and that no call but one that makes a change
 /// calls the disk of a [`Ledger`](crate::Ledger).
 pub fn a_look_spares_disks<D: Disk, I: Inputs + SecretFiles, L: Lanes>()
-    ensures { LedgerLaw D.is_known D.state I.bytes_at I.calls ⟦<L as SeenLanes>⟧.seen L.host_port }
+    ensures { LedgerLaw D.is_known D.state I.calls ⟦<L as SeenLanes>⟧.seen L.host_port }
 {}
 
 /// The law that in a turn in which no change is taken 64 stamps of files are looked at and one file is read at most, and the disk of a
@@ -79,5 +79,5 @@ pub fn a_turn_without_a_change_spares_disks<
     L: Lanes,
     E: Disk,
 >()
-    ensures { SparesLaw S.written S.failures S.tries T.remaining T.written T.calls O.log D.is_known D.state I.bytes_at I.calls ⟦<L as SeenLanes>⟧.seen L.host_port E.is_known E.state }
+    ensures { SparesLaw S.written S.failures S.tries T.remaining T.written T.calls O.log D.is_known D.state I.calls ⟦<L as SeenLanes>⟧.seen L.host_port E.is_known E.state }
 {}

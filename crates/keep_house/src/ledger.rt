@@ -14,9 +14,9 @@ ghost use Rattle.keep_store.specs.Stores.{lines_in};
 ghost use Rattle.keep_waiting.specs.Keepers.{waiting_in};
 ghost use Rattle.keep_house.specs.Ledgers.{AreCompacted, FilledWith, IsFilledOn, IsTakenOn, StaysOnDisk, apart_line};
 ghost use Rattle.keep_house.specs.Noting.{left_lines, said_notes};
-ghost use Rattle.keep_house.specs.Reading.{IsToServe, IsWide};
+ghost use Rattle.keep_house.specs.Reading.{IsWellWritten, IsWide};
 ghost use Rattle.keep_house.specs.Reasons.{bare_words, left_words, table_words};
-ghost use Rattle.keep_house.specs.Rereading.{AreAtMost, AreBytesOf, IsWhyNotReread, SaysCopy, SaysFaults, SaysNoBook, SaysNotes, SaysUnread};
+ghost use Rattle.keep_house.specs.Rereading.{AreAtMost, AreBytesOf, IsWhyNotReread, SaysCopy, SaysNoBook, SaysNotes, SaysUnread};
 ghost use Rattle.keep_house.specs.Starts.{is_bare_row};
 ghost use Rattle.keep_house.specs.Untouched.{IsAsItWas};
 
@@ -27,7 +27,7 @@ use crate::first_fault::is_bare_row;
 use crate::gathered_secrets::{Gathered, gather};
 use crate::inquiry::{ask, hear};
 use crate::keeping::{Keeping, LookedUp, Reread};
-use crate::reading::{read_to_serve, wide};
+use crate::reading::wide;
 use crate::reasons::{
     after, bare_words, book_words, disk_words, settle_words, table_words, take_words, unread_words,
 };
@@ -107,39 +107,24 @@ impl<'a, D: Disk, I: Inputs, L: Lanes> Ledger<'a, D, I, L> {
         }
     }
 
-    // The file at its path, where it may be served; otherwise why not, a reason a line.
-    #[tactic(auto, using(crate::proofs::WhyUnserved::unread_why))]
+    // The file at its path, where what it writes may be served; otherwise why not, a reason a line.
+    #[tactic(auto, using(crate::proofs::WhyUnserved::unread_why, crate::proofs::WhyUnserved::unserved_why, crate::proofs::WhyUnserved::wanting_why))]
     fn judged(&mut self, alloc: Global) -> Result<Text, Vec<Text>>
         ensures stand { IfOk result (λ bytes. AreBytesOf D.is_known D.state self.old.state bytes) }
-        ensures served { IfOk result (λ bytes. (inventory : Inventory) × IsToServe self.old.demands (I.bytes_at self.old.inputs) self.old.folder.now bytes (Ok inventory)) }
-        ensures refused { IfErr result (λ whys. IsWhyNotReread D.is_known D.state (I.bytes_at self.old.inputs) self.old.demands self.old.folder.now self.old.state whys.items) }
+        ensures written { IfOk result (λ bytes. IsWellWritten self.old.demands bytes) }
+        ensures refused { IfErr result (λ whys. IsWhyNotReread D.is_known D.state self.old.demands self.old.state whys.items) }
         ensures keeper { self.new.state.keeper ≡ self.old.state.keeper }
         ensures places { self.new.state.places ≡ self.old.state.places }
-        ensures same { (path : List ℕ) → I.bytes_at self.new.inputs path ≡ I.bytes_at self.old.inputs path }
-        ensures rest { self.new ≡ record self.old { state = self.new.state; inputs = self.new.inputs } }
+        ensures rest { self.new ≡ record self.old { state = self.new.state } }
     {
         let bytes = match self.read(alloc) {
             Ok(bytes) => bytes,
             Err(why) => return Err(one_why(alloc, why)),
         };
-        match self.judge(alloc, bytes.list()) {
-            Ok(()) => Ok(bytes),
-            Err(whys) => Err(whys),
-        }
-    }
-
-    // Whether these bytes of the file may be served; otherwise why not, a reason a line.
-    #[tactic(auto, using(crate::proofs::WhyUnserved::says_as))]
-    fn judge(&mut self, alloc: Global, bytes: &[u8]) -> Result<(), Vec<Text>>
-        ensures served { OnOk result ((inventory : Inventory) × IsToServe self.old.demands (I.bytes_at self.old.inputs) self.old.folder.now bytes.now (Ok inventory)) }
-        ensures refused { IfErr result (λ whys. SaysFaults (I.bytes_at self.old.inputs) self.old.demands self.old.folder.now bytes.now whys.items) }
-        ensures same { (path : List ℕ) → I.bytes_at self.new.inputs path ≡ I.bytes_at self.old.inputs path }
-        ensures rest { self.new ≡ record self.old { inputs = self.new.inputs } }
-    {
-        let demands = self.demands;
-        match read_to_serve(alloc, bytes, demands, self.folder, &mut self.inputs) {
-            Ok(_) => Ok(()),
-            Err(_) => { Err(why_not_served(alloc, bytes, demands, self.folder, &mut self.inputs)) }
+        match why_not_served(alloc, bytes.list(), self.demands) {
+            Ok(None) => Ok(bytes),
+            Ok(Some(whys)) => Err(whys),
+            Err(AllocError) => Err(Vec::new(alloc)),
         }
     }
 
@@ -347,7 +332,7 @@ impl<'a, D: Disk, I: Inputs + SecretFiles, L: Lanes> Keeping for Ledger<'a, D, I
     ghost use Rattle.keep_house.specs.Ledgers.{DoesLedger, GivesLedger, ReadsTable};
     ghost use Rattle.keep_state.specs.States.{book_in};
 
-    ghost does = { DoesLedger D.is_known D.state I.bytes_at I.calls ⟦<L as SeenLanes>⟧.seen L.host_port };
+    ghost does = { DoesLedger D.is_known D.state I.calls ⟦<L as SeenLanes>⟧.seen L.host_port };
 
     ghost rows = { λ l. (book_in l.state).rows };
 

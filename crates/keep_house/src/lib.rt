@@ -3,7 +3,7 @@
 //! a restart.
 //!
 //! The contract for the layers above: [`read_to_serve`] gives what is served by the text of an inventory, or the first fault of the
-//! start, and [`faults_to_serve`] all of them (`specs/Reading`, `specs/Starts`); a [`Desk`] says what happens to the agent, line by line
+//! start, and [`faults_to_serve`] all of them, [`faults_as_written`] without those of files (`specs/Reading`, `specs/Starts`); a [`Desk`] says what happens to the agent, line by line
 //! (`specs/LogDesk`, `specs/Wants`), and lack of memory costs the line alone; and a [`House`] gives each neighbour its bounded part of a turn: [`House::attend`] what each is sent
 //! (`specs/Houses`), [`House::next_change`] carries out what a client asks for, once a credential that it brings was looked up
 //! (`specs/Awaiting`), and [`House::settle_given`] tells what came of a change (`specs/Commands`); [`House::look`] what is read, looked up
@@ -61,7 +61,7 @@ mod secret_news;
 mod unserved;
 mod verdict_words;
 
-pub use all_faults::faults_to_serve;
+pub use all_faults::{faults_as_written, faults_to_serve};
 pub use asked_file::AskedFile;
 pub use demands::Demands;
 pub use desk::Desk;

@@ -1,16 +1,13 @@
 //! Why a file is not served, in words.
-ghost use Rattle.std.specs.Prelude.{◌≡◌, ◌++◌, ◌∷◌, [], List, ℕ, IfOk, OnOk, map, take};
+ghost use Rattle.std.specs.Prelude.{◌≡◌, ◌++◌, ◌∷◌, [], IfOk, OnOk, map, take};
 ghost use Rattle.keep_house.specs.Noting.{AreWhysNotServed, more_faults, said_faults};
-ghost use Rattle.keep_house.specs.Reading.{AreFaults};
 ghost use Rattle.keep_house.specs.Reasons.{file_words, more_words};
-ghost use Rattle.keep_house.specs.Rereading.{SaysFaults};
-ghost use Rattle.keep_house.specs.declared.fault.StartFault.{StartFault};
+ghost use Rattle.keep_house.specs.Rereading.{SaysIfFaulty};
 
-use crate::all_faults::faults_to_serve;
+use crate::all_faults::faults_as_written;
 use crate::demands::Demands;
 use crate::fault::StartFault;
 use crate::reasons::{file_words, inventory_words};
-use keep_files::Inputs;
 use keep_inventory::{InvFault, read_served};
 use keep_moment::Text;
 use keep_tree::Forest;
@@ -20,37 +17,22 @@ use std::alloc::{AllocError, Global};
 /// The faults of a file that are said at most; what is left is counted in one line more.
 const MOST_FAULTS: usize = 100;
 
-/// Why a file with these bytes is not served, in words: a line for each fault, of which a hundred are said, and then how many more there
-/// are; none where memory was wanting for them.
-pub fn why_not_served<I: Inputs>(
+/// Why a file with these bytes is not served, in words: a line for each fault of what it writes, of which a hundred are said, and then
+/// how many more there are; `None` where it may be served. What the files hold that it names is waited for. The only error is out of
+/// memory.
+#[tactic(auto, using(crate::proofs::Faulty::well_written, crate::proofs::Faulty::says_each))]
+pub fn why_not_served(
     alloc: Global,
     bytes: &[u8],
     demands: Demands,
-    folder: &str,
-    inputs: &mut I,
-) -> Vec<Text>
-    ensures why { SaysFaults (I.bytes_at inputs.old) demands folder.now bytes.now result.items }
-    ensures same { (path : List ℕ) → I.bytes_at inputs.new path ≡ I.bytes_at inputs.old path }
+) -> Result<Option<Vec<Text>>, AllocError>
+    ensures { IfOk result (SaysIfFaulty demands bytes.now) }
 {
-    match words_of_all(alloc, bytes, demands, folder, inputs) {
-        Ok(whys) => whys,
-        Err(AllocError) => Vec::new(alloc),
+    let faults = faults_as_written(alloc, bytes, demands)?;
+    if faults.is_empty() {
+        return Ok(None);
     }
-}
-
-// The words of all faults of a file with these bytes.
-fn words_of_all<I: Inputs>(
-    alloc: Global,
-    bytes: &[u8],
-    demands: Demands,
-    folder: &str,
-    inputs: &mut I,
-) -> Result<Vec<Text>, AllocError>
-    ensures why { IfOk result (λ whys. (faults : List StartFault) × (AreFaults demands (I.bytes_at inputs.old) folder.now bytes.now faults × AreWhysNotServed demands bytes.now faults whys.items)) }
-    ensures same { (path : List ℕ) → I.bytes_at inputs.new path ≡ I.bytes_at inputs.old path }
-{
-    let faults = faults_to_serve(alloc, bytes, demands, folder, inputs)?;
-    words_of(alloc, demands, bytes, &faults)
+    Ok(Some(words_of(alloc, demands, bytes, &faults)?))
 }
 
 // The words of these faults of a file with these bytes.

@@ -4,6 +4,7 @@ use keep_disk::{Disk as _, DiskFault, SystemDisk, Why};
 use keep_ends::{EndsFile, known_events, load_ends};
 use keep_house::Desk;
 use keep_inventory::Inventory;
+use keep_log::Level;
 use keep_moment::Text;
 use leasekeep_commands::Room;
 use std::alloc::{AllocError, Global};
@@ -36,8 +37,8 @@ pub fn folder_of(file: &str) -> &str {
     }
 }
 
-/// The file of the ends in this room; `None` where there is no room for it, or no id of this boot, which the desk is told. The only
-/// error is lack of memory.
+/// The file of the ends in this room, which this agent holds from then on; `None` where there is no room for it, and where another agent
+/// holds it or there is no id of this boot, which the desk is told. The only error is lack of memory.
 pub fn ends_file<'a, R: Files<File = File> + AllocGlobal>(
     rt: &'a R,
     room: Option<Room<'_>>,
@@ -52,6 +53,9 @@ pub fn ends_file<'a, R: Files<File = File> + AllocGlobal>(
     match boot_id(alloc, &mut disk) {
         Ok(boot) => {
             let path = path_of(alloc, room)?;
+            if !is_held(alloc, &mut disk, &path, now, desk)? {
+                return Ok(None);
+            }
             Ok(Some(EndsFile::new(path, boot, disk)))
         }
         Err(DiskFault::OutOfMemory) => Err(AllocError),
@@ -59,6 +63,30 @@ pub fn ends_file<'a, R: Files<File = File> + AllocGlobal>(
             desk.hear_unread(alloc, now, fault);
             Ok(None)
         }
+    }
+}
+
+/// Whether no other agent holds the file of the ends at a path; then this one does, until it ends. Otherwise the desk is told. Where the
+/// lock cannot be had for another reason, that shows once the file is written. The only error is lack of memory.
+fn is_held<R: Files<File = File> + AllocGlobal>(
+    alloc: Global,
+    disk: &mut SystemDisk<'_, R>,
+    path: &str,
+    now: Reading,
+    desk: &mut Desk,
+) -> Result<bool, AllocError> {
+    let lock = format!(in alloc; "{path}.lock")?;
+    match disk.lock(&lock) {
+        Ok(Some(_)) => Ok(true),
+        Ok(None) => {
+            let text = format!(in alloc;
+                "{path} is another agent's: give each a folder of its own"
+            )?;
+            desk.hear_at_start(alloc, now, Level::Alert, "ends", text.as_bytes());
+            Ok(false)
+        }
+        Err(DiskFault::OutOfMemory) => Err(AllocError),
+        Err(_) => Ok(true),
     }
 }
 

@@ -84,10 +84,10 @@ pub fn begin<'a, R: Files<File = File> + AllocGlobal + Net + Clock>(
 ) -> Result<Begun<'a, R>, NotBegun> {
     let alloc = rt.alloc();
     let mut disk = SystemDisk::new(rt);
-    let mut files = SystemSecrets::new(rt);
     make_folder(alloc, &mut disk, folder)?;
-    let found = find(alloc, &mut disk, paths, demands, &mut files)?;
+    let found = find(alloc, &mut disk, paths, folder, demands)?;
     let opened = open(alloc, disk, paths, folder, &found)?;
+    let files = SystemSecrets::new(rt);
     Ok(begin_with(alloc, paths, demands, files, opened, found.said)?)
 }
 
@@ -262,7 +262,7 @@ fn say_damaged(
 }
 
 /// Appends what is said.
-fn push(
+pub fn push(
     said: &mut Vec<Said>,
     level: Level,
     event: &'static str,

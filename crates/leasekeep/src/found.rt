@@ -1,9 +1,8 @@
 //! What a start with a state folder finds of the file that is to be served, and of its last good copy.
-use crate::ends::folder_of;
 use crate::folder::{Said, push_each};
-use crate::secrets::SystemSecrets;
+use crate::modes::{may_others_write, say_open};
 use keep_disk::{Disk as _, DiskFault, SystemDisk};
-use keep_house::{Demands, StartFault, read_to_serve, unread_words, why_not_served};
+use keep_house::{Demands, unread_words, why_not_served};
 use keep_inventory::MOST_INVENTORY;
 use keep_log::Level;
 use keep_moment::Text;
@@ -38,17 +37,18 @@ impl From<AllocError> for Unserved {
     }
 }
 
-/// What the file and its copy at these paths are found to be. The only error is lack of memory.
+/// What the file and its copy at these paths are found to be, as they are written: what the files hold that they name is waited for. A
+/// copy that others may write is none. The only error is lack of memory.
 pub fn find<R: Files<File = File> + AllocGlobal>(
     alloc: Global,
     disk: &mut SystemDisk<'_, R>,
     paths: &Paths,
+    folder: &str,
     demands: Demands,
-    files: &mut SystemSecrets<'_, R>,
 ) -> Result<Found, AllocError> {
-    let base = folder_of(paths.file());
     let mut said = Vec::new(alloc);
-    let file = match judged(alloc, disk, paths.file(), demands, base, files) {
+    say_open(alloc, disk, paths, folder, &mut said)?;
+    let file = match judged(alloc, disk, paths.file(), demands) {
         Ok(bytes) => Some(bytes),
         Err(Unserved::Whys(whys)) => {
             push_each(&mut said, Level::Alert, "file", whys)?;
@@ -56,7 +56,11 @@ pub fn find<R: Files<File = File> + AllocGlobal>(
         }
         Err(Unserved::Memory) => return Err(AllocError),
     };
-    let copy = copied(alloc, disk, paths.copy(), demands, base, files)?;
+    let copy = if may_others_write(disk, folder)? || may_others_write(disk, paths.copy())? {
+        None
+    } else {
+        copied(alloc, disk, paths.copy(), demands)?
+    };
     Ok(Found { file, copy, said })
 }
 
@@ -66,18 +70,15 @@ fn judged<R: Files<File = File> + AllocGlobal>(
     disk: &mut SystemDisk<'_, R>,
     path: &str,
     demands: Demands,
-    base: &str,
-    files: &mut SystemSecrets<'_, R>,
 ) -> Result<Text, Unserved> {
     let bytes = match read_file(alloc, disk, path) {
         Ok(read) => read.bytes,
         Err(ReadFault::OutOfMemory) => return Err(Unserved::Memory),
         Err(fault) => return Err(alone(alloc, unread_words(alloc, fault)?)?),
     };
-    match read_to_serve(alloc, bytes.list(), demands, base, files) {
-        Ok(_) => Ok(bytes),
-        Err(StartFault::OutOfMemory) => Err(Unserved::Memory),
-        Err(_) => Err(reasons(alloc, bytes.list(), demands, base, files)),
+    match why_not_served(alloc, bytes.list(), demands)? {
+        None => Ok(bytes),
+        Some(whys) => Err(Unserved::Whys(whys)),
     }
 }
 
@@ -88,38 +89,20 @@ fn alone(alloc: Global, why: Text) -> Result<Unserved, AllocError> {
     Ok(Unserved::Whys(whys))
 }
 
-/// Why a file of these bytes is not served. That there is no reason means that memory was wanting for them.
-fn reasons<R: Files + AllocGlobal>(
-    alloc: Global,
-    bytes: &[u8],
-    demands: Demands,
-    base: &str,
-    files: &mut SystemSecrets<'_, R>,
-) -> Unserved {
-    let whys = why_not_served(alloc, bytes, demands, base, files);
-    if whys.is_empty() {
-        return Unserved::Memory;
-    }
-    Unserved::Whys(whys)
-}
-
 /// The last good copy, where there is one that may be served. The only error is lack of memory.
 fn copied<R: Files<File = File> + AllocGlobal>(
     alloc: Global,
     disk: &mut SystemDisk<'_, R>,
     path: &str,
     demands: Demands,
-    base: &str,
-    files: &mut SystemSecrets<'_, R>,
 ) -> Result<Option<Text>, AllocError> {
     let bytes = match disk.read(alloc, path, MOST_INVENTORY) {
         Ok(Some(bytes)) => bytes,
         Err(DiskFault::OutOfMemory) => return Err(AllocError),
         Ok(None) | Err(_) => return Ok(None),
     };
-    match read_to_serve(alloc, bytes.list(), demands, base, files) {
-        Ok(_) => Ok(Some(bytes)),
-        Err(StartFault::OutOfMemory) => Err(AllocError),
-        Err(_) => Ok(None),
+    match why_not_served(alloc, bytes.list(), demands)? {
+        None => Ok(Some(bytes)),
+        Some(_) => Ok(None),
     }
 }

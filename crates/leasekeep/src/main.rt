@@ -12,6 +12,7 @@ mod ends;
 mod folder;
 mod found;
 mod live;
+mod modes;
 mod reading;
 mod running;
 mod secrets;

@@ -7,7 +7,9 @@ use keep_command::SystemFiles;
 use keep_device::{Sink, Watched};
 use keep_engine::{Exit, PROGRAM, Stop, tell};
 use keep_files::Inputs;
-use keep_house::{Demands, StartFault, faults_to_serve, line_of_fault, read_to_serve};
+use keep_house::{
+    Demands, StartFault, faults_as_written, faults_to_serve, line_of_fault, read_to_serve,
+};
 use keep_inventory::{Inventory, MOST_INVENTORY, read_served};
 use keep_moment::Text;
 use leasekeep_commands::Served;
@@ -25,8 +27,7 @@ pub struct Inventories {
     pub again: Option<Inventory>,
 }
 
-/// What is served of the file; or the exit, once it was told why the start is refused.
-#[tactic(auto, using(crate::proofs::Refusals::refused_input))]
+/// What is served of the file, with what the files hold that it names; or the exit, once it was told why the start is refused.
 pub fn read_inventory<R, E>(
     rt: &R,
     served: &Served<'_>,
@@ -38,13 +39,73 @@ where
     E: Sink,
     ensures { GivesOrRefuses result (⟦<E as Watched>⟧.change errors.old errors.new) }
 {
-    if let Some(exit) = refuse_mode(rt, served.file, errors) {
+    let bytes = read_bytes(rt, served.file, errors)?;
+    serve_bytes(rt, served.file, &bytes, demands, errors)
+}
+
+/// Refuses a file that cannot be read, or that may not be served for what it writes, whatever the files hold that it names.
+pub fn refuse_written<R, E>(
+    rt: &R,
+    served: &Served<'_>,
+    demands: Demands,
+    errors: &mut E,
+) -> Option<Exit>
+where
+    R: Files<File = File> + AllocGlobal,
+    E: Sink,
+    ensures { RefusesIf result (⟦<E as Watched>⟧.change errors.old errors.new) }
+{
+    let bytes = match read_bytes(rt, served.file, errors) {
+        Ok(bytes) => bytes,
+        Err(exit) => return Some(exit),
+    };
+    match faults_as_written(rt.alloc(), bytes.list(), demands) {
+        Ok(faults) => refuse_faults(rt, served.file, &bytes, demands, &faults, errors),
+        Err(AllocError) => Some(Stop::Memory.report(PROGRAM, errors)),
+    }
+}
+
+/// Refuses a file with these bytes for these faults of what it writes, where there are any.
+#[tactic(auto, using(crate::proofs::Refusals::refused_inventory))]
+fn refuse_faults<R, E>(
+    rt: &R,
+    file: &str,
+    bytes: &Text,
+    demands: Demands,
+    faults: &[StartFault],
+    errors: &mut E,
+) -> Option<Exit>
+where
+    R: Files<File = File> + AllocGlobal,
+    E: Sink,
+    ensures { RefusesIf result (⟦<E as Watched>⟧.change errors.old errors.new) }
+{
+    if faults.is_empty() {
+        return None;
+    }
+    if let StartFault::Inventory(fault) = faults[0] {
+        let files = SystemFiles::new(rt);
+        return Some(refuse_file(&files, Stop::from(fault), file, errors));
+    }
+    let lines = lines_of(rt.alloc(), demands, bytes, faults);
+    Some(refuse(lines, errors))
+}
+
+/// The bytes of the file; or the exit, once it was told why it cannot be read.
+#[tactic(auto, using(crate::proofs::Refusals::refused_input))]
+fn read_bytes<R, E>(rt: &R, file: &str, errors: &mut E) -> Result<Text, Exit>
+where
+    R: Files<File = File> + AllocGlobal,
+    E: Sink,
+    ensures { GivesOrRefuses result (⟦<E as Watched>⟧.change errors.old errors.new) }
+{
+    if let Some(exit) = refuse_mode(rt, file, errors) {
         return Err(exit);
     }
     let mut files = SystemFiles::new(rt);
-    match files.read(rt.alloc(), served.file, MOST_INVENTORY) {
-        Ok(bytes) => serve_bytes(rt, served.file, &bytes, demands, &files, errors),
-        Err(fault) => Err(refuse_file(&files, Stop::from(fault), served.file, errors)),
+    match files.read(rt.alloc(), file, MOST_INVENTORY) {
+        Ok(bytes) => Ok(bytes),
+        Err(fault) => Err(refuse_file(&files, Stop::from(fault), file, errors)),
     }
 }
 
@@ -55,7 +116,6 @@ fn serve_bytes<R, E>(
     file: &str,
     bytes: &Text,
     demands: Demands,
-    files: &SystemFiles<'_, R>,
     errors: &mut E,
 ) -> Result<Inventories, Exit>
 where
@@ -72,7 +132,8 @@ where
             again: read_again(alloc, bytes, demands, folder, &mut secrets),
         }),
         Err(StartFault::Inventory(fault)) => {
-            Err(refuse_file(files, Stop::from(fault), file, errors))
+            let files = SystemFiles::new(rt);
+            Err(refuse_file(&files, Stop::from(fault), file, errors))
         }
         Err(_) => {
             let lines = refusal(alloc, bytes, demands, folder, &mut secrets);

@@ -3,7 +3,7 @@ ghost use Rattle.leasekeep.specs.Ends.{EndsServe};
 
 use crate::apart::earlier_by;
 use crate::folder::{NotBegun, Said, begin, paths_of, refuse_changes, refuse_held};
-use crate::reading::read_inventory;
+use crate::reading::{read_inventory, refuse_written};
 use crate::running::{Start, run};
 use keep_command::SystemFiles;
 use keep_device::{Sink, Watched};
@@ -106,9 +106,9 @@ where
     match why {
         NotBegun::Unused(said) => serve_file(rt, served, demands, Some(said), log, errors),
         NotBegun::Held => refuse_held(rt.alloc(), served.state.unwrap_or(""), errors),
-        NotBegun::Refused => match read_inventory(rt, served, demands, errors) {
-            Ok(_) => refuse_changes(rt.alloc(), served.state.unwrap_or(""), errors),
-            Err(exit) => exit,
+        NotBegun::Refused => match refuse_written(rt, served, demands, errors) {
+            None => refuse_changes(rt.alloc(), served.state.unwrap_or(""), errors),
+            Some(exit) => exit,
         },
         NotBegun::Memory => Stop::Memory.report(PROGRAM, errors),
     }

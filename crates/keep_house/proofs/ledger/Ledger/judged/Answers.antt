@@ -1,16 +1,19 @@
--- The bytes that were read may not be served.
-use Rattle.std.proofs.Common.{subst, sym}
-use Rattle.keep_house.specs.Rereading.{AreBytesOf, SaysFaults}
+-- What was read may not be served.
+use Rattle.std.proofs.Common.{Option, subst, sym}
+use Rattle.keep_house.specs.Keeping.{Whys}
+use Rattle.keep_house.specs.Rereading.{AreBytesOf, IsWhyNotReread, SaysFaults, SaysIfFaulty}
 use Rattle.keep_house.proofs.WhyUnserved.{unserved_why}
 use Rattle.keep_house.proofs.ledger.Ledger.judged.Goals as goal
 
-pub returns-in-Err-judge-clause-refused : goal.returns-in-Err-judge-clause-refused
-returns-in-Err-judge-clause-refused g c =
+pub returns-in-Ok-Some-clause-refused : goal.returns-in-Ok-Some-clause-refused
+returns-in-Ok-Some-clause-refused g c =
     let old = c.args.self.now in
     let told = c.in-Ok.ensures in
-    let whys = c.in-Err-judge.whys.items in
     let bytes = c.list.result.now in
-    let files = g.I.Inputs.bytes_at in
-    let says = subst (λ l. SaysFaults (files l.inputs) l.demands l.folder.now bytes whys) told.rest c.in-Err-judge.ensures.refused in
-    unserved_why g.D.Disk.is_known g.D.Disk.state (files old.inputs) old.demands old.folder.now old.state bytes whys
-    (subst (AreBytesOf g.D.Disk.is_known g.D.Disk.state old.state) (sym c.list.ensures) told.stand) says
+    let whys = c.in-Ok-Some.whys in
+    let known = g.D.Disk.is_known in
+    let seen = g.D.Disk.state in
+    let says = subst (λ (w : Option Whys). SaysIfFaulty c.read.new.self.demands bytes w) c.in-Ok-Some.field-0-is c.in-Ok-Some.ensures in
+    let by_old = subst (λ l. SaysFaults l.demands bytes whys.items) told.rest says in
+    subst (λ (w : Whys). IsWhyNotReread known seen old.demands old.state w.items) (sym c.in-Ok-Some.whys-is)
+    (unserved_why known seen old.demands old.state bytes whys.items (subst (AreBytesOf known seen old.state) (sym c.list.ensures) told.stand) by_old)

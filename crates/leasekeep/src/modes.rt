@@ -1,0 +1,72 @@
+//! Whether others than the agent's user and its group may reach what lies in the state folder.
+use crate::folder::{Said, push};
+use keep_disk::{Disk as _, DiskFault, SystemDisk};
+use keep_log::Level;
+use keep_moment::Text;
+use keep_state::Paths;
+use std::alloc::{AllocError, Global};
+use std::fs::File;
+use std::rt::Files;
+
+/// The permission bits of others.
+const OTHERS: u32 = 0o007;
+
+/// Their bit to write.
+const OTHERS_WRITE: u32 = 0o002;
+
+/// Says of the folder, and of each file in it that holds secrets, that it is open to others, where it is. The only error is lack of
+/// memory.
+pub fn say_open<R: Files<File = File> + AllocGlobal>(
+    alloc: Global,
+    disk: &mut SystemDisk<'_, R>,
+    paths: &Paths,
+    folder: &str,
+    said: &mut Vec<Said>,
+) -> Result<(), AllocError> {
+    say_mode(alloc, disk, folder, folder, said)?;
+    say_mode(alloc, disk, paths.journal(), folder, said)?;
+    say_mode(alloc, disk, paths.copy(), folder, said)?;
+    say_mode(alloc, disk, paths.aside(), folder, said)
+}
+
+fn say_mode<R: Files<File = File> + AllocGlobal>(
+    alloc: Global,
+    disk: &mut SystemDisk<'_, R>,
+    path: &str,
+    folder: &str,
+    said: &mut Vec<Said>,
+) -> Result<(), AllocError> {
+    let mode = mode_of(disk, path)?;
+    if mode & OTHERS == 0 {
+        return Ok(());
+    }
+    let text = format!(in alloc;
+        "{path} is open to others (mode {mode:04o}): chmod -R go= {folder}"
+    )?;
+    push(
+        said,
+        Level::Alert,
+        "folder",
+        Text::from_vec(text.into_bytes()),
+    )
+}
+
+/// Whether others may write what is at a path. The only error is lack of memory.
+pub fn may_others_write<R: Files<File = File> + AllocGlobal>(
+    disk: &mut SystemDisk<'_, R>,
+    path: &str,
+) -> Result<bool, AllocError> {
+    Ok(mode_of(disk, path)? & OTHERS_WRITE != 0)
+}
+
+/// The permission bits of what is at a path; none where nothing is, or they cannot be told. The only error is lack of memory.
+fn mode_of<R: Files<File = File> + AllocGlobal>(
+    disk: &mut SystemDisk<'_, R>,
+    path: &str,
+) -> Result<u32, AllocError> {
+    match disk.stamp(path) {
+        Ok(Some(stamp)) => Ok(stamp.mode),
+        Err(DiskFault::OutOfMemory) => Err(AllocError),
+        Ok(None) | Err(_) => Ok(0),
+    }
+}
