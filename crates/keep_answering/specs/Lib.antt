@@ -1,3 +1,4 @@
+pub mod Resting
 pub mod Onlooking
 pub mod Wanting
 pub mod Controlling

@@ -1,6 +1,6 @@
 -- Onlooking: what the onlookers of a running agent are sent.
 -- Source: this project's own; what answers a question is keep_onlook's.
-use Rattle.std.specs.Prelude.{◌≡◌, ℕ, List, [], ◌++◌, Bool, true, false, ◌&&◌, Option, Some, None}
+use Rattle.std.specs.Prelude.{◌≡◌, ℕ, List, [], ◌++◌, Bool, true, false, ◌&&◌, ◌||◌, Option, Some, None, is_some, nat_le}
 use Rattle.std.specs.List.{list_any}
 use Rattle.keep_agent.specs.Agent.{Agent}
 use Rattle.keep_clients.specs.Doors.{DoorLog}
@@ -17,9 +17,11 @@ use Rattle.keep_onlook.specs.declared.asked.Question.{Question}
 use Rattle.keep_onlook.specs.declared.asked.Question.TheVariants.{Unread}
 use Rattle.keep_onlook.specs.declared.asked.TheConstants.{HEAD_MAX}
 use Rattle.keep_onlook.specs.declared.board.Surroundings.{Surroundings}
+use Rattle.keep_answering.specs.Resting.{rest_before}
 use Rattle.keep_answering.specs.declared.heads.Heads.{Heads}
 use Rattle.keep_answering.specs.declared.onlookers.Onlookers.{Onlookers}
 use Rattle.keep_answering.specs.declared.onlookers.TheConstants.{MOST_ONLOOKERS}
+use Rattle.keep_answering.specs.declared.rest.Rest.{Rest}
 use Rattle.keep_answering.specs.declared.went.Went.{Went}
 
 -- ---- what is asked
@@ -57,13 +59,23 @@ abbrev pub FirstIsSent : {T : Type 0} → Agent → Surroundings → ℕ → Opt
 FirstIsSent agent around now None enough old new = (enough ≡ true) × (new ≡ old)
 FirstIsSent agent around now (Some bytes) enough old new = (sent : List ℕ) × (IsSentIf enough agent around bytes sent × AnswersFirst now sent true old new)
 
-abbrev pub OneIsSent : {T : Type 0} → Agent → Surroundings → ℕ → Bool → GuestTable T Heads → GuestTable T Heads → Type 0
-OneIsSent agent around now enough old new = FirstIsSent agent around now (first_asked old) enough old new
+-- unless the rest after the last answer goes on
+abbrev pub OneIsSent : {T : Type 0} → Bool → Agent → Surroundings → ℕ → Bool → GuestTable T Heads → GuestTable T Heads → Type 0
+OneIsSent true agent around now enough old new = FirstIsSent agent around now (first_asked old) enough old new
+OneIsSent false agent around now enough old new = (enough ≡ true) × (new ≡ old)
+
+abbrev pub is_asked : {T : Type 0} → GuestTable T Heads → Bool
+is_asked table = is_some (first_asked table)
+
+-- an answer that is made now is noted, for the rest after it
+abbrev pub rest_with : Bool → ℕ → Rest → Rest
+rest_with true now rest = record rest { begun = Some now }
+rest_with false now rest = rest
 
 -- ---- a call
 
 abbrev pub nobody : {T D : Type 0} → D → Onlookers T D
-nobody door = record { clients = record { guests = []; next = 0; limits = record { guests = MOST_ONLOOKERS; bytes = HEAD_MAX }; framing = record {} }; door = door }
+nobody door = record { clients = record { guests = []; next = 0; limits = record { guests = MOST_ONLOOKERS; bytes = HEAD_MAX }; framing = record {} }; door = door; rest = record { until = 0; begun = None } }
 
 -- each goes on by one call of its connection at most, some are let in, and then one of those who have asked is sent its answer
 pub record OnlookingGoesOn {T D : Type 0} (remaining written : T → Option (List ℕ)) (calls : T → Option (List Call)) (log : D → Option (DoorLog T)) (agent : Agent) (around : Surroundings) (now : ℕ)
@@ -72,6 +84,7 @@ pub record OnlookingGoesOn {T D : Type 0} (remaining written : T → Option (Lis
   pub turned_enough : Bool
   pub sent_enough : Bool
   pub turn : Turns remaining written calls (λ heads. TellsHead) now turned_enough old.clients turned (log old.door) (log new.door)
-  pub one : OneIsSent agent around now sent_enough turned new.clients
-  pub busy : went.is_busy ≡ list_any (λ g. can_go_on g) new.clients.guests
+  pub one : OneIsSent (nat_le (rest_before now old.rest).until now) agent around now sent_enough turned new.clients
+  pub rest : new.rest ≡ rest_with (nat_le (rest_before now old.rest).until now && is_asked turned) now (rest_before now old.rest)
+  pub busy : went.is_busy ≡ (list_any (λ g. can_go_on g) new.clients.guests || is_asked new.clients)
   pub enough : went.is_enough ≡ (turned_enough && sent_enough)

@@ -1,9 +1,10 @@
 //! The onlookers of an agent.
-ghost use Rattle.std.specs.Prelude.{◌≡◌, ◌&&◌};
-ghost use Rattle.keep_answering.specs.Onlooking.{OneIsSent, OnlookingGoesOn, nobody};
+ghost use Rattle.std.specs.Prelude.{◌≡◌, ◌&&◌, ◌||◌, is_some, nat_le};
+ghost use Rattle.keep_answering.specs.Onlooking.{OneIsSent, OnlookingGoesOn, is_asked, nobody, rest_with};
 
 use crate::answering::sent_to;
 use crate::heads::Heads;
+use crate::rest::Rest;
 use crate::went::Went;
 use keep_agent::Agent;
 use keep_clients::{Clients, Door, Limits, Talk};
@@ -18,6 +19,8 @@ pub const MOST_ONLOOKERS: usize = 16;
 pub struct Onlookers<T, D> {
     pub clients: Clients<T, Heads>,
     pub door: D,
+    /// When the next of them may be answered.
+    pub rest: Rest,
 }
 
 impl<T: Talk, D: Door<T>> Onlookers<T, D> {
@@ -32,39 +35,55 @@ impl<T: Talk, D: Door<T>> Onlookers<T, D> {
         Onlookers {
             clients: Clients::new(alloc, limits, Heads),
             door,
+            rest: Rest::none(),
         }
     }
 
     /// Goes on with each onlooker by one call of its connection at most, and answers the first of those whose question is whole,
     /// from the agent as it is now. `around` is what the agent does not know of itself, `now` a moment in milliseconds of a
-    /// clock that never steps.
+    /// clock that never steps. After an answer the others wait for nine times as long as it took, and for half a second at most.
     ///
     /// Where memory is wanting for an answer, that onlooker is sent nothing and its connection is closed.
     pub fn go_on(&mut self, alloc: Global, agent: &Agent, around: Surroundings, now: u64) -> Went
         ensures { OnlookingGoesOn T.remaining T.written T.calls D.log agent.now around now result self.old self.new }
     {
         let is_turned = self.clients.turn(alloc, &mut self.door, now);
-        let is_answered = answer_one(alloc, &mut self.clients, agent, around, now);
+        self.rest.go_on(now);
+        let is_answered = answer_one(alloc, &mut self.clients, &mut self.rest, agent, around, now);
         Went {
-            is_busy: self.clients.is_busy(),
+            is_busy: self.clients.is_busy() || self.is_asked(),
             is_enough: both(is_turned, is_answered),
         }
     }
+
+    /// Whether one has asked and is not answered yet.
+    fn is_asked(&self) -> bool
+        ensures { result ≡ is_asked self.now.clients }
+    {
+        self.clients.first_request().is_some()
+    }
 }
 
-/// Answers the first of those whose question is whole, where there is one. Whether memory sufficed.
+/// Answers the first of those whose question is whole, where there is one and the rest after the last answer is over. Whether
+/// memory sufficed.
 fn answer_one<T: Talk>(
     alloc: Global,
     clients: &mut Clients<T, Heads>,
+    rest: &mut Rest,
     agent: &Agent,
     around: Surroundings,
     now: u64,
 ) -> bool
-    ensures { OneIsSent agent.now around now result clients.old clients.new }
+    ensures one { OneIsSent (nat_le rest.old.until now) agent.now around now result clients.old clients.new }
+    ensures rest { rest.new ≡ rest_with (nat_le rest.old.until now && is_asked clients.old) now rest.old }
 {
+    if !rest.is_over(now) {
+        return true;
+    }
     let Some(bytes) = clients.first_request() else {
         return true;
     };
+    rest.page_begins(now);
     match sent_to(alloc, agent, around, bytes) {
         Ok(sent) => {
             let _is_there = clients.answer_first(sent, now);
