@@ -3,6 +3,7 @@ use crate::loops::{Step, plays};
 use crate::readers::REQUESTS;
 use crate::scenes::client;
 use answering_tests::peers::{Part, prompt};
+use keep_disk::{DiskFault, Why};
 use std::test::Fail;
 
 const MOMENTS: [u64; 6] = [
@@ -48,6 +49,42 @@ fn it_is_told_the_lines_from_now_on(rt: HostRuntime) -> Result<(), Fail> {
 fn one_of_alerts_is_told_no_other_lines(rt: HostRuntime) -> Result<(), Fail> {
     let scene = client(&MOMENTS, prompt(FOLLOW_ALERTS, "ok\n"));
     plays(&rt, &scene, &told("ok\n"))
+}
+
+const UNREAD: &str = "1970-01-01T00:16:40Z alert: ends cannot be read: the disk failed\n";
+
+const TOLD_EARLIER: &str = "ok\n1970-01-01T00:16:40Z alert: ends cannot be read: the disk failed\n";
+
+/// The first of alerts comes and asks before the second, and both after the alert.
+const ALERTED: [Step; 6] = [
+    Step::Unread(DiskFault::Failed(Why::Other)),
+    Step::OtherComes(FOLLOW_ALERTS, TOLD_EARLIER),
+    Step::Turns(6),
+    Step::WasSent("ok\n"),
+    Step::OthersWereSent(TOLD_EARLIER),
+    Step::SaidAfter(UNREAD, LINES),
+];
+
+#[test]
+fn the_first_of_alerts_is_told_those_before_it_came(rt: HostRuntime) -> Result<(), Fail> {
+    let scene = client(&MOMENTS, prompt(FOLLOW_ALERTS, "ok\n"));
+    plays(&rt, &scene, &ALERTED)
+}
+
+/// One of all lines comes first.
+const NOT_ALERTED: [Step; 6] = [
+    Step::Unread(DiskFault::Failed(Why::Other)),
+    Step::OtherComes(FOLLOW, FOLLOWED),
+    Step::Turns(6),
+    Step::WasSent(TOLD_EARLIER),
+    Step::OthersWereSent(FOLLOWED),
+    Step::SaidAfter(UNREAD, LINES),
+];
+
+#[test]
+fn one_of_all_lines_takes_no_alerts_from_the_first_of_alerts(rt: HostRuntime) -> Result<(), Fail> {
+    let scene = client(&MOMENTS, prompt(FOLLOW_ALERTS, TOLD_EARLIER));
+    plays(&rt, &scene, &NOT_ALERTED)
 }
 
 #[test]

@@ -81,9 +81,16 @@ EachIsTold form moment level text [] new = new ≡ []
 EachIsTold form moment level text (f ∷ fs) [] = ⊥
 EachIsTold form moment level text (f ∷ fs) (n ∷ ns) = FollowerIsTold form moment level text f n × EachIsTold form moment level text fs ns
 
+-- the first who will follow warnings and alerts alone, where none has come yet
+abbrev pub EarlyIsTold : Form → ℕ → Level → List ℕ → Option Follower → Option Follower → Type 0
+EarlyIsTold form moment level text None new = new ≡ None
+EarlyIsTold form moment level text (Some f) None = ⊥
+EarlyIsTold form moment level text (Some f) (Some n) = FollowerIsTold form moment level text f n
+
 -- no room changes what comes into another
 abbrev pub ArePut : Form → ℕ → Level → List ℕ → Rooms → Rooms → Type 0
-ArePut form moment level text old new = TextIsPut form moment text old.log new.log × EachIsTold form moment level text old.followers new.followers
+ArePut form moment level text old new =
+    TextIsPut form moment text old.log new.log × EachIsTold form moment level text old.followers new.followers × EarlyIsTold form moment level text old.early new.early
 
 -- a line is said at a moment; where memory is wanting for it, it is dropped and counted
 unfoldable pub LineIsSaid : Form → ℕ → Line → Rooms → Rooms → Type 0

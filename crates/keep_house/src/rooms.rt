@@ -1,18 +1,20 @@
 //! The room of the log, and a room for each of those who follow it.
-ghost use Rattle.std.specs.Prelude.{◌≡◌, IfOk, OnErr, OnOk, length, map};
-ghost use Rattle.keep_house.specs.Lines.{ArePut, EachIsTold, FollowerIsTold, TextIsPut};
-ghost use Rattle.keep_house.specs.Rooms.{begun_rooms, misses, missing_in, with_follower};
+ghost use Rattle.std.specs.Prelude.{◌≡◌, IfOk, OnErr, OnOk, length, map, option_map};
+ghost use Rattle.keep_house.specs.Lines.{ArePut, EachIsTold, EarlyIsTold, FollowerIsTold, TextIsPut};
+ghost use Rattle.keep_house.specs.Rooms.{begun_rooms, left_for, misses, missing_in, newcomer, with_follower};
 
 use crate::log_line::{Stamp, notice_of};
 use keep_log::{Follower, LOG_ROOM, Level, LogRoom};
 use std::alloc::{AllocError, Global};
 use std::marker::Model;
 
-/// The room of the log, and those who follow it, each with a room of its own. No room changes what comes into another.
+/// The room of the log, and those who follow it, each with a room of its own; and the warnings and alerts so far, in the room of the
+/// first who will follow those alone. No room changes what comes into another.
 #[derive(Debug, Drop)]
 pub struct Rooms {
     pub(crate) log: LogRoom,
     pub(crate) followers: Vec<Follower>,
+    pub(crate) early: Option<Follower>,
 }
 
 impl Model for Rooms {
@@ -20,7 +22,7 @@ impl Model for Rooms {
 
     ghost Value = { Rooms };
 
-    ghost view = { λ r. record { log = r.log; followers = r.followers.items } };
+    ghost view = { λ r. record { log = r.log; followers = r.followers.items; early = r.early } };
 }
 
 impl Rooms {
@@ -31,6 +33,7 @@ impl Rooms {
         Ok(Rooms {
             log: LogRoom::new(alloc, LOG_ROOM)?,
             followers: Vec::new(alloc),
+            early: Some(Follower::new(alloc, 0, true)?),
         })
     }
 
@@ -41,6 +44,7 @@ impl Rooms {
     {
         put(alloc, stamp, text, &mut self.log);
         tell_each(alloc, stamp, level, text, &mut self.followers);
+        tell_early(alloc, stamp, level, text, &mut self.early);
     }
 
     /// Counts a line of this level that could not be made, for lack of memory, as dropped.
@@ -49,10 +53,11 @@ impl Rooms {
     {
         self.log.miss();
         miss_each(level, &mut self.followers);
+        miss_early(level, &mut self.early);
     }
 
-    /// One more follows the log from now on, over the connection of that number. The only error is lack of memory: nobody more follows
-    /// then.
+    /// One more follows the log from now on, over the connection of that number. The first that is told of warnings and alerts alone is
+    /// told of those that were said so far, too. The only error is lack of memory: nobody more follows then.
     pub(crate) fn admit(
         &mut self,
         alloc: Global,
@@ -62,9 +67,27 @@ impl Rooms {
         ensures admitted { OnOk result (self.new ≡ with_follower id alerts_alone self.old) }
         ensures refused { OnErr result (self.new ≡ self.old) }
     {
-        let follower = Follower::new(alloc, id, alerts_alone)?;
+        let follower = newcomer(alloc, id, alerts_alone, &self.early)?;
         self.followers.push(follower)?;
+        if alerts_alone {
+            self.early = None;
+        }
         Ok(())
+    }
+}
+
+// One that comes, for whom what was said so far may wait. The only error is lack of memory.
+fn newcomer(
+    alloc: Global,
+    id: u64,
+    alerts_alone: bool,
+    early: &Option<Follower>,
+) -> Result<Follower, AllocError>
+    ensures { IfOk result (λ follower. follower ≡ newcomer id alerts_alone early.now) }
+{
+    match early {
+        Some(early) if alerts_alone => early.copied(alloc, id),
+        _ => Follower::new(alloc, id, alerts_alone),
     }
 }
 
@@ -88,6 +111,15 @@ fn tell_each(alloc: Global, stamp: &Stamp, level: Level, text: &[u8], followers:
     }
 }
 
+// Tells the first who will follow warnings and alerts alone, where none has come yet.
+fn tell_early(alloc: Global, stamp: &Stamp, level: Level, text: &[u8], early: &mut Option<Follower>)
+    ensures { EarlyIsTold stamp.now.form stamp.now.moment level text.now early.old early.new }
+{
+    if let Some(first) = early {
+        tell(alloc, stamp, level, text, first);
+    }
+}
+
 // Tells one of them.
 fn tell(alloc: Global, stamp: &Stamp, level: Level, text: &[u8], follower: &mut Follower)
     ensures { FollowerIsTold stamp.now.form stamp.now.moment level text.now follower.old follower.new }
@@ -105,5 +137,14 @@ fn miss_each(level: Level, followers: &mut [Follower])
 {
     for follower in followers.iter_mut() {
         follower.miss(level);
+    }
+}
+
+// Counts the line for the first who will follow warnings and alerts alone, where none has come yet.
+fn miss_early(level: Level, early: &mut Option<Follower>)
+    ensures { early.new ≡ option_map (misses level) early.old }
+{
+    if let Some(first) = early {
+        first.miss(level);
     }
 }

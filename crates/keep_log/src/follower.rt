@@ -37,6 +37,18 @@ impl Follower {
         })
     }
 
+    /// One over the connection of that number for whom what waits for this one waits, too. The only error is lack of memory.
+    pub fn copied(&self, alloc: Global, id: u64) -> Result<Follower, AllocError>
+        ensures { IfOk result (λ f. f ≡ record self.now { id = id }) }
+    {
+        Ok(Follower {
+            id,
+            alerts_alone: self.alerts_alone,
+            room: self.room.copied(alloc)?,
+            has_gone: self.has_gone,
+        })
+    }
+
     /// Takes a line of this level, where it is told of that level, as [`LogRoom::put`] does.
     pub fn hear(&mut self, level: Level, notice: &[u8], line: &[u8])
         ensures { self.new ≡ record self.old { room = put_if_heard self.old.alerts_alone level notice.now line.now self.old.room } }

@@ -49,6 +49,21 @@ impl LogRoom {
         })
     }
 
+    /// Another room in which the same waits. The only error is lack of memory.
+    pub fn copied(&self, alloc: Global) -> Result<LogRoom, AllocError>
+        ensures { IfOk result (λ r. r ≡ self.now) }
+    {
+        let mut bytes = Vec::with_capacity(alloc, self.room)?;
+        bytes.extend_from_slice(&self.bytes).unwrap();
+        Ok(LogRoom {
+            bytes,
+            room: self.room,
+            is_begun: self.is_begun,
+            untold: self.untold,
+            dropped: self.dropped,
+        })
+    }
+
     /// The bytes that wait.
     pub fn waiting(&self) -> &[u8]
         ensures { result.now ≡ self.now.bytes }
