@@ -2,15 +2,15 @@
 //! clients of a control socket, the onlookers, what keeps the changes that clients give ([`Keeping`]), and a file that keeps the ends over
 //! a restart.
 //!
-//! The contract for the layers above: [`read_to_serve`] gives what is served by the text of an inventory, or the first fault of the
-//! start, and [`faults_to_serve`] all of them, [`faults_as_written`] without those of files (`specs/Reading`, `specs/Starts`); a [`Desk`] says what happens to the agent, line by line
-//! (`specs/LogDesk`, `specs/Wants`), and lack of memory costs the line alone; and a [`House`] gives each neighbour its bounded part of a turn: [`House::attend`] what each is sent
-//! (`specs/Houses`), [`House::next_change`] carries out what a client asks for, once a credential that it brings was looked up
-//! (`specs/Awaiting`), and [`House::settle_given`] tells what came of a change (`specs/Commands`); [`House::look`] what is read, looked up
-//! and taken of files of credentials (`specs/Takings`, `specs/SecretLines`); [`House::keep_ends`] what the file of the ends keeps (`specs/Ends`),
-//! and [`House::hear_next`] what is said of the next time of an entry (`specs/Nexts`). What the loop calls a house for does
-//! these things, in this order, and nothing else (`specs/Doing`). Begin with `specs/LogDesk` and `specs/Commands`, then
-//! `keeping`, `desk` and `house`.
+//! The contract for the layers above: [`read_to_serve`] gives what is served by the text of an inventory, or the first fault of the start,
+//! [`faults_to_serve`] all of them, and [`faults_as_written`] those of what is written alone (`specs/Reading`, `specs/Starts`); a [`Desk`]
+//! says what happens to the agent, line by line (`specs/LogDesk`, `specs/Wants`), and lack of memory costs the line alone; and a [`House`]
+//! gives each neighbour its bounded part of a turn: [`House::attend`] what each is sent (`specs/Houses`), [`House::next_change`] carries
+//! out what a client asks for, once a credential that it brings was looked up (`specs/Awaiting`), and [`House::settle_given`] tells what
+//! came of a change (`specs/Commands`); [`House::look`] what is read, looked up and taken of files of credentials (`specs/Takings`,
+//! `specs/SecretLines`); [`House::keep_ends`] what the file of the ends keeps (`specs/Ends`), and [`House::hear_next`] what is said of the
+//! next time of an entry (`specs/Nexts`). What the loop calls a house for does these things, in this order, and nothing else
+//! (`specs/Doing`). Begin with `specs/LogDesk` and `specs/Commands`, then `keeping`, `desk` and `house`.
 #![tactic(auto)]
 
 mod add_command;

@@ -266,7 +266,8 @@ const SERVE: Described = Described {
     after: "\
 It reads the clocks, sleeps, looks the entries up and renews them until it is ended; SIGTERM, SIGINT and SIGHUP end it, and the
 entries then live until their ends. The inventory needs a margin of at least four times the time-out, and a `secret` for each
-token and a `lease_id` for each lease, or a file that holds it (`secret_file`, `lease_id_file`), which is read at the start.
+token and a `lease_id` for each lease, or the name of a file that holds it (`secret_file`, `lease_id_file`). With --state an entry
+whose file holds none waits for it, and all others are kept; without it such a file is refused at the start.
 
 Each event is one line on standard output, with its moment. The log never delays a renewal: up to 1 MiB of lines wait for their
 reader, and whole lines after that are dropped and counted.
