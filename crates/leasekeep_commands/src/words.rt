@@ -1,7 +1,7 @@
 //! What the words of the command line ask.
 use crate::call_commands::called;
 use crate::job::{Called, Job, Live, Room, Served, Socket, Watched};
-use crate::parser::{mistake, parse};
+use crate::parser::{BROKER, mistake, parse};
 use clap::error::ErrorKind;
 use clap::{ArgMatches, Error};
 use keep_clients::{Entrance, entrance_of};
@@ -16,7 +16,7 @@ use std::io;
 use watch_machine::WIDTH;
 
 const PORT_MISTAKE: &str =
-    "invalid value for '<PORT>': a port is 1 to 65535, and the path of a UNIX socket has a `/` in it";
+    "invalid value for '<PORT|SOCKET>': a port is 1 to 65535, and the path of a UNIX socket has a `/` in it";
 
 const CONTROL_MISTAKE: &str =
     "invalid value for '--control <SOCKET>': the path of a UNIX socket has a `/` in it";
@@ -245,7 +245,7 @@ fn form(matches: &ArgMatches<'_>) -> Form {
 }
 
 fn place<'a>(matches: &ArgMatches<'a>) -> Result<Place<'a>, Unread> {
-    let word = matches.get_str("PORT").ok_or(Unread::Value)?;
+    let word = matches.get_str(BROKER).ok_or(Unread::Value)?;
     place_to_ask(word).ok_or(Unread::Place(PlaceWord::Port))
 }
 
