@@ -10,7 +10,8 @@ use std::test::Fail;
 const ERRORS: [(ErrorKind, &str); 5] = [
     (
         ErrorKind::NotFound,
-        "No such file or directory; no agent serves there (--control SOCKET names another place)",
+        "No such file or directory; no agent serves there (`serve` takes commands only with --control; \
+         --control SOCKET names another place)",
     ),
     (
         ErrorKind::ConnectionRefused,

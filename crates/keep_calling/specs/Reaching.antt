@@ -18,7 +18,8 @@ unreached_of kind = unreached.Failed
 
 -- none where memory was wanting
 unfoldable pub unreached_words : Unreached → Option (List ℕ)
-unreached_words unreached.NotThere = Some (codes "No such file or directory; no agent serves there (--control SOCKET names another place)")
+unreached_words unreached.NotThere = Some (codes
+    "No such file or directory; no agent serves there (`serve` takes commands only with --control; --control SOCKET names another place)")
 unreached_words unreached.NotServed = Some (codes "Connection refused; no agent serves there (--control SOCKET names another place)")
 unreached_words unreached.NotAllowed = Some (codes "Permission denied; the socket is for its user and its group")
 unreached_words unreached.Late = Some (codes "no answer")

@@ -47,7 +47,8 @@ impl Unreached {
     {
         match self {
             Unreached::NotThere => Some(
-                "No such file or directory; no agent serves there (--control SOCKET names another place)",
+                "No such file or directory; no agent serves there (`serve` takes commands only with --control; \
+                 --control SOCKET names another place)",
             ),
             Unreached::NotServed => Some(
                 "Connection refused; no agent serves there (--control SOCKET names another place)",

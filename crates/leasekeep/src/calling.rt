@@ -53,15 +53,27 @@ fn null<R: Files<File = File>>(rt: &R) -> Option<File> {
     fs::open(rt, "/dev/null").ok()
 }
 
-/// The path of the control socket: the one that is given, else the one of the user's own folder, or that of the system's where
-/// the first is not there and the second is. The only error is out of memory.
+/// The path of the control socket: the one that is given, else the one in the first folder that the service manager names, else that
+/// of the user. Who is in a service is never led to another one's agent. The only error is out of memory.
 fn socket<R: Env + Files + AllocGlobal>(rt: &R, given: Option<&str>) -> Result<String, AllocError> {
     let alloc = rt.alloc();
     if let Some(path) = given {
         return String::from_str(alloc, path);
     }
-    let own = in_folder(alloc, own_folder(rt)?.as_str())?;
+    if let Some(folders) = variable(rt, "RUNTIME_DIRECTORY")? {
+        return in_folder(alloc, first(folders.as_str()));
+    }
+    socket_of_the_user(rt)
+}
+
+/// The socket in the user's own folder, or that of the system where the first is not there and the second is.
+fn socket_of_the_user<R: Env + Files + AllocGlobal>(rt: &R) -> Result<String, AllocError> {
+    let alloc = rt.alloc();
     let of_the_system = in_folder(alloc, SYSTEM)?;
+    let Some(folder) = variable(rt, "XDG_RUNTIME_DIR")? else {
+        return Ok(of_the_system);
+    };
+    let own = format!(in alloc; "{folder}/leasekeep/control.sock")?;
     if fs::metadata(rt, own.as_str()).is_err() && fs::metadata(rt, of_the_system.as_str()).is_ok() {
         return Ok(of_the_system);
     }
@@ -72,19 +84,11 @@ fn in_folder(alloc: Global, folder: &str) -> Result<String, AllocError> {
     format!(in alloc; "{folder}/control.sock")
 }
 
-/// The first folder that the service manager names, else that of the user, else that of the system.
-fn own_folder<R: Env + AllocGlobal>(rt: &R) -> Result<String, AllocError> {
-    let alloc = rt.alloc();
-    if let Some(folders) = variable(rt, "RUNTIME_DIRECTORY")? {
-        let first = match folders.find(':') {
-            None => folders.as_str(),
-            Some(end) => &folders[..end],
-        };
-        return String::from_str(alloc, first);
-    }
-    match variable(rt, "XDG_RUNTIME_DIR")? {
-        Some(folder) => format!(in alloc; "{folder}/leasekeep"),
-        None => String::from_str(alloc, SYSTEM),
+/// The first of these folders, which have a colon between them.
+fn first(folders: &str) -> &str {
+    match folders.find(':') {
+        None => folders,
+        Some(end) => &folders[..end],
     }
 }
 

@@ -175,7 +175,7 @@ Exit status: 0 yes, 1 inventory, 2 command line, 4 no or unreadable, 6 read or w
     ],
 };
 
-/// `run FILE PORT START [--timeout SECONDS]`
+/// `run FILE PORT|SOCKET START [--timeout SECONDS]`
 const RUN: Described = Described {
     name: "run",
     about: "Keeps the entries alive against a broker: looks each one up, then renews as event lines on standard input say",
@@ -218,7 +218,7 @@ malformed line, 7 memory",
     ],
 };
 
-/// `watch FILE PORT [--timeout SECONDS] [--width K]`
+/// `watch FILE PORT|SOCKET [--timeout SECONDS] [--width K]`
 const WATCH: Described = Described {
     name: "watch",
     about: "Keeps the entries alive against a broker in real time: decides what to ask and when, as two clocks on standard input say",
@@ -258,31 +258,36 @@ Exit status: 0 the lines have ended, 1 inventory, 2 command line, 6 read, write 
     words: &[FILE, PORT, TIMEOUT_OF_LANES, WIDTH],
 };
 
-/// `serve FILE PORT [--timeout SECONDS] [--width K] [--names-are-secrets] [--log text|json] [--state FOLDER] [--control SOCKET]
-/// [--listen PLACE] [--runtime FOLDER] [--spread SECONDS] [--name NAME]`
+/// `serve FILE PORT|SOCKET [--timeout SECONDS] [--width K] [--names-are-secrets] [--log text|json] [--state FOLDER]
+/// [--control SOCKET] [--listen PLACE] [--runtime FOLDER] [--spread SECONDS] [--name NAME]`
 const SERVE: Described = Described {
     name: "serve",
     about: "Keeps the entries alive against a broker, by itself: the agent, with its log on standard output",
     after: "\
-It reads the clocks, sleeps, looks the entries up and renews them until it is ended; SIGTERM, SIGINT and SIGHUP end it, and the
-entries then live until their ends. The inventory needs a margin of at least four times the time-out, and a `secret` for each
-token and a `lease_id` for each lease, or the name of a file that holds it (`secret_file`, `lease_id_file`). With --state an entry
-whose file holds none waits for it, and all others are kept; without it such a file is refused at the start.
+It reads the clocks, sleeps, looks the entries up and renews them until it is ended; SIGTERM, SIGINT
+and SIGHUP end it, and the entries then live until their ends. The inventory needs a margin of at
+least four times the time-out, and a `secret` for each token and a `lease_id` for each lease, or a
+file that holds it (`secret_file`, `lease_id_file`), which is read at the start, and with --state
+again whenever it changes. With --state an entry whose file holds none waits for it, and all others
+are kept; without it such a file is refused at the start.
 
-Each event is one line on standard output, with its moment. The log never delays a renewal: up to 1 MiB of lines wait for their
-reader, and whole lines after that are dropped and counted.
+Each event is one line on standard output, with its moment. The log never delays a renewal: up to
+1 MiB of lines wait for their reader, and whole lines after that are dropped and counted.
 
-With --control it takes commands (`leasekeep status`, `need` and so on), and with --listen it shows how it stands to onlookers. Neither
-can delay a renewal, and it serves without a socket that it cannot have, with an alert. With --state it keeps what commands change: what
-was acknowledged holds over a restart, and over a crash at any moment. Without it a need alone is taken, and is forgotten at a restart.
-A command that changes something waits for the disk, and so does the agent. A start in the same boot renews by the ends that were known
-before, if they are kept (--runtime, or beside SOCKET). The broker is asked over plain HTTP, at a port of 127.0.0.1 or at a UNIX
-socket, which keeps strangers out.
+With --control it takes commands (`leasekeep status`, `need` and so on), and with --listen it shows
+how it stands to onlookers. Neither can stop the agent or keep it waiting, but for the disk that a
+change waits for. It serves without a socket that it cannot have, with an alert. With --state it
+keeps what commands change: what was acknowledged holds over a restart, and over a crash at any
+moment. Without it a need alone is taken, and is forgotten at a restart. A start in the same boot
+renews by the ends that were known before, if they are kept (--runtime, or beside SOCKET). The
+broker is asked over plain HTTP, at a port of 127.0.0.1 or at a UNIX socket, which keeps strangers
+out.
 
 Example:
-  leasekeep serve fleet.toml /run/vault-proxy/vault.sock --state ./state --control ./control.sock --listen 9105
+  leasekeep serve fleet.toml ./vault.sock --state ./state --control ./control.sock --listen 9105
 
-Exit status: 1 the inventory is refused, or another agent holds FOLDER, 2 command line, 6 read, 7 memory",
+Exit status: 1 the inventory is refused, or another agent holds FOLDER, 2 command line, 6 read,
+7 memory",
     words: &[
         FILE,
         PORT,
@@ -291,42 +296,58 @@ Exit status: 1 the inventory is refused, or another agent holds FOLDER, 2 comman
         Word {
             name: "names-are-secrets",
             takes: Takes::Flag,
-            help: "Sends the name of an entry in the place of a credential that is not written, for trials",
+            help: "\
+Sends the name of an entry in the place of a credential that is not
+written, for trials",
         },
         Word {
             name: "log",
             takes: Takes::Option("FORM", Value::OneOf(LOG_FORMS)),
-            help: "How the lines of the log are written: text or json [default: text]",
+            help: "\
+How the lines of the log are written: text or json
+[default: text]",
         },
         Word {
             name: "state",
             takes: Takes::Option("FOLDER", Value::Text),
-            help: "Keeps the changes that commands make in this folder, which one agent alone may use; it is made where there is none",
+            help: "\
+Keeps the changes that commands make in this folder, which one agent
+alone may use; it is made where there is none",
         },
         Word {
             name: "control",
             takes: Takes::Option("SOCKET", Value::Text),
-            help: "Takes commands at this UNIX socket, a path with a `/` in it, for its user and its group",
+            help: "\
+Takes commands at this UNIX socket, a path with a `/` in it, for its user
+and its group",
         },
         Word {
             name: "listen",
             takes: Takes::Option("PLACE", Value::Text),
-            help: "Shows /metrics, /health and /status over HTTP: a port of 127.0.0.1, ADDR:PORT, or the path of a UNIX socket, with a `/` in it",
+            help: "\
+Shows /metrics, /health and /status over HTTP: a port of 127.0.0.1,
+ADDR:PORT, or the path of a UNIX socket, with a `/` in it",
         },
         Word {
             name: "runtime",
             takes: Takes::Option("FOLDER", Value::Text),
-            help: "Keeps the ends in this folder for a restart in the same boot, in the file `ends` [default: the folder of SOCKET]",
+            help: "\
+Keeps the ends in this folder for a restart in the same boot, in the file
+`ends` [default: the folder of SOCKET]",
         },
         Word {
             name: "name",
             takes: Takes::Option("NAME", Value::Text),
-            help: "This agent's name, for --spread [default: the machine's name and the path FILE]",
+            help: "\
+This agent's name, for --spread
+[default: the machine's name and the path FILE]",
         },
         Word {
             name: "spread",
             takes: Takes::Option("SECONDS", Value::Number(0, 3600)),
-            help: "Wakes up earlier by this agent's own part of so many seconds, 0 to 3600, so that agents are apart [default: 0]",
+            help: "\
+Wakes up earlier by this agent's own part of so many seconds, 0 to 3600,
+so that agents are apart [default: 0]",
         },
     ],
 };
@@ -334,7 +355,9 @@ Exit status: 1 the inventory is refused, or another agent holds FOLDER, 2 comman
 const FILE: Word = Word {
     name: "FILE",
     takes: Takes::Text,
-    help: "The inventory, at most 1 MiB; read first. `leasekeepd lint FILE` shows every fault, its line and its fix",
+    help: "\
+The inventory, at most 1 MiB; read first. `leasekeepd lint FILE` shows every fault,
+its line and its fix",
 };
 
 const START: Word = Word {
@@ -343,8 +366,11 @@ const START: Word = Word {
     help: "The moment from which entries are kept, in whole seconds since 1970-01-01T00:00:00Z; $(date +%s) is now",
 };
 
+/// The word that says where the broker listens.
+pub const BROKER: &str = "PORT|SOCKET";
+
 const PORT: Word = Word {
-    name: "PORT",
+    name: BROKER,
     takes: Takes::Text,
     help: "The broker: a port of 127.0.0.1, or the path of a UNIX socket, with a `/` in it",
 };
@@ -352,7 +378,9 @@ const PORT: Word = Word {
 const TIMEOUT_OF_LANES: Word = Word {
     name: "timeout",
     takes: Takes::Option("SECONDS", Value::Number(1, 60)),
-    help: "How long the connects, writes and first reads of requests side by side may take, 1 to 60 seconds [default: 5]",
+    help: "\
+How long the connects, writes and first reads of requests side by side
+may take, 1 to 60 seconds [default: 5]",
 };
 
 const WIDTH: Word = Word {

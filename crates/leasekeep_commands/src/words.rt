@@ -1,7 +1,7 @@
 //! What the words of the command line ask.
 use crate::call_commands::called;
 use crate::job::{Called, Job, Live, Room, Served, Socket, Watched};
-use crate::parser::{mistake, parse};
+use crate::parser::{BROKER, mistake, parse};
 use clap::error::ErrorKind;
 use clap::{ArgMatches, Error};
 use keep_clients::{Entrance, entrance_of};
@@ -16,13 +16,17 @@ use std::io;
 use watch_machine::WIDTH;
 
 const PORT_MISTAKE: &str =
-    "invalid value for '<PORT>': a port is 1 to 65535, and the path of a UNIX socket has a `/` in it";
+    "invalid value for '<PORT|SOCKET>': a port is 1 to 65535, and the path of a UNIX socket has a `/` in it";
+
+const URL_MISTAKE: &str =
+    "invalid value for '<PORT|SOCKET>': write the port alone, as 8200 for http://127.0.0.1:8200, or the path of a UNIX socket";
 
 const CONTROL_MISTAKE: &str =
     "invalid value for '--control <SOCKET>': the path of a UNIX socket has a `/` in it";
 
-const LISTEN_MISTAKE: &str =
-    "invalid value for '--listen <PLACE>': a place is PORT, ADDR:PORT, or the path of a UNIX socket, which has a `/` in it";
+const LISTEN_MISTAKE: &str = "\
+invalid value for '--listen <PLACE>': a place is PORT, ADDR:PORT with a number as 127.0.0.1 for ADDR, or the path of a UNIX socket, \
+which has a `/` in it";
 
 // What a moment is, after clap's own text: a date there is a common mistake.
 const MOMENT_TIP: &[u8] =
@@ -35,6 +39,8 @@ const UNREADABLE: &[u8] = b"error: a value of the command line is unreadable\n";
 enum PlaceWord {
     /// Where the broker listens.
     Port,
+    /// The same, written as a URL.
+    Url,
     /// Where commands come in.
     Control,
     /// Where onlookers come in.
@@ -46,6 +52,7 @@ impl PlaceWord {
     fn mistake(self) -> &'static str {
         match self {
             PlaceWord::Port => PORT_MISTAKE,
+            PlaceWord::Url => URL_MISTAKE,
             PlaceWord::Control => CONTROL_MISTAKE,
             PlaceWord::Listen => LISTEN_MISTAKE,
         }
@@ -244,8 +251,12 @@ fn form(matches: &ArgMatches<'_>) -> Form {
     }
 }
 
+/// Where the broker listens. A URL would be taken for a path, since it has a slash in it, and nobody would ever listen there.
 fn place<'a>(matches: &ArgMatches<'a>) -> Result<Place<'a>, Unread> {
-    let word = matches.get_str("PORT").ok_or(Unread::Value)?;
+    let word = matches.get_str(BROKER).ok_or(Unread::Value)?;
+    if word.contains("://") {
+        return Err(Unread::Place(PlaceWord::Url));
+    }
     place_to_ask(word).ok_or(Unread::Place(PlaceWord::Port))
 }
 
