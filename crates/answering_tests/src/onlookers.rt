@@ -91,7 +91,8 @@ struct Two<'a> {
     alloc: Global,
     agent: Agent,
     onlookers: Onlookers<Peer<'a>, PeerDoor<'a>>,
-    seen: [&'a Seen; 2],
+    first: &'a Seen,
+    second: &'a Seen,
 }
 
 impl<'a> Two<'a> {
@@ -99,8 +100,7 @@ impl<'a> Two<'a> {
     fn answered(&mut self, after: u64) -> u32 {
         let now = NOW.elapsed.saturating_add(after);
         self.onlookers.go_on(self.alloc, &self.agent, AROUND, now);
-        let [first, second] = self.seen;
-        u32::from(first.was_sent(NOT_FOUND)) + u32::from(second.was_sent(NOT_FOUND))
+        u32::from(self.first.was_sent(NOT_FOUND)) + u32::from(self.second.was_sent(NOT_FOUND))
     }
 
     /// The number of the first turn that is not as it is to be.
@@ -124,7 +124,8 @@ fn first_wrong(alloc: Global, turns: &Turns) -> Result<Option<usize>, Fail> {
         alloc,
         agent: agent(alloc)?,
         onlookers,
-        seen: [&first, &second],
+        first: &first,
+        second: &second,
     };
     Ok(two.first_wrong(turns))
 }
