@@ -35,40 +35,45 @@ pub fn mistake(alloc: Global, message: &str) -> Result<Error, AllocError> {
 
 /// `minibroker FILE PORT COUNT MOMENT [--timeout SECONDS]`
 fn minibroker<'a>(alloc: Global) -> Result<Command<'a>, AllocError> {
+    let args = vec![in alloc;
+        word(
+            alloc,
+            "FILE",
+            "The inventory, at most 1 MiB; read first. `leasekeepd lint FILE` shows every fault, its line and its fix",
+        ),
+        word(
+            alloc,
+            "PORT",
+            "The port of 127.0.0.1 to listen on, 0 for any; or the path of a UNIX socket, with a `/` in it",
+        ),
+        count(alloc),
+        word(
+            alloc,
+            "MOMENT",
+            "The moment of all requests, in whole seconds since 1970-01-01T00:00:00Z; $(date +%s) is now. Or `-`, a line for each",
+        ),
+        timeout(alloc),
+    ]?;
     Command::new(alloc, "minibroker")
         .version("0.1.0")
         .about(ABOUT)
         .after_help(AFTER)
-        .arg(word(
-            alloc,
-            "FILE",
-            "The inventory, at most 1 MiB; read first. `leasekeepd lint FILE` shows every fault, its line and its fix",
-        ))?
-        .arg(word(
-            alloc,
-            "PORT",
-            "The port of 127.0.0.1 to listen on, 0 for any; or the path of a UNIX socket, with a `/` in it",
-        ))?
-        .arg(
-            Arg::new(alloc, "COUNT")
-                .help("How many connections to serve, at most 1000000")
-                .required(true)
-                .value_parser(clap::value_parser!(u64).range(0..=1_000_000)),
-        )?
-        .arg(word(
-            alloc,
-            "MOMENT",
-            "The moment of all requests, in whole seconds since 1970-01-01T00:00:00Z; $(date +%s) is now. Or `-`, a line for each",
-        ))?
-        .arg(
-            Arg::new(alloc, "timeout")
-                .long("timeout")
-                .value_name("SECONDS")
-                .help(
-                    "How long one read or write of a connection may take, 1 to 60 seconds [default: 5]",
-                )
-                .value_parser(clap::value_parser!(u64).range(1..=60)),
-        )
+        .args(args)
+}
+
+fn count<'a>(alloc: Global) -> Arg<'a> {
+    Arg::new(alloc, "COUNT")
+        .help("How many connections to serve, at most 1000000")
+        .required(true)
+        .value_parser(clap::value_parser!(u64).range(0..=1_000_000))
+}
+
+fn timeout<'a>(alloc: Global) -> Arg<'a> {
+    Arg::new(alloc, "timeout")
+        .long("timeout")
+        .value_name("SECONDS")
+        .help("How long one read or write of a connection may take, 1 to 60 seconds [default: 5]")
+        .value_parser(clap::value_parser!(u64).range(1..=60))
 }
 
 fn word<'a>(alloc: Global, name: &'a str, help: &'a str) -> Arg<'a> {
