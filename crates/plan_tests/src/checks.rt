@@ -5,6 +5,7 @@ ghost use Rattle.keep_check.specs.code.Steps.{AllFit};
 ghost use Rattle.keep_check.specs.Fit.{RunIsFit};
 
 use crate::rows::{Grouped, IN_TURN, LEASE, QUICK, Row, TOKEN, WEB, forest_of, moment};
+use crate::tables::each;
 use keep_cert::{Body, Cert, Runs, Version};
 use keep_check::{Answer, Cause, LIMIT, check};
 use keep_moment::LAST;
@@ -89,8 +90,11 @@ fn is_judged(
     is_answer(alloc, &forest, 1000, runs, want)
 }
 
-// Runs of the web example of one wake-up each, and the answers.
-const WAKE_UPS: [(&[Grouped], Answer); 7] = [
+// Runs of the web example, and the answer.
+type Judged = (&'static [Grouped], Answer);
+
+// Runs of one wake-up each.
+const WAKE_UPS: [Judged; 7] = [
     (
         &[(1059, 0, 1, 0, 0), (1118, 0, 1, 0, 0), (1177, 0, 1, 0, 0)],
         Answer::Yes,
@@ -119,7 +123,7 @@ const WAKE_UPS: [(&[Grouped], Answer); 7] = [
 ];
 
 // Runs of several wake-ups.
-const RUNS: [(&[Grouped], Answer); 7] = [
+const RUNS: [Judged; 7] = [
     (&[(1059, 59, 3, 0, 0)], Answer::Yes),
     (&[(1059, 58, 3, 0, 0)], Answer::No(Cause::NotForced(2))),
     (&[(1059, 60, 3, 0, 0)], Answer::No(Cause::NotKept(0))),
@@ -138,21 +142,20 @@ fn is_over_at_1200(alloc: Global) -> Result<bool, Fail> {
     is_answer(alloc, &forest, 1200, &[], Answer::Yes)
 }
 
+fn is_judged_so(alloc: Global, row: &Judged) -> Result<bool, Fail> {
+    is_judged(alloc, 1, &[WEB], row.0, row.1)
+}
+
 #[test]
 fn judges_wake_ups(rt: HostRuntime) -> Result<(), Fail> {
-    for (i, (runs, want)) in WAKE_UPS.iter().enumerate() {
-        assert!(rt; is_judged(rt.alloc(), 1, &[WEB], runs, *want)?, "case {i}");
-    }
+    each(&rt, &WAKE_UPS, &is_judged_so)?;
     assert!(rt; is_over_at_1200(rt.alloc())?);
     Ok(())
 }
 
 #[test]
 fn judges_runs(rt: HostRuntime) -> Result<(), Fail> {
-    for (i, (runs, want)) in RUNS.iter().enumerate() {
-        assert!(rt; is_judged(rt.alloc(), 1, &[WEB], runs, *want)?, "case {i}");
-    }
-    Ok(())
+    each(&rt, &RUNS, &is_judged_so)
 }
 
 const WITH_LEASE: [Row; 2] = [TOKEN, LEASE];
@@ -161,7 +164,9 @@ const WITH_LEASE: [Row; 2] = [TOKEN, LEASE];
 const ONE_DUE: [Row; 2] = [Row { need: 0, ..WEB }, Row { end: 1200, ..WEB }];
 
 // Other forests: their margin, entries, the certificate's runs and the answer.
-const OF_OTHERS: [(u32, &[Row], &[Grouped], Answer); 6] = [
+type OfOther = (u32, &'static [Row], &'static [Grouped], Answer);
+
+const OF_OTHERS: [OfOther; 6] = [
     (1, &WITH_LEASE, &[(1059, 59, 3, 1, 1)], Answer::Yes),
     (
         1,
@@ -185,15 +190,13 @@ const OF_OTHERS: [(u32, &[Row], &[Grouped], Answer); 6] = [
     (1, &[], &[], Answer::Yes),
 ];
 
+fn is_other_judged(alloc: Global, row: &OfOther) -> Result<bool, Fail> {
+    is_judged(alloc, row.0, row.1, row.2, row.3)
+}
+
 #[test]
 fn judges_other_forests(rt: HostRuntime) -> Result<(), Fail> {
-    for (i, (margin, rows, runs, want)) in OF_OTHERS.iter().enumerate() {
-        assert!(rt;
-            is_judged(rt.alloc(), *margin, rows, runs, *want)?,
-            "case {i}"
-        );
-    }
-    Ok(())
+    each(&rt, &OF_OTHERS, &is_other_judged)
 }
 
 const TEN_MILLION: Row = Row {
@@ -257,31 +260,29 @@ const fn over_many_runs(third: u64, fourth: u64) -> [Row; 4] {
 }
 
 // Until when the third and the fourth are needed, and the answer.
-const NEEDS: [(u64, u64, Answer); 3] = [
+type Needs = (u64, u64, Answer);
+
+const NEEDS: [Needs; 3] = [
     (60099, 50029, Answer::Yes),
     (60100, 50029, Answer::No(Cause::NotKept(2))),
     (60099, 50030, Answer::No(Cause::NotKept(3))),
 ];
 
-fn judges_many(alloc: Global, third: u64, fourth: u64, want: Answer) -> Result<bool, Fail> {
+fn judges_many(alloc: Global, row: &Needs) -> Result<bool, Fail> {
     let runs = many_runs(alloc)?;
-    is_judged(alloc, 1, &over_many_runs(third, fourth), &runs, want)
+    is_judged(alloc, 1, &over_many_runs(row.0, row.1), &runs, row.2)
 }
 
 #[test]
 fn judges_entries_over_many_runs(rt: HostRuntime) -> Result<(), Fail> {
-    for (third, fourth, want) in &NEEDS {
-        assert!(rt;
-            judges_many(rt.alloc(), *third, *fourth, *want)?,
-            "{third} {fourth}"
-        );
-    }
-    Ok(())
+    each(&rt, &NEEDS, &judges_many)
 }
 
 // The ceiling of a token, the pair that is said not to be keepable, and whether it is so: only whether the token cannot be led
 // to the need of its lease.
-const PAIRS: [(u64, u32, u32, Answer); 4] = [
+type Pair = (u64, u32, u32, Answer);
+
+const PAIRS: [Pair; 4] = [
     (10000, 0, 1, Answer::No(Cause::NotUnkeepable)),
     (1150, 0, 1, Answer::Yes),
     (1150, 1, 0, Answer::No(Cause::NotUnkeepable)),
@@ -313,13 +314,11 @@ fn judges_pair(
     Ok(check(alloc, &forest, &cert) == Ok(want))
 }
 
+fn is_pair_judged(alloc: Global, row: &Pair) -> Result<bool, Fail> {
+    judges_pair(alloc, row.0, row.1, row.2, row.3)
+}
+
 #[test]
 fn judges_pairs(rt: HostRuntime) -> Result<(), Fail> {
-    for (ceiling, entry, needed, want) in &PAIRS {
-        assert!(rt;
-            judges_pair(rt.alloc(), *ceiling, *entry, *needed, *want)?,
-            "{entry} {needed} under {ceiling}"
-        );
-    }
-    Ok(())
+    each(&rt, &PAIRS, &is_pair_judged)
 }

@@ -1,7 +1,9 @@
 use crate::rows::{Row, WEB, entry_of, moment};
-use keep_moment::{LAST, Name};
+use crate::tables::each;
+use keep_moment::{LAST, Moment, Name};
 use keep_tree::{END_MAX, Ends, Entry, Forest, Indices, Kind, TreeFault};
 use std::alloc::{AllocError, Global};
+use std::process::Abort;
 use std::test::Fail;
 
 // A token that nobody needs, and a lease of the first entry.
@@ -224,7 +226,9 @@ fn a_forest_has_at_most_4096_entries(rt: HostRuntime) -> Result<(), Fail> {
 }
 
 // A margin, a step, and what comes of it.
-const STEPS: [(u32, u32, Result<u32, TreeFault>); 4] = [
+type Stepped = (u32, u32, Result<u32, TreeFault>);
+
+const STEPS: [Stepped; 4] = [
     (1, 1, Err(TreeFault::StepTooSmall)),
     (1, 2, Ok(0)),
     (10, 10, Err(TreeFault::StepTooSmall)),
@@ -246,15 +250,13 @@ fn is_past(
     Ok(forest.push(entry) == want && is_its)
 }
 
+fn is_step_past(alloc: Global, row: &Stepped) -> Result<bool, Fail> {
+    Ok(is_past(alloc, row.0, row.1, row.2)?)
+}
+
 #[test]
 fn a_step_is_past_the_margin(rt: HostRuntime) -> Result<(), Fail> {
-    for (margin, step, want) in &STEPS {
-        assert!(rt;
-            is_past(rt.alloc(), *margin, *step, *want)?,
-            "margin {margin}, step {step}"
-        );
-    }
-    Ok(())
+    each(&rt, &STEPS, &is_step_past)
 }
 
 // Whether the first of two entries is over the second.
@@ -272,16 +274,20 @@ fn is_so(forest: &Forest, above: u32, below: u32, want: bool) -> bool {
     above < forest.len() && below < forest.len() && forest.is_over(above, below) == want
 }
 
-#[test]
-fn over_is_reflexive_and_goes_up(rt: HostRuntime) -> Result<(), Fail> {
-    let forest = small_forest(rt.alloc())?;
+fn goes_up<R: Abort>(rt: &R, forest: &Forest) {
     assert!(rt; forest.len() == 3);
     for (above, below, want) in &OVER {
         assert!(rt;
-            is_so(&forest, *above, *below, *want),
+            is_so(forest, *above, *below, *want),
             "{above} over {below}"
         );
     }
+}
+
+#[test]
+fn over_is_reflexive_and_goes_up(rt: HostRuntime) -> Result<(), Fail> {
+    let forest = small_forest(rt.alloc())?;
+    goes_up(&rt, &forest);
     Ok(())
 }
 
@@ -294,29 +300,44 @@ const CHANGED: Row = Row {
     ..LEASE
 };
 
-#[test]
-fn a_setter_changes_its_fields(rt: HostRuntime) -> Result<(), Fail> {
-    let until = moment(1200)?;
-    let changed = entry_of(rt.alloc(), "l", &CHANGED)?;
-    let token = entry_of(rt.alloc(), "t", &TOKEN)?;
-    let mut forest = small_forest(rt.alloc())?;
+// Changes each field of the second entry that has a setter.
+fn change<R: Abort>(rt: &R, forest: &mut Forest, until: Moment) {
     assert!(rt; forest.len() == 3 && forest.margin() == 1);
     forest.set_end(1, 1119);
     forest.set_need(1, until);
     forest.set_renewable(1, false);
     forest.set_terms(1, 100, None);
     assert!(rt; forest.len() == 3);
-    assert!(rt; forest.get(1) == &changed);
-    assert!(rt; forest.get(0) == &token);
+}
+
+fn is_entry(alloc: Global, forest: &Forest, i: u32, name: &str, row: &Row) -> Result<bool, Fail> {
+    let entry = entry_of(alloc, name, row)?;
+    Ok(i < forest.len() && forest.get(i) == &entry)
+}
+
+#[test]
+fn a_setter_changes_its_fields(rt: HostRuntime) -> Result<(), Fail> {
+    let until = moment(1200)?;
+    let mut forest = small_forest(rt.alloc())?;
+    change(&rt, &mut forest, until);
+    assert!(rt; is_entry(rt.alloc(), &forest, 1, "l", &CHANGED)?);
+    assert!(rt; is_entry(rt.alloc(), &forest, 0, "t", &TOKEN)?);
     Ok(())
+}
+
+fn are_indices(alloc: Global, indices: &[u32]) -> Result<bool, Fail> {
+    Ok(Indices::of(alloc, indices)?.list() == indices)
+}
+
+fn are_ends(alloc: Global, ends: &[u64]) -> Result<bool, Fail> {
+    Ok(Ends::of(alloc, ends)?.list() == ends)
 }
 
 #[test]
 fn lists_hold_what_they_were_made_of(rt: HostRuntime) -> Result<(), Fail> {
-    let alloc = rt.alloc();
-    assert!(rt; Indices::of(alloc, &[2, 0])?.list() == [2, 0].as_slice());
-    assert!(rt; Ends::of(alloc, &[1060, END_MAX])?.list() == [1060, END_MAX].as_slice());
-    assert!(rt; Forest::new(alloc).is_empty());
+    assert!(rt; are_indices(rt.alloc(), &[2, 0])?);
+    assert!(rt; are_ends(rt.alloc(), &[1060, END_MAX])?);
+    assert!(rt; Forest::new(rt.alloc()).is_empty());
     Ok(())
 }
 

@@ -24,4 +24,6 @@ mod rows;
 #[cfg(test)]
 mod schedules;
 #[cfg(test)]
+mod tables;
+#[cfg(test)]
 mod words;

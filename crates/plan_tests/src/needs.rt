@@ -1,4 +1,5 @@
 use crate::rows::{Row, WEB, forest_of, moment};
+use crate::tables::each;
 use keep_needs::carry;
 use keep_tree::Kind;
 use std::alloc::{AllocError, Global};
@@ -67,7 +68,9 @@ const BESIDE_THE_START: [Row; 4] = [
 
 // Entries, and what each of them carries from the start 1000 on: a token with its lease; equal needs of a token and its child,
 // and of two branches; needs beside the start; no entry.
-const CARRIED: [(&[Row], &[Carries]); 5] = [
+type Carried = (&'static [Row], &'static [Carries]);
+
+const CARRIED: [Carried; 5] = [
     (&[IDLE, LEASE], &[(1200, Some(1)), (1200, Some(1))]),
     (&[TOKEN, CHILD], &[(1200, Some(0)), (1200, Some(1))]),
     (
@@ -108,12 +111,13 @@ fn is_carried(alloc: Global, rows: &[Row], want: &[Carries]) -> Result<bool, Fai
     Ok(is_so)
 }
 
+fn carries(alloc: Global, row: &Carried) -> Result<bool, Fail> {
+    is_carried(alloc, row.0, row.1)
+}
+
 #[test]
 fn carries_the_greatest_need_and_names_the_lowest(rt: HostRuntime) -> Result<(), Fail> {
-    for (i, (rows, want)) in CARRIED.iter().enumerate() {
-        assert!(rt; is_carried(rt.alloc(), rows, want)?, "case {i}");
-    }
-    Ok(())
+    each(&rt, &CARRIED, &carries)
 }
 
 // A chain of 64 tokens, of which the first is needed until 1100 and the last until 1200.

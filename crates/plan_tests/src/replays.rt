@@ -1,10 +1,12 @@
 mod foretold;
 
 use crate::rows::{BASE, BIG, LEASE, PAY, Row, TOKEN, WEB, forest_of, moment};
+use crate::tables::each;
 use keep_moment::Moment;
 use keep_rule::{Wake, WakeFault, ends_after, granted_end, keeps, reach};
 use keep_tree::{Forest, Indices};
 use std::alloc::Global;
+use std::process::Abort;
 use std::test::Fail;
 
 const LOW_TOKEN: Row = Row {
@@ -28,7 +30,9 @@ fn wakes_at(alloc: Global, moments: &[u64], asked: &[u32]) -> Result<Vec<Wake>, 
 }
 
 // A margin, entries, the moments at which each of them is asked, the ends after that, and whether the needs are kept.
-const REPLAYED: [(u32, &[Row], &[u64], &[u64], bool); 12] = [
+type Replayed = (u32, &'static [Row], &'static [u64], &'static [u64], bool);
+
+const REPLAYED: [Replayed; 12] = [
     (1, &[WEB], &[1059, 1118, 1177], &[1237], true),
     (1, &[WEB], &[1059, 1118], &[1178], false),
     (1, &[WEB], &[1059], &[1119], false),
@@ -64,6 +68,20 @@ fn ends_so(
     Ok(is_so && keeps(alloc, forest, start, wakes)? == kept)
 }
 
+// The same from the start 1000 on, where these are asked at each of the moments.
+fn ends_so_at(
+    alloc: Global,
+    forest: &Forest,
+    moments: &[u64],
+    asked: &[u32],
+    ends: &[u64],
+    kept: bool,
+) -> Result<bool, Fail> {
+    let start = moment(1000)?;
+    let wakes = wakes_at(alloc, moments, asked)?;
+    Ok(ends_so(alloc, forest, start, &wakes, ends, kept)?)
+}
+
 // Whether all of these entries, asked at these moments from the start 1000 on, have these ends then, and are kept or not.
 fn replays(
     alloc: Global,
@@ -76,25 +94,24 @@ fn replays(
     if margin < 1 || 3600 < margin {
         return Ok(false);
     }
-    let start = moment(1000)?;
     let asked = ALL.get(..rows.len()).ok_or("at most three entries")?;
-    let wakes = wakes_at(alloc, moments, asked)?;
     let forest = forest_of(alloc, margin, rows)?;
-    Ok(ends_so(alloc, &forest, start, &wakes, ends, kept)?)
+    ends_so_at(alloc, &forest, moments, asked, ends, kept)
+}
+
+fn is_replayed(alloc: Global, row: &Replayed) -> Result<bool, Fail> {
+    replays(alloc, row.0, row.1, row.2, row.3, row.4)
 }
 
 #[test]
 fn replays_ends_and_keeping(rt: HostRuntime) -> Result<(), Fail> {
-    for (i, (margin, rows, moments, ends, kept)) in REPLAYED.iter().enumerate() {
-        assert!(rt;
-            replays(rt.alloc(), *margin, rows, moments, ends, *kept)?,
-            "case {i}"
-        );
-    }
-    Ok(())
+    each(&rt, &REPLAYED, &is_replayed)
 }
 
-const FAULTS: [(&[u64], &[u32], WakeFault); 5] = [
+// Moments, the indices that are asked at each of them, and the fault.
+type Faulty = (&'static [u64], &'static [u32], WakeFault);
+
+const FAULTS: [Faulty; 5] = [
     (&[999], &[0], WakeFault::BeforeStart(1)),
     (&[1118, 1059], &[0], WakeFault::Unordered(2)),
     (&[1118, 999], &[0], WakeFault::BeforeStart(2)),
@@ -102,7 +119,19 @@ const FAULTS: [(&[u64], &[u32], WakeFault); 5] = [
     (&[1059, 1118, 1100], &[0], WakeFault::Unordered(3)),
 ];
 
-// Whether both replays of the web example from the start 1000 on refuse these wake-ups with this fault.
+// Whether both replays from the start on refuse these wake-ups with this fault.
+fn are_refused(
+    alloc: Global,
+    forest: &Forest,
+    start: Moment,
+    wakes: &[Wake],
+    fault: WakeFault,
+) -> bool {
+    ends_after(alloc, forest, start, wakes).err() == Some(fault)
+        && keeps(alloc, forest, start, wakes) == Err(fault)
+}
+
+// The same of the web example from the start 1000 on.
 fn is_at_fault(
     alloc: Global,
     moments: &[u64],
@@ -112,26 +141,24 @@ fn is_at_fault(
     let start = moment(1000)?;
     let wakes = wakes_at(alloc, moments, asked)?;
     let forest = forest_of(alloc, 1, &[WEB])?;
-    Ok(
-        ends_after(alloc, &forest, start, &wakes).err() == Some(fault)
-            && keeps(alloc, &forest, start, &wakes) == Err(fault),
-    )
+    Ok(are_refused(alloc, &forest, start, &wakes, fault))
+}
+
+fn is_faulty(alloc: Global, row: &Faulty) -> Result<bool, Fail> {
+    is_at_fault(alloc, row.0, row.1, row.2)
 }
 
 // A wake-up that is before the start, before the one in front of it, or asks past the entries; the first one is named.
 #[test]
 fn names_the_first_wake_up_at_fault(rt: HostRuntime) -> Result<(), Fail> {
-    for (i, (moments, asked, fault)) in FAULTS.iter().enumerate() {
-        assert!(rt;
-            is_at_fault(rt.alloc(), moments, asked, *fault)?,
-            "case {i}"
-        );
-    }
-    Ok(())
+    each(&rt, &FAULTS, &is_faulty)
 }
 
+// A moment, the indices that are asked then, and the ends after it.
+type OneWakeUp = (u64, &'static [u32], &'static [u64]);
+
 // The token ends at 1100: at 1099 it and its lease are renewed, at 1100 neither is.
-const ONE_WAKE_UP: [(u64, &[u32], &[u64]); 4] = [
+const ONE_WAKE_UP: [OneWakeUp; 4] = [
     (1099, &[0, 1], &[1199, 1159]),
     (1099, &[1, 0], &[1199, 1159]),
     (1099, &[0], &[1199, 2000]),
@@ -140,21 +167,33 @@ const ONE_WAKE_UP: [(u64, &[u32], &[u64]); 4] = [
 
 const LASTING: Row = Row { end: 2000, ..LEASE };
 
-// Whether one wake-up that asks these has these ends after it.
-fn leaves(alloc: Global, at: u64, asked: &[u32], ends: &[u64]) -> Result<bool, Fail> {
+// Whether the entries have these ends after one wake-up that asks these.
+fn ends_are(
+    alloc: Global,
+    forest: &Forest,
+    at: u64,
+    asked: &[u32],
+    ends: &[u64],
+) -> Result<bool, Fail> {
     let start = moment(1000)?;
     let wakes = wakes_at(alloc, &[at], asked)?;
+    Ok(ends_after(alloc, forest, start, &wakes)?.list() == ends)
+}
+
+// The same of the token and a lease that lasts.
+fn leaves(alloc: Global, at: u64, asked: &[u32], ends: &[u64]) -> Result<bool, Fail> {
     let forest = forest_of(alloc, 1, &[TOKEN, LASTING])?;
-    Ok(ends_after(alloc, &forest, start, &wakes)?.list() == ends)
+    ends_are(alloc, &forest, at, asked, ends)
+}
+
+fn are_left(alloc: Global, row: &OneWakeUp) -> Result<bool, Fail> {
+    leaves(alloc, row.0, row.1, row.2)
 }
 
 // Those asked in one wake-up are judged by the ends before it; one that is not asked keeps its end.
 #[test]
 fn judges_one_wake_up_by_the_ends_before_it(rt: HostRuntime) -> Result<(), Fail> {
-    for (i, (at, asked, ends)) in ONE_WAKE_UP.iter().enumerate() {
-        assert!(rt; leaves(rt.alloc(), *at, asked, ends)?, "case {i}");
-    }
-    Ok(())
+    each(&rt, &ONE_WAKE_UP, &are_left)
 }
 
 const ENDLESS: Row = Row {
@@ -195,21 +234,29 @@ fn is_reached(forest: &Forest, index: u32, from: u64, most: Option<u64>) -> bool
     }
 }
 
+fn grants<R: Abort>(rt: &R, forest: &Forest) {
+    for (index, at, end) in &GRANTED {
+        assert!(rt;
+            is_granted(forest, *index, *at, *end),
+            "entry {index} at {at}"
+        );
+    }
+}
+
+fn reaches<R: Abort>(rt: &R, forest: &Forest) {
+    for (index, from, most) in &REACHED {
+        assert!(rt;
+            is_reached(forest, *index, *from, *most),
+            "entry {index} from {from}"
+        );
+    }
+}
+
 #[test]
 fn grants_and_reaches(rt: HostRuntime) -> Result<(), Fail> {
     let forest = forest_of(rt.alloc(), 1, &THREE)?;
     assert!(rt; forest.len() == 3);
-    for (index, at, end) in &GRANTED {
-        assert!(rt;
-            is_granted(&forest, *index, *at, *end),
-            "entry {index} at {at}"
-        );
-    }
-    for (index, from, most) in &REACHED {
-        assert!(rt;
-            is_reached(&forest, *index, *from, *most),
-            "entry {index} from {from}"
-        );
-    }
+    grants(&rt, &forest);
+    reaches(&rt, &forest);
     Ok(())
 }

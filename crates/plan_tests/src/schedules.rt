@@ -7,6 +7,7 @@ mod limited;
 mod seeded;
 
 use crate::rows::{Grouped, Row, are_runs, forest_of, moment};
+use crate::tables::each;
 use keep_moment::Moment;
 use keep_needs::{Carried, carry};
 use keep_rule::reach;
@@ -240,7 +241,9 @@ const WEB_AT_1000: [Forced; 3] = [(1059, 0, 0), (1118, 0, 0), (1177, 0, 0)];
 
 // Entries, and the wake-ups of both schedules: the web example, also with other needs and beside a base token and its big
 // lease; a token with its lease; two tokens in turn; increment two; and others. Of two that are alike the lower index forces.
-const FORCES: [(&[Row], &[Forced]); 10] = [
+type OfBoth = (&'static [Row], &'static [Forced]);
+
+const FORCES: [OfBoth; 10] = [
     (&[WEB], &WEB_AT_1000),
     (&[Row { need: 1060, ..WEB }], &[]),
     (&[Row { need: 1061, ..WEB }], &[(1059, 0, 0)]),
@@ -256,12 +259,13 @@ const FORCES: [(&[Row], &[Forced]); 10] = [
     (&[SLOW, SLOW_UNTIL_1600], &SLOW_AND_LATE),
 ];
 
+fn are_of_both(alloc: Global, row: &OfBoth) -> Result<bool, Fail> {
+    are_forced(alloc, 1, row.0, row.1)
+}
+
 #[test]
 fn both_schedules_give_the_forces(rt: HostRuntime) -> Result<(), Fail> {
-    for (i, (rows, forces)) in FORCES.iter().enumerate() {
-        assert!(rt; are_forced(rt.alloc(), 1, rows, forces)?, "case {i}");
-    }
-    Ok(())
+    each(&rt, &FORCES, &are_of_both)
 }
 
 const WITH_MARGIN_TEN: [Forced; 3] = [(1050, 0, 0), (1100, 0, 0), (1150, 0, 0)];
@@ -274,7 +278,9 @@ fn both_schedules_keep_the_margin(rt: HostRuntime) -> Result<(), Fail> {
 
 // Entries, and the runs of the queue: the web example, two tokens in turn, a token with its lease, ten million wake-ups, and
 // an entry that joins: where it has reached its need by then, the run goes on.
-const RUNS: [(&[Row], &[Grouped]); 6] = [
+type OfQueue = (&'static [Row], &'static [Grouped]);
+
+const RUNS: [OfQueue; 6] = [
     (&[WEB], &[(1059, 59, 3, 0, 0)]),
     (&[A, B], &[(1059, 0, 1, 0, 0), (1158, 99, 3, 1, 1)]),
     (&[TOKEN, LEASE], &[(1059, 59, 3, 1, 1)]),
@@ -286,15 +292,13 @@ const RUNS: [(&[Row], &[Grouped]); 6] = [
     ),
 ];
 
+fn are_longest(alloc: Global, row: &OfQueue) -> Result<bool, Fail> {
+    are_grouped(alloc, 1, row.0, 10000001, row.1)
+}
+
 #[test]
 fn the_queue_gives_the_longest_runs(rt: HostRuntime) -> Result<(), Fail> {
-    for (i, (rows, runs)) in RUNS.iter().enumerate() {
-        assert!(rt;
-            are_grouped(rt.alloc(), 1, rows, 10000001, runs)?,
-            "case {i}"
-        );
-    }
-    Ok(())
+    each(&rt, &RUNS, &are_longest)
 }
 
 const ELEVEN: Row = Row {

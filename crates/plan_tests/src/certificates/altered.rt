@@ -1,11 +1,14 @@
 use super::is_refused;
+use crate::tables::each;
 use keep_cert::CertFault;
 use std::alloc::Global;
-use std::process::Abort;
 use std::test::Fail;
 
+// A text of which some lines are altered, and why it is refused.
+type Altered = (&'static str, CertFault);
+
 // Certificates of version 1, altered after the second line.
-const BAD_WAKES: [(&str, CertFault); 17] = [
+const BAD_WAKES: [Altered; 17] = [
     (
         "wake 1059 web web\nwake 1118 web web\nwake 1177 web web\nend 3\nx",
         CertFault::Trailing,
@@ -47,7 +50,7 @@ const BAD_WAKES: [(&str, CertFault); 17] = [
 ];
 
 // Certificates of version 2, altered after the second line.
-const BAD_RUNS: [(&str, CertFault); 14] = [
+const BAD_RUNS: [Altered; 14] = [
     ("run 1059 59 3 web web\nend 3\nx", CertFault::Trailing),
     ("run 1059 59 3 web web\nend 4\n", CertFault::BadNumber(4)),
     ("run 01059 59 3 web web\nend 3\n", CertFault::BadNumber(3)),
@@ -87,30 +90,26 @@ fn is_refused_after(
     is_refused(alloc, text.as_bytes(), fault)
 }
 
+fn is_no_wake_up(alloc: Global, row: &Altered) -> Result<bool, Fail> {
+    is_refused_after(alloc, "leasekeep-plan 1\n", row.0, row.1)
+}
+
 #[test]
 fn altered_wake_ups_are_refused(rt: HostRuntime) -> Result<(), Fail> {
-    for (lines, fault) in &BAD_WAKES {
-        assert!(rt;
-            is_refused_after(rt.alloc(), "leasekeep-plan 1\n", lines, *fault)?,
-            "{fault}"
-        );
-    }
-    Ok(())
+    each(&rt, &BAD_WAKES, &is_no_wake_up)
+}
+
+fn is_no_run(alloc: Global, row: &Altered) -> Result<bool, Fail> {
+    is_refused_after(alloc, "leasekeep-plan 2\n", row.0, row.1)
 }
 
 #[test]
 fn altered_runs_are_refused(rt: HostRuntime) -> Result<(), Fail> {
-    for (lines, fault) in &BAD_RUNS {
-        assert!(rt;
-            is_refused_after(rt.alloc(), "leasekeep-plan 2\n", lines, *fault)?,
-            "{fault}"
-        );
-    }
-    Ok(())
+    each(&rt, &BAD_RUNS, &is_no_run)
 }
 
 // Certificates whose first or second line is altered.
-const BAD_HEADS: [(&str, CertFault); 6] = [
+const BAD_HEADS: [Altered; 6] = [
     (
         "leasekeep-plan 3\nstart 1000\nend 0\n",
         CertFault::BadHeader,
@@ -128,10 +127,11 @@ const BAD_HEADS: [(&str, CertFault); 6] = [
     ("leasekeep-plan 2\n\nend 0\n", CertFault::BadLine(2)),
 ];
 
+fn is_no_head(alloc: Global, row: &Altered) -> Result<bool, Fail> {
+    is_refused(alloc, row.0.as_bytes(), row.1)
+}
+
 #[test]
 fn altered_heads_are_refused(rt: HostRuntime) -> Result<(), Fail> {
-    for (text, fault) in &BAD_HEADS {
-        assert!(rt; is_refused(rt.alloc(), text.as_bytes(), *fault)?, "{fault}");
-    }
-    Ok(())
+    each(&rt, &BAD_HEADS, &is_no_head)
 }

@@ -1,12 +1,12 @@
 use crate::rows::{
     BASE, BESIDE, BIG, FIXED, IN_TURN, LEASE, PAY, QUICK, Row, TOKEN, UNDER, WEB, moment, push,
 };
+use crate::tables::each;
 use keep_cert::{PrintFault, print};
 use keep_moment::{Moment, Text};
 use keep_plan::{PlanFault, plan};
 use keep_tree::Forest;
 use std::alloc::Global;
-use std::process::Abort;
 use std::test::Fail;
 
 // The entries of these names.
@@ -55,11 +55,8 @@ fn prints(
 // A margin, names and their entries, and the lines after the first two.
 type Printed = (u32, &'static [&'static str], &'static [Row], &'static str);
 
-fn are_printed<R: AllocGlobal + Abort>(rt: &R, table: &[Printed]) -> Result<(), Fail> {
-    for (margin, names, rows, lines) in table {
-        assert!(rt; prints(rt.alloc(), *margin, names, rows, lines)?, "{lines}");
-    }
-    Ok(())
+fn is_printed(alloc: Global, row: &Printed) -> Result<bool, Fail> {
+    prints(alloc, row.0, row.1, row.2, row.3)
 }
 
 const ENDED: Row = Row { end: 1000, ..WEB };
@@ -147,7 +144,7 @@ const OF_ONE_TOKEN: [Printed; 11] = [
 
 #[test]
 fn decisions_of_one_token_are_printed(rt: HostRuntime) -> Result<(), Fail> {
-    are_printed(&rt, &OF_ONE_TOKEN)
+    each(&rt, &OF_ONE_TOKEN, &is_printed)
 }
 
 const LOW: Row = Row {
@@ -181,7 +178,7 @@ const DECISIONS: [Printed; 6] = [
 
 #[test]
 fn decisions_are_printed(rt: HostRuntime) -> Result<(), Fail> {
-    are_printed(&rt, &DECISIONS)
+    each(&rt, &DECISIONS, &is_printed)
 }
 
 const OF_TWO_TOKENS: [Printed; 3] = [
@@ -197,7 +194,7 @@ const OF_TWO_TOKENS: [Printed; 3] = [
 
 #[test]
 fn decisions_of_two_tokens_are_printed(rt: HostRuntime) -> Result<(), Fail> {
-    are_printed(&rt, &OF_TWO_TOKENS)
+    each(&rt, &OF_TWO_TOKENS, &is_printed)
 }
 
 const TOO_LONG: Row = Row {

@@ -1,9 +1,9 @@
 use super::{IN_WAKES, WEB, forest_of};
 use crate::rows::{Grouped, are_runs};
+use crate::tables::each;
 use keep_cert::{Body, CertFault, Version, read, text_of};
 use keep_tree::Forest;
 use std::alloc::{AllocError, Global};
-use std::process::Abort;
 use std::test::Fail;
 
 fn has_runs(body: &Body, runs: &[Grouped]) -> bool {
@@ -39,11 +39,8 @@ fn reads_runs(alloc: Global, names: &[&str], lines: &str, runs: &[Grouped]) -> R
     Ok(has_them(alloc, &forest, text.as_bytes(), runs)?)
 }
 
-fn are_read<R: AllocGlobal + Abort>(rt: &R, table: &[Whole]) -> Result<(), Fail> {
-    for (names, lines, runs) in table {
-        assert!(rt; reads_runs(rt.alloc(), names, lines, runs)?, "{lines}");
-    }
-    Ok(())
+fn is_whole(alloc: Global, row: &Whole) -> Result<bool, Fail> {
+    reads_runs(alloc, row.0, row.1, row.2)
 }
 
 // The texts of plans that keep. The entries have the names of each row, in order.
@@ -75,7 +72,7 @@ const PLANS: [Whole; 7] = [
 
 #[test]
 fn plans_are_read_and_written(rt: HostRuntime) -> Result<(), Fail> {
-    are_read(&rt, &PLANS)
+    each(&rt, &PLANS, &is_whole)
 }
 
 // Long plans, and plans with a margin of ten seconds.
@@ -105,7 +102,7 @@ const LONG_PLANS: [Whole; 5] = [
 
 #[test]
 fn long_plans_are_read_and_written(rt: HostRuntime) -> Result<(), Fail> {
-    are_read(&rt, &LONG_PLANS)
+    each(&rt, &LONG_PLANS, &is_whole)
 }
 
 fn is_first_and_second(body: &Body) -> bool {
@@ -190,17 +187,25 @@ fn refuses_100001(alloc: Global, head: &str, line: &str) -> Result<bool, Fail> {
     Ok(read(alloc, &forest, &text).err() == Some(CertFault::BadLine(100003)))
 }
 
-// The first two lines, and one of the others, in both versions.
-const LINES: [(&str, &str); 2] = [
+// The first two lines of a certificate, and one of the others.
+type Lines = (&'static str, &'static str);
+
+// Those of both versions.
+const LINES: [Lines; 2] = [
     ("leasekeep-plan 1\nstart 1000\n", "wake 1059 web web\n"),
     ("leasekeep-plan 2\nstart 1000\n", "run 1059 0 1 web web\n"),
 ];
 
+fn are_few(alloc: Global, row: &Lines) -> Result<bool, Fail> {
+    reads_100000(alloc, row.0, row.1)
+}
+
+fn are_too_many(alloc: Global, row: &Lines) -> Result<bool, Fail> {
+    refuses_100001(alloc, row.0, row.1)
+}
+
 #[test]
 fn a_certificate_has_at_most_100000_lines(rt: HostRuntime) -> Result<(), Fail> {
-    for (head, line) in &LINES {
-        assert!(rt; reads_100000(rt.alloc(), head, line)?, "{line}");
-        assert!(rt; refuses_100001(rt.alloc(), head, line)?, "{line}");
-    }
-    Ok(())
+    each(&rt, &LINES, &are_few)?;
+    each(&rt, &LINES, &are_too_many)
 }

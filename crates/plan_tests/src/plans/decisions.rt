@@ -2,11 +2,11 @@ use crate::rows::{
     BASE, BESIDE, BIG, FIXED, Grouped, IN_TURN, LEASE, PAY, QUICK, Row, TOKEN, UNDER, WEB,
     are_runs, forest_of, moment,
 };
+use crate::tables::each;
 use keep_moment::Moment;
 use keep_plan::{Decision, Plan, PlanFault, plan};
 use keep_tree::Forest;
 use std::alloc::Global;
-use std::process::Abort;
 use std::test::Fail;
 
 // The plan from 1000 on, with the margin.
@@ -31,11 +31,8 @@ fn gives(alloc: Global, margin: u32, rows: &[Row], want: &[Grouped]) -> Result<b
 // A margin, entries, and the runs of their plan.
 type Planned = (u32, &'static [Row], &'static [Grouped]);
 
-fn are_given<R: AllocGlobal + Abort>(rt: &R, table: &[Planned]) -> Result<(), Fail> {
-    for (i, (margin, rows, want)) in table.iter().enumerate() {
-        assert!(rt; gives(rt.alloc(), *margin, rows, want)?, "case {i}");
-    }
-    Ok(())
+fn is_given(alloc: Global, row: &Planned) -> Result<bool, Fail> {
+    gives(alloc, row.0, row.1, row.2)
 }
 
 // A token of end 1002 and step 2 for 100,000 wake-ups, for one more, and for ten million.
@@ -87,7 +84,7 @@ const OF_ONE_TOKEN: [Planned; 10] = [
 
 #[test]
 fn gives_the_runs_of_one_token(rt: HostRuntime) -> Result<(), Fail> {
-    are_given(&rt, &OF_ONE_TOKEN)
+    each(&rt, &OF_ONE_TOKEN, &is_given)
 }
 
 // The web example with increment 11 and need 1070.
@@ -109,7 +106,7 @@ const OF_SEVERAL: [Planned; 6] = [
 
 #[test]
 fn gives_the_runs_of_several(rt: HostRuntime) -> Result<(), Fail> {
-    are_given(&rt, &OF_SEVERAL)
+    each(&rt, &OF_SEVERAL, &is_given)
 }
 
 // The wake-ups of two tokens in turn, the entry that forces each for its own need, and how many are left with it.
@@ -155,7 +152,9 @@ fn walks_the_wake_ups(rt: HostRuntime) -> Result<(), Fail> {
 }
 
 // Entries without a plan, and the pair for which there is none; `None` where it would be too long.
-const UNPLANNED: [(&[Row], Option<(u32, u32)>); 5] = [
+type Unplanned = (&'static [Row], Option<(u32, u32)>);
+
+const UNPLANNED: [Unplanned; 5] = [
     (
         &[
             Row {
@@ -185,23 +184,20 @@ const UNPLANNED: [(&[Row], Option<(u32, u32)>); 5] = [
     ),
 ];
 
-fn is_unplanned(alloc: Global, rows: &[Row], want: Option<(u32, u32)>) -> Result<bool, Fail> {
+fn is_unplanned(alloc: Global, row: &Unplanned) -> Result<bool, Fail> {
     let start = moment(1000)?;
-    let forest = forest_of(alloc, 1, rows)?;
+    let forest = forest_of(alloc, 1, row.0)?;
     match plan(alloc, &forest, start)? {
         Decision::Keep(_) => Ok(false),
-        Decision::Unkeepable { entry, needed } => Ok(want == Some((entry, needed))),
-        Decision::TooLong => Ok(want.is_none()),
+        Decision::Unkeepable { entry, needed } => Ok(row.1 == Some((entry, needed))),
+        Decision::TooLong => Ok(row.1.is_none()),
     }
 }
 
 // What cannot be kept, and what takes ten million and one wake-ups.
 #[test]
 fn names_why_there_is_no_plan(rt: HostRuntime) -> Result<(), Fail> {
-    for (i, (rows, want)) in UNPLANNED.iter().enumerate() {
-        assert!(rt; is_unplanned(rt.alloc(), rows, *want)?, "case {i}");
-    }
-    Ok(())
+    each(&rt, &UNPLANNED, &is_unplanned)
 }
 
 // Whether the plan of the forest from the start on asks these at a moment.
@@ -227,7 +223,9 @@ fn asks(alloc: Global, rows: &[Row], at: u64, want: &[u32]) -> Result<bool, Fail
 }
 
 // The ends of token and lease that a wake-up finds, its moment, and what it asks; the token later.
-const OF_BOTH: [(u64, u64, u64, &[u32]); 5] = [
+type OfBoth = (u64, u64, u64, &'static [u32]);
+
+const OF_BOTH: [OfBoth; 5] = [
     (1100, 1060, 1059, &[0, 1]),
     (1159, 1119, 1118, &[0, 1]),
     (1218, 1178, 1177, &[1]),
@@ -238,25 +236,25 @@ const OF_BOTH: [(u64, u64, u64, &[u32]); 5] = [
 // The same of web, base and big: the end of the first.
 const OF_WEB: [(u64, u64); 3] = [(1060, 1059), (1119, 1118), (1178, 1177)];
 
+fn are_asked(alloc: Global, row: &OfBoth) -> Result<bool, Fail> {
+    let over = Row {
+        end: row.0,
+        ..TOKEN
+    };
+    let under = Row {
+        end: row.1,
+        ..LEASE
+    };
+    asks(alloc, &[over, under], row.2, row.3)
+}
+
+fn is_asked(alloc: Global, row: &(u64, u64)) -> Result<bool, Fail> {
+    let web = Row { end: row.0, ..WEB };
+    asks(alloc, &[web, BASE, BIG], row.1, &[0])
+}
+
 #[test]
 fn asks_what_cannot_wait(rt: HostRuntime) -> Result<(), Fail> {
-    for (token, lease, at, want) in &OF_BOTH {
-        let over = Row {
-            end: *token,
-            ..TOKEN
-        };
-        let under = Row {
-            end: *lease,
-            ..LEASE
-        };
-        assert!(rt;
-            asks(rt.alloc(), &[over, under], *at, want)?,
-            "{token} {lease}"
-        );
-    }
-    for (end, at) in &OF_WEB {
-        let web = Row { end: *end, ..WEB };
-        assert!(rt; asks(rt.alloc(), &[web, BASE, BIG], *at, &[0])?, "{end}");
-    }
-    Ok(())
+    each(&rt, &OF_BOTH, &are_asked)?;
+    each(&rt, &OF_WEB, &is_asked)
 }

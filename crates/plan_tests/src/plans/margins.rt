@@ -1,7 +1,7 @@
 use crate::rows::{Row, WEB, forest_of, moment};
+use crate::tables::each;
 use keep_plan::{LIMIT, Widest, widest_margin};
 use std::alloc::{AllocError, Global};
-use std::process::Abort;
 use std::test::Fail;
 
 // Whether it is this margin with so many wake-ups, or none.
@@ -24,11 +24,8 @@ fn gives(alloc: Global, rows: &[Row], most: u64, want: Option<(u32, u64)>) -> Re
 // Entries, how many wake-ups may be spent, and the widest margin with its wake-ups.
 type Spent = (&'static [Row], u64, Option<(u32, u64)>);
 
-fn are_given<R: AllocGlobal + Abort>(rt: &R, table: &[Spent]) -> Result<(), Fail> {
-    for (i, (rows, most, want)) in table.iter().enumerate() {
-        assert!(rt; gives(rt.alloc(), rows, *most, *want)?, "case {i}");
-    }
-    Ok(())
+fn is_given(alloc: Global, row: &Spent) -> Result<bool, Fail> {
+    gives(alloc, row.0, row.1, row.2)
 }
 
 // With the margin m each wake-up of the web example comes 60 - m seconds after the one before, and the last at 1140 or later:
@@ -44,7 +41,7 @@ const OF_WEB: [Spent; 6] = [
 
 #[test]
 fn a_wider_margin_takes_more_wake_ups(rt: HostRuntime) -> Result<(), Fail> {
-    are_given(&rt, &OF_WEB)
+    each(&rt, &OF_WEB, &is_given)
 }
 
 const SLOW: Row = Row {
@@ -64,7 +61,7 @@ const LIMITED: [Spent; 4] = [
 
 #[test]
 fn steps_and_ends_limit_a_margin(rt: HostRuntime) -> Result<(), Fail> {
-    are_given(&rt, &LIMITED)
+    each(&rt, &LIMITED, &is_given)
 }
 
 const LOW: Row = Row {
@@ -89,7 +86,7 @@ const NONE_OR_ONE: [Spent; 3] = [
 
 #[test]
 fn no_margin_is_enough(rt: HostRuntime) -> Result<(), Fail> {
-    are_given(&rt, &NONE_OR_ONE)
+    each(&rt, &NONE_OR_ONE, &is_given)
 }
 
 // As many entries as there may be, all as the web example.

@@ -1,4 +1,5 @@
 use crate::rows::{BESIDE, FIXED, LEASE, Row, TOKEN, UNDER, WEB, forest_of, moment};
+use crate::tables::each;
 use keep_needs::carry;
 use keep_plan::{Shortfall, shortfall};
 use std::alloc::Global;
@@ -26,7 +27,9 @@ const LATE: Row = Row {
 
 // Entries, and the lowest pair that falls short: a token and its lease, under a low ceiling and one that serves; tokens that
 // end at the start; one that cannot be renewed, beside the token that is needed and over it.
-const SHORT: [(&[Row], Option<(u32, u32)>); 9] = [
+type Short = (&'static [Row], Option<(u32, u32)>);
+
+const SHORT: [Short; 9] = [
     (
         &[
             Row {
@@ -65,10 +68,11 @@ const SHORT: [(&[Row], Option<(u32, u32)>); 9] = [
     (&[], None),
 ];
 
+fn is_short(alloc: Global, row: &Short) -> Result<bool, Fail> {
+    falls_short(alloc, row.0, row.1)
+}
+
 #[test]
 fn names_the_lowest_that_falls_short(rt: HostRuntime) -> Result<(), Fail> {
-    for (i, (rows, want)) in SHORT.iter().enumerate() {
-        assert!(rt; falls_short(rt.alloc(), rows, *want)?, "case {i}");
-    }
-    Ok(())
+    each(&rt, &SHORT, &is_short)
 }

@@ -3,10 +3,10 @@
 
 use super::wake;
 use crate::rows::{BASE, BIG, IN_TURN, LEASE, Row, TOKEN, WEB, forest_of, moment};
+use crate::tables::each;
 use keep_rule::{Wake, keeps};
 use keep_tree::Forest;
 use std::alloc::Global;
-use std::process::Abort;
 use std::test::Fail;
 
 // How a plan differs from the one that is least and latest, at the wake-up of an index.
@@ -52,15 +52,12 @@ fn is_least(alloc: Global, forest: &Forest, plan: &[(u64, &[u32])]) -> Result<bo
     Ok(is_so)
 }
 
-fn is_foretold(alloc: Global, rows: &[Row], plan: &[(u64, &[u32])]) -> Result<bool, Fail> {
-    let forest = forest_of(alloc, 1, rows)?;
-    is_least(alloc, &forest, plan)
-}
-
 const LONGER: Row = Row { end: 1130, ..TOKEN };
 
 // Entries, and the plan that the laws foretell of them.
-const FORETOLD: [(&[Row], &[(u64, &[u32])]); 5] = [
+type Foretold = (&'static [Row], &'static [(u64, &'static [u32])]);
+
+const FORETOLD: [Foretold; 5] = [
     (&[WEB], &[(1059, &[0]), (1118, &[0]), (1177, &[0])]),
     (
         &[TOKEN, LEASE],
@@ -80,10 +77,12 @@ const FORETOLD: [(&[Row], &[(u64, &[u32])]); 5] = [
     ),
 ];
 
+fn is_foretold(alloc: Global, row: &Foretold) -> Result<bool, Fail> {
+    let forest = forest_of(alloc, 1, row.0)?;
+    is_least(alloc, &forest, row.1)
+}
+
 #[test]
 fn keeps_as_the_laws_foretell(rt: HostRuntime) -> Result<(), Fail> {
-    for (i, (rows, plan)) in FORETOLD.iter().enumerate() {
-        assert!(rt; is_foretold(rt.alloc(), rows, plan)?, "case {i}");
-    }
-    Ok(())
+    each(&rt, &FORETOLD, &is_foretold)
 }

@@ -1,5 +1,6 @@
 use super::is_keepable;
 use crate::rows::{PAY, QUICK, Row, WEB, forest_of, moment};
+use crate::tables::each;
 use keep_moment::Moment;
 use keep_needs::carry;
 use keep_schedule::{Force, QueueSchedule, ScanSchedule, Schedule};
@@ -76,7 +77,9 @@ fn both_count(alloc: Global, forest: &Forest, start: Moment) -> Result<Option<u6
 }
 
 // Tokens, and how many wake-ups both schedules give of them from 1000 on.
-const COUNTS: [(&[Row], u64); 5] = [
+type Counted = (&'static [Row], u64);
+
+const COUNTS: [Counted; 5] = [
     (&[PAY], 1),
     (&[ENDED], 0),
     (&[FIXED, LONG], 0),
@@ -84,17 +87,14 @@ const COUNTS: [(&[Row], u64); 5] = [
     (&[ONE_MORE], 100001),
 ];
 
-fn gives_as_many(alloc: Global, rows: &[Row], want: u64) -> Result<bool, Fail> {
+fn gives_as_many(alloc: Global, row: &Counted) -> Result<bool, Fail> {
     let start = moment(1000)?;
-    let forest = forest_of(alloc, 1, rows)?;
-    Ok(both_count(alloc, &forest, start)? == Some(want))
+    let forest = forest_of(alloc, 1, row.0)?;
+    Ok(both_count(alloc, &forest, start)? == Some(row.1))
 }
 
 // Both schedules give one list of these examples, as long as it has to be.
 #[test]
 fn both_schedules_give_as_many(rt: HostRuntime) -> Result<(), Fail> {
-    for (rows, want) in &COUNTS {
-        assert!(rt; gives_as_many(rt.alloc(), rows, *want)?, "{want}");
-    }
-    Ok(())
+    each(&rt, &COUNTS, &gives_as_many)
 }
