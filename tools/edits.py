@@ -12,9 +12,8 @@ from dataclasses import dataclass
 from pathlib import Path
 
 TOP = Path(__file__).resolve().parent.parent
-FOLDERS = ("must-fail",)
-MORE = "also-fail"
-"""Where those lie that break a clause for which another one stands already."""
+FOLDERS = ("must-fail", "also-fail")
+"""The gate's own command tries those of the first folder, each in a check of its own; tools/wrong-bodies tries many in one check."""
 
 HEADER = re.compile(r"^( *)(?:pub(?:\([^)]*\))? )?(?:const )?fn (\w+)", re.M)
 OWNER = re.compile(r"^(?:pub )?impl(?:<(?:[^<>]|<[^<>]*>)*>)? (?:(?:\w+::)*(\w+)(?:<(\w+).*?>)? for )?(?:\w+::)*(\w+)", re.M)
@@ -103,10 +102,9 @@ def read_edit(path: Path) -> Edit:
     return Edit(path, tuple(changes), refuses)
 
 
-def edits_of(crate: Path, more: bool = False) -> list[Path]:
-    """The files of a crate's edits, in order; with `more` also those of which the tests try another one."""
-    folders = [*FOLDERS, MORE] if more else FOLDERS
-    return [path for folder in folders for path in sorted((crate / folder).glob("*.edit"))]
+def edits_of(crate: Path) -> list[Path]:
+    """The files of a crate's edits, in order."""
+    return [path for folder in FOLDERS for path in sorted((crate / folder).glob("*.edit"))]
 
 
 def function_at(text: str, place: int) -> str | None:
