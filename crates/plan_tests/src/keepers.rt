@@ -1,98 +1,93 @@
-//! Plays of a keeper: a table says step by step what happens, and what is to come of it.
+//! Plays of a keeper from 1000 on, where no line of a live run could say them: answers that nobody asked for, answers in another
+//! order, and the forces of its plan.
 
-mod answers;
-mod limits;
-mod needs;
-mod rounds;
-mod ticks;
-
-use crate::rows::{Row, forest_of, moment};
-use keep_core::{Event, Keeper, Output, ShortNeed, StepFault};
+use crate::rows::{LEASE, Row, TOKEN, WEB, each, forest_of, moment};
+use keep_core::{Event, Keeper, Output, StepFault};
 use keep_tree::Forest;
-use std::alloc::Global;
-use std::process::Abort;
+use std::alloc::{AllocError, Global};
 use std::test::Fail;
 
 // What is answered to an event.
 #[derive(Clone, Copy)]
 enum Said {
     Sleep(u64),
-    Idle,
     Ask(&'static [u32]),
     Waiting,
-    Round(Option<u64>),
-    Planned,
+    Round(u64),
     Fault(StepFault),
 }
 
 fn is_said(answer: &Result<Output, StepFault>, said: Said) -> bool {
     match (answer, said) {
         (Ok(Output::Sleep(at)), Said::Sleep(want)) => *at == want,
-        (Ok(Output::Idle), Said::Idle) => true,
         (Ok(Output::Ask(asked)), Said::Ask(want)) => asked.list() == want,
         (Ok(Output::Waiting), Said::Waiting) => true,
-        (Ok(Output::Round { next }), Said::Round(want)) => *next == want,
-        (Ok(Output::Planned), Said::Planned) => true,
+        (Ok(Output::Round { next }), Said::Round(want)) => *next == Some(want),
         (Err(fault), Said::Fault(want)) => *fault == want,
         _ => false,
     }
 }
 
-// A step of a play, and what is to come of it. The first six are events.
-#[derive(Clone, Copy)]
-enum Step {
-    Tick(u64, Said),
-    // An entry was renewed, and ends so many seconds after that.
-    Told(u32, u64, Said),
-    // The same, for the last time.
-    Last(u32, u64, Said),
-    Refused(u32, Said),
-    Lost(u32, Said),
-    // An entry is needed until a moment.
-    Need(u32, u64, Said),
-    // The needs that were shortened since this was last asked.
-    Shortened(&'static [ShortNeed]),
-    // The ends of the entries, by index.
-    Ends(&'static [u64]),
-    // The needs of the entries, by index.
-    Needs(&'static [u64]),
-    // The last moment.
-    Now(u64),
-    // The first wake-up of the plan.
-    Next(Option<u64>),
-    // How many wake-ups the plan has.
-    Wakes(u64),
-    // A round is open at this moment, or none, and waits for just these of the indices 0, 1 and 2, of which 2 is past the entries.
-    Open(Option<u64>, [bool; 3]),
-}
+// The token is renewed for so many seconds, and the lease for a minute.
+const GRANT: Event = Event::Told {
+    i: 0,
+    seconds: 100,
+    renewable: true,
+};
 
-// Whether what comes of a step is what is to come of it.
-fn goes_on(keeper: &mut Keeper, step: &Step) -> bool {
-    match *step {
-        Step::Tick(at, said) => is_said(&keeper.step(Event::Tick(at)), said),
-        Step::Told(i, seconds, said) => is_told(keeper, i, seconds, true, said),
-        Step::Last(i, seconds, said) => is_told(keeper, i, seconds, false, said),
-        Step::Refused(i, said) => is_said(&keeper.step(Event::Refused(i)), said),
-        Step::Lost(i, said) => is_said(&keeper.step(Event::Lost(i)), said),
-        Step::Need(i, until, said) => is_said(&keeper.step(Event::Need { i, until }), said),
-        Step::Shortened(want) => keeper.take_shortened().list() == want,
-        Step::Ends(want) => ends_are(keeper.forest(), want),
-        Step::Needs(want) => needs_are(keeper.forest(), want),
-        Step::Now(at) => keeper.now().get() == at,
-        Step::Next(at) => keeper.next_wake().map(|moment| moment.get()) == at,
-        Step::Wakes(count) => keeper.plan().len() == count,
-        Step::Open(at, waited) => is_open(keeper, at, waited),
-    }
-}
+const MINUTE: Event = Event::Told {
+    i: 0,
+    seconds: 60,
+    renewable: true,
+};
 
-fn is_told(keeper: &mut Keeper, i: u32, seconds: u64, renewable: bool, said: Said) -> bool {
-    let event = Event::Told {
-        i,
-        seconds,
-        renewable,
-    };
-    is_said(&keeper.step(event), said)
-}
+const LEASE_GRANT: Event = Event::Told {
+    i: 1,
+    seconds: 60,
+    renewable: true,
+};
+
+const NEED: Event = Event::Need { i: 0, until: 1100 };
+
+const TICKS_ANSWERS_AND_REFUSALS: [(Event, Said); 8] = [
+    (Event::Tick(1000), Said::Sleep(1059)),
+    (Event::Tick(1059), Said::Ask(&[0])),
+    (Event::Tick(1059), Said::Fault(StepFault::RoundOpen)),
+    (MINUTE, Said::Round(1118)),
+    (MINUTE, Said::Fault(StepFault::NotAsked)),
+    (Event::Refused(7), Said::Fault(StepFault::BadIndex)),
+    (
+        Event::Tick(253402300800),
+        Said::Fault(StepFault::OutOfRange),
+    ),
+    (Event::Tick(1050), Said::Fault(StepFault::ClockBack)),
+];
+
+// While a round is open, an event is refused by the first refusal that applies. The lease answers first.
+const LEASE_FIRST: [(Event, Said); 7] = [
+    (Event::Tick(1059), Said::Ask(&[0, 1])),
+    (Event::Lost(7), Said::Fault(StepFault::BadIndex)),
+    (Event::Tick(1058), Said::Fault(StepFault::ClockBack)),
+    (NEED, Said::Fault(StepFault::RoundOpen)),
+    (LEASE_GRANT, Said::Waiting),
+    (Event::Lost(1), Said::Fault(StepFault::NotAsked)),
+    (GRANT, Said::Round(1118)),
+];
+
+const TOKEN_FIRST: [(Event, Said); 3] = [
+    (Event::Tick(1059), Said::Ask(&[0, 1])),
+    (GRANT, Said::Waiting),
+    (LEASE_GRANT, Said::Round(1118)),
+];
+
+// Entries, the events with their answers, and the ends after them.
+type Play = (&'static [Row], &'static [(Event, Said)], &'static [u64]);
+
+const PLAYS: [Play; 3] = [
+    (&[WEB], &TICKS_ANSWERS_AND_REFUSALS, &[1119]),
+    (&[TOKEN, LEASE], &LEASE_FIRST, &[1159, 1119]),
+    (&[TOKEN, LEASE], &TOKEN_FIRST, &[1159, 1119]),
+];
 
 fn ends_are(forest: &Forest, want: &[u64]) -> bool {
     let mut is_so = forest.len() as usize == want.len();
@@ -102,41 +97,49 @@ fn ends_are(forest: &Forest, want: &[u64]) -> bool {
     is_so
 }
 
-fn needs_are(forest: &Forest, want: &[u64]) -> bool {
-    let mut is_so = forest.len() as usize == want.len();
-    for i in 0..forest.len() {
-        is_so = Some(&forest.get(i).need) == want.get(i as usize) && is_so;
-    }
-    is_so
-}
-
-fn is_open(keeper: &Keeper, at: Option<u64>, waited: [bool; 3]) -> bool {
-    let mut is_so = keeper.open_round().map(|moment| moment.get()) == at;
-    for (i, waits) in waited.iter().enumerate() {
-        is_so = keeper.waits_for(i as u32) == *waits && is_so;
-    }
-    is_so
-}
-
-// The number of the first step, counted from 0, of which something else comes than is to come; `None` where there is none.
-fn first_wrong(keeper: &mut Keeper, steps: &[Step]) -> Option<usize> {
-    for (number, step) in steps.iter().enumerate() {
-        if !goes_on(keeper, step) {
-            return Some(number);
-        }
-    }
-    None
-}
-
-// A keeper from 1000.
-fn opened(alloc: Global, forest: Forest) -> Result<Keeper, Fail> {
+fn opened(alloc: Global, rows: &[Row]) -> Result<Keeper, Fail> {
     let start = moment(1000)?;
-    Ok(Keeper::new(alloc, forest, start)?)
+    Ok(Keeper::new(alloc, forest_of(alloc, 1, rows)?, start)?)
 }
 
-// Takes the steps with a keeper of these entries with margin 1, and asserts that each comes out as it is to.
-fn plays<R: AllocGlobal + Abort>(rt: &R, rows: &[Row], steps: &[Step]) -> Result<(), Fail> {
-    let mut keeper = opened(rt.alloc(), forest_of(rt.alloc(), 1, rows)?)?;
-    assert_eq!(rt; first_wrong(&mut keeper, steps), None);
+fn is_played(alloc: Global, row: &Play) -> Result<bool, Fail> {
+    let mut keeper = opened(alloc, row.0)?;
+    let mut is_so = true;
+    for (event, said) in row.1 {
+        is_so = is_said(&keeper.step(*event), *said) && is_so;
+    }
+    Ok(is_so && ends_are(keeper.forest(), row.2))
+}
+
+#[test]
+fn ticks_answers_and_refusals(rt: HostRuntime) -> Result<(), Fail> {
+    each(&rt, &PLAYS, &is_played)
+}
+
+// A token that lasts as long as its lease does once that is renewed.
+const LASTING: Row = Row { end: 1119, ..TOKEN };
+
+const LEASE_ALONE: [Event; 2] = [Event::Tick(1059), LEASE_GRANT];
+
+// Whether two events are taken at once, and the plan goes on with its tail: its force names the lease twice, where planning
+// anew from 1059 names the token.
+fn keeps_the_tail(keeper: &mut Keeper) -> Result<bool, AllocError> {
+    let answered = keeper.steps(&LEASE_ALONE)?;
+    let is_closed = match answered.get(1) {
+        Some(answer) => is_said(answer, Said::Round(1118)),
+        None => false,
+    };
+    match keeper.plan().wakes().next() {
+        Some(force) => Ok(
+            is_closed && force.at.get() == 1118 && force.entry == 1 && force.needed == 1,
+        ),
+        None => Ok(false),
+    }
+}
+
+#[test]
+fn the_tail_of_a_plan_keeps_its_forces(rt: HostRuntime) -> Result<(), Fail> {
+    let mut keeper = opened(rt.alloc(), &[LASTING, LEASE])?;
+    assert!(rt; keeps_the_tail(&mut keeper)?);
     Ok(())
 }
