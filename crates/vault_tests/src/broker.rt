@@ -1,12 +1,12 @@
 //! The broker's table: faults by number, and what is left of an entry. (What it answers is tried with minibroker.)
-use crate::exchange::renewal;
 use broker_table::{Fault, Served, SetFault, Table};
+use http::Method;
 use keep_inventory::read;
-use keep_moment::Moment;
+use keep_moment::{Moment, Text};
 use std::alloc::Global;
-use std::process::Abort;
 use std::test::Fail;
 use vault_http::Request;
+use vault_json::renew_body;
 
 pub(crate) const WEB: &str =
     "[[token]]\nname = \"web\"\nissued = 1000\nend = 1060\nincrement = 60\nmax_ttl = 9000\nneed = 1200\n";
@@ -20,6 +20,26 @@ pub(crate) fn moment(seconds: u64) -> Moment {
 pub(crate) fn table(alloc: Global, text: &str) -> Result<Table, Fail> {
     let inventory = read(alloc, text.as_bytes())?;
     Ok(Table::load(alloc, &inventory)?)
+}
+
+/// The texts of a token's renewal by so many seconds. (Apart from its method, which no early end has to drop here.)
+fn texts(alloc: Global, token: &[u8], increment: u32) -> Result<(Text, Text, Text), Fail> {
+    let path = Text::of(alloc, b"/v1/auth/token/renew-self")?;
+    let token = Text::of(alloc, token)?;
+    let body = renew_body(alloc, increment)?;
+    Ok((path, token, body))
+}
+
+/// The renewal of the token with this credential by so many seconds, to a broker at port 8200.
+pub(crate) fn renewal(alloc: Global, token: &[u8], increment: u32) -> Result<Request, Fail> {
+    let (path, token, body) = texts(alloc, token, increment)?;
+    Ok(Request {
+        method: Method::POST,
+        path,
+        token: Some(token),
+        body,
+        port: 8200,
+    })
 }
 
 /// A step of a play with the renewal of `web` by ten seconds, and what is to come of it.

@@ -1,13 +1,12 @@
 //! One exchange with a broker in memory, with the texts of both messages.
-use crate::broker::{WEB, moment, table};
+use crate::broker::{WEB, moment, renewal, table};
+use crate::shown::{SECRET, hides};
 use broker_table::Fault;
-use http::Method;
 use keep_exchange::{Exchange, ExchangeFault, MemoryExchange, can_carry};
-use keep_moment::Text;
 use std::alloc::Global;
+use std::process::Abort;
 use std::test::Fail;
-use vault_http::{HttpFault, Request};
-use vault_json::renew_body;
+use vault_http::HttpFault;
 
 /// The first renewal of the web example and its reply.
 const WIRE: &[u8] =
@@ -16,28 +15,8 @@ Content-Type: application/json\r\nContent-Length: 16\r\nConnection: close\r\n\r\
 HTTP/1.1 200 OK\r\nContent-Type: application/json\r\nContent-Length: 47\r\nConnection: close\r\n\r\n\
 {\"auth\":{\"lease_duration\":60,\"renewable\":true}}";
 
-/// The texts of a token's renewal by so many seconds. (Apart from its method, which no early end has to drop here.)
-fn texts(alloc: Global, token: &[u8], increment: u32) -> Result<(Text, Text, Text), Fail> {
-    let path = Text::of(alloc, b"/v1/auth/token/renew-self")?;
-    let token = Text::of(alloc, token)?;
-    let body = renew_body(alloc, increment)?;
-    Ok((path, token, body))
-}
-
-/// The renewal of the token with this credential by so many seconds, to a broker at port 8200.
-pub(crate) fn renewal(alloc: Global, token: &[u8], increment: u32) -> Result<Request, Fail> {
-    let (path, token, body) = texts(alloc, token, increment)?;
-    Ok(Request {
-        method: Method::POST,
-        path,
-        token: Some(token),
-        body,
-        port: 8200,
-    })
-}
-
-/// The status of the reply to its renewal at 1059, if there is one.
-pub(crate) fn ask_with(
+/// The status of the reply to the renewal of the token with this credential at 1059, if there is one.
+fn ask_with(
     alloc: Global,
     exchange: &mut MemoryExchange,
     token: &[u8],
@@ -75,4 +54,24 @@ fn carries_both_texts(rt: HostRuntime) -> Result<(), Fail> {
     assert!(rt; comes_to(rt.alloc(), None, Ok(200), WIRE)?);
     assert!(rt; comes_to(rt.alloc(), Some(Fault::Drop), cut, b"")?);
     Ok(())
+}
+
+// Nor does an exchange show the secret that it has carried.
+fn exchange_hides<R: AllocGlobal + Abort>(
+    rt: &R,
+    exchange: &mut MemoryExchange,
+) -> Result<(), Fail> {
+    assert!(rt; ask_with(rt.alloc(), exchange, b"db/creds")? == Ok(200));
+    hides(
+        rt,
+        &format!(in rt.alloc(); "{exchange:?}")?,
+        "MemoryExchange",
+    );
+    Ok(())
+}
+
+#[test]
+fn exchanges_show_no_secret(rt: HostRuntime) -> Result<(), Fail> {
+    let mut exchange = MemoryExchange::new(rt.alloc(), table(rt.alloc(), SECRET)?);
+    exchange_hides(&rt, &mut exchange)
 }

@@ -172,7 +172,7 @@ fn refuses_requests(rt: HostRuntime) -> Result<(), Fail> {
 const EXAMPLE: Option<u64> = Some(784111777);
 
 // The fields of a head, and the moment that they tell.
-const FIELDS: [(&str, Option<u64>); 13] = [
+const FIELDS: [(&str, Option<u64>); 12] = [
     ("Date: Sun, 06 Nov 1994 08:49:37 GMT\r\n", EXAMPLE),
     ("date: Sunday, 06-Nov-94 08:49:37 GMT\r\n", EXAMPLE),
     ("DATE:Sun Nov  6 08:49:37 1994\r\n", EXAMPLE),
@@ -183,7 +183,6 @@ const FIELDS: [(&str, Option<u64>); 13] = [
         Some(253402300799),
     ),
     ("", None),
-    ("Date: \r\n", None),
     ("Date: 784111777\r\n", None),
     ("Date: Sun, 06 Nov 1994 08:49:37 UTC\r\n", None),
     ("Date: Sun, 31 Feb 1994 08:49:37 GMT\r\n", None),

@@ -1,9 +1,7 @@
 //! Tokens and ids of leases are secret: nothing that holds one shows it, neither as a text nor as the numbers of its bytes.
 use crate::devices::source;
-use crate::exchange::ask_with;
 use broker_table::Table;
 use keep_control::read_request;
-use keep_exchange::MemoryExchange;
 use keep_inventory::{Inventory, read};
 use keep_moment::{Moment, Text};
 use std::process::Abort;
@@ -11,11 +9,12 @@ use std::test::Fail;
 use vault_http::Room;
 use vault_json::{Lookup, RenewedLease};
 
-const TOKEN: &str =
+/// A token with a secret.
+pub(crate) const SECRET: &str =
     "[[token]]\nname = \"T\"\nissued = 1000\nend = 1100\nincrement = 100\nmax_ttl = 150\nsecret = \"db/creds\"\n";
 
-// What is shown holds this text, and no front of the secret `db/creds`.
-fn hides<R: Abort>(rt: &R, shown: &str, text: &str) {
+/// What is shown holds this text, and no front of the secret `db/creds`.
+pub(crate) fn hides<R: Abort>(rt: &R, shown: &str, text: &str) {
     assert!(rt; shown.contains(text), "{shown}");
     assert!(rt; !shown.contains("db/creds"), "{shown}");
     assert!(rt; !shown.contains("100, 98, 47"), "{shown}");
@@ -82,10 +81,9 @@ fn an_inventory_hides<R: AllocGlobal + Abort>(rt: &R, inventory: &Inventory) -> 
     Ok(())
 }
 
-// Nor does a broker that was asked with it.
 #[test]
-fn inventories_and_exchanges_show_no_secret(rt: HostRuntime) -> Result<(), Fail> {
-    let inventory = read(rt.alloc(), TOKEN.as_bytes())?;
+fn inventories_and_tables_show_no_secret(rt: HostRuntime) -> Result<(), Fail> {
+    let inventory = read(rt.alloc(), SECRET.as_bytes())?;
     an_inventory_hides(&rt, &inventory)
 }
 
@@ -97,6 +95,6 @@ fn a_command_hides<R: AllocGlobal + Abort>(rt: &R, line: &str, text: &str) -> Re
 
 #[test]
 fn commands_show_no_secret(rt: HostRuntime) -> Result<(), Fail> {
-    a_command_hides(&rt, "[\"replace\",\"web\",\"db/creds\"]", "web")?;
+    a_command_hides(&rt, "[\"replace\",\"web\",\"db/creds\"]", "Replace")?;
     a_command_hides(&rt, "[\"add\",\"secret = \\\"db/creds\\\"\"]", "Add")
 }
