@@ -1,2 +1,0 @@
-pub mod Kills
-pub mod Sound
