@@ -1,6 +1,6 @@
 //! Plays of lanes: a table says step by step what is done with them, and what is to come of it.
-use crate::asks::{Comes, are, send};
-use keep_lanes::{Answered, LaneFault, Lanes};
+use crate::renewals::{Comes, is, send};
+use keep_lanes::{Answered, Lanes};
 use std::alloc::{AllocError, Global};
 use std::process::Abort;
 use std::test::Fail;
@@ -13,8 +13,6 @@ pub(crate) enum Answers {
     Only(u32, Comes),
     /// Grants for these indices, in this order.
     Granted(&'static [u32]),
-    /// The same, but for that index this.
-    But(&'static [u32], u32, Comes),
 }
 
 impl Answers {
@@ -22,11 +20,19 @@ impl Answers {
     pub(crate) fn are(self, came: &[Answered]) -> bool {
         match self {
             Answers::Nothing => came.is_empty(),
-            Answers::Only(index, comes) => are(came, &[index], index, comes),
-            Answers::Granted(indices) => are(came, indices, 0, Comes::Granted),
-            Answers::But(indices, index, comes) => are(came, indices, index, comes),
+            Answers::Only(index, comes) => are(came, &[index], comes),
+            Answers::Granted(indices) => are(came, indices, Comes::Granted),
         }
     }
+}
+
+/// Whether these are the answers for these indices, in this order.
+fn are(came: &[Answered], indices: &[u32], comes: Comes) -> bool {
+    came.len() == indices.len()
+        && came
+            .iter()
+            .zip(indices.iter())
+            .all(|(answered, index)| is(answered, *index, comes))
 }
 
 /// A step of a play, and what is to come of it. Moments are milliseconds of the elapsed clock.
@@ -42,39 +48,21 @@ pub(crate) enum Step {
     IsDue(u64, u64, u64),
     /// How many lanes are free.
     AreFree(u32),
-    /// The port that requests name.
-    Names(u16),
     /// All that is out is given up.
     Forgets,
-    /// In memory: this is to go wrong with the request of that number.
-    Fails(u64, LaneFault),
-    /// In memory: the broker has granted all, or all but the one for that index.
-    HasGranted(u32, bool),
     /// Over connections of a play: its clock.
     Passed(u64),
     /// The same: the longest that it was to wait since this was last asked.
     Longest(u64),
-    /// Over sockets: the port that requests name is the broker's own, and 8200 where it has none.
-    NamesItsPort,
     /// Over sockets: a connection is taken, which brings the renewal for that index, whole.
     Accepts(u32),
     /// Over sockets: the renewal for that index is answered.
     Grants(u32),
-    /// Over sockets: the peer of the renewal for that index closes its connection.
-    Leaves(u32),
     /// Over sockets: nobody listens any more.
     Shuts,
-    /// Over sockets: somebody listens at this path from now on.
-    Listens(&'static str),
     /// Over sockets: the connection of the renewal for that index is closed.
     IsClosed(u32),
-    /// Over sockets: so many requests are out at once, one for each index from 0 on, and are answered, the last one first.
-    AnswersEach(u32),
-    /// Over sockets: time is counted from here on.
-    Begins,
-    /// Over sockets: so many milliseconds have passed at least, and fewer than that.
-    Took(u64, u64),
-    /// Over sockets: what comes first within ten turns.
+    /// Over sockets: what comes first within some turns, and within 1.5 seconds.
     Turns(Answers),
 }
 
@@ -96,14 +84,13 @@ pub(crate) fn goes_on<L: Lanes>(
         Step::GoesOn(now, answers) => has_there(alloc, lanes, now, answers),
         Step::IsDue(now, by, due) => Ok(lanes.due(now, by) == due),
         Step::AreFree(count) => Ok(lanes.free() == count),
-        Step::Names(port) => Ok(lanes.port() == port),
         Step::Forgets => Ok(forgets(lanes)),
         _ => Ok(false),
     }
 }
 
 /// Whether a wait hands these back.
-pub(crate) fn waits<L: Lanes>(
+fn waits<L: Lanes>(
     alloc: Global,
     lanes: &mut L,
     now: u64,

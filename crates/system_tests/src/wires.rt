@@ -108,31 +108,13 @@ impl<'a> Line for Actor<'a> {
 /// The play: a part for each connection, in the order in which they are made.
 #[derive(Drop)]
 pub(crate) struct Wired<'a> {
-    alloc: Global,
-    parts: &'a [Part],
-    clock: &'a Cell<u64>,
+    pub(crate) alloc: Global,
+    pub(crate) parts: &'a [Part],
+    pub(crate) clock: &'a Cell<u64>,
     /// The longest that it was to wait.
-    longest: &'a Cell<u64>,
-    began: u64,
-    dials: usize,
-}
-
-impl<'a> Wired<'a> {
-    pub(crate) fn new(
-        alloc: Global,
-        parts: &'a [Part],
-        clock: &'a Cell<u64>,
-        longest: &'a Cell<u64>,
-    ) -> Wired<'a> {
-        Wired {
-            alloc,
-            parts,
-            clock,
-            longest,
-            began: 0,
-            dials: 0,
-        }
-    }
+    pub(crate) longest: &'a Cell<u64>,
+    pub(crate) began: u64,
+    pub(crate) dials: usize,
 }
 
 const ABSENT: Part = Part {
