@@ -1,42 +1,26 @@
 //! Lanes over connections of a play: silent, slow, dripping and broken peers.
-use crate::renewals::Comes;
-use crate::steps::{Answers, Play, Step, goes_on, plays};
+use crate::renewals::{Comes, is, send, token_of};
 use crate::wires::{End, Part, Wired};
-use keep_lanes::{LanesOver, Loss};
-use std::alloc::Global;
+use keep_lanes::{Answered, Lanes, LanesOver, Loss};
+use std::alloc::{AllocError, Global};
 use std::cell::Cell;
 use std::process::Abort;
 use std::test::Fail;
 
-/// The renewals for the indices 4 and 5 as bytes, and their replies (docs/http.md).
-const REQUEST: &[u8] =
-    b"POST /v1/auth/token/renew-self HTTP/1.1\r\nHost: 127.0.0.1:8200\r\nX-Vault-Token: ta\r\n\
-Content-Type: application/json\r\nContent-Length: 16\r\nConnection: close\r\n\r\n{\"increment\":60}";
-
-const REPLY: &[u8] =
-    b"HTTP/1.1 200 OK\r\nContent-Type: application/json\r\nContent-Length: 47\r\nConnection: close\r\n\r\n\
-{\"auth\":{\"lease_duration\":60,\"renewable\":true}}";
-
-const OTHER_REQUEST: &[u8] =
-    b"POST /v1/auth/token/renew-self HTTP/1.1\r\nHost: 127.0.0.1:8200\r\nX-Vault-Token: tb\r\n\
-Content-Type: application/json\r\nContent-Length: 16\r\nConnection: close\r\n\r\n{\"increment\":61}";
-
-const OTHER_REPLY: &[u8] =
-    b"HTTP/1.1 200 OK\r\nContent-Type: application/json\r\nContent-Length: 47\r\nConnection: close\r\n\r\n\
-{\"auth\":{\"lease_duration\":61,\"renewable\":true}}";
-
 /// A peer that answers the renewal for the index 4 at once.
-const PROMPT: Part = Part {
-    accepts: 0,
-    takes: 65536,
-    breaks: usize::MAX,
-    request: REQUEST,
-    first: 0,
-    pause: 0,
-    text: REPLY,
-    piece: 65536,
-    end: End::Stays,
-};
+fn prompt() -> Part {
+    Part {
+        accepts: 0,
+        takes: 65536,
+        breaks: usize::MAX,
+        request: token_of(4).request,
+        first: 0,
+        pause: 0,
+        text: token_of(4).reply,
+        piece: 65536,
+        end: End::Stays,
+    }
+}
 
 /// What a peer does otherwise.
 #[derive(Clone, Copy)]
@@ -56,34 +40,33 @@ fn part_of(does: Does) -> Part {
         Does::Slow(accepts, takes) => Part {
             accepts,
             takes,
-            ..PROMPT
+            ..prompt()
         },
         Does::Drips(first, piece, pause) => Part {
             first,
             piece,
             pause,
-            ..PROMPT
+            ..prompt()
         },
-        Does::Breaks(breaks) => Part { breaks, ..PROMPT },
+        Does::Breaks(breaks) => Part { breaks, ..prompt() },
         Does::Says(text, end) => Part {
             text,
             end,
-            ..PROMPT
+            ..prompt()
         },
     }
 }
 
 /// One that answers the renewal for the index 4 after so many milliseconds, and one that does so for the index 5.
 fn after(first: u64) -> Part {
-    Part { first, ..PROMPT }
+    part_of(Does::Drips(first, 65536, 0))
 }
 
 fn other_after(first: u64) -> Part {
     Part {
-        request: OTHER_REQUEST,
-        first,
-        text: OTHER_REPLY,
-        ..PROMPT
+        request: token_of(5).request,
+        text: token_of(5).reply,
+        ..after(first)
     }
 }
 
@@ -106,7 +89,7 @@ const FRONT: &[u8] = b"HTTP/1.1 200 OK\r\n";
 
 /// A peer, a patience, what comes of the renewal with time-outs of 5 seconds, and when. The request has 171 bytes, the reply
 /// 137.
-const PLAYS: [(Does, u64, Comes, u64); 29] = [
+const PLAYS: [(Does, u64, Comes, u64); 28] = [
     (Does::Slow(0, 65536), 5000, GRANTED, 0),
     // Silence costs the patience, and the time-out at most.
     (SILENT, 250, TIMEOUT, 250),
@@ -143,34 +126,76 @@ const PLAYS: [(Does, u64, Comes, u64); 29] = [
     (Does::Says(FRONT, End::Stays), 5000, TIMEOUT, 250),
     // What is no reply.
     (Does::Says(b"hello\r\n\r\n", End::Stays), 5000, UNREAD, 0),
-    (
-        Does::Says(b"HTTP/1.1 200 OK\r\nContent-Length: x\r\n\r\n", End::Stays),
-        5000,
-        UNREAD,
-        0,
-    ),
 ];
+
+/// A step of a play, and what is to come of it. Moments are milliseconds of the elapsed clock.
+#[derive(Clone, Copy)]
+enum Step {
+    /// At that moment the renewal for an index is sent, with so much patience.
+    Sends(u64, u32, u64),
+    /// A wait from the first moment on, until the second at the latest, hands this back for each of these indices.
+    Waits(u64, u64, &'static [u32], Comes),
+    /// So much time has passed.
+    Passed(u64),
+    /// The longest that it was to wait since this was last asked.
+    Longest(u64),
+}
 
 /// Lanes over connections of a play, and what is seen of its time.
 #[derive(Drop)]
-struct OverWires<'a> {
+struct Play<'a> {
     alloc: Global,
     lanes: LanesOver<Wired<'a>>,
     clock: &'a Cell<u64>,
     longest: &'a Cell<u64>,
 }
 
-impl<'a> Play for OverWires<'a> {
-    fn goes_on(&mut self, step: &Step) -> Result<bool, Fail> {
+impl<'a> Play<'a> {
+    /// Whether what comes of a step is what is to come of it.
+    fn goes_on(&mut self, step: &Step) -> Result<bool, AllocError> {
         match *step {
+            Step::Sends(now, index, patience) => {
+                send(self.alloc, &mut self.lanes, now, index, patience)
+            }
+            Step::Waits(now, until, indices, comes) => self.waits(now, until, indices, comes),
             Step::Passed(millis) => Ok(self.clock.get() == millis),
             Step::Longest(millis) => Ok(self.longest.replace(0) == millis),
-            _ => Ok(goes_on(self.alloc, &mut self.lanes, step)?),
         }
+    }
+
+    fn waits(
+        &mut self,
+        now: u64,
+        until: u64,
+        indices: &[u32],
+        comes: Comes,
+    ) -> Result<bool, AllocError> {
+        let came = self.lanes.wait(self.alloc, now, until)?;
+        Ok(are(&came, indices, comes))
+    }
+
+    /// The number of the first step, counted from 0, of which something else comes than is to come; `None` where there is none.
+    fn first_wrong(&mut self, steps: &[Step]) -> Result<Option<usize>, AllocError> {
+        for (number, step) in steps.iter().enumerate() {
+            if !self.goes_on(step)? {
+                return Ok(Some(number));
+            }
+        }
+        Ok(None)
     }
 }
 
-/// Takes the steps with so many lanes to these peers, which have time-outs of 5 seconds.
+/// Whether these are the answers for these indices, in this order.
+fn are(came: &[Answered], indices: &[u32], comes: Comes) -> bool {
+    came.len() == indices.len()
+        && came
+            .iter()
+            .zip(indices.iter())
+            .all(|(answered, index)| is(answered, *index, comes))
+}
+
+/// Takes the steps with so many lanes to these peers, which have time-outs of 5 seconds, and asserts that each comes out as it is
+/// to.
 fn plays_with<R: AllocGlobal + Abort>(
     rt: &R,
     parts: &[Part],
@@ -183,16 +208,18 @@ fn plays_with<R: AllocGlobal + Abort>(
         parts,
         clock: &clock,
         longest: &longest,
+        otherwise: prompt(),
         began: 0,
         dials: 0,
     };
-    let play = OverWires {
+    let mut play = Play {
         alloc: rt.alloc(),
         lanes: LanesOver::new(rt.alloc(), wires, 5, width),
         clock: &clock,
         longest: &longest,
     };
-    plays(rt, play, steps)
+    assert_eq!(rt; play.first_wrong(steps)?, None);
+    Ok(())
 }
 
 #[test]
@@ -200,7 +227,7 @@ fn each_peer_costs_what_it_may(rt: HostRuntime) -> Result<(), Fail> {
     for (does, patience, comes, until) in &PLAYS {
         let steps = [
             Step::Sends(0, 4, *patience),
-            Step::Waits(0, 60_000, Answers::Only(4, *comes)),
+            Step::Waits(0, 60_000, &[4], *comes),
             Step::Passed(*until),
         ];
         plays_with(&rt, &[part_of(*does)], 1, &steps)?;
@@ -211,16 +238,16 @@ fn each_peer_costs_what_it_may(rt: HostRuntime) -> Result<(), Fail> {
 const SILENCE: [Step; 10] = [
     // A connection is waited for until it has to be looked at again, and no longer.
     Step::Sends(0, 4, 400),
-    Step::Waits(0, 300, Answers::Nothing),
+    Step::Waits(0, 300, &[], GRANTED),
     Step::Longest(300),
     Step::Passed(300),
-    Step::Waits(300, 9000, Answers::Only(4, TIMEOUT)),
+    Step::Waits(300, 9000, &[4], TIMEOUT),
     Step::Longest(100),
     Step::Passed(400),
     // Its times go by the clock that is handed in.
     Step::Sends(7000, 4, 5000),
-    Step::Waits(11_999, 11_999, Answers::Nothing),
-    Step::Waits(12_000, 12_000, Answers::Only(4, TIMEOUT)),
+    Step::Waits(11_999, 11_999, &[], GRANTED),
+    Step::Waits(12_000, 12_000, &[4], TIMEOUT),
 ];
 
 #[test]
@@ -236,9 +263,9 @@ const SENDS_4: Step = Step::Sends(0, 4, 5000);
 const ONE_IS_SILENT: [Step; 6] = [
     SENDS_5,
     SENDS_4,
-    Step::Waits(0, 60_000, Answers::Granted(&[5])),
+    Step::Waits(0, 60_000, &[5], GRANTED),
     Step::Passed(105),
-    Step::Waits(105, 60_000, Answers::Only(4, TIMEOUT)),
+    Step::Waits(105, 60_000, &[4], TIMEOUT),
     Step::Passed(5000),
 ];
 
@@ -247,26 +274,16 @@ fn a_silent_peer_costs_its_neighbour_nothing(rt: HostRuntime) -> Result<(), Fail
     plays_with(&rt, &[other_after(100), after(NEVER)], 2, &ONE_IS_SILENT)
 }
 
-const APART: [Step; 6] = [
-    SENDS_5,
-    SENDS_4,
-    Step::Waits(0, 60_000, Answers::Granted(&[5])),
-    Step::Passed(55),
-    Step::Waits(55, 60_000, Answers::Granted(&[4])),
-    Step::Passed(60),
-];
-
 const TOGETHER: [Step; 6] = [
     SENDS_5,
     SENDS_4,
-    Step::Waits(0, 60_000, Answers::Granted(&[4, 5])),
+    Step::Waits(0, 60_000, &[4, 5], GRANTED),
     Step::Passed(54),
-    Step::Waits(54, 60_000, Answers::Nothing),
+    Step::Waits(54, 60_000, &[], GRANTED),
     Step::Passed(54),
 ];
 
 #[test]
 fn answers_within_5_ms_come_together_by_index(rt: HostRuntime) -> Result<(), Fail> {
-    plays_with(&rt, &[other_after(50), after(60)], 2, &APART)?;
     plays_with(&rt, &[other_after(50), after(54)], 2, &TOGETHER)
 }

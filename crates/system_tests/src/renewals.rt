@@ -6,23 +6,33 @@ use keep_moment::{Moment, Text};
 use std::alloc::{AllocError, Global};
 use vault_http::Request;
 
-/// A token, the body that asks for its renewal, and the one that grants it.
+/// A token, the body that asks for its renewal, and the one that grants it; and the whole texts of both (docs/http.md).
 pub(crate) struct Token {
     pub(crate) credential: &'static [u8],
     pub(crate) asks: &'static [u8],
     pub(crate) grants: &'static [u8],
+    pub(crate) request: &'static [u8],
+    pub(crate) reply: &'static [u8],
 }
 
-const TOKENS: [Token; 2] = [
+pub(crate) const TOKENS: [Token; 2] = [
     Token {
         credential: b"ta",
         asks: b"{\"increment\":60}",
         grants: b"{\"auth\":{\"lease_duration\":60,\"renewable\":true}}",
+        request: b"POST /v1/auth/token/renew-self HTTP/1.1\r\nHost: 127.0.0.1:8200\r\nX-Vault-Token: ta\r\n\
+Content-Type: application/json\r\nContent-Length: 16\r\nConnection: close\r\n\r\n{\"increment\":60}",
+        reply: b"HTTP/1.1 200 OK\r\nContent-Type: application/json\r\nContent-Length: 47\r\nConnection: close\r\n\r\n\
+{\"auth\":{\"lease_duration\":60,\"renewable\":true}}",
     },
     Token {
         credential: b"tb",
         asks: b"{\"increment\":61}",
         grants: b"{\"auth\":{\"lease_duration\":61,\"renewable\":true}}",
+        request: b"POST /v1/auth/token/renew-self HTTP/1.1\r\nHost: 127.0.0.1:8200\r\nX-Vault-Token: tb\r\n\
+Content-Type: application/json\r\nContent-Length: 16\r\nConnection: close\r\n\r\n{\"increment\":61}",
+        reply: b"HTTP/1.1 200 OK\r\nContent-Type: application/json\r\nContent-Length: 47\r\nConnection: close\r\n\r\n\
+{\"auth\":{\"lease_duration\":61,\"renewable\":true}}",
     },
 ];
 
