@@ -3,6 +3,7 @@ python3 tests/live_rounds.py TRIAL LEASEKEEP. It prints what came of both, in wo
 
 late: in real time, the first reply to a renewal comes after 6 seconds, each other one after 0.3 seconds, with a margin of 20.
 hanging: the reply to the first renewal waits until the program has written something.
+silent: the broker takes the requests of two rounds and says nothing, or takes no connection.
 killed: the program is killed as its first, second or third renewal comes to the broker.
 """
 
@@ -16,10 +17,11 @@ import tempfile
 import threading
 import time
 from collections.abc import Iterator
+from concurrent.futures import ThreadPoolExecutor
 from contextlib import contextmanager
 from pathlib import Path
 
-from trying import SECONDS, Agent, Behave, Peer, framed, good, read_request
+from trying import SECONDS, SLOWER, Agent, Behave, Peer, framed, good, read_request
 
 START = 1000
 MARGIN = 20
@@ -150,16 +152,16 @@ def late(program: Path) -> None:
 
 
 @contextmanager
-def asking(program: Path, behave: Behave, is_socket: bool) -> Iterator[Agent]:
+def asking(program: Path, behave: Behave, is_socket: bool, *words: str) -> Iterator[tuple[Agent, Peer]]:
     """A run against such a broker, whose lookups are done: three tokens that end at 1060, and a tick at 1059."""
     with tempfile.TemporaryDirectory() as folder:
         room = Path(folder)
         (room / "tokens.toml").write_text(inventory(1, 60))
         with Peer(behave, room / "socket" if is_socket else None) as peer:
-            agent = Agent(program, room, "tokens.toml", peer.word)
+            agent = Agent(program, room, "tokens.toml", peer.word, *words)
             for _ in NAMES:
                 agent.hear()
-            yield agent
+            yield agent, peer
 
 
 def hanging(program: Path) -> None:
@@ -173,12 +175,50 @@ def hanging(program: Path) -> None:
                 came_first.append(is_read.wait(3))
             stream.sendall(good(request))
 
-        with asking(program, behave, name == "socket") as agent:
+        with asking(program, behave, name == "socket") as (agent, _):
             agent.tell(b"tick 1059")
             first = agent.hear().decode().strip()
             is_read.set()
             rest = agent.left().decode().splitlines()
             print(f"{name}: {first}; before the reply: {came_first == [True]}; {'; '.join(rest)}")
+
+
+def silent(program: Path) -> None:
+    """Prints how many were lost in each of two rounds, and whether these took as long as they are to: the time-out of two seconds once
+    in each, and a quarter of a second for each of the others."""
+    trials = [(name, how) for name in ("port", "socket") for how in ("says nothing", "takes no connection")]
+    with ThreadPoolExecutor(len(trials)) as pool:
+        for line in pool.map(lambda trial: f"{trial[0]}, {trial[1]}: {two_rounds(program, *trial)}", trials):
+            print(line)
+
+
+def two_rounds(program: Path, name: str, how: str) -> str:
+    is_over = threading.Event()
+    kept: list[socket.socket] = []
+
+    def behave(number: int, stream: socket.socket, request: bytes) -> None:
+        if number <= len(NAMES):
+            stream.sendall(good(request))
+        else:
+            kept.append(stream.dup())  # (It stays open.)
+        if number == len(NAMES) and how == "takes no connection":
+            is_over.wait(SECONDS)
+
+    with asking(program, behave, name == "socket", "--timeout", "2") as (agent, peer):
+        if how == "takes no connection":
+            kept += peer.fill()
+        said = []
+        for _ in range(2):
+            began = time.monotonic()
+            lost = agent.say(b"tick 1059").count(b"lost ")
+            took = time.monotonic() - began
+            least = 2 + 0.25 * (len(NAMES) - 1)
+            said.append(f"{lost} lost in time: {least - 0.1 < took < least + 1.2 * SLOWER}")
+        agent.end()
+        is_over.set()
+    for stream in kept:
+        stream.close()
+    return "; ".join(said)
 
 
 def killed(program: Path) -> None:
@@ -195,7 +235,7 @@ def killed(program: Path) -> None:
                     is_begun.wait(SECONDS)
                     agents[0].kill()
 
-            with asking(program, behave, name == "socket") as agent:
+            with asking(program, behave, name == "socket") as (agent, _):
                 agents.append(agent)
                 is_begun.set()
                 agent.tell(b"tick 1059")
@@ -203,4 +243,4 @@ def killed(program: Path) -> None:
 
 
 if __name__ == "__main__":
-    {"late": late, "hanging": hanging, "killed": killed}[sys.argv[1]](Path(sys.argv[2]).resolve())
+    {"late": late, "hanging": hanging, "silent": silent, "killed": killed}[sys.argv[1]](Path(sys.argv[2]).resolve())

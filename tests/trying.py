@@ -205,6 +205,15 @@ class Peer:
         if self._path is not None:
             self._path.unlink(missing_ok=True)
 
+    def fill(self) -> list[socket.socket]:
+        """Connections that fill its queue: while it is held up with one, nobody else is let in."""
+        self._listener.listen(0)
+        waiting = [socket.socket(self._listener.family) for _ in range(3)]
+        for stream in waiting:
+            stream.setblocking(False)
+            stream.connect_ex(self._listener.getsockname())
+        return waiting
+
     def come_back(self) -> None:
         """Listens again at the same place."""
         self._listener = self._listen()

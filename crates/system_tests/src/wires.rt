@@ -105,47 +105,18 @@ impl<'a> Line for Actor<'a> {
     }
 }
 
-/// The play: a part for each connection, in the order in which they are made.
+/// The play: a part for each connection, in the order in which they are made, and one for more.
 #[derive(Drop)]
 pub(crate) struct Wired<'a> {
-    alloc: Global,
-    parts: &'a [Part],
-    clock: &'a Cell<u64>,
+    pub(crate) alloc: Global,
+    pub(crate) parts: &'a [Part],
+    pub(crate) otherwise: Part,
+    pub(crate) clock: &'a Cell<u64>,
     /// The longest that it was to wait.
-    longest: &'a Cell<u64>,
-    began: u64,
-    dials: usize,
+    pub(crate) longest: &'a Cell<u64>,
+    pub(crate) began: u64,
+    pub(crate) dials: usize,
 }
-
-impl<'a> Wired<'a> {
-    pub(crate) fn new(
-        alloc: Global,
-        parts: &'a [Part],
-        clock: &'a Cell<u64>,
-        longest: &'a Cell<u64>,
-    ) -> Wired<'a> {
-        Wired {
-            alloc,
-            parts,
-            clock,
-            longest,
-            began: 0,
-            dials: 0,
-        }
-    }
-}
-
-const ABSENT: Part = Part {
-    accepts: 0,
-    takes: 0,
-    breaks: 0,
-    request: b"",
-    first: 0,
-    pause: 0,
-    text: b"",
-    piece: 1,
-    end: End::Fails,
-};
 
 impl<'a> Wires for Wired<'a> {
     type Line = Actor<'a>;
@@ -155,10 +126,10 @@ impl<'a> Wires for Wired<'a> {
     }
 
     fn dial(&mut self, _index: u32) -> Actor<'a> {
-        let part = self.parts.get(self.dials).copied().unwrap_or(ABSENT);
+        let part = self.parts.get(self.dials).copied();
         self.dials = self.dials.saturating_add(1);
         Actor {
-            part,
+            part: part.unwrap_or(self.otherwise),
             clock: self.clock,
             taken: Vec::new(self.alloc),
             sent: 0,
