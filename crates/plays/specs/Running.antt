@@ -1,6 +1,6 @@
 -- Running: an agent beside its lanes.
 -- Source: this project's own.
-use Rattle.keep_lanes.specs.Serving.{InMemory}
+use Rattle.broker_lanes.specs.InMemory.{InMemory}
 use Rattle.keep_serving.specs.Held.{Held}
 
 -- what the agent holds between two turns, and the lanes

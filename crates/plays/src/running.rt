@@ -1,9 +1,10 @@
 //! An agent beside its lanes to the broker, in step with them between two turns.
 use crate::fault::Fault;
+use broker_lanes::MemoryLanes;
 use keep_agent::Agent;
 use keep_clock::Clock;
 use keep_inventory::Inventory;
-use keep_lanes::{LaneFault, Lanes, MemoryLanes};
+use keep_lanes::{LaneFault, Lanes};
 use keep_serving::{Neighbours, Serving};
 use std::alloc::{AllocError, Global};
 use std::marker::Model;
@@ -18,7 +19,7 @@ pub struct Running {
 
 impl Model for Running {
     ghost use Rattle.std.specs.Prelude.{◌×◌};
-    ghost use Rattle.keep_lanes.specs.Serving.{InMemory};
+    ghost use Rattle.broker_lanes.specs.InMemory.{InMemory};
     ghost use Rattle.keep_serving.specs.Held.{Held, IsInStep};
     ghost use Rattle.plays.specs.Running.{Both};
 

@@ -2,6 +2,7 @@
 use crate::drawers::Drawer;
 use crate::fault::Fault;
 use crate::guests::{Peer, PeerDoor};
+use broker_lanes::MemoryLanes;
 use broker_table::Table;
 use keep_answering::{Control, Onlookers};
 use keep_clock::{MemoryClock, Reading};
@@ -9,7 +10,7 @@ use keep_disk::{DiskFault, Failing, Held, MemoryDisk, Stored, Why};
 use keep_ends::{EndsFile, known_events, load_ends};
 use keep_house::{Demands, Desk, House, Ledger};
 use keep_inventory::{Inventory, read};
-use keep_lanes::{MemoryLanes, NumberedFault};
+use keep_lanes::NumberedFault;
 use keep_log::{Form, Level, MemorySink};
 use keep_moment::Text;
 use keep_onlook::FileReading;

@@ -1,8 +1,9 @@
 //! One exchange with a broker in memory, with the texts of both messages.
 use crate::broker::{WEB, moment, renewal, table};
 use crate::shown::{SECRET, hides};
+use broker_memory::MemoryExchange;
 use broker_table::Fault;
-use keep_exchange::{Exchange, ExchangeFault, MemoryExchange, can_carry};
+use keep_exchange::{Exchange, ExchangeFault, can_carry};
 use std::alloc::Global;
 use std::process::Abort;
 use std::test::Fail;
