@@ -1,0 +1,180 @@
+//! Guests of a play, and the door that lets them in: what each does is said beforehand, and what it was sent is seen after it.
+ghost use Rattle.std.specs.Prelude.{◌≤◌, ◌≡◌, length};
+
+use crate::fault::Fault;
+use crate::steps::Step;
+use keep_clients::{Door, Talk};
+use keep_device::Tried;
+use std::alloc::{AllocError, Global};
+use std::cell::Cell;
+use std::collections::VecDeque;
+
+/// A guest: the calls of its connection, which of them fails, and what it was sent since that was told.
+#[derive(Drop)]
+pub struct Guest<'a> {
+    alloc: Global,
+    pub name: &'a str,
+    /// The number of the call that fails, counted from 0.
+    fails: u64,
+    calls: Cell<u64>,
+    sent: Cell<Vec<u8>>,
+}
+
+impl<'a> Guest<'a> {
+    /// One that has not come yet.
+    pub fn new(alloc: Global, name: &'a str, fails: u64) -> Guest<'a> {
+        Guest {
+            alloc,
+            name,
+            fails,
+            calls: Cell::new(0),
+            sent: Cell::new(Vec::new(alloc)),
+        }
+    }
+
+    /// How many calls its connection had.
+    pub fn calls(&self) -> u64 {
+        self.calls.get()
+    }
+
+    /// What it was sent since this was asked last.
+    pub fn take_sent(&self) -> Vec<u8> {
+        self.sent.replace(Vec::new(self.alloc))
+    }
+
+    // Counts a call, and says whether it fails.
+    fn is_failing(&self) -> bool {
+        let call = self.calls.get();
+        self.calls.set(call.saturating_add(1));
+        call == self.fails
+    }
+
+    fn keep(&self, piece: &[u8]) -> Result<(), AllocError> {
+        let mut sent = self.take_sent();
+        let kept = sent.extend_from_slice(piece);
+        let _empty = self.sent.replace(sent);
+        kept
+    }
+}
+
+/// The guests of these steps, in the order in which they come; the call of the first of them with that number fails.
+pub fn guests_of<'a>(
+    alloc: Global,
+    steps: &'a [Step<'a>],
+    fails: u64,
+) -> Result<Vec<Guest<'a>>, Fault> {
+    let mut guests = Vec::new(alloc);
+    for step in steps {
+        if let ["client" | "onlooker", name, ..] = step.words.as_slice() {
+            let fails = if guests.is_empty() { fails } else { u64::MAX };
+            guests.push(Guest::new(alloc, name, fails))?;
+        }
+    }
+    Ok(guests)
+}
+
+/// A connection of a guest.
+#[derive(Drop)]
+pub struct Peer<'a> {
+    guest: &'a Guest<'a>,
+    /// What it sends, in pieces of so many bytes, and how much of that it has sent.
+    text: Vec<u8>,
+    piece: usize,
+    at: usize,
+    /// How many bytes it takes at a time.
+    takes: usize,
+}
+
+impl<'a> Peer<'a> {
+    /// One that sends its text at once, and takes what it is sent.
+    pub fn new(guest: &'a Guest<'a>, text: Vec<u8>) -> Peer<'a> {
+        Peer {
+            guest,
+            text,
+            piece: 4096,
+            at: 0,
+            takes: 4096,
+        }
+    }
+
+    /// The same as these words have it; `None` where they cannot be read.
+    pub fn with(self, words: &[&str]) -> Option<Peer<'a>> {
+        match words {
+            [] => Some(self),
+            ["piece", piece] => Some(Peer {
+                piece: piece.parse::<usize>().ok()?,
+                ..self
+            }),
+            ["takes", takes] => Some(Peer {
+                takes: takes.parse::<usize>().ok()?,
+                ..self
+            }),
+            _ => None,
+        }
+    }
+
+    fn get_text(&mut self, buf: &mut [u8]) -> usize
+        ensures bound { result ≤ length buf.new }
+        ensures room { length buf.new ≡ length buf.old }
+    {
+        let left = self.text.get(self.at..).unwrap_or(&[]);
+        let count = buf.len().min(self.piece).min(left.len());
+        let (piece, _) = left.split_at(count);
+        buf[..count].copy_from_slice(piece);
+        self.at = self.at.saturating_add(count);
+        count
+    }
+}
+
+impl<'a> Talk for Peer<'a> {
+    fn get(&mut self, buf: &mut [u8]) -> Tried {
+        if self.guest.is_failing() {
+            return Tried::Failed;
+        }
+        if self.at >= self.text.len() {
+            return Tried::Waits;
+        }
+        Tried::Done(self.get_text(buf))
+    }
+
+    fn give(&mut self, piece: &[u8]) -> Tried {
+        if self.guest.is_failing() {
+            return Tried::Failed;
+        }
+        let count = piece.len().min(self.takes);
+        if count == 0 {
+            return Tried::Waits;
+        }
+        match self.guest.keep(&piece[..count]) {
+            Ok(()) => Tried::Done(count),
+            Err(AllocError) => Tried::Failed,
+        }
+    }
+}
+
+/// A door with some guests before it, who come in in their order.
+#[derive(Drop)]
+pub struct PeerDoor<'a> {
+    peers: VecDeque<Peer<'a>>,
+}
+
+impl<'a> PeerDoor<'a> {
+    /// One with nobody before it.
+    pub fn new(alloc: Global) -> PeerDoor<'a> {
+        PeerDoor {
+            peers: VecDeque::new(alloc),
+        }
+    }
+
+    /// One more comes to it.
+    pub fn bring(&mut self, peer: Peer<'a>) -> Result<(), AllocError> {
+        self.peers.push_back(peer)?;
+        Ok(())
+    }
+}
+
+impl<'a> Door<Peer<'a>> for PeerDoor<'a> {
+    fn accept(&mut self) -> Option<Peer<'a>> {
+        self.peers.pop_front()
+    }
+}

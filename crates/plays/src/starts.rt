@@ -1,0 +1,250 @@
+//! What an agent of a play is made of at a start.
+use crate::drawers::Drawer;
+use crate::fault::Fault;
+use crate::guests::{Peer, PeerDoor};
+use broker_table::Table;
+use keep_answering::{Control, Onlookers};
+use keep_clock::{MemoryClock, Reading};
+use keep_disk::{DiskFault, Failing, Held, MemoryDisk, Stored, Why};
+use keep_ends::{EndsFile, known_events, load_ends};
+use keep_house::{Demands, Desk, House, Ledger};
+use keep_inventory::{Inventory, read};
+use keep_lanes::{MemoryLanes, NumberedFault};
+use keep_log::{Form, Level, MemorySink};
+use keep_moment::Text;
+use keep_onlook::FileReading;
+use keep_proving::Proving;
+use keep_secrets::Looking;
+use keep_state::{Opened, Paths, State};
+use std::alloc::{AllocError, Global};
+use watch_machine::Event;
+
+/// Where the ends are kept.
+pub const ENDS: &str = "run/ends";
+
+/// The id of the boot in which all plays are.
+const BOOT: &[u8] = b"boot-1";
+
+/// The calls of its clock that a play keeps.
+const CLOCK_CALLS: usize = 4096;
+
+pub type MemoryLedger<'a> = Ledger<'a, MemoryDisk, Drawer, MemoryLanes>;
+
+pub type MemoryHouse<'a> = House<MemorySink, Peer<'a>, PeerDoor<'a>, MemoryLedger<'a>, MemoryDisk>;
+
+/// What the disks hold at a start, and what goes wrong with them.
+#[derive(Drop)]
+pub struct Ground {
+    /// The text of the inventory's file.
+    pub file: Vec<u8>,
+    /// Where changes are kept: the files of their disk, and which of its calls fail.
+    pub state: Option<(Vec<Stored>, Failing)>,
+    /// The same of the ends.
+    pub ends: Option<(Vec<Stored>, Failing)>,
+    pub drawer: Drawer,
+    /// What goes wrong with lookups of credentials before they are taken, where that is done.
+    pub lookups: Option<Vec<NumberedFault>>,
+    /// What the broker knows of credentials.
+    pub broker: Vec<u8>,
+    pub timeout: u32,
+    pub form: Form,
+}
+
+/// An agent's house at a start, what it serves, and the ends that it was told before.
+#[derive(Drop)]
+pub struct Started<'a> {
+    pub house: MemoryHouse<'a>,
+    pub inventory: Inventory,
+    pub known: Vec<Event>,
+}
+
+/// A file of a disk.
+pub fn stored(alloc: Global, path: &str, bytes: Vec<u8>) -> Result<Stored, AllocError> {
+    Ok(Stored {
+        path: Vec::from_slice(alloc, path.as_bytes())?,
+        file: Held { mode: 0o600, bytes },
+    })
+}
+
+/// A clock with these readings to come.
+pub fn clock_of(alloc: Global, readings: Vec<Option<Reading>>) -> Result<MemoryClock, AllocError> {
+    MemoryClock::new(alloc, readings, CLOCK_CALLS)
+}
+
+/// So many lanes to a broker that knows the inventory of this text; `None` where that is none.
+pub fn lanes_of(
+    alloc: Global,
+    broker: &[u8],
+    timeout: u32,
+    width: u32,
+) -> Result<Option<MemoryLanes>, AllocError> {
+    match read(alloc, broker) {
+        Ok(known) => Ok(Some(MemoryLanes::new(alloc, Table::load(alloc, &known)?, timeout, width))),
+        Err(_) => Ok(None),
+    }
+}
+
+/// Starts an agent at this reading; `None` where the start is refused.
+pub fn start<'a>(
+    alloc: Global,
+    ground: Ground,
+    paths: &'a Paths,
+    sink: MemorySink,
+    now: Reading,
+) -> Result<Option<Started<'a>>, Fault> {
+    let mut said = Vec::new(alloc);
+    let Ground {
+        file,
+        state,
+        ends,
+        drawer,
+        lookups,
+        broker,
+        timeout,
+        form,
+    } = ground;
+    let (state, inventory) = match state {
+        None => match read(alloc, &file) {
+            Ok(inventory) => (None, inventory),
+            Err(_) => return Ok(None),
+        },
+        Some((files, failing)) => {
+            let Some(opened) = open(alloc, files, failing, paths, &file) else {
+                return Ok(None);
+            };
+            let proving = proving(alloc, lookups, &broker, timeout)?;
+            let ledger = ledger_of(alloc, opened, drawer, timeout, proving, &mut said)?;
+            let inventory = ledger.inventory(alloc)?;
+            (Some(ledger), inventory)
+        }
+    };
+    let mut desk = Desk::new(alloc, form, inventory.forest().len())?;
+    for (level, event, text) in &said {
+        desk.hear_at_start(alloc, now, *level, *event, text.list());
+    }
+    let (ends, known) = take_over(alloc, ends, &inventory, now, &mut desk)?;
+    let house = house_of(alloc, desk, sink, now, state, ends);
+    Ok(Some(Started {
+        house,
+        inventory,
+        known,
+    }))
+}
+
+/// What is said at a start: how it is marked, of what, and in which words.
+type Said = (Level, &'static str, Text);
+
+/// The state over a disk with these files; `None` where it is refused.
+fn open<'a>(
+    alloc: Global,
+    files: Vec<Stored>,
+    failing: Failing,
+    paths: &'a Paths,
+    file: &[u8],
+) -> Option<Opened<'a, MemoryDisk>> {
+    let disk = MemoryDisk::new(alloc, files, failing, Why::Full);
+    State::open(alloc, disk, paths, Some(file), None).ok()
+}
+
+/// What looks credentials up over a lane of its own, where that is done.
+fn proving(
+    alloc: Global,
+    faults: Option<Vec<NumberedFault>>,
+    broker: &[u8],
+    timeout: u32,
+) -> Result<Option<Proving<MemoryLanes>>, Fault> {
+    let (Some(faults), Ok(known)) = (faults, read(alloc, broker)) else {
+        return Ok(None);
+    };
+    let mut lanes = MemoryLanes::new(alloc, Table::load(alloc, &known)?, timeout, 1);
+    for numbered in &faults {
+        lanes.set_fault(numbered.number, numbered.fault)?;
+    }
+    Ok(Some(Proving::new(lanes)))
+}
+
+/// A ledger of a state, once it has what files of credentials hold, and what is said of that and of its changes.
+fn ledger_of<'a>(
+    alloc: Global,
+    opened: Opened<'a, MemoryDisk>,
+    drawer: Drawer,
+    timeout: u32,
+    proving: Option<Proving<MemoryLanes>>,
+    said: &mut Vec<Said>,
+) -> Result<MemoryLedger<'a>, Fault> {
+    let mut ledger = Ledger {
+        state: opened.state,
+        demands: Demands {
+            timeout,
+            names_are_secrets: false,
+            earlier: 0,
+        },
+        folder: "",
+        inputs: drawer,
+        looking: Looking::new(alloc),
+        proving,
+        asked: None,
+    };
+    for line in ledger.note_lines(alloc, &opened.notes)? {
+        said.push((Level::Note, "journal", line))?;
+    }
+    for line in ledger.fill(alloc, 0)? {
+        said.push((Level::Alert, "secret-file", line))?;
+    }
+    // What files hold at the start waits for no rebuilding.
+    ledger.state.rebuilt();
+    Ok(ledger)
+}
+
+/// The file of the ends, where they are kept, and what hands in those of this boot.
+fn take_over(
+    alloc: Global,
+    ends: Option<(Vec<Stored>, Failing)>,
+    inventory: &Inventory,
+    now: Reading,
+    desk: &mut Desk,
+) -> Result<(Option<EndsFile<MemoryDisk>>, Vec<Event>), Fault> {
+    let Some((files, failing)) = ends else {
+        return Ok((None, Vec::new(alloc)));
+    };
+    let mut disk = MemoryDisk::new(alloc, files, failing, Why::Full);
+    let known = match load_ends(alloc, &mut disk, ENDS, BOOT) {
+        Ok(ends) => known_events(alloc, inventory, &ends)?,
+        Err(DiskFault::OutOfMemory) => return Err(Fault::Memory),
+        Err(fault) => {
+            desk.hear_unread(alloc, now, fault);
+            Vec::new(alloc)
+        }
+    };
+    let path = String::from_str(alloc, ENDS)?;
+    let file = EndsFile::new(path, Text::of(alloc, BOOT)?, disk);
+    Ok((Some(file), known))
+}
+
+/// All neighbours of an agent, at a start.
+fn house_of<'a>(
+    alloc: Global,
+    desk: Desk,
+    sink: MemorySink,
+    now: Reading,
+    state: Option<MemoryLedger<'a>>,
+    ends: Option<EndsFile<MemoryDisk>>,
+) -> MemoryHouse<'a> {
+    let seconds = Some(now.wall / 1000);
+    House {
+        desk,
+        sink,
+        control: Some(Control::new(alloc, PeerDoor::new(alloc))),
+        onlookers: Some(Onlookers::new(alloc, PeerDoor::new(alloc))),
+        file: FileReading {
+            is_good: true,
+            at: seconds,
+            good_at: seconds,
+        },
+        state,
+        given: None,
+        awaited: None,
+        next: None,
+        ends,
+    }
+}

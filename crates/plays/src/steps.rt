@@ -1,0 +1,109 @@
+//! The steps of a case.
+use crate::fault::Fault;
+use crate::texts::{bytes_of, push_text};
+use std::alloc::{AllocError, Global};
+
+/// What stands in front of the words of a step.
+const MARK: &[u8] = b"== ";
+
+/// A step: its words, and the lines up to the next one.
+#[derive(Drop)]
+pub struct Step<'a> {
+    /// The number of its line, from 1.
+    pub line: usize,
+    pub words: Vec<&'a str>,
+    /// Its text, as it is written.
+    pub written: Vec<u8>,
+}
+
+/// A case: the lines in front, which say what it shows, and its steps.
+#[derive(Drop)]
+pub struct Case<'a> {
+    pub front: Vec<u8>,
+    pub steps: Vec<Step<'a>>,
+}
+
+impl<'a> Step<'a> {
+    fn new(alloc: Global, line: usize, words: &'a [u8]) -> Result<Step<'a>, Fault> {
+        let Ok(text) = std::str::from_utf8(words) else {
+            return Err(Fault::Line(line));
+        };
+        let mut words = Vec::new(alloc);
+        for word in text.split(' ') {
+            words.push(word)?;
+        }
+        Ok(Step {
+            line,
+            words,
+            written: Vec::new(alloc),
+        })
+    }
+
+    /// The bytes that its text writes.
+    pub fn bytes(&self, alloc: Global) -> Result<Vec<u8>, AllocError> {
+        bytes_of(alloc, &self.written)
+    }
+
+    /// That it cannot be read.
+    pub fn unread(&self) -> Fault {
+        Fault::Line(self.line)
+    }
+}
+
+/// Reads a case.
+pub fn read_case<'a>(alloc: Global, text: &'a [u8]) -> Result<Case<'a>, Fault> {
+    let mut case = Case {
+        front: Vec::new(alloc),
+        steps: Vec::new(alloc),
+    };
+    let text = text.strip_suffix(b"\n").unwrap_or(text);
+    for (before, line) in text.split(|byte| *byte == b'\n').enumerate() {
+        match line.strip_prefix(MARK) {
+            Some(words) => {
+                let step = Step::new(alloc, before.saturating_add(1), words)?;
+                case.steps.push(step)?;
+            }
+            None => case.push_line(line)?,
+        }
+    }
+    Ok(case)
+}
+
+impl<'a> Case<'a> {
+    fn push_line(&mut self, line: &[u8]) -> Result<(), AllocError> {
+        let text = match self.steps.last_mut() {
+            None => &mut self.front,
+            Some(step) => &mut step.written,
+        };
+        text.extend_from_slice(line)?;
+        text.push(b'\n')?;
+        Ok(())
+    }
+
+    /// The case, where the text of each step of which something came is what came.
+    pub fn written(
+        &self,
+        alloc: Global,
+        outcomes: &[Option<Vec<u8>>],
+    ) -> Result<Vec<u8>, AllocError> {
+        let mut out = Vec::from_slice(alloc, &self.front)?;
+        for (step, outcome) in self.steps.iter().zip(outcomes.iter()) {
+            push_words(&step.words, &mut out)?;
+            match outcome {
+                None => out.extend_from_slice(&step.written)?,
+                Some(bytes) => push_text(alloc, bytes, &mut out)?,
+            }
+        }
+        Ok(out)
+    }
+}
+
+fn push_words(words: &[&str], out: &mut Vec<u8>) -> Result<(), AllocError> {
+    out.extend_from_slice(b"==")?;
+    for word in words {
+        out.push(b' ')?;
+        out.extend_from_slice(word.as_bytes())?;
+    }
+    out.push(b'\n')?;
+    Ok(())
+}
