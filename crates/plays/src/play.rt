@@ -26,6 +26,7 @@ pub struct Course {
     pub form: Form,
     pub timeout: u32,
     pub part: u32,
+    pub looks_up: bool,
     pub broker: Vec<u8>,
 }
 
@@ -128,7 +129,8 @@ fn begin<'a>(
         state: setting.state.map(|failing| (files, failing)),
         ends: setting.ends.map(|failing| (ends, failing)),
         drawer: setting.drawer,
-        lookups: setting.lookups,
+        looks_up: setting.looks_up,
+        lookup_fault: setting.lookup_fault,
         broker: Vec::from_slice(alloc, &broker)?,
         timeout: setting.timeout,
         form: setting.form,
@@ -137,6 +139,7 @@ fn begin<'a>(
         form: setting.form,
         timeout: setting.timeout,
         part: setting.part,
+        looks_up: setting.looks_up,
         broker,
     };
     let mut clock = clock_of(alloc, setting.readings)?;
@@ -235,7 +238,8 @@ impl<'a> Play<'a> {
             state: Some((files, Failing::Never)),
             ends,
             drawer: ledger.inputs,
-            lookups: None,
+            looks_up: course.looks_up,
+            lookup_fault: None,
             broker: Vec::from_slice(alloc, &course.broker)?,
             timeout: course.timeout,
             form: course.form,

@@ -5,7 +5,7 @@ use crate::steps::Step;
 use crate::words::{answer, failing, lane_fault, number, readings, small};
 use keep_clock::Reading;
 use keep_disk::Failing;
-use keep_lanes::{LaneFault, NumberedFault};
+use keep_lanes::NumberedFault;
 use keep_log::{Answer, Form};
 use std::alloc::{AllocError, Global};
 
@@ -36,8 +36,9 @@ pub struct Setting {
     pub ends: Option<Failing>,
     /// The ends that are kept before the start.
     pub ends_before: Option<Vec<u8>>,
-    /// Where credentials are looked up before they are taken, what goes wrong with these requests.
-    pub lookups: Option<Vec<NumberedFault>>,
+    /// Whether credentials are looked up before they are taken, and what goes wrong with one of these requests.
+    pub looks_up: bool,
+    pub lookup_fault: Option<NumberedFault>,
     /// The files of credentials.
     pub drawer: Drawer,
     /// The number of the call of the first guest's connection that fails.
@@ -61,7 +62,8 @@ impl Setting {
             state: None,
             ends: None,
             ends_before: None,
-            lookups: None,
+            looks_up: false,
+            lookup_fault: None,
             drawer: Drawer::new(alloc),
             guest_fails: u64::MAX,
         }
@@ -135,13 +137,12 @@ impl Setting {
     }
 
     fn take_lookups(&mut self, words: &[&str], unread: Fault) -> Result<(), Fault> {
-        let mut faults = Vec::new(self.alloc);
+        self.looks_up = true;
         if let [request, fault @ ..] = words {
             let number = number(request).ok_or(unread)?;
-            let fault: LaneFault = lane_fault(fault).ok_or(unread)?;
-            faults.push(NumberedFault { number, fault })?;
+            let fault = lane_fault(fault).ok_or(unread)?;
+            self.lookup_fault = Some(NumberedFault { number, fault });
         }
-        self.lookups = Some(faults);
         Ok(())
     }
 

@@ -42,8 +42,9 @@ pub struct Ground {
     /// The same of the ends.
     pub ends: Option<(Vec<Stored>, Failing)>,
     pub drawer: Drawer,
-    /// What goes wrong with lookups of credentials before they are taken, where that is done.
-    pub lookups: Option<Vec<NumberedFault>>,
+    /// Whether credentials are looked up before they are taken, and what goes wrong with one of these requests.
+    pub looks_up: bool,
+    pub lookup_fault: Option<NumberedFault>,
     /// What the broker knows of credentials.
     pub broker: Vec<u8>,
     pub timeout: u32,
@@ -98,7 +99,8 @@ pub fn start<'a>(
         state,
         ends,
         drawer,
-        lookups,
+        looks_up,
+        lookup_fault,
         broker,
         timeout,
         form,
@@ -112,7 +114,11 @@ pub fn start<'a>(
             let Some(opened) = open(alloc, files, failing, paths, &file) else {
                 return Ok(None);
             };
-            let proving = proving(alloc, lookups, &broker, timeout)?;
+            let proving = if looks_up {
+                proving(alloc, lookup_fault, &broker, timeout)?
+            } else {
+                None
+            };
             let ledger = ledger_of(alloc, opened, drawer, timeout, proving, &mut said)?;
             let inventory = ledger.inventory(alloc)?;
             (Some(ledger), inventory)
@@ -146,19 +152,19 @@ fn open<'a>(
     State::open(alloc, disk, paths, Some(file), None).ok()
 }
 
-/// What looks credentials up over a lane of its own, where that is done.
+/// What looks credentials up over a lane of its own to a broker that knows the inventory of this text; `None` where that is none.
 fn proving(
     alloc: Global,
-    faults: Option<Vec<NumberedFault>>,
+    fault: Option<NumberedFault>,
     broker: &[u8],
     timeout: u32,
 ) -> Result<Option<Proving<MemoryLanes>>, Fault> {
-    let (Some(faults), Ok(known)) = (faults, read(alloc, broker)) else {
+    let Ok(known) = read(alloc, broker) else {
         return Ok(None);
     };
     let mut lanes = MemoryLanes::new(alloc, Table::load(alloc, &known)?, timeout, 1);
-    for numbered in &faults {
-        lanes.set_fault(numbered.number, numbered.fault)?;
+    if let Some(NumberedFault { number, fault }) = fault {
+        lanes.set_fault(number, fault)?;
     }
     Ok(Some(Proving::new(lanes)))
 }
