@@ -3,7 +3,8 @@ use crate::fault::Fault;
 use keep_agent::Agent;
 use keep_clock::Clock;
 use keep_inventory::Inventory;
-use keep_lanes::{LaneFault, Lanes, MemoryLanes};
+pub use keep_lanes::MemoryLanes;
+use keep_lanes::{LaneFault, Lanes};
 use keep_serving::{Neighbours, Serving};
 use std::alloc::{AllocError, Global};
 use std::marker::Model;
@@ -17,14 +18,11 @@ pub struct Running {
 }
 
 impl Model for Running {
-    ghost use Rattle.std.specs.Prelude.{◌×◌};
-    ghost use Rattle.keep_lanes.specs.Serving.{InMemory};
     ghost use Rattle.keep_serving.specs.Held.{Held, IsInStep};
-    ghost use Rattle.plays.specs.Running.{Both};
 
-    ghost Value = { Both };
+    ghost Value = { Held };
 
-    ghost view = { λ r. record { held = r.serving; lanes = r.lanes } };
+    ghost view = { λ r. r.serving };
 
     ghost invariant = { λ r. IsInStep r.lanes.width r.lanes.out r.serving };
 }

@@ -1,9 +1,0 @@
--- Running: an agent beside its lanes.
--- Source: this project's own.
-use Rattle.keep_lanes.specs.Serving.{InMemory}
-use Rattle.keep_serving.specs.Held.{Held}
-
--- what the agent holds between two turns, and the lanes
-pub record Both : Type 0 where
-  pub held : Held
-  pub lanes : InMemory
