@@ -1,34 +1,25 @@
 //! A play, from its start on.
 use crate::fault::Fault;
 use crate::guests::{Guest, guests_of};
-use crate::running::Running;
+use crate::running::{MemoryLanes, Running};
 use crate::settings::Setting;
-use crate::starts::{ENDS, Ground, MemoryHouse, Started, clock_of, lanes_of, start, stored};
+use crate::starts::{
+    Course, ENDS, FILE, Ground, MemoryHouse, MemoryLedger, Started, clock_of, lanes_of, start,
+    stored,
+};
 use crate::steps::Step;
 use crate::sweeps::Disturbance;
 use keep_clock::{Clock as _, MemoryClock, Reading};
 use keep_disk::{Failing, MemoryDisk, Stored};
-use keep_log::{Form, MemorySink};
+use keep_ends::EndsFile;
+use keep_log::MemorySink;
 use keep_serving::EarlyDay;
 use keep_state::Paths;
 use std::alloc::{AllocError, Global};
 use watch_machine::Out;
 
-/// The inventory's file.
-const FILE: &str = "web.toml";
-
 /// The state folder.
 const FOLDER: &str = "state";
-
-/// What stays the same from one start to the next.
-#[derive(Drop)]
-pub struct Course {
-    pub form: Form,
-    pub timeout: u32,
-    pub part: u32,
-    pub looks_up: bool,
-    pub broker: Vec<u8>,
-}
 
 /// An agent, and all that is around it.
 #[derive(Drop)]
@@ -85,30 +76,6 @@ pub fn outcomes_of(
     Ok(outcomes)
 }
 
-/// The files of the disk with the state, at the first start.
-fn first_files(
-    alloc: Global,
-    file: &[u8],
-    later: Option<Vec<u8>>,
-) -> Result<Vec<Stored>, AllocError> {
-    let mut files = Vec::new(alloc);
-    let bytes = match later {
-        None => Vec::from_slice(alloc, file)?,
-        Some(bytes) => bytes,
-    };
-    files.push(stored(alloc, FILE, bytes)?)?;
-    Ok(files)
-}
-
-/// The same of the disk with the ends.
-fn first_ends(alloc: Global, before: Option<Vec<u8>>) -> Result<Vec<Stored>, AllocError> {
-    let mut files = Vec::new(alloc);
-    if let Some(bytes) = before {
-        files.push(stored(alloc, ENDS, bytes)?)?;
-    }
-    Ok(files)
-}
-
 /// Begins a play; a start that is refused is a fault of this line.
 fn begin<'a>(
     alloc: Global,
@@ -117,57 +84,55 @@ fn begin<'a>(
     guests: &'a [Guest<'a>],
     line: usize,
 ) -> Result<Play<'a>, Fault> {
-    let broker = match setting.broker {
-        None => Vec::from_slice(alloc, &setting.inventory)?,
-        Some(broker) => broker,
-    };
-    let files = first_files(alloc, &setting.inventory, setting.later)?;
-    let ends = first_ends(alloc, setting.ends_before)?;
-    let lanes = lanes_of(alloc, &broker, setting.timeout, setting.width)?;
-    let ground = Ground {
-        file: setting.inventory,
-        state: setting.state.map(|failing| (files, failing)),
-        ends: setting.ends.map(|failing| (ends, failing)),
-        drawer: setting.drawer,
-        looks_up: setting.looks_up,
-        lookup_fault: setting.lookup_fault,
-        broker: Vec::from_slice(alloc, &broker)?,
-        timeout: setting.timeout,
-        form: setting.form,
-    };
-    let course = Course {
-        form: setting.form,
-        timeout: setting.timeout,
-        part: setting.part,
-        looks_up: setting.looks_up,
-        broker,
-    };
-    let mut clock = clock_of(alloc, setting.readings)?;
+    let Setting {
+        course,
+        ground,
+        readings,
+        answers,
+        width,
+        ..
+    } = setting;
+    let mut clock = clock_of(alloc, readings)?;
     let now = read_clock(&mut clock);
-    let sink = MemorySink::new(alloc, setting.answers);
-    let (Some(lanes), Some(started)) = (lanes, start(alloc, ground, paths, sink, now)?) else {
+    let sink = MemorySink::new(alloc, answers);
+    let lanes = lanes_of(alloc, &course.broker, course.timeout, width)?;
+    let started = start(alloc, &course, ground, paths, sink, now)?;
+    let (Some(lanes), Some(started)) = (lanes, started) else {
         return Err(Fault::Step(line));
     };
-    let Started {
-        house,
-        inventory,
-        known,
-    } = started;
+    let (running, house) = serve(alloc, &course, started, lanes)?;
     Ok(Play {
         alloc,
+        course,
         paths,
         guests,
         clock,
-        running: Running::begin(alloc, inventory, &known, lanes)?,
-        house: EarlyDay::new(house, u64::from(course.part).saturating_mul(1000)),
+        running,
+        house,
         told: Told {
             log: 0,
             clock: 0,
             asked: Vec::new(alloc),
             requests: Vec::new(alloc),
         },
-        course,
     })
+}
+
+/// An agent that has started, over these lanes.
+fn serve<'a>(
+    alloc: Global,
+    course: &Course,
+    started: Started<'a>,
+    lanes: MemoryLanes,
+) -> Result<(Running, EarlyDay<MemoryHouse<'a>>), Fault> {
+    let Started {
+        house,
+        inventory,
+        known,
+    } = started;
+    let running = Running::begin(alloc, inventory, &known, lanes)?;
+    let earlier = u64::from(course.part).saturating_mul(1000);
+    Ok((running, EarlyDay::new(house, earlier)))
 }
 
 /// The reading of a start.
@@ -201,8 +166,34 @@ fn files_of(alloc: Global, disk: &MemoryDisk, paths: &[&str]) -> Result<Vec<Stor
     Ok(files)
 }
 
+/// What the disks hold after an agent; `None` where it kept no changes. No call of them fails from now on.
+fn ground_after(
+    alloc: Global,
+    ledger: Option<MemoryLedger<'_>>,
+    ends: Option<EndsFile<MemoryDisk>>,
+) -> Result<Option<Ground>, AllocError> {
+    let Some(ledger) = ledger else {
+        return Ok(None);
+    };
+    let mut ground = Ground::new(alloc);
+    let (disk, paths) = (ledger.state.disk(), ledger.state.paths());
+    let Some(file) = file_of(alloc, disk, FILE)? else {
+        return Ok(None);
+    };
+    ground.file = file;
+    ground.state = Some(Failing::Never);
+    let kept = [FILE, paths.journal(), paths.copy(), paths.aside()];
+    ground.state_files = files_of(alloc, disk, &kept)?;
+    if let Some(ends) = ends {
+        ground.ends = Some(Failing::Never);
+        ground.ends_files = files_of(alloc, &ends.disk, &[ENDS])?;
+    }
+    ground.drawer = ledger.inputs;
+    Ok(Some(ground))
+}
+
 impl<'a> Play<'a> {
-    /// The same after the agent was ended and started again, over the same disks, of which no call fails from now on.
+    /// The same after the agent was ended and started again, over the same disks.
     fn restart(self, line: usize) -> Result<Play<'a>, Fault> {
         let Play {
             alloc,
@@ -220,49 +211,23 @@ impl<'a> Play<'a> {
             ends,
             ..
         } = house.others;
-        let Some(ledger) = state else {
+        let Some(ground) = ground_after(alloc, state, ends)? else {
             return Err(Fault::Step(line));
-        };
-        let disk = ledger.state.disk();
-        let kept = [FILE, paths.journal(), paths.copy(), paths.aside()];
-        let Some(file) = file_of(alloc, disk, FILE)? else {
-            return Err(Fault::Step(line));
-        };
-        let files = files_of(alloc, disk, &kept)?;
-        let ends = match ends {
-            None => None,
-            Some(ends) => Some((files_of(alloc, &ends.disk, &[ENDS])?, Failing::Never)),
-        };
-        let ground = Ground {
-            file,
-            state: Some((files, Failing::Never)),
-            ends,
-            drawer: ledger.inputs,
-            looks_up: course.looks_up,
-            lookup_fault: None,
-            broker: Vec::from_slice(alloc, &course.broker)?,
-            timeout: course.timeout,
-            form: course.form,
         };
         let now = read_clock(&mut clock);
-        let Some(started) = start(alloc, ground, paths, sink, now)? else {
+        let Some(started) = start(alloc, &course, ground, paths, sink, now)? else {
             return Err(Fault::Step(line));
         };
-        let Started {
-            house,
-            inventory,
-            known,
-        } = started;
-        let lanes = running.into_lanes();
+        let (running, house) = serve(alloc, &course, started, running.into_lanes())?;
         Ok(Play {
             alloc,
+            course,
             paths,
             guests,
             clock,
-            running: Running::begin(alloc, inventory, &known, lanes)?,
-            house: EarlyDay::new(house, u64::from(course.part).saturating_mul(1000)),
+            running,
+            house,
             told,
-            course,
         })
     }
 }

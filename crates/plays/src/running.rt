@@ -1,6 +1,6 @@
 //! An agent beside its lanes to the broker, in step with them between two turns.
 use crate::fault::Fault;
-use broker_lanes::MemoryLanes;
+pub use broker_lanes::MemoryLanes;
 use keep_agent::Agent;
 use keep_clock::Clock;
 use keep_inventory::Inventory;
@@ -18,14 +18,11 @@ pub struct Running {
 }
 
 impl Model for Running {
-    ghost use Rattle.std.specs.Prelude.{◌×◌};
-    ghost use Rattle.broker_lanes.specs.InMemory.{InMemory};
     ghost use Rattle.keep_serving.specs.Held.{Held, IsInStep};
-    ghost use Rattle.plays.specs.Running.{Both};
 
-    ghost Value = { Both };
+    ghost Value = { Held };
 
-    ghost view = { λ r. record { held = r.serving; lanes = r.lanes } };
+    ghost view = { λ r. r.serving };
 
     ghost invariant = { λ r. IsInStep r.lanes.width r.lanes.out r.serving };
 }

@@ -1,10 +1,10 @@
 //! What a play begins with.
 use crate::drawers::{Drawer, Stamping};
 use crate::fault::Fault;
+use crate::starts::{Course, ENDS, FILE, Ground, file_at};
 use crate::steps::Step;
 use crate::words::{answer, failing, lane_fault, number, readings, small};
 use keep_clock::Reading;
-use keep_disk::Failing;
 use keep_lanes::NumberedFault;
 use keep_log::{Answer, Form};
 use std::alloc::{AllocError, Global};
@@ -13,34 +13,14 @@ use std::alloc::{AllocError, Global};
 #[derive(Drop)]
 pub struct Setting {
     alloc: Global,
-    /// The inventory that is served.
-    pub inventory: Vec<u8>,
-    /// What its file says once the start has read it, where that is something else.
-    pub later: Option<Vec<u8>>,
-    /// What the broker knows, where that is something else.
-    pub broker: Option<Vec<u8>>,
-    pub form: Form,
+    pub course: Course,
+    pub ground: Ground,
     /// What the clocks read, one reading after the other; the first is that of the start.
     pub readings: Vec<Option<Reading>>,
-    /// The time-out of a request, in seconds.
-    pub timeout: u32,
-    /// How many requests may be out at once.
-    pub width: u32,
-    /// By how many seconds a day is shorter.
-    pub part: u32,
     /// What the log's reader answers to its calls, one after the other.
     pub answers: Vec<Answer>,
-    /// Where changes are kept, which calls of their disk fail.
-    pub state: Option<Failing>,
-    /// Where ends are kept, which calls of their disk fail.
-    pub ends: Option<Failing>,
-    /// The ends that are kept before the start.
-    pub ends_before: Option<Vec<u8>>,
-    /// Whether credentials are looked up before they are taken, and what goes wrong with one of these requests.
-    pub looks_up: bool,
-    pub lookup_fault: Option<NumberedFault>,
-    /// The files of credentials.
-    pub drawer: Drawer,
+    /// How many requests may be out at once.
+    pub width: u32,
     /// The number of the call of the first guest's connection that fails.
     pub guest_fails: u64,
 }
@@ -50,77 +30,76 @@ impl Setting {
     pub fn new(alloc: Global) -> Setting {
         Setting {
             alloc,
-            inventory: Vec::new(alloc),
-            later: None,
-            broker: None,
-            form: Form::Text,
+            course: Course::new(alloc),
+            ground: Ground::new(alloc),
             readings: Vec::new(alloc),
-            timeout: 5,
-            width: 8,
-            part: 0,
             answers: Vec::new(alloc),
-            state: None,
-            ends: None,
-            ends_before: None,
-            looks_up: false,
-            lookup_fault: None,
-            drawer: Drawer::new(alloc),
+            width: 8,
             guest_fails: u64::MAX,
         }
     }
 
     /// Takes what the first steps say, up to the first one at which something happens, and gives the number of those.
     pub fn take_first(&mut self, steps: &[Step<'_>]) -> Result<usize, Fault> {
+        let mut first = steps.len();
         for (number, step) in steps.iter().enumerate() {
             if !self.take(step)? {
-                return Ok(number);
+                first = number;
+                break;
             }
         }
-        Ok(steps.len())
+        if self.course.broker.is_empty() {
+            self.course.broker = Vec::from_slice(self.alloc, &self.ground.file)?;
+        }
+        Ok(first)
     }
 
     // Takes what a step says, where that is what a play begins with.
     fn take(&mut self, step: &Step<'_>) -> Result<bool, Fault> {
+        let unread = step.unread();
         match step.words.as_slice() {
-            ["inventory"] => self.inventory = step.bytes(self.alloc)?,
-            ["inventory", "later"] => self.later = Some(step.bytes(self.alloc)?),
-            ["broker"] => self.broker = Some(step.bytes(self.alloc)?),
-            ["ends", words @ ..] => self.take_ends(step, words)?,
-            ["file", path, words @ ..] => put_file(
-                self.alloc,
-                step,
-                path,
-                words,
-                &mut self.drawer,
-            )?,
-            words => return self.take_words(step, words),
+            ["inventory"] => {
+                self.ground.file = step.bytes(self.alloc)?;
+                self.ground.state_files = file_at(self.alloc, FILE, step.bytes(self.alloc)?)?;
+            }
+            ["inventory", "later"] => {
+                self.ground.state_files = file_at(self.alloc, FILE, step.bytes(self.alloc)?)?;
+            }
+            ["broker"] => self.course.broker = step.bytes(self.alloc)?,
+            ["state", words @ ..] => self.ground.state = Some(failing(words).ok_or(unread)?),
+            ["ends", words @ ..] => {
+                self.ground.ends = Some(failing(words).ok_or(unread)?);
+                if !step.written.is_empty() {
+                    self.ground.ends_files = file_at(self.alloc, ENDS, step.bytes(self.alloc)?)?;
+                }
+            }
+            ["file", path, words @ ..] => {
+                put_file(self.alloc, step, path, words, &mut self.ground.drawer)?;
+            }
+            words => return self.take_words(words, unread),
         }
         Ok(true)
     }
 
-    fn take_ends(&mut self, step: &Step<'_>, words: &[&str]) -> Result<(), Fault> {
-        self.ends = Some(failing(words).ok_or(step.unread())?);
-        if !step.written.is_empty() {
-            self.ends_before = Some(step.bytes(self.alloc)?);
-        }
-        Ok(())
-    }
-
     // The same of one that has no text.
-    fn take_words(&mut self, step: &Step<'_>, words: &[&str]) -> Result<bool, Fault> {
-        let unread = step.unread();
+    fn take_words(&mut self, words: &[&str], unread: Fault) -> Result<bool, Fault> {
         match words {
-            ["form", "json"] => self.form = Form::Json,
+            ["form", "json"] => self.course.form = Form::Json,
             ["clock", words @ ..] => self.take_readings(words, unread)?,
-            ["timeout", word] => self.timeout = small(word).ok_or(unread)?,
+            ["timeout", word] => self.course.timeout = small(word).ok_or(unread)?,
             ["width", word] => self.width = small(word).ok_or(unread)?,
-            ["part", word] => self.part = small(word).ok_or(unread)?,
-            ["state", words @ ..] => self.state = Some(failing(words).ok_or(unread)?),
+            ["part", word] => self.course.part = small(word).ok_or(unread)?,
             ["reader", call, words @ ..] => {
                 let call = number(call).ok_or(unread)?;
                 self.answer_at(call, answer(words).ok_or(unread)?)?;
             }
-            ["lookups", words @ ..] => self.take_lookups(words, unread)?,
+            ["lookups"] => self.course.looks_up = true,
+            ["lookups", request, fault @ ..] => {
+                let number = number(request).ok_or(unread)?;
+                let fault = lane_fault(fault).ok_or(unread)?;
+                self.course.looks_up = true;
+                self.course.lookup_fault = Some(NumberedFault { number, fault });
+            }
             _ => return Ok(false),
         }
         Ok(true)
@@ -132,16 +111,6 @@ impl Setting {
             for number in 0..readings.count {
                 self.readings.push(readings.get(number))?;
             }
-        }
-        Ok(())
-    }
-
-    fn take_lookups(&mut self, words: &[&str], unread: Fault) -> Result<(), Fault> {
-        self.looks_up = true;
-        if let [request, fault @ ..] = words {
-            let number = number(request).ok_or(unread)?;
-            let fault = lane_fault(fault).ok_or(unread)?;
-            self.lookup_fault = Some(NumberedFault { number, fault });
         }
         Ok(())
     }

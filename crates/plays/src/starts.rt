@@ -2,7 +2,7 @@
 use crate::drawers::Drawer;
 use crate::fault::Fault;
 use crate::guests::{Peer, PeerDoor};
-use broker_lanes::MemoryLanes;
+use crate::running::MemoryLanes;
 use broker_table::Table;
 use keep_answering::{Control, Onlookers};
 use keep_clock::{MemoryClock, Reading};
@@ -20,6 +20,9 @@ use keep_state::{Opened, Paths, State};
 use std::alloc::{AllocError, Global};
 use watch_machine::Event;
 
+/// The inventory's file.
+pub const FILE: &str = "web.toml";
+
 /// Where the ends are kept.
 pub const ENDS: &str = "run/ends";
 
@@ -33,23 +36,62 @@ pub type MemoryLedger<'a> = Ledger<'a, MemoryDisk, Drawer, MemoryLanes>;
 
 pub type MemoryHouse<'a> = House<MemorySink, Peer<'a>, PeerDoor<'a>, MemoryLedger<'a>, MemoryDisk>;
 
-/// What the disks hold at a start, and what goes wrong with them.
+/// What is the same at each start.
 #[derive(Drop)]
-pub struct Ground {
-    /// The text of the inventory's file.
-    pub file: Vec<u8>,
-    /// Where changes are kept: the files of their disk, and which of its calls fail.
-    pub state: Option<(Vec<Stored>, Failing)>,
-    /// The same of the ends.
-    pub ends: Option<(Vec<Stored>, Failing)>,
-    pub drawer: Drawer,
+pub struct Course {
+    pub form: Form,
+    /// The time-out of a request, in seconds.
+    pub timeout: u32,
+    /// By how many seconds a day is shorter.
+    pub part: u32,
+    /// The inventory that the broker knows at first.
+    pub broker: Vec<u8>,
     /// Whether credentials are looked up before they are taken, and what goes wrong with one of these requests.
     pub looks_up: bool,
     pub lookup_fault: Option<NumberedFault>,
-    /// What the broker knows of credentials.
-    pub broker: Vec<u8>,
-    pub timeout: u32,
-    pub form: Form,
+}
+
+/// What the disks hold at a start.
+#[derive(Drop)]
+pub struct Ground {
+    /// The text of the inventory that is served.
+    pub file: Vec<u8>,
+    /// Where changes are kept, which calls of their disk fail.
+    pub state: Option<Failing>,
+    pub state_files: Vec<Stored>,
+    /// Where ends are kept, which calls of their disk fail.
+    pub ends: Option<Failing>,
+    pub ends_files: Vec<Stored>,
+    /// The files of credentials.
+    pub drawer: Drawer,
+}
+
+impl Course {
+    /// Where nothing is said.
+    pub fn new(alloc: Global) -> Course {
+        Course {
+            form: Form::Text,
+            timeout: 5,
+            part: 0,
+            broker: Vec::new(alloc),
+            looks_up: false,
+            lookup_fault: None,
+        }
+    }
+}
+
+impl Ground {
+    /// Where nothing is kept.
+    pub fn new(alloc: Global) -> Ground {
+        Ground {
+            file: Vec::new(alloc),
+            state: None,
+            state_files: Vec::new(alloc),
+            ends: None,
+            ends_files: Vec::new(alloc),
+            drawer: Drawer::new(alloc),
+        }
+    }
 }
 
 /// An agent's house at a start, what it serves, and the ends that it was told before.
@@ -58,6 +100,13 @@ pub struct Started<'a> {
     pub house: MemoryHouse<'a>,
     pub inventory: Inventory,
     pub known: Vec<Event>,
+}
+
+/// A disk's one file.
+pub fn file_at(alloc: Global, path: &str, bytes: Vec<u8>) -> Result<Vec<Stored>, AllocError> {
+    let mut files = Vec::new(alloc);
+    files.push(stored(alloc, path, bytes)?)?;
+    Ok(files)
 }
 
 /// A file of a disk.
@@ -89,6 +138,7 @@ pub fn lanes_of(
 /// Starts an agent at this reading; `None` where the start is refused.
 pub fn start<'a>(
     alloc: Global,
+    course: &Course,
     ground: Ground,
     paths: &'a Paths,
     sink: MemorySink,
@@ -98,44 +148,43 @@ pub fn start<'a>(
     let Ground {
         file,
         state,
+        state_files,
         ends,
+        ends_files,
         drawer,
-        looks_up,
-        lookup_fault,
-        broker,
-        timeout,
-        form,
     } = ground;
-    let (state, inventory) = match state {
-        None => match read(alloc, &file) {
-            Ok(inventory) => (None, inventory),
-            Err(_) => return Ok(None),
+    let ledger = match state {
+        None => None,
+        Some(failing) => match open(alloc, state_files, failing, paths, &file) {
+            None => return Ok(None),
+            Some(opened) => Some(ledger_of(alloc, course, opened, drawer, &mut said)?),
         },
-        Some((files, failing)) => {
-            let Some(opened) = open(alloc, files, failing, paths, &file) else {
-                return Ok(None);
-            };
-            let proving = if looks_up {
-                proving(alloc, lookup_fault, &broker, timeout)?
-            } else {
-                None
-            };
-            let ledger = ledger_of(alloc, opened, drawer, timeout, proving, &mut said)?;
-            let inventory = ledger.inventory(alloc)?;
-            (Some(ledger), inventory)
-        }
     };
-    let mut desk = Desk::new(alloc, form, inventory.forest().len())?;
+    let Some(inventory) = inventory_of(alloc, &ledger, &file)? else {
+        return Ok(None);
+    };
+    let mut desk = Desk::new(alloc, course.form, inventory.forest().len())?;
     for (level, event, text) in &said {
-        desk.hear_at_start(alloc, now, *level, *event, text.list());
+        desk.hear_at_start(alloc, now, *level, event, text.list());
     }
-    let (ends, known) = take_over(alloc, ends, &inventory, now, &mut desk)?;
-    let house = house_of(alloc, desk, sink, now, state, ends);
+    let (ends, known) = take_over(alloc, ends, ends_files, &inventory, now, &mut desk)?;
     Ok(Some(Started {
-        house,
+        house: house_of(alloc, desk, sink, now, ledger, ends),
         inventory,
         known,
     }))
+}
+
+/// What is served: by a ledger, or the file alone; `None` where that is no inventory.
+fn inventory_of(
+    alloc: Global,
+    ledger: &Option<MemoryLedger<'_>>,
+    file: &[u8],
+) -> Result<Option<Inventory>, AllocError> {
+    match ledger {
+        None => Ok(read(alloc, file).ok()),
+        Some(ledger) => Ok(Some(ledger.inventory(alloc)?)),
+    }
 }
 
 /// What is said at a start: how it is marked, of what, and in which words.
@@ -153,18 +202,13 @@ fn open<'a>(
     State::open(alloc, disk, paths, Some(file), None).ok()
 }
 
-/// What looks credentials up over a lane of its own to a broker that knows the inventory of this text; `None` where that is none.
-fn proving(
-    alloc: Global,
-    fault: Option<NumberedFault>,
-    broker: &[u8],
-    timeout: u32,
-) -> Result<Option<Proving<MemoryLanes>>, Fault> {
-    let Ok(known) = read(alloc, broker) else {
+/// What looks credentials up over a lane of its own, where that is done.
+fn proving(alloc: Global, course: &Course) -> Result<Option<Proving<MemoryLanes>>, AllocError> {
+    let (true, Ok(known)) = (course.looks_up, read(alloc, &course.broker)) else {
         return Ok(None);
     };
-    let mut lanes = MemoryLanes::new(alloc, Table::load(alloc, &known)?, timeout, 1);
-    if let Some(NumberedFault { number, fault }) = fault {
+    let mut lanes = MemoryLanes::new(alloc, Table::load(alloc, &known)?, course.timeout, 1);
+    if let Some(NumberedFault { number, fault }) = course.lookup_fault {
         lanes.set_fault(number, fault)?;
     }
     Ok(Some(Proving::new(lanes)))
@@ -173,23 +217,22 @@ fn proving(
 /// A ledger of a state, once it has what files of credentials hold, and what is said of that and of its changes.
 fn ledger_of<'a>(
     alloc: Global,
+    course: &Course,
     opened: Opened<'a, MemoryDisk>,
     drawer: Drawer,
-    timeout: u32,
-    proving: Option<Proving<MemoryLanes>>,
     said: &mut Vec<Said>,
 ) -> Result<MemoryLedger<'a>, Fault> {
     let mut ledger = Ledger {
         state: opened.state,
         demands: Demands {
-            timeout,
+            timeout: course.timeout,
             names_are_secrets: false,
             earlier: 0,
         },
         folder: "",
         inputs: drawer,
         looking: Looking::new(alloc),
-        proving,
+        proving: proving(alloc, course)?,
         asked: None,
     };
     for line in ledger.note_lines(alloc, &opened.notes)? {
@@ -206,12 +249,13 @@ fn ledger_of<'a>(
 /// The file of the ends, where they are kept, and what hands in those of this boot.
 fn take_over(
     alloc: Global,
-    ends: Option<(Vec<Stored>, Failing)>,
+    ends: Option<Failing>,
+    files: Vec<Stored>,
     inventory: &Inventory,
     now: Reading,
     desk: &mut Desk,
 ) -> Result<(Option<EndsFile<MemoryDisk>>, Vec<Event>), Fault> {
-    let Some((files, failing)) = ends else {
+    let Some(failing) = ends else {
         return Ok((None, Vec::new(alloc)));
     };
     let mut disk = MemoryDisk::new(alloc, files, failing, Why::Full);

@@ -29,8 +29,8 @@ impl Disturbance {
     pub fn disturb(self, setting: &mut Setting) -> Result<(), AllocError> {
         match self {
             Disturbance::Nothing => {}
-            Disturbance::State(failing) => setting.state = Some(failing),
-            Disturbance::Ends(failing) => setting.ends = Some(failing),
+            Disturbance::State(failing) => setting.ground.state = Some(failing),
+            Disturbance::Ends(failing) => setting.ground.ends = Some(failing),
             Disturbance::Reader(call, answer) => setting.answer_at(call, answer)?,
             Disturbance::Clock(number) => setting.fail_reading(number)?,
             Disturbance::Guest(call) => setting.guest_fails = call,
