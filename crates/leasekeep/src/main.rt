@@ -12,7 +12,6 @@ mod house;
 mod live;
 mod running;
 mod serve;
-mod sockets;
 mod watch;
 
 fn main(rt: HostRuntime) -> ExitCode {

@@ -3,19 +3,21 @@ ghost use Rattle.std.specs.Prelude.{◌≡◌, [], IfOk, max, min};
 ghost use Rattle.leasekeep.specs.Ends.{EndsServe};
 
 use crate::house::{Ready, serve_with};
-use crate::sockets::{CLIENTS, ONLOOKERS, open_door};
 use keep_answering::{Control, Onlookers};
 use keep_clients::{SocketDoor, SocketTalk};
 use keep_clock::{Clock as _, Reading, SystemClock};
 use keep_device::{Sink, Watched};
 use keep_disk::SystemDisk;
 use keep_engine::{Exit, PROGRAM, Stop};
-use keep_house::Demands;
+use keep_house::{Demands, Desk};
 use keep_lanes::{Lanes, LanesOver, MOST_WIDTH, SocketLanes};
 use keep_log::StandardOutput;
 use keep_proving::Proving;
-use leasekeep_commands::{Room, Served};
-use serve_start::{Folder, Start, SystemLedger, desk_of, folder_of, start, take_over};
+use leasekeep_commands::{Room, Served, Socket};
+use serve_start::{
+    CLIENTS, Folder, Guests, ONLOOKERS, Start, SystemLedger, desk_of, folder_of, open_door, start,
+    take_over,
+};
 use std::alloc::{AllocError, Global};
 use std::fs::File;
 use std::net::Net;
@@ -150,8 +152,8 @@ where
     let path = ends_path(alloc, served.room)?;
     let inventory = &start.inventories.served;
     let (ends, known) = take_over(rt, path, inventory, now, &mut desk)?;
-    let clients = open_door(rt, clock, now, served.control, CLIENTS, &mut desk);
-    let onlookers = open_door(rt, clock, now, served.listen, ONLOOKERS, &mut desk);
+    let clients = door_of(rt, clock, now, served.control, CLIENTS, &mut desk);
+    let onlookers = door_of(rt, clock, now, served.listen, ONLOOKERS, &mut desk);
     Ok(Ready {
         desk,
         known,
@@ -159,6 +161,19 @@ where
         control: clients.map(|door| Control::new(alloc, door)),
         onlookers: onlookers.map(|door| Onlookers::new(alloc, door)),
     })
+}
+
+/// The door of these guests, where a socket is asked for.
+fn door_of<R: Files + AllocGlobal + Net + Clock>(
+    rt: &R,
+    clock: &SystemClock<'_, R>,
+    now: Reading,
+    socket: Option<Socket<'_>>,
+    guests: Guests,
+    desk: &mut Desk,
+) -> Option<SocketDoor> {
+    let Socket { word, entrance } = socket?;
+    open_door(rt, clock, now, word, entrance, guests, desk)
 }
 
 /// Where the file of the ends is, if there is room for one. The only error is lack of memory.
