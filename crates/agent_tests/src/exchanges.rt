@@ -4,11 +4,10 @@
 use crate::inventories::WEB;
 use crate::moments::at;
 use crate::network::{Books, Network, Peer};
+use broker_memory::{MemoryExchange, SelfServed};
 use broker_table::{Fault, Table};
 use http::Method;
-use keep_exchange::{
-    Exchange, ExchangeFault, MemoryExchange, SelfServed, TcpExchange, UnixExchange, can_carry,
-};
+use keep_exchange::{Exchange, ExchangeFault, TcpExchange, UnixExchange, can_carry};
 use keep_inventory::read;
 use keep_moment::Text;
 use std::alloc::{AllocError, Global};

@@ -4,9 +4,9 @@ use crate::inventories::{
 };
 use crate::moments::at;
 use crate::outcomes::Outcome;
+use broker_memory::MemoryExchange;
 use broker_table::Table;
 use keep_device::{MemorySink, MemorySource};
-use keep_exchange::MemoryExchange;
 use keep_inventory::read;
 use keep_moment::Text;
 use keep_report::Exit;

@@ -1,7 +1,7 @@
 //! No secret shows: inventories that differ in secrets and lease ids alone are rehearsed alike, whatever goes wrong.
 use crate::rehearsals::{nobody, rehearsed, rehearses, words_of};
+use broker_memory::MemoryExchange;
 use keep_device::MemorySink;
-use keep_exchange::MemoryExchange;
 use keep_report::Exit;
 use std::alloc::Global;
 use std::process::Abort;

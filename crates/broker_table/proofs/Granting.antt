@@ -14,22 +14,22 @@ use Rattle.keep_tree.proofs.Chains.{cases_Option}
 use Rattle.keep_inventory.specs.Inventories.{IsInventory, Inventory, credential_at, terms_at}
 use Rattle.keep_inventory.proofs.Inventories.{period_is}
 use Rattle.vault_http.specs.declared.request.Request.{Request}
-use Rattle.broker_table.specs.declared.row.Row.{Row}
-use Rattle.broker_table.specs.declared.call.Call.{Call}
-use Rattle.broker_table.specs.declared.call.Call.TheVariants.{RenewSelf, RenewLease}
-use Rattle.broker_table.specs.declared.refusal.Refusal.{Refusal}
-use Rattle.broker_table.specs.declared.refusal.Refusal.TheVariants.{NotRenewable, PermissionDenied, UnknownLease, UnsupportedMethod}
-use Rattle.broker_table.specs.Faults.{fault_at, next_number}
-use Rattle.broker_table.specs.Granted.{AsksRenewal, asked_for, bearer_for, call_for, renewed_row}
+use Rattle.broker_rule.specs.declared.row.Row.{Row}
+use Rattle.broker_rule.specs.declared.call.Call.{Call}
+use Rattle.broker_rule.specs.declared.call.Call.TheVariants.{RenewSelf, RenewLease}
+use Rattle.broker_rule.specs.declared.refusal.Refusal.{Refusal}
+use Rattle.broker_rule.specs.declared.refusal.Refusal.TheVariants.{NotRenewable, PermissionDenied, UnknownLease, UnsupportedMethod}
+use Rattle.broker_rule.specs.Faults.{fault_at, next_number}
+use Rattle.broker_rule.specs.Granted.{AsksRenewal, asked_for, bearer_for, call_for, renewed_row}
 use Rattle.broker_table.specs.Laws.{RenewalIsByTheRule, UngrantedIsRefused}
-use Rattle.broker_table.specs.Table.{BrokerTable}
-use Rattle.broker_table.specs.Listed.{is_entry_alive, rows_listed}
-use Rattle.broker_table.specs.Renewing.{granted_row, new_end, renewal_by_broker as renewal_served, step_of_row}
-use Rattle.broker_table.specs.Request.{asked, is_write}
-use Rattle.broker_table.specs.Rows.{broker_row}
-use Rattle.broker_table.specs.Step.{after_sweep, broker_step, by_call, counted_renewal, refuses as refused, renewal_outcome}
-use Rattle.broker_table.specs.Subject.{bearer, is_lease_with, is_token_with, lease_with, belongs, owned, subject, token_with, with_asked, with_bearer}
-use Rattle.broker_table.specs.Sweep.{swept}
+use Rattle.broker_rule.specs.Table.{BrokerTable}
+use Rattle.broker_rule.specs.Listed.{is_entry_alive, rows_listed}
+use Rattle.broker_rule.specs.Renewing.{granted_row, new_end, renewal_by_broker as renewal_served, step_of_row}
+use Rattle.broker_rule.specs.Request.{asked, is_write}
+use Rattle.broker_rule.specs.Rows.{broker_row}
+use Rattle.broker_rule.specs.Step.{after_sweep, broker_step, by_call, counted_renewal, refuses as refused, renewal_outcome}
+use Rattle.broker_rule.specs.Subject.{bearer, is_lease_with, is_token_with, lease_with, belongs, owned, subject, token_with, with_asked, with_bearer}
+use Rattle.broker_rule.specs.Sweep.{swept}
 use Rattle.broker_table.proofs.Ranges.{found_lone, found_none}
 use Rattle.broker_table.proofs.Sweeping.{alive_up}
 

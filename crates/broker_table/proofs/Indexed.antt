@@ -12,13 +12,13 @@ use Rattle.std.specs.Ordering.{nat_cmp, is_eq}
 use Rattle.keep_tree.specs.declared.entry.Kind.{Kind}
 use Rattle.keep_tree.specs.declared.entry.Kind.TheVariants.{Token, Lease}
 use Rattle.keep_tree.specs.Push.{is_lease}
-use Rattle.broker_table.specs.declared.row.Row.{Row}
+use Rattle.broker_rule.specs.declared.row.Row.{Row}
 use Rattle.broker_table.specs.declared.slot.Slot.{Slot}
 use Rattle.broker_table.specs.declared.index.Index.{Index}
 use Rattle.broker_table.specs.Index.{AreUnlike, EntersRow, FindsSlots, IsFresh, IsIndexOf, IsIndexOfNone, IsIndexed, credentials_of, if_listed, place_in}
 use Rattle.broker_table.specs.Slots.{listed_rows, no_slot, relisted, slot_at, swept_slots}
-use Rattle.broker_table.specs.Subject.{is_lease_with, is_token_with}
-use Rattle.broker_table.specs.Sweep.{lives}
+use Rattle.broker_rule.specs.Subject.{is_lease_with, is_token_with}
+use Rattle.broker_rule.specs.Sweep.{lives}
 use Rattle.broker_table.proofs.Listed.{found_listed, none_listed}
 use Rattle.broker_table.proofs.Replaced.{ended}
 

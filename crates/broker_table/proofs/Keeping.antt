@@ -7,9 +7,9 @@ use Rattle.std.proofs.lemmas.List.{get_or-map, get_or-set_same, get_or-set_other
 use Rattle.std.proofs.Math.Nat.{min-le_left, min-le_right}
 use Rattle.keep_tree.proofs.Carrying.{and_right}
 use Rattle.keep_inventory.specs.Inventories.{Inventory}
-use Rattle.broker_table.specs.declared.row.Row.{Row}
+use Rattle.broker_rule.specs.declared.row.Row.{Row}
 use Rattle.broker_table.specs.declared.slot.Slot.{Slot}
-use Rattle.broker_table.specs.Sweep.{lives}
+use Rattle.broker_rule.specs.Sweep.{lives}
 use Rattle.broker_table.specs.Slots.{AreKept, AreSlots, EndFrom, end_in_slot, is_listed, listed_rows, no_slot, relisted, slot_at, slot_of, slots_of, swept_slots}
 use Rattle.broker_table.proofs.Living.{lives_step, over_below, over_passes, swept_sound}
 use Rattle.broker_table.proofs.Loaded.{count_of_slots, slot_of_place}

@@ -8,9 +8,9 @@ use Rattle.std.proofs.lemmas.List.Folds.{find_at}
 use Rattle.std.proofs.lemmas.List.Quantifiers.{position-Some}
 use Rattle.std.proofs.lemmas.Option.{slice_get-get_or, slice_get_cases}
 use Rattle.std.specs.List.{find, filter, position, position_or_len, slice_get}
-use Rattle.broker_table.specs.declared.row.Row.{Row}
+use Rattle.broker_rule.specs.declared.row.Row.{Row}
 use Rattle.broker_table.specs.declared.slot.Slot.{Slot}
-use Rattle.broker_table.specs.Rows.{row_named}
+use Rattle.broker_rule.specs.Rows.{row_named}
 use Rattle.broker_table.specs.Slots.{AreSlots, listed_rows, no_slot, relisted, slot_at}
 
 -- what `&slots[i]` gives

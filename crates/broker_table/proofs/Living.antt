@@ -3,9 +3,9 @@ use Rattle.std.proofs.Common.{◌≡◌, ℕ, zero, suc, ◌+◌, ◌<◌, ◌�
 use Rattle.std.proofs.lemmas.List.{drop_all, get_or-append_right, get_or_append_left, get_or-drop, get_or-map, get_or-take, get_or_default, append-nil, length-append, length-drop, length-map, length-take-le, take_all}
 use Rattle.std.proofs.lemmas.List.Edits.{map_over_more}
 use Rattle.keep_tree.specs.declared.forest.TheConstants.{MAX_ENTRIES}
-use Rattle.broker_table.specs.declared.row.Row.{Row}
+use Rattle.broker_rule.specs.declared.row.Row.{Row}
 use Rattle.broker_table.specs.declared.slot.Slot.{Slot}
-use Rattle.broker_table.specs.Sweep.{lives, lives_of, parent_passes, passes, swept}
+use Rattle.broker_rule.specs.Sweep.{lives, lives_of, parent_passes, passes, swept}
 use Rattle.broker_table.specs.Slots.{AreSlots, IsTied, is_listed, listed_rows, no_slot, relisted, slot_at, stands, swept_slots}
 use Rattle.broker_table.proofs.Listed.{listed_passing, named_listed}
 

@@ -9,7 +9,7 @@ use Rattle.keep_tree.specs.Push.{IsForest, lacks_parent}
 use Rattle.keep_inventory.specs.Inventories.{CredentialsAreApart, Inventory}
 use Rattle.broker_table.specs.declared.slot.Slot.{Slot}
 use Rattle.broker_table.specs.Index.{AreUnlike}
-use Rattle.broker_table.specs.Rows.{broker_row, broker_rows}
+use Rattle.broker_rule.specs.Rows.{broker_row, broker_rows}
 use Rattle.broker_table.specs.Slots.{AreSlots, IsTied, listed_rows, no_slot, slot_at, slot_of, slots_of}
 
 pub slot_of_place : (s : Inventory) (i : ℕ) → i < length s.forest.entries → slot_at (slots_of s) i ≡ slot_of s i

@@ -11,11 +11,11 @@ use Rattle.std.specs.List.{filter, find}
 use Rattle.std.specs.Map.{lookup}
 use Rattle.std.specs.Option.{is_some, option_or}
 use Rattle.std.specs.Ordering.{is_eq, nat_cmp}
-use Rattle.broker_table.specs.declared.fault.Fault.{Fault}
-use Rattle.broker_table.specs.declared.fault.NumberedFault.{NumberedFault}
-use Rattle.broker_table.specs.declared.fault.SetFault.{SetFault}
-use Rattle.broker_table.specs.declared.fault.SetFault.TheVariants.{BadNumber, Twice}
-use Rattle.broker_table.specs.Faults.{Faults, fault_at, fault_refusal, next_number, pending, without_fault}
+use Rattle.broker_rule.specs.declared.fault.Fault.{Fault}
+use Rattle.broker_rule.specs.declared.fault.NumberedFault.{NumberedFault}
+use Rattle.broker_rule.specs.declared.fault.SetFault.{SetFault}
+use Rattle.broker_rule.specs.declared.fault.SetFault.TheVariants.{BadNumber, Twice}
+use Rattle.broker_rule.specs.Faults.{Faults, fault_at, fault_refusal, next_number, pending, without_fault}
 
 -- ---- a look-up among those pending
 

@@ -5,19 +5,19 @@ use Rattle.keep_device.specs.Front.{AppendsFront}
 use Rattle.keep_device.specs.Seen.{Change}
 use Rattle.broker_table.specs.declared.stream.StreamFault.{StreamFault}
 use Rattle.broker_table.specs.declared.stream.StreamFault.TheVariants as streams
-use Rattle.broker_table.specs.Table.{BrokerTable}
+use Rattle.broker_rule.specs.Table.{BrokerTable}
 use Rattle.vault_http.specs.declared.http_fault.HttpFault.{HttpFault}
 use Rattle.vault_http.specs.declared.http_fault.HttpFault.TheVariants as https
 use Rattle.vault_http.specs.declared.request.Request.{Request}
 use Rattle.vault_http.specs.Reading.{SettlesRequest}
 use Rattle.vault_http.specs.RoundTrip.{is_sent}
 use Rattle.vault_http.specs.declared.known.TheConstants.{MOST_MESSAGE}
-use Rattle.broker_table.specs.declared.refusal.Refusal.{Refusal}
-use Rattle.broker_table.specs.declared.refusal.Refusal.TheVariants as refusals
-use Rattle.broker_table.specs.declared.served.Served.{Served}
-use Rattle.broker_table.specs.declared.served.Served.TheVariants as served
-use Rattle.broker_table.specs.Request.{status_of_refusal}
-use Rattle.broker_table.specs.Step.{BrokerAnswer, refuses, tells, drops, Refuses, SaysAnswer, broker_step}
+use Rattle.broker_rule.specs.declared.refusal.Refusal.{Refusal}
+use Rattle.broker_rule.specs.declared.refusal.Refusal.TheVariants as refusals
+use Rattle.broker_rule.specs.declared.served.Served.{Served}
+use Rattle.broker_rule.specs.declared.served.Served.TheVariants as served
+use Rattle.broker_rule.specs.Request.{status_of_refusal}
+use Rattle.broker_rule.specs.Step.{BrokerAnswer, refuses, tells, drops, Refuses, SaysAnswer, broker_step}
 use Rattle.broker_table.specs.Stream.{CountsSending, FaultLeaves, Handles, IsHandled, IsUnserved, MaySend, StreamFails, WantsMemory, bytes_sent_of}
 
 pub of_both : {X E : Type 0} (P Q R : Type 0) (r : Result X E) → (P → Q → R) → OnOk r P → OnOk r Q → OnOk r R

@@ -12,11 +12,11 @@ use Rattle.keep_tree.proofs.Carrying.{and_right}
 use Rattle.keep_tree.proofs.Chains.{all_last_child, all_last_root, cases_Option}
 use Rattle.keep_tree.proofs.Placed.{parents_first}
 use Rattle.keep_inventory.specs.Inventories.{Inventory}
-use Rattle.broker_table.specs.declared.row.Row.{Row}
-use Rattle.broker_table.specs.Rows.{broker_row, broker_rows, row_named}
-use Rattle.broker_table.specs.Sweep.{lives, lives_of, parent_passes, passes, swept}
+use Rattle.broker_rule.specs.declared.row.Row.{Row}
+use Rattle.broker_rule.specs.Rows.{broker_row, broker_rows, row_named}
+use Rattle.broker_rule.specs.Sweep.{lives, lives_of, parent_passes, passes, swept}
 use Rattle.broker_table.specs.Laws.{SweptInventory}
-use Rattle.broker_table.specs.Listed.{is_entry_alive, rows_listed}
+use Rattle.broker_rule.specs.Listed.{is_entry_alive, rows_listed}
 use Rattle.broker_table.proofs.Ranges.{filter_all, filter_of_map, filter_range, found_lone}
 
 pub lt_is_le : (t e : ℕ) → nat_lt t e ≡ nat_le (t + 1) e

@@ -7,15 +7,15 @@ use Rattle.std.specs.List.{find}
 use Rattle.std.specs.Str.{is_utf8}
 use Rattle.keep_tree.specs.Push.{is_lease}
 use Rattle.vault_http.specs.declared.request.Request.{Request}
-use Rattle.broker_table.specs.declared.row.Row.{Row}
-use Rattle.broker_table.specs.declared.call.Call.{Call}
-use Rattle.broker_table.specs.declared.call.Call.TheVariants.{RenewSelf, RenewLease, LookupSelf, LookupLease}
-use Rattle.broker_table.specs.declared.fault.Fault.{Fault}
-use Rattle.broker_table.specs.declared.refusal.Refusal.{Refusal}
+use Rattle.broker_rule.specs.declared.row.Row.{Row}
+use Rattle.broker_rule.specs.declared.call.Call.{Call}
+use Rattle.broker_rule.specs.declared.call.Call.TheVariants.{RenewSelf, RenewLease, LookupSelf, LookupLease}
+use Rattle.broker_rule.specs.declared.fault.Fault.{Fault}
+use Rattle.broker_rule.specs.declared.refusal.Refusal.{Refusal}
 use Rattle.broker_table.specs.Found.{GrantNamesText, SubjectNamesText}
-use Rattle.broker_table.specs.Renewing.{granted_row, is_deny, new_end, renewal_by_broker}
-use Rattle.broker_table.specs.Request.{a_text, asked, asked_of_lease, increment_in, lease_id_in}
-use Rattle.broker_table.specs.Subject.{Subject, bearer, belongs, is_lease_with, lease_with, owned, subject, with_asked, with_bearer}
+use Rattle.broker_rule.specs.Renewing.{granted_row, is_deny, new_end, renewal_by_broker}
+use Rattle.broker_rule.specs.Request.{a_text, asked, asked_of_lease, increment_in, lease_id_in}
+use Rattle.broker_rule.specs.Subject.{Subject, bearer, belongs, is_lease_with, lease_with, owned, subject, with_asked, with_bearer}
 
 text_if : (b : Bool) (id : List ℕ) → b ≡ is_utf8 id → IfSome (cond b (Some id) None) IsUtf8
 text_if true id e = IsUtf8-from_is_utf8 id (sym e)
@@ -59,7 +59,7 @@ IsTextSubject (Err refusal) = Unit {0}
 owned_is_text : (token : Row) (increment : Option ℕ) (found : Option Row) → IfSome found (λ r. IsUtf8 r.credential) → IsTextSubject (owned token increment found)
 owned_is_text token increment None text = tt
 owned_is_text token increment (Some lease) text =
-    elim (belongs lease.parent token.name) as (λ b. IsTextSubject (cond b (Ok (record { row = lease; increment = increment })) (Err Rattle.broker_table.specs.declared.refusal.Refusal.TheVariants.PermissionDenied))) [ true ↦ text | false ↦ tt ]
+    elim (belongs lease.parent token.name) as (λ b. IsTextSubject (cond b (Ok (record { row = lease; increment = increment })) (Err Rattle.broker_rule.specs.declared.refusal.Refusal.TheVariants.PermissionDenied))) [ true ↦ text | false ↦ tt ]
 
 lease_asked_is_text : (rows : List Row) (token : Row) (id : Option (List ℕ)) (increment : Option (Option ℕ)) → IfSome id IsUtf8 → IsTextSubject (with_asked rows token (asked_of_lease id increment))
 lease_asked_is_text rows token None increment text = tt
@@ -103,13 +103,13 @@ subject_names_text rows LookupLease r = of_lookup_lease _ (lookup_lease_is_text 
 granted_names_text : (call : Call) (fault : Option Fault) (t : ℕ) (s : Result Subject Refusal) → SubjectNamesText call s → GrantNamesText call (granted_row fault t s)
 granted_names_text call fault t (Err refusal) text = tt
 granted_names_text call fault t (Ok s) text =
-    elim (s.row.renewable) as (λ b. GrantNamesText call (cond b (Ok (record s.row { end = new_end fault t s.row s.increment })) (Err Rattle.broker_table.specs.declared.refusal.Refusal.TheVariants.NotRenewable))) [ true ↦ text | false ↦ tt ]
+    elim (s.row.renewable) as (λ b. GrantNamesText call (cond b (Ok (record s.row { end = new_end fault t s.row s.increment })) (Err Rattle.broker_rule.specs.declared.refusal.Refusal.TheVariants.NotRenewable))) [ true ↦ text | false ↦ tt ]
 
 -- the same of a row that is renewed
 pub grant_names_text : (rows : List Row) (t : ℕ) (call : Call) (r : Request) (fault : Option Fault) → GrantNamesText call (renewal_by_broker rows t call r fault)
 unfolding renewal_by_broker
 grant_names_text rows t call r fault =
-    elim (is_deny fault) as (λ b. GrantNamesText call (cond b (Err Rattle.broker_table.specs.declared.refusal.Refusal.TheVariants.PermissionDenied) (granted_row fault t (subject rows call r)))) [
+    elim (is_deny fault) as (λ b. GrantNamesText call (cond b (Err Rattle.broker_rule.specs.declared.refusal.Refusal.TheVariants.PermissionDenied) (granted_row fault t (subject rows call r)))) [
       | true ↦ tt
       | false ↦ granted_names_text call fault t (subject rows call r) (subject_names_text rows call r)
     ]

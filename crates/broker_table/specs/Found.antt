@@ -1,14 +1,14 @@
 -- How a row that a request speaks of is named in the code: by its slot.
 use Rattle.std.specs.Prelude.{ℕ, ◌<◌, List, length, Result, Ok, Err, IsUtf8}
-use Rattle.broker_table.specs.declared.row.Row.{Row}
+use Rattle.broker_rule.specs.declared.row.Row.{Row}
 use Rattle.broker_table.specs.declared.slot.Slot.{Slot}
-use Rattle.broker_table.specs.declared.call.Call.{Call}
-use Rattle.broker_table.specs.declared.call.Call.TheVariants.{RenewSelf, RenewLease, LookupSelf, LookupLease}
+use Rattle.broker_rule.specs.declared.call.Call.{Call}
+use Rattle.broker_rule.specs.declared.call.Call.TheVariants.{RenewSelf, RenewLease, LookupSelf, LookupLease}
 use Rattle.broker_table.specs.declared.subject.Found.{Found}
 use Rattle.broker_table.specs.declared.grant.Grant.{Grant}
-use Rattle.broker_table.specs.declared.refusal.Refusal.{Refusal}
+use Rattle.broker_rule.specs.declared.refusal.Refusal.{Refusal}
 use Rattle.broker_table.specs.Slots.{slot_at}
-use Rattle.broker_table.specs.Subject.{Subject}
+use Rattle.broker_rule.specs.Subject.{Subject}
 
 abbrev pub subject_at : List Slot → Result Found Refusal → Result Subject Refusal
 subject_at slots (Ok f) = Ok (record { row = (slot_at slots f.place).row; increment = f.increment })

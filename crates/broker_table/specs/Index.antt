@@ -5,11 +5,11 @@ use Rattle.std.specs.Cmp.Lexicographic.{slice_cmp}
 use Rattle.std.specs.Ordering.{nat_cmp}
 use Rattle.std.specs.declared.alloc.Global.{Global}
 use Rattle.keep_tree.specs.declared.entry.Kind.{Kind}
-use Rattle.broker_table.specs.declared.row.Row.{Row}
+use Rattle.broker_rule.specs.declared.row.Row.{Row}
 use Rattle.broker_table.specs.declared.slot.Slot.{Slot}
 use Rattle.broker_table.specs.declared.index.Index.{Index}
 use Rattle.broker_table.specs.Slots.{slot_at}
-use Rattle.broker_table.specs.Subject.{is_lease_with, is_token_with}
+use Rattle.broker_rule.specs.Subject.{is_lease_with, is_token_with}
 
 -- the place that a map has for a credential
 abbrev pub place_in : BTreeMap (Vec ℕ Global) ℕ → List ℕ → Option ℕ

@@ -6,16 +6,16 @@ use Rattle.keep_tree.specs.Push.{IsForest}
 use Rattle.keep_tree.specs.Renewal.{is_granted}
 use Rattle.keep_inventory.specs.Inventories.{IsInventory, Inventory}
 use Rattle.vault_http.specs.declared.request.Request.{Request}
-use Rattle.broker_table.specs.declared.row.Row.{Row}
-use Rattle.broker_table.specs.declared.refusal.Refusal.{Refusal}
-use Rattle.broker_table.specs.Faults.{fault_at, next_number, without_fault}
-use Rattle.broker_table.specs.Granted.{AsksRenewal, call_for, renewed_row}
-use Rattle.broker_table.specs.Table.{BrokerTable}
-use Rattle.broker_table.specs.Listed.{rows_listed}
-use Rattle.broker_table.specs.Renewing.{with_row}
-use Rattle.broker_table.specs.Rows.{broker_rows}
-use Rattle.broker_table.specs.Step.{broker_step, refuses, tells}
-use Rattle.broker_table.specs.Sweep.{lives, swept}
+use Rattle.broker_rule.specs.declared.row.Row.{Row}
+use Rattle.broker_rule.specs.declared.refusal.Refusal.{Refusal}
+use Rattle.broker_rule.specs.Faults.{fault_at, next_number, without_fault}
+use Rattle.broker_rule.specs.Granted.{AsksRenewal, call_for, renewed_row}
+use Rattle.broker_rule.specs.Table.{BrokerTable}
+use Rattle.broker_rule.specs.Listed.{rows_listed}
+use Rattle.broker_rule.specs.Renewing.{with_row}
+use Rattle.broker_rule.specs.Rows.{broker_rows}
+use Rattle.broker_rule.specs.Step.{broker_step, refuses, tells}
+use Rattle.broker_rule.specs.Sweep.{lives, swept}
 
 -- every row that a sweep has kept lives among those that it has kept: each row over it is listed and ends later, which is
 -- what the renewal rule asks with a margin of one second

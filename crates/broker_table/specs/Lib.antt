@@ -1,16 +1,6 @@
-pub mod Rows
-pub mod Sweep
-pub mod Listed
-pub mod Faults
-pub mod Table
 pub mod Slots
-pub mod Request
-pub mod Subject
 pub mod Index
-pub mod Renewing
-pub mod Step
 pub mod Found
 pub mod Stream
 pub mod MomentLine
-pub mod Granted
 pub mod Laws

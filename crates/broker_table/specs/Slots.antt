@@ -5,10 +5,10 @@ use Rattle.keep_tree.specs.Forest.{entry_at}
 use Rattle.keep_tree.specs.declared.entry.Kind.TheVariants.{Token}
 use Rattle.keep_tree.specs.declared.forest.TheConstants.{MAX_ENTRIES}
 use Rattle.keep_inventory.specs.Inventories.{Inventory}
-use Rattle.broker_table.specs.declared.row.Row.{Row}
+use Rattle.broker_rule.specs.declared.row.Row.{Row}
 use Rattle.broker_table.specs.declared.slot.Slot.{Slot}
-use Rattle.broker_table.specs.Rows.{broker_row}
-use Rattle.broker_table.specs.Sweep.{lives}
+use Rattle.broker_rule.specs.Rows.{broker_row}
+use Rattle.broker_rule.specs.Sweep.{lives}
 
 -- what is read past the last slot
 unfoldable pub no_slot : Slot

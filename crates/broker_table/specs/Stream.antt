@@ -13,14 +13,14 @@ use Rattle.keep_device.specs.Seen.{Change, Receives, ReceivesFront}
 use Rattle.vault_http.specs.Reading.{SettlesRequest}
 use Rattle.vault_http.specs.RoundTrip.{is_sent}
 use Rattle.vault_http.specs.Written.{reply_text}
-use Rattle.broker_table.specs.declared.refusal.Refusal.TheVariants.{BadRequest}
-use Rattle.broker_table.specs.declared.served.Served.{Served}
-use Rattle.broker_table.specs.declared.served.Served.TheVariants as served
+use Rattle.broker_rule.specs.declared.refusal.Refusal.TheVariants.{BadRequest}
+use Rattle.broker_rule.specs.declared.served.Served.{Served}
+use Rattle.broker_rule.specs.declared.served.Served.TheVariants as served
 use Rattle.broker_table.specs.declared.stream.StreamFault.{StreamFault}
 use Rattle.broker_table.specs.declared.stream.StreamFault.TheVariants as streams
 use Rattle.vault_http.specs.declared.known.TheConstants.{MOST_MESSAGE}
-use Rattle.broker_table.specs.Table.{BrokerTable}
-use Rattle.broker_table.specs.Step.{Refuses, SaysAnswer, after_sweep, broker_step}
+use Rattle.broker_rule.specs.Table.{BrokerTable}
+use Rattle.broker_rule.specs.Step.{Refuses, SaysAnswer, after_sweep, broker_step}
 
 -- the bytes that are sent
 abbrev pub bytes_sent_of : Served → List ℕ

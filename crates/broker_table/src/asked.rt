@@ -1,33 +1,14 @@
 ghost use Rattle.std.specs.Prelude.{◌≡◌, IfOk};
 ghost use Rattle.std.specs.Str.{is_utf8};
-ghost use Rattle.broker_table.specs.Request.{increment_in, lease_id_in, asked};
+ghost use Rattle.broker_rule.specs.Request.{increment_in, lease_id_in, asked};
 
-use crate::call::Call;
+use broker_rule::{Asked, Call};
 use keep_moment::{Span, Text};
 use std::alloc::{AllocError, Global};
-use std::fmt;
 use vault_json::{ReplyFault, read_increment, read_lease_id};
 
-/// What the body of a request asks.
-#[derive(Drop)]
-pub struct Asked {
-    /// The id of the lease that it names.
-    pub lease_id: Option<Text>,
-    /// The increment that it asks for, in seconds.
-    pub increment: Option<Span>,
-}
-
-impl fmt::Debug for Asked {
-    /// Shows all but the lease id, which is secret.
-    fn fmt<W: fmt::Write>(&self, f: &mut fmt::Formatter<W>) -> fmt::Result {
-        f.debug_struct("Asked")
-            .field("increment", &self.increment)
-            .finish_non_exhaustive()
-    }
-}
-
 /// What the body of a call asks, `None` where it is not as the call wants it. The only error is out of memory.
-#[tactic(auto, unfolding(crate::specs::Request::asked))]
+#[tactic(auto, unfolding(broker_rule::specs::Request::asked))]
 pub(crate) fn read_asked(
     alloc: Global,
     call: Call,
@@ -70,7 +51,7 @@ pub(crate) fn read_asked(
 }
 
 /// The increment that a body asks for, `None` where it cannot be read.
-#[tactic(auto, unfolding(crate::specs::Request::increment_in))]
+#[tactic(auto, unfolding(broker_rule::specs::Request::increment_in))]
 fn increment_in(alloc: Global, body: &[u8]) -> Result<Option<Option<Span>>, AllocError>
     ensures { IfOk result (λ increment. increment ≡ increment_in body.now) }
 {
@@ -87,7 +68,7 @@ fn increment_in(alloc: Global, body: &[u8]) -> Result<Option<Option<Span>>, Allo
 }
 
 /// The lease id that a body names, `None` where it cannot be read or is no text.
-#[tactic(auto, unfolding(crate::specs::Request::lease_id_in))]
+#[tactic(auto, unfolding(broker_rule::specs::Request::lease_id_in))]
 fn lease_id_in(alloc: Global, body: &[u8]) -> Result<Option<Text>, AllocError>
     ensures { IfOk result (λ id. id ≡ lease_id_in body.now) }
 {

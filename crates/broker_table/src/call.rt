@@ -1,21 +1,12 @@
 ghost use Rattle.std.specs.Prelude.{◌≡◌};
 ghost use Rattle.vault_http.specs.Written.{is_get};
-ghost use Rattle.broker_table.specs.Request.{call_of, is_write, allows, is_renewal};
+ghost use Rattle.broker_rule.specs.Request.{call_of, is_write, allows, is_renewal};
 
+use broker_rule::Call;
 use http::Method;
 
-/// The four calls of Vault's HTTP API that a broker serves (`auth/token`, "Renew a token (self)" and "Lookup a token
-/// (self)"; `sys/leases`, "Renew lease" and "Read lease").
-#[derive(Clone, Copy, Debug, PartialEq, Eq)]
-pub enum Call {
-    RenewSelf,
-    RenewLease,
-    LookupSelf,
-    LookupLease,
-}
-
 /// The call of a path, `None` where there is none.
-#[tactic(auto, unfolding(crate::specs::Request::call_of))]
+#[tactic(auto, unfolding(broker_rule::specs::Request::call_of))]
 pub(crate) fn call_of(path: &[u8]) -> Option<Call>
     ensures { result ≡ call_of path.now }
 {
@@ -34,25 +25,23 @@ pub(crate) fn call_of(path: &[u8]) -> Option<Call>
     None
 }
 
-impl Call {
-    /// Whether the method is listed for the call: GET for a token's lookup, POST and PUT for the others.
-    pub(crate) fn allows(self, method: &Method) -> bool
-        ensures { result ≡ allows self method.now }
-    {
-        match self {
-            Call::LookupSelf => is_get(method),
-            Call::RenewSelf | Call::RenewLease | Call::LookupLease => is_write(method),
-        }
+/// Whether the method is listed for the call: GET for a token's lookup, POST and PUT for the others.
+pub(crate) fn allows(call: Call, method: &Method) -> bool
+    ensures { result ≡ allows call method.now }
+{
+    match call {
+        Call::LookupSelf => is_get(method),
+        Call::RenewSelf | Call::RenewLease | Call::LookupLease => is_write(method),
     }
+}
 
-    /// Whether the call asks for a renewal.
-    pub(crate) fn is_renewal(self) -> bool
-        ensures { result ≡ is_renewal self }
-    {
-        match self {
-            Call::RenewSelf | Call::RenewLease => true,
-            Call::LookupSelf | Call::LookupLease => false,
-        }
+/// Whether the call asks for a renewal.
+pub(crate) fn is_renewal(call: Call) -> bool
+    ensures { result ≡ is_renewal call }
+{
+    match call {
+        Call::RenewSelf | Call::RenewLease => true,
+        Call::LookupSelf | Call::LookupLease => false,
     }
 }
 
@@ -62,7 +51,7 @@ fn is_get(method: &Method) -> bool
     method.as_str().as_bytes() == b"GET".as_slice()
 }
 
-#[tactic(auto, unfolding(crate::specs::Request::is_write))]
+#[tactic(auto, unfolding(broker_rule::specs::Request::is_write))]
 fn is_write(method: &Method) -> bool
     ensures { result ≡ is_write method.now }
 {

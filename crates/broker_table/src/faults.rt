@@ -1,7 +1,7 @@
 ghost use Rattle.std.specs.Prelude.{◌≡◌, ◌++◌, ◌∷◌, [], None, Err, IfSome, IsOkUnless, OnErr, OnOk};
-ghost use Rattle.broker_table.specs.Faults.{fault_at, fault_refusal, next_number, without_fault};
+ghost use Rattle.broker_rule.specs.Faults.{fault_at, fault_refusal, next_number, without_fault};
 
-use crate::fault::{Fault, NumberedFault, SetFault};
+use broker_rule::{Fault, NumberedFault, SetFault};
 use std::alloc::Global;
 use std::collections::BTreeMap;
 use std::marker::Model;
@@ -22,7 +22,7 @@ impl Model for Faults {
     ghost use Rattle.std.specs.Prelude.{◌≡◌, ℕ};
     ghost use Rattle.std.specs.BTreeMap.{get};
     ghost use Rattle.std.specs.Ordering.{nat_cmp};
-    ghost use Rattle.broker_table.specs.Faults.{Faults, fault_at, pending};
+    ghost use Rattle.broker_rule.specs.Faults.{Faults, fault_at, pending};
 
     ghost Value = { Faults };
 
@@ -60,7 +60,7 @@ impl Faults {
     }
 
     /// Why a fault is not taken: the first refusal that applies, `None` where none does.
-    #[tactic(auto, unfolding(crate::specs::Faults::fault_refusal))]
+    #[tactic(auto, unfolding(broker_rule::specs::Faults::fault_refusal))]
     fn refusal(&self, number: u64) -> Option<SetFault>
         ensures { result ≡ fault_refusal self.now.faults self.now.count number }
     {
@@ -101,7 +101,7 @@ impl Faults {
 }
 
 /// The number of the request that comes after so many. It stays at the greatest `u64`.
-#[tactic(auto, unfolding(crate::specs::Faults::next_number))]
+#[tactic(auto, unfolding(broker_rule::specs::Faults::next_number))]
 fn next_number(count: u64) -> u64
     ensures { result ≡ next_number count }
 {

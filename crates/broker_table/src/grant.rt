@@ -1,15 +1,12 @@
 ghost use Rattle.std.specs.Prelude.{◌≡◌, ◌<◌, IfOk};
 ghost use Rattle.broker_table.specs.Found.{subject_at, row_granted, IsFoundWithin, IsGrantWithin};
-ghost use Rattle.broker_table.specs.Renewing.{asked_or, granted_row, is_deny, new_end, renewal_by_broker, shortened, step_of_row};
+ghost use Rattle.broker_rule.specs.Renewing.{asked_or, granted_row, is_deny, new_end, renewal_by_broker, shortened, step_of_row};
 ghost use Rattle.broker_table.specs.Slots.{listed_rows};
 
-use crate::call::Call;
-use crate::fault::Fault;
-use crate::refusal::Refusal;
-use crate::row::Row;
 use crate::slot::slot_in;
 use crate::slots::Slots;
 use crate::subject::{Found, subject};
+use broker_rule::{Call, Fault, Refusal, Row};
 use keep_moment::{Moment, Span};
 use keep_tree::capped;
 use std::alloc::{AllocError, Global};
@@ -23,7 +20,7 @@ pub struct Grant {
 }
 
 /// What a renewal request with that fault comes to. The only error is out of memory.
-#[tactic(auto, unfolding(crate::specs::Renewing::renewal_by_broker))]
+#[tactic(auto, unfolding(broker_rule::specs::Renewing::renewal_by_broker))]
 pub(crate) fn renewal(
     alloc: Global,
     slots: &Slots,
@@ -79,7 +76,7 @@ fn granted(
 }
 
 /// The end that a renewal at `t` gives a row: no later than its ceiling, and no later than its fault says.
-#[tactic(auto, unfolding(crate::specs::Renewing::new_end, crate::specs::Renewing::step_of_row))]
+#[tactic(auto, unfolding(broker_rule::specs::Renewing::new_end, broker_rule::specs::Renewing::step_of_row))]
 fn new_end(fault: Option<Fault>, t: Moment, row: &Row, increment: Option<Span>) -> u64
     ensures { result ≡ new_end fault t row.now increment }
 {
@@ -88,7 +85,7 @@ fn new_end(fault: Option<Fault>, t: Moment, row: &Row, increment: Option<Span>) 
 }
 
 /// How long after the renewal the row is to end: its period where it is not 0, else what is asked, else its own step.
-#[tactic(auto, unfolding(crate::specs::Renewing::step_of_row))]
+#[tactic(auto, unfolding(broker_rule::specs::Renewing::step_of_row))]
 fn step_of(row: &Row, increment: Option<Span>) -> Span
     ensures { result ≡ step_of_row row.now increment }
 {

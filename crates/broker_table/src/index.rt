@@ -2,8 +2,8 @@ ghost use Rattle.std.specs.Prelude.{◌≡◌, ℕ, List, Some, IfOk, OnOk, byte
 ghost use Rattle.broker_table.specs.Index.{AreUnlike, EntersRow, IsIndexOfNone, IsIndexed, place_in};
 ghost use Rattle.broker_table.specs.Slots.{AreSlots};
 
-use crate::row::Row;
 use crate::slot::{Slot, slot_in};
+use broker_rule::Row;
 use keep_tree::Kind;
 use std::alloc::{AllocError, Global};
 use std::collections::BTreeMap;

@@ -1,22 +1,21 @@
 ghost use Rattle.std.specs.Prelude.{◌≡◌, IfOk, OnOk, OnErr, Ok};
 ghost use Rattle.broker_table.specs.Found.{row_granted, IsGrantWithin, GrantNamesText};
-ghost use Rattle.broker_table.specs.Renewing.{rows_after};
-ghost use Rattle.broker_table.specs.Request.{call_of};
+ghost use Rattle.broker_rule.specs.Renewing.{rows_after};
+ghost use Rattle.broker_rule.specs.Request.{call_of};
 ghost use Rattle.broker_table.specs.Slots.{listed_rows};
-ghost use Rattle.broker_table.specs.Step.{Refuses, SaysAnswer, by_call, is_drop, lookup_answer, renewal_answer, renewal_outcome};
-ghost use Rattle.broker_table.specs.Subject.{subject};
-ghost use Rattle.broker_table.specs.declared.served.Served.TheVariants as served;
+ghost use Rattle.broker_rule.specs.Step.{Refuses, SaysAnswer, by_call, is_drop, lookup_answer, renewal_answer, renewal_outcome};
+ghost use Rattle.broker_rule.specs.Subject.{subject};
+ghost use Rattle.broker_rule.specs.declared.served.Served.TheVariants as served;
 
 use crate::body::body_of;
-use crate::call::{Call, call_of};
-use crate::fault::Fault;
+use crate::call::{allows, call_of, is_renewal};
 use crate::grant::{Grant, renewal};
-use crate::refusal::Refusal;
-use crate::served::Served;
+use crate::refusal::{status_of, text_of};
 use crate::slot::slot_in;
 use crate::slots::Slots;
 use crate::subject::subject;
 use crate::table::Table;
+use broker_rule::{Call, Fault, Refusal, Served};
 use keep_moment::{Moment, Text};
 use std::alloc::{AllocError, Global};
 use vault_http::{Reply, Request};
@@ -33,10 +32,10 @@ impl Table {
         let Some(call) = call_of(request.path.list()) else {
             return refuse(alloc, Refusal::UnsupportedPath);
         };
-        if !call.allows(&request.method) {
+        if !allows(call, &request.method) {
             return refuse(alloc, Refusal::UnsupportedMethod);
         }
-        if call.is_renewal() {
+        if is_renewal(call) {
             self.renew(t, call, request)
         } else {
             look_up(alloc, &self.slots, t, call, request)
@@ -44,7 +43,7 @@ impl Table {
     }
 
     /// Serves a renewal request: it is counted, and its fault is used.
-    #[tactic(auto, unfolding(crate::specs::Step::renewal_outcome))]
+    #[tactic(auto, unfolding(broker_rule::specs::Step::renewal_outcome))]
     fn renew(&mut self, t: Moment, call: Call, request: &Request) -> Result<Served, AllocError>
         ensures says { IfOk result (λ served. SaysAnswer t (renewal_outcome self.old t call request.now).answer served) }
         ensures table { OnOk result (self.new ≡ (renewal_outcome self.old t call request.now).table) }
@@ -66,8 +65,8 @@ pub(crate) fn refuse(alloc: Global, refusal: Refusal) -> Result<Served, AllocErr
     ensures { IfOk result (λ served. Refuses refusal served) }
 {
     Ok(Served::Reply(Reply {
-        status: refusal.status(),
-        body: errors(alloc, refusal.text())?,
+        status: status_of(refusal),
+        body: errors(alloc, text_of(refusal))?,
     }))
 }
 

@@ -2,13 +2,13 @@ ghost use Rattle.std.specs.Prelude.{◌≡◌, ◌<◌, true, false, IfOk, IfSom
 ghost use Rattle.std.specs.List.{position};
 ghost use Rattle.keep_tree.specs.Forest.{entry_at};
 ghost use Rattle.keep_tree.specs.Push.{lacks_parent};
-ghost use Rattle.broker_table.specs.Rows.{broker_row, row_named};
-ghost use Rattle.broker_table.specs.Renewing.{with_row};
-ghost use Rattle.broker_table.specs.Sweep.{swept};
+ghost use Rattle.broker_rule.specs.Rows.{broker_row, row_named};
+ghost use Rattle.broker_rule.specs.Renewing.{with_row};
+ghost use Rattle.broker_rule.specs.Sweep.{swept};
 ghost use Rattle.broker_table.specs.Slots.{AreKept, AreSlots, EndFrom, end_in_slot, listed_rows, slot_of, slots_of, slot_at, is_listed, stands, swept_slots};
 ghost use Rattle.broker_table.specs.Index.{AreUnlike, credentials_of, if_listed};
 
-use crate::row::Row;
+use broker_rule::Row;
 use keep_inventory::Inventory;
 use keep_moment::{Moment, Name};
 use std::alloc::{AllocError, Global};
@@ -37,7 +37,7 @@ pub(crate) fn slots_of(alloc: Global, inventory: &Inventory) -> Result<Vec<Slot>
 }
 
 /// The slot of an entry.
-#[tactic(auto, unfolding(crate::specs::Rows::broker_row, crate::specs::Slots::slot_of))]
+#[tactic(auto, unfolding(broker_rule::specs::Rows::broker_row, crate::specs::Slots::slot_of))]
 fn slot_of(alloc: Global, inventory: &Inventory, index: u32) -> Result<Slot, AllocError>
     requires { index < length inventory.now.forest.entries }
     ensures { IfOk result (λ slot. slot ≡ slot_of inventory.now index) }

@@ -1,8 +1,8 @@
 ghost use Rattle.std.specs.Prelude.{◌≡◌, ◌<◌, true, IfOk, IfSome, length, option_map};
-ghost use Rattle.broker_table.specs.Renewing.{with_row};
+ghost use Rattle.broker_rule.specs.Renewing.{with_row};
 ghost use Rattle.broker_table.specs.Slots.{listed_rows, slot_at, slots_of};
-ghost use Rattle.broker_table.specs.Subject.{lease_with, token_with};
-ghost use Rattle.broker_table.specs.Sweep.{swept};
+ghost use Rattle.broker_rule.specs.Subject.{lease_with, token_with};
+ghost use Rattle.broker_rule.specs.Sweep.{swept};
 
 use crate::index::{Index, index_of};
 use crate::slot::{Slot, if_listed, set_end, slots_of, sweep};

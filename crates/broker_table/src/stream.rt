@@ -4,7 +4,7 @@ ghost use Rattle.keep_device.specs.Front.{AppendsFront};
 ghost use Rattle.broker_table.specs.Stream.{CountsSending, IsFlushed, MaySend, bytes_sent_of, stream_fault};
 ghost use Rattle.broker_table.specs.declared.stream.StreamFault.TheVariants as streams;
 
-use crate::served::{ServeFault, Served};
+use broker_rule::{ServeFault, Served};
 use std::alloc::{AllocError, Global};
 use thiserror::Error;
 use vault_http::{SendFault, Sink, write_reply};

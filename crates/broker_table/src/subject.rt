@@ -1,13 +1,12 @@
 ghost use Rattle.std.specs.Prelude.{◌≡◌, ◌<◌, true, IfOk, IfSome, length, option_map};
 ghost use Rattle.broker_table.specs.Found.{subject_at, IsFoundWithin};
 ghost use Rattle.broker_table.specs.Slots.{listed_rows, slot_at};
-ghost use Rattle.broker_table.specs.Subject.{bearer, belongs, named_subject, subject};
+ghost use Rattle.broker_rule.specs.Subject.{bearer, belongs, named_subject, subject};
 
-use crate::asked::{Asked, read_asked};
-use crate::call::Call;
-use crate::refusal::Refusal;
+use crate::asked::read_asked;
 use crate::slot::slot_in;
 use crate::slots::Slots;
+use broker_rule::{Asked, Call, Refusal};
 use keep_moment::{Name, Span, Text};
 use std::alloc::{AllocError, Global};
 use vault_http::Request;
@@ -20,7 +19,7 @@ pub struct Found {
 }
 
 /// Of which row a request speaks, or why it is refused. The only error is out of memory.
-#[tactic(auto, unfolding(crate::specs::Subject::subject))]
+#[tactic(auto, unfolding(broker_rule::specs::Subject::subject))]
 pub(crate) fn subject(
     alloc: Global,
     slots: &Slots,

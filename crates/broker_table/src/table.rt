@@ -3,20 +3,18 @@ ghost use Rattle.vault_http.specs.declared.known.TheConstants.{MOST_MESSAGE};
 ghost use Rattle.vault_http.specs.Reading.{CountsMessage, HandedNoRequest, SettlesRequest};
 ghost use Rattle.keep_device.specs.declared.limits.TheConstants.{MOST_READS};
 ghost use Rattle.keep_device.specs.Whole.{MakesAtMost};
-ghost use Rattle.broker_table.specs.Rows.{broker_rows, row_named};
-ghost use Rattle.broker_table.specs.Sweep.{swept};
-ghost use Rattle.broker_table.specs.Faults.{fault_refusal};
-ghost use Rattle.broker_table.specs.Step.{SaysAnswer, after_sweep, broker_step};
+ghost use Rattle.broker_rule.specs.Rows.{broker_rows, row_named};
+ghost use Rattle.broker_rule.specs.Sweep.{swept};
+ghost use Rattle.broker_rule.specs.Faults.{fault_refusal};
+ghost use Rattle.broker_rule.specs.Step.{SaysAnswer, after_sweep, broker_step};
 ghost use Rattle.broker_table.specs.Stream.{CountsStream, FaultLeaves, Handles, IsStreamed, StreamFails};
 
-use crate::fault::{Fault, SetFault};
 use crate::faults::Faults;
-use crate::refusal::Refusal;
 use crate::serve::refuse;
-use crate::served::{ServeFault, Served};
 use crate::slot::{end_named, place_named};
 use crate::slots::Slots;
 use crate::stream::{StreamFault, send};
+use broker_rule::{Fault, Refusal, ServeFault, Served, SetFault};
 use keep_device::Watched;
 use keep_inventory::Inventory;
 use keep_moment::Moment;
@@ -36,7 +34,7 @@ pub struct Table {
 }
 
 impl Model for Table {
-    ghost use Rattle.broker_table.specs.Table.{BrokerTable};
+    ghost use Rattle.broker_rule.specs.Table.{BrokerTable};
     ghost use Rattle.broker_table.specs.Slots.{listed_rows};
 
     ghost Value = { BrokerTable };
@@ -93,7 +91,7 @@ impl Table {
     /// counted, and its fault is used.
     ///
     /// `OutOfMemory`, the only error: the table is as after `sweep`, and the request is not counted.
-    #[tactic(auto, unfolding(crate::specs::Step::broker_step))]
+    #[tactic(auto, unfolding(broker_rule::specs::Step::broker_step))]
     pub fn serve(&mut self, t: Moment, request: &Request) -> Result<Served, ServeFault>
         ensures says { IfOk result (λ served. SaysAnswer t (broker_step self.old t request.now).answer served) }
         ensures after { OnOk result (self.new ≡ (broker_step self.old t request.now).table) }

@@ -1,11 +1,12 @@
 //! Plays over files of credentials: a table says step by step what becomes of a file and what is looked at, and what is to come of it.
 use crate::drawers::Drawer;
+use broker_lanes::MemoryLanes;
 use broker_table::Table;
 use keep_clock::Reading;
 use keep_disk::{Failing, MemoryDisk, Why};
 use keep_house::{Demands, Keeping, Ledger};
 use keep_inventory::{Inventory, read};
-use keep_lanes::{LaneFault, MemoryLanes};
+use keep_lanes::LaneFault;
 use keep_proving::Proving;
 use keep_secrets::{FileStamp, LOOK_EVERY, Looked, Looking, SecretWord};
 use keep_state::{Paths, State};

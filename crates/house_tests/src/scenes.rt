@@ -3,6 +3,7 @@ ghost use Rattle.std.specs.Prelude.{◌≡◌, [], IfOk};
 
 use crate::notebooks::{Notebook, notebook_over};
 use answering_tests::peers::{Part, Peer, PeerDoor, Seen, control_with, onlookers_with};
+use broker_lanes::MemoryLanes;
 use broker_table::Table;
 use keep_answering::{Control, Onlookers};
 use keep_clock::{MemoryClock, Reading};
@@ -10,7 +11,6 @@ use keep_disk::{Failing, MemoryDisk, Why};
 use keep_ends::EndsFile;
 use keep_house::{Desk, House};
 use keep_inventory::Inventory;
-use keep_lanes::MemoryLanes;
 use keep_log::{Answer, Form, MemorySink};
 use keep_moment::Text;
 use keep_onlook::FileReading;

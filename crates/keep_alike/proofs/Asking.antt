@@ -12,9 +12,9 @@ use Rattle.keep_inventory.proofs.Inventories.{credential_text}
 use Rattle.vault_json.specs.Request.{increment_answer}
 use Rattle.vault_json.specs.Written.{lease_text, renew_text}
 use Rattle.vault_json.proofs.ReadBack.{lease_body_is_read, renew_body_is_read}
-use Rattle.broker_table.specs.declared.call.Call.TheVariants.{RenewSelf, RenewLease}
-use Rattle.broker_table.specs.Granted.{AsksRenewal, asked_for, bearer_for, call_for}
-use Rattle.broker_table.specs.Request.{a_text, asked, asked_of_lease as lease_asked, asked_of_token as token_asked, call_of, increment_in, is_write, lease_id_in, read_or_none}
+use Rattle.broker_rule.specs.declared.call.Call.TheVariants.{RenewSelf, RenewLease}
+use Rattle.broker_rule.specs.Granted.{AsksRenewal, asked_for, bearer_for, call_for}
+use Rattle.broker_rule.specs.Request.{a_text, asked, asked_of_lease as lease_asked, asked_of_token as token_asked, call_of, increment_in, is_write, lease_id_in, read_or_none}
 use Rattle.keep_exchange.specs.Requests.{asked_as, renewal_request}
 
 renew_asked : (n : ℕ) → n ≤ 4294967295 → asked RenewSelf (renew_text n) ≡ Some (record { lease_id = None; increment = Some n })

@@ -15,9 +15,9 @@ use Rattle.keep_tree.specs.declared.entry.Kind.{Kind}
 use Rattle.keep_tree.specs.declared.entry.Kind.TheVariants.{Token, Lease}
 use Rattle.keep_tree.specs.Forest.{Forest, entry_at}
 use Rattle.keep_tree.proofs.Entries.{entry_at_set_other, entry_at_set_same}
-use Rattle.broker_table.specs.Granted.{call_for}
-use Rattle.broker_table.specs.Step.{broker_step}
-use Rattle.broker_table.specs.Table.{BrokerTable}
+use Rattle.broker_rule.specs.Granted.{call_for}
+use Rattle.broker_rule.specs.Step.{broker_step}
+use Rattle.broker_rule.specs.Table.{BrokerTable}
 use Rattle.vault_http.specs.declared.request.Request.{Request}
 
 -- ---- what is kept

@@ -13,16 +13,16 @@ use Rattle.keep_inventory.proofs.Inventories.{credential_text}
 use Rattle.vault_http.specs.declared.request.Request.{Request}
 use Rattle.vault_json.specs.Written.{lookup_text, renew_text}
 use Rattle.vault_json.proofs.ReadBack.{lookup_body_is_read}
-use Rattle.broker_table.specs.declared.row.Row.{Row}
-use Rattle.broker_table.specs.declared.call.Call.{Call}
-use Rattle.broker_table.specs.declared.call.Call.TheVariants.{RenewSelf, LookupSelf, LookupLease}
-use Rattle.broker_table.specs.declared.refusal.Refusal.{Refusal}
-use Rattle.broker_table.specs.declared.refusal.Refusal.TheVariants.{BadRequest, PermissionDenied}
-use Rattle.broker_table.specs.Granted.{call_for}
-use Rattle.broker_table.specs.Request.{read_or_none, asked, call_of, increment_in, is_write, lease_id_in, asked_of_lease, asked_of_token, a_text}
-use Rattle.broker_table.specs.Step.{after_sweep, broker_step, lookup_answer, renewal_outcome}
-use Rattle.broker_table.specs.Subject.{Subject, bearer, is_token_with, subject, token_with, with_bearer, with_asked}
-use Rattle.broker_table.specs.Table.{BrokerTable}
+use Rattle.broker_rule.specs.declared.row.Row.{Row}
+use Rattle.broker_rule.specs.declared.call.Call.{Call}
+use Rattle.broker_rule.specs.declared.call.Call.TheVariants.{RenewSelf, LookupSelf, LookupLease}
+use Rattle.broker_rule.specs.declared.refusal.Refusal.{Refusal}
+use Rattle.broker_rule.specs.declared.refusal.Refusal.TheVariants.{BadRequest, PermissionDenied}
+use Rattle.broker_rule.specs.Granted.{call_for}
+use Rattle.broker_rule.specs.Request.{read_or_none, asked, call_of, increment_in, is_write, lease_id_in, asked_of_lease, asked_of_token, a_text}
+use Rattle.broker_rule.specs.Step.{after_sweep, broker_step, lookup_answer, renewal_outcome}
+use Rattle.broker_rule.specs.Subject.{Subject, bearer, is_token_with, subject, token_with, with_bearer, with_asked}
+use Rattle.broker_rule.specs.Table.{BrokerTable}
 use Rattle.keep_exchange.specs.Requests.{lease_looked, looked_as, lookup_of, token_looked, token_renewal}
 use Rattle.keep_alike.specs.Alike.{AreRowsAlike, AreTablesAlike}
 use Rattle.keep_alike.proofs.Rows.{BothFound, lease_found_both, token_found_both}

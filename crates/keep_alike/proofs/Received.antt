@@ -16,10 +16,10 @@ use Rattle.keep_moment.specs.Rfc3339.{face}
 use Rattle.keep_tree.specs.declared.entry.Kind.TheVariants.{Lease}
 use Rattle.keep_tree.specs.Forest.{entry_at}
 use Rattle.keep_tree.specs.Push.{is_lease}
-use Rattle.broker_table.specs.declared.call.Call.TheVariants.{LookupLease}
-use Rattle.broker_table.specs.declared.row.Row.{Row}
-use Rattle.broker_table.specs.declared.served.Served.TheVariants as served
-use Rattle.broker_table.specs.Step.{IsReplyBody, TellsRow, seconds_to}
+use Rattle.broker_rule.specs.declared.call.Call.TheVariants.{LookupLease}
+use Rattle.broker_rule.specs.declared.row.Row.{Row}
+use Rattle.broker_rule.specs.declared.served.Served.TheVariants as served
+use Rattle.broker_rule.specs.Step.{IsReplyBody, TellsRow, seconds_to}
 use Rattle.vault_http.specs.declared.http_fault.HttpFault.TheVariants as https
 use Rattle.vault_http.specs.declared.known.TheConstants.{MOST_MESSAGE}
 use Rattle.vault_http.specs.declared.reply.Reply.{Reply}

@@ -10,11 +10,11 @@ use Rattle.keep_tree.specs.declared.forest.TheConstants.{MAX_ENTRIES}
 use Rattle.keep_tree.specs.Forest.{Forest, entry_at}
 use Rattle.keep_tree.specs.Push.{is_lease}
 use Rattle.keep_inventory.specs.Inventories.{credential_at}
-use Rattle.broker_table.specs.declared.row.Row.{Row}
-use Rattle.broker_table.specs.Renewing.{with_row}
-use Rattle.broker_table.specs.Rows.{row_named}
-use Rattle.broker_table.specs.Subject.{is_lease_with, is_token_with, lease_with, token_with}
-use Rattle.broker_table.specs.Sweep.{lives, lives_of, parent_passes, passes, swept}
+use Rattle.broker_rule.specs.declared.row.Row.{Row}
+use Rattle.broker_rule.specs.Renewing.{with_row}
+use Rattle.broker_rule.specs.Rows.{row_named}
+use Rattle.broker_rule.specs.Subject.{is_lease_with, is_token_with, lease_with, token_with}
+use Rattle.broker_rule.specs.Sweep.{lives, lives_of, parent_passes, passes, swept}
 use Rattle.keep_alike.specs.Alike.{AreRowsAlike}
 
 -- ---- two lists, row by row

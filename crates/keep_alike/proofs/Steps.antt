@@ -14,19 +14,19 @@ use Rattle.keep_tree.proofs.Chains.{cases_Option}
 use Rattle.keep_inventory.specs.Inventories.{IsInventory, Inventory, credential_at}
 use Rattle.keep_inventory.specs.declared.terms.Terms.{Terms}
 use Rattle.vault_http.specs.declared.request.Request.{Request}
-use Rattle.broker_table.specs.declared.row.Row.{Row}
-use Rattle.broker_table.specs.declared.call.Call.{Call}
-use Rattle.broker_table.specs.declared.call.Call.TheVariants.{RenewSelf, RenewLease}
-use Rattle.broker_table.specs.declared.fault.Fault.{Fault}
-use Rattle.broker_table.specs.declared.refusal.Refusal.{Refusal}
-use Rattle.broker_table.specs.declared.refusal.Refusal.TheVariants.{NotRenewable, PermissionDenied, UnsupportedMethod}
-use Rattle.broker_table.specs.Faults.{fault_at, next_number, without_fault}
-use Rattle.broker_table.specs.Granted.{AsksRenewal, asked_for, bearer_for, call_for}
-use Rattle.broker_table.specs.Table.{BrokerTable}
-use Rattle.broker_table.specs.Renewing.{granted_row, is_deny, new_end, renewal_by_broker, step_of_row}
-use Rattle.broker_table.specs.Request.{asked, is_write}
-use Rattle.broker_table.specs.Step.{after_sweep, broker_step, by_call, counted_renewal, drops, is_drop, refuses, renewal_outcome, tells}
-use Rattle.broker_table.specs.Subject.{Subject, bearer, belongs, is_lease_with, is_token_with, lease_with, owned, subject, token_with, with_asked, with_bearer}
+use Rattle.broker_rule.specs.declared.row.Row.{Row}
+use Rattle.broker_rule.specs.declared.call.Call.{Call}
+use Rattle.broker_rule.specs.declared.call.Call.TheVariants.{RenewSelf, RenewLease}
+use Rattle.broker_rule.specs.declared.fault.Fault.{Fault}
+use Rattle.broker_rule.specs.declared.refusal.Refusal.{Refusal}
+use Rattle.broker_rule.specs.declared.refusal.Refusal.TheVariants.{NotRenewable, PermissionDenied, UnsupportedMethod}
+use Rattle.broker_rule.specs.Faults.{fault_at, next_number, without_fault}
+use Rattle.broker_rule.specs.Granted.{AsksRenewal, asked_for, bearer_for, call_for}
+use Rattle.broker_rule.specs.Table.{BrokerTable}
+use Rattle.broker_rule.specs.Renewing.{granted_row, is_deny, new_end, renewal_by_broker, step_of_row}
+use Rattle.broker_rule.specs.Request.{asked, is_write}
+use Rattle.broker_rule.specs.Step.{after_sweep, broker_step, by_call, counted_renewal, drops, is_drop, refuses, renewal_outcome, tells}
+use Rattle.broker_rule.specs.Subject.{Subject, bearer, belongs, is_lease_with, is_token_with, lease_with, owned, subject, token_with, with_asked, with_bearer}
 use Rattle.keep_exchange.specs.Requests.{renewal_request}
 use Rattle.keep_alike.specs.Alike.{AreRowsAlike, AreTablesAlike}
 use Rattle.keep_alike.specs.Answers.{AnswersOf, OutcomesOf, RowsOf}

@@ -8,8 +8,8 @@ use Rattle.keep_tree.specs.declared.entry.Kind.TheVariants.{Lease}
 use Rattle.keep_tree.specs.Forest.{Forest, entry_at}
 use Rattle.keep_inventory.specs.Inventories.{credential_at}
 use Rattle.keep_moment.specs.declared.moment.TheConstants.{LAST}
-use Rattle.broker_table.specs.declared.row.Row.{Row}
-use Rattle.broker_table.specs.Table.{BrokerTable}
+use Rattle.broker_rule.specs.declared.row.Row.{Row}
+use Rattle.broker_rule.specs.Table.{BrokerTable}
 
 -- what a forest keeps of the one that was supplied, whatever lookups and renewals tell: as many entries, each of its kind, and
 -- of a lease its token and its step

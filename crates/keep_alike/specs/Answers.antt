@@ -6,10 +6,10 @@ use Rattle.keep_moment.specs.declared.moment.TheConstants.{LAST}
 use Rattle.keep_tree.specs.declared.entry.Kind.{Kind}
 use Rattle.keep_tree.specs.declared.entry.Kind.TheVariants.{Token, Lease}
 use Rattle.keep_tree.specs.Forest.{Forest}
-use Rattle.broker_table.specs.declared.call.Call.{Call}
-use Rattle.broker_table.specs.declared.call.Call.TheVariants.{LookupSelf, LookupLease}
-use Rattle.broker_table.specs.declared.row.Row.{Row}
-use Rattle.broker_table.specs.Step.{BrokerAnswer, BrokerOutcome, drops, refuses, tells}
+use Rattle.broker_rule.specs.declared.call.Call.{Call}
+use Rattle.broker_rule.specs.declared.call.Call.TheVariants.{LookupSelf, LookupLease}
+use Rattle.broker_rule.specs.declared.row.Row.{Row}
+use Rattle.broker_rule.specs.Step.{BrokerAnswer, BrokerOutcome, drops, refuses, tells}
 use Rattle.keep_alike.specs.Alike.{AreRowsAlike, AreTablesAlike}
 
 -- the call that looks an entry of that kind up

@@ -5,9 +5,9 @@ use Rattle.keep_exchange.specs.Requests.{lookup_of, renewal_request}
 use Rattle.keep_inventory.specs.Inventories.{IsInventory, Inventory}
 use Rattle.keep_inventory.specs.declared.terms.Terms.{Terms}
 use Rattle.keep_tree.specs.Forest.{Forest, entry_at}
-use Rattle.broker_table.specs.Granted.{call_for}
-use Rattle.broker_table.specs.Step.{broker_step}
-use Rattle.broker_table.specs.Table.{BrokerTable}
+use Rattle.broker_rule.specs.Granted.{call_for}
+use Rattle.broker_rule.specs.Step.{broker_step}
+use Rattle.broker_rule.specs.Table.{BrokerTable}
 use Rattle.vault_http.specs.declared.request.Request.{Request}
 use Rattle.keep_alike.specs.Alike.{AreDated, AreTablesAlike, KeepsSupplied}
 use Rattle.keep_alike.specs.Answers.{OutcomesOf, Speaks, look_for}

@@ -15,7 +15,7 @@ use Rattle.keep_inventory.specs.Inventories.{IsInventory, Inventory}
 use Rattle.keep_served.specs.ForGood.{marks}
 use Rattle.keep_start.specs.Start.{from_start, inventory_at}
 use Rattle.keep_start.proofs.Started.{known_at, secrecy_law, start_law}
-use Rattle.broker_table.specs.declared.fault.NumberedFault.{NumberedFault}
+use Rattle.broker_rule.specs.declared.fault.NumberedFault.{NumberedFault}
 use Rattle.keep_exchange.specs.Exchanges.{Behind}
 use Rattle.keep_report.specs.declared.exit.Exit.{Exit}
 use Rattle.keep_report.specs.declared.exit.Exit.TheVariants as exits

@@ -29,12 +29,11 @@ mod reach_text;
 mod rehearse;
 mod renewed;
 
+pub use broker_memory::MemoryExchange;
 pub use check::run_check;
 pub use command::{Command, obey};
 pub use ends::run_ends;
-pub use keep_exchange::{
-    Exchange, ExchangeFault, MemoryExchange, SelfServed, TcpExchange, UnixExchange,
-};
+pub use keep_exchange::{Exchange, ExchangeFault, TcpExchange, UnixExchange};
 pub use keep_plan::LIMIT;
 pub use keep_report::{Exit, PROGRAM, Stop, tell};
 pub use keep_run::{MOST_WAKES, Script, run_live, run_rehearse};

@@ -3,9 +3,9 @@ ghost use Rattle.std.specs.Result.{IfErr};
 ghost use Rattle.keep_report.specs.declared.stop.Stop.TheVariants as stops;
 ghost use Rattle.keep_engine.specs.RehearseFrom.{Rehearses};
 
+use broker_memory::MemoryExchange;
 use broker_table::Table;
 use keep_device::{Sink, Watched};
-use keep_exchange::MemoryExchange;
 use keep_inventory::read;
 use keep_moment::{Moment, Text};
 use keep_report::{Exit, PROGRAM, Stop};

@@ -6,20 +6,20 @@ use Rattle.keep_tree.specs.Push.{is_lease}
 use Rattle.keep_tree.proofs.Carrying.{and_right}
 use Rattle.keep_exchange.specs.Requests.{ReplyFits, lease_renewal, token_renewal}
 use Rattle.keep_exchange.proofs.Lengths.{errors_short, ok_short, refusal_short, refused_short, renewed_lease_short, renewed_self_short, reply_short, status_short}
-use Rattle.broker_table.specs.declared.call.Call.{Call}
-use Rattle.broker_table.specs.declared.call.Call.TheVariants.{RenewSelf, RenewLease, LookupSelf, LookupLease}
-use Rattle.broker_table.specs.declared.fault.Fault.{Fault}
-use Rattle.broker_table.specs.declared.refusal.Refusal.{Refusal}
-use Rattle.broker_table.specs.declared.refusal.Refusal.TheVariants.{NotRenewable, PermissionDenied}
-use Rattle.broker_table.specs.declared.row.Row.{Row}
-use Rattle.broker_table.specs.declared.served.Served.{Served}
-use Rattle.broker_table.specs.declared.served.Served.TheVariants as served
-use Rattle.broker_table.specs.Table.{BrokerTable}
-use Rattle.broker_table.specs.Faults.{fault_at, next_number}
-use Rattle.broker_table.specs.Renewing.{granted_row, is_deny, new_end, renewal_by_broker}
-use Rattle.broker_table.specs.Request.{a_text, allows, asked, asked_of_lease, call_of, increment_in, is_renewal, lease_id_in, read_or_none}
-use Rattle.broker_table.specs.Step.{BrokerAnswer, BrokerOutcome, IsReplyBody, SaysAnswer, after_sweep, broker_step, by_call, drops, is_drop, lookup_answer, refuses, renewal_answer, renewal_outcome, seconds_to, tells}
-use Rattle.broker_table.specs.Subject.{Subject, bearer, belongs, is_lease_with, lease_with, owned, subject, with_asked, with_bearer}
+use Rattle.broker_rule.specs.declared.call.Call.{Call}
+use Rattle.broker_rule.specs.declared.call.Call.TheVariants.{RenewSelf, RenewLease, LookupSelf, LookupLease}
+use Rattle.broker_rule.specs.declared.fault.Fault.{Fault}
+use Rattle.broker_rule.specs.declared.refusal.Refusal.{Refusal}
+use Rattle.broker_rule.specs.declared.refusal.Refusal.TheVariants.{NotRenewable, PermissionDenied}
+use Rattle.broker_rule.specs.declared.row.Row.{Row}
+use Rattle.broker_rule.specs.declared.served.Served.{Served}
+use Rattle.broker_rule.specs.declared.served.Served.TheVariants as served
+use Rattle.broker_rule.specs.Table.{BrokerTable}
+use Rattle.broker_rule.specs.Faults.{fault_at, next_number}
+use Rattle.broker_rule.specs.Renewing.{granted_row, is_deny, new_end, renewal_by_broker}
+use Rattle.broker_rule.specs.Request.{a_text, allows, asked, asked_of_lease, call_of, increment_in, is_renewal, lease_id_in, read_or_none}
+use Rattle.broker_rule.specs.Step.{BrokerAnswer, BrokerOutcome, IsReplyBody, SaysAnswer, after_sweep, broker_step, by_call, drops, is_drop, lookup_answer, refuses, renewal_answer, renewal_outcome, seconds_to, tells}
+use Rattle.broker_rule.specs.Subject.{Subject, bearer, belongs, is_lease_with, lease_with, owned, subject, with_asked, with_bearer}
 use Rattle.std.proofs.lemmas.Bool.{cond-true}
 use Rattle.std.proofs.lemmas.Str.{is_utf8-from_IsUtf8}
 use Rattle.std.specs.Str.{is_utf8}

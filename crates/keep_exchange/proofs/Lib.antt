@@ -1,5 +1,3 @@
-pub mod ReadBack
-pub mod Carried
 pub mod Lengths
 pub mod Answered
 pub mod Sendable

@@ -10,7 +10,7 @@ use Rattle.keep_inventory.specs.Inventories.{Inventory}
 use Rattle.keep_tree.specs.declared.entry.Kind.{Kind}
 use Rattle.keep_tree.specs.declared.entry.Kind.TheVariants.{Token, Lease}
 use Rattle.keep_tree.specs.Forest.{entry_at}
-use Rattle.broker_table.specs.Table.{BrokerTable}
+use Rattle.broker_rule.specs.Table.{BrokerTable}
 use Rattle.vault_http.specs.declared.reply.Reply.{Reply}
 use Rattle.vault_http.specs.declared.request.Request.{Request}
 use Rattle.vault_json.specs.declared.fault.ReplyFault.{ReplyFault}

@@ -8,11 +8,11 @@ use Rattle.keep_tree.specs.declared.entry.Entry.{Entry}
 use Rattle.keep_tree.specs.declared.entry.Kind.{Kind}
 use Rattle.keep_tree.specs.declared.entry.Kind.TheVariants.{Token, Lease}
 use Rattle.keep_tree.specs.Forest.{Forest, entry_at}
-use Rattle.broker_table.specs.declared.served.Served.{Served}
-use Rattle.broker_table.specs.declared.served.Served.TheVariants as served
+use Rattle.broker_rule.specs.declared.served.Served.{Served}
+use Rattle.broker_rule.specs.declared.served.Served.TheVariants as served
 use Rattle.vault_http.specs.declared.known.TheConstants.{MOST_MESSAGE}
-use Rattle.broker_table.specs.Table.{BrokerTable}
-use Rattle.broker_table.specs.Step.{SaysAnswer, broker_step}
+use Rattle.broker_rule.specs.Table.{BrokerTable}
+use Rattle.broker_rule.specs.Step.{SaysAnswer, broker_step}
 use Rattle.vault_http.specs.declared.reply.Reply.{Reply}
 use Rattle.vault_http.specs.declared.request.Request.{Request}
 use Rattle.vault_http.specs.RoundTripRequest.{IsWritable}

@@ -4,9 +4,6 @@ use Rattle.std.specs.Prelude.{◌≡◌, ℕ, ◌⊎◌, Bool, true, false, ◌|
 use Rattle.keep_exchange.specs.declared.fault.ExchangeFault.{ExchangeFault}
 use Rattle.keep_device.specs.declared.place.Place.{Place}
 use Rattle.keep_device.specs.declared.place.Place.TheVariants.{Port, Path}
-use Rattle.keep_device.specs.Seen.{Change}
-use Rattle.broker_table.specs.Stream.{IsStreamed}
-use Rattle.broker_table.specs.Table.{BrokerTable}
 use Rattle.vault_http.specs.declared.reply.Reply.{Reply}
 
 -- an exchange, one request after another: where its broker listens, the longest time that a call may take, in nanoseconds,
@@ -15,12 +12,6 @@ pub record Socket : Type 0 where
   pub place : Place
   pub longest : ℕ
   pub is_short : Bool
-  pub failures : ℕ
-
--- an exchange with a table that is served in the same thread, at a port
-pub record ServedTable : Type 0 where
-  pub port : ℕ
-  pub table : BrokerTable
   pub failures : ℕ
 
 -- the port that requests to a broker at that place name
@@ -60,7 +51,3 @@ PacesAsked (Err fault) longest old new = Slows longest old new
 abbrev pub PacesLooked : {E : Type 0} → Result Bool E → ℕ → ℕ → ℕ → Type 0
 PacesLooked (Ok true) longest old new = new ≡ longest
 PacesLooked result longest old new = (new ≡ longest) ⊎ Slows longest old new
-
--- one message that some client has sent was handled at t
-abbrev pub IsServedOnce : BrokerTable → ℕ → BrokerTable → Type 0
-IsServedOnce old t new = (stream : Change) × IsStreamed stream old t new

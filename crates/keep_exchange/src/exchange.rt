@@ -5,7 +5,7 @@ ghost use Rattle.keep_exchange.specs.Requests.{IsShortRequest};
 ghost use Rattle.keep_exchange.specs.Sockets.{Paces};
 
 use crate::ExchangeFault;
-use crate::texts::is_port;
+use crate::requests::is_port;
 use keep_moment::Moment;
 use std::alloc::Global;
 use vault_http::{Device, Reply, Request};

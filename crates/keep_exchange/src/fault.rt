@@ -2,7 +2,7 @@ ghost use Rattle.std.specs.Prelude.{◌≡◌};
 ghost use Rattle.keep_exchange.specs.Exchanges.{exchange_fault, sending_fault};
 ghost use Rattle.keep_exchange.specs.declared.fault.ExchangeFault.TheVariants.{OutOfMemory};
 
-use broker_table::ServeFault;
+use broker_rule::ServeFault;
 use std::alloc::{AllocError, AllocFailed};
 use thiserror::Error;
 use vault_http::{HttpFault, SendFault};

@@ -1,8 +1,8 @@
-//! Requests and their replies, over memory or over sockets.
+//! Requests and their replies, over sockets; an exchange in memory stands in `broker_memory`.
 //!
 //! The contract for the layers above: an [`Exchange`] whose table is known gives the reply that the Broker step gives to the
 //! request, through the texts of both messages (`specs/Exchanges.antt`); [`ask`] does so for an entry, whose request
-//! (`specs/Requests.antt`) can be sent and whose replies can be read. Begin with `exchange`, then `memory` and `asking`.
+//! (`specs/Requests.antt`) can be sent and whose replies can be read. Begin with `exchange`, then `asking`.
 #![tactic(auto)]
 
 mod asking;
@@ -12,14 +12,10 @@ mod fault;
 mod heard;
 mod line;
 mod looking;
-mod memory;
 mod over;
 mod patience;
 mod requests;
-mod self_served;
-mod sure;
 mod tcp;
-mod texts;
 mod unix;
 
 pub use asking::ask;
@@ -27,9 +23,8 @@ pub use exchange::{Exchange, can_carry};
 pub use fault::ExchangeFault;
 pub use heard::{Heard, Terms, hear_lookup, hear_renewal, renewed_in};
 pub use looking::{look_up, lookup_for};
-pub use memory::MemoryExchange;
+pub use over::{count_after, here};
 pub use patience::PATIENCE;
-pub use requests::request_for;
-pub use self_served::SelfServed;
+pub use requests::{is_port, request_for};
 pub use tcp::TcpExchange;
 pub use unix::UnixExchange;

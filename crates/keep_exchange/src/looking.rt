@@ -8,7 +8,7 @@ ghost use Rattle.vault_json.specs.Answer.{GivesOrReplyFault};
 
 use crate::exchange::Exchange;
 use crate::fault::ExchangeFault;
-use crate::texts::is_port;
+use crate::requests::is_port;
 use http::Method;
 use keep_inventory::{Inventory, credentials_are_sendable};
 use keep_moment::{Moment, Text};

@@ -32,7 +32,7 @@ pub(crate) fn exchange_over<L: Source + Sink + Timed>(
 }
 
 /// The count of failures after an exchange: one more where a connect, an accept, a write or a read failed.
-pub(crate) fn count_after(failures: u64, answer: &Result<Reply, ExchangeFault>) -> u64
+pub fn count_after(failures: u64, answer: &Result<Reply, ExchangeFault>) -> u64
     ensures { CountsExchange answer.now failures result }
 {
     match answer {
@@ -46,7 +46,7 @@ pub(crate) fn count_after(failures: u64, answer: &Result<Reply, ExchangeFault>) 
 }
 
 /// The port of 127.0.0.1.
-pub(crate) fn here(port: u16) -> SocketAddr
+pub fn here(port: u16) -> SocketAddr
     ensures { IsHere port result }
 {
     SocketAddr::new(IpAddr::V4(Ipv4Addr::LOCALHOST), port)

@@ -116,3 +116,10 @@ fn are_bounded(port: u16, step: u32)
 {
     let _ = (port, step);
 }
+
+/// The law that a port is one of 65,536 numbers.
+pub fn is_port(port: u16)
+    ensures { port < 2 ^ 16 }
+{
+    let _ = port;
+}

@@ -3,7 +3,7 @@ use Rattle.std.proofs.Common.{◌≡◌, ℕ, ◌<◌, ◌≤◌, ◌^◌, Bool,
 use Rattle.std.specs.List.{list_any}
 use Rattle.keep_lanes.specs.Allowed.{deadline, millis_after}
 use Rattle.keep_lanes.specs.Out.{IsDueAfter}
-use Rattle.keep_lanes.specs.code.Seats.{AreTakenOut}
+use Rattle.keep_lanes.specs.Seats.{AreTakenOut}
 use Rattle.keep_lanes.specs.code.Ways.{AreAhead, DeadlineIsAhead, Move, is_way_over, sooner, soonest, soonest_or_now}
 use Rattle.keep_lanes.specs.declared.lanes.Answered.{Answered}
 use Rattle.keep_lanes.specs.declared.seats.Seat.{Seat}

@@ -5,6 +5,4 @@ pub mod Seated
 pub mod TakenOut
 pub mod Moved
 pub mod Dials
-pub mod Sent
-pub mod There
 pub mod Due

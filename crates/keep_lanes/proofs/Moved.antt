@@ -7,7 +7,7 @@ use Rattle.std.proofs.KnownBytes.{Appends-nil}
 use Rattle.keep_lanes.specs.Lanes.{FrontIsWritten}
 use Rattle.keep_lanes.specs.Losses.{Answer}
 use Rattle.keep_lanes.specs.Out as outs_of
-use Rattle.keep_lanes.specs.code.Seats.{out_of_seat, outs}
+use Rattle.keep_lanes.specs.Seats.{out_of_seat, outs}
 use Rattle.keep_lanes.specs.code.Ways.{DeadlineIsAhead, HasBegun, LaneGoesOn, Move, StaysOrMoves, WayMoves}
 use Rattle.keep_lanes.specs.declared.allowance.Allowance.{Allowance}
 use Rattle.keep_lanes.specs.declared.lane.Lane.{Lane}

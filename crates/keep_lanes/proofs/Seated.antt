@@ -3,7 +3,7 @@ use Rattle.std.proofs.Common.{◌≡◌, ℕ, ◌≤◌, ◌+◌, ◌++◌, List
 use Rattle.std.proofs.lemmas.List.{map-append}
 use Rattle.std.proofs.lemmas.List.Elements.{All-map}
 use Rattle.keep_lanes.specs.Out.{IsBelow, Out, OutIsPut}
-use Rattle.keep_lanes.specs.code.Seats.{out_of_seat, outs}
+use Rattle.keep_lanes.specs.Seats.{out_of_seat, outs}
 use Rattle.keep_lanes.specs.declared.coming.Coming.{Coming}
 use Rattle.keep_lanes.specs.declared.seats.Seat.{Seat}
 

@@ -5,7 +5,7 @@ use Rattle.std.proofs.lemmas.List.{length-take-le, drop_all, drop_at, drop_more,
 use Rattle.std.proofs.lemmas.List.Elements.{filter-append}
 use Rattle.std.proofs.Math.Seq.{take-add}
 use Rattle.keep_lanes.specs.Out.{IsAnswerTo, IsParted}
-use Rattle.keep_lanes.specs.code.Seats.{AreTakenOut, out_of_seat, outs}
+use Rattle.keep_lanes.specs.Seats.{AreTakenOut, out_of_seat, outs}
 use Rattle.keep_lanes.specs.declared.coming.Coming.{Coming}
 use Rattle.keep_lanes.specs.declared.lanes.Answered.{Answered}
 use Rattle.keep_lanes.specs.declared.seats.Seat.{Seat}

@@ -5,5 +5,6 @@ pub mod Dials
 pub mod Lanes
 pub mod Out
 pub mod Serving
+pub mod Seats
 pub mod Heard
 pub mod code

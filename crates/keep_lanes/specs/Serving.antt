@@ -15,9 +15,9 @@ use Rattle.keep_lanes.specs.declared.fault.LaneFault.TheVariants.{Refuse, Lose, 
 use Rattle.keep_lanes.specs.declared.fault.NumberedFault.{NumberedFault}
 use Rattle.keep_lanes.specs.declared.lanes.Ask.{Ask}
 use Rattle.keep_lanes.specs.declared.loss.Loss.TheVariants as losses
-use Rattle.broker_table.specs.declared.served.Served.{Served}
-use Rattle.broker_table.specs.Step.{SaysAnswer, after_sweep, broker_step}
-use Rattle.broker_table.specs.Table.{BrokerTable}
+use Rattle.broker_rule.specs.declared.served.Served.{Served}
+use Rattle.broker_rule.specs.Step.{SaysAnswer, after_sweep, broker_step}
+use Rattle.broker_rule.specs.Table.{BrokerTable}
 use Rattle.vault_http.specs.declared.reply.Reply.{Reply}
 use Rattle.vault_http.specs.declared.request.Request.{Request}
 
@@ -40,18 +40,6 @@ abbrev pub answer_in : Result Reply ExchangeFault → Answer
 answer_in (Ok reply) = Ok (record { reply = reply; date = None })
 answer_in (Err (exchange.Http fault)) = Err (loss_of fault)
 answer_in (Err fault) = Err losses.Connect
-
--- what stands in lanes in memory: what is behind them, what is out, how many lanes there are, and the time-out in seconds
-pub record InMemory : Type 0 where
-  pub behind : BehindLanes
-  pub out : List Out
-  pub width : ℕ
-  pub seconds : ℕ
-
--- an exchange that was not out of memory gives this answer
-abbrev pub AnswersFor : {E : Type 0} → Result Reply ExchangeFault → Result Answer E → Type 0
-AnswersFor exchanged (Ok a) = (a ≡ answer_in exchanged) × (exchanged ≡ Err exchange.OutOfMemory → ⊥)
-AnswersFor exchanged (Err e) = exchanged ≡ Err exchange.OutOfMemory
 
 -- the request is served at t by the Broker step, and that is what is received of what it sends
 pub record RequestIsServed (old : BrokerTable) (t : ℕ) (r : Request) (answer : Answer) (new : BrokerTable) : Type 0 where

@@ -36,7 +36,7 @@ impl Allowance {
     }
 
     /// The moment by which the first bytes of the reply have to be there.
-    pub(crate) fn first_by(&self) -> u64
+    pub fn first_by(&self) -> u64
         ensures { result ≡ first_by self.now }
     {
         self.asked.saturating_add(self.patience)

@@ -125,7 +125,7 @@ pub trait Lanes {
 }
 
 /// How many of so many lanes are free.
-pub(crate) fn free_of(width: u32, out: usize) -> u32
+pub fn free_of(width: u32, out: usize) -> u32
     ensures { result ≡ width - out }
 {
     width.saturating_sub(u32::try_from(out).unwrap_or(u32::MAX))

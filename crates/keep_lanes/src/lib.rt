@@ -4,8 +4,8 @@
 //! The contract for the layers above: [`Lanes`] sends a request and hands each answer back with the index that it is for
 //! (`specs/Out.antt`); where the broker's table is known the answer is that of the Broker step (`specs/Serving.antt`). What a
 //! lane may take is one definition (`specs/Allowed.antt`). Begin with `lanes`, then `allowance` and `stage`: a lane's clock and
-//! what it has reached, as values. `line` is a connection, `lane` is one request over it, `running` all of them over any
-//! connections, `sockets` those of the system, and `memory` none at all.
+//! what it has reached, as values. `line` is a connection, `lane` is one request over it, `seats` those that are out, `running`
+//! all of them over any connections, and `sockets` those of the system. Lanes in memory stand in `broker_lanes`.
 #![tactic(auto)]
 
 mod allowance;
@@ -16,7 +16,6 @@ mod lane;
 mod lanes;
 mod line;
 mod loss;
-mod memory;
 mod running;
 mod seats;
 mod sockets;
@@ -27,10 +26,10 @@ pub use allowance::Allowance;
 pub use coming::Coming;
 pub use fault::{LaneFault, NumberedFault};
 pub use heard::{Heard, hear_lookup, hear_renewal};
-pub use lanes::{Answered, Ask, Lanes, MOST_WIDTH};
+pub use lanes::{Answered, Ask, Lanes, MOST_WIDTH, free_of};
 pub use line::{Line, Wires};
-pub use loss::Loss;
-pub use memory::MemoryLanes;
-pub use running::LanesOver;
+pub use loss::{Loss, loss_of};
+pub use running::{LanesOver, TOGETHER};
+pub use seats::{Seat, Standing, put, take_out};
 pub use sockets::{SocketLanes, SocketLine, SocketWires};
 pub use stage::Stage;

@@ -25,7 +25,7 @@ pub enum Loss {
 }
 
 /// The loss that a fault of the bytes is: an input that ended too soon was closed, and all others cannot be read.
-pub(crate) fn loss_of(fault: HttpFault) -> Loss
+pub fn loss_of(fault: HttpFault) -> Loss
     ensures { result ≡ loss_of fault }
 {
     match fault {

@@ -3,7 +3,7 @@ ghost use Rattle.std.specs.Prelude.{◌≡◌, ◌++◌, ◌∷◌, ◌*◌, ◌
 ghost use Rattle.std.specs.List.{list_all, list_any};
 ghost use Rattle.keep_device.specs.declared.limits.TheConstants.{MOST_ROOM};
 ghost use Rattle.keep_lanes.specs.Dials.{KeepsDials};
-ghost use Rattle.keep_lanes.specs.code.Seats.{outs};
+ghost use Rattle.keep_lanes.specs.Seats.{outs};
 ghost use Rattle.keep_lanes.specs.code.Ways.{AreAhead, HasBegun, Move, is_way_over, soonest, soonest_or_now};
 ghost use Rattle.vault_http.specs.RoundTripRequest.{IsWritable};
 ghost use Rattle.vault_http.specs.Written.{request_text};
@@ -20,7 +20,7 @@ use std::alloc::{AllocError, Global};
 use vault_http::text_of_request;
 
 /// How long the answers that come after the first are waited for, in milliseconds.
-pub(crate) const TOGETHER: u64 = 5;
+pub const TOGETHER: u64 = 5;
 
 /// Lanes over the connections that `wires` makes.
 #[derive(Drop)]

@@ -2,7 +2,7 @@
 ghost use Rattle.std.specs.Prelude.{◌≡◌, ℕ, ◌<◌, ◌≤◌, All, Bool, List, Option, IfOk, IsTrue, OnErr, drop, filter, length, map, not, take, vec_capacity, vec_len};
 ghost use Rattle.keep_lanes.specs.Out.{IsBelow, IsParted, OutIsPut};
 ghost use Rattle.keep_lanes.specs.declared.coming.Coming.{Coming};
-ghost use Rattle.keep_lanes.specs.code.Seats.{AnswerIsWhatComes, AreTakenOut, out_of_seat, outs};
+ghost use Rattle.keep_lanes.specs.Seats.{AnswerIsWhatComes, AreTakenOut, out_of_seat, outs};
 
 use crate::lanes::Answered;
 use crate::loss::Loss;
@@ -11,13 +11,13 @@ use vault_http::DatedReply;
 
 /// A request that is out, for an index, and how it stands.
 #[derive(Debug, Drop)]
-pub(crate) struct Seat<T> {
-    pub(crate) index: u32,
-    pub(crate) standing: T,
+pub struct Seat<T> {
+    pub index: u32,
+    pub standing: T,
 }
 
 /// How a request that is out stands.
-pub(crate) trait Standing: Drop {
+pub trait Standing: Drop {
     /// What comes of it, where it is known.
     ghost comes: { Self → Option Coming };
 
@@ -46,7 +46,7 @@ fn place_for<T>(out: &[Seat<T>], index: u32) -> usize
 }
 
 /// Puts one more among those that are out, before the first with a greater index.
-pub(crate) fn put<T: Standing>(out: &mut Vec<Seat<T>>, seat: Seat<T>)
+pub fn put<T: Standing>(out: &mut Vec<Seat<T>>, seat: Seat<T>)
     requires { vec_len out.old < vec_capacity out.old }
     ensures { OutIsPut (out_of_seat T.comes seat) (outs T.comes out.old.items) (outs T.comes out.new.items) }
 {
@@ -55,7 +55,7 @@ pub(crate) fn put<T: Standing>(out: &mut Vec<Seat<T>>, seat: Seat<T>)
 }
 
 /// Takes out those whose answers are there at this moment, and gives these.
-pub(crate) fn take_out<T: Standing>(
+pub fn take_out<T: Standing>(
     alloc: Global,
     out: &mut Vec<Seat<T>>,
     moment: u64,

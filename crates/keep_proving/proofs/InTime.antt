@@ -1,7 +1,7 @@
 -- InTime: what comes of a lookup in memory is there once the time-out has passed. For the law that a lookup ends in time.
 use Rattle.std.proofs.Common.{◌≡◌, ◌∙◌, ℕ, ◌*◌, ◌^◌, ◌<◌, ◌≤◌, Bool, true, false, cond, nat_lt, [], ◌∷◌, Option, Some, None, Err, IfSome, ap, arith, refl, subst, sym}
 use Rattle.std.proofs.lemmas.Bool.{leb-false, ltb-true}
-use Rattle.broker_table.specs.Table.{BrokerTable}
+use Rattle.broker_rule.specs.Table.{BrokerTable}
 use Rattle.keep_lanes.specs.Allowed.{first_by, millis_after}
 use Rattle.keep_lanes.specs.Losses.{Answer}
 use Rattle.keep_lanes.specs.Out.{Out, is_there, is_there_at}

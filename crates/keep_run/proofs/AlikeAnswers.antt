@@ -10,15 +10,15 @@ use Rattle.keep_inventory.specs.declared.terms.Terms.{Terms}
 use Rattle.keep_inventory.proofs.Inventories.{credential_text}
 use Rattle.vault_http.specs.declared.reply.Reply.{Reply}
 use Rattle.vault_http.specs.declared.request.Request.{Request}
-use Rattle.broker_table.specs.declared.call.Call.{Call}
-use Rattle.broker_table.specs.declared.refusal.Refusal.{Refusal}
-use Rattle.broker_table.specs.declared.refusal.Refusal.TheVariants.{UnsupportedPath, UnsupportedMethod, PermissionDenied, BadRequest, UnknownLease, NotRenewable}
-use Rattle.broker_table.specs.declared.row.Row.{Row}
-use Rattle.broker_table.specs.declared.served.Served.{Served}
-use Rattle.broker_table.specs.declared.served.Served.TheVariants as served
-use Rattle.broker_table.specs.Granted.{call_for}
-use Rattle.broker_table.specs.Request.{status_of_refusal}
-use Rattle.broker_table.specs.Step.{BrokerAnswer, SaysAnswer, TellsRow, broker_step, drops, refuses as answer_refuses, seconds_to, tells}
+use Rattle.broker_rule.specs.declared.call.Call.{Call}
+use Rattle.broker_rule.specs.declared.refusal.Refusal.{Refusal}
+use Rattle.broker_rule.specs.declared.refusal.Refusal.TheVariants.{UnsupportedPath, UnsupportedMethod, PermissionDenied, BadRequest, UnknownLease, NotRenewable}
+use Rattle.broker_rule.specs.declared.row.Row.{Row}
+use Rattle.broker_rule.specs.declared.served.Served.{Served}
+use Rattle.broker_rule.specs.declared.served.Served.TheVariants as served
+use Rattle.broker_rule.specs.Granted.{call_for}
+use Rattle.broker_rule.specs.Request.{status_of_refusal}
+use Rattle.broker_rule.specs.Step.{BrokerAnswer, SaysAnswer, TellsRow, broker_step, drops, refuses as answer_refuses, seconds_to, tells}
 use Rattle.keep_core.specs.declared.event.Event.{Event}
 use Rattle.keep_core.specs.declared.event.Event.TheVariants.{Tick, Told, Refused, Lost, Need}
 use Rattle.keep_core.specs.declared.event.Output.{Output}

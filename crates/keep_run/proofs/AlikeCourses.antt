@@ -5,9 +5,9 @@ use Rattle.std.specs.List.{AllZip, range_with_len}
 use Rattle.keep_tree.specs.Forest.{Forest}
 use Rattle.keep_inventory.specs.Inventories.{IsInventory, Inventory, credential_at}
 use Rattle.keep_inventory.specs.declared.terms.Terms.{Terms}
-use Rattle.broker_table.specs.declared.fault.NumberedFault.{NumberedFault}
-use Rattle.broker_table.specs.Rows.{broker_row, broker_rows}
-use Rattle.broker_table.specs.Table.{BrokerTable}
+use Rattle.broker_rule.specs.declared.fault.NumberedFault.{NumberedFault}
+use Rattle.broker_rule.specs.Rows.{broker_row, broker_rows}
+use Rattle.broker_rule.specs.Table.{BrokerTable}
 use Rattle.keep_core.specs.declared.event.Event.TheVariants.{Tick}
 use Rattle.keep_core.specs.declared.event.Output.{Output}
 use Rattle.keep_core.specs.declared.event.Output.TheVariants as out

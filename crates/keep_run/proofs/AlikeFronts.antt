@@ -6,7 +6,7 @@ use Rattle.std.proofs.lemmas.List.{append_assoc}
 use Rattle.keep_tree.specs.Forest.{Forest}
 use Rattle.keep_inventory.specs.Inventories.{IsInventory, Inventory}
 use Rattle.keep_inventory.specs.declared.terms.Terms.{Terms}
-use Rattle.broker_table.specs.declared.fault.NumberedFault.{NumberedFault}
+use Rattle.broker_rule.specs.declared.fault.NumberedFault.{NumberedFault}
 use Rattle.keep_core.specs.declared.shortened.ShortNeed.{ShortNeed}
 use Rattle.keep_run.specs.Closed.{Beat, IsClosedRun, Played, RunCourse, World, request_count, rounds}
 use Rattle.keep_run.specs.Rehearse.{IsRunText}

@@ -9,8 +9,8 @@ use Rattle.keep_tree.specs.Forest.{Forest, entry_at}
 use Rattle.keep_tree.proofs.Entries.{entry_at_past}
 use Rattle.keep_inventory.specs.Inventories.{IsInventory, Inventory, credential_at, terms_at}
 use Rattle.keep_inventory.specs.declared.limits.TheConstants.{SPAN_MAX}
-use Rattle.broker_table.specs.declared.row.Row.{Row}
-use Rattle.broker_table.specs.Rows.{broker_row, broker_rows}
+use Rattle.broker_rule.specs.declared.row.Row.{Row}
+use Rattle.broker_rule.specs.Rows.{broker_row, broker_rows}
 use Rattle.keep_core.specs.Replan.{IsPlanOf, Replan}
 use Rattle.keep_core.specs.Shorten.{need_left, pairs, shorten}
 use Rattle.keep_core.specs.State.{CoreState, unplanned}

@@ -31,7 +31,7 @@ use Rattle.keep_core.specs.Shorten.{shorten}
 use Rattle.keep_core.specs.State.{CoreState}
 use Rattle.keep_core.specs.Step.{entry_after_answer, with_entry_changed, without_index}
 use Rattle.keep_core.proofs.Standing.{tail_kept}
-use Rattle.broker_table.specs.Listed.{is_entry_alive}
+use Rattle.broker_rule.specs.Listed.{is_entry_alive}
 use Rattle.keep_run.specs.Mirrors.{with_entry_end}
 use Rattle.keep_run.proofs.Mirroring.{ended_count, ended_other, ended_same}
 

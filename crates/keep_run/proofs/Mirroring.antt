@@ -19,14 +19,14 @@ use Rattle.keep_tree.proofs.Placed.{parents_first, read_range, read_step, replac
 use Rattle.keep_rule.proofs.Alive.{alive_from_last, last_from_alive}
 use Rattle.keep_inventory.specs.Inventories.{IsInventory, Inventory, credential_at, terms_at}
 use Rattle.keep_inventory.specs.declared.terms.Terms.{Terms}
-use Rattle.broker_table.specs.declared.row.Row.{Row}
-use Rattle.broker_table.specs.Rows.{broker_row, broker_rows}
-use Rattle.broker_table.specs.Renewing.{with_row}
-use Rattle.broker_table.specs.Listed.{is_entry_alive, rows_listed}
+use Rattle.broker_rule.specs.declared.row.Row.{Row}
+use Rattle.broker_rule.specs.Rows.{broker_row, broker_rows}
+use Rattle.broker_rule.specs.Renewing.{with_row}
+use Rattle.broker_rule.specs.Listed.{is_entry_alive, rows_listed}
 use Rattle.broker_table.proofs.Ranges.{filter_range, map_of_map, map_range}
 use Rattle.broker_table.proofs.Swept.{swept_later}
 use Rattle.broker_table.proofs.Sweeping.{lone_name, name_in, swept_inventory}
-use Rattle.broker_table.specs.Sweep.{swept}
+use Rattle.broker_rule.specs.Sweep.{swept}
 use Rattle.keep_run.specs.Mirrors.{Mirrors, with_entry_end, with_forest}
 
 -- ---- an entry's end alone is changed

@@ -5,8 +5,8 @@ use Rattle.keep_tree.specs.declared.entry.Kind.{Kind}
 use Rattle.vault_json.specs.declared.renewed.Renewed.{Renewed}
 use Rattle.vault_http.specs.declared.reply.Reply.{Reply}
 use Rattle.vault_http.specs.declared.request.Request.{Request}
-use Rattle.broker_table.specs.Step.{broker_step}
-use Rattle.broker_table.specs.Table.{BrokerTable}
+use Rattle.broker_rule.specs.Step.{broker_step}
+use Rattle.broker_rule.specs.Table.{BrokerTable}
 use Rattle.keep_exchange.specs.Exchanges.{Behind, wire_of}
 use Rattle.keep_exchange.specs.Heard.{renewed_in}
 use Rattle.keep_exchange.specs.Requests.{RequestIsAsked, renewal_request}

@@ -13,7 +13,7 @@ use Rattle.keep_core.specs.Replan.{IsPlanOf}
 use Rattle.keep_start.specs.Start.{inventory_at}
 use Rattle.keep_inventory.specs.Inventories.{Inventory}
 use Rattle.keep_start.proofs.Started.{start_law}
-use Rattle.broker_table.specs.declared.fault.NumberedFault.{NumberedFault}
+use Rattle.broker_rule.specs.declared.fault.NumberedFault.{NumberedFault}
 use Rattle.keep_exchange.specs.Exchanges.{Behind}
 use Rattle.keep_report.specs.declared.exit.Exit.TheVariants as exits
 use Rattle.keep_report.specs.Sent.{IsAll}

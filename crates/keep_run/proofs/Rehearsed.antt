@@ -9,8 +9,8 @@ use Rattle.keep_inventory.specs.declared.fault.InvFault.{InvFault}
 use Rattle.keep_inventory.specs.Inventories.{IsInventory, Inventory}
 use Rattle.keep_moment.specs.declared.moment.TheConstants.{LAST}
 use Rattle.keep_tree.specs.Forest.{Forest}
-use Rattle.broker_table.specs.Table.{BrokerTable}
-use Rattle.broker_table.specs.declared.fault.NumberedFault.{NumberedFault}
+use Rattle.broker_rule.specs.Table.{BrokerTable}
+use Rattle.broker_rule.specs.declared.fault.NumberedFault.{NumberedFault}
 use Rattle.keep_core.specs.LawsOfSteps.{IsShaped}
 use Rattle.keep_core.specs.Replan.{Replan, ReplanTooLong}
 use Rattle.keep_core.specs.State.{CoreState, unplanned}

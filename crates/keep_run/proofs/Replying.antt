@@ -13,17 +13,17 @@ use Rattle.vault_http.specs.declared.reply.Reply.{Reply}
 use Rattle.vault_json.specs.Renewed.{renew_lease_answer, renew_self_answer}
 use Rattle.vault_json.specs.Written.{renewed_lease_text}
 use Rattle.vault_json.proofs.ReadBack.{renewed_lease_is_read, renewed_self_is_read}
-use Rattle.broker_table.specs.declared.row.Row.{Row}
-use Rattle.broker_table.specs.declared.served.Served.{Served}
-use Rattle.broker_table.specs.declared.served.Served.TheVariants as served
-use Rattle.broker_table.specs.Rows.{broker_row}
-use Rattle.broker_table.specs.Step.{IsReplyBody, SaysAnswer, TellsRow, seconds_to, tells}
+use Rattle.broker_rule.specs.declared.row.Row.{Row}
+use Rattle.broker_rule.specs.declared.served.Served.{Served}
+use Rattle.broker_rule.specs.declared.served.Served.TheVariants as served
+use Rattle.broker_rule.specs.Rows.{broker_row}
+use Rattle.broker_rule.specs.Step.{IsReplyBody, SaysAnswer, TellsRow, seconds_to, tells}
 use Rattle.keep_core.specs.declared.event.Event.TheVariants.{Told, Refused, Lost}
 use Rattle.keep_run.specs.Replies.{event_if_refused, event_of, told_by_body, told_of_body}
 use Rattle.keep_exchange.specs.Heard.{renewed_of_lease, renewed_of_token}
 use Rattle.keep_exchange.specs.Requests.{reply_in_served}
 use Rattle.keep_run.proofs.Mirroring.{renewal_within}
-use Rattle.broker_table.specs.Granted.{call_for}
+use Rattle.broker_rule.specs.Granted.{call_for}
 use Rattle.keep_run.proofs.Serving.{credential_in, renewable_in, renewed_row}
 
 ok_is_told : (kind : Kind) (id : List ℕ) (i : ℕ) (r : Reply) → r.status ≡ 200 → event_of kind id i (Some r) ≡ told_by_body kind id i r.body

@@ -11,10 +11,10 @@ use Rattle.keep_tree.specs.Renewal.{renewal}
 use Rattle.keep_rule.specs.Asks.{first_of}
 use Rattle.keep_rule.specs.declared.limit.TheConstants.{LIMIT}
 use Rattle.keep_inventory.specs.Inventories.{IsInventory, Inventory, credential_at}
-use Rattle.broker_table.specs.Table.{BrokerTable}
-use Rattle.broker_table.specs.Faults.{next_number}
-use Rattle.broker_table.specs.Renewing.{with_row}
-use Rattle.broker_table.specs.Step.{BrokerOutcome, SaysAnswer, broker_step, tells}
+use Rattle.broker_rule.specs.Table.{BrokerTable}
+use Rattle.broker_rule.specs.Faults.{next_number}
+use Rattle.broker_rule.specs.Renewing.{with_row}
+use Rattle.broker_rule.specs.Step.{BrokerOutcome, SaysAnswer, broker_step, tells}
 use Rattle.vault_http.specs.declared.reply.Reply.{Reply}
 use Rattle.keep_core.specs.declared.event.Event.TheVariants.{Told}
 use Rattle.keep_core.specs.declared.event.Output.{Output}
@@ -27,7 +27,7 @@ use Rattle.keep_core.proofs.Once.{once}
 use Rattle.keep_core.proofs.Standing.{tail_kept}
 use Rattle.keep_run.specs.Closed.{AreAnswered, Exchanged, RequestIsAnswered, World, closing, event_in, shorts_taken, told_next}
 use Rattle.keep_run.specs.Laws.{IsToldByRule}
-use Rattle.broker_table.specs.Listed.{rows_listed}
+use Rattle.broker_rule.specs.Listed.{rows_listed}
 use Rattle.keep_run.specs.Mirrors.{Mirrors, with_entry_end, with_forest}
 use Rattle.keep_run.specs.Replies.{event_for, event_of}
 use Rattle.keep_exchange.specs.Exchanges.{Behind}
@@ -36,7 +36,7 @@ use Rattle.keep_run.proofs.Mirroring.{ended_other, ended_same, ended_supplied, m
 use Rattle.keep_run.proofs.Midway.{Midway, heard_as, heard_state, here_first, is_due, midway_last, midway_more, settled, told_turn, waiting}
 use Rattle.keep_run.proofs.OneAnswer.{asked_known, table_after}
 use Rattle.keep_run.proofs.Replying.{tells_rule}
-use Rattle.broker_table.specs.Granted.{call_for}
+use Rattle.broker_rule.specs.Granted.{call_for}
 use Rattle.keep_run.proofs.Serving.{renewed_row, serves}
 
 -- h is g but for the ends

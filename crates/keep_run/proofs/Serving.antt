@@ -4,15 +4,15 @@ use Rattle.std.proofs.lemmas.Bool.{and_from}
 use Rattle.keep_tree.specs.Forest.{end_of, entry_at}
 use Rattle.keep_tree.specs.Renewal.{all_last, is_granted, renewal}
 use Rattle.keep_inventory.specs.Inventories.{IsInventory, Inventory, credential_at}
-use Rattle.broker_table.specs.declared.row.Row.{Row}
-use Rattle.broker_table.specs.Faults.{fault_at, next_number, without_fault}
-use Rattle.broker_table.specs.Granted.{call_for}
-use Rattle.broker_table.specs.Table.{BrokerTable}
-use Rattle.broker_table.specs.Listed.{is_entry_alive, rows_listed}
-use Rattle.broker_table.specs.Renewing.{with_row}
-use Rattle.broker_table.specs.Rows.{broker_row}
-use Rattle.broker_table.specs.Step.{broker_step, tells}
-use Rattle.broker_table.specs.Sweep.{swept}
+use Rattle.broker_rule.specs.declared.row.Row.{Row}
+use Rattle.broker_rule.specs.Faults.{fault_at, next_number, without_fault}
+use Rattle.broker_rule.specs.Granted.{call_for}
+use Rattle.broker_rule.specs.Table.{BrokerTable}
+use Rattle.broker_rule.specs.Listed.{is_entry_alive, rows_listed}
+use Rattle.broker_rule.specs.Renewing.{with_row}
+use Rattle.broker_rule.specs.Rows.{broker_row}
+use Rattle.broker_rule.specs.Step.{broker_step, tells}
+use Rattle.broker_rule.specs.Sweep.{swept}
 use Rattle.broker_table.proofs.Granting.{by_the_rule, renewed_by}
 use Rattle.keep_exchange.specs.Requests.{renewal_request}
 use Rattle.keep_alike.proofs.Asking.{asks_renewal}

@@ -17,8 +17,8 @@ use Rattle.keep_rule.proofs.Alive.{last_from_alive}
 use Rattle.keep_rule.proofs.Keeping.{one_least}
 use Rattle.keep_rule.specs.declared.limit.TheConstants.{LIMIT}
 use Rattle.keep_inventory.specs.Inventories.{IsInventory, Inventory}
-use Rattle.broker_table.specs.Rows.{broker_rows, row_named}
-use Rattle.broker_table.specs.Sweep.{swept}
+use Rattle.broker_rule.specs.Rows.{broker_rows, row_named}
+use Rattle.broker_rule.specs.Sweep.{swept}
 use Rattle.keep_core.specs.declared.event.Event.{Event}
 use Rattle.keep_core.specs.declared.event.Event.TheVariants.{Tick}
 use Rattle.keep_plan.specs.Planned.{to_come}
@@ -42,7 +42,7 @@ use Rattle.keep_run.specs.Replies.{event_for}
 use Rattle.keep_run.specs.Text.{beat_text, course_text, done_text, short_need_lines}
 use Rattle.keep_run.specs.Stops.{StepIsTaken}
 use Rattle.keep_run.specs.Laws.{AnswersTakenLaw, PlannedRunLaw, RehearsalLaw, SoFarLaw, StandsLaw}
-use Rattle.broker_table.specs.Listed.{is_entry_alive, rows_listed}
+use Rattle.broker_rule.specs.Listed.{is_entry_alive, rows_listed}
 use Rattle.keep_run.specs.Mirrors.{with_forest}
 use Rattle.keep_run.proofs.Midway.{settled}
 use Rattle.keep_run.proofs.Mirroring.{mirrors_first}

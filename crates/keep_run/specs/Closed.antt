@@ -7,8 +7,8 @@ use Rattle.keep_inventory.specs.Inventories.{Inventory}
 use Rattle.keep_exchange.specs.Exchanges.{Behind}
 use Rattle.keep_exchange.specs.Requests.{RequestIsAsked, renewal_request}
 use Rattle.vault_http.specs.declared.reply.Reply.{Reply}
-use Rattle.broker_table.specs.declared.fault.NumberedFault.{NumberedFault}
-use Rattle.broker_table.specs.Rows.{broker_rows}
+use Rattle.broker_rule.specs.declared.fault.NumberedFault.{NumberedFault}
+use Rattle.broker_rule.specs.Rows.{broker_rows}
 use Rattle.keep_core.specs.declared.event.Event.{Event}
 use Rattle.keep_core.specs.declared.event.Event.TheVariants.{Tick}
 use Rattle.keep_core.specs.declared.event.Output.{Output}

@@ -2,13 +2,13 @@
 -- 1 to 1,000,000. Numbers are spelled in decimal, in their one spelling, and SECONDS is a duration.
 -- Source: this project's own.
 use Rattle.std.specs.Prelude.{◌≡◌, ℕ, ◌+◌, Bool, false, if◌then◌else◌, List, [], ◌∷◌, ◌++◌, Option, Some, None, Result, Ok, Err, bytes_eq, codes, is_none, option_map}
-use Rattle.broker_table.specs.declared.fault.Fault.{Fault}
-use Rattle.broker_table.specs.declared.fault.Fault.TheVariants.{Short, Drop, Deny}
-use Rattle.broker_table.specs.declared.fault.NumberedFault.{NumberedFault}
-use Rattle.broker_table.specs.declared.fault.SetFault.{SetFault}
-use Rattle.broker_table.specs.declared.fault.SetFault.TheVariants.{BadNumber, Twice, OutOfMemory}
-use Rattle.broker_table.specs.Faults.{fault_refusal}
-use Rattle.broker_table.specs.Table.{BrokerTable}
+use Rattle.broker_rule.specs.declared.fault.Fault.{Fault}
+use Rattle.broker_rule.specs.declared.fault.Fault.TheVariants.{Short, Drop, Deny}
+use Rattle.broker_rule.specs.declared.fault.NumberedFault.{NumberedFault}
+use Rattle.broker_rule.specs.declared.fault.SetFault.{SetFault}
+use Rattle.broker_rule.specs.declared.fault.SetFault.TheVariants.{BadNumber, Twice, OutOfMemory}
+use Rattle.broker_rule.specs.Faults.{fault_refusal}
+use Rattle.broker_rule.specs.Table.{BrokerTable}
 use Rattle.keep_report.specs.declared.stop.Stop.{Stop}
 use Rattle.keep_report.specs.declared.stop.Stop.TheVariants as stops
 use Rattle.keep_inventory.specs.declared.limits.TheConstants.{SPAN_MAX}

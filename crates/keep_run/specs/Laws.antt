@@ -16,8 +16,8 @@ use Rattle.keep_plan.specs.Decides.{Decides}
 use Rattle.keep_plan.specs.Planned.{Planned, to_come}
 use Rattle.keep_start.specs.Start.{inventory_at}
 use Rattle.keep_inventory.specs.Inventories.{IsInventory, Inventory}
-use Rattle.broker_table.specs.Rows.{row_named}
-use Rattle.broker_table.specs.Sweep.{swept}
+use Rattle.broker_rule.specs.Rows.{row_named}
+use Rattle.broker_rule.specs.Sweep.{swept}
 use Rattle.keep_core.specs.declared.event.Event.TheVariants.{Tick, Told}
 use Rattle.keep_core.specs.declared.event.Output.{Output}
 use Rattle.keep_core.specs.declared.event.Output.TheVariants as out

@@ -3,9 +3,9 @@
 use Rattle.std.specs.Prelude.{◌≡◌, ℕ, ◌≤◌, List, slice_set}
 use Rattle.keep_tree.specs.Forest.{Forest, entry_at}
 use Rattle.keep_inventory.specs.Inventories.{Inventory}
-use Rattle.broker_table.specs.declared.row.Row.{Row}
-use Rattle.broker_table.specs.Listed.{rows_listed}
-use Rattle.broker_table.specs.Sweep.{swept}
+use Rattle.broker_rule.specs.declared.row.Row.{Row}
+use Rattle.broker_rule.specs.Listed.{rows_listed}
+use Rattle.broker_rule.specs.Sweep.{swept}
 
 -- from t on, a sweep of these rows leaves those of the entries that are alive
 abbrev pub Mirrors : Inventory → ℕ → List Row → Type 0

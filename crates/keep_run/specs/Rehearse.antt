@@ -5,9 +5,9 @@ use Rattle.keep_device.specs.Seen.{Change, ReceivesFront}
 use Rattle.keep_device.specs.Failures.{HasFailed}
 use Rattle.keep_inventory.specs.declared.fault.InvFault.{InvFault}
 use Rattle.keep_inventory.specs.Inventories.{Inventory}
-use Rattle.broker_table.specs.declared.fault.NumberedFault.{NumberedFault}
+use Rattle.broker_rule.specs.declared.fault.NumberedFault.{NumberedFault}
 use Rattle.keep_exchange.specs.Exchanges.{Behind}
-use Rattle.broker_table.specs.Rows.{broker_rows}
+use Rattle.broker_rule.specs.Rows.{broker_rows}
 use Rattle.keep_core.specs.Replan.{ReplanTooLong}
 use Rattle.keep_report.specs.declared.exit.Exit.{Exit}
 use Rattle.keep_report.specs.declared.exit.Exit.TheVariants as exits

@@ -3,7 +3,7 @@
 use Rattle.std.specs.Prelude.{◌≡◌, ℕ, ◌≤◌, List, [], ◌∷◌, ◌++◌, Option, Some, None, Result, Ok, Err, length, map}
 use Rattle.std.specs.List.{flat_map}
 use Rattle.keep_inventory.specs.Inventories.{Inventory}
-use Rattle.broker_table.specs.declared.fault.NumberedFault.{NumberedFault}
+use Rattle.broker_rule.specs.declared.fault.NumberedFault.{NumberedFault}
 use Rattle.keep_exchange.specs.Exchanges.{Behind}
 use Rattle.keep_moment.specs.declared.moment.TheConstants.{LAST}
 use Rattle.keep_core.specs.declared.event.Event.{Event}

@@ -1,7 +1,8 @@
 //! Lanes in memory.
 use crate::asks::{Comes, TOKENS, is, send, table, token_of};
 use crate::plays::{Answers, Play, Step, goes_on, plays};
-use keep_lanes::{Answered, LaneFault, Lanes, Loss, MemoryLanes};
+use broker_lanes::MemoryLanes;
+use keep_lanes::{Answered, LaneFault, Lanes, Loss};
 use std::alloc::{AllocError, Global};
 use std::process::Abort;
 use std::test::Fail;

@@ -11,7 +11,7 @@ use Rattle.broker_table.specs.declared.moment_line.Moments.{Moments}
 use Rattle.broker_table.specs.declared.stream.StreamFault.TheVariants as stream_faults
 use Rattle.broker_table.specs.MomentLine.{TellsMoment}
 use Rattle.broker_table.specs.Stream.{FaultLeaves, IsStreamed}
-use Rattle.broker_table.specs.Table.{BrokerTable}
+use Rattle.broker_rule.specs.Table.{BrokerTable}
 
 -- nothing was read of the connection or written to it, and the table is as it was
 abbrev pub Stays : Change → BrokerTable → BrokerTable → Type 0

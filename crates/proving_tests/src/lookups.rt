@@ -1,9 +1,10 @@
 //! Lookups over a lane in memory: what the broker knows, each fault, and when the verdict is there.
 ghost use Rattle.std.specs.Prelude.{◌≡◌, ◌<◌, [], IfOk};
 
+use broker_lanes::MemoryLanes;
 use broker_table::Table;
 use keep_inventory::read;
-use keep_lanes::{LaneFault, Loss, MemoryLanes};
+use keep_lanes::{LaneFault, Loss};
 use keep_moment::Moment;
 use keep_proving::{Candidate, Proving, Verdict};
 use std::alloc::{AllocError, Global};

@@ -3,10 +3,11 @@ ghost use Rattle.std.specs.Prelude.{IfOk};
 ghost use Rattle.keep_serving.specs.Held.{IsInStep};
 
 use crate::beside::{Asked, Beside, Heard};
+use broker_lanes::MemoryLanes;
 use broker_table::Table;
 use keep_clock::{Call, MemoryClock, Reading};
 use keep_inventory::read;
-use keep_lanes::{LaneFault, MemoryLanes};
+use keep_lanes::LaneFault;
 use keep_serving::{Change, Serving};
 use std::alloc::{AllocError, Global};
 use std::test::Fail;

@@ -24,8 +24,8 @@ use Rattle.keep_alike.proofs.Looks.{looks_both}
 use Rattle.keep_alike.proofs.Dated.{step_dated}
 use Rattle.keep_alike.specs.Laws.{inventory_of}
 use Rattle.keep_tree.specs.Forest.{Forest}
-use Rattle.broker_table.specs.Step.{broker_step}
-use Rattle.broker_table.specs.Table.{BrokerTable}
+use Rattle.broker_rule.specs.Step.{broker_step}
+use Rattle.broker_rule.specs.Table.{BrokerTable}
 use Rattle.vault_json.specs.Laws.{LookedLeaseIsRead}
 use Rattle.watch_machine.specs.declared.command.Request.{Request}
 use Rattle.watch_machine.specs.declared.event.Operation.{Operation}

@@ -34,15 +34,15 @@ use Rattle.watch_machine.specs.declared.event.Operation.TheVariants.{Look, Renew
 use Rattle.watch_machine.specs.declared.event.Reply.TheVariants as replies
 use Rattle.keep_alike.proofs.Dated.{if_both}
 use Rattle.keep_asking.specs.Told.{end_told, is_of_another, lookup_reply, lookup_terms, loss_in, no_terms, renewal_reply, said_to, terms_told}
-use Rattle.broker_table.specs.declared.call.Call.TheVariants.{LookupSelf, LookupLease}
-use Rattle.broker_table.specs.declared.refusal.Refusal.{Refusal}
-use Rattle.broker_table.specs.declared.refusal.Refusal.TheVariants.{UnsupportedPath, UnsupportedMethod, PermissionDenied, BadRequest, UnknownLease, NotRenewable}
-use Rattle.broker_table.specs.declared.row.Row.{Row}
-use Rattle.broker_table.specs.declared.served.Served.{Served}
-use Rattle.broker_table.specs.declared.served.Served.TheVariants as served
-use Rattle.broker_table.specs.Granted.{call_for}
-use Rattle.broker_table.specs.Request.{status_of_refusal, text_of_refusal}
-use Rattle.broker_table.specs.Step.{BrokerAnswer, IsReplyBody, Refuses, SaysAnswer, TellsRow, drops, refuses, seconds_to, tells}
+use Rattle.broker_rule.specs.declared.call.Call.TheVariants.{LookupSelf, LookupLease}
+use Rattle.broker_rule.specs.declared.refusal.Refusal.{Refusal}
+use Rattle.broker_rule.specs.declared.refusal.Refusal.TheVariants.{UnsupportedPath, UnsupportedMethod, PermissionDenied, BadRequest, UnknownLease, NotRenewable}
+use Rattle.broker_rule.specs.declared.row.Row.{Row}
+use Rattle.broker_rule.specs.declared.served.Served.{Served}
+use Rattle.broker_rule.specs.declared.served.Served.TheVariants as served
+use Rattle.broker_rule.specs.Granted.{call_for}
+use Rattle.broker_rule.specs.Request.{status_of_refusal, text_of_refusal}
+use Rattle.broker_rule.specs.Step.{BrokerAnswer, IsReplyBody, Refuses, SaysAnswer, TellsRow, drops, refuses, seconds_to, tells}
 use Rattle.vault_http.specs.declared.reply.Reply.{Reply}
 use Rattle.vault_json.specs.declared.lookup.Lookup.{Lookup}
 use Rattle.vault_json.specs.declared.lookup.Lookup.TheVariants as lookups

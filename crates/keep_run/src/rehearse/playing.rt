@@ -9,8 +9,8 @@ ghost use Rattle.keep_run.specs.Stops.{both};
 use crate::agent::Agent;
 use crate::agent::lines::push_done;
 use crate::rehearse::waking::{open, wake};
+use broker_memory::MemoryExchange;
 use keep_device::{Sink, Watched, write_all};
-use keep_exchange::MemoryExchange;
 use keep_report::{Stop, send};
 use std::alloc::Global;
 

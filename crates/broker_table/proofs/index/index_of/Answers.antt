@@ -1,7 +1,7 @@
 -- One slot more is entered under a credential that is new, and after the last all slots are.
 use Rattle.std.proofs.Common.{◌≡◌, ap, arith, length, subst, sym}
 use Rattle.broker_table.specs.declared.slot.Slot.{Slot}
-use Rattle.broker_table.specs.declared.row.Row.{Row}
+use Rattle.broker_rule.specs.declared.row.Row.{Row}
 use Rattle.broker_table.specs.Index.{IsFresh, IsIndexOf}
 use Rattle.broker_table.proofs.Indexed.{fresh_next}
 use Rattle.broker_table.proofs.index.index_of.Goals as goal

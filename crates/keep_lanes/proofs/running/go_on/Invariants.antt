@@ -1,6 +1,6 @@
 -- Those so far went on, and the others are as they were.
 use Rattle.std.proofs.Common.{◌≡◌, None, drop, length, take}
-use Rattle.keep_lanes.specs.code.Seats.{outs}
+use Rattle.keep_lanes.specs.Seats.{outs}
 use Rattle.keep_lanes.specs.code.Ways.{Move}
 use Rattle.keep_lanes.proofs.running.go_on.Given as goal
 

@@ -4,7 +4,7 @@ use Rattle.keep_device.specs.Seen.{Change, change}
 use Rattle.keep_moment.specs.declared.moment.TheConstants.{LAST}
 use Rattle.keep_tree.specs.Forest.{Forest}
 use Rattle.keep_core.specs.State.{CoreState}
-use Rattle.broker_table.specs.Table.{BrokerTable}
+use Rattle.broker_rule.specs.Table.{BrokerTable}
 use Rattle.keep_run.specs.Agent.{RunAgent}
 use Rattle.keep_run.specs.Hearing.{IsBetweenEvents}
 use Rattle.keep_run.specs.code.Playing.{MayCome, Plays}

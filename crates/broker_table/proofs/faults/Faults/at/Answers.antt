@@ -1,6 +1,6 @@
 -- A request to come has the fault that the map has at its number, and one that was counted has none.
 use Rattle.std.proofs.Common.{◌∙◌, ◌<◌, ◌≤◌, ap, sym}
-use Rattle.broker_table.specs.Faults.{Faults, fault_at}
+use Rattle.broker_rule.specs.Faults.{Faults, fault_at}
 use Rattle.broker_table.proofs.Pending.{fault_counted, fault_pending}
 use Rattle.broker_table.proofs.faults.Faults.at.Goals as goal
 

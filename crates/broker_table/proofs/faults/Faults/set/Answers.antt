@@ -1,7 +1,7 @@
 -- A fault that is given is found at its number, and stands after those that were given before.
 use Rattle.std.proofs.Common.{◌≡◌, ◌∙◌, ◌++◌, ◌∷◌, [], ◌+◌, ◌≤◌, List, ap, arith, is_ok, sym, true, vec_capacity, vec_len}
 use Rattle.std.proofs.lemmas.Bool.{cond-true}
-use Rattle.broker_table.specs.declared.fault.NumberedFault.{NumberedFault}
+use Rattle.broker_rule.specs.declared.fault.NumberedFault.{NumberedFault}
 use Rattle.broker_table.proofs.Pending.{pushed_faults, pushed_numbered}
 use Rattle.broker_table.proofs.faults.Faults.set.Goals as goal
 

@@ -2,7 +2,7 @@
 use Rattle.std.proofs.Common.{◌≡◌, ◌<◌, ◌∙◌, IfSome, ap, length, option_map, subst, sym, true}
 use Rattle.broker_table.specs.Index.{if_listed}
 use Rattle.broker_table.specs.Slots.{listed_rows, slot_at}
-use Rattle.broker_table.specs.Subject.{is_lease_with, lease_with}
+use Rattle.broker_rule.specs.Subject.{is_lease_with, lease_with}
 use Rattle.broker_table.proofs.Indexed.{listed_by_index, place_is_within, row_by_index}
 use Rattle.broker_table.proofs.slots.Slots.lease.Goals as goal
 

@@ -1,6 +1,6 @@
 -- The same are out, and no connection is made.
 use Rattle.std.proofs.Common.{◌≡◌, None, ◌∙◌, ap, length, refl, rules}
-use Rattle.keep_lanes.specs.code.Seats.{outs}
+use Rattle.keep_lanes.specs.Seats.{outs}
 use Rattle.keep_lanes.proofs.Dials.{dials_same, dials_wait}
 use Rattle.keep_device.proofs.Lent.{written_back}
 use Rattle.keep_lanes.proofs.running.LanesOver.listen.Goals as goal

@@ -2,7 +2,7 @@
 use Rattle.std.proofs.Common.{◌≡◌, None, vec_len}
 use Rattle.keep_device.specs.declared.limits.TheConstants.{MOST_ROOM}
 use Rattle.keep_lanes.specs.Dials.{KeepsDials}
-use Rattle.keep_lanes.specs.code.Seats.{outs}
+use Rattle.keep_lanes.specs.Seats.{outs}
 use Rattle.keep_lanes.proofs.running.LanesOver.listen.Given as goal
 
 abbrev pub invariant-loop : goal.invariant-loop

@@ -1,0 +1,10 @@
+pub mod Rows
+pub mod Sweep
+pub mod Listed
+pub mod Faults
+pub mod Table
+pub mod Request
+pub mod Subject
+pub mod Renewing
+pub mod Step
+pub mod Granted
