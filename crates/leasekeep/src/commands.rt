@@ -4,11 +4,11 @@ use crate::live::keep;
 use crate::serve::serve;
 use crate::watch::watch;
 use keep_command::{SystemFiles, words};
-use keep_device::{Counted, Streams};
-use keep_engine::{PROGRAM, obey};
+use keep_device::{Counted, Sink, Streams};
+use keep_engine::{Command, Exit, PROGRAM, obey};
 use leasekeep_commands::{Job, read_command};
 use std::fs::File;
-use std::io::{self, Read, Stdout, Write};
+use std::io::{self, Printer, Read, Stdout, Write};
 use std::net::Net;
 use std::rt::{Clock, Env, Files};
 
@@ -24,33 +24,51 @@ where
         Ok(words) => words,
         Err(exit) => return exit.code(),
     };
-    let exit = match read_command(rt, &words, &mut errors) {
-        Ok(Job::Call(called)) => return call(rt, &called, input, &mut errors).code(),
-        Ok(Job::Live(live)) => {
-            let mut streams = Streams {
-                lines: Counted::new(input),
-                out: Counted::new(io::writer(rt)),
-                errors,
-            };
-            keep(rt, &live, &mut streams)
-        }
-        Ok(Job::Watch(watched)) => {
-            let mut streams = Streams {
-                lines: Counted::new(input),
-                out: Counted::new(io::writer(rt)),
-                errors,
-            };
-            watch(rt, &watched, &mut streams)
-        }
-        Ok(Job::Serve(served)) => serve(rt, &served, output, &mut errors),
-        Ok(Job::Offline(command)) => {
-            let mut out = Counted::new(io::writer(rt));
-            let mut files = SystemFiles::new(rt);
-            let exit = obey(rt.alloc(), &command, &mut files, &mut out, &mut errors);
-            files.advise(PROGRAM, exit, command.inventory(), &mut errors);
-            exit
-        }
-        Err(exit) => exit,
-    };
-    exit.code()
+    match read_command(rt, &words, &mut errors) {
+        Ok(job) => do_job(rt, &job, input, output, errors),
+        Err(exit) => exit.code(),
+    }
+}
+
+/// Does what is asked, and gives the exit status.
+fn do_job<R, I, E>(rt: &R, job: &Job<'_>, input: I, output: Stdout, errors: Counted<E>) -> u8
+where
+    R: Env + Files<File = File> + AllocGlobal + Print + Net + Clock,
+    I: Read + Drop,
+    E: Write + Drop,
+{
+    let mut errors = errors;
+    match job {
+        Job::Call(called) => call(rt, called, input, &mut errors).code(),
+        Job::Live(live) => keep(rt, live, &mut streams(rt, input, errors)).code(),
+        Job::Watch(watched) => watch(rt, watched, &mut streams(rt, input, errors)).code(),
+        Job::Serve(served) => serve(rt, served, output, &mut errors).code(),
+        Job::Offline(command) => do_offline(rt, command, &mut errors).code(),
+    }
+}
+
+/// The streams of a command that takes lines and answers them.
+fn streams<R: Print, I: Read, E: Write>(
+    rt: &R,
+    input: I,
+    errors: Counted<E>,
+) -> Streams<Counted<I>, Counted<Printer<'_, R>>, Counted<E>> {
+    Streams {
+        lines: Counted::new(input),
+        out: Counted::new(io::writer(rt)),
+        errors,
+    }
+}
+
+/// Does what a command over files asks.
+fn do_offline<R: Files + AllocGlobal + Print, E: Sink>(
+    rt: &R,
+    command: &Command,
+    errors: &mut E,
+) -> Exit {
+    let mut out = Counted::new(io::writer(rt));
+    let mut files = SystemFiles::new(rt);
+    let exit = obey(rt.alloc(), command, &mut files, &mut out, errors);
+    files.advise(PROGRAM, exit, command.inventory(), errors);
+    exit
 }

@@ -8,16 +8,10 @@ use std::process::ExitCode;
 mod apart;
 mod calling;
 mod commands;
-mod ends;
-mod folder;
-mod found;
+mod house;
 mod live;
-mod modes;
-mod reading;
 mod running;
-mod secrets;
 mod serve;
-mod sockets;
 mod watch;
 
 fn main(rt: HostRuntime) -> ExitCode {

@@ -1,12 +1,10 @@
 //! Whether others than the agent's user and its group may reach what lies in the state folder.
-use crate::folder::{Said, push};
-use keep_disk::{Disk as _, DiskFault, SystemDisk};
+use crate::said::{Said, push};
+use keep_disk::{Disk, DiskFault};
 use keep_log::Level;
 use keep_moment::Text;
 use keep_state::Paths;
 use std::alloc::{AllocError, Global};
-use std::fs::File;
-use std::rt::Files;
 
 /// The permission bits of others.
 const OTHERS: u32 = 0o007;
@@ -16,9 +14,9 @@ const OTHERS_WRITE: u32 = 0o002;
 
 /// Says of the folder, and of each file in it that holds secrets, that it is open to others, where it is. The only error is lack of
 /// memory.
-pub fn say_open<R: Files<File = File> + AllocGlobal>(
+pub(crate) fn say_open<D: Disk>(
     alloc: Global,
-    disk: &mut SystemDisk<'_, R>,
+    disk: &mut D,
     paths: &Paths,
     folder: &str,
     said: &mut Vec<Said>,
@@ -29,9 +27,9 @@ pub fn say_open<R: Files<File = File> + AllocGlobal>(
     say_mode(alloc, disk, paths.aside(), folder, said)
 }
 
-fn say_mode<R: Files<File = File> + AllocGlobal>(
+fn say_mode<D: Disk>(
     alloc: Global,
-    disk: &mut SystemDisk<'_, R>,
+    disk: &mut D,
     path: &str,
     folder: &str,
     said: &mut Vec<Said>,
@@ -52,18 +50,12 @@ fn say_mode<R: Files<File = File> + AllocGlobal>(
 }
 
 /// Whether others may write what is at a path. The only error is lack of memory.
-pub fn may_others_write<R: Files<File = File> + AllocGlobal>(
-    disk: &mut SystemDisk<'_, R>,
-    path: &str,
-) -> Result<bool, AllocError> {
+pub(crate) fn may_others_write<D: Disk>(disk: &mut D, path: &str) -> Result<bool, AllocError> {
     Ok(mode_of(disk, path)? & OTHERS_WRITE != 0)
 }
 
 /// The permission bits of what is at a path; none where nothing is, or they cannot be told. The only error is lack of memory.
-fn mode_of<R: Files<File = File> + AllocGlobal>(
-    disk: &mut SystemDisk<'_, R>,
-    path: &str,
-) -> Result<u32, AllocError> {
+fn mode_of<D: Disk>(disk: &mut D, path: &str) -> Result<u32, AllocError> {
     match disk.stamp(path) {
         Ok(Some(stamp)) => Ok(stamp.mode),
         Err(DiskFault::OutOfMemory) => Err(AllocError),

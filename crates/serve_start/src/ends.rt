@@ -1,12 +1,11 @@
 //! The ends that `serve` takes over, and the file that keeps them.
 use keep_clock::Reading;
-use keep_disk::{Disk as _, DiskFault, SystemDisk, Why};
+use keep_disk::{Disk, DiskFault, SystemDisk, Why};
 use keep_ends::{EndsFile, known_events, load_ends};
 use keep_house::Desk;
 use keep_inventory::Inventory;
 use keep_log::Level;
 use keep_moment::Text;
-use leasekeep_commands::Room;
 use std::alloc::{AllocError, Global};
 use std::fs::File;
 use std::rt::Files;
@@ -18,45 +17,57 @@ const BOOT_ID: &str = "/proc/sys/kernel/random/boot_id";
 /// More than such an id has.
 const MOST_ID: usize = 256;
 
-/// The path of the file in this room. The only error is lack of memory.
-fn path_of(alloc: Global, room: Room<'_>) -> Result<String, AllocError> {
-    match room {
-        Room::Folder(folder) => Ok(format!(in alloc; "{folder}/ends")?),
-        Room::Beside(path) => {
-            let folder = folder_of(path);
-            Ok(format!(in alloc; "{folder}ends")?)
-        }
-    }
-}
-
-/// What stands before a path that starts at the folder of a file: the file's own path up to its last slash.
-pub fn folder_of(file: &str) -> &str {
-    match file.rfind('/') {
-        None => "",
-        Some(end) => &file[..end + 1],
-    }
-}
-
-/// The file of the ends in this room, which this agent holds from then on; `None` where there is no room for it, and where another agent
-/// holds it or there is no id of this boot, which the desk is told. The only error is lack of memory.
-pub fn ends_file<'a, R: Files<File = File> + AllocGlobal>(
+/// The file of the ends, where it has a path, and what hands in the ends that it keeps to an agent of this inventory. This agent holds it
+/// from then on; `None` where another agent holds it or there is no id of this boot, which the desk is told. The only error is lack of
+/// memory.
+pub fn take_over<'a, R: Files<File = File> + AllocGlobal>(
     rt: &'a R,
-    room: Option<Room<'_>>,
+    path: Option<String>,
+    inventory: &Inventory,
     now: Reading,
     desk: &mut Desk,
-) -> Result<Option<EndsFile<SystemDisk<'a, R>>>, AllocError> {
-    let Some(room) = room else {
+) -> Result<(Option<EndsFile<SystemDisk<'a, R>>>, Vec<Event>), AllocError> {
+    let alloc = rt.alloc();
+    let Some(path) = path else {
+        return Ok((None, Vec::new(alloc)));
+    };
+    let Some(mut file) = ends_file(alloc, SystemDisk::new(rt), path, now, desk)? else {
+        return Ok((None, Vec::new(alloc)));
+    };
+    let known = taken_over(alloc, &mut file, inventory, now, desk)?;
+    Ok((Some(file), known))
+}
+
+/// The file of the ends at a path, unless it is another agent's or there is no id of this boot.
+fn ends_file<D: Disk + Drop>(
+    alloc: Global,
+    disk: D,
+    path: String,
+    now: Reading,
+    desk: &mut Desk,
+) -> Result<Option<EndsFile<D>>, AllocError> {
+    let mut disk = disk;
+    let Some(boot) = own_boot(alloc, &mut disk, &path, now, desk)? else {
         return Ok(None);
     };
-    let alloc = rt.alloc();
-    let mut disk = SystemDisk::new(rt);
-    match boot_id(alloc, &mut disk) {
+    Ok(Some(EndsFile::new(path, boot, disk)))
+}
+
+/// The id of this boot, where there is one and no other agent holds the file of the ends at a path. Otherwise the desk is told. The only
+/// error is lack of memory.
+fn own_boot<D: Disk>(
+    alloc: Global,
+    disk: &mut D,
+    path: &str,
+    now: Reading,
+    desk: &mut Desk,
+) -> Result<Option<Text>, AllocError> {
+    match boot_id(alloc, disk) {
         Ok(boot) => {
-            let path = path_of(alloc, room)?;
-            if !is_held(alloc, &mut disk, &path, now, desk)? {
+            if !is_held(alloc, disk, path, now, desk)? {
                 return Ok(None);
             }
-            Ok(Some(EndsFile::new(path, boot, disk)))
+            Ok(Some(boot))
         }
         Err(DiskFault::OutOfMemory) => Err(AllocError),
         Err(fault) => {
@@ -68,9 +79,9 @@ pub fn ends_file<'a, R: Files<File = File> + AllocGlobal>(
 
 /// Whether no other agent holds the file of the ends at a path; then this one does, until it ends. Otherwise the desk is told. Where the
 /// lock cannot be had for another reason, that shows once the file is written. The only error is lack of memory.
-fn is_held<R: Files<File = File> + AllocGlobal>(
+fn is_held<D: Disk>(
     alloc: Global,
-    disk: &mut SystemDisk<'_, R>,
+    disk: &mut D,
     path: &str,
     now: Reading,
     desk: &mut Desk,
@@ -91,10 +102,7 @@ fn is_held<R: Files<File = File> + AllocGlobal>(
 }
 
 /// The id of this boot.
-fn boot_id<R: Files<File = File> + AllocGlobal>(
-    alloc: Global,
-    disk: &mut SystemDisk<'_, R>,
-) -> Result<Text, DiskFault> {
+fn boot_id<D: Disk>(alloc: Global, disk: &mut D) -> Result<Text, DiskFault> {
     let Some(text) = disk.read(alloc, BOOT_ID, MOST_ID)? else {
         return Err(DiskFault::Failed(Why::Missing));
     };
@@ -103,9 +111,9 @@ fn boot_id<R: Files<File = File> + AllocGlobal>(
 
 /// The events that hand the ends of this boot that a file keeps to an agent of this inventory. Where they cannot be read the desk is
 /// told, and there are none. The only error is lack of memory.
-pub fn taken_over<R: Files<File = File> + AllocGlobal>(
+fn taken_over<D: Disk>(
     alloc: Global,
-    file: &mut EndsFile<SystemDisk<'_, R>>,
+    file: &mut EndsFile<D>,
     inventory: &Inventory,
     now: Reading,
     desk: &mut Desk,

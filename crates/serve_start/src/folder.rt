@@ -1,54 +1,65 @@
 //! The state folder of `serve`: what is served by it, and what is said of it.
-ghost use Rattle.leasekeep.specs.Ends.{RefusesStart};
+ghost use Rattle.serve_start.specs.Refusals.{RefusesStart};
 
-use crate::ends::folder_of;
 use crate::found::{Found, find};
 use crate::reading::Inventories;
+use crate::said::{Said, push, push_each};
 use crate::secrets::SystemSecrets;
+use crate::start::{Start, SystemLedger};
 use keep_change::Note;
 use keep_device::{Sink, Watched};
 use keep_disk::{Disk, DiskFault, SystemDisk};
-use keep_engine::{Exit, PROGRAM, Stop, tell};
+use keep_files::Inputs;
 use keep_house::{Demands, Ledger, disk_words};
-use keep_lanes::SocketLanes;
+use keep_lanes::Lanes;
 use keep_log::Level;
 use keep_moment::Text;
+use keep_report::{Exit, PROGRAM, Stop, tell};
 use keep_secrets::Looking;
 use keep_state::{OpenFault, Opened, Paths, PathsFault, State};
 use std::alloc::{AllocError, Global};
 use std::fs::File;
-use std::net::Net;
-use std::rt::{Clock, Files};
+use std::rt::Files;
 
-/// The state of an agent on the disks of the system.
-pub type SystemLedger<'a, R> = Ledger<
-    'a,
-    SystemDisk<'a, R>,
-    SystemSecrets<'a, R>,
-    SocketLanes<'a, R>,
->;
-
-/// What is said of the state folder or the file at the start.
+/// A state folder, with the paths of the files in it, or why it has none.
 #[derive(Debug, Drop)]
-pub struct Said {
-    pub level: Level,
-    pub event: &'static str,
-    pub text: Text,
+pub struct Folder<'a> {
+    pub(crate) name: &'a str,
+    paths: Result<Paths, PathsFault>,
 }
 
-/// What is served with a state folder.
-#[derive(Drop)]
-pub struct Begun<'a, R: Files<File = File> + AllocGlobal + Net + Clock> {
-    pub ledger: SystemLedger<'a, R>,
-    pub inventories: Inventories,
-    /// Whether the file itself is served, and not its copy.
-    pub is_good: bool,
-    pub said: Vec<Said>,
+impl<'a> Folder<'a> {
+    /// The folder of that name, for the inventory at `file`.
+    pub fn of(alloc: Global, file: &str, name: &'a str) -> Folder<'a> {
+        Folder {
+            name,
+            paths: Paths::of(alloc, file, name),
+        }
+    }
+
+    /// The paths of the files in it.
+    fn paths(&self, alloc: Global) -> Result<&Paths, NotBegun> {
+        match &self.paths {
+            Ok(paths) => Ok(paths),
+            Err(PathsFault::InFolder) => {
+                Err(unused(alloc, self.name, "FILE is one of its own files")?)
+            }
+            Err(PathsFault::OutOfMemory) => Err(NotBegun::Memory),
+        }
+    }
+}
+
+/// What stands before a path that starts at the folder of a file: the file's own path up to its last slash.
+pub fn folder_of(file: &str) -> &str {
+    match file.rfind('/') {
+        None => "",
+        Some(end) => &file[..end + 1],
+    }
 }
 
 /// Why nothing is served with a state folder.
 #[derive(Debug, Drop)]
-pub enum NotBegun {
+pub(crate) enum NotBegun {
     /// The folder cannot be used: the file is served without it, and this is said.
     Unused(Said),
     /// Another agent holds the folder.
@@ -65,28 +76,19 @@ impl From<AllocError> for NotBegun {
     }
 }
 
-/// The paths of a state folder.
-pub fn paths_of(alloc: Global, file: &str, folder: &str) -> Result<Paths, NotBegun> {
-    match Paths::of(alloc, file, folder) {
-        Ok(paths) => Ok(paths),
-        Err(PathsFault::InFolder) => Err(unused(alloc, folder, "FILE is one of its own files")?),
-        Err(PathsFault::OutOfMemory) => Err(NotBegun::Memory),
-    }
-}
-
-/// What is served with the folder of these paths: the file with every change that it has, or the last good copy with them. The folder is
-/// made where there is none.
-pub fn begin<'a, R: Files<File = File> + AllocGlobal + Net + Clock>(
+/// What is served with a folder: the file with every change that it has, or the last good copy with them. The folder is made where there
+/// is none.
+pub(crate) fn begin<'a, R: Files<File = File> + AllocGlobal, L: Lanes + Drop>(
     rt: &'a R,
-    paths: &'a Paths,
-    folder: &str,
+    folder: &'a Folder<'_>,
     demands: Demands,
-) -> Result<Begun<'a, R>, NotBegun> {
+) -> Result<Start<SystemLedger<'a, R, L>>, NotBegun> {
     let alloc = rt.alloc();
+    let paths = folder.paths(alloc)?;
     let mut disk = SystemDisk::new(rt);
-    make_folder(alloc, &mut disk, folder)?;
-    let found = find(alloc, &mut disk, paths, folder, demands)?;
-    let opened = open(alloc, disk, paths, folder, &found)?;
+    make_folder(alloc, &mut disk, folder.name)?;
+    let found = find(alloc, &mut disk, paths, folder.name, demands)?;
+    let opened = open(alloc, disk, paths, folder.name, &found)?;
     let files = SystemSecrets::new(rt);
     Ok(begin_with(alloc, paths, demands, files, opened, found.said)?)
 }
@@ -134,14 +136,14 @@ fn bytes_of(text: &Option<Text>) -> Option<&[u8]> {
 }
 
 /// What is served by a state that was opened, after what was said before. The only error is lack of memory.
-fn begin_with<'a, R: Files<File = File> + AllocGlobal + Net + Clock>(
+fn begin_with<'a, D: Disk + Drop, I: Inputs + Drop, L: Lanes + Drop>(
     alloc: Global,
     paths: &'a Paths,
     demands: Demands,
-    files: SystemSecrets<'a, R>,
-    opened: Opened<'a, SystemDisk<'a, R>>,
+    files: I,
+    opened: Opened<'a, D>,
     said: Vec<Said>,
-) -> Result<Begun<'a, R>, AllocError> {
+) -> Result<Start<Ledger<'a, D, I, L>>, AllocError> {
     let mut said = said;
     say_opened(alloc, paths, &opened, &mut said)?;
     let Opened {
@@ -161,9 +163,10 @@ fn begin_with<'a, R: Files<File = File> + AllocGlobal + Net + Clock>(
         asked: None,
     };
     let inventories = filled(alloc, &mut ledger, &notes, &mut said)?;
-    Ok(Begun {
-        ledger,
+    Ok(Start {
+        part: demands.earlier,
         inventories,
+        ledger: Some(ledger),
         is_good: fault.is_none(),
         said,
     })
@@ -171,9 +174,9 @@ fn begin_with<'a, R: Files<File = File> + AllocGlobal + Net + Clock>(
 
 /// What is served by a ledger, once it has what the files of credentials hold; what is to be said of that and of its changes is said. The
 /// only error is lack of memory.
-fn filled<R: Files<File = File> + AllocGlobal + Net + Clock>(
+fn filled<D: Disk, I: Inputs, L: Lanes>(
     alloc: Global,
-    ledger: &mut SystemLedger<'_, R>,
+    ledger: &mut Ledger<'_, D, I, L>,
     notes: &[Note],
     said: &mut Vec<Said>,
 ) -> Result<Inventories, AllocError> {
@@ -190,9 +193,9 @@ fn filled<R: Files<File = File> + AllocGlobal + Net + Clock>(
 }
 
 /// What is served by a ledger. The only error is lack of memory.
-fn inventories_of<R: Files<File = File> + AllocGlobal + Net + Clock>(
+fn inventories_of<D: Disk, I: Inputs, L: Lanes>(
     alloc: Global,
-    ledger: &SystemLedger<'_, R>,
+    ledger: &Ledger<'_, D, I, L>,
 ) -> Result<Inventories, AllocError> {
     let served = ledger.inventory(alloc)?;
     let again = if ledger.demands.earlier == 0 {
@@ -261,29 +264,6 @@ fn say_damaged(
     )
 }
 
-/// Appends what is said.
-pub fn push(
-    said: &mut Vec<Said>,
-    level: Level,
-    event: &'static str,
-    text: Text,
-) -> Result<(), AllocError> {
-    Ok(said.push(Said { level, event, text })?)
-}
-
-/// Appends each of these texts.
-pub fn push_each(
-    said: &mut Vec<Said>,
-    level: Level,
-    event: &'static str,
-    texts: Vec<Text>,
-) -> Result<(), AllocError> {
-    for text in texts {
-        push(said, level, event, text)?;
-    }
-    Ok(())
-}
-
 fn unused_by(alloc: Global, folder: &str, fault: DiskFault) -> Result<NotBegun, AllocError> {
     let why = match fault {
         DiskFault::OutOfMemory => return Ok(NotBegun::Memory),
@@ -304,7 +284,7 @@ fn unused(alloc: Global, folder: &str, why: &str) -> Result<NotBegun, AllocError
 }
 
 /// Tells that another agent holds the folder.
-pub fn refuse_held<E: Sink>(alloc: Global, folder: &str, errors: &mut E) -> Exit
+pub(crate) fn refuse_held<E: Sink>(alloc: Global, folder: &str, errors: &mut E) -> Exit
     ensures { RefusesStart result (⟦<E as Watched>⟧.change errors.old errors.new) }
 {
     refuse(
@@ -316,7 +296,7 @@ pub fn refuse_held<E: Sink>(alloc: Global, folder: &str, errors: &mut E) -> Exit
 }
 
 /// Tells that the file cannot be served with the changes of the folder.
-pub fn refuse_changes<E: Sink>(alloc: Global, folder: &str, errors: &mut E) -> Exit
+pub(crate) fn refuse_changes<E: Sink>(alloc: Global, folder: &str, errors: &mut E) -> Exit
     ensures { RefusesStart result (⟦<E as Watched>⟧.change errors.old errors.new) }
 {
     refuse(

@@ -1,9 +1,8 @@
 //! The sockets of `serve`: where commands come in, and where onlookers do. Neither can stop it: one that cannot be had is an alert.
-use keep_clients::SocketDoor;
+use keep_clients::{Entrance, SocketDoor};
 use keep_clock::{Reading, SystemClock};
 use keep_house::Desk;
 use keep_lanes::MOST_WIDTH;
-use leasekeep_commands::Socket;
 use std::alloc::Global;
 use std::io;
 use std::net::Net;
@@ -30,20 +29,20 @@ pub const ONLOOKERS: Guests = Guests {
     cost: "nobody can look on",
 };
 
-/// The door of these guests, where a socket is asked for; one that cannot be had is an alert.
+/// The door of these guests, who come in there, as a word of the command line says; one that cannot be had is an alert.
 pub fn open_door<R: Files + AllocGlobal + Net + Clock>(
     rt: &R,
     clock: &SystemClock<'_, R>,
     now: Reading,
-    socket: Option<Socket<'_>>,
+    word: &str,
+    entrance: Entrance<'_>,
     guests: Guests,
     desk: &mut Desk,
 ) -> Option<SocketDoor> {
-    let socket = socket?;
-    match door(rt, clock, socket, guests.number) {
+    match door(rt, clock, entrance, guests.number) {
         Ok(door) => Some(door),
         Err(error) => {
-            tell(rt.alloc(), desk, now, socket, &error, guests.cost);
+            tell(rt.alloc(), desk, now, word, &error, guests.cost);
             None
         }
     }
@@ -53,26 +52,19 @@ pub fn open_door<R: Files + AllocGlobal + Net + Clock>(
 fn door<R: Files + Net + Clock>(
     rt: &R,
     clock: &SystemClock<'_, R>,
-    socket: Socket<'_>,
+    entrance: Entrance<'_>,
     number: u32,
 ) -> io::Result<SocketDoor> {
     let registry = match clock.registry() {
         None => None,
         Some(registry) => registry.try_clone().ok(),
     };
-    SocketDoor::at(rt, socket.entrance, registry, number)
+    SocketDoor::at(rt, entrance, registry, number)
 }
 
 /// Tells why a socket cannot be had, and what that costs.
-fn tell(
-    alloc: Global,
-    desk: &mut Desk,
-    now: Reading,
-    socket: Socket<'_>,
-    error: &io::Error,
-    cost: &str,
-) {
-    let (socket, cost) = (socket.word.as_bytes(), cost.as_bytes());
+fn tell(alloc: Global, desk: &mut Desk, now: Reading, word: &str, error: &io::Error, cost: &str) {
+    let (socket, cost) = (word.as_bytes(), cost.as_bytes());
     match format!(in alloc; "{error}") {
         Ok(text) => desk.hear_no_socket(alloc, now, socket, reason(&text).as_bytes(), cost),
         Err(_) => desk.hear_no_socket(alloc, now, socket, b"out of memory", cost),

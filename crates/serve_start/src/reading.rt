@@ -1,18 +1,17 @@
 //! What is served of the file alone, and why a start is refused.
-ghost use Rattle.leasekeep.specs.Ends.{GivesOrRefuses, IsToldOf, RefusesIf, RefusesStart};
+ghost use Rattle.serve_start.specs.Refusals.{GivesOrRefuses, IsToldOf, RefusesIf, RefusesStart};
 
-use crate::ends::folder_of;
+use crate::folder::folder_of;
 use crate::secrets::SystemSecrets;
 use keep_command::SystemFiles;
 use keep_device::{Sink, Watched};
-use keep_engine::{Exit, PROGRAM, Stop, tell};
 use keep_files::Inputs;
 use keep_house::{
     Demands, StartFault, faults_as_written, faults_to_serve, line_of_fault, read_to_serve,
 };
 use keep_inventory::{Inventory, MOST_INVENTORY, read_served};
 use keep_moment::Text;
-use leasekeep_commands::Served;
+use keep_report::{Exit, PROGRAM, Stop, tell};
 use std::alloc::{AllocError, Global};
 use std::fs::{self, File, Metadata};
 use std::io::ErrorKind;
@@ -28,9 +27,9 @@ pub struct Inventories {
 }
 
 /// What is served of the file, with what the files hold that it names; or the exit, once it was told why the start is refused.
-pub fn read_inventory<R, E>(
+pub(crate) fn read_inventory<R, E>(
     rt: &R,
-    served: &Served<'_>,
+    file: &str,
     demands: Demands,
     errors: &mut E,
 ) -> Result<Inventories, Exit>
@@ -39,14 +38,14 @@ where
     E: Sink,
     ensures { GivesOrRefuses result (⟦<E as Watched>⟧.change errors.old errors.new) }
 {
-    let bytes = read_bytes(rt, served.file, errors)?;
-    serve_bytes(rt, served.file, &bytes, demands, errors)
+    let bytes = read_bytes(rt, file, errors)?;
+    serve_bytes(rt, file, &bytes, demands, errors)
 }
 
 /// Refuses a file that cannot be read, or that may not be served for what it writes, whatever the files hold that it names.
-pub fn refuse_written<R, E>(
+pub(crate) fn refuse_written<R, E>(
     rt: &R,
-    served: &Served<'_>,
+    file: &str,
     demands: Demands,
     errors: &mut E,
 ) -> Option<Exit>
@@ -55,12 +54,12 @@ where
     E: Sink,
     ensures { RefusesIf result (⟦<E as Watched>⟧.change errors.old errors.new) }
 {
-    let bytes = match read_bytes(rt, served.file, errors) {
+    let bytes = match read_bytes(rt, file, errors) {
         Ok(bytes) => bytes,
         Err(exit) => return Some(exit),
     };
     match faults_as_written(rt.alloc(), bytes.list(), demands) {
-        Ok(faults) => refuse_faults(rt, served.file, &bytes, demands, &faults, errors),
+        Ok(faults) => refuse_faults(rt, file, &bytes, demands, &faults, errors),
         Err(AllocError) => Some(Stop::Memory.report(PROGRAM, errors)),
     }
 }

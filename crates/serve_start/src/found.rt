@@ -1,25 +1,23 @@
 //! What a start with a state folder finds of the file that is to be served, and of its last good copy.
-use crate::folder::{Said, push_each};
 use crate::modes::{may_others_write, say_open};
-use keep_disk::{Disk as _, DiskFault, SystemDisk};
+use crate::said::{Said, push_each};
+use keep_disk::{Disk, DiskFault};
 use keep_house::{Demands, unread_words, why_not_served};
 use keep_inventory::MOST_INVENTORY;
 use keep_log::Level;
 use keep_moment::Text;
 use keep_state::{Paths, ReadFault, read_file};
 use std::alloc::{AllocError, Global};
-use std::fs::File;
-use std::rt::Files;
 
 /// What a start finds. It has no `Debug`: the bytes may hold secrets.
 #[derive(Drop)]
-pub struct Found {
+pub(crate) struct Found {
     /// The file, where it may be served.
-    pub file: Option<Text>,
+    pub(crate) file: Option<Text>,
     /// Its last good copy, where there is one that may be served.
-    pub copy: Option<Text>,
+    pub(crate) copy: Option<Text>,
     /// Why the file is not served.
-    pub said: Vec<Said>,
+    pub(crate) said: Vec<Said>,
 }
 
 /// Why a file is not served.
@@ -37,37 +35,44 @@ impl From<AllocError> for Unserved {
     }
 }
 
-/// What the file and its copy at these paths are found to be, as they are written: what the files hold that they name is waited for. A
-/// copy that others may write is none. The only error is lack of memory.
-pub fn find<R: Files<File = File> + AllocGlobal>(
+/// What the file and its copy at these paths are found to be, as they are written: what the files hold that they name is waited for.
+/// The only error is lack of memory.
+pub(crate) fn find<D: Disk>(
     alloc: Global,
-    disk: &mut SystemDisk<'_, R>,
+    disk: &mut D,
     paths: &Paths,
     folder: &str,
     demands: Demands,
 ) -> Result<Found, AllocError> {
     let mut said = Vec::new(alloc);
     say_open(alloc, disk, paths, folder, &mut said)?;
-    let file = match judged(alloc, disk, paths.file(), demands) {
-        Ok(bytes) => Some(bytes),
-        Err(Unserved::Whys(whys)) => {
-            push_each(&mut said, Level::Alert, "file", whys)?;
-            None
-        }
-        Err(Unserved::Memory) => return Err(AllocError),
-    };
-    let copy = if may_others_write(disk, folder)? || may_others_write(disk, paths.copy())? {
-        None
-    } else {
-        copied(alloc, disk, paths.copy(), demands)?
-    };
+    let file = find_file(alloc, disk, paths.file(), demands, &mut said)?;
+    let copy = find_copy(alloc, disk, paths.copy(), folder, demands)?;
     Ok(Found { file, copy, said })
 }
 
-/// The file at a path, where it may be served; otherwise why not.
-fn judged<R: Files<File = File> + AllocGlobal>(
+/// The file at a path, where it may be served; otherwise it is said why not. The only error is lack of memory.
+fn find_file<D: Disk>(
     alloc: Global,
-    disk: &mut SystemDisk<'_, R>,
+    disk: &mut D,
+    path: &str,
+    demands: Demands,
+    said: &mut Vec<Said>,
+) -> Result<Option<Text>, AllocError> {
+    match judged(alloc, disk, path, demands) {
+        Ok(bytes) => Ok(Some(bytes)),
+        Err(Unserved::Whys(whys)) => {
+            push_each(said, Level::Alert, "file", whys)?;
+            Ok(None)
+        }
+        Err(Unserved::Memory) => Err(AllocError),
+    }
+}
+
+/// The file at a path, where it may be served; otherwise why not.
+fn judged<D: Disk>(
+    alloc: Global,
+    disk: &mut D,
     path: &str,
     demands: Demands,
 ) -> Result<Text, Unserved> {
@@ -89,13 +94,18 @@ fn alone(alloc: Global, why: Text) -> Result<Unserved, AllocError> {
     Ok(Unserved::Whys(whys))
 }
 
-/// The last good copy, where there is one that may be served. The only error is lack of memory.
-fn copied<R: Files<File = File> + AllocGlobal>(
+/// The last good copy at a path in this folder, where there is one that may be served: none that others may write. The only error is
+/// lack of memory.
+fn find_copy<D: Disk>(
     alloc: Global,
-    disk: &mut SystemDisk<'_, R>,
+    disk: &mut D,
     path: &str,
+    folder: &str,
     demands: Demands,
 ) -> Result<Option<Text>, AllocError> {
+    if may_others_write(disk, folder)? || may_others_write(disk, path)? {
+        return Ok(None);
+    }
     let bytes = match disk.read(alloc, path, MOST_INVENTORY) {
         Ok(Some(bytes)) => bytes,
         Err(DiskFault::OutOfMemory) => return Err(AllocError),

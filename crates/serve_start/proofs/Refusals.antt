@@ -7,7 +7,7 @@ use Rattle.keep_inventory.specs.declared.fault.InvFault.{InvFault}
 use Rattle.keep_inventory.specs.declared.fault.InvFault.TheVariants as inventories
 use Rattle.keep_report.specs.declared.exit.Exit.{Exit}
 use Rattle.keep_report.specs.Exits.{stop_of_input, stop_of_inventory}
-use Rattle.leasekeep.specs.Ends.{IsToldOf, RefusesStart}
+use Rattle.serve_start.specs.Refusals.{IsToldOf, RefusesStart}
 
 pub refused_input : (fault : InputFault) (exit : Exit) (errors : Change) → IsToldOf (stop_of_input fault) exit errors → RefusesStart exit errors
 refused_input inputs.ReadFailed exit errors told = subst (λ e. RefusesStart e errors) (sym told.0) tt

@@ -1,0 +1,52 @@
+//! What is said in the log before anything else.
+use keep_clock::Reading;
+use keep_house::Desk;
+use keep_log::{Form, Level};
+use keep_moment::Text;
+use std::alloc::{AllocError, Global};
+
+/// What is said of the state folder or the file at the start.
+#[derive(Debug, Drop)]
+pub struct Said {
+    pub level: Level,
+    pub event: &'static str,
+    pub text: Text,
+}
+
+/// Appends what is said.
+pub(crate) fn push(
+    said: &mut Vec<Said>,
+    level: Level,
+    event: &'static str,
+    text: Text,
+) -> Result<(), AllocError> {
+    Ok(said.push(Said { level, event, text })?)
+}
+
+/// Appends each of these texts.
+pub(crate) fn push_each(
+    said: &mut Vec<Said>,
+    level: Level,
+    event: &'static str,
+    texts: Vec<Text>,
+) -> Result<(), AllocError> {
+    for text in texts {
+        push(said, level, event, text)?;
+    }
+    Ok(())
+}
+
+/// The log of an agent with so many entries, with what is said at the start. The only error is lack of memory.
+pub fn desk_of(
+    alloc: Global,
+    form: Form,
+    count: u32,
+    now: Reading,
+    said: &[Said],
+) -> Result<Desk, AllocError> {
+    let mut desk = Desk::new(alloc, form, count)?;
+    for line in said {
+        desk.hear_at_start(alloc, now, line.level, line.event, line.text.list());
+    }
+    Ok(desk)
+}

@@ -1,0 +1,118 @@
+//! What is served from the start on, or why nothing is.
+ghost use Rattle.serve_start.specs.Refusals.{GivesOrRefuses};
+
+use crate::folder::{Folder, NotBegun, begin, refuse_changes, refuse_held};
+use crate::reading::{Inventories, read_inventory, refuse_written};
+use crate::said::Said;
+use crate::secrets::SystemSecrets;
+use keep_device::{Sink, Watched};
+use keep_disk::{Disk, SystemDisk};
+use keep_house::{Demands, Ledger};
+use keep_lanes::Lanes;
+use keep_proving::Proving;
+use keep_report::{Exit, PROGRAM, Stop};
+use std::fs::File;
+use std::rt::Files;
+
+/// What is served from the start on.
+#[derive(Drop)]
+pub struct Start<K> {
+    /// This agent's part of a spread, in seconds.
+    pub part: u32,
+    pub inventories: Inventories,
+    /// What keeps the changes that clients give, where there is a state folder.
+    pub ledger: Option<K>,
+    /// Whether the file itself is served, and not its copy.
+    pub is_good: bool,
+    pub said: Vec<Said>,
+}
+
+impl<'a, D: Disk, I, L: Lanes + Drop> Start<Ledger<'a, D, I, L>> {
+    /// Has a credential looked up over these lanes before a ledger takes it, where there is one.
+    pub fn prove_by(&mut self, proving: Proving<L>) {
+        if let Some(ledger) = &mut self.ledger {
+            ledger.proving = Some(proving);
+        }
+    }
+}
+
+/// The state of an agent on the disks of the system.
+pub type SystemLedger<'a, R, L> = Ledger<'a, SystemDisk<'a, R>, SystemSecrets<'a, R>, L>;
+
+/// What is served of the inventory at `file`, with the changes of a state folder, where there is one; without it, where that cannot be
+/// used. Or the exit, once it was told why nothing is served.
+pub fn start<'a, R, L, E>(
+    rt: &'a R,
+    file: &str,
+    folder: Option<&'a Folder<'_>>,
+    demands: Demands,
+    errors: &mut E,
+) -> Result<Start<SystemLedger<'a, R, L>>, Exit>
+where
+    R: Files<File = File> + AllocGlobal,
+    L: Lanes + Drop,
+    E: Sink,
+    ensures { GivesOrRefuses result (⟦<E as Watched>⟧.change errors.old errors.new) }
+{
+    let Some(folder) = folder else {
+        return start_with_file(rt, file, demands, None, errors);
+    };
+    match begin(rt, folder, demands) {
+        Ok(start) => Ok(start),
+        Err(why) => start_without(rt, file, folder.name, demands, why, errors),
+    }
+}
+
+/// What is served of the file without its state folder, where that cannot be used; or the exit, once it was told why nothing is served.
+fn start_without<R, K, E>(
+    rt: &R,
+    file: &str,
+    folder: &str,
+    demands: Demands,
+    why: NotBegun,
+    errors: &mut E,
+) -> Result<Start<K>, Exit>
+where
+    R: Files<File = File> + AllocGlobal,
+    E: Sink,
+    ensures { GivesOrRefuses result (⟦<E as Watched>⟧.change errors.old errors.new) }
+{
+    match why {
+        NotBegun::Unused(said) => start_with_file(rt, file, demands, Some(said), errors),
+        NotBegun::Held => Err(refuse_held(rt.alloc(), folder, errors)),
+        NotBegun::Refused => match refuse_written(rt, file, demands, errors) {
+            None => Err(refuse_changes(rt.alloc(), folder, errors)),
+            Some(exit) => Err(exit),
+        },
+        NotBegun::Memory => Err(Stop::Memory.report(PROGRAM, errors)),
+    }
+}
+
+/// What is served of the file alone; this is said before anything else.
+fn start_with_file<R, K, E>(
+    rt: &R,
+    file: &str,
+    demands: Demands,
+    first: Option<Said>,
+    errors: &mut E,
+) -> Result<Start<K>, Exit>
+where
+    R: Files<File = File> + AllocGlobal,
+    E: Sink,
+    ensures { GivesOrRefuses result (⟦<E as Watched>⟧.change errors.old errors.new) }
+{
+    let mut said = Vec::new(rt.alloc());
+    if let Some(first) = first {
+        if said.push(first).is_err() {
+            return Err(Stop::Memory.report(PROGRAM, errors));
+        }
+    }
+    let inventories = read_inventory(rt, file, demands, errors)?;
+    Ok(Start {
+        part: demands.earlier,
+        inventories,
+        ledger: None,
+        is_good: true,
+        said,
+    })
+}
