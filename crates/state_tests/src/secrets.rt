@@ -42,11 +42,11 @@ fn no_record_shows_a_credential(rt: HostRuntime) -> Result<(), Fail> {
 }
 
 // The rows with the entry that a record adds, where it adds one.
-fn rows_with(alloc: Global, record: Record) -> Result<Rows, AllocError> {
+fn rows_with(alloc: Global, record: &Record) -> Result<Rows, AllocError> {
     let mut items = Vec::new(alloc);
     if let Record::Made(change) = record {
-        if let What::Add(row) = change.what {
-            items.push(row)?;
+        if let What::Add(row) = &change.what {
+            items.push(row.copy()?)?;
         }
     }
     Rows::of(alloc, items)
@@ -57,7 +57,7 @@ fn rows_hide(alloc: Global, line: &str) -> Result<bool, AllocError> {
     let Some(record) = read_record(alloc, line.as_bytes())? else {
         return Ok(false);
     };
-    let rows = rows_with(alloc, record)?;
+    let rows = rows_with(alloc, &record)?;
     let shown = format!(in alloc; "{rows:?}")?;
     hides(alloc, shown.as_str())
 }
