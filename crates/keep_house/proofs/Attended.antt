@@ -10,12 +10,21 @@ use Rattle.keep_clients.specs.declared.talk.Call.{Call}
 use Rattle.keep_clock.specs.declared.reading.Reading.{Reading}
 use Rattle.keep_log.specs.declared.writing.TheConstants.{MOST_TRIES}
 use Rattle.keep_onlook.specs.declared.board.Surroundings.{Surroundings}
-use Rattle.keep_house.specs.LogDesk.{Desk, HearsWant, ReaderIsGiven}
-use Rattle.keep_house.specs.Feeding.{FollowersGoOn}
+use Rattle.house_log.specs.LogDesk.{Desk, HearsWant, ReaderIsGiven}
+use Rattle.house_log.specs.Feeding.{FollowersGoOn}
+use Rattle.house_log.specs.Rooms.{Rooms}
 use Rattle.keep_house.specs.Houses.{Attends, ClientsGoOn, OnlookersGoOn, around_of}
-use Rattle.keep_house.specs.Lines.{second_of}
+use Rattle.house_words.specs.Moments.{second_of}
 use Rattle.keep_house.specs.declared.house.House.{House}
-use Rattle.keep_house.proofs.Deciding.{follows_by, hears_by}
+use Rattle.keep_log.specs.declared.form.Form.{Form}
+
+-- what is said where something decides it that is the same
+pub hears_by : (a b : Bool) (agent : Agent) (old new : Desk) → a ≡ b → HearsWant agent a old new → HearsWant agent b old new
+hears_by a b agent old new same heard = subst (λ c. HearsWant agent c old new) same heard
+
+pub follows_by : {T D : Type 0} (f g : Form) (moment : ℕ) (r s new : Rooms) (a b after : Option (Control T D)) → f ≡ g → r ≡ s → a ≡ b → FollowersGoOn f moment r new a after → FollowersGoOn g moment s new b after
+follows_by f g moment r s new a b after form rooms control fed =
+    subst (λ x. FollowersGoOn x moment s new b after) form (subst (λ x. FollowersGoOn f moment x new b after) rooms (subst (λ x. FollowersGoOn f moment r new x after) control fed))
 
 module _ {S T D K E : Type 0} (given : S → Option (List ℕ)) (failures tries : S → ℕ) (remaining written : T → Option (List ℕ)) (calls : T → Option (List Call)) (log : D → Option (DoorLog T)) where
   pub attended : (agent : Agent) (now : Reading) (is_more goes_on enough : Bool) (shown answered : Went) (old mid fed : House S T D K E) (around : Surroundings)

@@ -24,15 +24,16 @@ use Rattle.keep_serving.specs.declared.change.Change.{Change}
 use Rattle.keep_house.specs.Admitting.{AdmitsIf, AnswerBeginsWith, FollowsLog, asking_in}
 use Rattle.keep_house.specs.Awaiting.{AddsRow, HearsFor, HearsOfAwaited, HearsVerdict, IsRefusedFor, Judges, LooksUpBy, LooksUpFirst, LooksUpIf, Makes, ProvesBy, Replaces, SetsAside, VerdictIs, addressed}
 use Rattle.keep_house.specs.Commands.{AddsEntry, AddsIf, AsksFor, AsksIf, CarriesIf, CarriesOut, ClosesClient, DropsEntry, GivesNeed, RebuildingIsDue, NeedIsKept, StateIsRebuilt, GoesOnIf, GoesOnWithClients, LacksMemory, Needs, NeedsIf, Reloads, RereadBy, ServesClients, SettlesFile, SettlesAnswer, SettlesAside, SettlesBy, SettlesGiven, SettlesNeed, SettlesServed, TellsNeed, TellsReload, end_named}
-use Rattle.keep_house.specs.Feeding.{FollowersGoOn}
+use Rattle.house_log.specs.Feeding.{FollowersGoOn}
 use Rattle.keep_house.specs.Houses.{Attends, ClientIsAnswered, ClientIsAside, ClientIsSent, ClientsAsk, ClientsGoOn, Concludes, IsAnsweredAs, IsAnsweredAside, SendsAside, WillRefuse, WillTell, bytes_sent, changes_given, given_where}
-use Rattle.keep_house.specs.Keeping.{KeepCall, KeeperIsAsked, Outcome, Settle, Take, Why, Whys}
-use Rattle.keep_house.specs.Telling.{IsDropLine, replaced_text, settle_line, until_of_need}
-use Rattle.keep_house.specs.VerdictWords.{IsAddedLine, line_with_loss}
-use Rattle.keep_house.specs.Lines.{Line}
-use Rattle.keep_house.specs.Rooms.{Rooms}
+use Rattle.house_ledger.specs.Keeping.{KeepCall, KeeperIsAsked, Settle, Take}
+use Rattle.house_words.specs.Outcomes.{Outcome, Why, Whys}
+use Rattle.house_words.specs.Telling.{IsDropLine, replaced_text, settle_line, until_of_need}
+use Rattle.keep_house.specs.LookupLosses.{IsAddedLine, line_with_loss}
+use Rattle.house_log.specs.Lines.{Line}
+use Rattle.house_log.specs.Rooms.{Rooms}
 use Rattle.keep_log.specs.declared.form.Form.{Form}
-use Rattle.keep_house.specs.SecretLines.{AsksToLook, LooksAround}
+use Rattle.keep_house.specs.Looks.{AsksToLook, LooksAround}
 use Rattle.keep_change.specs.declared.change.What.{What}
 use Rattle.keep_lanes.specs.declared.loss.Loss.{Loss}
 use Rattle.keep_proving.specs.declared.verdict.Verdict.{Verdict}
@@ -42,10 +43,10 @@ use Rattle.keep_house.specs.declared.given.Given.{Given}
 use Rattle.keep_house.specs.declared.given.Given.TheVariants as givens
 use Rattle.keep_house.specs.declared.given.GivenNeed.{GivenNeed}
 use Rattle.keep_house.specs.declared.house.House.{House}
-use Rattle.keep_house.specs.declared.keeping.LookedUp.{LookedUp}
-use Rattle.keep_house.specs.declared.keeping.LookedUp.TheVariants as lookups
-use Rattle.keep_house.specs.declared.keeping.Reread.{Reread}
-use Rattle.keep_house.specs.declared.mark.Mark.{Mark}
+use Rattle.house_ledger.specs.declared.keeping.LookedUp.{LookedUp}
+use Rattle.house_ledger.specs.declared.keeping.LookedUp.TheVariants as lookups
+use Rattle.house_words.specs.declared.reread.Reread.{Reread}
+use Rattle.house_log.specs.declared.mark.Mark.{Mark}
 
 -- ---- who is there stays there, and the log's reader is left alone
 

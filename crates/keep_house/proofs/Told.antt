@@ -1,6 +1,7 @@
 -- Told: what is told of a command that was done. For `taking`.
 use Rattle.std.proofs.Common.{◌≡◌, ℕ, List, Option, Some, None, Ok, Result, IfSome}
-use Rattle.keep_house.specs.Keeping.{KeepCall, KeeperIsAsked, Why}
+use Rattle.house_ledger.specs.Keeping.{KeepCall, KeeperIsAsked}
+use Rattle.house_words.specs.Outcomes.{Why}
 
 pub says_done : {K : Type 0} (does : KeepCall → K → K → Type 0) (call : Result (Unit {0}) Why → KeepCall) (Says : K → List ℕ → Type 0) (line : Option (List ℕ)) (old new : K) → does (call (Ok tt)) old new → IfSome line (Says new) →
     KeeperIsAsked does call Says (Ok line) (Some old) (Some new)

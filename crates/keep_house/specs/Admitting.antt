@@ -5,8 +5,8 @@ use Rattle.keep_answering.specs.Controlling.{FollowsAsked}
 use Rattle.keep_answering.specs.declared.control.Control.{Control}
 use Rattle.keep_clock.specs.declared.reading.Reading.{Reading}
 use Rattle.keep_house.specs.Houses.{WillTell}
-use Rattle.keep_house.specs.Keeping.{Why}
-use Rattle.keep_house.specs.Rooms.{with_follower}
+use Rattle.house_words.specs.Outcomes.{Why}
+use Rattle.house_log.specs.Rooms.{with_follower}
 use Rattle.keep_house.specs.declared.follow_command.TheConstants.{MOST_FOLLOWERS}
 use Rattle.keep_house.specs.declared.house.House.{House}
 

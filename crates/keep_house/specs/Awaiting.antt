@@ -12,17 +12,19 @@ use Rattle.keep_clock.specs.declared.reading.Reading.{Reading}
 use Rattle.keep_lanes.specs.declared.loss.Loss.{Loss}
 use Rattle.keep_proving.specs.declared.verdict.Verdict.{Verdict}
 use Rattle.keep_proving.specs.declared.verdict.Verdict.TheVariants as verdicts
-use Rattle.keep_house.specs.Changed.{entry_log_line}
+use Rattle.house_log.specs.Changed.{entry_log_line}
 use Rattle.keep_house.specs.Houses.{ClientIsAside, Concludes, WillTell}
-use Rattle.keep_house.specs.Keeping.{KeepCall, KeeperIsAsked, LookUp, Outcome, Prove, Take, Why}
-use Rattle.keep_house.specs.Telling.{replaced_text, until_of_need}
-use Rattle.keep_house.specs.VerdictWords.{IsAddedLine, endless_words, kept_words, later_words, line_with_loss, status_words}
+use Rattle.house_ledger.specs.Keeping.{KeepCall, KeeperIsAsked, LookUp, Prove, Take}
+use Rattle.house_words.specs.Outcomes.{Outcome, Why}
+use Rattle.house_words.specs.Telling.{replaced_text, until_of_need}
+use Rattle.keep_house.specs.LookupLosses.{IsAddedLine, line_with_loss}
+use Rattle.house_words.specs.VerdictWords.{endless_words, kept_words, later_words, status_words}
 use Rattle.keep_house.specs.declared.given.Awaited.{Awaited}
 use Rattle.keep_house.specs.declared.given.Given.{Given}
 use Rattle.keep_house.specs.declared.given.Given.TheVariants as givens
 use Rattle.keep_house.specs.declared.house.House.{House}
-use Rattle.keep_house.specs.declared.keeping.LookedUp.{LookedUp}
-use Rattle.keep_house.specs.declared.keeping.LookedUp.TheVariants as looked
+use Rattle.house_ledger.specs.declared.keeping.LookedUp.{LookedUp}
+use Rattle.house_ledger.specs.declared.keeping.LookedUp.TheVariants as looked
 
 -- ---- a change that brings a credential is made; why says why the broker has said nothing of it, where it was asked and has not
 

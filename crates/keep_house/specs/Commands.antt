@@ -23,20 +23,21 @@ use Rattle.keep_serving.specs.declared.change.Change.TheVariants as changes
 use Rattle.keep_tree.specs.Forest.{index_named}
 use Rattle.keep_house.specs.Admitting.{FollowsLog}
 use Rattle.keep_house.specs.Awaiting.{HearsVerdict, LooksUpFirst}
-use Rattle.keep_house.specs.Changed.{entry_log_line, fault_lines, reread_lines, settled_line}
-use Rattle.keep_house.specs.LinesOfClocks.{marks_anew}
-use Rattle.keep_house.specs.LogDesk.{Desk, HearsRefusal, SaysLine, SaysLines}
+use Rattle.house_log.specs.Changed.{entry_log_line, fault_lines, reread_lines, settled_line}
+use Rattle.house_log.specs.LinesOfClocks.{marks_anew}
+use Rattle.house_log.specs.LogDesk.{Desk, HearsRefusal, SaysLine, SaysLines}
 use Rattle.keep_house.specs.Houses.{ClientIsAnswered, ClientIsSent, ClientsAsk, Concludes, IsAnsweredAside, SendsAside, WillRefuse, WillTell}
-use Rattle.keep_house.specs.Keeping.{IsNotKept, KeepCall, KeeperIsAsked, Outcome, Rebuilt, Reload, Settle, Take, Why, Whys}
-use Rattle.keep_house.specs.Marks.{fresh_mark}
-use Rattle.keep_house.specs.Sockets.{need_log_line}
-use Rattle.keep_house.specs.Telling.{IsDoneReply, IsDropLine, IsNeedLine, reload_line, settle_line, until_of_need}
+use Rattle.house_words.specs.Outcomes.{IsNotKept, Outcome, Why, Whys}
+use Rattle.house_ledger.specs.Keeping.{KeepCall, KeeperIsAsked, Rebuilt, Reload, Settle, Take}
+use Rattle.house_log.specs.Marks.{fresh_mark}
+use Rattle.house_log.specs.Sockets.{need_log_line}
+use Rattle.house_words.specs.Telling.{IsDoneReply, IsDropLine, IsNeedLine, reload_line, settle_line, until_of_need}
 use Rattle.keep_house.specs.declared.given.Given.{Given}
 use Rattle.keep_house.specs.declared.given.Given.TheVariants as givens
 use Rattle.keep_house.specs.declared.given.GivenNeed.{GivenNeed}
 use Rattle.keep_house.specs.declared.house.House.{House}
-use Rattle.keep_house.specs.declared.keeping.Reread.{Reread}
-use Rattle.keep_house.specs.declared.mark.Mark.{Mark}
+use Rattle.house_words.specs.declared.reread.Reread.{Reread}
+use Rattle.house_log.specs.declared.mark.Mark.{Mark}
 
 -- the end of the entry of that name, where an agent knows it
 abbrev pub end_known_at : Agent → Option ℕ → Option ℕ

@@ -16,13 +16,14 @@ use Rattle.watch_machine.specs.declared.command.Request.{Request}
 use Rattle.watch_machine.specs.declared.notes.Notes.{Notes}
 use Rattle.watch_machine.specs.declared.outlook.Next.{Next}
 use Rattle.keep_house.specs.Commands.{AsksFor, SettlesGiven, is_served}
-use Rattle.keep_house.specs.LogDesk.{Desk, HearsAnswer, HearsClock, HearsShorts}
+use Rattle.house_log.specs.LogDesk.{Desk, HearsAnswer, HearsClock, HearsShorts}
 use Rattle.keep_house.specs.Ends.{HearsServed, KeepsEnds, after_answer}
 use Rattle.keep_house.specs.Houses.{Attends}
-use Rattle.keep_house.specs.Keeping.{KeepCall, Why}
+use Rattle.house_ledger.specs.Keeping.{KeepCall}
+use Rattle.house_words.specs.Outcomes.{Why}
 use Rattle.keep_house.specs.Nexts.{HearsNext}
-use Rattle.keep_house.specs.SecretLines.{LooksAround}
-use Rattle.keep_house.specs.Wants.{HearsTime, HearsUnmade, HearsWanting}
+use Rattle.keep_house.specs.Looks.{LooksAround}
+use Rattle.house_log.specs.Wants.{HearsTime, HearsUnmade, HearsWanting}
 use Rattle.keep_house.specs.declared.house.House.{House}
 
 -- ---- what is heard of

@@ -18,13 +18,14 @@ use Rattle.keep_onlook.specs.declared.board.FileReading.{FileReading}
 use Rattle.keep_onlook.specs.declared.board.Surroundings.{Surroundings}
 use Rattle.keep_serving.specs.declared.change.Change.{Change}
 use Rattle.watch_machine.specs.declared.outlook.Next.{Next}
-use Rattle.keep_house.specs.LogDesk.{Desk, HearsIf, HearsWant, ReaderIsGiven}
-use Rattle.keep_house.specs.Feeding.{FollowersGoOn}
-use Rattle.keep_house.specs.Keeping.{Outcome}
-use Rattle.keep_house.specs.Lines.{Line, second_of}
+use Rattle.house_log.specs.LogDesk.{Desk, HearsIf, HearsWant, ReaderIsGiven}
+use Rattle.house_log.specs.Feeding.{FollowersGoOn}
+use Rattle.house_words.specs.Outcomes.{Outcome}
+use Rattle.house_log.specs.Lines.{Line}
+use Rattle.house_words.specs.Moments.{second_of}
 use Rattle.keep_house.specs.Nexts.{next_wake_of}
-use Rattle.keep_house.specs.Rooms.{Rooms}
-use Rattle.keep_house.specs.Telling.{IsRefusalFor, IsReplyTo}
+use Rattle.house_log.specs.Rooms.{Rooms}
+use Rattle.house_words.specs.Telling.{IsRefusalFor, IsReplyTo}
 use Rattle.keep_house.specs.declared.given.Given.TheVariants as givens
 use Rattle.keep_house.specs.declared.house.House.{House}
 

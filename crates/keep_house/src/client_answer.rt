@@ -2,9 +2,9 @@
 ghost use Rattle.std.specs.Prelude.{◌≡◌};
 ghost use Rattle.keep_house.specs.Houses.{ClientIsAnswered, ClientIsAside, ClientIsSent, IsAnsweredAside, SendsAside, WillRefuse, WillTell, bytes_sent};
 
-use crate::client_words::{refusal_for, reply_to};
 use crate::given::Given;
 use crate::house::House;
+use house_words::{refusal_for, reply_to};
 use keep_agent::Agent;
 use keep_answering::Control;
 use keep_clients::{Door, Talk};

@@ -5,8 +5,8 @@ ghost use Rattle.keep_house.specs.Awaiting.{HearsOfAwaited, HearsVerdict, Judges
 use crate::client_answer::set_aside;
 use crate::given::{Awaited, addressed};
 use crate::house::House;
-use crate::keeping::{Keeping, LookedUp};
-use crate::verdict_words::{why_endless, why_later, why_refused};
+use house_ledger::{Keeping, LookedUp};
+use house_words::{why_endless, why_later, why_refused};
 use keep_agent::Agent;
 use keep_change::What;
 use keep_clients::{Door, Talk};

@@ -2,7 +2,7 @@ ghost use Rattle.std.specs.Prelude.{◌≡◌};
 ghost use Rattle.keep_house.specs.Awaiting.{addressed};
 ghost use Rattle.keep_house.specs.Commands.{is_served};
 
-use crate::mark::Mark;
+use house_log::Mark;
 use keep_change::What;
 use keep_moment::{Name, Text};
 

@@ -1,9 +1,13 @@
 //! What each neighbour is given of a turn.
-ghost use Rattle.std.specs.Prelude.{◌≡◌, ◌&&◌, ◌||◌};
+ghost use Rattle.std.specs.Prelude.{◌≡◌, ◌+◌, ◌≤◌, ◌&&◌, ◌||◌};
+ghost use Rattle.keep_log.specs.declared.writing.TheConstants.{MOST_TRIES};
+ghost use Rattle.house_log.specs.Feeding.{FollowersGoOn};
+ghost use Rattle.house_words.specs.Moments.{second_of};
+ghost use Rattle.house_log.specs.LogDesk.{ReaderIsGiven};
 ghost use Rattle.keep_house.specs.Houses.{Attends, ClientsGoOn, OnlookersGoOn, around_of, idle};
 
 use crate::house::House;
-use crate::log_next::next_wake_of;
+use crate::next_time::next_wake_of;
 use keep_agent::Agent;
 use keep_answering::{Control, Onlookers, Went};
 use keep_clients::{Door, Talk};
@@ -27,6 +31,30 @@ impl<S: LogSink, T: Talk, D: Door<T>, K, E> House<S, T, D, K, E> {
         self.desk
             .hear_want(alloc, agent, both(shown.is_enough, answered.is_enough));
         any_of(is_more, shown.is_busy, answered.is_busy)
+    }
+}
+
+impl<S: LogSink, T, D, K, E> House<S, T, D, K, E> {
+    /// Gives the log's reader what it takes without waiting. Where it took something, lines that were dropped are told of, if there
+    /// is room for that. Whether more could be given at once.
+    pub fn give(&mut self, alloc: Global, now: Reading) -> bool
+        ensures given { ReaderIsGiven self.old.desk.form (second_of now.wall) self.old.desk.room.log self.new.desk.room.log (S.written self.old.sink) (S.written self.new.sink) (S.failures self.old.sink) (S.failures self.new.sink) result }
+        ensures tries { S.tries self.new.sink ≤ S.tries self.old.sink + MOST_TRIES }
+        ensures rest { self.new ≡ record self.old { desk = record self.old.desk { room = record self.old.desk.room { log = self.new.desk.room.log } }; sink = self.new.sink } }
+    {
+        self.desk.give(alloc, &mut self.sink, now)
+    }
+}
+
+impl<S, T: Talk, D: Door<T>, K, E> House<S, T, D, K, E> {
+    /// Gives the connection of each of those who follow the log what one call of it writes of the lines that wait. No call is made.
+    pub(crate) fn feed(&mut self, alloc: Global, now: Reading)
+        ensures fed { FollowersGoOn self.old.desk.form (second_of now.wall) self.old.desk.room self.new.desk.room self.old.control self.new.control }
+        ensures rest { self.new ≡ record self.old { desk = record self.old.desk { room = self.new.desk.room }; control = self.new.control } }
+    {
+        if let Some(control) = &mut self.control {
+            self.desk.feed(alloc, &mut control.clients, now);
+        }
     }
 }
 

@@ -1,9 +1,9 @@
 //! All neighbours of the agent but its clock and its broker.
 ghost use Rattle.std.specs.Prelude.{◌≡◌, None};
 
-use crate::desk::Desk;
 use crate::given::{Awaited, Given, is_served};
-use crate::keeping::Keeping;
+use house_ledger::Keeping;
+use house_log::Desk;
 use keep_agent::Agent;
 use keep_answering::{Control, Onlookers};
 use keep_clients::{Door, Talk};

@@ -1,13 +1,13 @@
 //! A client asks that an entry is needed until then.
 ghost use Rattle.std.specs.Prelude.{◌≡◌};
 ghost use Rattle.keep_house.specs.Commands.{EntryIsThere, GivesNeed, NeedIsKept, Needs};
-ghost use Rattle.keep_house.specs.Telling.{until_of_need};
+ghost use Rattle.house_words.specs.Telling.{until_of_need};
 ghost use Rattle.keep_tree.specs.Forest.{index_named};
 
-use crate::client_words::need_line;
 use crate::given::{Given, GivenNeed};
 use crate::house::House;
-use crate::keeping::Keeping;
+use house_ledger::Keeping;
+use house_words::need_line;
 use keep_agent::Agent;
 use keep_change::What;
 use keep_clients::{Door, Talk};

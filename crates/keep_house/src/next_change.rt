@@ -4,11 +4,11 @@ ghost use Rattle.keep_house.specs.Houses.{ClientsAsk};
 ghost use Rattle.keep_lines.specs.Text.{name_of};
 
 use crate::client_answer::{answer, answer_aside};
-use crate::client_words::{done_reply, need_line};
 use crate::given::{Given, GivenNeed};
 use crate::house::House;
-use crate::keeping::Keeping;
-use crate::mark::{Mark, fresh_marks};
+use house_ledger::Keeping;
+use house_log::{Mark, fresh_marks};
+use house_words::{done_reply, need_line};
 use keep_agent::Agent;
 use keep_answering::{Asked, Control};
 use keep_change::What;

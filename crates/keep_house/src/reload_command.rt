@@ -1,11 +1,11 @@
 //! A client asks that the file is read anew.
 ghost use Rattle.std.specs.Prelude.{◌≡◌, IfSome};
 ghost use Rattle.keep_house.specs.Commands.{Reloads, RereadBy, TellsNotKept, TellsReread, TellsUnread, path_if_kept, read_badly, read_well};
-ghost use Rattle.keep_house.specs.Telling.{reload_line};
+ghost use Rattle.house_words.specs.Telling.{reload_line};
 
-use crate::client_words::{reload_line, why_not_kept};
 use crate::house::House;
-use crate::keeping::{Keeping, Reread};
+use house_ledger::Keeping;
+use house_words::{Reread, reload_line, why_not_kept};
 use keep_agent::Agent;
 use keep_clients::{Door, Talk};
 use keep_clock::Reading;

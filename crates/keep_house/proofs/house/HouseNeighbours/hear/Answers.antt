@@ -7,7 +7,7 @@ use Rattle.keep_serving.specs.Neighbours.{thing_of}
 use Rattle.keep_serving.specs.declared.neighbours.Happened.TheVariants as happened
 use Rattle.watch_machine.specs.declared.event.Operation.{Operation}
 use Rattle.watch_machine.specs.declared.notes.Notes.{Notes}
-use Rattle.keep_house.specs.LogDesk.{Desk, HearsAnswer}
+use Rattle.house_log.specs.LogDesk.{Desk, HearsAnswer}
 use Rattle.keep_house.specs.Ends.{HearsEnd, after_answer}
 use Rattle.keep_house.specs.declared.house.House.{House}
 use Rattle.keep_house.proofs.house.HouseNeighbours.hear.Goals as goal

@@ -1,0 +1,73 @@
+-- Reached: what each call of the loop does to the log's reader. For `a_turn_tries_the_reader_little`.
+use Rattle.std.proofs.Common.{◌≡◌, ◌∙◌, ℕ, ◌+◌, ◌≤◌, Bool, true, false, inl, inr, List, Option, Some, None, Result, ap, subst}
+use Rattle.std.specs.declared.alloc.AllocError.{AllocError}
+use Rattle.keep_agent.specs.Agent.{Agent}
+use Rattle.keep_change.specs.declared.row.Row.{Row}
+use Rattle.keep_clients.specs.Doors.{DoorLog}
+use Rattle.keep_clients.specs.declared.talk.Call.{Call}
+use Rattle.keep_disk.specs.State.{DiskState}
+use Rattle.keep_inventory.specs.Inventories.{Inventory}
+use Rattle.keep_log.specs.declared.writing.TheConstants.{MOST_TRIES}
+use Rattle.keep_serving.specs.Days.{PassesToOthers, SettlesOthers}
+use Rattle.keep_serving.specs.Neighbours.{Give, GoOn, Hear, NeighbourCall, Settle}
+use Rattle.keep_serving.specs.declared.day.EarlyDay.{EarlyDay}
+use Rattle.keep_serving.specs.declared.neighbours.Happened.{Happened}
+use Rattle.keep_serving.specs.declared.neighbours.Happened.TheVariants as happened
+use Rattle.watch_machine.specs.declared.outlook.Next.{Next}
+use Rattle.keep_house.specs.Doing.{DoesToHouse, HearsOf, HearsServedIf}
+use Rattle.house_ledger.specs.Keeping.{KeepCall}
+use Rattle.house_words.specs.Outcomes.{Why}
+use Rattle.keep_house.specs.Nexts.{HearsNext}
+use Rattle.keep_house.specs.declared.house.House.{House}
+use Rattle.keep_house.proofs.Givers.{asked_for, settled_given}
+
+-- where the house goes on it is tried 16 times at most, and else left alone
+abbrev pub DoesToReader : {S : Type 0} → (S → ℕ) → NeighbourCall → S → S → Type 0
+DoesToReader tries (Hear thing) old new = new ≡ old
+DoesToReader tries (GoOn is_busy) old new = tries new ≤ tries old + MOST_TRIES
+DoesToReader tries (Give change) old new = new ≡ old
+DoesToReader tries (Settle is_made) old new = new ≡ old
+
+module _ {S T D K E : Type 0} where
+  next_heard : (agent : Agent) (next : Option (Option Next)) (old new : House S T D K E) → HearsNext agent next old new → new.sink ≡ old.sink
+  next_heard agent None old new h = ap (λ x. x.sink) h
+  next_heard agent (Some next) old new h = ap (λ x. x.sink) h.rest
+
+  heard_of : (agent : Agent) (h : Happened) (old new : House S T D K E) → HearsOf agent h old new → new.sink ≡ old.sink
+  heard_of agent (happened.Clocked notes requests next) old new h = next_heard agent next (record old { desk = h.desk }) new h.then
+  heard_of agent (happened.Shorts shorts) old new h = ap (λ x. x.sink) h.1
+  heard_of agent (happened.Answered entry operation said notes) old new h = ap (λ x. x.sink) h.1
+  heard_of agent happened.Refused old new h = ap (λ x. x.sink) h.1
+  heard_of agent happened.Wanting old new h = ap (λ x. x.sink) h.1
+
+  served_heard : (is : Bool) (old new : House S T D K E) → HearsServedIf is old new → new.sink ≡ old.sink
+  served_heard true old new h = ap (λ x. x.sink) h
+  served_heard false old new h = ap (λ x. x.sink) h
+
+module _ {S T D K E : Type 0} (given : S → Option (List ℕ)) (failures tries : S → ℕ) (remaining written : T → Option (List ℕ)) (calls : T → Option (List Call)) (log : D → Option (DoorLog T))
+    (does : KeepCall → K → K → Type 0) (rows : K → List Row) (path : K → List ℕ) (reads : List ℕ → Result Row Why → Type 0) (gives : ℕ → Result (Option Inventory) AllocError → K → Type 0)
+    (known : Bool) (state : E → DiskState) where
+  abbrev Does : NeighbourCall → House S T D K E → House S T D K E → Type 0
+  Does call old new = DoesToHouse given failures tries remaining written calls log does rows path reads gives known state call old new
+
+  pub reader_of : (call : NeighbourCall) (old new : House S T D K E) → Does call old new → DoesToReader tries call old.sink new.sink
+  reader_of (Hear thing) old new h = heard_of h.0 h.1.0 old new h.1.1.1
+  reader_of (GoOn is_busy) old new h =
+      subst (λ s. tries new.sink ≤ tries s + MOST_TRIES) (ap (λ x. x.sink) h.1.1.look.rest ∙ ap (λ x. x.sink) h.1.1.ends.rest) h.1.1.attend.few
+  reader_of (Give change) old new h = (asked_for does rows path reads gives h.0 h.1.0 h.1.1.0 change old new h.1.1.1.1).sink
+  reader_of (Settle is_made) old new h =
+      ap (λ x. x.sink) h.1.rest ∙ (settled_given does h.0 is_made h.1.heard h.1.settled h.1.settles).sink ∙ served_heard _ old h.1.heard h.1.served
+
+  -- ---- the same after one more neighbour, that asks for a beginning
+
+  settled_on : (is_own is_made : Bool) (old new : House S T D K E) → SettlesOthers Does is_own is_made old new → new.sink ≡ old.sink
+  settled_on true is_made old new h = ap (λ x. x.sink) h
+  settled_on false is_made old new h = reader_of (Settle is_made) old new h
+
+  pub reader_of_day : (call : NeighbourCall) (old new : EarlyDay (House S T D K E)) → PassesToOthers Does call old new → DoesToReader tries call old.others.sink new.others.sink
+  reader_of_day (Hear thing) old new h = reader_of (Hear thing) old.others new.others h
+  reader_of_day (GoOn is_busy) old new h = reader_of (GoOn is_busy) old.others new.others h
+  reader_of_day (Give None) old new h = reader_of (Give None) old.others new.others h
+  reader_of_day (Give (Some change)) old new (inl h) = reader_of (Give (Some change)) old.others new.others h.1
+  reader_of_day (Give (Some change)) old new (inr h) = reader_of (Give None) old.others new.others h.1.1
+  reader_of_day (Settle is_made) old new h = settled_on old.is_own is_made old.others new.others h

@@ -1,0 +1,206 @@
+-- Spared: what a turn asks of whoever keeps changes, and that the file of the ends is tried once at most. For the laws of disks.
+use Rattle.std.proofs.Common.{◌≡◌, ◌∙◌, ◌⊎◌, ℕ, ◌≤◌, Bool, true, false, inl, inr, List, [], ◌∷◌, Option, Some, None, Result, ap, arith, length, refl, subst, sym}
+use Rattle.std.specs.Prelude.{option_map}
+use Rattle.std.specs.declared.alloc.AllocError.{AllocError}
+use Rattle.keep_agent.specs.Agent.{Agent}
+use Rattle.keep_change.specs.declared.row.Row.{Row}
+use Rattle.keep_clients.specs.Doors.{DoorLog}
+use Rattle.keep_clients.specs.declared.talk.Call.{Call}
+use Rattle.keep_clock.specs.declared.reading.Reading.{Reading}
+use Rattle.keep_disk.specs.State.{DiskState}
+use Rattle.keep_disk.specs.declared.fault.DiskFault.{DiskFault}
+use Rattle.keep_ends.specs.Files.{EndsFileGoesOn}
+use Rattle.keep_ends.specs.declared.file.EndsFile.{EndsFile}
+use Rattle.keep_inventory.specs.Inventories.{Inventory}
+use Rattle.keep_secrets.specs.declared.news.Looked.{Looked}
+use Rattle.keep_serving.specs.Changes.{given_by}
+use Rattle.keep_serving.specs.Days.{PassesToOthers, SettlesOthers}
+use Rattle.keep_serving.specs.Neighbours.{AllCalled, Give, GoOn, Hear, NeighbourCall, Settle, calls_at}
+use Rattle.keep_serving.specs.declared.change.Change.{Change}
+use Rattle.keep_serving.specs.declared.day.EarlyDay.{EarlyDay}
+use Rattle.keep_serving.specs.declared.neighbours.Happened.{Happened}
+use Rattle.keep_serving.specs.declared.neighbours.Happened.TheVariants as happened
+use Rattle.watch_machine.specs.declared.outlook.Next.{Next}
+use Rattle.house_laws.specs.Disks.{AreEndsLeft, AsksLittle, EndsAreTriedOnce, IsAskedWithin, ToHouse, TriesEnds}
+use Rattle.keep_house.specs.Doing.{HearsOf, HearsServedIf}
+use Rattle.keep_house.specs.Ends.{EndsGoOn, after_answer, to_be_kept}
+use Rattle.house_ledger.specs.Keeping.{KeepCall, Look}
+use Rattle.house_words.specs.Outcomes.{Why}
+use Rattle.keep_house.specs.Nexts.{HearsNext}
+use Rattle.keep_house.specs.Looks.{AsksToLook}
+use Rattle.keep_house.specs.declared.house.House.{House}
+use Rattle.house_laws.proofs.Asks.{Spares, asked_for, settled_given}
+use Rattle.house_laws.proofs.Called.{within_join, within_more, within_none, within_one}
+use Rattle.house_laws.proofs.Weighed.{gives, gives_few, goes, goes_once, weight}
+
+-- ---- the ends
+
+module _ {E : Type 0} where
+  left_same : (old new : Option (EndsFile E)) → new ≡ old → AreEndsLeft old new
+  left_same old new h = subst (λ (o : Option (EndsFile E)). AreEndsLeft old o) (sym h) (itself old) where
+    itself : (o : Option (EndsFile E)) → AreEndsLeft o o
+    itself None = refl
+    itself (Some ends) = refl
+
+  left_join : (a b c : Option (EndsFile E)) → AreEndsLeft a b → AreEndsLeft b c → AreEndsLeft a c
+  left_join None b c h k = subst (λ (o : Option (EndsFile E)). AreEndsLeft o c) h k
+  left_join (Some a) None c h k = absurd h
+  left_join (Some a) (Some b) None h k = absurd k
+  left_join (Some a) (Some b) (Some c) h k = k ∙ ap (λ (x : EndsFile E). record x { is_stale = c.is_stale }) h
+
+  -- they may not keep all that was told
+  marked : (f : EndsFile E → EndsFile E) → ((x : EndsFile E) → f x ≡ record x { is_stale = (f x).is_stale }) → (old new : Option (EndsFile E)) → new ≡ option_map f old → AreEndsLeft old new
+  marked f same None new h = h
+  marked f same (Some old) new h = subst (λ (o : Option (EndsFile E)). AreEndsLeft (Some old) o) (sym h) (same old)
+
+module _ {E : Type 0} (known : Bool) (state : E → DiskState) where
+  abbrev MayBeTried : Option (EndsFile E) → Option (EndsFile E) → Type 0
+  MayBeTried old new = AreEndsLeft old new ⊎ EndsAreTriedOnce known state old new
+
+  tried_left : (a b c : Option (EndsFile E)) → MayBeTried a b → AreEndsLeft b c → MayBeTried a c
+  tried_left a b c (inl h) k = inl (left_join a b c h k)
+  tried_left a b c (inr h) k = inr (record { agent = h.agent; now = h.now; result = h.result; before = h.before; after = h.after; from = h.from; due = h.due; tried = h.tried; to = left_join (Some h.after) b c h.to k })
+
+  left_tried : (a b c : Option (EndsFile E)) → AreEndsLeft a b → MayBeTried b c → MayBeTried a c
+  left_tried a b c h (inl k) = inl (left_join a b c h k)
+  left_tried a b c h (inr k) = inr (record { agent = k.agent; now = k.now; result = k.result; before = k.before; after = k.after; from = left_join a b (Some k.before) h k.from; due = k.due; tried = k.tried; to = k.to })
+
+  tried_by : (agent : Agent) (now : ℕ) (tried : Option (Result (Unit {0}) DiskFault)) (old new : EndsFile E) → EndsFileGoesOn known state agent now tried old new → MayBeTried (Some old) (Some new)
+  tried_by agent now None old new h = inl (left_same (Some old) (Some new) (ap (λ (x : EndsFile E). Some x) h.1))
+  tried_by agent now (Some result) old new h = inr (record { agent = agent; now = now; result = result; before = old; after = new; from = refl; due = h.0; tried = h.1; to = refl })
+
+  gone_on : (agent : Agent) (now : ℕ) (tried : Option (Result (Unit {0}) DiskFault)) (old new : Option (EndsFile E)) → EndsGoOn known state agent now tried old new → MayBeTried old new
+  gone_on agent now tried None new h = inl h.1
+  gone_on agent now tried (Some old) None h = absurd h
+  gone_on agent now tried (Some old) (Some new) h = tried_by agent now tried old new h
+
+  -- they are tried where the house goes on, and else left alone
+  abbrev DoesToEnds : NeighbourCall → Option (EndsFile E) → Option (EndsFile E) → Type 0
+  DoesToEnds (Hear thing) old new = AreEndsLeft old new
+  DoesToEnds (GoOn is_busy) old new = MayBeTried old new
+  DoesToEnds (Give change) old new = AreEndsLeft old new
+  DoesToEnds (Settle is_made) old new = AreEndsLeft old new
+
+  module _ {N : Type 0} (does : NeighbourCall → N → N → Type 0) (ends : N → Option (EndsFile E)) (by : (call : NeighbourCall) (old new : N) → does call old new → DoesToEnds call (ends old) (ends new)) where
+    left_of : (calls : List NeighbourCall) (old new : N) → AllCalled does calls old new → weight goes calls ≡ 0 → AreEndsLeft (ends old) (ends new)
+    left_of [] old new h none = left_same (ends old) (ends new) (ap ends h)
+    left_of (Hear thing ∷ rest) old new h none = left_join (ends old) (ends h.0) (ends new) (by (Hear thing) old h.0 h.1.0) (left_of rest h.0 new h.1.1 (omega (arith, none)))
+    left_of (GoOn is_busy ∷ rest) old new h none = absurd (omega (arith, none))
+    left_of (Give change ∷ rest) old new h none = left_join (ends old) (ends h.0) (ends new) (by (Give change) old h.0 h.1.0) (left_of rest h.0 new h.1.1 (omega (arith, none)))
+    left_of (Settle is_made ∷ rest) old new h none = left_join (ends old) (ends h.0) (ends new) (by (Settle is_made) old h.0 h.1.0) (left_of rest h.0 new h.1.1 (omega (arith, none)))
+
+    tried_of : (calls : List NeighbourCall) (old new : N) → AllCalled does calls old new → weight goes calls ≤ 1 → MayBeTried (ends old) (ends new)
+    tried_of [] old new h few = inl (left_same (ends old) (ends new) (ap ends h))
+    tried_of (Hear thing ∷ rest) old new h few = left_tried (ends old) (ends h.0) (ends new) (by (Hear thing) old h.0 h.1.0) (tried_of rest h.0 new h.1.1 (omega (arith, few)))
+    tried_of (GoOn is_busy ∷ rest) old new h few = tried_left (ends old) (ends h.0) (ends new) (by (GoOn is_busy) old h.0 h.1.0) (left_of rest h.0 new h.1.1 (omega (arith, few)))
+    tried_of (Give change ∷ rest) old new h few = left_tried (ends old) (ends h.0) (ends new) (by (Give change) old h.0 h.1.0) (tried_of rest h.0 new h.1.1 (omega (arith, few)))
+    tried_of (Settle is_made ∷ rest) old new h few = left_tried (ends old) (ends h.0) (ends new) (by (Settle is_made) old h.0 h.1.0) (tried_of rest h.0 new h.1.1 (omega (arith, few)))
+
+    pub ends_law : TriesEnds does known state ends
+    ends_law width t old new h = tried_of (calls_at t.reading h.answers h.is_handed t) old new h.called (goes_once t.reading h.answers h.is_handed t)
+
+-- ---- whoever keeps changes
+
+module _ {K N : Type 0} (asks : KeepCall → K → K → Type 0) (does : NeighbourCall → N → N → Type 0) (keeper : N → Option K)
+    (by : (call : NeighbourCall) (old new : N) → does call old new → IsAskedWithin asks (goes call) (gives call) (keeper old) (keeper new)) where
+  asked_of : (calls : List NeighbourCall) (old new : N) → AllCalled does calls old new → IsAskedWithin asks (weight goes calls) (weight gives calls) (keeper old) (keeper new)
+  asked_of [] old new h = within_none asks (keeper old) (keeper new) (ap keeper h)
+  asked_of (call ∷ rest) old new h =
+      within_join asks (goes call) (gives call) (weight goes rest) (weight gives rest) (keeper old) (keeper h.0) (keeper new) (by call old h.0 h.1.0) (asked_of rest h.0 new h.1.1)
+
+  pub asks_law : AsksLittle does asks keeper
+  asks_law width t old new h =
+      let calls = calls_at t.reading h.answers h.is_handed t in
+      within_more asks (weight goes calls) (weight gives calls) 1 (length (given_by t.made)) (keeper old) (keeper new) (goes_once t.reading h.answers h.is_handed t) (gives_few t.reading h.answers h.is_handed t)
+      (asked_of calls old new h.called)
+
+-- ---- a house
+
+module _ {S T D K E : Type 0} where
+  next_heard : (agent : Agent) (next : Option (Option Next)) (old new : House S T D K E) → HearsNext agent next old new → (new.state ≡ old.state) × (new.ends ≡ old.ends)
+  next_heard agent None old new h = (ap (λ x. x.state) h, ap (λ x. x.ends) h)
+  next_heard agent (Some next) old new h = (ap (λ x. x.state) h.rest, ap (λ x. x.ends) h.rest)
+
+  heard_of : (agent : Agent) (h : Happened) (old new : House S T D K E) → HearsOf agent h old new → (new.state ≡ old.state) × AreEndsLeft old.ends new.ends
+  heard_of agent (happened.Clocked notes requests next) old new h =
+      let next_left = next_heard agent next (record old { desk = h.desk }) new h.then in
+      (next_left.0, left_same old.ends new.ends next_left.1)
+  heard_of agent (happened.Shorts shorts) old new h = (ap (λ x. x.state) h.1, left_same old.ends new.ends (ap (λ x. x.ends) h.1))
+  heard_of agent (happened.Answered entry operation said notes) old new h = (ap (λ x. x.state) h.1, marked (after_answer said.reply) (λ x. refl) old.ends new.ends (ap (λ x. x.ends) h.1))
+  heard_of agent happened.Refused old new h = (ap (λ x. x.state) h.1, left_same old.ends new.ends (ap (λ x. x.ends) h.1))
+  heard_of agent happened.Wanting old new h = (ap (λ x. x.state) h.1, left_same old.ends new.ends (ap (λ x. x.ends) h.1))
+
+  served_heard : (is : Bool) (old new : House S T D K E) → HearsServedIf is old new → (new.state ≡ old.state) × AreEndsLeft old.ends new.ends
+  served_heard true old new h = (ap (λ x. x.state) h, marked to_be_kept (λ x. refl) old.ends new.ends (ap (λ x. x.ends) h))
+  served_heard false old new h = (ap (λ x. x.state) h, left_same old.ends new.ends (ap (λ x. x.ends) h))
+
+looked_at : {K : Type 0} (asks : KeepCall → K → K → Type 0) (now : Reading) (looked : Looked) (old new : Option K) → AsksToLook asks now looked old new → IsAskedWithin asks 1 0 old new
+looked_at asks now looked None new h = within_more asks 0 0 1 0 None new (omega arith) (omega arith) (within_none asks None new h.1)
+looked_at asks now looked (Some old) None h = absurd h
+looked_at asks now looked (Some old) (Some new) h = within_one asks (Look now looked) (Some old) (Some new) (new, (h, refl))
+
+module _ {S T D K E : Type 0} (given : S → Option (List ℕ)) (failures tries : S → ℕ) (remaining written : T → Option (List ℕ)) (calls : T → Option (List Call)) (log : D → Option (DoorLog T))
+    (asks : KeepCall → K → K → Type 0) (rows : K → List Row) (path : K → List ℕ) (reads : List ℕ → Result Row Why → Type 0) (gives_served : ℕ → Result (Option Inventory) AllocError → K → Type 0)
+    (known : Bool) (state : E → DiskState) where
+  abbrev Does : NeighbourCall → House S T D K E → House S T D K E → Type 0
+  Does = ToHouse given failures tries remaining written calls log asks rows path reads gives_served known state
+
+  given_of : (change : Option Change) (old new : House S T D K E) → Does (Give change) old new → Spares asks (gives (Give change)) old new
+  given_of None old new h = asked_for asks rows path reads gives_served h.0 h.1.0 h.1.1.0 None old new h.1.1.1.1
+  given_of (Some change) old new h = asked_for asks rows path reads gives_served h.0 h.1.0 h.1.1.0 (Some change) old new h.1.1.1.1
+
+  pub asked_at : (call : NeighbourCall) (old new : House S T D K E) → Does call old new → IsAskedWithin asks (goes call) (gives call) old.state new.state
+  asked_at (Hear thing) old new h = within_none asks old.state new.state (heard_of h.0 h.1.0 old new h.1.1.1).0
+  asked_at (GoOn is_busy) old new h =
+      let went = h.1.1 in
+      subst (λ (s : Option K). IsAskedWithin asks 1 0 s new.state) (ap (λ x. x.state) went.ends.rest)
+      (subst (λ (s : Option K). IsAskedWithin asks 1 0 went.kept.state s) (sym (ap (λ x. x.state) went.attend.rest)) (looked_at asks h.1.0 went.look.looked went.kept.state went.looked.state went.look.asks))
+  asked_at (Give None) old new h = (given_of None old new h).asked
+  asked_at (Give (Some change)) old new h = (given_of (Some change) old new h).asked
+  asked_at (Settle is_made) old new h =
+      let heard = served_heard _ old h.1.heard h.1.served in
+      let settled = settled_given asks h.0 is_made h.1.heard h.1.settled h.1.settles in
+      subst (λ (s : Option K). IsAskedWithin asks 0 0 s new.state) heard.0
+      (subst (λ (s : Option K). IsAskedWithin asks 0 0 h.1.heard.state s) (sym (ap (λ x. x.state) h.1.rest)) settled.asked)
+
+  pub ends_at : (call : NeighbourCall) (old new : House S T D K E) → Does call old new → DoesToEnds known state call old.ends new.ends
+  ends_at (Hear thing) old new h = (heard_of h.0 h.1.0 old new h.1.1.1).1
+  ends_at (GoOn is_busy) old new h =
+      let went = h.1.1 in
+      tried_left known state old.ends went.kept.ends new.ends (gone_on known state h.0 h.1.0.elapsed went.ends.tried old.ends went.kept.ends went.ends.ends)
+      (left_same went.kept.ends new.ends (ap (λ x. x.ends) went.attend.rest ∙ ap (λ x. x.ends) went.look.rest))
+  ends_at (Give None) old new h = left_same old.ends new.ends (given_of None old new h).ends
+  ends_at (Give (Some change)) old new h = left_same old.ends new.ends (given_of (Some change) old new h).ends
+  ends_at (Settle is_made) old new h =
+      let heard = served_heard _ old h.1.heard h.1.served in
+      let settled = settled_given asks h.0 is_made h.1.heard h.1.settled h.1.settles in
+      left_join old.ends h.1.heard.ends new.ends heard.1 (left_same h.1.heard.ends new.ends (ap (λ x. x.ends) h.1.rest ∙ settled.ends))
+
+  -- ---- the same after one more neighbour, that asks for a beginning
+
+  abbrev DoesOn : NeighbourCall → EarlyDay (House S T D K E) → EarlyDay (House S T D K E) → Type 0
+  DoesOn call old new = PassesToOthers Does call old new
+
+  settled_asked : (is_own is_made : Bool) (old new : House S T D K E) → SettlesOthers Does is_own is_made old new → IsAskedWithin asks 0 0 old.state new.state
+  settled_asked true is_made old new h = within_none asks old.state new.state (ap (λ x. x.state) h)
+  settled_asked false is_made old new h = asked_at (Settle is_made) old new h
+
+  pub asked_day : (call : NeighbourCall) (old new : EarlyDay (House S T D K E)) → DoesOn call old new → IsAskedWithin asks (goes call) (gives call) old.others.state new.others.state
+  asked_day (Hear thing) old new h = asked_at (Hear thing) old.others new.others h
+  asked_day (GoOn is_busy) old new h = asked_at (GoOn is_busy) old.others new.others h
+  asked_day (Give None) old new h = asked_at (Give None) old.others new.others h
+  asked_day (Give (Some change)) old new (inl h) = asked_at (Give (Some change)) old.others new.others h.1
+  asked_day (Give (Some change)) old new (inr h) = within_more asks 0 0 0 1 old.others.state new.others.state (omega arith) (omega arith) (asked_at (Give None) old.others new.others h.1.1)
+  asked_day (Settle is_made) old new h = settled_asked old.is_own is_made old.others new.others h
+
+  settled_left : (is_own is_made : Bool) (old new : House S T D K E) → SettlesOthers Does is_own is_made old new → AreEndsLeft old.ends new.ends
+  settled_left true is_made old new h = left_same old.ends new.ends (ap (λ x. x.ends) h)
+  settled_left false is_made old new h = ends_at (Settle is_made) old new h
+
+  pub ends_day : (call : NeighbourCall) (old new : EarlyDay (House S T D K E)) → DoesOn call old new → DoesToEnds known state call old.others.ends new.others.ends
+  ends_day (Hear thing) old new h = ends_at (Hear thing) old.others new.others h
+  ends_day (GoOn is_busy) old new h = ends_at (GoOn is_busy) old.others new.others h
+  ends_day (Give None) old new h = ends_at (Give None) old.others new.others h
+  ends_day (Give (Some change)) old new (inl h) = ends_at (Give (Some change)) old.others new.others h.1
+  ends_day (Give (Some change)) old new (inr h) = ends_at (Give None) old.others new.others h.1.1
+  ends_day (Settle is_made) old new h = settled_left old.is_own is_made old.others new.others h

@@ -1,0 +1,83 @@
+//! Laws of what a house says.
+ghost use Rattle.house_laws.specs.Alike.{AnsweredAlike, CarriedAlike, ClockedAlike, NeedAlike, NextAlike, ShortsAlike};
+ghost use Rattle.house_laws.specs.Alike.{EndAlike, KeepsAlike, RefusedAlike, ReplacedAlike, ReplacedOfAlike};
+ghost use Rattle.house_laws.specs.Alike.{JudgedAlike, NewsAlike, NotesAlike, StartAlike, UnfilledAlike, WhysAlike, WrittenAlike};
+ghost use Rattle.house_laws.specs.Disks.{AsksLittleLaw, EndsLaw, LedgerLaw, SparesLaw};
+ghost use Rattle.house_laws.specs.Tried.{DayTriesLaw, TriesLaw};
+
+use house_ledger::Keeping;
+use keep_asking::SeenLanes;
+use keep_clients::{Door, Talk};
+use keep_disk::Disk;
+use keep_files::Inputs;
+use keep_lanes::Lanes;
+use keep_log::LogSink;
+use keep_secrets::SecretFiles;
+
+/// The law that no credential is said: of two agents whose inventories differ in credentials alone the same lines are said, whatever
+/// happens to them.
+pub fn no_credential_is_said()
+    ensures clocked { ClockedAlike }
+    ensures next { NextAlike }
+    ensures need { NeedAlike }
+    ensures shorts { ShortsAlike }
+    ensures answered { AnsweredAlike }
+    ensures carried { CarriedAlike }
+{}
+
+/// The law that a client is told no credential: of two changes that differ in their credentials alone it is told the same, and so it is
+/// beside two agents, or two lists of entries, that do.
+pub fn no_credential_is_told()
+    ensures refused { RefusedAlike }
+    ensures replaced { ReplacedAlike }
+    ensures replaced_of { ReplacedOfAlike }
+    ensures keeps { KeepsAlike }
+    ensures end { EndAlike }
+{}
+
+/// The law that no credential of a file is said: of two journals, two files of an inventory and two files of a credential that differ in
+/// credentials alone the same is said, to the log, to clients and at a start.
+pub fn no_credential_of_a_file_is_said()
+    ensures notes { NotesAlike }
+    ensures whys { WhysAlike }
+    ensures start { StartAlike }
+    ensures written { WrittenAlike }
+    ensures unfilled { UnfilledAlike }
+    ensures news { NewsAlike }
+    ensures judged { JudgedAlike }
+{}
+
+/// The law that in a turn of the loop the log's reader is tried 16 times at most, whether the loop calls a house or an
+/// [`EarlyDay`](keep_serving::EarlyDay) before it.
+pub fn a_turn_tries_the_reader_little<S: LogSink, T: Talk, D: Door<T>, K: Keeping, E: Disk>()
+    ensures house { TriesLaw S.written S.failures S.tries T.remaining T.written T.calls D.log K.does K.rows K.path K.reads K.gives E.is_known E.state }
+    ensures day { DayTriesLaw S.written S.failures S.tries T.remaining T.written T.calls D.log K.does K.rows K.path K.reads K.gives E.is_known E.state }
+{}
+
+/// The law that a turn of the loop spares disks. What keeps the changes is asked to look at files of credentials once at most, and to make
+/// no more changes than the turn took; and the file of the ends is left alone, or was due, which it is once a second at most, and is tried
+/// once.
+pub fn a_turn_spares_disks<S: LogSink, T: Talk, D: Door<T>, K: Keeping, E: Disk>()
+    ensures asks { AsksLittleLaw S.written S.failures S.tries T.remaining T.written T.calls D.log K.does K.rows K.path K.reads K.gives E.is_known E.state }
+    ensures ends { EndsLaw S.written S.failures S.tries T.remaining T.written T.calls D.log K.does K.rows K.path K.reads K.gives E.is_known E.state }
+{}
+
+/// The law that a look at files of credentials looks at 64 stamps and reads one file at most, and that no call but one that makes a change
+/// calls the disk of a [`Ledger`](house_ledger::Ledger).
+pub fn a_look_spares_disks<D: Disk, I: Inputs + SecretFiles, L: Lanes>()
+    ensures { LedgerLaw D.is_known D.state I.calls ⟦<L as SeenLanes>⟧.seen L.host_port }
+{}
+
+/// The law that in a turn in which no change is taken 64 stamps of files are looked at and one file is read at most, and the disk of a
+/// [`Ledger`](house_ledger::Ledger) is left alone.
+pub fn a_turn_without_a_change_spares_disks<
+    S: LogSink,
+    T: Talk,
+    O: Door<T>,
+    D: Disk,
+    I: Inputs + SecretFiles,
+    L: Lanes,
+    E: Disk,
+>()
+    ensures { SparesLaw S.written S.failures S.tries T.remaining T.written T.calls O.log D.is_known D.state I.calls ⟦<L as SeenLanes>⟧.seen L.host_port E.is_known E.state }
+{}

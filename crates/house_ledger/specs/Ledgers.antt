@@ -1,0 +1,164 @@
+-- Ledgers: the state of an agent on a disk, and what the calls of its house do to it.
+-- Source: this project's own; what is on the disk is keep_state's.
+use Rattle.std.specs.Prelude.{◌≡◌, ◌≢◌, ◌⊎◌, ℕ, Bool, true, false, IsTrue, List, [], ◌∷◌, ◌++◌, Option, Some, None, Result, Ok, Err, codes, if◌then◌else◌, length}
+use Rattle.std.specs.declared.alloc.AllocError.{AllocError}
+use Rattle.keep_agent.specs.Waiting.{changed, is_rebuilding_due}
+use Rattle.keep_asking.specs.Sending.{Lanes}
+use Rattle.keep_change.specs.declared.change.What.{What}
+use Rattle.keep_change.specs.declared.replaying.Note.{Note}
+use Rattle.keep_change.specs.declared.row.Row.{Row}
+use Rattle.keep_clock.specs.declared.reading.Reading.{Reading}
+use Rattle.keep_disk.specs.State.{DiskState}
+use Rattle.keep_disk.specs.declared.fault.DiskFault.{DiskFault}
+use Rattle.keep_files.specs.Files.{Files}
+use Rattle.keep_inventory.specs.Inventories.{Inventory}
+use Rattle.keep_journal.specs.Journals.{JournalIsWhole}
+use Rattle.keep_proving.specs.Lookups.{Inquiry}
+use Rattle.keep_proving.specs.declared.candidate.Candidate.{Candidate}
+use Rattle.keep_proving.specs.declared.verdict.Verdict.{Verdict}
+use Rattle.keep_state.specs.Settles.{IsCopied, IsSettledState, IsWhyUnsettledState}
+use Rattle.keep_state.specs.States.{Kept, book_in, store_in}
+use Rattle.keep_state.specs.Tables.{row_of_table}
+use Rattle.keep_state.specs.declared.fault.TableFault.{TableFault}
+use Rattle.keep_store.specs.Books.{HasSecrets, IsBookIf}
+use Rattle.keep_store.specs.Compacted.{compacted_lines, is_worth}
+use Rattle.keep_store.specs.Entering.{IsWhyNot}
+use Rattle.keep_store.specs.Records.{records_in}
+use Rattle.keep_store.specs.Stores.{ChangeIsTaken, journal_of, lines_in}
+use Rattle.keep_store.specs.declared.secret.Secret.{Secret}
+use Rattle.keep_waiting.specs.Keepers.{InventoryIsGiven, waiting_in}
+use Rattle.keep_secrets.specs.Stamps.{FileCall}
+use Rattle.house_ledger.specs.Candidates.{IsCandidateFor}
+use Rattle.house_words.specs.Gathering.{AreGathered}
+use Rattle.house_ledger.specs.Inquiries.{AsksAbout, ProvesOn, asked_in}
+use Rattle.house_ledger.specs.Keeping.{KeepCall, Look, LookUp, Prove, Rebuilt, Reload, Settle, Take}
+use Rattle.house_words.specs.Outcomes.{Why, Whys}
+use Rattle.house_words.specs.Reading.{IsWellWritten, IsWide}
+use Rattle.house_words.specs.Reasons.{bare_words, settle_words, table_words, take_words}
+use Rattle.house_words.specs.Rereading.{AreBytesOf, IsWhyNotReread, SaysCopy, SaysNotes}
+use Rattle.house_words.specs.Starts.{is_bare_row}
+use Rattle.house_ledger.specs.Takings.{LooksOrHears}
+use Rattle.house_ledger.specs.Untouched.{IsAsItWas}
+use Rattle.house_ledger.specs.declared.asked_file.AskedFile.{AskedFile}
+use Rattle.house_words.specs.declared.demands.Demands.{Demands}
+use Rattle.house_ledger.specs.declared.keeping.LookedUp.{LookedUp}
+use Rattle.house_words.specs.declared.reread.Reread.{Reread}
+use Rattle.house_ledger.specs.declared.ledger.Ledger.{Ledger}
+
+-- ---- a change
+
+-- the words are those of such a fault; or memory was wanting for them
+abbrev pub SaysWhy : {F : Type 0} → (F → Type 0) → (F → List ℕ) → Why → Type 0
+SaysWhy {F} Is words None = Unit {0}
+SaysWhy {F} Is words (Some why) = (fault : F) × (Is fault × (why ≡ words fault))
+
+-- the lines are as they were, or those are taken out that are void, where that is worth while
+abbrev pub AreCompacted : List (List ℕ) → List (List ℕ) → Type 0
+AreCompacted old new = (new ≡ old) ⊎ ((is_worth old ≡ true) × (new ≡ compacted_lines old))
+
+-- the change is taken, and then its record is on the disk; afterwards records may go that are void, which changes nothing of what is kept
+pub record IsTakenOn {D : Type 0} (known : Bool) (seen : D → DiskState) (now : ℕ) (name : List ℕ) (w : What) (old new : Kept D) : Type 0 where
+  pub mid : Kept D
+  pub need : Bool
+  pub taken : ChangeIsTaken (store_in old) name w need (store_in mid)
+  pub waiting : waiting_in mid.keeper ≡ (if need then waiting_in old.keeper else changed (waiting_in old.keeper) now)
+  pub acknowledged : IsTrue known → JournalIsWhole (journal_of (store_in mid)) (seen mid.disk)
+  pub lines : AreCompacted (lines_in (store_in mid)) (lines_in (store_in new))
+  pub book : book_in new ≡ book_in mid
+  pub still : waiting_in new.keeper ≡ waiting_in mid.keeper
+
+abbrev pub TakesOn : {D : Type 0} → Bool → (D → DiskState) → ℕ → List ℕ → What → Result (Unit {0}) Why → Kept D → Kept D → Type 0
+TakesOn known seen now name w (Ok x) old new = IsTakenOn known seen now name w old new
+TakesOn known seen now name w (Err why) old new = IsAsItWas old new × SaysWhy (IsWhyNot (book_in old) name w) (take_words (book_in old).file.margin name w) why
+
+-- ---- settle, reload, and the others
+
+abbrev pub SettlesOn : {D : Type 0} → Bool → (D → DiskState) → Result (Unit {0}) Why → Kept D → Kept D → Type 0
+SettlesOn known seen (Ok x) old new = (copy : Option DiskFault) × IsSettledState known old copy new (seen old.disk) (seen new.disk)
+SettlesOn known seen (Err why) old new = (book_in new ≡ book_in old) × SaysWhy (IsWhyUnsettledState known old (seen old.disk)) settle_words why
+
+-- what files have given is taken, and waits for a rebuilding; or it cannot be handed on, and all is as it was, as where they gave nothing
+abbrev pub TakenIf : {D : Type 0} → Bool → ℕ → List Secret → Kept D → Kept D → Type 0
+TakenIf true now secrets old new = HasSecrets (book_in old) secrets (book_in new) × (waiting_in new.keeper ≡ changed (waiting_in old.keeper) now)
+TakenIf false now secrets old new = IsAsItWas old new
+
+abbrev pub FilledWith : {D : Type 0} → Bool → ℕ → List Secret → Kept D → Kept D → Type 0
+FilledWith is_taken now secrets old new = ((length secrets ≡ 0) × ((is_taken ≡ true) × IsAsItWas old new)) ⊎ ((length secrets ≢ 0) × TakenIf is_taken now secrets old new)
+
+abbrev pub apart_line : List ℕ
+apart_line = codes "what the files of credentials hold does not go together: the old ones stay"
+
+-- that is said, after what is said of files that hold none
+abbrev pub said_if : Bool → List (List ℕ) → List (List ℕ)
+said_if true said = said
+said_if false said = said ++ apart_line ∷ []
+
+-- no file of the state is touched: its disk, its paths and its journal are the same
+pub record StaysOnDisk {D : Type 0} (old new : Kept D) : Type 0 where
+  pub disk : new.disk ≡ old.disk
+  pub places : new.places ≡ old.places
+  pub journal : journal_of (store_in new) ≡ journal_of (store_in old)
+
+-- it is what the files of credentials hold that rows name
+pub record IsFilledOn {D : Type 0} (files : Files) (folder : List ℕ) (now : ℕ) (lines : List (List ℕ)) (old new : Kept D) : Type 0 where
+  pub secrets : List Secret
+  pub said : List (List ℕ)
+  pub is_taken : Bool
+  pub gathered : AreGathered files folder (book_in old).rows secrets said
+  pub taken : FilledWith is_taken now secrets old new
+  pub lines_are : lines ≡ said_if is_taken said
+
+-- a file that may be served is, with every change; and what is said of it. What was taken of files of credentials stays, and none is read
+pub record IsReloadedOn {D : Type 0} (known : Bool) (seen : D → DiskState) (demands : Demands) (now : ℕ) (reread : Reread) (old new : Kept D) : Type 0 where
+  pub bytes : List ℕ
+  pub stand : AreBytesOf known seen old bytes
+  pub written : IsWellWritten demands bytes
+  pub notes : List Note
+  pub book : IsBookIf (Some bytes) (records_in (lines_in (store_in old))) (book_in old).secrets (book_in new) notes
+  pub waiting : waiting_in new.keeper ≡ changed (waiting_in old.keeper) now
+  pub noted : SaysNotes (book_in new).file.margin (records_in (lines_in (store_in new))) notes reread.notes.items
+  pub copy : Option DiskFault
+  pub copied : IsCopied known old.places bytes copy (seen new.disk)
+  pub unkept : SaysCopy copy reread.unkept
+
+-- one that may not leaves all as it was, and the lines say why, unless memory was wanting for them
+abbrev pub ReloadsOn : {D : Type 0} → Bool → (D → DiskState) → Demands → ℕ → Result Reread Whys → Kept D → Kept D → Type 0
+ReloadsOn known seen demands now (Ok reread) old new = IsReloadedOn known seen demands now reread old new
+ReloadsOn known seen demands now (Err whys) old new = IsAsItWas old new × IsWhyNotReread known seen demands old whys.items
+
+-- a verdict on what a file holds is none of a client's
+abbrev pub ProvesIf : {L : Type 0} → (L → Lanes) → Option AskedFile → ℕ → Result (Option Verdict) AllocError → Option (Inquiry L) → Option (Inquiry L) → Type 0
+ProvesIf lanes_seen (Some other) now result old new = (result ≡ Ok None) × (new ≡ old)
+ProvesIf lanes_seen None now result old new = ProvesOn lanes_seen now result old new
+
+module _ {D I L : Type 0} (known : Bool) (seen : D → DiskState) (calls : I → Option (List FileCall)) (lanes_seen : L → Lanes) (port : L → ℕ) where
+  -- what a change brings is looked up, and nothing else changes
+  abbrev pub LooksUpOn : Reading → List ℕ → What → Result LookedUp AllocError → Ledger D I L → Ledger D I L → Type 0
+  LooksUpOn now name w (Ok result) old new =
+      (c : Option Candidate) × (IsCandidateFor (book_in old.state).file.margin (book_in old.state).rows (book_in old.state).text name w c × AsksAbout lanes_seen port now c (Ok result) old.proving new.proving)
+  LooksUpOn now name w (Err e) old new = asked_in new.proving ≡ asked_in old.proving
+
+  -- nothing else changes
+  abbrev pub DoesLedger : KeepCall → Ledger D I L → Ledger D I L → Type 0
+  DoesLedger (LookUp now name w result) old new = LooksUpOn now name w result old new × (new ≡ record old { proving = new.proving })
+  DoesLedger (Prove now result) old new = ProvesIf lanes_seen old.asked now result old.proving new.proving × (new ≡ record old { proving = new.proving })
+  DoesLedger (Take now name w result) old new = TakesOn known seen now name w result old.state new.state × (new ≡ record old { state = new.state })
+  DoesLedger (Settle result) old new = SettlesOn known seen result old.state new.state × (new ≡ record old { state = new.state })
+  DoesLedger (Reload now result) old new = ReloadsOn known seen old.demands now result old.state new.state × (new ≡ record old { state = new.state })
+  DoesLedger (Look now looked) old new = LooksOrHears calls lanes_seen port now looked old new
+  DoesLedger Rebuilt old new =
+      (waiting_in new.state.keeper ≡ None) × ((store_in new.state ≡ store_in old.state) × ((new.state.disk ≡ old.state.disk) × (new ≡ record old { state = new.state })))
+
+-- the row of a table, unless its entry has no credential; or why there is none
+abbrev pub ReadsTable : List ℕ → Result Row Why → Type 0
+ReadsTable table (Ok row) = row_of_table table ≡ Ok row
+ReadsTable table (Err None) = Unit {0}
+ReadsTable table (Err (Some why)) =
+    ((fault : TableFault) × ((row_of_table table ≡ Err fault) × (why ≡ table_words fault))) ⊎ ((row : Row) × ((row_of_table table ≡ Ok row) × ((is_bare_row row ≡ true) × (why ≡ bare_words row))))
+
+-- what is served from a moment on, where a rebuilding is due
+abbrev pub GivesLedger : {D I L : Type 0} → ℕ → Result (Option Inventory) AllocError → Ledger D I L → Type 0
+GivesLedger now (Ok None) l = is_rebuilding_due (waiting_in l.state.keeper) now ≡ false
+GivesLedger now (Ok (Some inventory)) l =
+    (narrow : Inventory) × (InventoryIsGiven (waiting_in l.state.keeper) now (book_in l.state).text (Some narrow) × IsWide l.demands.earlier (book_in l.state).text narrow inventory)
+GivesLedger now (Err e) l = Unit {0}

@@ -1,0 +1,6 @@
+pub mod Keeping
+pub mod Untouched
+pub mod Candidates
+pub mod Inquiries
+pub mod Takings
+pub mod Ledgers

@@ -1,0 +1,187 @@
+//! A file of a credential is looked at and read, and what it holds is looked up before it is taken.
+ghost use Rattle.std.specs.Prelude.{◌≡◌, ◌⊎◌, Ok};
+ghost use Rattle.house_ledger.specs.Takings.{FileIsAsked, HearsFile, IsEarly, IsPass, JudgesFile, LooksUpNew, ReadsUp, TakesHeldUp, TakesRead, judged};
+
+use crate::candidates::candidate_of_file;
+use crate::inquiry::{ask, hear};
+use crate::keeping::LookedUp;
+use crate::ledger::Ledger;
+use crate::secret_changes::{quiet, take_up, wanting};
+use keep_asking::SeenLanes;
+use keep_clock::Reading;
+use keep_disk::Disk;
+use keep_files::Inputs;
+use keep_lanes::Lanes;
+use keep_moment::Text;
+use keep_proving::Verdict;
+use keep_secrets::{
+    DueFile, Looked, Looking, Pass, SecretFiles, SecretTrouble, has_it, names_file, read_held,
+};
+use std::alloc::{AllocError, Global};
+
+/// The credential that a file holds, as long as it is looked up. It has no `Debug`: the credential is secret.
+#[derive(Drop)]
+pub struct AskedFile {
+    /// The file.
+    pub due: DueFile,
+    /// A token's own value, or a lease's id.
+    pub credential: Text,
+}
+
+impl<'a, D: Disk, I: Inputs + SecretFiles, L: Lanes> Ledger<'a, D, I, L> {
+    /// Looks at the files of credentials that the rows name, where it is time for that, until one is to be read; reads that one, and takes
+    /// what it holds, or looks that up first.
+    pub(crate) fn look_around(&mut self, alloc: Global, now: Reading) -> Looked
+        ensures { IsEarly I.calls ⟦<L as SeenLanes>⟧.seen L.host_port now result self.old self.new ⊎ IsPass I.calls ⟦<L as SeenLanes>⟧.seen L.host_port now result self.old self.new }
+    {
+        if now.elapsed < self.looking.from {
+            return quiet(false);
+        }
+        let folder = self.folder.as_bytes();
+        let rows = self.state.rows().list();
+        let secrets = self.state.secrets();
+        match self.looking.pass(alloc, rows, secrets, folder, &mut self.inputs, now.elapsed) {
+            Pass::End => {
+                self.looking.end(now.elapsed);
+                quiet(false)
+            }
+            Pass::Later(at) => {
+                go_on_at(&mut self.looking, at);
+                quiet(true)
+            }
+            Pass::Due(due) => self.read_up(alloc, now, due),
+            Pass::Want => wanting(),
+        }
+    }
+
+    // Reads a file, and takes what it holds, or looks that up first.
+    fn read_up(&mut self, alloc: Global, now: Reading, due: DueFile) -> Looked
+        ensures { ReadsUp I.calls ⟦<L as SeenLanes>⟧.seen L.host_port now result due self.old self.new }
+    {
+        match read_held(alloc, &mut self.inputs, &due.path, due.stamp) {
+            Ok(Ok(credential)) => self.look_up_held(alloc, now, due, credential),
+            Ok(Err(trouble)) => self.take_held(alloc, now, due, Err(trouble)),
+            Err(AllocError) => wanting(),
+        }
+    }
+
+    // Looks up what a file holds, unless the entry has that already, or there is nothing to be looked up: then it is taken at once.
+    fn look_up_held(
+        &mut self,
+        alloc: Global,
+        now: Reading,
+        due: DueFile,
+        credential: Text,
+    ) -> Looked
+        ensures { TakesRead I.calls ⟦<L as SeenLanes>⟧.seen L.host_port now result due (Ok (Ok credential)) self.old self.new }
+    {
+        if has_it(
+            self.state.secrets(),
+            due.name.list(),
+            due.file.list(),
+            credential.list(),
+        ) {
+            return self.take_held(alloc, now, due, Ok(credential));
+        }
+        self.look_up_new(alloc, now, due, credential)
+    }
+
+    // The same of one that the entry does not have.
+    fn look_up_new(&mut self, alloc: Global, now: Reading, due: DueFile, credential: Text) -> Looked
+        ensures { LooksUpNew I.calls ⟦<L as SeenLanes>⟧.seen L.host_port now result due credential self.old self.new }
+    {
+        match self.ask_about(alloc, now, &due, &credential) {
+            Ok(LookedUp::Out) => {
+                self.asked = Some(AskedFile { due, credential });
+                quiet(false)
+            }
+            Ok(LookedUp::Later) => quiet(false),
+            Ok(LookedUp::Nothing) => self.take_held(alloc, now, due, Ok(credential)),
+            Err(AllocError) => wanting(),
+        }
+    }
+
+    // Looks the credential of a file up, where there is something to be looked up and nothing else is. The only error is lack of memory.
+    fn ask_about(
+        &mut self,
+        alloc: Global,
+        now: Reading,
+        due: &DueFile,
+        credential: &Text,
+    ) -> Result<LookedUp, AllocError>
+        ensures asks { FileIsAsked ⟦<L as SeenLanes>⟧.seen L.host_port now due.now credential.now result self.old.state self.old.proving self.new.proving }
+        ensures rest { self.new ≡ record self.old { proving = self.new.proving } }
+    {
+        let candidate = candidate_of_file(alloc, &self.state, due.name.list(), credential)?;
+        ask(alloc, &mut self.proving, now, candidate)
+    }
+
+    /// What a file holds is taken or refused by the broker's word, once that is there; till then it waits on.
+    pub(crate) fn hear_file(&mut self, alloc: Global, now: Reading, asked: AskedFile) -> Looked
+        ensures { HearsFile I.calls ⟦<L as SeenLanes>⟧.seen L.host_port now result asked self.old self.new }
+    {
+        match hear(alloc, &mut self.proving, now.elapsed) {
+            Ok(None) => {
+                self.asked = Some(asked);
+                quiet(false)
+            }
+            Ok(Some(verdict)) => self.judge_file(alloc, now, asked, verdict),
+            Err(AllocError) => wanting(),
+        }
+    }
+
+    // It is taken or refused by the verdict on it, where the entry still names the file.
+    fn judge_file(
+        &mut self,
+        alloc: Global,
+        now: Reading,
+        asked: AskedFile,
+        verdict: Verdict,
+    ) -> Looked
+        ensures { JudgesFile I.calls ⟦<L as SeenLanes>⟧.seen L.host_port now result asked verdict self.old self.new }
+    {
+        let AskedFile { due, credential } = asked;
+        if !names_file(self.state.rows(), due.name.list(), due.file.list()) {
+            return quiet(true);
+        }
+        self.take_held(alloc, now, due, judged(credential, verdict))
+    }
+
+    // Takes what a file gives, and keeps what came of it.
+    fn take_held(
+        &mut self,
+        alloc: Global,
+        now: Reading,
+        due: DueFile,
+        held: Result<Text, SecretTrouble>,
+    ) -> Looked
+        ensures { TakesHeldUp I.calls ⟦<L as SeenLanes>⟧.seen L.host_port now result due held self.old self.new }
+    {
+        take_up(
+            alloc,
+            &mut self.state,
+            &mut self.looking,
+            now.elapsed,
+            due,
+            held,
+        )
+    }
+}
+
+// The look goes on at this row.
+fn go_on_at(looking: &mut Looking, at: usize)
+    ensures { looking.new ≡ record looking.old { next = at } }
+{
+    looking.next = at;
+}
+
+// What the file gives by the broker's word: a lookup without an answer says nothing against it.
+fn judged(credential: Text, verdict: Verdict) -> Result<Text, SecretTrouble>
+    ensures { result ≡ judged credential verdict }
+{
+    match verdict {
+        Verdict::Good | Verdict::Missing(_) => Ok(credential),
+        Verdict::Refused(status) => Err(SecretTrouble::Refused(status)),
+        Verdict::Endless => Err(SecretTrouble::Endless),
+    }
+}

@@ -1,0 +1,49 @@
+//! A credential is looked up before it is taken, over lanes of its own, where there are any.
+ghost use Rattle.std.specs.Prelude.{IfSome};
+ghost use Rattle.keep_proving.specs.Lookups.{IsCandidate};
+ghost use Rattle.house_ledger.specs.Inquiries.{AsksAbout, ProvesOn};
+
+use crate::keeping::LookedUp;
+use house_words::second_of;
+use keep_asking::SeenLanes;
+use keep_clock::Reading;
+use keep_lanes::Lanes;
+use keep_proving::{Candidate, Proving, Verdict};
+use std::alloc::{AllocError, Global};
+
+/// Looks this credential up, where there is one, and where it can be. It waits for nothing. The only error is lack of memory.
+pub(crate) fn ask<L: Lanes>(
+    alloc: Global,
+    proving: &mut Option<Proving<L>>,
+    now: Reading,
+    candidate: Option<Candidate>,
+) -> Result<LookedUp, AllocError>
+    requires { IfSome candidate IsCandidate }
+    ensures { AsksAbout ⟦<L as SeenLanes>⟧.seen L.host_port now candidate result proving.old proving.new }
+{
+    let Some(candidate) = candidate else {
+        return Ok(LookedUp::Nothing);
+    };
+    let Some(proving) = proving else {
+        return Ok(LookedUp::Nothing);
+    };
+    if proving.is_asking() {
+        return Ok(LookedUp::Later);
+    }
+    proving.ask(alloc, second_of(now.wall), now.elapsed, candidate)?;
+    Ok(LookedUp::Out)
+}
+
+/// The broker's word, once it is there. It waits for nothing. The only error is lack of memory: nothing is looked up any more then.
+pub(crate) fn hear<L: Lanes>(
+    alloc: Global,
+    proving: &mut Option<Proving<L>>,
+    now: u64,
+) -> Result<Option<Verdict>, AllocError>
+    ensures { ProvesOn ⟦<L as SeenLanes>⟧.seen now result proving.old proving.new }
+{
+    match proving {
+        None => Ok(None),
+        Some(proving) => proving.go_on(alloc, now),
+    }
+}

@@ -1,0 +1,102 @@
+//! What keeps the changes that clients give.
+ghost use Rattle.std.specs.Prelude.{◌≡◌, List, Option, Result, ℕ, option_map};
+ghost use Rattle.std.specs.declared.alloc.AllocError.{AllocError};
+ghost use Rattle.keep_change.specs.Rows.{named};
+ghost use Rattle.keep_change.specs.declared.row.Row.{Row};
+ghost use Rattle.keep_inventory.specs.Inventories.{Inventory};
+ghost use Rattle.house_ledger.specs.Keeping.{KeepCall, Look, LookUp, Prove, Rebuilt, Reload, Settle, Take};
+ghost use Rattle.house_words.specs.Outcomes.{Why};
+
+use house_words::Reread;
+use keep_change::{Row, What};
+use keep_clock::Reading;
+use keep_inventory::Inventory;
+use keep_moment::Text;
+use keep_proving::Verdict;
+use keep_secrets::Looked;
+use std::alloc::{AllocError, Global};
+
+/// Whether the credential that a change brings is looked up before it is taken.
+#[derive(Clone, Copy, Debug, PartialEq, Eq)]
+pub enum LookedUp {
+    /// Its lookup is out, and [`Keeping::prove`] gives the verdict.
+    Out,
+    /// Another credential is being looked up.
+    Later,
+    /// There is nothing to be looked up.
+    Nothing,
+}
+
+/// Keeps the changes that clients give, over a restart too. A reason why something was not done is in words for the one who asked,
+/// without a credential, and `None` where memory was wanting for them.
+///
+/// To contracts it is what each call did to it, what it has from then on, and the inventories that it gives.
+pub trait Keeping {
+    /// What a call did to it: what it was asked for and what came of it, what it was before, and what it is after.
+    ghost does: { KeepCall → Self → Self → Type 0 };
+
+    /// The entries after every change.
+    ghost rows: { Self → List Row };
+
+    /// The path of the file.
+    ghost path: { Self → List ℕ };
+
+    /// Whether this is the row of a table, or why there is none.
+    ghost reads: { List ℕ → Result Row Why → Type 0 };
+
+    /// What is to be served from a moment on, where a rebuilding is due.
+    ghost gives: { ℕ → Result (Option Inventory) AllocError → Self → Type 0 };
+
+    /// Makes a change of the entry of that name. `now` is in milliseconds of the clock that never steps. At `Ok` it holds over a restart.
+    fn take(&mut self, alloc: Global, now: u64, name: &[u8], what: What) -> Result<(), Option<Text>>
+        ensures { Self.does (Take now name.now what result) self.old self.new };
+
+    /// Looks up the credential that this change of the entry of that name brings, where it brings one and may be made. It waits for
+    /// nothing. The only error is lack of memory: nothing is looked up then.
+    fn look_up(
+        &mut self,
+        alloc: Global,
+        now: Reading,
+        name: &[u8],
+        what: &What,
+    ) -> Result<LookedUp, AllocError>
+        ensures { Self.does (LookUp now name.now what.now result) self.old self.new };
+
+    /// The verdict on the credential that is looked up, once the broker's answer is there: then it is looked up no more. `now` is in
+    /// milliseconds of the clock that never steps. It waits for nothing. The only error is lack of memory: it is looked up no more then.
+    fn prove(&mut self, alloc: Global, now: u64) -> Result<Option<Verdict>, AllocError>
+        ensures { Self.does (Prove now result) self.old self.new };
+
+    /// Makes the file hold every change.
+    fn settle(&mut self, alloc: Global) -> Result<(), Option<Text>>
+        ensures { Self.does (Settle result) self.old self.new };
+
+    /// Reads the file anew. The error is why that is not served, a reason a line; none where memory was wanting for them.
+    fn reload(&mut self, alloc: Global, now: u64) -> Result<Reread, Vec<Text>>
+        ensures { Self.does (Reload now result) self.old self.new };
+
+    /// The row that a table `[[token]]` or `[[lease]]` in TOML writes.
+    fn read_row(&self, alloc: Global, table: &[u8]) -> Result<Row, Option<Text>>
+        ensures { Self.reads table.now result };
+
+    /// The inventory that is to be served from now on, where a rebuilding is due. The only error is out of memory.
+    fn due(&self, alloc: Global, now: u64) -> Result<Option<Inventory>, AllocError>
+        ensures { Self.gives now result self.now };
+
+    /// Looks at files of credentials, where it is time for that, until one is to be read; and takes what that one holds, once it was
+    /// looked up. While one is looked up no other is looked at. It waits for nothing but the files.
+    fn look(&mut self, alloc: Global, now: Reading) -> Looked
+        ensures { Self.does (Look now result) self.old self.new };
+
+    /// The rebuilding was made.
+    fn rebuilt(&mut self)
+        ensures { Self.does Rebuilt self.old self.new };
+
+    /// The entry of that name.
+    fn named(&self, name: &[u8]) -> Option<&Row>
+        ensures { option_map (λ row. row.now) result ≡ named (Self.rows self.now) name.now };
+
+    /// The path of the file.
+    fn path(&self) -> &[u8]
+        ensures { result.now ≡ Self.path self.now };
+}

@@ -1,0 +1,19 @@
+//! What a serving agent keeps over a restart: the changes that clients give, in its state folder, and what files of credentials hold.
+//!
+//! The contract for the layer above: [`Keeping`] is what is asked of whoever keeps changes, and each call is known by what it was asked
+//! for and what came of it (`specs/Keeping`). A [`Ledger`] keeps them in a state on a disk (`specs/Ledgers`): a change that it takes holds
+//! over a restart, and one that it refuses leaves all as it was (`specs/Untouched`). The credential that a change brings is looked up
+//! first, by itself (`specs/Candidates`, `specs/Inquiries`), and so is what a file holds before it is taken (`specs/Takings`). Begin
+//! with `specs/Keeping` and `specs/Ledgers`, then `keeping` and `ledger`.
+#![tactic(auto)]
+
+mod asked_file;
+mod candidates;
+mod inquiry;
+mod keeping;
+mod ledger;
+mod secret_changes;
+
+pub use asked_file::AskedFile;
+pub use keeping::{Keeping, LookedUp};
+pub use ledger::Ledger;

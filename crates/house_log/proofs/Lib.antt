@@ -1,0 +1,5 @@
+pub mod Said
+pub mod Marking
+pub mod Deciding
+pub mod EachOne
+pub mod Within

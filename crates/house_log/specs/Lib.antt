@@ -1,0 +1,13 @@
+pub mod Rooms
+pub mod Lines
+pub mod Marks
+pub mod LinesOfClocks
+pub mod LinesOfAnswers
+pub mod Sockets
+pub mod Changed
+pub mod LogDesk
+pub mod LinesOfNexts
+pub mod LinesOfEnds
+pub mod Wants
+pub mod Feeding
+pub mod SecretLines

@@ -1,0 +1,46 @@
+-- Wants: a lack of memory that costs turns of the loop is said once as long as it goes on, as soon as it can be.
+-- Source: this project's own; docs/commands/serve.md, "The log".
+use Rattle.std.specs.Prelude.{◌≡◌, Bool, true, false}
+use Rattle.keep_agent.specs.Agent.{Agent}
+use Rattle.house_log.specs.LinesOfClocks.{memory_line}
+use Rattle.house_log.specs.LogDesk.{Desk}
+use Rattle.house_log.specs.Lines.{IsSaid}
+use Rattle.house_words.specs.Moments.{now_of}
+use Rattle.house_log.specs.declared.mark.Want.{Want}
+use Rattle.house_log.specs.declared.mark.Want.TheVariants.{Over, Unsaid, Said, Passing}
+
+-- what is left where it was said, and where it could not be
+abbrev pub said_or : Bool → Want → Want
+said_or true left = left
+said_or false left = Unsaid
+
+-- that memory was refused is said; where memory is wanting for that too, nothing is done but that it is left to say
+pub record SaysWant (a : Agent) (left : Want) (old new : Desk) : Type 0 where
+  pub is_said : Bool
+  pub line : IsSaid is_said old.form (now_of a.machine) memory_line old.room new.room
+  pub rest : new ≡ record old { room = new.room; want = said_or is_said left }
+
+-- memory was wanting: that is said, unless it was said before and the time was not handed in twice since, with no lack of memory between
+abbrev pub HearsWantingBy : Want → Agent → Desk → Desk → Type 0
+HearsWantingBy Over a old new = SaysWant a Said old new
+HearsWantingBy Unsaid a old new = SaysWant a Said old new
+HearsWantingBy Said a old new = new ≡ record old { want = Said }
+HearsWantingBy Passing a old new = new ≡ record old { want = Said }
+
+abbrev pub HearsWanting : Agent → Desk → Desk → Type 0
+HearsWanting a old new = HearsWantingBy old.want a old new
+
+-- the same of a change, which was made or lacked memory
+abbrev pub HearsUnmade : Bool → Agent → Desk → Desk → Type 0
+HearsUnmade true a old new = new ≡ old
+HearsUnmade false a old new = HearsWanting a old new
+
+-- the time was handed in: what is left to say is said now
+abbrev pub HearsTimeBy : Want → Agent → Desk → Desk → Type 0
+HearsTimeBy Over a old new = new ≡ old
+HearsTimeBy Unsaid a old new = SaysWant a Passing old new
+HearsTimeBy Said a old new = new ≡ record old { want = Passing }
+HearsTimeBy Passing a old new = new ≡ record old { want = Over }
+
+abbrev pub HearsTime : Agent → Desk → Desk → Type 0
+HearsTime a old new = HearsTimeBy old.want a old new

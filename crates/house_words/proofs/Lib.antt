@@ -1,0 +1,7 @@
+pub mod Behind
+pub mod Pieces
+pub mod Filled
+pub mod Gathering
+pub mod Read
+pub mod Unfilled
+pub mod Faulty

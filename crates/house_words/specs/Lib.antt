@@ -1,0 +1,13 @@
+pub mod Moments
+pub mod Outcomes
+pub mod Telling
+pub mod VerdictWords
+pub mod Faults
+pub mod Starts
+pub mod Filling
+pub mod Reading
+pub mod Refusing
+pub mod Reasons
+pub mod Noting
+pub mod Gathering
+pub mod Rereading
