@@ -1,7 +1,7 @@
 //! The sockets of `serve`: where commands come in, and where onlookers do. Neither can stop it: one that cannot be had is an alert.
+use house_log::Desk;
 use keep_clients::{Entrance, SocketDoor};
 use keep_clock::{Reading, SystemClock};
-use keep_house::Desk;
 use keep_lanes::MOST_WIDTH;
 use std::alloc::Global;
 use std::io;

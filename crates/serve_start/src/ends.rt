@@ -1,8 +1,8 @@
 //! The ends that `serve` takes over, and the file that keeps them.
+use house_log::Desk;
 use keep_clock::Reading;
 use keep_disk::{Disk, DiskFault, SystemDisk, Why};
 use keep_ends::{EndsFile, known_events, load_ends};
-use keep_house::Desk;
 use keep_inventory::Inventory;
 use keep_log::Level;
 use keep_moment::Text;

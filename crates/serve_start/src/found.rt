@@ -1,8 +1,8 @@
 //! What a start with a state folder finds of the file that is to be served, and of its last good copy.
 use crate::modes::{may_others_write, say_open};
 use crate::said::{Said, push_each};
+use house_words::{Demands, unread_words, why_not_served};
 use keep_disk::{Disk, DiskFault};
-use keep_house::{Demands, unread_words, why_not_served};
 use keep_inventory::MOST_INVENTORY;
 use keep_log::Level;
 use keep_moment::Text;

@@ -3,12 +3,12 @@ ghost use Rattle.serve_start.specs.Refusals.{GivesOrRefuses, IsToldOf, RefusesIf
 
 use crate::folder::folder_of;
 use crate::secrets::SystemSecrets;
+use house_words::{
+    Demands, StartFault, faults_as_written, faults_to_serve, line_of_fault, read_to_serve,
+};
 use keep_command::SystemFiles;
 use keep_device::{Sink, Watched};
 use keep_files::Inputs;
-use keep_house::{
-    Demands, StartFault, faults_as_written, faults_to_serve, line_of_fault, read_to_serve,
-};
 use keep_inventory::{Inventory, MOST_INVENTORY, read_served};
 use keep_moment::Text;
 use keep_report::{Exit, PROGRAM, Stop, tell};

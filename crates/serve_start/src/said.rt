@@ -1,6 +1,6 @@
 //! What is said in the log before anything else.
+use house_log::Desk;
 use keep_clock::Reading;
-use keep_house::Desk;
 use keep_log::{Form, Level};
 use keep_moment::Text;
 use std::alloc::{AllocError, Global};
