@@ -40,15 +40,15 @@ where
     let mut errors = errors;
     match job {
         Job::Call(called) => call(rt, called, input, &mut errors).code(),
-        Job::Live(live) => keep(rt, live, &mut streams(rt, input, errors)).code(),
-        Job::Watch(watched) => watch(rt, watched, &mut streams(rt, input, errors)).code(),
+        Job::Live(live) => keep(rt, live, &mut streams_of(rt, input, errors)).code(),
+        Job::Watch(watched) => watch(rt, watched, &mut streams_of(rt, input, errors)).code(),
         Job::Serve(served) => serve(rt, served, output, &mut errors).code(),
         Job::Offline(command) => do_offline(rt, command, &mut errors).code(),
     }
 }
 
 /// The streams of a command that takes lines and answers them.
-fn streams<R: Print, I: Read, E: Write>(
+fn streams_of<R: Print, I: Read, E: Write>(
     rt: &R,
     input: I,
     errors: Counted<E>,

@@ -15,8 +15,8 @@ use keep_log::StandardOutput;
 use keep_proving::Proving;
 use leasekeep_commands::{Room, Served, Socket};
 use serve_start::{
-    CLIENTS, Folder, Guests, ONLOOKERS, Start, SystemLedger, desk_of, folder_of, open_door, start,
-    take_over,
+    CLIENTS, Folder, Guests, ONLOOKERS, Start, SystemLedger, desk_of, folder_of, make_start,
+    open_door, take_over,
 };
 use std::alloc::{AllocError, Global};
 use std::fs::File;
@@ -87,7 +87,7 @@ where
     ensures { EndsServe result (⟦<E as Watched>⟧.change errors.old errors.new) }
 {
     let folder = state_folder(rt.alloc(), served);
-    match start(rt, served.file, folder.as_ref(), demands, errors) {
+    match make_start(rt, served.file, folder.as_ref(), demands, errors) {
         Ok(start) => ended(run_from(rt, served, start, log, clock, lanes), errors),
         Err(exit) => exit,
     }

@@ -1,7 +1,7 @@
 //! A start of `leasekeep serve`: what is read and opened before its loop, and what is said or told of that. It stands below the loop and
 //! its neighbours, so that both are proved beside each other.
 //!
-//! The contract for the layers above: [`start`] gives what is served from the start on, or the exit once it was told why nothing is
+//! The contract for the layers above: [`make_start`] gives what is served from the start on, or the exit once it was told why nothing is
 //! (`specs/Refusals`). Of files and folders of the system, from which all the rest comes, nothing is known. Begin with `start`: `reading`
 //! has what is served of the file alone, `folder` what is served with a state folder, and `found` and `modes` what is found there.
 //! `secrets` are the files of credentials, `ends` the file that keeps the ends, `doors` the sockets of clients and onlookers, and `spread`
@@ -26,4 +26,4 @@ pub use reading::Inventories;
 pub use said::{Said, desk_of};
 pub use secrets::SystemSecrets;
 pub use spread::earlier_by;
-pub use start::{Start, SystemLedger, start};
+pub use start::{Start, SystemLedger, make_start};

@@ -42,7 +42,7 @@ pub type SystemLedger<'a, R, L> = Ledger<'a, SystemDisk<'a, R>, SystemSecrets<'a
 
 /// What is served of the inventory at `file`, with the changes of a state folder, where there is one; without it, where that cannot be
 /// used. Or the exit, once it was told why nothing is served.
-pub fn start<'a, R, L, E>(
+pub fn make_start<'a, R, L, E>(
     rt: &'a R,
     file: &str,
     folder: Option<&'a Folder<'_>>,
