@@ -1,6 +1,6 @@
 -- Looks: whoever keeps changes looks at files of credentials, and what came of it is said.
 -- Source: docs/running.md, "Secrets by file".
-use Rattle.std.specs.Prelude.{◌≡◌, Bool, Option, Some, None}
+use Rattle.std.specs.Prelude.{◌≡◌, Bool, false, Option, Some, None}
 use Rattle.keep_agent.specs.Agent.{Agent}
 use Rattle.keep_clock.specs.declared.reading.Reading.{Reading}
 use Rattle.house_ledger.specs.Keeping.{KeepCall, Look}
