@@ -61,6 +61,8 @@ pub fn folder_of(file: &str) -> &str {
 /// Why nothing is served with a state folder.
 #[derive(Debug, Drop)]
 pub(crate) enum NotBegun {
+    /// There is none: the file is served without it.
+    NoFolder,
     /// The folder cannot be used: the file is served without it, and this is said.
     Unused(Said),
     /// Another agent holds the folder.
@@ -81,9 +83,12 @@ impl From<AllocError> for NotBegun {
 /// is none.
 pub(crate) fn begin<'a, R: Files<File = File> + AllocGlobal, L: Lanes + Drop>(
     rt: &'a R,
-    folder: &'a Folder<'_>,
+    folder: Option<&'a Folder<'_>>,
     demands: Demands,
 ) -> Result<Start<SystemLedger<'a, R, L>>, NotBegun> {
+    let Some(folder) = folder else {
+        return Err(NotBegun::NoFolder);
+    };
     let alloc = rt.alloc();
     let paths = folder.paths(alloc)?;
     let mut disk = SystemDisk::new(rt);
