@@ -3,7 +3,7 @@ ghost use Rattle.serve_start.specs.Refusals.{RefusesStart};
 
 use crate::found::{Found, find};
 use crate::reading::Inventories;
-use crate::said::{Said, push, push_each};
+use crate::said::{About, Said, push, push_each};
 use crate::secrets::SystemSecrets;
 use crate::start::{Start, SystemLedger};
 use house_ledger::Ledger;
@@ -61,6 +61,8 @@ pub fn folder_of(file: &str) -> &str {
 /// Why nothing is served with a state folder.
 #[derive(Debug, Drop)]
 pub(crate) enum NotBegun {
+    /// There is none: the file is served without it.
+    NoFolder,
     /// The folder cannot be used: the file is served without it, and this is said.
     Unused(Said),
     /// Another agent holds the folder.
@@ -81,9 +83,12 @@ impl From<AllocError> for NotBegun {
 /// is none.
 pub(crate) fn begin<'a, R: Files<File = File> + AllocGlobal, L: Lanes + Drop>(
     rt: &'a R,
-    folder: &'a Folder<'_>,
+    folder: Option<&'a Folder<'_>>,
     demands: Demands,
 ) -> Result<Start<SystemLedger<'a, R, L>>, NotBegun> {
+    let Some(folder) = folder else {
+        return Err(NotBegun::NoFolder);
+    };
     let alloc = rt.alloc();
     let paths = folder.paths(alloc)?;
     let mut disk = SystemDisk::new(rt);
@@ -184,10 +189,15 @@ fn filled<D: Disk, I: Inputs, L: Lanes>(
     push_each(
         said,
         Level::Note,
-        "journal",
+        About::Journal,
         ledger.note_lines(alloc, notes)?,
     )?;
-    push_each(said, Level::Alert, "secret-file", ledger.fill(alloc, 0)?)?;
+    push_each(
+        said,
+        Level::Alert,
+        About::SecretFile,
+        ledger.fill(alloc, 0)?,
+    )?;
     // What files hold at the start waits for no rebuilding.
     ledger.state.rebuilt();
     inventories_of(alloc, ledger)
@@ -227,12 +237,12 @@ fn say_folder(
 ) -> Result<(), AllocError> {
     if !is_good {
         let text = Text::of(alloc, b"is not served: the last good copy is")?;
-        push(said, Level::Alert, "file", text)?;
+        push(said, Level::Alert, About::File, text)?;
     }
     if let Some(fault) = unkept {
         let mut text = Vec::from_slice(alloc, b"of the file could not be kept: ")?;
         text.extend_from_slice(disk_words(fault))?;
-        push(said, Level::Warning, "copy", Text::from_vec(text))?;
+        push(said, Level::Warning, About::Copy, Text::from_vec(text))?;
     }
     Ok(())
 }
@@ -260,7 +270,7 @@ fn say_damaged(
     push(
         said,
         Level::Alert,
-        "journal",
+        About::Journal,
         Text::from_vec(text.into_bytes()),
     )
 }
@@ -279,7 +289,7 @@ fn unused(alloc: Global, folder: &str, why: &str) -> Result<NotBegun, AllocError
     let text = format!(in alloc; "{folder} cannot be used ({why}): no change can be kept")?;
     Ok(NotBegun::Unused(Said {
         level: Level::Alert,
-        event: "folder",
+        about: About::Folder,
         text: Text::from_vec(text.into_bytes()),
     }))
 }

@@ -1,6 +1,6 @@
 //! What a start with a state folder finds of the file that is to be served, and of its last good copy.
 use crate::modes::{may_others_write, say_open};
-use crate::said::{Said, push_each};
+use crate::said::{About, Said, push_each};
 use house_words::{Demands, unread_words, why_not_served};
 use keep_disk::{Disk, DiskFault};
 use keep_inventory::MOST_INVENTORY;
@@ -62,7 +62,7 @@ fn find_file<D: Disk>(
     match judged(alloc, disk, path, demands) {
         Ok(bytes) => Ok(Some(bytes)),
         Err(Unserved::Whys(whys)) => {
-            push_each(said, Level::Alert, "file", whys)?;
+            push_each(said, Level::Alert, About::File, whys)?;
             Ok(None)
         }
         Err(Unserved::Memory) => Err(AllocError),

@@ -23,7 +23,7 @@ pub use doors::{CLIENTS, Guests, ONLOOKERS, open_door};
 pub use ends::take_over;
 pub use folder::{Folder, folder_of};
 pub use reading::Inventories;
-pub use said::{Said, desk_of};
+pub use said::{About, Said, desk_of};
 pub use secrets::SystemSecrets;
 pub use spread::earlier_by;
 pub use start::{Start, SystemLedger, make_start};

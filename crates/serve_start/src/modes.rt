@@ -1,5 +1,5 @@
 //! Whether others than the agent's user and its group may reach what lies in the state folder.
-use crate::said::{Said, push};
+use crate::said::{About, Said, push};
 use keep_disk::{Disk, DiskFault};
 use keep_log::Level;
 use keep_moment::Text;
@@ -44,7 +44,7 @@ fn say_mode<D: Disk>(
     push(
         said,
         Level::Alert,
-        "folder",
+        About::Folder,
         Text::from_vec(text.into_bytes()),
     )
 }

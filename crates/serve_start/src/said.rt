@@ -5,11 +5,34 @@ use keep_log::{Form, Level};
 use keep_moment::Text;
 use std::alloc::{AllocError, Global};
 
+/// What a line of a start is about.
+#[derive(Clone, Copy, Debug)]
+pub enum About {
+    Folder,
+    File,
+    Copy,
+    Journal,
+    SecretFile,
+}
+
+impl About {
+    /// Its word in the log.
+    fn word(self) -> &'static str {
+        match self {
+            About::Folder => "folder",
+            About::File => "file",
+            About::Copy => "copy",
+            About::Journal => "journal",
+            About::SecretFile => "secret-file",
+        }
+    }
+}
+
 /// What is said of the state folder or the file at the start.
 #[derive(Debug, Drop)]
 pub struct Said {
     pub level: Level,
-    pub event: &'static str,
+    pub about: About,
     pub text: Text,
 }
 
@@ -17,21 +40,21 @@ pub struct Said {
 pub(crate) fn push(
     said: &mut Vec<Said>,
     level: Level,
-    event: &'static str,
+    about: About,
     text: Text,
 ) -> Result<(), AllocError> {
-    Ok(said.push(Said { level, event, text })?)
+    Ok(said.push(Said { level, about, text })?)
 }
 
 /// Appends each of these texts.
 pub(crate) fn push_each(
     said: &mut Vec<Said>,
     level: Level,
-    event: &'static str,
+    about: About,
     texts: Vec<Text>,
 ) -> Result<(), AllocError> {
     for text in texts {
-        push(said, level, event, text)?;
+        push(said, level, about, text)?;
     }
     Ok(())
 }
@@ -46,7 +69,7 @@ pub fn desk_of(
 ) -> Result<Desk, AllocError> {
     let mut desk = Desk::new(alloc, form, count)?;
     for line in said {
-        desk.hear_at_start(alloc, now, line.level, line.event, line.text.list());
+        desk.hear_at_start(alloc, now, line.level, line.about.word(), line.text.list());
     }
     Ok(desk)
 }

@@ -55,12 +55,35 @@ where
     E: Sink,
     ensures { GivesOrRefuses result (⟦<E as Watched>⟧.change errors.old errors.new) }
 {
-    let Some(folder) = folder else {
-        return start_with_file(rt, file, demands, None, errors);
-    };
-    match begin(rt, folder, demands) {
+    let begun = begin(rt, folder, demands);
+    started(rt, file, name_of(folder), demands, begun, errors)
+}
+
+/// The name of a state folder, or nothing where there is none.
+fn name_of<'a>(folder: Option<&'a Folder<'_>>) -> &'a str {
+    match folder {
+        None => "",
+        Some(folder) => folder.name,
+    }
+}
+
+/// What is served by what was begun; or the exit, once it was told why nothing is served.
+fn started<R, K, E>(
+    rt: &R,
+    file: &str,
+    folder: &str,
+    demands: Demands,
+    begun: Result<Start<K>, NotBegun>,
+    errors: &mut E,
+) -> Result<Start<K>, Exit>
+where
+    R: Files<File = File> + AllocGlobal,
+    E: Sink,
+    ensures { GivesOrRefuses result (⟦<E as Watched>⟧.change errors.old errors.new) }
+{
+    match begun {
         Ok(start) => Ok(start),
-        Err(why) => start_without(rt, file, folder.name, demands, why, errors),
+        Err(why) => start_without(rt, file, folder, demands, why, errors),
     }
 }
 
@@ -79,6 +102,7 @@ where
     ensures { GivesOrRefuses result (⟦<E as Watched>⟧.change errors.old errors.new) }
 {
     match why {
+        NotBegun::NoFolder => start_with_file(rt, file, demands, None, errors),
         NotBegun::Unused(said) => start_with_file(rt, file, demands, Some(said), errors),
         NotBegun::Held => Err(refuse_held(rt.alloc(), folder, errors)),
         NotBegun::Refused => match refuse_written(rt, file, demands, errors) {
