@@ -70,23 +70,24 @@ impl<'a> Play<'a> {
         Ok(())
     }
 
-    // Keeps the requests that are out and were not before.
+    // Keeps the requests that are out and were not after the turn before.
     fn keep_asked(&mut self) -> Result<(), AllocError> {
         let agent = self.running.agent();
         let forest = agent.inventory().forest();
-        for request in agent.watch().out() {
-            if !is_among(&self.told.asked, request) {
-                self.told.asked.push(*request)?;
+        let out = agent.watch().out();
+        for request in out {
+            if !is_among(&self.told.out, request) {
                 push_request(self.alloc, forest, request, &mut self.told.requests)?;
             }
         }
+        self.told.out = Vec::from_slice(self.alloc, out)?;
         Ok(())
     }
 }
 
 // Whether a request is among these.
-fn is_among(asked: &[Out], request: &Out) -> bool {
-    asked.iter().any(|one| {
+fn is_among(out: &[Out], request: &Out) -> bool {
+    out.iter().any(|one| {
         one.since == request.since
             && one.entry == request.entry
             && one.operation == request.operation

@@ -41,8 +41,8 @@ pub struct Told {
     pub log: usize,
     /// How many calls of the clock.
     pub clock: usize,
-    /// The requests that were seen.
-    pub asked: Vec<Out>,
+    /// The requests that were out after the last turn.
+    pub out: Vec<Out>,
     /// Those that are not told yet, a line each.
     pub requests: Vec<u8>,
 }
@@ -112,7 +112,7 @@ fn begin<'a>(
         told: Told {
             log: 0,
             clock: 0,
-            asked: Vec::new(alloc),
+            out: Vec::new(alloc),
             requests: Vec::new(alloc),
         },
     })
