@@ -1,33 +1,35 @@
 -- Passed: what came so far is shown, and one read more. For `pass_on`, `begin` and `follow`.
-use Rattle.std.proofs.Common.{◌≡◌, ◌∙◌, ◌⊎◌, ℕ, Bool, IsTrue, List, [], ◌++◌, Option, Some, None, Result, Ok, Err, ap, append-nil, inl, inr, subst, sym}
+use Rattle.std.proofs.Common.{◌≡◌, ◌∙◌, ℕ, ◌+◌, ◌<◌, ◌≤◌, Bool, List, [], ◌++◌, Some, None, ap, append-nil, arith, inl, inr, length, length-append, refl, subst, sym}
 use Rattle.std.proofs.KnownBytes.{Appends-trans, Consumes-trans}
-use Rattle.std.specs.Io.KnownBytes.{Appends, Consumes, IsAtEnd}
-use Rattle.keep_control.specs.declared.reply.Reply.{Reply}
-use Rattle.keep_device.specs.Failures.{HasFailed}
-use Rattle.keep_device.specs.Front.{AppendsFront}
-use Rattle.keep_device.specs.Seen.{Change, Input, Output, Seen, change}
-use Rattle.keep_device.specs.declared.fault.SinkFault.{SinkFault}
-use Rattle.keep_report.proofs.Pieces.{front_more}
-use Rattle.keep_report.specs.Sent.{GaveUp, IsAll, SendsText}
-use Rattle.keep_report.specs.declared.stop.Stop.{Stop}
-use Rattle.keep_report.specs.declared.stop.Stop.TheVariants as stops
-use Rattle.keep_calling.specs.Following.{PassesBy, PassesOn, PassesOne, ShowsAll, TakesBytes}
+use Rattle.std.specs.Io.KnownBytes.{Consumes}
+use Rattle.keep_device.specs.Failures.{one_more as one_more_failed}
+use Rattle.keep_device.specs.Seen.{Change, Seen, change}
+use Rattle.keep_calling.specs.Following.{PassesOn, PassesOne, ReadsOn, ShowsAll, TakesBytes}
 use Rattle.keep_calling.specs.declared.following.Followed.{Followed}
 use Rattle.keep_calling.specs.declared.following.Followed.TheVariants as ways
 
--- what came so far is shown, and the output has not failed
-abbrev pub SoFar : Change → Change → Type 0
-SoFar line out = (came : List ℕ) × (TakesBytes came line × (ShowsAll came out × (out.new.failed_calls ≡ out.old.failed_calls)))
+-- what came so far is shown, in so many pieces, and no call failed
+pub record SoFar (pieces : ℕ) (line out : Change) : Type 0 where
+  pub came : List ℕ
+  pub taken : TakesBytes came line
+  pub reads_on : ReadsOn line
+  pub many : pieces ≤ length came
+  pub shown : ShowsAll came out
+  pub still : out.new.failed_calls ≡ out.old.failed_calls
 
-module _ (l0 l1 l2 o0 o1 o2 : Seen) (a b : Bool) where
-  pub one_more : SoFar (change a l0 l1) (change b o0 o1) → PassesOne None (change a l1 l2) (change b o1 o2) → SoFar (change a l0 l2) (change b o0 o2)
-  one_more s p = (
-    s.0 ++ p.0,
-    (
-      (Consumes-trans _ _ _ s.0 p.0 s.1.0.0 p.1.0.0, p.1.0.1 ∙ s.1.0.1),
-      ((Appends-trans _ _ _ s.0 p.0 s.1.1.0.0 p.1.1.0.0, inr p.1.1.0.1), p.1.1.1 ∙ s.1.1.1),
-    ),
-  )
+one_longer : (n : ℕ) (xs ys : List ℕ) → n ≤ length xs → 0 < length ys → n + 1 ≤ length (xs ++ ys)
+one_longer n xs ys many some = let l = length-append xs ys in grind (arith, l, many, some)
+
+module _ (l0 l1 l2 o0 o1 o2 : Seen) (a b : Bool) (n : ℕ) where
+  pub one_more : SoFar n (change a l0 l1) (change b o0 o1) → PassesOne None (change a l1 l2) (change b o1 o2) → SoFar (n + 1) (change a l0 l2) (change b o0 o2)
+  one_more s p = record {
+    came = s.came ++ p.0;
+    taken = (Consumes-trans _ _ _ s.came p.0 s.taken.0 p.1.0.0, p.1.0.1 ∙ s.taken.1);
+    reads_on = p.1.1.0 ∙ s.reads_on;
+    many = one_longer n s.came p.0 s.many p.1.1.1;
+    shown = (Appends-trans _ _ _ s.came p.0 s.shown.0 p.1.1.2.0, inr p.1.1.2.1);
+    still = p.1.1.3 ∙ s.still;
+  }
 
   -- nothing more came
   nothing_more : (xs ys : List ℕ) → ys ≡ [] → xs ++ ys ≡ xs
@@ -40,20 +42,30 @@ module _ (l0 l1 l2 o0 o1 o2 : Seen) (a b : Bool) where
   shows_no_more : (xs : List ℕ) → o2 ≡ o1 → ShowsAll xs (change b o0 o1) → ShowsAll xs (change b o0 o2)
   shows_no_more xs same h = subst (λ (o : Seen). ShowsAll xs (change b o0 o)) (sym same) h
 
-  stopped : (stop : Stop) (xs ys : List ℕ) → ShowsAll xs (change b o0 o1) → o1.failed_calls ≡ o0.failed_calls → SendsText (Err stop) ys (change b o1 o2)
-      → AppendsFront o0.output.written o2.output.written (xs ++ ys) × GaveUp (change b o0 o2)
-  stopped stops.Write xs ys first still h =
-      (front_more o0.output.written o1.output.written o2.output.written xs ys first.0 h.1, inl (subst (λ n. HasFailed n o2.failed_calls) still h.0))
-  stopped stops.Memory xs ys first still h = (front_more o0.output.written o1.output.written o2.output.written xs ys first.0 h.1, inr h.0)
-  stopped (stops.Inventory x) xs ys first still h = absurd h
-  stopped (stops.Moments x) xs ys first still h = absurd h
-  stopped (stops.FaultWord x) xs ys first still h = absurd h
-  stopped stops.TooLong xs ys first still h = absurd h
-  stopped stops.Read xs ys first still h = absurd h
-  stopped (stops.Broker x) xs ys first still h = absurd h
-  stopped (stops.Line x) xs ys first still h = absurd h
+  pub ended : (followed : Followed) → SoFar n (change a l0 l1) (change b o0 o1) → PassesOne (Some followed) (change a l1 l2) (change b o1 o2) → PassesOn followed (change a l0 l2) (change b o0 o2)
+  ended ways.Ended s p =
+      (s.came, (takes_no_more s.came p.0 p.1.1.1 s.taken p.1.0, (p.1.1.0 ∙ s.reads_on, p.1.1.2, shows_no_more s.came p.1.1.3 s.shown)))
+  ended ways.Lost s p = (s.came, (takes_no_more s.came p.0 p.1.1.1 s.taken p.1.0, (inl (p.1.1.0 ∙ ap one_more_failed s.reads_on), shows_no_more s.came p.1.1.2 s.shown)))
+  ended (ways.Stopped stop) s p = (
+    s.came ++ p.0,
+    (
+      (Consumes-trans _ _ _ s.came p.0 s.taken.0 p.1.0.0, p.1.0.1 ∙ s.taken.1),
+      (
+        p.1.1.0 ∙ s.reads_on,
+        record {
+          before = s.came;
+          last = p.0;
+          mid = o1;
+          parts = refl;
+          short = p.1.1.1;
+          shown = s.shown;
+          still = s.still;
+          stopped = p.1.1.2;
+        },
+      ),
+    ),
+  )
 
-  pub ended : (followed : Followed) → SoFar (change a l0 l1) (change b o0 o1) → PassesOne (Some followed) (change a l1 l2) (change b o1 o2) → PassesOn followed (change a l0 l2) (change b o0 o2)
-  ended ways.Ended s p = (s.0, (takes_no_more s.0 p.0 p.1.1.0 s.1.0 p.1.0, (p.1.1.1.0, shows_no_more s.0 p.1.1.1.1 s.1.1.0)))
-  ended ways.Lost s p = (s.0, (takes_no_more s.0 p.0 p.1.1.0 s.1.0 p.1.0, shows_no_more s.0 p.1.1.1 s.1.1.0))
-  ended (ways.Stopped stop) s p = (s.0 ++ p.0, ((Consumes-trans _ _ _ s.0 p.0 s.1.0.0 p.1.0.0, p.1.0.1 ∙ s.1.0.1), stopped stop s.0 p.0 s.1.1.0 s.1.1.1 p.1.1))
+-- so many pieces came that they are counted no further
+pub endless : (line out : Change) → SoFar 18446744073709551615 line out → PassesOn ways.Lost line out
+endless line out s = (s.came, (s.taken, (inr (s.reads_on, s.many), s.shown)))

@@ -1,14 +1,18 @@
 -- Following: an answer that goes on: what is shown of it, and how it ends.
 -- Source: this project's own.
-use Rattle.std.specs.Prelude.{◌≡◌, ◌⊎◌, ℕ, IsTrue, List, [], ◌++◌, Option, Some, None, Result, Ok, Err, codes}
+use Rattle.std.specs.Prelude.{◌≡◌, ◌⊎◌, ℕ, ◌-◌, ◌^◌, ◌<◌, ◌≤◌, IsTrue, List, [], ◌++◌, false, IfOk, Option, Some, None, Result, Ok, Err, bytes_eq, codes, length}
 use Rattle.std.specs.Io.KnownBytes.{Consumes, IsAtEnd}
 use Rattle.keep_control.specs.Replies.{reply_in_text}
 use Rattle.keep_control.specs.declared.reply.Reply.{Reply}
-use Rattle.keep_device.specs.Seen.{Change, Receives, ReceivesFront, Seen, change}
+use Rattle.keep_device.specs.Failures.{CountsMore, one_more}
+use Rattle.keep_device.specs.Seen.{Change, Receives, Seen, change}
+use Rattle.keep_device.specs.Whole.{MakesAtMost, input_fault}
 use Rattle.keep_device.specs.declared.fault.InputFault.{InputFault}
 use Rattle.keep_device.specs.declared.fault.SinkFault.{SinkFault}
+use Rattle.keep_device.specs.declared.limits.TheConstants.{MOST_ROOM}
+use Rattle.keep_device.specs.declared.one_read.MoreFault.{MoreFault}
 use Rattle.keep_report.specs.FaultLine.{fault_line}
-use Rattle.keep_report.specs.Sent.{GaveUp, IsAll, IsUntouched, SendsText}
+use Rattle.keep_report.specs.Sent.{IsAll, IsUntouched, SendsText}
 use Rattle.keep_report.specs.Told.{Reports}
 use Rattle.keep_report.specs.declared.stop.Stop.{Stop}
 use Rattle.keep_calling.specs.Ending.{ended_of}
@@ -20,7 +24,7 @@ use Rattle.keep_calling.specs.declared.call.Call.{Call}
 use Rattle.keep_calling.specs.declared.ended.Ended.{Ended}
 use Rattle.keep_calling.specs.declared.ended.Ended.TheVariants as endings
 use Rattle.keep_calling.specs.declared.fault.CallFault.{CallFault}
-use Rattle.keep_calling.specs.declared.fault.CallFault.TheVariants.{NoAnswer}
+use Rattle.keep_calling.specs.declared.fault.CallFault.TheVariants.{Memory, NoAnswer}
 use Rattle.keep_calling.specs.declared.following.Begun.{Begun}
 use Rattle.keep_calling.specs.declared.following.Begun.TheVariants.{Lines, Answer}
 use Rattle.keep_calling.specs.declared.following.Followed.{Followed}
@@ -33,21 +37,39 @@ TakesBytes came line = Consumes line.old.input.remaining line.new.input.remainin
 
 -- ---- how it begins
 
--- some bytes were read, and then all others, to the end
-pub record ReadsAll (front rest : List ℕ) (line : Change) : Type 0 where
-  pub mid : Seen
-  pub first : Consumes line.old.input.remaining mid.input.remaining front
-  pub others : ReadsDevice ANSWER_MAX (Ok rest) (change line.is_in_memory mid line.new)
+-- as many bytes as the line `ok` has were read, or all where there are fewer; or a read failed, or memory was wanting
+pub record ReadsFront (read : Result (List ℕ) MoreFault) (line : Change) : Type 0 where
+  pub whole : IfOk read (λ front. Consumes line.old.input.remaining line.new.input.remaining front)
+  pub short : IfOk read (λ front. length front ≤ 3)
+  pub end : IfOk read (λ front. (length front ≡ 3) ⊎ IsAtEnd line.new.input.remaining)
+  pub few : MakesAtMost 3 line.old.input line.new.input
+  pub count : CountsMore read line.old.failed_calls line.new.failed_calls
 
--- another answer than `ok`: all bytes are read, and this is the answer; or there is none, since a read failed, it is too long, or memory
--- was wanting
+-- its front is not the line `ok`; and then all other bytes were read to the end, or why they were not
+pub record ReadsOther (front : List ℕ) (rest : Result (List ℕ) InputFault) (line : Change) : Type 0 where
+  pub mid : Seen
+  pub first : ReadsFront (Ok front) (change line.is_in_memory line.old mid)
+  pub other : bytes_eq front (codes "ok\n") ≡ false
+  pub others : ReadsDevice ANSWER_MAX rest (change line.is_in_memory mid line.new)
+
+-- the answer that its front and the other bytes are, where these were read
+abbrev pub heard_with : List ℕ → Result (List ℕ) InputFault → Result Reply CallFault
+heard_with front (Ok rest) = heard_of (front ++ rest)
+heard_with front (Err fault) = Err (fault_of_read fault)
+
+-- what was read says this: its front could not be read, or it is another answer than `ok`
+abbrev pub ReadsSaid : Result Reply CallFault → Change → Type 0
+ReadsSaid said line =
+    ((fault : MoreFault) × (ReadsFront (Err fault) line × (said ≡ Err (fault_of_read (input_fault fault)))))
+    ⊎ ((front : List ℕ) × ((rest : Result (List ℕ) InputFault) × (ReadsOther front rest line × (said ≡ heard_with front rest))))
+
+-- another answer than `ok` was read, and this is the answer, unless memory was refused
 abbrev pub ListensToAll : Result Reply CallFault → Change → Type 0
-ListensToAll heard line =
-    ((front rest : List ℕ) × (ReadsAll front rest line × (heard_of (front ++ rest) ≡ heard))) ⊎ ((fault : InputFault) × (heard ≡ Err (fault_of_read fault)))
+ListensToAll heard line = (said : Result Reply CallFault) × (ReadsSaid said line × ((said ≡ heard) ⊎ (heard ≡ Err Memory)))
 
 -- it begins with the line `ok`; or it is another answer
 abbrev pub AnswerOpens : Result Begun CallFault → Change → Type 0
-AnswerOpens (Ok Lines) line = Consumes line.old.input.remaining line.new.input.remaining (codes "ok\n")
+AnswerOpens (Ok Lines) line = ReadsFront (Ok (codes "ok\n")) line
 AnswerOpens (Ok (Answer h)) line = ListensToAll (Ok h.reply) line × (reply_in_text h.text ≡ Some h.reply)
 AnswerOpens (Err fault) line = ListensToAll (Err fault) line
 
@@ -56,7 +78,7 @@ abbrev pub HearsOtherAnswer : List ℕ → Result Reply CallFault → Change →
 HearsOtherAnswer request heard line = IsUnsent request heard line ⊎ (IsAll request line × ListensToAll heard line)
 
 abbrev pub CallBegins : List ℕ → Result Begun CallFault → Change → Type 0
-CallBegins request (Ok Lines) line = IsAll request line × Consumes line.old.input.remaining line.new.input.remaining (codes "ok\n")
+CallBegins request (Ok Lines) line = IsAll request line × ReadsFront (Ok (codes "ok\n")) line
 CallBegins request (Ok (Answer h)) line = HearsOtherAnswer request (Ok h.reply) line × (reply_in_text h.text ≡ Some h.reply)
 CallBegins request (Err fault) line = HearsOtherAnswer request (Err fault) line
 
@@ -66,21 +88,40 @@ CallBegins request (Err fault) line = HearsOtherAnswer request (Err fault) line
 abbrev pub ShowsAll : List ℕ → Change → Type 0
 ShowsAll came out = Receives came out × ((came ≡ []) ⊎ IsTrue out.new.output.is_flushed)
 
--- the agent ended the connection; or a read failed; or the output did, and a front of what came is shown
+-- no read failed
+abbrev pub ReadsOn : Change → Type 0
+ReadsOn line = line.new.failed_calls ≡ line.old.failed_calls
+
+-- a read failed; or as many bytes came as a `u64` counts
+abbrev pub IsLost : List ℕ → Change → Type 0
+IsLost came line = (line.new.failed_calls ≡ one_more line.old.failed_calls) ⊎ (ReadsOn line × (2 ^ 64 - 1 ≤ length came))
+
+-- all pieces that came were shown but the last, at which the output stopped
+pub record StopsAtLast (stop : Stop) (came : List ℕ) (out : Change) : Type 0 where
+  pub before : List ℕ
+  pub last : List ℕ
+  pub mid : Seen
+  pub parts : came ≡ before ++ last
+  pub short : length last ≤ MOST_ROOM
+  pub shown : ShowsAll before (change out.is_in_memory out.old mid)
+  pub still : mid.failed_calls ≡ out.old.failed_calls
+  pub stopped : SendsText (Err stop) last (change out.is_in_memory mid out.new)
+
+-- the agent ended the connection; or it was lost; or the output failed, and a front of what came is shown
 abbrev pub PassesBy : Followed → List ℕ → Change → Change → Type 0
-PassesBy ways.Ended came line out = IsAtEnd line.new.input.remaining × ShowsAll came out
-PassesBy ways.Lost came line out = ShowsAll came out
-PassesBy (ways.Stopped stop) came line out = ReceivesFront came out × GaveUp out
+PassesBy ways.Ended came line out = ReadsOn line × IsAtEnd line.new.input.remaining × ShowsAll came out
+PassesBy ways.Lost came line out = IsLost came line × ShowsAll came out
+PassesBy (ways.Stopped stop) came line out = ReadsOn line × StopsAtLast stop came out
 
 abbrev pub PassesOn : Followed → Change → Change → Type 0
 PassesOn followed line out = (came : List ℕ) × (TakesBytes came line × PassesBy followed came line out)
 
 -- one read: what it gave is shown, where it gave something, and then there may be more
 abbrev pub PassesPiece : Option Followed → List ℕ → Change → Change → Type 0
-PassesPiece None came line out = IsAll came out × (out.new.failed_calls ≡ out.old.failed_calls)
-PassesPiece (Some ways.Ended) came line out = (came ≡ []) × (IsAtEnd line.new.input.remaining × IsUntouched out)
-PassesPiece (Some ways.Lost) came line out = (came ≡ []) × IsUntouched out
-PassesPiece (Some (ways.Stopped stop)) came line out = SendsText (Err stop) came out
+PassesPiece None came line out = ReadsOn line × (0 < length came) × IsAll came out × (out.new.failed_calls ≡ out.old.failed_calls)
+PassesPiece (Some ways.Ended) came line out = ReadsOn line × (came ≡ []) × IsAtEnd line.new.input.remaining × IsUntouched out
+PassesPiece (Some ways.Lost) came line out = (line.new.failed_calls ≡ one_more line.old.failed_calls) × (came ≡ []) × IsUntouched out
+PassesPiece (Some (ways.Stopped stop)) came line out = ReadsOn line × (length came ≤ MOST_ROOM) × SendsText (Err stop) came out
 
 abbrev pub PassesOne : Option Followed → Change → Change → Type 0
 PassesOne followed line out = (came : List ℕ) × (TakesBytes came line × PassesPiece followed came line out)

@@ -1,9 +1,10 @@
 ghost use Rattle.std.specs.Prelude.{◌≡◌, option_map};
+ghost use Rattle.keep_device.specs.Whole.{input_fault};
 ghost use Rattle.keep_calling.specs.Hearing.{fault_of_read, fault_of_write};
 ghost use Rattle.keep_calling.specs.Showing.{fault_words};
 ghost use Rattle.keep_calling.specs.declared.fault.CallFault.TheVariants.{Memory};
 
-use keep_device::{InputFault, SinkFault};
+use keep_device::{InputFault, MoreFault, SinkFault};
 use std::alloc::AllocError;
 
 /// Why a call that has a connection has no answer.
@@ -67,5 +68,13 @@ impl From<InputFault> for CallFault {
             InputFault::TooLong => CallFault::LongAnswer,
             InputFault::OutOfMemory => CallFault::Memory,
         }
+    }
+}
+
+impl From<MoreFault> for CallFault {
+    ghost from_gives = { λ why fault. fault ≡ fault_of_read (input_fault why) };
+
+    fn from(fault: MoreFault) -> CallFault {
+        InputFault::from(fault).into()
     }
 }

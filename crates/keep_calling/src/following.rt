@@ -1,6 +1,8 @@
 //! An answer that goes on.
-ghost use Rattle.std.specs.Prelude.{◌≡◌, ◌<◌, ◌≤◌, [], IfOk, OnOk, length, vec_len};
-ghost use Rattle.std.specs.Io.KnownBytes.{Consumes};
+ghost use Rattle.std.specs.Prelude.{◌≡◌, ◌⊎◌, ◌<◌, ◌≤◌, [], OnOk, bytes_eq, codes, length};
+ghost use Rattle.std.specs.Io.KnownBytes.{Consumes, IsAtEnd};
+ghost use Rattle.keep_device.specs.Failures.{CountsMore};
+ghost use Rattle.keep_device.specs.Whole.{MakesAtMost};
 ghost use Rattle.keep_device.specs.declared.limits.TheConstants.{MOST_ROOM};
 ghost use Rattle.keep_calling.specs.Following.{AnswerOpens, CallBegins, CallFollows, PassesOn, PassesOne, TellsHow};
 
@@ -11,10 +13,12 @@ use crate::fault::CallFault;
 use crate::hearing::{Heard, give, reply_in};
 use crate::limits::ANSWER_MAX;
 use crate::telling::tell_of_socket;
-use keep_device::{InputFault, MOST_ROOM, Sink, Source, Watched, read_all, read_more, zeros};
+use keep_device::{MOST_ROOM, MoreFault, Sink, Source, Watched, read_all, zeros};
 use keep_moment::Text;
 use keep_report::{Stop, send};
 use std::alloc::Global;
+
+const OK_LINE: &[u8] = b"ok\n";
 
 /// How an answer begins.
 #[derive(Drop)]
@@ -64,7 +68,7 @@ pub fn follow<L: Source + Sink, W: Sink, E: Sink>(
 }
 
 // Sends the request, and reads how the answer begins.
-#[tactic(auto, using(crate::proofs::Beginning::unsent_begins, crate::proofs::Beginning::begins_after))]
+#[tactic(auto, using(crate::proofs::Beginning::unsent_begins))]
 fn begin<L: Source + Sink>(
     alloc: Global,
     request: &[u8],
@@ -80,7 +84,7 @@ fn begin<L: Source + Sink>(
 }
 
 // Reads the line `ok`, or all of another answer.
-#[tactic(auto, using(crate::proofs::Beginning::unread_opens, crate::proofs::Beginning::wanting_opens, crate::proofs::Beginning::lines_open))]
+#[tactic(auto, using(crate::proofs::Beginning::lines_open))]
 fn open<L: Source + Sink>(alloc: Global, room: &mut [u8], line: &mut L) -> Result<Begun, CallFault>
     requires { length room.old ≡ MOST_ROOM }
     ensures room { length room.new ≡ MOST_ROOM }
@@ -89,7 +93,7 @@ fn open<L: Source + Sink>(alloc: Global, room: &mut [u8], line: &mut L) -> Resul
 {
     let mut front = Vec::new(alloc);
     read_front(line, room, &mut front)?;
-    if front.as_slice() == b"ok\n".as_slice() {
+    if is_ok_line(front.as_slice()) {
         return Ok(Begun::Lines);
     }
     let rest = read_all(alloc, line, ANSWER_MAX)?;
@@ -97,23 +101,38 @@ fn open<L: Source + Sink>(alloc: Global, room: &mut [u8], line: &mut L) -> Resul
     Ok(Begun::Answer(reply_in(alloc, Text::from_vec(front))?))
 }
 
+// Whether it is the line `ok`.
+fn is_ok_line(front: &[u8]) -> bool
+    ensures { result ≡ bytes_eq front.now (codes "ok\n") }
+{
+    front == OK_LINE
+}
+
 // Reads the first three bytes, or all where there are fewer.
 fn read_front<L: Source>(
     line: &mut L,
     room: &mut [u8],
     front: &mut Vec<u8>,
-) -> Result<(), InputFault>
+) -> Result<(), MoreFault>
     requires room { length room.old ≡ MOST_ROOM }
     requires none { front.old.items ≡ [] }
     ensures room { length room.new ≡ MOST_ROOM }
     ensures read { OnOk result (Consumes (L.seen line.old).input.remaining (L.seen line.new).input.remaining front.new.items) }
+    ensures short { OnOk result (length front.new.items ≤ 3) }
+    ensures end { OnOk result ((length front.new.items ≡ 3) ⊎ IsAtEnd (L.seen line.new).input.remaining) }
+    ensures few { MakesAtMost 3 (L.seen line.old).input (L.seen line.new).input }
+    ensures count { CountsMore result (L.seen line.old).failed_calls (L.seen line.new).failed_calls }
     ensures output { (L.seen line.new).output ≡ (L.seen line.old).output }
 {
     for _ in 0..3u32 {
         if front.len() > 2 {
             return Ok(());
         }
-        let _is_more = read_more(line, room, front, 2)?;
+        let n = line.read_some(&mut room[..3 - front.len()])?;
+        if n == 0 {
+            return Ok(());
+        }
+        front.extend_from_slice(&room[..n])?;
     }
     Ok(())
 }

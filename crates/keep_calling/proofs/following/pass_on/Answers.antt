@@ -5,12 +5,12 @@ use Rattle.keep_calling.proofs.following.pass_on.Goals as goal
 pub returns-in-Some : goal.returns-in-Some
 returns-in-Some g c =
     ended (g.L.Device.seen c.args.line.now) (g.L.Device.seen c.loop.line) (g.L.Device.seen c.pass_one.new.line) (g.W.Device.seen c.args.out.now) (g.W.Device.seen c.loop.out) (g.W.Device.seen c.pass_one.new.out)
-    g.L.Device.is_in_memory g.W.Device.is_in_memory c.in-Some.followed c.loop.invariant.so_far c.in-Some.ensures.one
+    g.L.Device.is_in_memory g.W.Device.is_in_memory c.loop.counter c.in-Some.followed c.loop.invariant.so_far c.in-Some.ensures.one
 
 pub loop-preserved : goal.loop-preserved
 loop-preserved g c = record {
   room = c.pass_one.ensures.room;
   so_far =
       one_more (g.L.Device.seen c.args.line.now) (g.L.Device.seen c.loop.line) (g.L.Device.seen c.pass_one.new.line) (g.W.Device.seen c.args.out.now) (g.W.Device.seen c.loop.out) (g.W.Device.seen c.pass_one.new.out)
-      g.L.Device.is_in_memory g.W.Device.is_in_memory c.loop.invariant.so_far c.in-None.ensures.one;
+      g.L.Device.is_in_memory g.W.Device.is_in_memory c.loop.counter c.loop.invariant.so_far c.in-None.ensures.one;
 }

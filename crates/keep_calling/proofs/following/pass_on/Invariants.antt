@@ -7,5 +7,5 @@ use Rattle.keep_calling.proofs.following.pass_on.Given as goal
 abbrev pub invariant-loop : goal.invariant-loop
 invariant-loop g l = record {
   room : length l.room ≡ 65536;
-  so_far : SoFar (change g.L.Device.is_in_memory (g.L.Device.seen l.fn.line) (g.L.Device.seen l.line)) (change g.W.Device.is_in_memory (g.W.Device.seen l.fn.out) (g.W.Device.seen l.out));
+  so_far : SoFar l.counter (change g.L.Device.is_in_memory (g.L.Device.seen l.fn.line) (g.L.Device.seen l.line)) (change g.W.Device.is_in_memory (g.W.Device.seen l.fn.out) (g.W.Device.seen l.out));
 }
