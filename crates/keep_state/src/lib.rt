@@ -17,7 +17,7 @@ mod state;
 mod table;
 
 pub use fault::{OpenFault, PathsFault, ReadFault, SettleWhy, TableFault};
-pub use opening::Opened;
+pub use opening::{Opened, Unopened};
 pub use paths::Paths;
 pub use reading::{FileRead, read_file};
 pub use recovering::{Recovered, recover};

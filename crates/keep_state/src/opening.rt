@@ -35,10 +35,22 @@ pub struct Opened<'a, D: Disk> {
     pub copy: Option<DiskFault>,
 }
 
-impl<'a, D: Disk + Drop> State<'a, D> {
-    ghost use Rattle.std.specs.Prelude.{◌≡◌, IfErr, IfOk, IsTrue, option_copied};
-    ghost use Rattle.keep_disk.specs.State.{DiskKeeps};
+/// Why a state was not opened, and the disk that it was to be kept on.
+#[derive(Drop)]
+pub struct Unopened<D> {
+    /// Why not.
+    pub why: OpenFault,
+    /// The disk, as the start has left it.
+    pub disk: D,
+}
+
+impl<'a, D: Disk> State<'a, D> {
+    ghost use Rattle.std.specs.Prelude.{◌≡◌, ℕ, IfErr, IfOk, IsTrue, List, option_copied};
+    ghost use Rattle.keep_disk.specs.State.{DiskKeeps, LeavesOnly};
+    ghost use Rattle.keep_journal.specs.Journals.{bytes_of_file};
+    ghost use Rattle.keep_journal.specs.Records.{StandsFor};
     ghost use Rattle.keep_state.specs.Opens.{IsOpenedState, IsWhyUnopened};
+    ghost use Rattle.keep_state.specs.Recovers.{LeftByStart};
 
     /// What is kept from a start on, by the journal of the folder, which is held from then on: the file with these bytes and every
     /// change of the journal in order; or, where the file cannot be had or is not served, its last good copy with them. Lines of the
@@ -46,18 +58,22 @@ impl<'a, D: Disk + Drop> State<'a, D> {
     ///
     /// # Errors
     ///
-    /// The first in the order of [`OpenFault`].
+    /// The first in the order of [`OpenFault`], with the disk, which has lost no record.
     pub fn open(
         alloc: Global,
         disk: D,
         paths: &'a Paths,
         file: Option<&[u8]>,
         copy: Option<&[u8]>,
-    ) -> Result<Opened<'a, D>, OpenFault>
+    ) -> Result<Opened<'a, D>, Unopened<D>>
         // After a restart, what is read is what is on the disk.
         requires { IsTrue D.is_known → DiskKeeps paths.now.journal (D.state disk) }
         ensures opened { IfOk result (λ o. IsOpenedState D.is_known (option_copied file.entry) (option_copied copy.entry) paths.now (D.state disk) (D.state o.state.disk) o) }
-        ensures refused { IfErr result (IsWhyUnopened D.is_known (option_copied file.entry) paths.now (D.state disk)) }
+        ensures refused { IfErr result (λ u. IsWhyUnopened D.is_known (option_copied file.entry) paths.now (D.state disk) u.why) }
+
+        // A crash at any moment of a start that is refused leaves the same records too.
+        ensures any_moment { IfErr result (λ u. IsTrue D.is_known → (lines : List (List ℕ)) → StandsFor (bytes_of_file ((D.state disk).seen paths.now.journal)) lines
+            → LeavesOnly (D.state disk) (D.state u.disk) (LeftByStart lines paths.now (D.state disk))) }
     {
         let mut disk = disk;
         let Recovered {
@@ -65,8 +81,17 @@ impl<'a, D: Disk + Drop> State<'a, D> {
             journal,
             damaged,
             aside,
-        } = recover(alloc, &mut disk, paths)?;
-        let opened = Store::open(alloc, journal, file, copy)?;
+        } = match recover(alloc, &mut disk, paths) {
+            Ok(recovered) => recovered,
+            Err(why) => return Err(Unopened { why, disk }),
+        };
+        let opened = match Store::open(alloc, journal, file, copy) {
+            Ok(opened) => opened,
+            Err(fault) => {
+                let why = OpenFault::from(fault);
+                return Err(Unopened { why, disk });
+            }
+        };
         let keep_store::Opened {
             store,
             notes,

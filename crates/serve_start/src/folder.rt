@@ -17,7 +17,7 @@ use keep_log::Level;
 use keep_moment::Text;
 use keep_report::{Exit, PROGRAM, Stop, tell};
 use keep_secrets::Looking;
-use keep_state::{OpenFault, Opened, Paths, PathsFault, State};
+use keep_state::{OpenFault, Opened, Paths, PathsFault, State, Unopened};
 use std::alloc::{AllocError, Global};
 use std::fs::File;
 use std::rt::Files;
@@ -127,10 +127,12 @@ fn open<'a, R: Files<File = File> + AllocGlobal>(
         bytes_of(&found.copy),
     ) {
         Ok(opened) => Ok(opened),
-        Err(OpenFault::Held) => Err(NotBegun::Held),
-        Err(OpenFault::File(_)) => Err(NotBegun::Refused),
-        Err(OpenFault::Disk(fault)) => Err(unused_by(alloc, folder, fault)?),
-        Err(OpenFault::OutOfMemory) => Err(NotBegun::Memory),
+        Err(Unopened { why, disk: _ }) => match why {
+            OpenFault::Held => Err(NotBegun::Held),
+            OpenFault::File(_) => Err(NotBegun::Refused),
+            OpenFault::Disk(fault) => Err(unused_by(alloc, folder, fault)?),
+            OpenFault::OutOfMemory => Err(NotBegun::Memory),
+        },
     }
 }
 

@@ -25,8 +25,8 @@ returns-clause-opened g c =
     let u = s c.keep_good-copy.new.disk in
     let file = option_copied c.args.file in
     let copy = option_copied c.args.copy in
-    let r = c.in_ok-lock.ensures.recovered in
-    let o = c.in_ok-opened.ensures.opened in
+    let r = c.in-Ok.ensures.recovered in
+    let o = c.in-Ok-open.ensures.opened in
     let run : IsTrue g.D.Disk.is_known → LeavesOnly t u (IsAfter (SameElsewhere p.copy) t) = λ known. subst (λ (q : List ℕ). LeavesOnly t u (IsAfter (SameElsewhere q) t)) c.copy.ensures.value (c.keep_good-copy.ensures.any_moment known) in
     record {
       lines = r.lines;
@@ -34,13 +34,13 @@ returns-clause-opened g c =
       free = r.free;
       read = r.read;
       over = record {
-        book = subst (λ (st : Store). BookIsFrom file copy c.in_ok-opened.opened.fault (records_in r.lines) (book_of st) c.in_ok-opened.opened.notes.items) (sym c.new.ensures.store)
-            (subst (λ (rs : List Record). BookIsFrom file copy c.in_ok-opened.opened.fault rs (book_of c.in_ok-opened.opened.store) c.in_ok-opened.opened.notes.items) (aside_records r.lines _ _ r.aside) o.book);
+        book = subst (λ (st : Store). BookIsFrom file copy c.in-Ok-open.opened.fault (records_in r.lines) (book_of st) c.in-Ok-open.opened.notes.items) (sym c.new.ensures.store)
+            (subst (λ (rs : List Record). BookIsFrom file copy c.in-Ok-open.opened.fault rs (book_of c.in-Ok-open.opened.store) c.in-Ok-open.opened.notes.items) (aside_records r.lines _ _ r.aside) o.book);
         damaged = r.damaged;
-        aside = subst (λ (st : Store). IsAside r.lines c.in_ok-lock.field-0.aside (lines_in st)) (sym c.new.ensures.store) (subst (λ (j : Journal). IsAside r.lines c.in_ok-lock.field-0.aside (lines_of_journal j)) (sym o.journal_is) r.aside);
+        aside = subst (λ (st : Store). IsAside r.lines c.in-Ok.recovered.aside (lines_in st)) (sym c.new.ensures.store) (subst (λ (j : Journal). IsAside r.lines c.in-Ok.recovered.aside (lines_of_journal j)) (sym o.journal_is) r.aside);
         put = λ known none some. put_past p.copy p.aside (record { mode = 384; bytes = _ }) t u c.copy.ensures.apart.copy_aside
             (subst (λ (q : List ℕ). KeepsOthers q t u) c.copy.ensures.value (c.keep_good-copy.ensures.others known)) (run known) (g.met.D.Disk.counts_now c.keep_good-copy.new.disk) (r.put known none some);
-        copied = subst (λ (q : List ℕ). IsCopyOf g.D.Disk.is_known q file c.in_ok-opened.opened.fault c.keep_good-copy.result u) c.copy.ensures.value c.keep_good-copy.ensures.copied;
+        copied = subst (λ (q : List ℕ). IsCopyOf g.D.Disk.is_known q file c.in-Ok-open.opened.fault c.keep_good-copy.result u) c.copy.ensures.value c.keep_good-copy.ensures.copied;
         waiting = c.new.ensures.waiting;
         places_are = refl;
       };
