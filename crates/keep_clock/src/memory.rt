@@ -130,7 +130,9 @@ impl Clock for MemoryClock {
         self.keep(Call::Wait { millis });
     }
 
-    fn is_ready(&self, _neighbour: u32) -> bool {
+    fn is_ready(&self, _neighbour: u32) -> bool
+        ensures { result ≡ true }
+    {
         true
     }
 }

@@ -1,5 +1,6 @@
 pub mod Lines
 pub mod Waiting
 pub mod Sinks
+pub mod Turns
 pub mod Following
 pub mod Forms

@@ -13,10 +13,12 @@ CountsFailure (tries.Done n) before now = now ≡ before
 CountsFailure tries.Waits before now = now ≡ before
 CountsFailure tries.Failed before now = now ≡ one_more before
 
--- the answers to come, what it took, and its tries and failures, up to the greatest `u64`
+-- the answers to come, what it took, what its tries came to, where all of that is kept, and its tries and failures, up to the
+-- greatest `u64`
 pub record SinkScript : Type 0 where
   pub to_come : List Answer
   pub written : List ℕ
+  pub tried : Option (List Tried)
   pub tries : ℕ
   pub failures : ℕ
 

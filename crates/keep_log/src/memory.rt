@@ -1,9 +1,10 @@
-ghost use Rattle.std.specs.Prelude.{◌≡◌, ◌<◌, ◌≤◌, [], IfOk, Some, length, take, drop};
+ghost use Rattle.std.specs.Prelude.{◌≡◌, ◌<◌, ◌≤◌, ◌⊎◌, [], IfOk, Some, length, take, drop};
 ghost use Rattle.std.specs.Io.KnownBytes.{Appends, Keeps};
 ghost use Rattle.keep_device.specs.Failures.{one_more};
 ghost use Rattle.keep_device.specs.Tries.{IfTryDone, MatchTried};
-ghost use Rattle.keep_device.specs.declared.tried.Tried.TheVariants.{Failed};
-ghost use Rattle.keep_log.specs.Sinks.{CountsFailure, next_answer};
+ghost use Rattle.keep_device.specs.declared.tried.Tried.TheVariants.{Done, Failed};
+ghost use Rattle.keep_log.specs.Sinks.{CountsFailure, next_answer, tried_of};
+ghost use Rattle.keep_log.specs.Turns.{TryIsMade};
 
 use crate::sink::LogSink;
 use keep_device::Tried;
@@ -22,23 +23,24 @@ pub enum Answer {
 }
 
 /// A sink that answers as it was told, one try after the other, and past that takes all. It keeps what it takes; where memory
-/// runs out it fails.
+/// runs out it fails. It keeps what its tries came to, too, as long as there is memory for all of them.
 #[derive(Debug, Drop)]
 pub struct MemorySink {
     answers: Vec<Answer>,
     next: usize,
     taken: Vec<u8>,
+    tried: Option<Vec<Tried>>,
     tries: u64,
     failures: u64,
 }
 
 impl Model for MemorySink {
-    ghost use Rattle.std.specs.Prelude.{◌≤◌, drop, vec_len};
+    ghost use Rattle.std.specs.Prelude.{◌≤◌, drop, option_map, vec_len};
     ghost use Rattle.keep_log.specs.Sinks.{SinkScript};
 
     ghost Value = { SinkScript };
 
-    ghost view = { λ s. record { to_come = drop s.next s.answers.items; written = s.taken.items; tries = s.tries; failures = s.failures } };
+    ghost view = { λ s. record { to_come = drop s.next s.answers.items; written = s.taken.items; tried = option_map (λ kept. kept.items) s.tried; tries = s.tries; failures = s.failures } };
 
     ghost invariant = { λ s. s.next ≤ vec_len s.answers };
 }
@@ -46,12 +48,13 @@ impl Model for MemorySink {
 impl MemorySink {
     /// A sink with these answers to come.
     pub fn new(alloc: Global, answers: Vec<Answer>) -> MemorySink
-        ensures { result ≡ record { to_come = answers.items; written = []; tries = 0; failures = 0 } }
+        ensures { result ≡ record { to_come = answers.items; written = []; tried = Some []; tries = 0; failures = 0 } }
     {
         MemorySink {
             answers,
             next: 0,
             taken: Vec::new(alloc),
+            tried: Some(Vec::new(alloc)),
             tries: 0,
             failures: 0,
         }
@@ -86,6 +89,8 @@ impl MemorySink {
         ensures tries { self.new.tries ≡ self.old.tries }
         ensures failures { CountsFailure result self.old.failures self.new.failures }
         ensures to_come { self.new.to_come ≡ self.old.to_come }
+        ensures tried { self.new.tried ≡ self.old.tried }
+        ensures all { (result ≡ Done n) ⊎ (result ≡ Failed) }
     {
         match self.taken.extend_from_slice(&piece[..n]) {
             Ok(()) => Tried::Done(n),
@@ -101,10 +106,25 @@ impl MemorySink {
         self.failures = self.failures.saturating_add(1);
         Tried::Failed
     }
+
+    // Keeps what a try came to, as long as there is memory.
+    fn keep(&mut self, tried: Tried)
+        ensures tried { TryIsMade tried self.old.tried self.new.tried }
+        ensures rest { self.new ≡ record self.old { tried = self.new.tried } }
+    {
+        let Some(mut kept) = self.tried.take() else {
+            return;
+        };
+        if kept.push(tried).is_ok() {
+            self.tried = Some(kept);
+        }
+    }
 }
 
 impl LogSink for MemorySink {
     ghost written = { λ s. Some s.written };
+
+    ghost tried = { λ s. s.tried };
 
     ghost tries = { λ s. s.tries };
 
@@ -118,13 +138,27 @@ impl LogSink for MemorySink {
         self.failures
     }
 
-    fn give(&mut self, piece: &[u8]) -> Tried {
+    fn give(&mut self, piece: &[u8]) -> Tried
+        ensures bound { IfTryDone result (λ n. (n ≤ length piece.now) × (0 < length piece.now → 0 < n)) }
+        ensures bytes { MatchTried result (λ n. Appends (Some self.old.written) (Some self.new.written) (take n piece.now))
+            (Keeps (Some self.old.written) (Some self.new.written)) }
+        ensures tried { TryIsMade result self.old.tried self.new.tried }
+        ensures tries { self.new.tries ≡ one_more self.old.tries }
+        ensures failures { CountsFailure result self.old.failures self.new.failures }
+
+        // What it was told. Where it is to take something, it may fail instead, for lack of memory.
+        ensures answer { MatchTried (tried_of (next_answer self.old.to_come) (length piece.now)) (λ n. (result ≡ Done n) ⊎ (result ≡ Failed))
+            (result ≡ tried_of (next_answer self.old.to_come) (length piece.now)) }
+        ensures to_come { self.new.to_come ≡ drop 1 self.old.to_come }
+    {
         self.tries = self.tries.saturating_add(1);
-        match self.answer() {
+        let tried = match self.answer() {
             None => self.take(piece, piece.len()),
             Some(Answer::Takes(n)) => self.take(piece, n.max(1).min(piece.len())),
             Some(Answer::Waits) => Tried::Waits,
             Some(Answer::Fails) => self.fail(),
-        }
+        };
+        self.keep(tried);
+        tried
     }
 }

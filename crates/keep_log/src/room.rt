@@ -1,6 +1,7 @@
 ghost use Rattle.std.specs.Prelude.{◌≡◌, ◌+◌, ◌≤◌, [], IfOk, false, length, min, take};
 ghost use Rattle.std.specs.Io.KnownBytes.{Appends};
 ghost use Rattle.keep_log.specs.declared.writing.TheConstants.{MOST_TRIES};
+ghost use Rattle.keep_log.specs.Turns.{TurnIsMade};
 ghost use Rattle.keep_log.specs.Waiting.{after_turn, closed_if, closed_waiting, dropping, giving, with_line, with_notice};
 
 use crate::sink::LogSink;
@@ -118,12 +119,13 @@ impl LogRoom {
         self.count(1);
     }
 
-    /// Gives a sink what it takes without waiting of the first `most` bytes that wait, in at most [`MOST_TRIES`] tries. Where a
-    /// try fails, it is the last, and what waits is dropped and counted, but for the rest of a line whose front was given.
-    /// Answers how many bytes were given, and whether the sink failed.
+    /// Gives a sink what it takes without waiting of the first `most` bytes that wait. It is tried until all of these are given,
+    /// it would have to wait, or it fails; or [`MOST_TRIES`] times. Where it fails, what waits is dropped and counted, but for the
+    /// rest of a line whose front was given. Answers how many bytes were given, and whether the sink failed.
     pub fn give<S: LogSink>(&mut self, sink: &mut S, most: usize) -> (usize, bool)
         ensures most { result.0 ≤ min most (length self.old.bytes) }
         ensures given { Appends (S.written sink.old) (S.written sink.new) (take result.0 self.old.bytes) }
+        ensures turn { TurnIsMade (min most (length self.old.bytes)) result.0 result.1 (S.tried sink.old) (S.tried sink.new) }
         ensures tries { S.tries sink.new ≤ S.tries sink.old + MOST_TRIES }
         ensures failures { S.failures sink.new ≡ after_turn result.1 (S.failures sink.old) }
         ensures room { self.new ≡ closed_if result.1 (giving result.0 self.old) }

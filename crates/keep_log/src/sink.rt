@@ -2,7 +2,9 @@ ghost use Rattle.std.specs.Prelude.{◌≡◌, ℕ, ◌<◌, ◌≤◌, List, le
 ghost use Rattle.std.specs.Io.KnownBytes.{Appends, Keeps};
 ghost use Rattle.keep_device.specs.Failures.{one_more};
 ghost use Rattle.keep_device.specs.Tries.{IfTryDone, MatchTried};
+ghost use Rattle.keep_device.specs.declared.tried.Tried.{Tried};
 ghost use Rattle.keep_log.specs.Sinks.{CountsFailure};
+ghost use Rattle.keep_log.specs.Turns.{TryIsMade};
 
 use keep_device::Tried;
 
@@ -12,6 +14,9 @@ use keep_device::Tried;
 pub trait LogSink {
     /// The bytes that it was given, where they are known.
     ghost written: { Self → Option (List ℕ) } = { λ _. None };
+
+    /// What its tries came to, the first of them first, where that is known.
+    ghost tried: { Self → Option (List Tried) } = { λ _. None };
 
     /// How often it was tried, and how many of these tries failed, both up to the greatest `u64`.
     ghost tries: { Self → ℕ };
@@ -31,6 +36,7 @@ pub trait LogSink {
         ensures bound { IfTryDone result (λ n. (n ≤ length piece.now) × (0 < length piece.now → 0 < n)) }
         ensures bytes { MatchTried result (λ n. Appends (Self.written self.old) (Self.written self.new) (take n piece.now))
             (Keeps (Self.written self.old) (Self.written self.new)) }
+        ensures tried { TryIsMade result (Self.tried self.old) (Self.tried self.new) }
         ensures tries { Self.tries self.new ≡ one_more (Self.tries self.old) }
         ensures failures { CountsFailure result (Self.failures self.old) (Self.failures self.new) };
 }

@@ -1,5 +1,6 @@
 ghost use Rattle.std.specs.Prelude.{◌≡◌, ◌+◌, ◌≤◌, length, take};
 ghost use Rattle.std.specs.Io.KnownBytes.{Appends};
+ghost use Rattle.keep_log.specs.Turns.{TurnIsMade};
 ghost use Rattle.keep_log.specs.Waiting.{after_turn, feeds, line_length};
 
 use crate::sink::LogSink;
@@ -15,11 +16,12 @@ pub(crate) struct Turn {
     pub(crate) failed: bool,
 }
 
-/// Gives a sink of these bytes what it takes without waiting. It is tried [`MOST_TRIES`] times at most, and no more once it has
-/// failed.
+/// Gives a sink of these bytes what it takes without waiting. It is tried until all are given, it would have to wait, or it fails;
+/// or [`MOST_TRIES`] times.
 pub(crate) fn write_out<S: LogSink>(sink: &mut S, bytes: &[u8]) -> Turn
     ensures front { result.taken ≤ length bytes.now }
     ensures given { Appends (S.written sink.old) (S.written sink.new) (take result.taken bytes.now) }
+    ensures turn { TurnIsMade (length bytes.now) result.taken result.failed (S.tried sink.old) (S.tried sink.new) }
     ensures tries { S.tries sink.new ≤ S.tries sink.old + MOST_TRIES }
     ensures failures { S.failures sink.new ≡ after_turn result.failed (S.failures sink.old) }
 {

@@ -1,6 +1,6 @@
 //! Tests alone, of what stands on the system itself, about which contracts know nothing: its clocks, its disk, and a lane over its
-//! sockets. With them are plays over doubles of what contracts leave open: when lanes hand an answer back, how long an exchange waits,
-//! and how much a turn gives the log's reader.
+//! sockets. With them are plays over doubles of what contracts leave open: when lanes hand an answer back, and how long an
+//! exchange waits.
 #![tactic(auto)]
 
 #[cfg(test)]
@@ -11,8 +11,6 @@ mod disk;
 mod lanes_over_sockets;
 #[cfg(test)]
 mod lanes_over_wires;
-#[cfg(test)]
-mod log;
 #[cfg(test)]
 mod network;
 #[cfg(test)]
