@@ -1,10 +1,12 @@
 //! What happens in a play.
 use crate::fault::Fault;
 use crate::guests::Peer;
-use crate::play::Play;
+use crate::play::{Play, Told};
+use crate::running::Running;
 use crate::settings::put_file;
 use crate::steps::Step;
 use crate::words::{lane_fault, number};
+use keep_lanes::LaneFault;
 use keep_tree::Forest;
 use std::alloc::{AllocError, Global};
 use watch_machine::{Operation, Out};
@@ -20,14 +22,22 @@ impl<'a> Play<'a> {
             ["request", request, fault @ ..] => {
                 let request = number(request).ok_or(unread)?;
                 let fault = lane_fault(fault).ok_or(unread)?;
-                self.running.set_fault(request, fault)?;
+                self.set_fault(request, fault)?;
             }
             ["file", path, words @ ..] => self.put(step, path, words)?,
+            ["restart"] => self.restart(step.line)?,
             // (See sweeps.)
             ["sweep", ..] => {}
             words => return Ok(Some(self.outcome(words)?.ok_or(unread)?)),
         }
         Ok(None)
+    }
+
+    fn set_fault(&mut self, request: u64, fault: LaneFault) -> Result<(), AllocError> {
+        match &mut self.running {
+            None => Ok(()),
+            Some(running) => running.set_fault(request, fault),
+        }
     }
 
     fn put(&mut self, step: &Step<'_>, path: &str, words: &[&str]) -> Result<(), Fault> {
@@ -62,27 +72,29 @@ impl<'a> Play<'a> {
     }
 
     fn turns(&mut self, count: u64) -> Result<(), AllocError> {
+        let Some(running) = &mut self.running else {
+            return Ok(());
+        };
         for _ in 0..count {
-            self.running
-                .turn(self.alloc, &mut self.clock, &mut self.house);
-            self.keep_asked()?;
+            running.turn(self.alloc, &mut self.clock, &mut self.house);
+            keep_asked(self.alloc, running, &mut self.told)?;
         }
         Ok(())
     }
+}
 
-    // Keeps the requests that are out and were not after the turn before.
-    fn keep_asked(&mut self) -> Result<(), AllocError> {
-        let agent = self.running.agent();
-        let forest = agent.inventory().forest();
-        let out = agent.watch().out();
-        for request in out {
-            if !is_among(&self.told.out, request) {
-                push_request(self.alloc, forest, request, &mut self.told.requests)?;
-            }
+// Keeps the requests that are out and were not after the turn before.
+fn keep_asked(alloc: Global, running: &Running, told: &mut Told) -> Result<(), AllocError> {
+    let agent = running.agent();
+    let forest = agent.inventory().forest();
+    let out = agent.watch().out();
+    for request in out {
+        if !is_among(&told.out, request) {
+            push_request(alloc, forest, request, &mut told.requests)?;
         }
-        self.told.out = Vec::from_slice(self.alloc, out)?;
-        Ok(())
     }
+    told.out = Vec::from_slice(alloc, out)?;
+    Ok(())
 }
 
 // Whether a request is among these.

@@ -60,14 +60,14 @@ impl<'a> Guest<'a> {
 /// The guests of these steps, in the order in which they come; the call of the first of them with that number fails.
 pub fn guests_of<'a>(
     alloc: Global,
-    steps: &'a [Step<'a>],
+    steps: &[Step<'a>],
     fails: u64,
 ) -> Result<Vec<Guest<'a>>, Fault> {
     let mut guests = Vec::new(alloc);
     for step in steps {
         if let ["client" | "onlooker", name, ..] = step.words.as_slice() {
             let fails = if guests.is_empty() { fails } else { u64::MAX };
-            guests.push(Guest::new(alloc, name, fails))?;
+            guests.push(Guest::new(alloc, *name, fails))?;
         }
     }
     Ok(guests)

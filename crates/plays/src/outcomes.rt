@@ -1,7 +1,8 @@
 //! What came of a play.
 use crate::play::{Play, file_of};
+use crate::running::Running;
 use keep_clock::Call;
-use std::alloc::AllocError;
+use std::alloc::{AllocError, Global};
 use std::mem;
 use watch_machine::End;
 
@@ -27,9 +28,9 @@ impl<'a> Play<'a> {
 
     // What the log's reader was given since that was told last.
     fn tell_log(&mut self) -> Result<Vec<u8>, AllocError> {
-        let written = self.house.others.sink.written();
-        let told = Vec::from_slice(self.alloc, written.get(self.told.log..).unwrap_or(&[]))?;
-        self.told.log = written.len();
+        let before = self.told.log;
+        let told = part_after(self.alloc, self.house.others.sink.written(), before)?;
+        self.told.log = before.saturating_add(told.len());
         Ok(told)
     }
 
@@ -50,42 +51,19 @@ impl<'a> Play<'a> {
 
     // How long each turn waited since that was told last, in milliseconds, in one line.
     fn tell_pauses(&mut self) -> Result<Vec<u8>, AllocError> {
-        let mut line = Vec::new(self.alloc);
-        let calls = self.clock.calls();
-        for call in calls.get(self.told.clock..).unwrap_or(&[]) {
-            if let Call::Wait { millis } = call {
-                if !line.is_empty() {
-                    line.push(b' ')?;
-                }
-                let pause = millis.to_string(self.alloc)?;
-                line.extend_from_slice(pause.as_bytes())?;
-            }
-        }
-        self.told.clock = calls.len();
-        line.push(b'\n')?;
+        let before = self.told.clock;
+        let line = pauses_of(self.alloc, self.clock.calls(), before)?;
+        self.told.clock = self.clock.calls().len();
         Ok(line)
     }
 
     // Of each entry that is served, the second at which it is believed to end, and that at which it ends at the broker.
     fn tell_entries(&self) -> Result<Vec<u8>, AllocError> {
         let mut lines = Vec::new(self.alloc);
-        let agent = self.running.agent();
-        let forest = agent.inventory().forest();
-        let table = self.running.lanes().table();
-        for index in 0..forest.len() {
-            let name = forest.get(index).name.list();
-            lines.extend_from_slice(name)?;
-            let line = match agent.watch().end_of(index) {
-                End::At(end) => format!(in self.alloc; " believed {end}")?,
-                End::Unknown => format!(in self.alloc; " unknown")?,
-                End::Never => format!(in self.alloc; " never ends")?,
-            };
-            lines.extend_from_slice(line.as_bytes())?;
-            if let Some(end) = table.end_of(name) {
-                let line = format!(in self.alloc; ", at the broker {end}")?;
-                lines.extend_from_slice(line.as_bytes())?;
+        if let Some(running) = &self.running {
+            for index in 0..running.agent().inventory().forest().len() {
+                push_entry(self.alloc, running, index, &mut lines)?;
             }
-            lines.push(b'\n')?;
         }
         Ok(lines)
     }
@@ -142,4 +120,53 @@ impl<'a> Play<'a> {
             Some(guest) => Ok(Some(self.tell_number(guest.calls())?)),
         }
     }
+}
+
+// The bytes after so many.
+fn part_after(alloc: Global, bytes: &[u8], before: usize) -> Result<Vec<u8>, AllocError> {
+    Vec::from_slice(alloc, bytes.get(before..).unwrap_or(&[]))
+}
+
+// How long each wait after so many calls of the clock took, in milliseconds, in one line.
+fn pauses_of(alloc: Global, calls: &[Call], before: usize) -> Result<Vec<u8>, AllocError> {
+    let mut line = Vec::new(alloc);
+    for call in calls.get(before..).unwrap_or(&[]) {
+        if let Call::Wait { millis } = call {
+            if !line.is_empty() {
+                line.push(b' ')?;
+            }
+            let pause = millis.to_string(alloc)?;
+            line.extend_from_slice(pause.as_bytes())?;
+        }
+    }
+    line.push(b'\n')?;
+    Ok(line)
+}
+
+// The entry with that index: when it is believed to end, and when it ends at the broker.
+fn push_entry(
+    alloc: Global,
+    running: &Running,
+    index: u32,
+    lines: &mut Vec<u8>,
+) -> Result<(), AllocError> {
+    let agent = running.agent();
+    let forest = agent.inventory().forest();
+    if index >= forest.len() {
+        return Ok(());
+    }
+    let name = forest.get(index).name.list();
+    lines.extend_from_slice(name)?;
+    let line = match agent.watch().end_of(index) {
+        End::At(end) => format!(in alloc; " believed {end}")?,
+        End::Unknown => format!(in alloc; " unknown")?,
+        End::Never => format!(in alloc; " never ends")?,
+    };
+    lines.extend_from_slice(line.as_bytes())?;
+    if let Some(end) = running.lanes().table().end_of(name) {
+        let line = format!(in alloc; ", at the broker {end}")?;
+        lines.extend_from_slice(line.as_bytes())?;
+    }
+    lines.push(b'\n')?;
+    Ok(())
 }

@@ -1,11 +1,11 @@
 //! A play, from its start on.
+use crate::drawers::Drawer;
 use crate::fault::Fault;
 use crate::guests::{Guest, guests_of};
-use crate::running::{MemoryLanes, Running};
+use crate::running::Running;
 use crate::settings::Setting;
 use crate::starts::{
-    Course, ENDS, FILE, Ground, MemoryHouse, MemoryLedger, Started, clock_of, lanes_of, start,
-    stored,
+    Course, ENDS, FILE, Ground, MemoryHouse, MemoryLedger, clock_of, lanes_of, start, stored,
 };
 use crate::steps::Step;
 use crate::sweeps::Disturbance;
@@ -14,8 +14,9 @@ use keep_disk::{Failing, MemoryDisk, Stored};
 use keep_ends::EndsFile;
 use keep_log::MemorySink;
 use keep_serving::EarlyDay;
-use keep_state::Paths;
+use keep_state::{Paths, State};
 use std::alloc::{AllocError, Global};
+use std::mem;
 use watch_machine::Out;
 
 /// The state folder.
@@ -29,7 +30,8 @@ pub struct Play<'a> {
     pub paths: &'a Paths,
     pub guests: &'a [Guest<'a>],
     pub clock: MemoryClock,
-    pub running: Running,
+    /// What serves; it is never missing but while it is started again.
+    pub running: Option<Running>,
     pub house: EarlyDay<MemoryHouse<'a>>,
     pub told: Told,
 }
@@ -62,16 +64,24 @@ pub fn outcomes_of(
     };
     let line = steps.get(first).map_or(0, |step| step.line);
     let mut play = begin(alloc, setting, &paths, &guests, line)?;
+    outcomes_from(alloc, &mut play, steps, first)
+}
+
+/// What came of each step, of which so many only say what the play begins with.
+fn outcomes_from(
+    alloc: Global,
+    play: &mut Play<'_>,
+    steps: &[Step<'_>],
+    first: usize,
+) -> Result<Vec<Option<Vec<u8>>>, Fault> {
     let mut outcomes = Vec::new(alloc);
     for (number, step) in steps.iter().enumerate() {
-        if number < first {
-            outcomes.push(None)?;
-        } else if matches!(step.words.as_slice(), ["restart"]) {
-            play = play.restart(step.line)?;
-            outcomes.push(None)?;
+        let outcome = if number < first {
+            None
         } else {
-            outcomes.push(play.go_on(step)?)?;
-        }
+            play.go_on(step)?
+        };
+        outcomes.push(outcome)?;
     }
     Ok(outcomes)
 }
@@ -94,45 +104,26 @@ fn begin<'a>(
     } = setting;
     let mut clock = clock_of(alloc, readings)?;
     let now = read_clock(&mut clock);
-    let sink = MemorySink::new(alloc, answers);
-    let lanes = lanes_of(alloc, &course.broker, course.timeout, width)?;
-    let started = start(alloc, &course, ground, paths, sink, now)?;
-    let (Some(lanes), Some(started)) = (lanes, started) else {
+    let Some(lanes) = lanes_of(alloc, &course.broker, course.timeout, width)? else {
         return Err(Fault::Step(line));
     };
-    let (running, house) = serve(alloc, &course, started, lanes)?;
-    Ok(Play {
-        alloc,
-        course,
-        paths,
-        guests,
-        clock,
-        running,
-        house,
-        told: Told {
-            log: 0,
-            clock: 0,
-            out: Vec::new(alloc),
-            requests: Vec::new(alloc),
-        },
-    })
-}
-
-/// An agent that has started, over these lanes.
-fn serve<'a>(
-    alloc: Global,
-    course: &Course,
-    started: Started<'a>,
-    lanes: MemoryLanes,
-) -> Result<(Running, EarlyDay<MemoryHouse<'a>>), Fault> {
-    let Started {
-        house,
-        inventory,
-        known,
-    } = started;
-    let running = Running::begin(alloc, inventory, &known, lanes)?;
-    let earlier = u64::from(course.part).saturating_mul(1000);
-    Ok((running, EarlyDay::new(house, earlier)))
+    let sink = MemorySink::new(alloc, answers);
+    match start(alloc, &course, ground, paths, sink, lanes, now)? {
+        None => Err(Fault::Step(line)),
+        Some((running, house)) => {
+            let house = EarlyDay::new(house, course.earlier());
+            Ok(Play {
+                alloc,
+                course,
+                paths,
+                guests,
+                clock,
+                running: Some(running),
+                house,
+                told: Told::new(alloc),
+            })
+        }
+    }
 }
 
 /// The reading of a start.
@@ -155,79 +146,111 @@ pub fn file_of(
     }
 }
 
-/// Those of these files that a disk has.
-fn files_of(alloc: Global, disk: &MemoryDisk, paths: &[&str]) -> Result<Vec<Stored>, AllocError> {
+/// Adds the file at a path, if the disk has one.
+fn keep_file(
+    alloc: Global,
+    disk: &MemoryDisk,
+    path: &str,
+    files: &mut Vec<Stored>,
+) -> Result<(), AllocError> {
+    if let Some(bytes) = file_of(alloc, disk, path)? {
+        files.push(stored(alloc, path, bytes)?)?;
+    }
+    Ok(())
+}
+
+/// The files of a state.
+fn state_files(alloc: Global, state: &State<'_, MemoryDisk>) -> Result<Vec<Stored>, AllocError> {
     let mut files = Vec::new(alloc);
-    for path in paths {
-        if let Some(bytes) = file_of(alloc, disk, path)? {
-            files.push(stored(alloc, path, bytes)?)?;
-        }
+    keep_file(alloc, state.disk(), FILE, &mut files)?;
+    keep_file(alloc, state.disk(), state.paths().journal(), &mut files)?;
+    keep_file(alloc, state.disk(), state.paths().copy(), &mut files)?;
+    keep_file(alloc, state.disk(), state.paths().aside(), &mut files)?;
+    Ok(files)
+}
+
+/// The files of the ends, where they are kept.
+fn ends_files(
+    alloc: Global,
+    ends: &Option<EndsFile<MemoryDisk>>,
+) -> Result<Vec<Stored>, AllocError> {
+    let mut files = Vec::new(alloc);
+    if let Some(ends) = ends {
+        keep_file(alloc, &ends.disk, ENDS, &mut files)?;
     }
     Ok(files)
 }
 
-/// What the disks hold after an agent; `None` where it kept no changes. No call of them fails from now on.
+/// What the disks hold after an agent that had this ledger; `None` where there is no inventory. No call of them fails from now on.
 fn ground_after(
     alloc: Global,
-    ledger: Option<MemoryLedger<'_>>,
-    ends: Option<EndsFile<MemoryDisk>>,
+    ledger: &mut MemoryLedger<'_>,
+    ends: &Option<EndsFile<MemoryDisk>>,
 ) -> Result<Option<Ground>, AllocError> {
-    let Some(ledger) = ledger else {
+    let Some(file) = file_of(alloc, ledger.state.disk(), FILE)? else {
         return Ok(None);
     };
-    let mut ground = Ground::new(alloc);
-    let (disk, paths) = (ledger.state.disk(), ledger.state.paths());
-    let Some(file) = file_of(alloc, disk, FILE)? else {
-        return Ok(None);
-    };
-    ground.file = file;
-    ground.state = Some(Failing::Never);
-    let kept = [FILE, paths.journal(), paths.copy(), paths.aside()];
-    ground.state_files = files_of(alloc, disk, &kept)?;
-    if let Some(ends) = ends {
-        ground.ends = Some(Failing::Never);
-        ground.ends_files = files_of(alloc, &ends.disk, &[ENDS])?;
-    }
-    ground.drawer = ledger.inputs;
-    Ok(Some(ground))
+    let state_files = state_files(alloc, &ledger.state)?;
+    let ends_files = ends_files(alloc, ends)?;
+    Ok(Some(Ground {
+        file,
+        state: Some(Failing::Never),
+        state_files,
+        ends: ends.as_ref().map(|_| Failing::Never),
+        ends_files,
+        drawer: mem::replace(&mut ledger.inputs, Drawer::new(alloc)),
+    }))
 }
 
 impl<'a> Play<'a> {
-    /// The same after the agent was ended and started again, over the same disks.
-    fn restart(self, line: usize) -> Result<Play<'a>, Fault> {
-        let Play {
-            alloc,
-            course,
-            paths,
-            guests,
-            mut clock,
-            running,
-            house,
-            told,
-        } = self;
-        let MemoryHouse {
+    /// The agent is ended and started again, over the same disks; a start that is refused is a fault of this line.
+    pub fn restart(&mut self, line: usize) -> Result<(), Fault> {
+        let Some(ground) = self.ground()? else {
+            return Err(Fault::Step(line));
+        };
+        let Some(running) = self.running.take() else {
+            return Err(Fault::Step(line));
+        };
+        let now = read_clock(&mut self.clock);
+        let none = MemorySink::new(self.alloc, Vec::new(self.alloc));
+        let sink = mem::replace(&mut self.house.others.sink, none);
+        let lanes = running.into_lanes();
+        match start(
+            self.alloc,
+            &self.course,
+            ground,
+            self.paths,
             sink,
-            state,
-            ends,
-            ..
-        } = house.others;
-        let Some(ground) = ground_after(alloc, state, ends)? else {
-            return Err(Fault::Step(line));
-        };
-        let now = read_clock(&mut clock);
-        let Some(started) = start(alloc, &course, ground, paths, sink, now)? else {
-            return Err(Fault::Step(line));
-        };
-        let (running, house) = serve(alloc, &course, started, running.into_lanes())?;
-        Ok(Play {
-            alloc,
-            course,
-            paths,
-            guests,
-            clock,
-            running,
-            house,
-            told,
-        })
+            lanes,
+            now,
+        )? {
+            None => Err(Fault::Step(line)),
+            Some((running, house)) => {
+                self.running = Some(running);
+                self.house = EarlyDay::new(house, self.course.earlier());
+                Ok(())
+            }
+        }
+    }
+
+    // What the disks hold now; `None` where no changes are kept.
+    fn ground(&mut self) -> Result<Option<Ground>, AllocError> {
+        let alloc = self.alloc;
+        let house = &mut self.house.others;
+        match &mut house.state {
+            None => Ok(None),
+            Some(ledger) => ground_after(alloc, ledger, &house.ends),
+        }
+    }
+}
+
+impl Told {
+    fn new(alloc: Global) -> Told {
+        Told {
+            log: 0,
+            clock: 0,
+            out: Vec::new(alloc),
+            requests: Vec::new(alloc),
+        }
     }
 }

@@ -2,9 +2,10 @@
 use crate::drawers::Drawer;
 use crate::fault::Fault;
 use crate::guests::{Peer, PeerDoor};
-use crate::running::MemoryLanes;
+use crate::running::{MemoryLanes, Running};
 use broker_table::Table;
 use keep_answering::{Control, Onlookers};
+use keep_change::Note;
 use keep_clock::{MemoryClock, Reading};
 use keep_disk::{DiskFault, Failing, Held, MemoryDisk, Stored, Why};
 use keep_ends::{EndsFile, known_events, load_ends};
@@ -18,7 +19,7 @@ use keep_proving::Proving;
 use keep_secrets::Looking;
 use keep_state::{Opened, Paths, State};
 use std::alloc::{AllocError, Global};
-use watch_machine::Event;
+use watch_machine::{Event, Millis};
 
 /// The inventory's file.
 pub const FILE: &str = "web.toml";
@@ -67,6 +68,11 @@ pub struct Ground {
 }
 
 impl Course {
+    /// By how many milliseconds a day is shorter.
+    pub fn earlier(&self) -> Millis {
+        u64::from(self.part).saturating_mul(1000)
+    }
+
     /// Where nothing is said.
     pub fn new(alloc: Global) -> Course {
         Course {
@@ -94,12 +100,31 @@ impl Ground {
     }
 }
 
-/// An agent's house at a start, what it serves, and the ends that it was told before.
+/// What is begun of an agent, beside what is carried along, of any type: so nothing here depends on that.
 #[derive(Drop)]
-pub struct Started<'a> {
-    pub house: MemoryHouse<'a>,
-    pub inventory: Inventory,
-    pub known: Vec<Event>,
+struct Begun<K> {
+    carried: K,
+    desk: Desk,
+    ends: Option<EndsFile<MemoryDisk>>,
+    inventory: Inventory,
+    known: Vec<Event>,
+}
+
+/// The neighbours of an agent that are there before it serves.
+#[derive(Drop)]
+struct Neighbours<'a> {
+    ledger: Option<MemoryLedger<'a>>,
+    sink: MemorySink,
+    lanes: MemoryLanes,
+}
+
+/// The neighbours of an agent that serves.
+#[derive(Drop)]
+struct Rooms<'a> {
+    ledger: Option<MemoryLedger<'a>>,
+    sink: MemorySink,
+    desk: Desk,
+    ends: Option<EndsFile<MemoryDisk>>,
 }
 
 /// A disk's one file.
@@ -135,16 +160,16 @@ pub fn lanes_of(
     }
 }
 
-/// Starts an agent at this reading; `None` where the start is refused.
+/// Starts an agent at this reading, over these lanes; `None` where the start is refused.
 pub fn start<'a>(
     alloc: Global,
     course: &Course,
     ground: Ground,
     paths: &'a Paths,
     sink: MemorySink,
+    lanes: MemoryLanes,
     now: Reading,
-) -> Result<Option<Started<'a>>, Fault> {
-    let mut said = Vec::new(alloc);
+) -> Result<Option<(Running, MemoryHouse<'a>)>, Fault> {
     let Ground {
         file,
         state,
@@ -153,26 +178,119 @@ pub fn start<'a>(
         ends_files,
         drawer,
     } = ground;
-    let ledger = match state {
-        None => None,
-        Some(failing) => match open(alloc, state_files, failing, paths, &file) {
-            None => return Ok(None),
-            Some(opened) => Some(ledger_of(alloc, course, opened, drawer, &mut said)?),
-        },
-    };
-    let Some(inventory) = inventory_of(alloc, &ledger, &file)? else {
+    let mut said = Vec::new(alloc);
+    let Some(ledger) = kept(
+        alloc,
+        course,
+        paths,
+        &file,
+        (state, state_files, drawer),
+        &mut said,
+    )?
+    else {
         return Ok(None);
     };
-    let mut desk = Desk::new(alloc, course.form, inventory.forest().len())?;
-    for (level, event, text) in &said {
+    let inventory = inventory_of(alloc, &ledger, &file);
+    let carried = Neighbours {
+        ledger,
+        sink,
+        lanes,
+    };
+    let at = (course.form, now);
+    match begin(alloc, at, inventory, &said, (ends, ends_files), carried)? {
+        None => Ok(None),
+        Some(begun) => serve(alloc, begun, now).map(Some),
+    }
+}
+
+/// What is begun where this is served: the log with what was said, and the ends that were told before; `None` where nothing is.
+fn begin<K: Drop>(
+    alloc: Global,
+    (form, now): (Form, Reading),
+    inventory: Result<Option<Inventory>, AllocError>,
+    said: &[Said],
+    (ends, ends_files): (Option<Failing>, Vec<Stored>),
+    carried: K,
+) -> Result<Option<Begun<K>>, Fault> {
+    let Some(inventory) = inventory? else {
+        return Ok(None);
+    };
+    let mut desk = Desk::new(alloc, form, inventory.forest().len())?;
+    for (level, event, text) in said {
         desk.hear_at_start(alloc, now, *level, event, text.list());
     }
     let (ends, known) = take_over(alloc, ends, ends_files, &inventory, now, &mut desk)?;
-    Ok(Some(Started {
-        house: house_of(alloc, desk, sink, now, ledger, ends),
+    Ok(Some(Begun {
+        carried,
+        desk,
+        ends,
         inventory,
         known,
     }))
+}
+
+/// Serves what is begun.
+fn serve<'a>(
+    alloc: Global,
+    begun: Begun<Neighbours<'a>>,
+    now: Reading,
+) -> Result<(Running, MemoryHouse<'a>), Fault> {
+    let Begun {
+        carried,
+        desk,
+        ends,
+        inventory,
+        known,
+    } = begun;
+    let Neighbours {
+        ledger,
+        sink,
+        lanes,
+    } = carried;
+    let rooms = Rooms {
+        ledger,
+        sink,
+        desk,
+        ends,
+    };
+    let (running, rooms) = serve_beside(alloc, inventory, &known, lanes, rooms)?;
+    Ok((running, house_of(alloc, rooms, now)))
+}
+
+/// Serves this inventory, beside anything else.
+fn serve_beside<K: Drop>(
+    alloc: Global,
+    inventory: Inventory,
+    known: &[Event],
+    lanes: MemoryLanes,
+    beside: K,
+) -> Result<(Running, K), Fault> {
+    let running = Running::begin(alloc, inventory, known, lanes)?;
+    Ok((running, beside))
+}
+
+/// What keeps changes, where they are kept, with what is said of it; `None` where the start is refused.
+fn kept<'a>(
+    alloc: Global,
+    course: &Course,
+    paths: &'a Paths,
+    file: &[u8],
+    (state, state_files, drawer): (Option<Failing>, Vec<Stored>, Drawer),
+    said: &mut Vec<Said>,
+) -> Result<Option<Option<MemoryLedger<'a>>>, Fault> {
+    let Some(failing) = state else {
+        return Ok(Some(None));
+    };
+    let proving = proving(alloc, course)?;
+    let Some(opened) = open(alloc, state_files, failing, paths, file) else {
+        return Ok(None);
+    };
+    let Opened { state, notes, .. } = opened;
+    let mut ledger = ledger_of(alloc, course, state, drawer, proving);
+    match fill(alloc, &mut ledger, &notes, said) {
+        Ok(()) => Ok(Some(Some(ledger))),
+        Err(fault) => Err(fault),
+    }
 }
 
 /// What is served: by a ledger, or the file alone; `None` where that is no inventory.
@@ -214,16 +332,16 @@ fn proving(alloc: Global, course: &Course) -> Result<Option<Proving<MemoryLanes>
     Ok(Some(Proving::new(lanes)))
 }
 
-/// A ledger of a state, once it has what files of credentials hold, and what is said of that and of its changes.
+/// A ledger of a state.
 fn ledger_of<'a>(
     alloc: Global,
     course: &Course,
-    opened: Opened<'a, MemoryDisk>,
+    state: State<'a, MemoryDisk>,
     drawer: Drawer,
-    said: &mut Vec<Said>,
-) -> Result<MemoryLedger<'a>, Fault> {
-    let mut ledger = Ledger {
-        state: opened.state,
+    proving: Option<Proving<MemoryLanes>>,
+) -> MemoryLedger<'a> {
+    Ledger {
+        state,
         demands: Demands {
             timeout: course.timeout,
             names_are_secrets: false,
@@ -232,18 +350,26 @@ fn ledger_of<'a>(
         folder: "",
         inputs: drawer,
         looking: Looking::new(alloc),
-        proving: proving(alloc, course)?,
+        proving,
         asked: None,
-    };
-    for line in ledger.note_lines(alloc, &opened.notes)? {
+    }
+}
+
+/// It takes what files of credentials hold, which waits for no rebuilding at a start; what is said of that, and of its changes.
+fn fill(
+    alloc: Global,
+    ledger: &mut MemoryLedger<'_>,
+    notes: &[Note],
+    said: &mut Vec<Said>,
+) -> Result<(), Fault> {
+    for line in ledger.note_lines(alloc, notes)? {
         said.push((Level::Note, "journal", line))?;
     }
     for line in ledger.fill(alloc, 0)? {
         said.push((Level::Alert, "secret-file", line))?;
     }
-    // What files hold at the start waits for no rebuilding.
     ledger.state.rebuilt();
-    Ok(ledger)
+    Ok(())
 }
 
 /// The file of the ends, where they are kept, and what hands in those of this boot.
@@ -273,14 +399,13 @@ fn take_over(
 }
 
 /// All neighbours of an agent, at a start.
-fn house_of<'a>(
-    alloc: Global,
-    desk: Desk,
-    sink: MemorySink,
-    now: Reading,
-    state: Option<MemoryLedger<'a>>,
-    ends: Option<EndsFile<MemoryDisk>>,
-) -> MemoryHouse<'a> {
+fn house_of<'a>(alloc: Global, rooms: Rooms<'a>, now: Reading) -> MemoryHouse<'a> {
+    let Rooms {
+        ledger,
+        sink,
+        desk,
+        ends,
+    } = rooms;
     let seconds = Some(now.wall / 1000);
     House {
         desk,
@@ -292,7 +417,7 @@ fn house_of<'a>(
             at: seconds,
             good_at: seconds,
         },
-        state,
+        state: ledger,
         given: None,
         awaited: None,
         next: None,

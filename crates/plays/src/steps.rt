@@ -71,13 +71,10 @@ pub fn read_case<'a>(alloc: Global, text: &'a [u8]) -> Result<Case<'a>, Fault> {
 
 impl<'a> Case<'a> {
     fn push_line(&mut self, line: &[u8]) -> Result<(), AllocError> {
-        let text = match self.steps.last_mut() {
-            None => &mut self.front,
-            Some(step) => &mut step.written,
-        };
-        text.extend_from_slice(line)?;
-        text.push(b'\n')?;
-        Ok(())
+        match self.steps.last_mut() {
+            None => push_whole(line, &mut self.front),
+            Some(step) => push_whole(line, &mut step.written),
+        }
     }
 
     /// The case, where the text of each step of which something came is what came.
@@ -96,6 +93,13 @@ impl<'a> Case<'a> {
         }
         Ok(out)
     }
+}
+
+// A line, with its end.
+fn push_whole(line: &[u8], text: &mut Vec<u8>) -> Result<(), AllocError> {
+    text.extend_from_slice(line)?;
+    text.push(b'\n')?;
+    Ok(())
 }
 
 fn push_words(words: &[&str], out: &mut Vec<u8>) -> Result<(), AllocError> {

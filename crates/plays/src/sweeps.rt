@@ -131,11 +131,10 @@ impl Stretches {
 fn difference(alloc: Global, one: &[u8], other: &[u8]) -> Result<Vec<u8>, AllocError> {
     let (one, other) = (lines_of(alloc, one)?, lines_of(alloc, other)?);
     let front = same_front(&one, &other);
-    let (one, other) = (rest(&one, front), rest(&other, front));
-    let back = same_back(one, other);
+    let back = same_back(&one, &other, front);
     let mut told = Vec::new(alloc);
-    push_marked(b'-', but_last(one, back), &mut told)?;
-    push_marked(b'+', but_last(other, back), &mut told)?;
+    push_marked(b'-', &one, front, back, &mut told)?;
+    push_marked(b'+', &other, front, back, &mut told)?;
     Ok(told)
 }
 
@@ -149,14 +148,16 @@ fn same_front(one: &[&[u8]], other: &[&[u8]]) -> usize {
     one.len().min(other.len())
 }
 
-/// The same at their back.
-fn same_back(one: &[&[u8]], other: &[&[u8]]) -> usize {
-    for (number, (line, same)) in one.iter().rev().zip(other.iter().rev()).enumerate() {
-        if line != same {
+/// The same at their back, of the lines after so many at the front.
+fn same_back(one: &[&[u8]], other: &[&[u8]], front: usize) -> usize {
+    let most = one.len().min(other.len()).saturating_sub(front);
+    let pairs = one.iter().rev().zip(other.iter().rev());
+    for (number, (line, same)) in pairs.enumerate() {
+        if number >= most || line != same {
             return number;
         }
     }
-    one.len().min(other.len())
+    most
 }
 
 fn lines_of<'a>(alloc: Global, text: &'a [u8]) -> Result<Vec<&'a [u8]>, AllocError> {
@@ -168,21 +169,21 @@ fn lines_of<'a>(alloc: Global, text: &'a [u8]) -> Result<Vec<&'a [u8]>, AllocErr
     Ok(lines)
 }
 
-fn rest<'a, 'b>(lines: &'b [&'a [u8]], count: usize) -> &'b [&'a [u8]] {
-    lines.get(count..).unwrap_or(&[])
-}
-
-fn but_last<'a, 'b>(lines: &'b [&'a [u8]], count: usize) -> &'b [&'a [u8]] {
-    lines
-        .get(..lines.len().saturating_sub(count))
-        .unwrap_or(&[])
-}
-
-fn push_marked(mark: u8, lines: &[&[u8]], out: &mut Vec<u8>) -> Result<(), AllocError> {
-    for line in lines {
-        out.push(mark)?;
-        out.extend_from_slice(line)?;
-        out.push(b'\n')?;
+/// The lines that are not among so many at the front, nor at the back, each after that mark.
+fn push_marked(
+    mark: u8,
+    lines: &[&[u8]],
+    front: usize,
+    back: usize,
+    out: &mut Vec<u8>,
+) -> Result<(), AllocError> {
+    let end = lines.len().saturating_sub(back);
+    for (number, line) in lines.iter().enumerate() {
+        if number >= front && number < end {
+            out.push(mark)?;
+            out.extend_from_slice(line)?;
+            out.push(b'\n')?;
+        }
     }
     Ok(())
 }
