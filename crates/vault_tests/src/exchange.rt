@@ -1,7 +1,7 @@
-//! One exchange with a broker in memory, with the texts of both messages.
+//! Exchanges with a broker in memory, with the texts of both messages, and with one that the same thread serves over a socket.
 use crate::broker::{WEB, moment, renewal, table};
 use crate::shown::{SECRET, hides};
-use broker_memory::MemoryExchange;
+use broker_memory::{MemoryExchange, SelfServed};
 use broker_table::Fault;
 use keep_exchange::{Exchange, ExchangeFault, can_carry};
 use std::alloc::Global;
@@ -17,9 +17,9 @@ HTTP/1.1 200 OK\r\nContent-Type: application/json\r\nContent-Length: 47\r\nConne
 {\"auth\":{\"lease_duration\":60,\"renewable\":true}}";
 
 /// The status of the reply to the renewal of the token with this credential at 1059, if there is one.
-fn ask_with(
+fn ask_with<E: Exchange>(
     alloc: Global,
-    exchange: &mut MemoryExchange,
+    exchange: &mut E,
     token: &[u8],
 ) -> Result<Result<u16, ExchangeFault>, Fail> {
     let request = renewal(alloc, token, 60)?;
@@ -54,6 +54,15 @@ fn carries_both_texts(rt: HostRuntime) -> Result<(), Fail> {
     let cut = Err(ExchangeFault::Http(HttpFault::Truncated));
     assert!(rt; comes_to(rt.alloc(), None, Ok(200), WIRE)?);
     assert!(rt; comes_to(rt.alloc(), Some(Fault::Drop), cut, b"")?);
+    Ok(())
+}
+
+#[test]
+fn serves_itself_over_a_socket(rt: HostRuntime) -> Result<(), Fail> {
+    let mut exchange = SelfServed::bind(&rt, rt.alloc(), table(rt.alloc(), WEB)?)?;
+    assert!(&rt; ask_with(rt.alloc(), &mut exchange, b"web")? == Ok(200));
+    assert!(&rt; exchange.table().end_of(b"web") == Some(1119));
+    assert!(&rt; exchange.failures() == 0);
     Ok(())
 }
 
