@@ -7,7 +7,7 @@ use keep_exchange::{Exchange, ExchangeFault, can_carry};
 use std::alloc::Global;
 use std::process::Abort;
 use std::test::Fail;
-use vault_http::HttpFault;
+use vault_http::{Device as _, HttpFault};
 
 /// The first renewal of the web example and its reply.
 const WIRE: &[u8] =
