@@ -9,7 +9,6 @@ use Rattle.watch_machine.specs.declared.notes.Link.{Link}
 use Rattle.watch_machine.specs.declared.notes.Link.TheVariants.{Away, Back}
 use Rattle.watch_machine.specs.declared.track.Track.{Track}
 use Rattle.watch_machine.specs.declared.track.Try.{Try}
-use Rattle.watch_machine.specs.Beginning.{hastened}
 use Rattle.watch_machine.specs.Lines.{rested}
 use Rattle.watch_machine.specs.Settling.{is_real}
 use Rattle.watch_machine.specs.State.{WatchState, each}
@@ -17,10 +16,6 @@ use Rattle.watch_machine.specs.State.{WatchState, each}
 -- a try that failed: what is asked next, whether no answer came or the broker was busy, and whether others were answered meanwhile
 abbrev pub failing : Try → Operation → Bool → Bool → Try
 failing t next lost alone = record t { operation = next; base = None; fails = min 20 (t.fails + 1); lost = lost; alone = alone; failed = true }
-
--- the broker was busy: this counts as the first failure
-abbrev pub busied : Try → Operation → Try
-busied t next = record (failing t next true false) { fails = 1 }
 
 -- the state with another track of i
 abbrev pub with_track : WatchState → ℕ → Track → WatchState
@@ -34,10 +29,15 @@ without_request i out = filter (λ r. not (r.entry == i)) out
 abbrev pub heard : Out → Out
 heard r = record r { heard = true }
 
+-- a try that was lost is due at once, but no sooner than its entry has rested: it pauses no longer, and one that failed since the
+-- last clock does not begin to
+abbrev pub due_again : Try → ℕ → Try
+due_again t from = record t { at = if t.failed then from else min t.at from; failed = false }
+
 -- the broker is there again: what was lost is due at once, and what is out was asked in the absence, so that it is no failure
 abbrev pub back_try : Track → Option Try → Option Try
 back_try x None = None
-back_try x (Some t) = if x.out then Some (record t { fails = 0 }) else (if t.lost then Some (hastened t (rested x.last)) else Some t)
+back_try x (Some t) = if x.out then Some (record t { fails = 0 }) else (if t.lost then Some (due_again t (rested x.last)) else Some t)
 
 unfoldable pub back_track : Track → Track
 back_track x = record x { attempt = back_try x x.attempt }

@@ -21,7 +21,7 @@ later_at away x t = if away && t.lost then min t.at (rested x.last) else t.at
 
 -- the moment from which on a try may go out
 unfoldable pub ready : Presence → Track → Try → ℕ
-ready p x t = max p.free (if is_first t then t.at else max p.hold (later_at p.away x t))
+ready p x t = if is_first t then t.at else max p.hold (later_at p.away x t)
 
 abbrev pub is_due_try : Presence → ℕ → Track → Option Try → Bool
 is_due_try p at x None = false

@@ -13,7 +13,7 @@ use Rattle.watch_machine.specs.declared.lanes.Out.{Out}
 use Rattle.watch_machine.specs.declared.track.End.TheVariants.{At, Never}
 use Rattle.watch_machine.specs.declared.track.Track.{Track}
 use Rattle.watch_machine.specs.declared.track.Try.{Try}
-use Rattle.watch_machine.specs.Answers.{busied, failing, with_track}
+use Rattle.watch_machine.specs.Answers.{failing, with_track}
 use Rattle.watch_machine.specs.Clocks.{sec}
 use Rattle.watch_machine.specs.Margins.{has_come}
 use Rattle.watch_machine.specs.State.{WatchState, entry_of, second, track_at}
@@ -95,7 +95,7 @@ status_of Lost = None
 abbrev pub untold_try : ℕ → Bool → Reply → Track → Try → Try
 untold_try at heard (Told seconds renewable date) x t = t
 untold_try at heard (Refused status date) x t = refused_try at x t
-untold_try at heard Busy x t = busied t (after_look (sec at) x t)
+untold_try at heard Busy x t = failing t (after_look (sec at) x t) true false
 untold_try at heard Lost x t = failing t (after_look (sec at) x t) true heard
 
 abbrev pub untold : ℕ → Bool → Reply → Track → Option Try → Option Try

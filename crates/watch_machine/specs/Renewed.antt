@@ -12,7 +12,7 @@ use Rattle.watch_machine.specs.declared.track.End.TheVariants.{Unknown, At, Neve
 use Rattle.watch_machine.specs.declared.track.Grant.{Grant}
 use Rattle.watch_machine.specs.declared.track.Track.{Track}
 use Rattle.watch_machine.specs.declared.track.Try.{Try}
-use Rattle.watch_machine.specs.Answers.{busied, failing, with_track}
+use Rattle.watch_machine.specs.Answers.{failing, with_track}
 use Rattle.watch_machine.specs.Beginning.{owed}
 use Rattle.watch_machine.specs.Clocks.{sec}
 use Rattle.watch_machine.specs.Margins.{own_by}
@@ -60,14 +60,15 @@ granted_from step at seconds renewable from x = record x {
 abbrev pub granted : ℕ → ℕ → ℕ → ℕ → ℕ → Bool → Track → Track
 granted margin step at since seconds renewable x = granted_from step at seconds renewable (from_try margin step seconds at since x.attempt) x
 
--- what is asked after a renewal that had no answer: a lookup where one is owed or the end is not ahead
+-- what is asked after a renewal that had no answer: a renewal again while the end is ahead, also where a lookup is owed, which follows
+-- the grant; else a lookup
 abbrev pub after_renewal : ℕ → Track → Operation
-after_renewal now x = if x.owes || not (is_alive now x) then Look else Renew
+after_renewal now x = if is_alive now x then Renew else Look
 
 abbrev pub ungranted_try : ℕ → Bool → Reply → Track → Try → Try
 ungranted_try at heard (Told seconds renewable date) x t = t
 ungranted_try at heard (Refused status date) x t = failing t Look false false
-ungranted_try at heard Busy x t = busied t (after_renewal (sec at) x)
+ungranted_try at heard Busy x t = failing t (after_renewal (sec at) x) true false
 ungranted_try at heard Lost x t = failing t (after_renewal (sec at) x) true heard
 
 abbrev pub ungranted : ℕ → Bool → Reply → Track → Option Try → Option Try

@@ -16,18 +16,12 @@ use Rattle.watch_machine.specs.Pauses.{cap, doubled, pause}
 use Rattle.watch_machine.specs.State.{WatchState, each}
 use Rattle.watch_machine.specs.Wanted.{least}
 
--- the reply shows that the broker is there; and that it has no time
+-- the reply shows that the broker is there
 abbrev pub is_real : Reply → Bool
 is_real (Told seconds renewable date) = true
 is_real (Refused status date) = true
 is_real Busy = true
 is_real Lost = false
-
-abbrev pub is_busy : Reply → Bool
-is_busy (Told seconds renewable date) = false
-is_busy (Refused status date) = false
-is_busy Busy = true
-is_busy Lost = false
 
 abbrev pub date_of : Reply → Option ℕ
 date_of (Told seconds renewable date) = date
@@ -136,14 +130,9 @@ held_back margin at xs answers p =
     then record p { count = count_after at p; hold = hold_after margin at xs p }
     else p
 
--- nothing goes out for a second after the broker was busy
+-- what the answers since the last clock say of the broker
 unfoldable pub presence_after : ℕ → ℕ → List Track → List Answer → Presence → Presence
-presence_after margin at xs answers p =
-    let q = held_back margin at xs answers p in
-    record q {
-      free = if list_any (λ a. is_busy a.reply) answers then at + 1000 else p.free;
-      pace = pace_after at p.pace answers;
-    }
+presence_after margin at xs answers p = record (held_back margin at xs answers p) { pace = pace_after at p.pace answers }
 
 -- the state after step 1 of a clock
 abbrev pub timed : WatchState → ℕ → ℕ → WatchState

@@ -60,7 +60,7 @@ fresh_track e = record { end = Unknown; renewable = e.renewable; top = false; gr
 
 -- the broker is there, and nothing is held back
 abbrev pub broker_present : Presence
-broker_present = record { away = false; count = 0; hold = 0; free = 0; pace = 0 }
+broker_present = record { away = false; count = 0; hold = 0; pace = 0 }
 
 -- the state of a new watch
 abbrev pub opened : Forest → ℕ → WatchState

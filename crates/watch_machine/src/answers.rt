@@ -1,10 +1,9 @@
 ghost use Rattle.std.specs.Prelude.{◌≡◌, ℕ, Some, map, min};
 ghost use Rattle.watch_machine.specs.code.Bounds.{IsTrack, IsTry, WentOutAtReading};
 ghost use Rattle.std.specs.List.{All};
-ghost use Rattle.watch_machine.specs.Answers.{back_track, back_try, busied, failing, heard, is_back, link, presence_gone, without_request};
+ghost use Rattle.watch_machine.specs.Answers.{back_track, back_try, due_again, failing, heard, is_back, link, presence_gone, without_request};
 ghost use Rattle.watch_machine.specs.State.{each};
 
-use crate::beginning::hastened;
 use crate::event::Operation;
 use crate::lanes::{Out, Presence};
 use crate::lines::rested;
@@ -24,17 +23,6 @@ pub(crate) fn failing(attempt: Try, next: Operation, lost: bool, alone: bool) ->
         alone,
         failed: true,
         ..attempt
-    }
-}
-
-/// A try to which the broker was too busy: this counts as the first failure.
-pub(crate) fn busied(attempt: Try, next: Operation) -> Try
-    ensures value { result ≡ busied attempt next }
-    ensures bounds { IsTry result }
-{
-    Try {
-        fails: 1,
-        ..failing(attempt, next, true, false)
     }
 }
 
@@ -70,6 +58,26 @@ pub(crate) fn hear_all(out: &mut [Out])
     }
 }
 
+/// A try that was lost, due at once, but no sooner than its entry has rested: it pauses no longer, and one that failed since the
+/// last clock does not begin to.
+fn due_again(attempt: Try, from: Millis) -> Try
+    requires from { from ≤ READING_MAX + 1000 }
+    requires attempt { IsTry attempt }
+    ensures value { result ≡ due_again attempt from }
+    ensures bounds { IsTry result }
+{
+    let at = if attempt.failed {
+        from
+    } else {
+        attempt.at.min(from)
+    };
+    Try {
+        at,
+        failed: false,
+        ..attempt
+    }
+}
+
 /// An entry when the broker is there again: what was lost is due at once, and what is out was asked in the absence, so that it is
 /// no failure.
 #[tactic(auto, unfolding(crate::specs::Answers::back_track))]
@@ -97,7 +105,7 @@ fn back_try(track: Track, attempt: Try) -> Try
             ..attempt
         }
     } else if attempt.lost {
-        hastened(attempt, rested(track.last))
+        due_again(attempt, rested(track.last))
     } else {
         attempt
     }

@@ -31,8 +31,6 @@ pub struct Presence {
     pub count: u32,
     /// Until when later tries are held back.
     pub hold: Millis,
-    /// Until when every try is.
-    pub free: Millis,
     /// How long answers take.
     pub pace: u32,
 }

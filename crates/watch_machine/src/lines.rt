@@ -45,10 +45,10 @@ pub(crate) fn ready(presence: Presence, track: Track, attempt: Try) -> Millis
     ensures { result ≡ ready presence track attempt }
 {
     if is_first(attempt) {
-        return presence.free.max(attempt.at);
+        attempt.at
+    } else {
+        presence.hold.max(later_at(presence.away, track, attempt))
     }
-    let later = later_at(presence.away, track, attempt);
-    presence.free.max(presence.hold.max(later))
 }
 
 /// Whether an entry is not out, and has a try that may go out now.

@@ -7,7 +7,7 @@ ghost use Rattle.watch_machine.specs.Looked.{after_look, at_once, is_called_for,
 ghost use Rattle.watch_machine.specs.State.{entry_of, track_at};
 ghost use Rattle.watch_machine.specs.Step.{notes_of, notes_told, notes_untold};
 
-use crate::answers::{busied, failing};
+use crate::answers::failing;
 use crate::event::{Operation, Reply, Terms};
 use crate::lanes::Out;
 use crate::margins::has_come;
@@ -133,11 +133,8 @@ fn untold_try(track: Track, attempt: Try, reply: Reply, at: Millis, heard: bool)
     match reply {
         Reply::Told { .. } => attempt,
         Reply::Refused { .. } => refused_try(track, attempt, at),
-        Reply::Busy => busied(attempt, after_look(track, attempt, second(at))),
-        Reply::Lost => {
-            let next = after_look(track, attempt, second(at));
-            failing(attempt, next, true, heard)
-        }
+        Reply::Busy => failing(attempt, after_look(track, attempt, second(at)), true, false),
+        Reply::Lost => failing(attempt, after_look(track, attempt, second(at)), true, heard),
     }
 }
 

@@ -5,7 +5,7 @@ ghost use Rattle.keep_tree.specs.declared.forest.TheConstants.{END_MAX};
 ghost use Rattle.watch_machine.specs.Clocks.{sec};
 ghost use Rattle.watch_machine.specs.Renewed.{after_renewal, end_at, from_base, from_try, granted, granted_from, granted_try, is_no_further, renewed_track, state_renewed, time_from, top_by, track_renewed, ungranted_track, ungranted_try};
 
-use crate::answers::{busied, failing};
+use crate::answers::failing;
 use crate::beginning::owed;
 use crate::event::{Operation, Reply};
 use crate::lanes::Out;
@@ -163,14 +163,15 @@ fn granted(granting: Granting, renewable: bool, track: Track) -> Track
     )
 }
 
-/// What is asked after a renewal that had no answer: a lookup where one is owed or the end is not ahead.
+/// What is asked after a renewal that had no answer: a renewal again while the end is ahead, also where a lookup is owed, which
+/// follows the grant; else a lookup.
 fn after_renewal(track: Track, now: u64) -> Operation
     ensures { result ≡ after_renewal now track }
 {
-    if track.owes || !is_alive(track, now) {
-        Operation::Look
-    } else {
+    if is_alive(track, now) {
         Operation::Renew
+    } else {
+        Operation::Look
     }
 }
 
@@ -183,11 +184,8 @@ fn ungranted_try(track: Track, attempt: Try, reply: Reply, at: Millis, heard: bo
     match reply {
         Reply::Told { .. } => attempt,
         Reply::Refused { .. } => failing(attempt, Operation::Look, false, false),
-        Reply::Busy => busied(attempt, after_renewal(track, second(at))),
-        Reply::Lost => {
-            let next = after_renewal(track, second(at));
-            failing(attempt, next, true, heard)
-        }
+        Reply::Busy => failing(attempt, after_renewal(track, second(at)), true, false),
+        Reply::Lost => failing(attempt, after_renewal(track, second(at)), true, heard),
     }
 }
 

@@ -5,7 +5,7 @@ ghost use Rattle.std.specs.List.{All};
 ghost use Rattle.std.specs.List.{list_any};
 ghost use Rattle.keep_moment.specs.declared.moment.TheConstants.{LAST};
 ghost use Rattle.watch_machine.specs.Clocks.{is_ahead};
-ghost use Rattle.watch_machine.specs.Settling.{count_after, date_of, dated, dated_by_all, dated_on, held, held_back, held_by, hold_after, is_busy, is_real, is_silent, is_step, pace_after, paced, presence_after, settled_track, settled_try, steps, took};
+ghost use Rattle.watch_machine.specs.Settling.{count_after, date_of, dated, dated_by_all, dated_on, held, held_back, held_by, hold_after, is_real, is_silent, is_step, pace_after, paced, presence_after, settled_track, settled_try, steps, took};
 ghost use Rattle.watch_machine.specs.State.{each};
 ghost use Rattle.watch_machine.specs.declared.lanes.Answer.{Answer};
 
@@ -34,15 +34,6 @@ pub(crate) fn is_real(reply: Reply) -> bool
     match reply {
         Reply::Told { .. } | Reply::Refused { .. } | Reply::Busy => true,
         Reply::Lost => false,
-    }
-}
-
-fn is_busy(reply: Reply) -> bool
-    ensures { result ≡ is_busy reply }
-{
-    match reply {
-        Reply::Busy => true,
-        Reply::Told { .. } | Reply::Refused { .. } | Reply::Lost => false,
     }
 }
 
@@ -259,18 +250,11 @@ fn is_any_silent(answers: &[Answer]) -> bool
     answers.iter().any(|answer| is_silent(*answer))
 }
 
-/// Whether the broker was busy.
-fn is_any_busy(answers: &[Answer]) -> bool
-    ensures { result ≡ list_any (λ (a : Answer). is_busy a.reply) answers.now }
-{
-    answers.iter().any(|answer| is_busy(answer.reply))
-}
-
 /// Whether these answers may change until when tries are held back.
 pub(crate) fn is_holding(answers: &[Answer], presence: Presence) -> bool
-    ensures { result ≡ (list_any (λ (a : Answer). is_busy a.reply) answers.now || (presence.away && list_any is_silent answers.now)) }
+    ensures { result ≡ (presence.away && list_any is_silent answers.now) }
 {
-    is_any_busy(answers) || (presence.away && is_any_silent(answers))
+    presence.away && is_any_silent(answers)
 }
 
 /// The presence after these answers, but for how long answers take.
@@ -286,7 +270,7 @@ fn held_back(
     requires tracks { All IsTrack tracks.now }
     ensures { result ≡ held_back margin at tracks.now answers.now presence }
 {
-    if !(presence.away && is_any_silent(answers)) {
+    if !is_holding(answers, presence) {
         return presence;
     }
     Presence {
@@ -309,13 +293,7 @@ pub(crate) fn presence_after(
     requires tracks { All IsTrack tracks.now }
     ensures { result ≡ presence_after margin at tracks.now answers.now presence }
 {
-    let free = if is_any_busy(answers) {
-        at + 1000
-    } else {
-        presence.free
-    };
     Presence {
-        free,
         pace: pace_after(at, presence.pace, answers),
         ..held_back(margin, at, tracks, answers, presence)
     }

@@ -97,7 +97,6 @@ fn present() -> Presence
         away: false,
         count: 0,
         hold: 0,
-        free: 0,
         pace: 0,
     }
 }
