@@ -107,7 +107,7 @@ opened_base g width = record {
   alone = record { once = λ j. omega arith };
   tries = first_tries g.entries;
   count = length-map g.entries fresh_track;
-  past = record { start = λ none. refl; free = omega arith; hold = λ there. refl; last = λ i. let l = first_past g.entries i in omega (arith, l) };
+  past = record { start = λ none. refl; hold = λ there. refl; last = λ i. let l = first_past g.entries i in omega (arith, l) };
   within = All-nil (λ (q : Out). q.entry < length g.entries);
   since = All-nil (λ (q : Out). q.since ≤ 0);
 }

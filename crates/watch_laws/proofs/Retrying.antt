@@ -32,7 +32,7 @@ use Rattle.watch_machine.specs.Refusal.{request_out}
 use Rattle.watch_machine.specs.Renewed.{granted_from, renewed_track, state_renewed, ungranted_track}
 use Rattle.watch_machine.specs.Round.{asked_by_round as round_of}
 use Rattle.watch_machine.specs.Sending.{sent, sent_in, sent_track}
-use Rattle.watch_machine.specs.Settling.{count_after, held, held_back, held_by, held_try, hold_after, is_busy, is_real, is_silent, presence_after, settled, settled_track, settled_try, timed}
+use Rattle.watch_machine.specs.Settling.{count_after, held, held_back, held_by, held_try, hold_after, is_real, is_silent, presence_after, settled, settled_track, settled_try, timed}
 use Rattle.watch_machine.specs.State.{WatchState, attempt_at, fresh_track, no_track, opened, track_at, track_in}
 use Rattle.watch_machine.specs.Step.{Step, StepClock, StepLooked, StepRenewed, known, readied, why}
 use Rattle.watch_machine.specs.Wanted.{is_open, least, need_of, wants}
@@ -47,11 +47,9 @@ use Rattle.watch_laws.proofs.Minding.{some_within}
 use Rattle.watch_laws.proofs.Resting.{cap_above}
 use Rattle.watch_laws.proofs.Tracking.{back_kept, each_holds, each_kept, set_kept}
 
--- the bounds that every turn keeps: the broker is spared for a second at most, nothing was asked later than now, and nothing is held back
--- while the broker is there
+-- the bounds that every turn keeps: nothing was asked later than now, and nothing is held back while the broker is there
 pub record IsPast (s : WatchState) : Type 0 where
   pub start : is_none s.begun ≡ true → s.clocks.at ≡ 0
-  pub free : s.presence.free ≤ s.clocks.at + 1000
   pub hold : s.presence.away ≡ false → s.presence.hold ≡ 0
   pub last : (i : ℕ) → rested (track_at s i).last ≤ s.clocks.at + 1000
 
@@ -63,10 +61,6 @@ rises s wall elapsed start =
     ]
 
 -- a clock's presence
-freed : (margin at : ℕ) (xs : List Track) (answers : List Answer) (p : Presence) → p.free ≤ at + 1000 → (presence_after margin at xs answers p).free ≤ at + 1000
-unfolding presence_after
-freed margin at xs answers p h = if_both (λ n. n ≤ at + 1000) (list_any (λ a. is_busy a.reply) answers) (at + 1000) p.free (omega arith) h
-
 pub held_to : (margin at : ℕ) (xs : List Track) (answers : List Answer) (p : Presence) →
     ((p.away && list_any is_silent answers ≡ true) × ((n : ℕ) × ((presence_after margin at xs answers p).hold ≤ at + held margin at xs n)))
     ⊎ ((p.away && list_any is_silent answers ≡ false) × ((presence_after margin at xs answers p).hold ≡ p.hold))
@@ -273,32 +267,30 @@ unfolding pause
 pause_within margin at x t = omega arith
 
 -- a try may go by a bound of all that holds it back
-pub ready_first : (p : Presence) (x : Track) (u : Try) (most : ℕ) → is_first u ≡ true → p.free ≤ most → u.at ≤ most → ready p x u ≤ most
+pub ready_first : (p : Presence) (x : Track) (u : Try) (most : ℕ) → is_first u ≡ true → u.at ≤ most → ready p x u ≤ most
 unfolding ready
-ready_first p x u most first free at =
+ready_first p x u most first at =
     let is = cond-true (is_first u) u.at (max p.hold (later_at p.away x u)) first in
-    omega (arith, is, free, at)
+    omega (arith, is, at)
 
-pub ready_later : (p : Presence) (x : Track) (u : Try) (most : ℕ) → p.free ≤ most → p.hold ≤ most → u.at ≤ most → ready p x u ≤ most
+pub ready_later : (p : Presence) (x : Track) (u : Try) (most : ℕ) → p.hold ≤ most → u.at ≤ most → ready p x u ≤ most
 unfolding ready
-ready_later p x u most free hold at =
+ready_later p x u most hold at =
     let later : later_at p.away x u ≤ most = if_both (λ n. n ≤ most) (p.away && u.lost) (min u.at (rested x.last)) u.at (omega (arith, at)) at in
-    let both : (if is_first u then u.at else max p.hold (later_at p.away x u)) ≤ most = if_both (λ n. n ≤ most) (is_first u) u.at (max p.hold (later_at p.away x u)) at (omega (arith, hold, later)) in
-    omega (arith, free, both)
+    if_both (λ n. n ≤ most) (is_first u) u.at (max p.hold (later_at p.away x u)) at (omega (arith, hold, later))
 
 -- the try of an entry that failed, by what the clock found
 soon_or_held :
     (margin at : ℕ) (xs : List Track) (answers : List Answer) (p : Presence) (i : ℕ) (y : Track) (t u : Try) → i < length xs → (track_in xs i).attempt ≡ Some t → y.end ≡ (track_in xs i).end →
-    u.pressed ≡ true → Comes at (pause margin at (track_in xs i) t) t u → p.free ≤ at + 1000 → (p.away ≡ false → p.hold ≡ 0) →
+    u.pressed ≡ true → Comes at (pause margin at (track_in xs i) t) t u → (p.away ≡ false → p.hold ≡ 0) →
     (ready (presence_after margin at xs answers p) y u ≤ at + cap margin at y u)
     ⊎ ((list_any is_silent answers ≡ false) × (ready (presence_after margin at xs answers p) y u ≤ p.hold))
-soon_or_held margin at xs answers p i y t u within is end pressed' comes free hold =
+soon_or_held margin at xs answers p i y t u within is end pressed' comes hold =
     let q = presence_after margin at xs answers p in
     let x = track_in xs i in
     let second' = cap_second margin at y u in
-    let spared = freed margin at xs answers p free in
     elim comes as (λ _. (ready q y u ≤ at + cap margin at y u) ⊎ ((list_any is_silent answers ≡ false) × (ready q y u ≤ p.hold))) [
-      | inl first ↦ (let l = first.0 in inl (ready_first q y u (at + cap margin at y u) first.1 (omega (arith, spared, second')) (omega (arith, l, second'))))
+      | inl first ↦ (let l = first.0 in inl (ready_first q y u (at + cap margin at y u) first.1 (omega (arith, l, second'))))
       | inr kept ↦
           let most = cap_same margin at y x u t end kept.0 in
           let paused = pause_within margin at x t in
@@ -307,7 +299,7 @@ soon_or_held margin at xs answers p i y t u within is end pressed' comes free ho
             | inl sets ↦
                 let less = held_least margin at xs sets.1.0 i t within is (sym kept.1.0 ∙ pressed') in
                 let h = sets.1.1 in
-                inl (ready_later q y u (at + cap margin at y u) (omega (arith, spared, second')) (omega (arith, h, less, most)) (omega (arith, l, paused, most)))
+                inl (ready_later q y u (at + cap margin at y u) (omega (arith, h, less, most)) (omega (arith, l, paused, most)))
             | inr stays ↦
                 let h = stays.1 in
                 elim (cases_lt (at + cap margin at y u) p.hold) as (λ _. (ready q y u ≤ at + cap margin at y u) ⊎ ((list_any is_silent answers ≡ false) × (ready q y u ≤ p.hold))) [
@@ -318,9 +310,9 @@ soon_or_held margin at xs answers p i y t u within is end pressed' comes free ho
                               | inl away ↦ absurd (not_both (and_from p.away (list_any is_silent answers) away silent') stays.0)
                               | inr there ↦ (let none = hold there in absurd (omega (arith, none, longer)))
                             ]
-                        | inr quiet ↦ inr (quiet, ready_later q y u p.hold (omega (arith, spared, second', longer)) (omega (arith, h)) (omega (arith, l, paused, most, longer)))
+                        | inr quiet ↦ inr (quiet, ready_later q y u p.hold (omega (arith, h)) (omega (arith, l, paused, most, longer)))
                       ]
-                  | inr shorter ↦ inl (ready_later q y u (at + cap margin at y u) (omega (arith, spared, second')) (omega (arith, h, shorter)) (omega (arith, l, paused, most)))
+                  | inr shorter ↦ inl (ready_later q y u (at + cap margin at y u) (omega (arith, h, shorter)) (omega (arith, l, paused, most)))
                 ]
           ]
     ]
@@ -358,11 +350,9 @@ clock_retries old new wall elapsed output i t u step past is failed after presse
     let n = sent (pressed ready' (round_of step.round)) go.0 in
     let at = (timed old wall elapsed).clocks.at in
     let three = readied_retried old wall elapsed (round_of step.round) go.0 i t is failed past in
-    let up = rises old wall elapsed past.start in
-    let free = past.free in
     let there : attempt_at n i ≡ Some u = ap (λ (x : WatchState). attempt_at x i) (sym go.1) ∙ after in
     let all = soon_or_held old.forest.margin at old.tracks old.answers old.presence i (track_at n i) t u (some_within old.tracks i t is) is three.1.0 pressed' (three.0.comes u there pressed')
-    (omega (arith, up, free)) past.hold in
+    past.hold in
     subst (λ (x : WatchState). IsSoon x i u ⊎ IsHeldBack old x i u) (sym go.1)
     (subst (λ (g : Forest). (ready n.presence (track_at n i) u ≤ n.clocks.at + cap g.margin n.clocks.at (track_at n i) u) ⊎ IsHeldBack old n i u) (sym three.1.1)
     (subst (λ c. (ready n.presence (track_at n i) u ≤ c.at + cap old.forest.margin c.at (track_at n i) u) ⊎ IsHeldBack old n i u) (sym (readied_clocks old wall elapsed))
@@ -447,10 +437,8 @@ clock_past old new wall elapsed output step past =
     let up = rises old wall elapsed past.start in
     let clock : new.clocks.at ≡ at = ap (λ (x : WatchState). x.clocks.at) go.1 ∙ ap (λ c. c.at) (readied_clocks old wall elapsed) in
     let presence : new.presence ≡ presence_after old.forest.margin at old.tracks old.answers old.presence = ap (λ (x : WatchState). x.presence) go.1 ∙ ready_presence old wall elapsed in
-    let low = past.free in
     record {
       start = λ none. absurd (not_both none (ap (λ (x : WatchState). is_none x.begun) go.1 ∙ begun_some old wall elapsed));
-      free = let f = freed old.forest.margin at old.tracks old.answers old.presence (omega (arith, up, low)) in let e = ap (λ (p : Presence). p.free) presence in omega (arith, f, e, clock);
       hold = λ there. ap (λ (p : Presence). p.hold) presence ∙ held_none old.forest.margin at old.tracks old.answers old.presence past.hold (sym (ap (λ (p : Presence). p.away) presence) ∙ there);
       last = λ i.
           let l = past.last i in
@@ -468,13 +456,6 @@ back_last : (x : Track) → SameLast (back_track x) x
 unfolding back_track
 back_last x = refl
 
-pub replied_free : (s : WatchState) (q : Out) (reply : Reply) → (replied s q reply).presence.free ≡ s.presence.free
-replied_free s q reply =
-    let free = lane_freed s q in
-    if_both (λ (t : WatchState). t.presence.free ≡ s.presence.free) (is_real reply) (answers_all free) (if q.heard then free else silent free)
-    (if_both (λ (t : WatchState). t.presence.free ≡ s.presence.free) s.presence.away _ _ refl refl)
-    (if_both (λ (t : WatchState). t.presence.free ≡ s.presence.free) q.heard free (silent free) refl (if_both (λ (t : WatchState). t.presence.free ≡ s.presence.free) s.presence.away _ _ refl refl))
-
 replied_hold : (s : WatchState) (q : Out) (reply : Reply) → (s.presence.away ≡ false → s.presence.hold ≡ 0) → (replied s q reply).presence.away ≡ false → (replied s q reply).presence.hold ≡ 0
 replied_hold s q reply h =
     let free = lane_freed s q in
@@ -483,11 +464,10 @@ replied_hold s q reply h =
     (if_both (λ (t : WatchState). t.presence.away ≡ false → t.presence.hold ≡ 0) q.heard free (silent free) h
     (if_both (λ (t : WatchState). t.presence.away ≡ false → t.presence.hold ≡ 0) s.presence.away _ _ h (λ there. refl)))
 
-left_past : (old new : WatchState) → rest_of new ≡ rest_of old → new.presence.free ≡ old.presence.free → (new.presence.away ≡ false → new.presence.hold ≡ 0) → ((i : ℕ) → SameLast (track_at new i) (track_at old i)) → IsPast old → IsPast new
-left_past old new rest free hold last past =
+left_past : (old new : WatchState) → rest_of new ≡ rest_of old → (new.presence.away ≡ false → new.presence.hold ≡ 0) → ((i : ℕ) → SameLast (track_at new i) (track_at old i)) → IsPast old → IsPast new
+left_past old new rest hold last past =
     let clock = ap (λ (x : WatchState). x.clocks.at) rest in record {
       start = λ none. clock ∙ past.start (sym (ap (λ (x : WatchState). is_none x.begun) rest) ∙ none);
-      free = let f = past.free in omega (arith, f, free, clock);
       hold = hold;
       last = λ i. let l = past.last i in let e = ap rested (last i) in omega (arith, l, e, clock);
     }
@@ -522,7 +502,7 @@ renewed_last s q Lost i = set_kept SameLast (λ x. refl) s.tracks q.entry _ refl
 
 answer_past : (old mid new : WatchState) (q : Out) (reply : Reply) → new ≡ replied mid q reply → rest_of new ≡ rest_of old → mid.presence ≡ old.presence → ((i : ℕ) → SameLast (track_at mid i) (track_at old i)) → IsPast old → IsPast new
 answer_past old mid new q reply is rest presence last past =
-    left_past old new rest (ap (λ (x : WatchState). x.presence.free) is ∙ replied_free mid q reply ∙ ap (λ (p : Presence). p.free) presence)
+    left_past old new rest
     (subst (λ (x : WatchState). x.presence.away ≡ false → x.presence.hold ≡ 0) (sym is)
     (replied_hold mid q reply (subst (λ (p : Presence). p.away ≡ false → p.hold ≡ 0) (sym presence) past.hold)))
     (λ i. subst (λ (x : WatchState). SameLast (track_at x i) (track_at mid i)) (sym is) (back_kept SameLast (λ x. refl) (λ x. back_last x) mid q reply i) ∙ last i) past
@@ -546,12 +526,11 @@ step_past : (old new : WatchState) (event : Event) (output : Output) → Step ol
 step_past old new (Clock wall elapsed) output step past = clock_past old new wall elapsed output step past
 step_past old new (Looked j reply terms) output step past = looked_past old new (request_out old.out j Look) reply terms output step past
 step_past old new (Renewed j reply) output step past = renewed_past old new (request_out old.out j Renew) reply output step past
-step_past old new (Need j until) output step past = subst IsPast (sym step.1) (record { start = past.start; free = past.free; hold = past.hold; last = past.last })
-step_past old new Begin output step past = subst IsPast (sym step.1) (record { start = past.start; free = past.free; hold = past.hold; last = past.last })
+step_past old new (Need j until) output step past = subst IsPast (sym step.1) (record { start = past.start; hold = past.hold; last = past.last })
+step_past old new Begin output step past = subst IsPast (sym step.1) (record { start = past.start; hold = past.hold; last = past.last })
 step_past old new (Known j end renewable) output step past =
     subst IsPast (sym step.1) (record {
       start = past.start;
-      free = past.free;
       hold = past.hold;
       last = λ i. let l = past.last i in let e = ap rested (known_last old j end renewable i) in omega (arith, l, e);
     })
@@ -573,7 +552,7 @@ first_past (e ∷ es) zero = omega arith
 first_past (e ∷ es) (suc i) = first_past es i
 
 opened_past : (g : Forest) (width : ℕ) → IsPast (opened g width)
-opened_past g width = record { start = λ none. refl; free = omega arith; hold = λ there. refl; last = λ i. let l = first_past g.entries i in omega (arith, l) }
+opened_past g width = record { start = λ none. refl; hold = λ there. refl; last = λ i. let l = first_past g.entries i in omega (arith, l) }
 
 pub retried : RetryLaw
 retried g width turns run = ran turns (opened g width) run (opened_past g width)

@@ -19,7 +19,7 @@ use Rattle.watch_machine.specs.Lines.{rested}
 use Rattle.watch_machine.specs.Margins.{is_in_plan}
 use Rattle.watch_machine.specs.Outlook.{time_of}
 use Rattle.watch_machine.specs.Refusal.{request_out}
-use Rattle.watch_machine.specs.Settling.{is_busy, timed}
+use Rattle.watch_machine.specs.Settling.{timed}
 use Rattle.watch_machine.specs.State.{WatchState, attempt_at, entry_of, second, track_at}
 use Rattle.watch_machine.specs.Step.{why}
 use Rattle.watch_machine.specs.Wanted.{believed, is_wanted, least}
@@ -60,7 +60,7 @@ outage_next_after o (Err fault) s due = due
 abbrev pub IsReplyInOutage : Outage → Reply → Out → Type 0
 IsReplyInOutage o (Told seconds renewable date) q = Unit {0}
 IsReplyInOutage o (Refused status date) q = Unit {0}
-IsReplyInOutage o Busy q = ⊥
+IsReplyInOutage o Busy q = Unit {0}
 IsReplyInOutage o Lost q = is_request_whole o q.since ≡ false
 
 -- what happens until i is granted: a clock in time, at which nothing begins anew; replies, of which those to renewals of i are lost; and
@@ -142,9 +142,8 @@ pub record IsBefore (s : WatchState) (i : ℕ) : Type 0 where
   pub wanted : is_wanted s i ≡ true
   pub in_plan : is_in_plan s.forest.margin (entry_of s i) (track_at s i) ≡ true
   pub idle : attempt_at s i ≡ None
-  pub owes : (track_at s i).owes ≡ false
   pub ahead : second s < time_of s i
-  pub rested : max s.presence.free (rested (track_at s i).last) ≤ ms (time_of s i)
+  pub rested : rested (track_at s i).last ≤ ms (time_of s i)
 
 -- the clock at which the last request of i went out, the one that was granted
 abbrev pub clock_asked_at : Option ℕ → ℕ
@@ -154,7 +153,7 @@ clock_asked_at (Some at) = at
 abbrev pub granted_at : WatchState → ℕ → ℕ
 granted_at s i = clock_asked_at (track_at s i).last
 
--- a renewal of i is granted, and its time is ahead after it. No answer since the last clock says that the broker is busy
+-- a renewal of i is granted, and its time is ahead after it
 pub record IsGrant (turn : Turned) (i : ℕ) : Type 0 where
   pub seconds : ℕ
   pub renewable : Bool
@@ -162,7 +161,6 @@ pub record IsGrant (turn : Turned) (i : ℕ) : Type 0 where
   pub told : turn.event ≡ Renewed i (Told seconds renewable date)
   pub taken : is_event_taken turn.result ≡ true
   pub before : IsBefore turn.state i
-  pub calm : list_any (λ a. is_busy a.reply) turn.state.answers ≡ false
 
 -- by when the next clock is handed in after it: no later than after that request, or any that is out, is settled, but for so much
 abbrev pub granted_next : Outage → WatchState → ℕ → ℕ
