@@ -26,9 +26,8 @@ use Rattle.watch_machine.proofs.Cases.{if_cases, of_value}
 use Rattle.watch_machine.proofs.Within.{out_all, out_entry}
 use Rattle.watch_laws.specs.Absence.{is_event_taken}
 use Rattle.watch_laws.specs.Time.{AheadLaw}
-use Rattle.watch_laws.proofs.Grounds.{opened_base, ran_base}
+use Rattle.watch_laws.proofs.Grounds.{first_turns, last_turns, opened_base, ran_base}
 use Rattle.watch_laws.proofs.Lasting.{Bears, back_bears, same_bears}
-use Rattle.watch_laws.proofs.Outliving.{first_turns, last_turns}
 use Rattle.watch_laws.proofs.Tracking.{back_kept, replied_forest}
 
 -- the second from which a grant counts leaves the time two seconds after that of the request

@@ -32,7 +32,7 @@ use Rattle.watch_laws.proofs.Lasting.{Same, no_look, same_time}
 use Rattle.watch_laws.proofs.Retrying.{replied_free}
 use Rattle.watch_laws.proofs.Sparing.{found_lane, looked_answers}
 use Rattle.watch_laws.proofs.Spacing.{after_flag, looked_other, looked_out, same_index}
-use Rattle.watch_laws.proofs.Stages.{Facts, IsBase, IsGoing, IsThrough, free_from}
+use Rattle.watch_laws.proofs.Stages.{Facts, IsGoing, IsThrough, free_from}
 
 -- an answer that was lived
 pub record IsReplied (f : Facts) (due : ℕ) (old mid new : WatchState) (q : Out) (reply : Reply) : Type 0 where

@@ -1,5 +1,5 @@
--- Grounds: what holds of every state of a history. For the laws of outages.
-use Rattle.std.proofs.Common.{◌≡◌, ◌∙◌, ℕ, ◌<◌, ◌≤◌, List, [], ◌∷◌, Option, Some, None, All, Result, Ok, Err, length, refl, sym, ap, subst, arith}
+-- Grounds: what holds of every state of a history, and how a history is taken apart. For the laws of recovery, starts and outages.
+use Rattle.std.proofs.Common.{◌≡◌, ◌∙◌, ℕ, ◌<◌, ◌≤◌, true, List, [], ◌∷◌, ◌++◌, Option, Some, None, All, Result, Ok, Err, length, refl, sym, ap, subst, arith, true≢false}
 use Rattle.std.proofs.lemmas.List.{length-map}
 use Rattle.std.proofs.lemmas.List.Elements.{All-nil, All-weaker}
 use Rattle.keep_tree.specs.Forest.{Forest}
@@ -20,17 +20,29 @@ use Rattle.watch_machine.specs.Refusal.{request_out}
 use Rattle.watch_machine.specs.Renewed.{state_renewed}
 use Rattle.watch_machine.specs.State.{WatchState, fresh_track, opened}
 use Rattle.watch_machine.specs.Step.{Step, StepLooked, StepRenewed, readied}
-use Rattle.watch_laws.proofs.Alone.{turn_alone}
+use Rattle.watch_machine.specs.Wait.{wait}
+use Rattle.watch_laws.specs.Absence.{is_clock, is_event_taken}
+use Rattle.watch_laws.specs.Outage.{Outage, outage_next_after, outage_next_after_command, outage_next_by}
+use Rattle.watch_laws.proofs.Alone.{IsAlone, turn_alone}
 use Rattle.watch_laws.proofs.Answering.{looked_leaves, renewed_leaves, rest_of}
 use Rattle.watch_laws.proofs.Clocking.{readied_clocks, refused_stays}
 use Rattle.watch_laws.proofs.Going.{entry_by}
 use Rattle.watch_laws.proofs.Lanes.{Ticks, all_left, all_sent, pressed_count, ticks}
-use Rattle.watch_laws.proofs.Owed.{first_tries, turn_outcome}
+use Rattle.watch_laws.proofs.Owed.{AllTry, first_tries, turn_outcome}
 use Rattle.watch_laws.proofs.Retrying.{IsPast, first_past, rises, turn_past}
 use Rattle.watch_laws.proofs.Spacing.{looked_out}
-use Rattle.watch_laws.proofs.Stages.{IsBase}
 use Rattle.watch_laws.proofs.Topping.{readied_count, turn_count}
-use Rattle.watch_laws.proofs.Width.{turn_fits}
+use Rattle.watch_laws.proofs.Width.{Fits, turn_fits}
+
+-- what holds of every state of a history
+pub record IsBase (width n : ℕ) (s : WatchState) : Type 0 where
+  pub fits : Fits width s
+  pub alone : IsAlone s
+  pub tries : AllTry s
+  pub count : length s.tracks ≡ n
+  pub past : IsPast s
+  pub within : All (λ (q : Out). q.entry < n) s.out
+  pub since : All (λ (q : Out). q.since ≤ s.clocks.at) s.out
 
 abbrev Bounds : ℕ → WatchState → Type 0
 Bounds n s = All (λ (q : Out). q.entry < n) s.out × All (λ (q : Out). q.since ≤ s.clocks.at) s.out
@@ -111,3 +123,37 @@ opened_base g width = record {
   within = All-nil (λ (q : Out). q.entry < length g.entries);
   since = All-nil (λ (q : Out). q.since ≤ 0);
 }
+
+-- the first turns, and the others
+pub first_turns : (xs ys : List Turned) (old : WatchState) → History old (xs ++ ys) → History old xs
+first_turns [] ys old h = tt
+first_turns (x ∷ xs) ys old h = (h.0, first_turns xs ys x.state h.1)
+
+pub last_turns : (xs ys : List Turned) (old : WatchState) → History old (xs ++ ys) → History (after_all old xs) ys
+last_turns [] ys old h = h
+last_turns (x ∷ xs) ys old h = last_turns xs ys x.state h.1
+
+-- the clock from which on it is lived
+pub record Starts (o : Outage) (old : WatchState) (last : Turned) : Type 0 where
+  pub wall : ℕ
+  pub elapsed : ℕ
+  pub output : Output
+  pub ticks' : Ticks old last.state wall elapsed output
+  pub due : outage_next_after o last.result last.state 0 ≡ outage_next_by o (wait last.state) last.state.out
+
+pub starts : (o : Outage) (old : WatchState) (last : Turned) (event : Event) (result : Result Output WatchFault) → last.result ≡ result → Turn old event result last.state → is_clock event ≡ true → is_event_taken result ≡ true → Starts o old last
+starts o old last (Clock wall elapsed) (Ok output) same turn clock taken' =
+    let go = ticks old last.state wall elapsed output turn.1 in
+    record {
+      wall = wall;
+      elapsed = elapsed;
+      output = output;
+      ticks' = go;
+      due = ap (λ r. outage_next_after o r last.state 0) same ∙ ap (λ c. outage_next_after_command o c last.state 0) go.command;
+    }
+starts o old last (Looked j reply terms) (Ok output) same turn clock taken' = absurd (true≢false (sym clock))
+starts o old last (Renewed j reply) (Ok output) same turn clock taken' = absurd (true≢false (sym clock))
+starts o old last (Need j until) (Ok output) same turn clock taken' = absurd (true≢false (sym clock))
+starts o old last Begin (Ok output) same turn clock taken' = absurd (true≢false (sym clock))
+starts o old last (Known j end renewable) (Ok output) same turn clock taken' = absurd (true≢false (sym clock))
+starts o old last event (Err fault) same turn clock taken' = absurd (true≢false (sym taken'))

@@ -37,14 +37,12 @@ use Rattle.watch_laws.proofs.Counting.{least_all}
 use Rattle.watch_laws.proofs.Foremost.{all_front as before}
 use Rattle.watch_laws.proofs.Fronts.{front_at, keeps_short, own_at, sent_front, sent_partial}
 use Rattle.watch_laws.proofs.Going.{entry_by, request_at}
-use Rattle.watch_laws.proofs.Grounds.{opened_base, ran_base, turn_base}
+use Rattle.watch_laws.proofs.Grounds.{IsBase, first_turns, last_turns, opened_base, ran_base, turn_base}
 use Rattle.watch_laws.proofs.Lanes.{Ticks, all_left, each_named, pressed_count, ticks}
-use Rattle.watch_laws.proofs.Outliving.{first_turns, last_turns}
 use Rattle.watch_laws.proofs.Recovering.{full_lanes}
 use Rattle.watch_laws.proofs.Retrying.{IsPast, rises}
 use Rattle.watch_laws.proofs.Spacing.{free_of, looked_out, mid_flag, readied_out, went}
 use Rattle.watch_laws.proofs.Spans.{adds_most, mapped, span, span_append, span_later, span_most, span_replied, span_sent, totals}
-use Rattle.watch_laws.proofs.Stages.{IsBase}
 use Rattle.watch_laws.proofs.Topping.{readied_count}
 
 -- who goes out between two states and stood before i

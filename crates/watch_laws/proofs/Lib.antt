@@ -39,9 +39,10 @@ pub mod Ends
 pub mod Counting
 pub mod Lanes
 pub mod Lasting
+pub mod Grounds
+pub mod Requests
 pub mod Enduring
 pub mod Stages
-pub mod Grounds
 pub mod Ticking
 pub mod Answered
 pub mod Outliving

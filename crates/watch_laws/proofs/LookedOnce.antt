@@ -51,11 +51,10 @@ use Rattle.watch_laws.proofs.Alone.{IsAlone, flag, turn_alone}
 use Rattle.watch_laws.proofs.Answering.{looked_begins, replied_rest}
 use Rattle.watch_laws.proofs.Clocking.{refused_stays}
 use Rattle.watch_laws.proofs.Going.{named_of, operation_of, times}
-use Rattle.watch_laws.proofs.Grounds.{opened_base, ran_base}
+use Rattle.watch_laws.proofs.Grounds.{first_turns, last_turns, opened_base, ran_base}
 use Rattle.watch_laws.proofs.Lanes.{Ticks, ticks}
 use Rattle.watch_laws.proofs.Lasting.{Bears, both_bear, calm_ready, clock_bears, mid_bears, same_bears, sent_bears}
 use Rattle.watch_laws.proofs.Lookups.{AsksRenewal, IsTold, back_told, few_go, found_looks, granted_owes, granted_told, look_goes, looked_told, looks_few, mid_told, other_looks, own_looks, pressed_told, renewal_looks, sent_looks, sent_told, settled_told, told_rid}
-use Rattle.watch_laws.proofs.Outliving.{first_turns, last_turns}
 use Rattle.watch_laws.proofs.Owed.{due_some}
 use Rattle.watch_laws.proofs.Spacing.{free_of, looked_other, looked_out, mid_flag, readied_out}
 use Rattle.watch_laws.proofs.Topping.{readied_count, turn_count}

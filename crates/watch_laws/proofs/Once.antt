@@ -53,14 +53,12 @@ use Rattle.watch_laws.specs.Partial.{AreHung, IsUnanswered, OnceInFrontLaw, come
 use Rattle.watch_laws.proofs.Answering.{looked_leaves, renewed_leaves, rest_of}
 use Rattle.watch_laws.proofs.Believed.{written_at, written_count}
 use Rattle.watch_laws.proofs.Clocking.{readied_clocks, refused_stays}
-use Rattle.watch_laws.proofs.Grounds.{opened_base, ran_base, turn_base}
+use Rattle.watch_laws.proofs.Grounds.{IsBase, first_turns, last_turns, opened_base, ran_base, turn_base}
 use Rattle.watch_laws.proofs.Holding.{looked_presence}
 use Rattle.watch_laws.proofs.OnPlan.{sec_rises}
 use Rattle.watch_laws.proofs.Opener.{mid_bears}
-use Rattle.watch_laws.proofs.Outliving.{first_turns, last_turns}
 use Rattle.watch_laws.proofs.Retrying.{IsPast, rises}
 use Rattle.watch_laws.proofs.Spacing.{looked_other}
-use Rattle.watch_laws.proofs.Stages.{IsBase}
 use Rattle.watch_laws.proofs.Tracking.{each_at, each_kept}
 
 -- what of a track says whether its try is a first one, whether it is pressed and out, and when it ends

@@ -44,14 +44,15 @@ use Rattle.watch_laws.proofs.Answered.{IsReplied, goes_on_after, looked_replied,
 use Rattle.watch_laws.proofs.Clocking.{refused_stays}
 use Rattle.watch_laws.proofs.Counting.{least_all}
 use Rattle.watch_laws.proofs.Enduring.{Cutting, Endures, Kept, Missed, cut, cut_off, real_away}
-use Rattle.watch_laws.proofs.Grounds.{opened_base, ran_base, turn_base}
+use Rattle.watch_laws.proofs.Grounds.{IsBase, first_turns, last_turns, opened_base, ran_base, starts, turn_base}
 use Rattle.watch_laws.proofs.Lanes.{Sends, Ticks, served_marked, ticks, turn_sends}
 use Rattle.watch_laws.proofs.Lasting.{Asks, Same, clock_forest, same_time, turn_same}
+use Rattle.watch_laws.proofs.Requests.{any_gives, anew_none, none_passes, quick_if}
 use Rattle.watch_laws.proofs.Retrying.{rises}
 use Rattle.watch_laws.proofs.Minding.{end_minded}
 use Rattle.watch_laws.proofs.Sparing.{readied_answers}
-use Rattle.watch_laws.proofs.Stages.{Facts, IsBase, IsGoing, IsPlanned, IsThrough, due_ahead, free_from, margin_holds, quick_if, turn_of}
-use Rattle.watch_laws.proofs.Ticking.{IsTick, any_gives, anew_none, before_time, clock_goes, early_cut, free_lanes, none_of, none_passes, not_so, not_whole, so_whole, ticks_through}
+use Rattle.watch_laws.proofs.Stages.{Facts, IsGoing, IsPlanned, IsThrough, due_ahead, free_from, margin_holds, turn_of}
+use Rattle.watch_laws.proofs.Ticking.{IsTick, before_time, clock_goes, early_cut, free_lanes, none_of, not_so, not_whole, so_whole, ticks_through}
 use Rattle.watch_laws.proofs.Tracking.{replied_forest}
 
 -- what holds after a turn
@@ -301,40 +302,6 @@ ran_shape (turn ∷ turns) old h =
     let here = turn_shape old turn.state turn.event turn.result h.0 in
     let rest = ran_shape turns turn.state h.1 in
     (rest.0 ∙ here.0, rest.1 ∙ here.1)
-
--- the first turns, and the others
-pub first_turns : (xs ys : List Turned) (old : WatchState) → History old (xs ++ ys) → History old xs
-first_turns [] ys old h = tt
-first_turns (x ∷ xs) ys old h = (h.0, first_turns xs ys x.state h.1)
-
-pub last_turns : (xs ys : List Turned) (old : WatchState) → History old (xs ++ ys) → History (after_all old xs) ys
-last_turns [] ys old h = h
-last_turns (x ∷ xs) ys old h = last_turns xs ys x.state h.1
-
--- the clock from which on it is lived
-pub record Starts (o : Outage) (old : WatchState) (last : Turned) : Type 0 where
-  pub wall : ℕ
-  pub elapsed : ℕ
-  pub output : Output
-  pub ticks' : Ticks old last.state wall elapsed output
-  pub due : outage_next_after o last.result last.state 0 ≡ outage_next_by o (wait last.state) last.state.out
-
-pub starts : (o : Outage) (old : WatchState) (last : Turned) (event : Event) (result : Result Output WatchFault) → last.result ≡ result → Turn old event result last.state → is_clock event ≡ true → is_event_taken result ≡ true → Starts o old last
-starts o old last (Clock wall elapsed) (Ok output) same turn clock taken' =
-    let go = ticks old last.state wall elapsed output turn.1 in
-    record {
-      wall = wall;
-      elapsed = elapsed;
-      output = output;
-      ticks' = go;
-      due = ap (λ r. outage_next_after o r last.state 0) same ∙ ap (λ c. outage_next_after_command o c last.state 0) go.command;
-    }
-starts o old last (Looked j reply terms) (Ok output) same turn clock taken' = absurd (true≢false (sym clock))
-starts o old last (Renewed j reply) (Ok output) same turn clock taken' = absurd (true≢false (sym clock))
-starts o old last (Need j until) (Ok output) same turn clock taken' = absurd (true≢false (sym clock))
-starts o old last Begin (Ok output) same turn clock taken' = absurd (true≢false (sym clock))
-starts o old last (Known j end renewable) (Ok output) same turn clock taken' = absurd (true≢false (sym clock))
-starts o old last event (Err fault) same turn clock taken' = absurd (true≢false (sym taken'))
 
 -- the end that is a margin after the time
 end_known : (e : End) (margin n : ℕ) (x : Track) (need : ℕ) → x.end ≡ e → wants x need ≡ true → n < time_before e margin → (k : ℕ) × ((e ≡ At k) × (k ≡ time_before e margin + margin))

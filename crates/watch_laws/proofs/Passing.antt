@@ -6,10 +6,9 @@ use Rattle.watch_machine.specs.History.{Turned, after_all}
 use Rattle.watch_machine.specs.State.{WatchState, opened}
 use Rattle.watch_laws.specs.Outage.{how_many, one_where}
 use Rattle.watch_laws.specs.Partial.{HungLaw, Partial, answered_before, answered_coming, comes_before, coming_before, keeps_lane, often_before, total, waits_before}
-use Rattle.watch_laws.proofs.Grounds.{opened_base, ran_base, turn_base}
+use Rattle.watch_laws.proofs.Grounds.{first_turns, last_turns, opened_base, ran_base, turn_base}
 use Rattle.watch_laws.proofs.Held.{held_up}
 use Rattle.watch_laws.proofs.Once.{waits_once}
-use Rattle.watch_laws.proofs.Outliving.{first_turns, last_turns}
 
 -- what lanes are kept is so much for each that is hung, and so much for each other
 one_split : (h p : Bool) (a b : ℕ) → (if p then (if h then a else b) else 0) ≡ a * one_where (h && p) + b * one_where (not h && p)

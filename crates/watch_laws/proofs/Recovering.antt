@@ -30,13 +30,11 @@ use Rattle.watch_laws.specs.Recovery.{AllBy, ArePassing, IsPassedBy, IsPassing, 
 use Rattle.watch_laws.proofs.Answering.{looked_leaves, renewed_leaves, rest_of}
 use Rattle.watch_laws.proofs.Clocking.{readied_clocks, refused_stays}
 use Rattle.watch_laws.proofs.Counting.{lanes_apart, least_all, some}
-use Rattle.watch_laws.proofs.Grounds.{opened_base, ran_base, turn_base}
+use Rattle.watch_laws.proofs.Grounds.{IsBase, first_turns, last_turns, opened_base, ran_base, starts, turn_base}
 use Rattle.watch_laws.proofs.Lanes.{Sends, Ticks, all_left, fewer_wait, is_anew, served_marked, ticks, turn_sends}
 use Rattle.watch_laws.proofs.Minding.{some_within, tended}
-use Rattle.watch_laws.proofs.Outliving.{first_turns, last_turns, starts}
+use Rattle.watch_laws.proofs.Requests.{anew_none, any_gives, later_than, none_passes, one_lane, one_left, quick_if, some_lane, take_one, whole_after}
 use Rattle.watch_laws.proofs.Spacing.{looked_out}
-use Rattle.watch_laws.proofs.Stages.{IsBase, one_left, quick_if, take_one, whole_after}
-use Rattle.watch_laws.proofs.Ticking.{any_gives, anew_none, later_than, none_passes, one_lane, some_lane}
 
 -- every request is whole
 pub all_whole : (quick late since : ℕ) → is_request_whole (without_outage quick late) since ≡ true

@@ -1,8 +1,6 @@
 -- Stages: how an outage goes by for an entry, stage by stage, and the sums of each. For the law of outages.
-use Rattle.std.proofs.Common.{◌≡◌, ◌⊎◌, ◌∙◌, ℕ, zero, suc, ◌+◌, ◌-◌, ◌*◌, ◌/◌, ◌<◌, ◌≤◌, Bool, true, false, max, ◌||◌, All, length, nat_le, refl, sym, ap, subst, arith, inl, inr}
-use Rattle.std.proofs.Math.Nat.{mul-suc, mul-zero}
-use Rattle.std.proofs.lemmas.Bool.Decides.{nat_tests}
-use Rattle.std.proofs.lemmas.Bool.{cond-true}
+use Rattle.std.proofs.Common.{◌≡◌, ◌⊎◌, ℕ, suc, ◌+◌, ◌-◌, ◌*◌, ◌/◌, ◌<◌, ◌≤◌, true, false, max, All, length, sym, subst, arith, inl, inr}
+use Rattle.std.proofs.Math.Nat.{mul-suc}
 use Rattle.std.specs.List.{list_any}
 use Rattle.watch_machine.specs.declared.lanes.Out.{Out}
 use Rattle.watch_machine.specs.declared.track.End.TheVariants.{At}
@@ -11,13 +9,10 @@ use Rattle.watch_machine.specs.Outlook.{time_of}
 use Rattle.watch_machine.specs.Settling.{is_busy}
 use Rattle.watch_machine.specs.State.{WatchState, track_at}
 use Rattle.watch_laws.specs.Outage.{IsShortOutage, Outage, again, granted_by, how_many, is_request_served, is_request_whole, outage_settled_by}
-use Rattle.watch_laws.proofs.Alone.{IsAlone}
 use Rattle.watch_laws.proofs.Enduring.{Endures, cut}
+use Rattle.watch_laws.proofs.Grounds.{IsBase}
 use Rattle.watch_laws.proofs.Lanes.{is_anew}
 use Rattle.watch_laws.proofs.Lasting.{Asks}
-use Rattle.watch_laws.proofs.Owed.{AllTry}
-use Rattle.watch_laws.proofs.Retrying.{IsPast}
-use Rattle.watch_laws.proofs.Width.{Fits}
 
 -- what does not change: the outage, the entry, how many there are, the width and the margin, and the entry's time and end
 pub record Facts : Type 0 where
@@ -42,16 +37,6 @@ pub record IsPlanned (f : Facts) : Type 0 where
   pub order : f.o.from ≤ f.o.until
   pub short : IsShortOutage f.o f.margin
   pub end_is : f.end ≡ f.time + f.margin
-
--- what holds of every state of a history
-pub record IsBase (width n : ℕ) (s : WatchState) : Type 0 where
-  pub fits : Fits width s
-  pub alone : IsAlone s
-  pub tries : AllTry s
-  pub count : length s.tracks ≡ n
-  pub past : IsPast s
-  pub within : All (λ (q : Out). q.entry < n) s.out
-  pub since : All (λ (q : Out). q.since ≤ s.clocks.at) s.out
 
 -- and after a turn that was lived, where due is by when the next clock comes
 pub record IsGoing (f : Facts) (due : ℕ) (s : WatchState) : Type 0 where
@@ -171,15 +156,6 @@ late_holds f planned soon =
     let end = planned.end_is in
     omega (arith, short, end, soon)
 
--- all lanes hold one round
-pub take_one : (w r k less : ℕ) → 0 < w → w + less ≤ k → k ≤ w * r → (q : ℕ) × ((r ≡ suc q) × (less ≤ w * q))
-take_one w zero k less wide fuller fits = absurd (let z = mul-zero w in omega (arith, z, wide, fuller, fits))
-take_one w (suc q) k less wide fuller fits = (q, (refl, (let m = mul-suc w q in omega (arith, m, fuller, fits))))
-
-pub one_left : (w r k : ℕ) → k ≤ w * r → 1 ≤ k → (q : ℕ) × (r ≡ suc q)
-one_left w zero k fits some = absurd (let z = mul-zero w in omega (arith, z, fits, some))
-one_left w (suc q) k fits some = (q, refl)
-
 -- the next clock comes in time, whatever the stage
 pub due_ahead : (f : Facts) (due k : ℕ) (s : WatchState) → IsPlanned f → IsThrough f due k s → (due < ms f.end) × (due ≤ granted_by f.o f.time f.end)
 due_ahead f due k s planned (inl (inl h)) =
@@ -207,15 +183,3 @@ due_ahead f due k s planned (inr (inr (inr h))) =
     let next = h.next in
     let holds = late_holds f planned h.soon in
     (omega (arith, next, holds), omega (arith, next))
-
--- requests by when they went out
-pub whole_after : (o : Outage) (at : ℕ) → o.until ≤ at → is_request_whole o at ≡ true
-unfolding is_request_whole
-whole_after o at h = let e : nat_le o.until at ≡ true = grind (arith, nat_tests) in ap (λ b. nat_le (at + o.quick) o.from || b) e ∙ or_true (nat_le (at + o.quick) o.from) where
-  or_true : (b : Bool) → b || true ≡ true
-  or_true true = refl
-  or_true false = refl
-
-pub quick_if : (o : Outage) (at : ℕ) → is_request_whole o at ≡ true → outage_settled_by o at ≡ at + o.quick
-unfolding outage_settled_by
-quick_if o at whole = ap (λ n. at + n) (cond-true (is_request_whole o at) o.quick o.slow whole)

@@ -10,12 +10,10 @@ use Rattle.watch_laws.specs.Outage.{Outage, coming, how_many, is_request_served,
 use Rattle.watch_laws.specs.Recovery.{without_outage}
 use Rattle.watch_laws.specs.Starts.{AllSoon, AreWorked, StartLaw}
 use Rattle.watch_laws.proofs.Counting.{lanes_apart, least_all, more, none, some, sums}
-use Rattle.watch_laws.proofs.Grounds.{opened_base, ran_base, turn_base}
+use Rattle.watch_laws.proofs.Grounds.{IsBase, first_turns, last_turns, opened_base, ran_base, starts, turn_base}
 use Rattle.watch_laws.proofs.Lanes.{anew_served, is_anew, served_tried}
-use Rattle.watch_laws.proofs.Outliving.{first_turns, last_turns, starts}
 use Rattle.watch_laws.proofs.Recovering.{Timely, all_whole, full_lanes, soon_next}
-use Rattle.watch_laws.proofs.Stages.{IsBase, one_left, take_one}
-use Rattle.watch_laws.proofs.Ticking.{anew_none, one_lane}
+use Rattle.watch_laws.proofs.Requests.{anew_none, one_lane, one_left, take_one}
 use Rattle.watch_laws.proofs.Working.{Stage, along, served_now, soon_after}
 
 -- whoever waits or is being asked has something to be asked

@@ -31,32 +31,19 @@ use Rattle.watch_laws.proofs.Clocking.{readied_clocks}
 use Rattle.watch_laws.proofs.Counting.{lanes_apart, lanes_most, least_all, no_lane, none, some}
 use Rattle.watch_laws.proofs.Enduring.{Cutting, Endures, Kept, Missed, Steady, any_time, clock_held, clock_steady, cut, cut_off, later_endures}
 use Rattle.watch_laws.proofs.Going.{asks_by, entry_by, named_of, one_sent, operation_of}
+use Rattle.watch_laws.proofs.Grounds.{IsBase}
 use Rattle.watch_laws.proofs.Holding.{ready_presence}
 use Rattle.watch_laws.proofs.Lanes.{Sends, Ticks, all_sent, fewer_wait, goes_out_now, is_anew, is_of, pressed_count, served_marked, served_tried, stays_free, still_out}
 use Rattle.watch_laws.proofs.Lasting.{Asks, Same, same_time}
 use Rattle.watch_laws.proofs.Minding.{end_minded, tended}
 use Rattle.watch_laws.proofs.Owed.{due_some}
+use Rattle.watch_laws.proofs.Requests.{any_gives, anew_none, later_than, none_passes, one_lane, one_left, quick_if, some_lane, take_one, whole_after}
 use Rattle.watch_laws.proofs.Retrying.{ready_first, ready_later}
 use Rattle.watch_laws.proofs.Sparing.{readied_answers}
 use Rattle.watch_laws.proofs.Spacing.{free_of, mid_flag, passed_over, same_index, went}
-use Rattle.watch_laws.proofs.Stages.{Facts, IsBack, IsBase, IsCut, IsEarly, IsGoing, IsLate, IsPlanned, IsServed, IsThrough, free_from, late_base, late_holds, one_left, quick_if, room_back, take_one, turn_of, whole_after}
+use Rattle.watch_laws.proofs.Stages.{Facts, IsBack, IsCut, IsEarly, IsGoing, IsLate, IsPlanned, IsServed, IsThrough, free_from, late_base, late_holds, room_back, turn_of}
 use Rattle.watch_laws.proofs.Topping.{readied_count}
 use Rattle.watch_laws.proofs.Tracking.{each_kept}
-
--- what is true whatever request is out that passes, where one is
-pub any_gives : (P : Type 0) (test : Out → Bool) (out : List Out) → list_any test out ≡ true → All (λ (q : Out). test q ≡ true → P) out → P
-any_gives P test [] any all = absurd cc
-any_gives P test (q ∷ out) any all =
-    elim (cases_Bool (test q)) [
-      | inl here ↦ All-head (λ (r : Out). test r ≡ true → P) q out all here
-      | inr other ↦ any_gives P test out (sym (ap (λ b. b || list_any test out) other) ∙ any) (All-tail (λ (r : Out). test r ≡ true → P) q out all)
-    ]
-
-pub none_passes : (test : Out → Bool) (out : List Out) → list_any test out ≡ false → All (λ (q : Out). test q ≡ false) out
-none_passes test [] h = All-nil (λ (q : Out). test q ≡ false)
-none_passes test (q ∷ out) h =
-    let both = or_parts (test q) (list_any test out) h in
-    All-cons (λ (r : Out). test r ≡ false) q out both.0 (none_passes test out both.1)
 
 pub none_of : (i : ℕ) (out : List Out) → lanes_of i out ≡ 0 → All (λ (q : Out). q.entry ≡ i → ⊥) out
 none_of i out h =
@@ -67,32 +54,9 @@ none_of i out h =
 pub free_lanes : (i : ℕ) (s : WatchState) → IsAlone s → (track_at s i).out ≡ false → lanes_of i s.out ≡ 0
 free_lanes i s alone free = let once = alone.once i in let e = ap flag free in omega (arith, once, e)
 
-none_late : (o : Outage) (from at j : ℕ) (out : List Out) → at < from → All (λ (q : Out). q.since ≤ at) out → list_any (λ (q : Out). q.entry == j && (is_request_whole o q.since && nat_le from q.since)) out ≡ false
-none_late o from at j [] late all = refl
-none_late o from at j (q ∷ out) late all =
-    let le = All-head (λ (r : Out). r.since ≤ at) q out all in
-    let test : nat_le from q.since ≡ false = grind (arith, nat_tests) in
-    ap (λ b. (q.entry == j && (is_request_whole o q.since && b)) || list_any (λ (r : Out). r.entry == j && (is_request_whole o r.since && nat_le from r.since)) out) test
-    ∙ both_no (q.entry == j) (is_request_whole o q.since) (list_any (λ (r : Out). r.entry == j && (is_request_whole o r.since && nat_le from r.since)) out)
-    ∙ none_late o from at j out late (All-tail (λ (r : Out). r.since ≤ at) q out all) where
-      both_no : (a b c : Bool) → (a && (b && false)) || c ≡ c
-      both_no true true c = refl
-      both_no true false c = refl
-      both_no false b c = refl
-
--- no request that is out went out later than now
-pub anew_none : (o : Outage) (from n : ℕ) (s : WatchState) → All (λ (q : Out). q.since ≤ s.clocks.at) s.out → s.clocks.at < from → how_many n (is_anew o from s) ≡ 0
-anew_none o from n s now late = none n (is_anew o from s) (λ j. none_late o from s.clocks.at j s.out late now)
-
 pub before_time : (s : WatchState) (i n : ℕ) → time_of s i ≡ n → second s < time_of s i → s.clocks.at < ms n
 unfolding sec
 before_time s i n same h = omega (arith, same, h)
-
-pub one_lane : (s : WatchState) (j : ℕ) → IsAlone s → lanes_of j s.out ≤ 1
-one_lane s j alone = let a = alone.once j in let b = flag_most (track_at s j).out in omega (arith, a, b) where
-  flag_most : (b : Bool) → flag b ≤ 1
-  flag_most true = omega arith
-  flag_most false = omega arith
 
 pub so_whole : (w : Bool) → not w ≡ false → w ≡ true
 so_whole true h = refl
@@ -101,11 +65,6 @@ so_whole false h = absurd cc
 pub not_so : (w : Bool) → not w ≡ true → w ≡ false
 not_so true h = absurd cc
 not_so false h = refl
-
--- there is one where all lanes are taken
-pub some_lane : (out : List Out) → 1 ≤ length out → list_any (λ (q : Out). true) out ≡ true
-some_lane [] h = absurd (omega (arith, h))
-some_lane (q ∷ out) h = refl
 
 -- requests that went out before the broker was back
 pub early_cut : (o : Outage) (since : ℕ) → o.from ≤ o.until → since < o.until → outage_settled_by o since + o.late ≤ cut o
@@ -133,9 +92,6 @@ not_whole o at h =
 any_lane : (test : Out → Bool) (out : List Out) → list_any test out ≡ true → list_any (λ (q : Out). true) out ≡ true
 any_lane test [] h = absurd cc
 any_lane test (q ∷ out) h = refl
-
-pub later_than : (from since : ℕ) → nat_le since from ≡ false → suc from ≤ since
-later_than from since h = grind (arith, nat_tests)
 
 -- a clock that was lived
 pub record IsTick (f : Facts) (due : ℕ) (old new : WatchState) (wall elapsed : ℕ) (output : Output) : Type 0 where

@@ -50,7 +50,7 @@ use Rattle.watch_laws.specs.Starts.{AreUnderWay, AreWorked, BrokerIsThere, First
 use Rattle.watch_laws.proofs.Answering.{looked_rest}
 use Rattle.watch_laws.proofs.Clocking.{readied_clocks, refused_stays, sent_by}
 use Rattle.watch_laws.proofs.Enduring.{any_more}
-use Rattle.watch_laws.proofs.Grounds.{opened_base, ran_base, turn_base}
+use Rattle.watch_laws.proofs.Grounds.{IsBase, first_turns, last_turns, opened_base, ran_base, turn_base}
 use Rattle.watch_laws.proofs.Holding.{looked_presence, ready_presence}
 use Rattle.watch_laws.proofs.Lanes.{goes_out_now, replied_lane, still_out, ticks}
 use Rattle.watch_laws.proofs.Lasting.{clock_forest}
@@ -58,12 +58,10 @@ use Rattle.watch_laws.proofs.Minding.{some_within}
 use Rattle.watch_laws.proofs.Once.{names_none}
 use Rattle.watch_laws.proofs.OnPlan.{attempt_sent, presence_away, stays}
 use Rattle.watch_laws.proofs.Opener.{mid_bears}
-use Rattle.watch_laws.proofs.Outliving.{first_turns, last_turns}
 use Rattle.watch_laws.proofs.Recovering.{all_whole}
 use Rattle.watch_laws.proofs.Retrying.{rises}
 use Rattle.watch_laws.proofs.Spacing.{looked_other, looked_out, same_index}
 use Rattle.watch_laws.proofs.Sparing.{readied_answers}
-use Rattle.watch_laws.proofs.Stages.{IsBase}
 use Rattle.watch_laws.proofs.Starting.{starts_soon}
 use Rattle.watch_laws.proofs.Tracking.{each_kept, replied_forest, set_kept}
 

@@ -30,12 +30,11 @@ use Rattle.watch_laws.specs.Starts.{AllSoon, AreWorked, IsAtWork, IsWorked, IsWo
 use Rattle.watch_laws.proofs.Alone.{lanes_of, none_left, replied_lanes}
 use Rattle.watch_laws.proofs.Clocking.{readied_clocks, refused_stays}
 use Rattle.watch_laws.proofs.Counting.{least_all, more as more_pass, no_lane, some}
-use Rattle.watch_laws.proofs.Grounds.{turn_base}
+use Rattle.watch_laws.proofs.Grounds.{IsBase, turn_base}
 use Rattle.watch_laws.proofs.Lanes.{Sends, Ticks, fewer_wait, is_anew, is_of, passes, replied_any, replied_lane, served_tried, still_out, ticks, turn_sends}
 use Rattle.watch_laws.proofs.Recovering.{Passes, Quiet, Timely, clock_passes, looked_quiet, quiet_passes, renewed_quiet, same_quiet, settles_so}
+use Rattle.watch_laws.proofs.Requests.{any_gives, one_left}
 use Rattle.watch_laws.proofs.Spacing.{looked_out, same_index}
-use Rattle.watch_laws.proofs.Stages.{IsBase, one_left}
-use Rattle.watch_laws.proofs.Ticking.{any_gives}
 
 -- a request of i is out that went out by then
 abbrev pub since_by : ℕ → ℕ → List Out → Bool
