@@ -14,8 +14,7 @@ use Rattle.watch_machine.specs.declared.lanes.Out.{Out}
 use Rattle.watch_machine.specs.declared.lanes.Presence.{Presence}
 use Rattle.watch_machine.specs.declared.track.Track.{Track}
 use Rattle.watch_machine.specs.declared.track.Try.{Try}
-use Rattle.watch_machine.specs.Answers.{answers_all, back_track, back_try, heard, is_back, lane_freed, noted, replied, silent}
-use Rattle.watch_machine.specs.Beginning.{hastened}
+use Rattle.watch_machine.specs.Answers.{answers_all, back_track, back_try, due_again, heard, is_back, lane_freed, noted, replied, silent}
 use Rattle.watch_machine.specs.History.{Turn, Turned}
 use Rattle.watch_machine.specs.Lines.{rested}
 use Rattle.watch_machine.specs.Looked.{looked, told_state}
@@ -27,7 +26,7 @@ use Rattle.watch_machine.proofs.Cases.{if_both, if_cases}
 use Rattle.watch_machine.proofs.Seeing.{each_read}
 use Rattle.watch_machine.proofs.Within.{out_entry}
 use Rattle.watch_laws.specs.Absence.{is_event_taken}
-use Rattle.watch_laws.specs.Backs.{BackLaw, is_reply_to, replies_to}
+use Rattle.watch_laws.specs.Backs.{BackLaw, due_after_absence, is_reply_to, replies_to}
 use Rattle.watch_laws.specs.Presence.{answers, is_answered}
 use Rattle.watch_laws.specs.Presses.{asked_again_at}
 use Rattle.watch_laws.proofs.Holding.{looked_presence}
@@ -121,16 +120,16 @@ back_is old new i j t answered h yes' away apart is =
     ∙ ap (λ (x : Track). back_try x x.attempt) same ∙ ap (back_try (track_at old j)) is
 
 back_out : (x : Track) (t : Try) → x.out ≡ true → back_try x (Some t) ≡ Some (record t { fails = 0 })
-back_out x t out = cond-true x.out (Some (record t { fails = 0 })) (if t.lost then Some (hastened t (rested x.last)) else Some t) out
+back_out x t out = cond-true x.out (Some (record t { fails = 0 })) (if t.lost then Some (due_again t (rested x.last)) else Some t) out
 
-back_lost : (x : Track) (t : Try) → x.out ≡ false → t.lost ≡ true → back_try x (Some t) ≡ Some (record t { at = min t.at (asked_again_at x.last) })
+back_lost : (x : Track) (t : Try) → x.out ≡ false → t.lost ≡ true → back_try x (Some t) ≡ Some (due_after_absence t x.last)
 back_lost x t free lost =
-    cond-false x.out (Some (record t { fails = 0 })) (if t.lost then Some (hastened t (rested x.last)) else Some t) free
-    ∙ cond-true t.lost (Some (hastened t (rested x.last))) (Some t) lost ∙ ap (λ n. Some (record t { at = min t.at n })) (again_is x.last)
+    cond-false x.out (Some (record t { fails = 0 })) (if t.lost then Some (due_again t (rested x.last)) else Some t) free
+    ∙ cond-true t.lost (Some (due_again t (rested x.last))) (Some t) lost ∙ ap (λ n. Some (due_again t n)) (again_is x.last)
 
 back_other : (x : Track) (t : Try) → x.out ≡ false → t.lost ≡ false → back_try x (Some t) ≡ Some t
 back_other x t free kept =
-    cond-false x.out (Some (record t { fails = 0 })) (if t.lost then Some (hastened t (rested x.last)) else Some t) free ∙ cond-false t.lost (Some (hastened t (rested x.last))) (Some t) kept
+    cond-false x.out (Some (record t { fails = 0 })) (if t.lost then Some (due_again t (rested x.last)) else Some t) free ∙ cond-false t.lost (Some (due_again t (rested x.last))) (Some t) kept
 
 stays_so : (old new : WatchState) (i j : ℕ) (answered : Bool) → Taken old new i answered → answered && old.presence.away ≡ false → j ≢ i → track_at new j ≡ track_at old j
 stays_so old new i j answered h none apart =

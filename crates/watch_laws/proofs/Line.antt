@@ -214,4 +214,4 @@ pub ready_so : ReadyLaw
 unfolding ready
 ready_so s i t =
     let p = s.presence in
-    ap (λ n. max p.free (if t.pressed && t.fails == 0 then t.at else max p.hold (if p.away && t.lost then min t.at n else t.at))) (again_is (track_at s i).last)
+    ap (λ n. if t.pressed && t.fails == 0 then t.at else max p.hold (if p.away && t.lost then min t.at n else t.at)) (again_is (track_at s i).last)

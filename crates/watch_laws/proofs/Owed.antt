@@ -20,7 +20,7 @@ use Rattle.watch_machine.specs.declared.lanes.Presence.{Presence}
 use Rattle.watch_machine.specs.declared.notes.Why.{Why}
 use Rattle.watch_machine.specs.declared.track.Track.{Track}
 use Rattle.watch_machine.specs.declared.track.Try.{Try}
-use Rattle.watch_machine.specs.Answers.{back_track, back_try, failing, noted}
+use Rattle.watch_machine.specs.Answers.{back_track, back_try, due_again, failing, noted}
 use Rattle.watch_machine.specs.Beginning.{begun, hastened, is_called, owed, owing, owing_lookup, soon, sooner_try, untopped, untopped_track}
 use Rattle.watch_machine.specs.Clocks.{sec}
 use Rattle.watch_machine.specs.History.{History, Turn, Turned}
@@ -144,8 +144,8 @@ sent_tries s requests lanes i h k =
 back_some : (x : Track) (o : Option Try) → is_some o ≡ true → is_some (back_try x o) ≡ true
 back_some x None h = h
 back_some x (Some t) h =
-    if_both (λ (o : Option Try). is_some o ≡ true) x.out (Some (record t { fails = 0 })) (if t.lost then Some (hastened t (rested x.last)) else Some t) refl
-    (if_both (λ (o : Option Try). is_some o ≡ true) t.lost (Some (hastened t (rested x.last))) (Some t) refl refl)
+    if_both (λ (o : Option Try). is_some o ≡ true) x.out (Some (record t { fails = 0 })) (if t.lost then Some (due_again t (rested x.last)) else Some t) refl
+    (if_both (λ (o : Option Try). is_some o ≡ true) t.lost (Some (due_again t (rested x.last))) (Some t) refl refl)
 
 back_tries : (x : Track) → Still (back_track x) x
 unfolding back_track

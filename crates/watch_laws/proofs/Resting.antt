@@ -2,6 +2,7 @@
 -- keeps of that. For the laws of load.
 use Rattle.std.proofs.Common.{◌≡◌, ◌⊎◌, ◌∙◌, ℕ, ◌+◌, ◌-◌, ◌*◌, ◌^◌, ◌/◌, ◌<◌, ◌≤◌, min, max, Bool, true, false, not, ◌&&◌, ◌||◌, ◌==◌, if◌then◌else◌, List, Option, Some, None, IfSome, nat_le, nat_lt, refl, sym, ap, arith, inl, inr, true≢false}
 use Rattle.std.proofs.Math.Nat.{le-max_left, le-max_right}
+use Rattle.std.proofs.lemmas.Bool.{cond-true}
 use Rattle.std.proofs.lemmas.Nat.{pow_pos}
 use Rattle.std.specs.List.{list_any}
 use Rattle.keep_tree.specs.declared.entry.Entry.{Entry}
@@ -10,7 +11,7 @@ use Rattle.watch_machine.specs.declared.event.Reply.{Reply}
 use Rattle.watch_machine.specs.declared.event.Reply.TheVariants.{Told, Refused, Busy, Lost}
 use Rattle.watch_machine.specs.declared.track.Track.{Track}
 use Rattle.watch_machine.specs.declared.track.Try.{Try}
-use Rattle.watch_machine.specs.Answers.{back_track, back_try, failing}
+use Rattle.watch_machine.specs.Answers.{back_track, back_try, due_again, failing}
 use Rattle.watch_machine.specs.Beginning.{hastened, owed, owing, owing_lookup, soon, sooner_try, untopped_track}
 use Rattle.watch_machine.specs.Clocks.{ms, sec}
 use Rattle.watch_machine.specs.Lines.{rested}
@@ -21,7 +22,7 @@ use Rattle.watch_machine.specs.Press.{asked_track, dropped, is_fresh, let_go, pr
 use Rattle.watch_machine.specs.Renewed.{granted_from, granted_try, ungranted, ungranted_track}
 use Rattle.watch_machine.specs.Settling.{settled_track, settled_try}
 use Rattle.watch_machine.specs.Wanted.{is_alive, is_open, wants}
-use Rattle.watch_machine.proofs.Cases.{if_cases}
+use Rattle.watch_machine.proofs.Cases.{if_both, if_cases}
 use Rattle.watch_laws.specs.Load.{Sent}
 
 -- a try that may go out after the request r
@@ -142,19 +143,26 @@ module _ (r : Sent) where
       (λ free. record { last = h.last; attempt = λ f. press_follows at (not (has_come margin e x (sec at))) x h.last }))
       (λ e. h)
 
-  -- the broker is back: a try that was lost goes out a second after r
+  -- the broker is back: a try that was lost goes out a second after r, also one that has no pause yet
+  due_follows : (x : Track) (t : Try) → x.last ≡ Some r.at → MayFollow r t → Follows r (due_again t (rested x.last))
+  due_follows x t last h =
+      let is = rested_is r x.last last in
+      elim h as (λ _. Follows r (due_again t (rested x.last))) [
+        | inl failed ↦ (let now = cond-true t.failed (rested x.last) (min t.at (rested x.last)) failed in inl (omega (arith, now, is)))
+        | inr follows ↦
+            elim follows as (λ _. Follows r (due_again t (rested x.last))) [
+              | inl after ↦
+                  inl (if_both (λ n. r.at + 1000 ≤ n) t.failed (rested x.last) (min t.at (rested x.last)) (omega (arith, is)) (omega (arith, after, is)))
+              | inr renewal ↦ inr renewal
+            ]
+      ]
+
   back_follows : (x : Track) (o : Option Try) → x.last ≡ Some r.at → x.out ≡ false → IfSome o (MayFollow r) → IfSome (back_try x o) (MayFollow r)
   back_follows x None last free h = tt
   back_follows x (Some t) last free h =
-      let is = rested_is r x.last last in
-      if_cases (λ o. IfSome o (MayFollow r)) x.out (Some (record t { fails = 0 })) (if t.lost then Some (hastened t (rested x.last)) else Some t)
+      if_cases (λ o. IfSome o (MayFollow r)) x.out (Some (record t { fails = 0 })) (if t.lost then Some (due_again t (rested x.last)) else Some t)
       (λ out. absurd (true≢false (sym out ∙ free)))
-      (λ e. if_cases (λ o. IfSome o (MayFollow r)) t.lost (Some (hastened t (rested x.last))) (Some t)
-      (λ lost. elim h as (λ _. MayFollow r (hastened t (rested x.last))) [
-        | inl failed ↦ inl failed
-        | inr follows ↦ elim follows as (λ _. MayFollow r (hastened t (rested x.last))) [ inl after ↦ inr (inl (omega (arith, after, is))) | inr renewal ↦ inr (inr renewal) ]
-      ])
-      (λ kept. h))
+      (λ e. if_cases (λ o. IfSome o (MayFollow r)) t.lost (Some (due_again t (rested x.last))) (Some t) (λ lost. inr (due_follows x t last h)) (λ kept. h))
 
   pub back_rests : (x : Track) → Rests r x → Rests r (back_track x)
   unfolding back_track

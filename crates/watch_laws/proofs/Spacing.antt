@@ -60,11 +60,10 @@ unfolding ready
 ready_apart p at x r t past last (inl after) due =
     let is = rested_is r x.last last in
     let held = le-max_right p.hold (later_at p.away x t) in
-    let free = le-max_right p.free (if is_first t then t.at else max p.hold (later_at p.away x t)) in
     let late : r.at + 1000 ≤ later_at p.away x t = if_cases (λ n. r.at + 1000 ≤ n) (p.away && t.lost) (min t.at (rested x.last)) t.at (λ e. omega (arith, is, after)) (λ e. after) in
     let most : r.at + 1000 ≤ (if is_first t then t.at else max p.hold (later_at p.away x t)) =
     if_cases (λ n. r.at + 1000 ≤ n) (is_first t) t.at (max p.hold (later_at p.away x t)) (λ e. after) (λ e. omega (arith, held, late)) in
-    inl (omega (arith, free, most, due))
+    inl (omega (arith, most, due))
 ready_apart p at x r t past last (inr renewal) due = inr (past, renewal)
 
 due_apart :

@@ -148,10 +148,9 @@ due_over p at x due later = by x.attempt (and_parts (not x.out) (is_due_try p at
   by (Some t) h l =
       let first : is_first t ≡ false = not_so (is_first t) l in
       let held = le-max_left p.hold (later_at p.away x t) in
-      let free = le-max_right p.free (if is_first t then t.at else max p.hold (later_at p.away x t)) in
       let is = cond-false (is_first t) t.at (max p.hold (later_at p.away x t)) first in
-      let now : max p.free (if is_first t then t.at else max p.hold (later_at p.away x t)) ≤ at = grind (arith, nat_tests) in
-      omega (arith, held, free, is, now)
+      let now : (if is_first t then t.at else max p.hold (later_at p.away x t)) ≤ at = grind (arith, nat_tests) in
+      omega (arith, held, is, now)
 
 some_later : (p : Presence) (at : ℕ) (xs : List Track) (s : WatchState) (is : List ℕ) → ((j : ℕ) → attempt_at s j ≡ (track_in xs j).attempt) → All (λ i. (i < length xs) × (is_due p at (track_in xs i) ≡ true)) is →
     (length (filter (is_later s) (map (request_at p (sec at) xs) is)) ≡ 0) ⊎ (p.hold ≤ at)

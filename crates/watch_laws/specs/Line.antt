@@ -12,13 +12,13 @@ use Rattle.watch_laws.specs.Load.{requests_at_turn}
 use Rattle.watch_laws.specs.Presses.{asked_again_at}
 use Rattle.watch_laws.specs.Recovery.{MayGo}
 
--- the moment from which on a try may go out: none goes out in the second after the broker was busy. A first try goes out from its own moment on.
--- Any other waits until the hold is over, and for its own moment; or, if it was lost and the broker is away, until a second after its entry was
--- last asked, if that comes first
+-- the moment from which on a try may go out. A first try goes out from its own moment on, whatever the broker answered to others. Any other
+-- waits until the hold is over, and for its own moment; or, if it was lost and the broker is away, until a second after its entry was last asked,
+-- if that comes first
 abbrev pub may_go_from : WatchState → ℕ → Try → ℕ
 may_go_from s i t =
-    max s.presence.free
-    (if t.pressed && t.fails == 0 then t.at else max s.presence.hold (if s.presence.away && t.lost then min t.at (asked_again_at (track_at s i).last) else t.at))
+    if t.pressed && t.fails == 0 then t.at
+    else max s.presence.hold (if s.presence.away && t.lost then min t.at (asked_again_at (track_at s i).last) else t.at)
 
 abbrev pub ReadyLaw : Type 0
 ReadyLaw = (s : WatchState) (i : ℕ) (t : Try) → ready s.presence (track_at s i) t ≡ may_go_from s i t
