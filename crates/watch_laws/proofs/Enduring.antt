@@ -15,8 +15,7 @@ use Rattle.watch_machine.specs.declared.lanes.Presence.{Presence}
 use Rattle.watch_machine.specs.declared.track.End.TheVariants.{At}
 use Rattle.watch_machine.specs.declared.track.Track.{Track}
 use Rattle.watch_machine.specs.declared.track.Try.{Try}
-use Rattle.watch_machine.specs.Answers.{answers_all, back_track, back_try, failing, is_back, lane_freed, presence_gone, replied, silent, without_request}
-use Rattle.watch_machine.specs.Beginning.{hastened}
+use Rattle.watch_machine.specs.Answers.{answers_all, back_track, back_try, due_again, failing, is_back, lane_freed, presence_gone, replied, silent, without_request}
 use Rattle.watch_machine.specs.Clocks.{ms, sec}
 use Rattle.watch_machine.specs.Lines.{is_first, rested}
 use Rattle.watch_machine.specs.Margins.{has_come}
@@ -292,10 +291,10 @@ from_try' x t v h u is = subst (λ (w : Try). (w.pressed ≡ t.pressed) × ((w.o
 
 back_from : (x : Track) (t : Try) → FromTry x t (back_try x (Some t))
 back_from x t =
-    if_cases (FromTry x t) x.out (Some (record t { fails = 0 })) (if t.lost then Some (hastened t (rested x.last)) else Some t)
+    if_cases (FromTry x t) x.out (Some (record t { fails = 0 })) (if t.lost then Some (due_again t (rested x.last)) else Some t)
     (λ out. from_try' x t (record t { fails = 0 }) (refl, (refl, (refl, (omega arith, λ free. absurd (not_both out free))))))
     (λ free.
-    if_both (FromTry x t) t.lost (Some (hastened t (rested x.last))) (Some t) (from_try' x t (hastened t (rested x.last)) (refl, (refl, (refl, (omega arith, λ e. refl)))))
+    if_both (FromTry x t) t.lost (Some (due_again t (rested x.last))) (Some t) (from_try' x t (due_again t (rested x.last)) (refl, (refl, (refl, (omega arith, λ e. refl)))))
     (from_try' x t t (refl, (refl, (refl, (omega arith, λ e. refl))))))
 
 back_backs : (x : Track) → Backs (back_track x) x

@@ -11,8 +11,7 @@ use Rattle.watch_machine.specs.declared.fault.WatchFault.{WatchFault}
 use Rattle.watch_machine.specs.declared.lanes.Out.{Out}
 use Rattle.watch_machine.specs.declared.track.Track.{Track}
 use Rattle.watch_machine.specs.declared.track.Try.{Try}
-use Rattle.watch_machine.specs.Answers.{back_track, back_try, failing, noted, replied, with_track}
-use Rattle.watch_machine.specs.Beginning.{hastened}
+use Rattle.watch_machine.specs.Answers.{back_track, back_try, due_again, failing, noted, replied, with_track}
 use Rattle.watch_machine.specs.Clocks.{sec}
 use Rattle.watch_machine.specs.History.{History, Turn, Turned}
 use Rattle.watch_machine.specs.Lines.{rested}
@@ -32,14 +31,14 @@ use Rattle.watch_laws.proofs.Tracking.{back_kept, set_holds}
 back_failed : (lost : Bool) (x : Track) (o : Option Try) → TryHasFailed lost o → TryHasFailed lost (back_try x o)
 back_failed lost x None h = tt
 back_failed lost x (Some t) h =
-    if_both (TryHasFailed lost) x.out (Some (record t { fails = 0 })) (if t.lost then Some (hastened t (rested x.last)) else Some t) h
-    (if_both (TryHasFailed lost) t.lost (Some (hastened t (rested x.last))) (Some t) h h)
+    if_both (TryHasFailed lost) x.out (Some (record t { fails = 0 })) (if t.lost then Some (due_again t (rested x.last)) else Some t) h
+    (if_both (TryHasFailed lost) t.lost (Some (due_again t (rested x.last))) (Some t) h h)
 
 back_now : (at : ℕ) (x : Track) (o : Option Try) → MayGoNow at o → MayGoNow at (back_try x o)
 back_now at x None h = tt
 back_now at x (Some t) h =
-    if_both (MayGoNow at) x.out (Some (record t { fails = 0 })) (if t.lost then Some (hastened t (rested x.last)) else Some t) h
-    (if_both (MayGoNow at) t.lost (Some (hastened t (rested x.last))) (Some t) (omega (arith, h)) h)
+    if_both (MayGoNow at) x.out (Some (record t { fails = 0 })) (if t.lost then Some (due_again t (rested x.last)) else Some t) h
+    (if_both (MayGoNow at) t.lost (Some (due_again t (rested x.last))) (Some t) (omega (arith, h)) h)
 
 back_renewal : (reply : Reply) (x : Track) → RenewalFails reply x.attempt → RenewalFails reply (back_track x).attempt
 unfolding back_track

@@ -13,7 +13,7 @@ use Rattle.watch_machine.specs.declared.fault.WatchFault.{WatchFault}
 use Rattle.watch_machine.specs.declared.lanes.Out.{Out}
 use Rattle.watch_machine.specs.declared.track.Track.{Track}
 use Rattle.watch_machine.specs.declared.track.Try.{Try}
-use Rattle.watch_machine.specs.Answers.{back_track, back_try, failing, noted, replied, with_track}
+use Rattle.watch_machine.specs.Answers.{back_track, back_try, due_again, failing, noted, replied, with_track}
 use Rattle.watch_machine.specs.Beginning.{hastened}
 use Rattle.watch_machine.specs.Clocks.{sec}
 use Rattle.watch_machine.specs.History.{Turn, Turned}
@@ -42,8 +42,8 @@ module _ (Q : Try → Type 0) (hasten : (t : Try) (from : ℕ) → Q t → Q (ha
   back_some : (x : Track) (o : Option Try) → x.out ≡ false → ((u : Try) → o ≡ Some u → Q u) → (u : Try) → back_try x o ≡ Some u → Q u
   back_some x None free h u = λ is. absurd cc
   back_some x (Some t) free h u =
-      if_cases (λ (o : Option Try). o ≡ Some u → Q u) x.out (Some (record t { fails = 0 })) (if t.lost then Some (hastened t (rested x.last)) else Some t) (λ out. absurd (not_both out free))
-      (λ _. if_both (λ (o : Option Try). o ≡ Some u → Q u) t.lost (Some (hastened t (rested x.last))) (Some t) (λ is. subst Q (value_is (hastened t (rested x.last)) u is) (hasten t (rested x.last) (h t refl))) (h u))
+      if_cases (λ (o : Option Try). o ≡ Some u → Q u) x.out (Some (record t { fails = 0 })) (if t.lost then Some (due_again t (rested x.last)) else Some t) (λ out. absurd (not_both out free))
+      (λ _. if_both (λ (o : Option Try). o ≡ Some u → Q u) t.lost (Some (due_again t (rested x.last))) (Some t) (λ is. subst Q (value_is (due_again t (rested x.last)) u is) (hasten t (rested x.last) (h t refl))) (h u))
 
   pub back_free : (x : Track) → Free x → Free (back_track x)
   unfolding back_track

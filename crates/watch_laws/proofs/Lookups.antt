@@ -13,8 +13,8 @@ use Rattle.watch_machine.specs.declared.lanes.Presence.{Presence}
 use Rattle.watch_machine.specs.declared.track.End.TheVariants.{At, Never}
 use Rattle.watch_machine.specs.declared.track.Track.{Track}
 use Rattle.watch_machine.specs.declared.track.Try.{Try}
-use Rattle.watch_machine.specs.Answers.{answers_all, back_track, back_try, failing, heard, lane_freed, replied, silent, without_request}
-use Rattle.watch_machine.specs.Beginning.{hastened, owed}
+use Rattle.watch_machine.specs.Answers.{answers_all, back_track, back_try, due_again, failing, heard, lane_freed, replied, silent, without_request}
+use Rattle.watch_machine.specs.Beginning.{owed}
 use Rattle.watch_machine.specs.Clocks.{sec}
 use Rattle.watch_machine.specs.Lines.{rested}
 use Rattle.watch_machine.specs.Looked.{at_once, told_track, told_try}
@@ -281,7 +281,7 @@ sent_told s requests i h =
 back_asks : (x : Track) (o : Option Try) → AsksRenewal o → AsksRenewal (back_try x o)
 back_asks x None h = tt
 back_asks x (Some t) h =
-    if_both AsksRenewal x.out (Some (record t { fails = 0 })) (if t.lost then Some (hastened t (rested x.last)) else Some t) h (if_both AsksRenewal t.lost (Some (hastened t (rested x.last))) (Some t) h h)
+    if_both AsksRenewal x.out (Some (record t { fails = 0 })) (if t.lost then Some (due_again t (rested x.last)) else Some t) h (if_both AsksRenewal t.lost (Some (due_again t (rested x.last))) (Some t) h h)
 
 pub back_told : (x : Track) → Still (back_track x) x
 unfolding back_track

@@ -21,7 +21,7 @@ use Rattle.watch_machine.specs.declared.notes.Why.{Why}
 use Rattle.watch_machine.specs.declared.track.Track.{Track}
 use Rattle.watch_machine.specs.declared.track.Try.{Try}
 use Rattle.watch_machine.specs.Answers.{back_track, back_try, due_again, failing, noted}
-use Rattle.watch_machine.specs.Beginning.{begun, hastened, is_called, owed, owing, owing_lookup, soon, sooner_try, untopped, untopped_track}
+use Rattle.watch_machine.specs.Beginning.{begun, is_called, owed, owing, owing_lookup, soon, sooner_try, untopped, untopped_track}
 use Rattle.watch_machine.specs.Clocks.{sec}
 use Rattle.watch_machine.specs.History.{History, Turn, Turned}
 use Rattle.watch_machine.specs.Lines.{is_due, is_due_try, rested}

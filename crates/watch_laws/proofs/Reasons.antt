@@ -23,8 +23,8 @@ use Rattle.watch_machine.specs.declared.notes.Notes.{Notes}
 use Rattle.watch_machine.specs.declared.notes.Why.{Why}
 use Rattle.watch_machine.specs.declared.track.Track.{Track}
 use Rattle.watch_machine.specs.declared.track.Try.{Try}
-use Rattle.watch_machine.specs.Answers.{back_track, back_try, failing, noted, replied}
-use Rattle.watch_machine.specs.Beginning.{begun, hastened, is_called, is_pressed, owed, owing, owing_lookup, soon, sooner_try, untopped, untopped_track}
+use Rattle.watch_machine.specs.Answers.{back_track, back_try, due_again, failing, noted, replied}
+use Rattle.watch_machine.specs.Beginning.{begun, is_called, is_pressed, owed, owing, owing_lookup, soon, sooner_try, untopped, untopped_track}
 use Rattle.watch_machine.specs.Clocks.{sec}
 use Rattle.watch_machine.specs.History.{History, Turn, Turned}
 use Rattle.watch_machine.specs.Lines.{rested}
@@ -198,8 +198,8 @@ clock_outcome old new wall elapsed output i b step h =
 back_reasoned : (b : Bool) (x : Track) (o : Option Try) → Reasoned b o → Reasoned b (back_try x o)
 back_reasoned b x None h = h
 back_reasoned b x (Some t) h =
-    if_both (Reasoned b) x.out (Some (record t { fails = 0 })) (if t.lost then Some (hastened t (rested x.last)) else Some t) h
-    (if_both (Reasoned b) t.lost (Some (hastened t (rested x.last))) (Some t) h h)
+    if_both (Reasoned b) x.out (Some (record t { fails = 0 })) (if t.lost then Some (due_again t (rested x.last)) else Some t) h
+    (if_both (Reasoned b) t.lost (Some (due_again t (rested x.last))) (Some t) h h)
 
 back_still : (b : Bool) (x : Track) → Still b (back_track x) x
 unfolding back_track

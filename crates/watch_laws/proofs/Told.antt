@@ -22,7 +22,7 @@ use Rattle.watch_machine.specs.declared.notes.Why.{Why}
 use Rattle.watch_machine.specs.declared.track.Track.{Track}
 use Rattle.watch_machine.specs.declared.track.Try.{Try}
 use Rattle.watch_machine.specs.declared.track.End.TheVariants.{At, Never}
-use Rattle.watch_machine.specs.Answers.{back_track, back_try, failing, noted, replied, with_track}
+use Rattle.watch_machine.specs.Answers.{back_track, back_try, due_again, failing, noted, replied, with_track}
 use Rattle.watch_machine.specs.Beginning.{begun, hastened, owed}
 use Rattle.watch_machine.specs.Clocks.{sec}
 use Rattle.watch_machine.specs.History.{Turn, Turned}
@@ -121,8 +121,8 @@ past_try now due x t no' past =
 back_some : (x : Track) (o : Option Try) → is_some (back_try x o) ≡ is_some o
 back_some x None = refl
 back_some x (Some t) =
-    if_both (λ (o : Option Try). is_some o ≡ true) x.out (Some (record t { fails = 0 })) (if t.lost then Some (hastened t (rested x.last)) else Some t) refl
-    (if_both (λ (o : Option Try). is_some o ≡ true) t.lost (Some (hastened t (rested x.last))) (Some t) refl refl)
+    if_both (λ (o : Option Try). is_some o ≡ true) x.out (Some (record t { fails = 0 })) (if t.lost then Some (due_again t (rested x.last)) else Some t) refl
+    (if_both (λ (o : Option Try). is_some o ≡ true) t.lost (Some (due_again t (rested x.last))) (Some t) refl refl)
 
 back_is_some : (x : Track) → is_some x.attempt ≡ true → is_some (back_track x).attempt ≡ true
 unfolding back_track
