@@ -53,6 +53,7 @@ fn at_once(attempt: Try, at: Millis) -> Try
         Try {
             at: at,
             operation: Operation::Renew,
+            failed: false,
             ..attempt
         }
     } else {
