@@ -7,6 +7,7 @@ ghost use Rattle.watch_machine.specs.State.{each};
 use crate::event::Operation;
 use crate::lanes::{Out, Presence};
 use crate::lines::rested;
+use crate::reading::Millis;
 use crate::track::{Track, Try};
 
 /// A try that failed: what is asked next, whether no answer came or the broker was busy, and whether others were answered
