@@ -17,24 +17,24 @@ use Rattle.watch_machine.specs.declared.lanes.Presence.{Presence}
 use Rattle.watch_machine.specs.declared.track.Track.{Track}
 use Rattle.watch_machine.specs.declared.track.Try.{Try}
 use Rattle.watch_machine.specs.Answers.{answers_all, lane_freed, noted, replied, silent}
-use Rattle.watch_machine.specs.History.{History, Turn, Turned}
+use Rattle.watch_machine.specs.History.{History, Turn, Turned, after_all}
 use Rattle.watch_machine.specs.Looked.{looked}
 use Rattle.watch_machine.specs.Pauses.{cap, doubled}
 use Rattle.watch_machine.specs.Press.{pressed}
 use Rattle.watch_machine.specs.Refusal.{request_out}
 use Rattle.watch_machine.specs.Renewed.{state_renewed}
 use Rattle.watch_machine.specs.Round.{asked_by_round}
-use Rattle.watch_machine.specs.Settling.{count_after, held, held_back, held_by, held_try, hold_after, is_busy, is_real, is_silent, presence_after, timed}
-use Rattle.watch_machine.specs.State.{WatchState, attempt_at, track_at, track_in}
+use Rattle.watch_machine.specs.Settling.{count_after, held, held_back, held_by, held_try, hold_after, is_real, is_silent, presence_after, timed}
+use Rattle.watch_machine.specs.State.{WatchState, attempt_at, opened, track_at, track_in}
 use Rattle.watch_machine.specs.Step.{Step, StepClock, StepLooked, StepRenewed, readied}
 use Rattle.watch_machine.specs.Wanted.{least}
 use Rattle.watch_machine.proofs.Cases.{if_both, if_cases, not_both}
 use Rattle.watch_machine.proofs.Leasts.{least_start}
 use Rattle.watch_laws.specs.Absence.{is_clock, is_event_taken}
-use Rattle.watch_laws.specs.Holds.{HoldEnds, HoldLaw, HoldStays, HoldsAnew, HoldsOn, IsHold, NonePausesLess, is_too_busy}
+use Rattle.watch_laws.specs.Holds.{HoldEnds, HoldLaw, HoldStays, HoldsAnew, HoldsOn, IsHold, NonePausesLess}
 use Rattle.watch_laws.proofs.Clocking.{readied_clocks, refused_stays, sent_by}
 use Rattle.watch_laws.proofs.Holding.{looked_presence, ready_presence}
-use Rattle.watch_laws.proofs.Retrying.{held_least}
+use Rattle.watch_laws.proofs.Retrying.{IsPast, held_least, opened_past, turn_past}
 
 -- how long it is
 least_most : (f : Track → ℕ) (n m : ℕ) (xs : List Track) → m ≤ n → ((i : ℕ) → i < length xs → m ≤ f (track_in xs i)) → m ≤ least n (map f xs)
@@ -95,20 +95,6 @@ module _ (margin at : ℕ) (xs : List Track) (answers : List Answer) (p : Presen
   unfolding presence_after held_back
   other none = let is = cond-false (p.away && list_any is_silent answers) set p none in (ap (λ (x : Presence). x.count) is, ap (λ (x : Presence). x.hold) is)
 
-  busy_is : (reply : Reply) → is_busy reply ≡ is_too_busy reply
-  busy_is (Told seconds renewable date) = refl
-  busy_is (Refused status date) = refl
-  busy_is Busy = refl
-  busy_is Lost = refl
-
-  any_busy : (xs' : List Answer) → list_any (λ (a : Answer). is_busy a.reply) xs' ≡ list_any (λ (a : Answer). is_too_busy a.reply) xs'
-  any_busy [] = refl
-  any_busy (a ∷ xs') = ap (λ b. b || list_any (λ (c : Answer). is_busy c.reply) xs') (busy_is a.reply) ∙ ap (λ b. is_too_busy a.reply || b) (any_busy xs')
-
-  freed : q.free ≡ (if list_any (λ (a : Answer). is_too_busy a.reply) answers then at + 1000 else p.free)
-  unfolding presence_after
-  freed = ap (λ b. if b then at + 1000 else p.free) (any_busy answers)
-
   away_is : q.away ≡ p.away
   unfolding presence_after held_back
   away_is = if_both (λ (x : Presence). x.away ≡ p.away) (p.away && list_any is_silent answers) set p refl refl
@@ -150,16 +136,16 @@ hold_stays old new h none =
 
 -- what any other event leaves: all of it, or nothing where the broker goes or comes
 abbrev Leaves : Presence → Presence → Type 0
-Leaves old new = (new.free ≡ old.free) × (((new.away ≡ old.away) × ((new.count ≡ old.count) × (new.hold ≡ old.hold))) ⊎ ((new.away ≡ old.away → ⊥) × ((new.count ≡ 0) × (new.hold ≡ 0))))
+Leaves old new = ((new.away ≡ old.away) × ((new.count ≡ old.count) × (new.hold ≡ old.hold))) ⊎ ((new.away ≡ old.away → ⊥) × ((new.count ≡ 0) × (new.hold ≡ 0)))
 
 replied_leaves : (s : WatchState) (q : Out) (reply : Reply) → Leaves s.presence (replied s q reply).presence
 replied_leaves s q reply =
     let free = lane_freed s q in
     let P : WatchState → Type 0 = λ t. Leaves s.presence t.presence in
     if_both P (is_real reply) (answers_all free) (if q.heard then free else silent free)
-    (if_cases P s.presence.away _ _ (λ e. (refl, inr ((λ same. not_both e (sym same)), (refl, refl)))) (λ e. (refl, inl (refl, (refl, refl)))))
-    (if_both P q.heard free (silent free) (refl, inl (refl, (refl, refl)))
-    (if_cases P s.presence.away _ _ (λ e. (refl, inl (refl, (refl, refl)))) (λ e. (refl, inr ((λ same. not_both (sym same) e), (refl, refl))))))
+    (if_cases P s.presence.away _ _ (λ e. inr ((λ same. not_both e (sym same)), (refl, refl))) (λ e. inl (refl, (refl, refl))))
+    (if_both P q.heard free (silent free) (inl (refl, (refl, refl)))
+    (if_cases P s.presence.away _ _ (λ e. inl (refl, (refl, refl))) (λ e. inr ((λ same. not_both (sym same) e), (refl, refl)))))
 
 looked_leaves : (old new : WatchState) (found : Option Out) (reply : Reply) (terms : Terms) (output : Output) → StepLooked old found reply terms output new → Leaves old.presence new.presence
 looked_leaves old new None reply terms output step = absurd step
@@ -175,7 +161,7 @@ renewed_leaves old new (Some q) reply output step =
     subst (λ (x : WatchState). Leaves old.presence x.presence) (sym step.1) (replied_leaves (state_renewed (noted old q reply) q reply) q reply)
 
 same_leaves : (old new : WatchState) → new.presence ≡ old.presence → Leaves old.presence new.presence
-same_leaves old new is = subst (Leaves old.presence) (sym is) (refl, inl (refl, (refl, refl)))
+same_leaves old new is = subst (Leaves old.presence) (sym is) (inl (refl, (refl, refl)))
 
 step_leaves : (old new : WatchState) (event : Event) (output : Output) → Step old event output new → is_clock event ≡ false → Leaves old.presence new.presence
 step_leaves old new (Clock wall elapsed) output step none = absurd cc
@@ -195,12 +181,12 @@ differ a b true is other same = absurd (true≢false (sym is ∙ sym same ∙ ot
 differ a b false is other same = absurd (true≢false (sym other ∙ same ∙ is))
 
 stays_so : (old new : WatchState) → Leaves old.presence new.presence → new.presence.away ≡ old.presence.away → HoldStays old new
-stays_so old new (free, inl same) away = record { count = same.1.0; hold = same.1.1 }
-stays_so old new (free, inr ends) away = absurd (ends.0 away)
+stays_so old new (inl same) away = record { count = same.1.0; hold = same.1.1 }
+stays_so old new (inr ends) away = absurd (ends.0 away)
 
 ends_so : (old new : WatchState) (away : Bool) → Leaves old.presence new.presence → old.presence.away ≡ away → new.presence.away ≡ (if away then false else true) → HoldEnds new
-ends_so old new away (free, inl same) is other = absurd (differ old.presence.away new.presence.away away is other same.0)
-ends_so old new away (free, inr ends) is other = record { count = ends.1.0; hold = ends.1.1 }
+ends_so old new away (inl same) is other = absurd (differ old.presence.away new.presence.away away is other same.0)
+ends_so old new away (inr ends) is other = record { count = ends.1.0; hold = ends.1.1 }
 
 turn_ends :
     (old new : WatchState) (event : Event) (result : Result Output WatchFault) (away : Bool) → Turn old event result new → old.presence.away ≡ away → new.presence.away ≡ (if away then false else true) → HoldEnds new
@@ -214,21 +200,10 @@ turn_ends old new Begin (Ok output) away turn is other = ends_so old new away (s
 turn_ends old new (Known i end renewable) (Ok output) away turn is other = ends_so old new away (step_leaves old new (Known i end renewable) output turn.1 refl) is other
 turn_ends old new event (Err fault) away turn is other = ends_so old new away (same_leaves old new (ap (λ (x : WatchState). x.presence) (refused_stays old new event fault turn))) is other
 
--- nothing goes out for a second where one said so
-free_at : (old new : WatchState) → Clocked old new → new.presence.free ≡ (if list_any (λ (a : Answer). is_too_busy a.reply) old.answers then new.clocks.at + 1000 else old.presence.free)
-free_at old new h = ap (λ (p : Presence). p.free) h.presence ∙ freed old.forest.margin new.clocks.at old.tracks old.answers old.presence
-
-turn_free :
-    (old new : WatchState) (event : Event) (result : Result Output WatchFault) → Turn old event result new →
-    (is_event_taken result && is_clock event) && list_any (λ (a : Answer). is_too_busy a.reply) old.answers ≡ false → new.presence.free ≡ old.presence.free
-turn_free old new (Clock wall elapsed) (Ok output) turn none =
-    free_at old new (step_clocked old new wall elapsed output turn.1) ∙ cond-false (list_any (λ (a : Answer). is_too_busy a.reply) old.answers) (new.clocks.at + 1000) old.presence.free none
-turn_free old new (Looked i reply terms) (Ok output) turn none = (step_leaves old new (Looked i reply terms) output turn.1 refl).0
-turn_free old new (Renewed i reply) (Ok output) turn none = (step_leaves old new (Renewed i reply) output turn.1 refl).0
-turn_free old new (Need i until) (Ok output) turn none = (step_leaves old new (Need i until) output turn.1 refl).0
-turn_free old new Begin (Ok output) turn none = (step_leaves old new Begin output turn.1 refl).0
-turn_free old new (Known i end renewable) (Ok output) turn none = (step_leaves old new (Known i end renewable) output turn.1 refl).0
-turn_free old new event (Err fault) turn none = ap (λ (x : WatchState). x.presence.free) (refused_stays old new event fault turn)
+-- nothing is held back while the broker is there
+ran_past : (turns : List Turned) (old : WatchState) → History old turns → IsPast old → IsPast (after_all old turns)
+ran_past [] old h past = past
+ran_past (turn ∷ turns) old h past = ran_past turns turn.state h.1 (turn_past old turn.state turn.event turn.result h.0 past)
 
 pub held_so : HoldLaw
 held_so = record {
@@ -237,8 +212,5 @@ held_so = record {
   other = λ old turn wall elapsed h clock none. hold_stays old turn.state (turn_clocked old turn.state turn.event turn.result wall elapsed h.0 clock.0 clock.1) none;
   stays = λ old turn h none away. stays_so old turn.state (turn_leaves old turn.state turn.event turn.result h.0 none) away;
   ends = λ old turn away h is other'. turn_ends old turn.state turn.event turn.result away h.0 is other';
-  busy = λ old turn wall elapsed h clock some.
-      free_at old turn.state (turn_clocked old turn.state turn.event turn.result wall elapsed h.0 clock.0 clock.1)
-      ∙ cond-true (list_any (λ (a : Answer). is_too_busy a.reply) old.answers) (turn.state.clocks.at + 1000) old.presence.free some;
-  free = λ old turn h none. turn_free old turn.state turn.event turn.result h.0 none;
+  there = λ g width turns run there. (ran_past turns (opened g width) run (opened_past g width)).hold there;
 }

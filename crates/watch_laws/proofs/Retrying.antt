@@ -551,7 +551,7 @@ first_past [] i = omega arith
 first_past (e ∷ es) zero = omega arith
 first_past (e ∷ es) (suc i) = first_past es i
 
-opened_past : (g : Forest) (width : ℕ) → IsPast (opened g width)
+pub opened_past : (g : Forest) (width : ℕ) → IsPast (opened g width)
 opened_past g width = record { start = λ none. refl; hold = λ there. refl; last = λ i. let l = first_past g.entries i in omega (arith, l) }
 
 pub retried : RetryLaw

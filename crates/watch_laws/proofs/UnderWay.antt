@@ -18,26 +18,25 @@ use Rattle.watch_machine.specs.declared.event.Reply.{Reply}
 use Rattle.watch_machine.specs.declared.event.Reply.TheVariants.{Told, Refused, Busy, Lost}
 use Rattle.watch_machine.specs.declared.event.Terms.{Terms}
 use Rattle.watch_machine.specs.declared.fault.WatchFault.{WatchFault}
-use Rattle.watch_machine.specs.declared.lanes.Answer.{Answer}
 use Rattle.watch_machine.specs.declared.lanes.Out.{Out}
 use Rattle.watch_machine.specs.declared.lanes.Presence.{Presence}
 use Rattle.watch_machine.specs.declared.notes.Why.{Why}
 use Rattle.watch_machine.specs.declared.track.End.TheVariants.{At}
 use Rattle.watch_machine.specs.declared.track.Track.{Track}
 use Rattle.watch_machine.specs.declared.track.Try.{Try}
-use Rattle.watch_machine.specs.Answers.{failing, heard, lane_freed, noted, replied, without_request}
+use Rattle.watch_machine.specs.Answers.{failing, heard, lane_freed, noted, replied, with_track, without_request}
 use Rattle.watch_machine.specs.Beginning.{begun, hastened, is_called, is_pressed, is_pressed_try, owed, owing, owing_lookup, soon, sooner_try, untopped, untopped_track}
 use Rattle.watch_machine.specs.Clocks.{sec}
 use Rattle.watch_machine.specs.History.{History, Turn, Turned, after_all}
 use Rattle.watch_machine.specs.Lines.{is_first, later_at, ready}
-use Rattle.watch_machine.specs.Looked.{at_once, by_terms, is_called_for, looked, refused_try, told_state, told_track, told_try, untold, untold_track}
+use Rattle.watch_machine.specs.Looked.{after_look, at_once, by_terms, is_called_for, looked, refused_try, told_state, told_track, told_try, untold, untold_track}
 use Rattle.watch_machine.specs.Margins.{has_come}
 use Rattle.watch_machine.specs.Press.{is_fresh, pressed}
 use Rattle.watch_machine.specs.Refusal.{request_out}
-use Rattle.watch_machine.specs.Renewed.{from_try, granted_from, granted_try, renewed_track, state_renewed, track_renewed, ungranted, ungranted_track}
+use Rattle.watch_machine.specs.Renewed.{after_renewal, from_try, granted_from, granted_try, renewed_track, state_renewed, track_renewed, ungranted, ungranted_track}
 use Rattle.watch_machine.specs.Round.{asked_by_round as round_of}
 use Rattle.watch_machine.specs.Sending.{sent}
-use Rattle.watch_machine.specs.Settling.{is_busy, is_real, presence_after, settled, settled_track, settled_try, timed}
+use Rattle.watch_machine.specs.Settling.{is_real, presence_after, settled, settled_track, settled_try, timed}
 use Rattle.watch_machine.specs.State.{WatchState, attempt_at, entry_of, no_track, opened, second, track_at}
 use Rattle.watch_machine.specs.Step.{Step, StepClock, StepLooked, StepRenewed, known, readied, why, with_need_until}
 use Rattle.watch_machine.specs.Wanted.{is_alive, is_open, is_wanted, need_of, wanted_need, wants}
@@ -49,7 +48,6 @@ use Rattle.watch_laws.specs.Recovery.{without_outage}
 use Rattle.watch_laws.specs.Starts.{AreUnderWay, AreWorked, BrokerIsThere, FirstTryIsUnderWay, IsAtWork, IsThereAt, IsWorked, IsWorking, SoonLaw, is_first_try}
 use Rattle.watch_laws.proofs.Answering.{looked_rest}
 use Rattle.watch_laws.proofs.Clocking.{readied_clocks, refused_stays, sent_by}
-use Rattle.watch_laws.proofs.Enduring.{any_more}
 use Rattle.watch_laws.proofs.Grounds.{IsBase, first_turns, last_turns, opened_base, ran_base, turn_base}
 use Rattle.watch_laws.proofs.Holding.{looked_presence, ready_presence}
 use Rattle.watch_laws.proofs.Lanes.{goes_out_now, replied_lane, still_out, ticks}
@@ -59,9 +57,9 @@ use Rattle.watch_laws.proofs.Once.{names_none}
 use Rattle.watch_laws.proofs.OnPlan.{attempt_sent, presence_away, stays}
 use Rattle.watch_laws.proofs.Opener.{mid_bears}
 use Rattle.watch_laws.proofs.Recovering.{all_whole}
+use Rattle.watch_laws.proofs.Resting.{IsUntold}
 use Rattle.watch_laws.proofs.Retrying.{rises}
 use Rattle.watch_laws.proofs.Spacing.{looked_other, looked_out, same_index}
-use Rattle.watch_laws.proofs.Sparing.{readied_answers}
 use Rattle.watch_laws.proofs.Starting.{starts_soon}
 use Rattle.watch_laws.proofs.Tracking.{each_kept, replied_forest, set_kept}
 
@@ -105,13 +103,19 @@ granted_first at end owes (Some t) =
     let P : Option Try → Type 0 = λ o. is_first_try o ≡ false in
     if_both P (nat_lt (sec at) end) (if owes then Some (owed (at + 30000)) else None) (Some (failing t Look false false)) (if_both P owes (Some (owed (at + 30000))) None refl refl) (failed_first t Look false false)
 
-ungranted_first : (at status : ℕ) (date : Option ℕ) (heard' : Bool) (x : Track) (o : Option Try) → is_first_try (ungranted at heard' (Refused status date) x o) ≡ false
-ungranted_first at status date heard' x None = refl
-ungranted_first at status date heard' x (Some t) = failed_first t Look false false
+ungranted_first : (at : ℕ) (heard' : Bool) (reply : Reply) (x : Track) (o : Option Try) → IsUntold reply → is_first_try (ungranted at heard' reply x o) ≡ false
+ungranted_first at heard' reply x None none = refl
+ungranted_first at heard' (Told seconds renewable date) x (Some t) none = absurd none
+ungranted_first at heard' (Refused status date) x (Some t) none = failed_first t Look false false
+ungranted_first at heard' Busy x (Some t) none = failed_first t (after_renewal (sec at) x) true false
+ungranted_first at heard' Lost x (Some t) none = failed_first t (after_renewal (sec at) x) true heard'
 
-untold_first : (at status : ℕ) (date : Option ℕ) (heard' : Bool) (x : Track) (o : Option Try) → is_first_try (untold at heard' (Refused status date) x o) ≡ false
-untold_first at status date heard' x None = refl
-untold_first at status date heard' x (Some t) = refused_first at x t
+untold_first : (at : ℕ) (heard' : Bool) (reply : Reply) (x : Track) (o : Option Try) → IsUntold reply → is_first_try (untold at heard' reply x o) ≡ false
+untold_first at heard' reply x None none = refl
+untold_first at heard' (Told seconds renewable date) x (Some t) none = absurd none
+untold_first at heard' (Refused status date) x (Some t) none = refused_first at x t
+untold_first at heard' Busy x (Some t) none = failed_first t (after_look (sec at) x t) true false
+untold_first at heard' Lost x (Some t) none = failed_first t (after_look (sec at) x t) true heard'
 
 -- one that is told goes on at once
 once : (at : ℕ) (t : Try) → is_first t ≡ true → t.failed ≡ false → (is_first (at_once at t) ≡ true) × (((at_once at t).failed ≡ false) × ((at_once at t).at ≤ at))
@@ -130,32 +134,30 @@ told_runs at due x t first settled'' =
 -- ---- a state
 
 to_way :
-    (o : Outage) (s : WatchState) (i : ℕ) → Runs s.clocks.at (attempt_at s i) → ((track_at s i).out ≡ true → is_request_served o s i ≡ true) → s.presence.away ≡ false → s.presence.free ≤ s.clocks.at →
-    list_any (λ a. is_busy a.reply) s.answers ≡ false → FirstTryIsUnderWay o s i
-to_way o s i r lane there free unbusy = record { attempt = r.try; attempt_is = r.is; first = r.first; settled = r.settled'; soon = r.soon'; lane = lane; there = there; free = free; unbusy = unbusy }
+    (o : Outage) (s : WatchState) (i : ℕ) → Runs s.clocks.at (attempt_at s i) → ((track_at s i).out ≡ true → is_request_served o s i ≡ true) → s.presence.away ≡ false →
+    FirstTryIsUnderWay o s i
+to_way o s i r lane there = record { attempt = r.try; attempt_is = r.is; first = r.first; settled = r.settled'; soon = r.soon'; lane = lane; there = there }
 
 of_way : (o : Outage) (s : WatchState) (i : ℕ) → FirstTryIsUnderWay o s i → Runs s.clocks.at (attempt_at s i)
 of_way o s i way = record { try = way.attempt; is = way.attempt_is; first = way.first; settled' = way.settled; soon' = way.soon }
 
 -- it is being asked, or may go out
-ready_now : (p : Presence) (at : ℕ) (x : Track) (t : Try) → is_first t ≡ true → t.at ≤ at → p.free ≤ at → ready p x t ≤ at
+ready_now : (p : Presence) (at : ℕ) (x : Track) (t : Try) → is_first t ≡ true → t.at ≤ at → ready p x t ≤ at
 unfolding ready
-ready_now p at x t first soon'' free = let e = cond-true (is_first t) t.at (max p.hold (later_at p.away x t)) first in omega (arith, e, soon'', free)
+ready_now p at x t first soon'' = let e = cond-true (is_first t) t.at (max p.hold (later_at p.away x t)) first in omega (arith, e, soon'')
 
 at_work : (o : Outage) (s : WatchState) (i : ℕ) → i < length s.forest.entries → FirstTryIsUnderWay o s i → IsAtWork o s i
 at_work o s i within way =
     elim (cases_Bool (track_at s i).out) as (λ _. IsAtWork o s i) [
       | inl out ↦ inl (way.lane out)
-      | inr free ↦ inr (record { within = within; free = free; attempt = way.attempt; attempt_is = way.attempt_is; due = ready_now s.presence s.clocks.at (track_at s i) way.attempt way.first way.soon way.free })
+      | inr free ↦ inr (record { within = within; free = free; attempt = way.attempt; attempt_is = way.attempt_is; due = ready_now s.presence s.clocks.at (track_at s i) way.attempt way.first way.soon })
     ]
 
 same_way :
-    (o : Outage) (i : ℕ) (old new : WatchState) → attempt_at new i ≡ attempt_at old i → (track_at new i).out ≡ (track_at old i).out → new.out ≡ old.out → new.presence ≡ old.presence → new.answers ≡ old.answers →
+    (o : Outage) (i : ℕ) (old new : WatchState) → attempt_at new i ≡ attempt_at old i → (track_at new i).out ≡ (track_at old i).out → new.out ≡ old.out → new.presence ≡ old.presence →
     new.clocks ≡ old.clocks → FirstTryIsUnderWay o old i → FirstTryIsUnderWay o new i
-same_way o i old new tried flag outs presence answers clocks way =
+same_way o i old new tried flag outs presence clocks way =
     let at = ap (λ c. c.at) clocks in
-    let f = ap (λ (p : Presence). p.free) presence in
-    let free = way.free in
     let soon'' = way.soon in
     record {
       attempt = way.attempt;
@@ -165,8 +167,6 @@ same_way o i old new tried flag outs presence answers clocks way =
       soon = omega (arith, at, soon'');
       lane = λ out. ap (list_any (λ (q : Out). q.entry == i && is_request_whole o q.since)) outs ∙ way.lane (sym flag ∙ out);
       there = ap (λ (p : Presence). p.away) presence ∙ way.there;
-      free = omega (arith, at, f, free);
-      unbusy = ap (list_any (λ (a : Answer). is_busy a.reply)) answers ∙ way.unbusy;
     }
 
 -- ---- an answer
@@ -177,10 +177,10 @@ there_replied s q (Refused status date) real there = let free = lane_freed s q i
 there_replied s q Busy real there = let free = lane_freed s q in let all : WatchState = record free { out = map heard free.out } in cond-false s.presence.away _ all there
 there_replied s q Lost real there = absurd cc
 
-real_of : (quick late : ℕ) (q : Out) (reply : Reply) → IsReplyInOutage (without_outage quick late) reply q → (is_real reply ≡ true) × (is_busy reply ≡ false)
-real_of quick late q (Told seconds renewable date) h = (refl, refl)
-real_of quick late q (Refused status date) h = (refl, refl)
-real_of quick late q Busy h = absurd h
+real_of : (quick late : ℕ) (q : Out) (reply : Reply) → IsReplyInOutage (without_outage quick late) reply q → is_real reply ≡ true
+real_of quick late q (Told seconds renewable date) h = refl
+real_of quick late q (Refused status date) h = refl
+real_of quick late q Busy h = refl
 real_of quick late q Lost h = absurd (not_both (all_whole quick late q.since) h)
 
 -- what an answer leaves before what it says of the broker
@@ -188,7 +188,6 @@ record Leaves (i : ℕ) (old mid : WatchState) (q : Out) (reply : Reply) : Type 
   outs : mid.out ≡ old.out
   presence : mid.presence ≡ old.presence
   clocks : mid.clocks ≡ old.clocks
-  answers : mid.answers ≡ old.answers ++ record { since = q.since; heard = q.heard; reply = reply } ∷ []
   own : q.entry ≡ i → is_first_try (attempt_at mid i) ≡ true → Runs mid.clocks.at (attempt_at mid i) × ((track_at mid i).out ≡ false)
   other : q.entry ≢ i → track_at mid i ≡ track_at old i
 
@@ -198,28 +197,16 @@ answer_way :
 answer_way quick late i old mid new q reply made is_reply h first way =
     let o = without_outage quick late in
     let real = real_of quick late q reply is_reply in
-    let a : Answer = record { since = q.since; heard = q.heard; reply = reply } in
     let left : WatchState = record mid { out = map heard (without_request q.entry mid.out) } in
     let away : mid.presence.away ≡ false = ap (λ (p : Presence). p.away) h.presence ∙ way.there in
-    let to = there_replied mid q reply real.0 away in
+    let to = there_replied mid q reply real away in
     let is : new ≡ left = made ∙ to in
     let at = ap (λ c. c.at) h.clocks in
-    let f = ap (λ (p : Presence). p.free) h.presence in
-    let low = way.free in
-    let free : left.presence.free ≤ left.clocks.at = omega (arith, at, f, low) in
-    let unbusy : list_any (λ (b : Answer). is_busy b.reply) left.answers ≡ false =
-    elim (cases_Bool (list_any (λ (b : Answer). is_busy b.reply) left.answers)) as (λ _. list_any (λ (b : Answer). is_busy b.reply) left.answers ≡ false) [
-      | inl busy ↦ elim (any_more (λ (b : Answer). is_busy b.reply) old.answers a (sym (ap (list_any (λ (b : Answer). is_busy b.reply)) h.answers) ∙ busy)) [
-        | inl before ↦ absurd (not_both before way.unbusy)
-        | inr this ↦ absurd (not_both this real.1)
-      ]
-      | inr none ↦ none
-    ] in
     subst (λ (x : WatchState). FirstTryIsUnderWay o x i) (sym is)
     (elim (cases_Bool (q.entry == i)) as (λ _. FirstTryIsUnderWay o left i) [
       | inl same ↦
           let own = h.own (eqb-true q.entry i same) (sym (ap (λ (x : WatchState). is_first_try (attempt_at x i)) is) ∙ first) in
-          to_way o left i own.0 (λ out. absurd (not_both out own.1)) away free unbusy
+          to_way o left i own.0 (λ out. absurd (not_both out own.1)) away
       | inr different ↦
           let apart : q.entry ≢ i = λ e. not_both (subst (λ n. (n == i) ≡ true) (sym e) (same_index i)) different in
           let track = h.other apart in
@@ -230,22 +217,25 @@ answer_way quick late i old mid new q reply made is_reply h first way =
           let before = way.lane (sym (ap (λ (x : Track). x.out) track) ∙ out) in
           let there = ap (list_any (λ (r : Out). r.entry == i && is_request_whole o r.since)) h.outs ∙ before in
           sym (ap (λ (x : WatchState). is_request_served o x i) to) ∙ replied_lane i (is_request_whole o) mid q reply apart there in
-          to_way o left i runs lane away free unbusy
+          to_way o left i runs lane away
     ])
 
-looked_answers : (s : WatchState) (q : Out) (reply : Reply) (terms : Terms) → (looked s q reply terms).answers ≡ s.answers
-looked_answers s q (Told seconds renewable date) terms = refl
-looked_answers s q (Refused status date) terms = refl
-looked_answers s q Busy terms = refl
-looked_answers s q Lost terms = refl
+-- what tells nothing leaves none
+untold_left :
+    (s : WatchState) (q : Out) (reply : Reply) → q.entry < length s.tracks → IsUntold reply →
+    is_first_try (attempt_at (with_track s q.entry (untold_track s.clocks.at q.heard reply (track_at s q.entry))) q.entry) ≡ false
+unfolding untold_track
+untold_left s q reply within none =
+    let x = track_at s q.entry in
+    ap (λ (w : Track). is_first_try w.attempt) (get_or-set_same s.tracks q.entry (untold_track s.clocks.at q.heard reply x) no_track within) ∙ untold_first s.clocks.at q.heard reply x x.attempt none
 
 -- the answer to a lookup of the entry, where it leaves a first try
 looked_runs :
-    (quick late : ℕ) (s : WatchState) (q : Out) (reply : Reply) (terms : Terms) (t : Try) → IsReplyInOutage (without_outage quick late) reply q → attempt_at s q.entry ≡ Some t → is_first t ≡ true → t.failed ≡ false →
+    (s : WatchState) (q : Out) (reply : Reply) (terms : Terms) (t : Try) → attempt_at s q.entry ≡ Some t → is_first t ≡ true → t.failed ≡ false →
     is_first_try (attempt_at (looked s q reply terms) q.entry) ≡ true →
     Runs s.clocks.at (attempt_at (looked s q reply terms) q.entry) × ((track_at (looked s q reply terms) q.entry).out ≡ false)
-unfolding told_track untold_track
-looked_runs quick late s q (Told seconds renewable date) terms t is_reply is first settled'' given =
+unfolding told_track
+looked_runs s q (Told seconds renewable date) terms t is first settled'' given =
     let i = q.entry in
     let within = some_within s.tracks i t is in
     let y = told_track q.since seconds renewable terms.endless (track_at s i) in
@@ -261,28 +251,29 @@ looked_runs quick late s q (Told seconds renewable date) terms t is_reply is fir
       subst (Runs s.clocks.at) (sym made) (told_runs s.clocks.at called x t first settled'' (sym (ap is_first_try made) ∙ given)),
       ap (λ (w : Track). w.out) last ∙ ap (λ (w : Track). w.out) here,
     )
-looked_runs quick late s q (Refused status date) terms t is_reply is first settled'' given =
-    let i = q.entry in
-    let x = track_at s i in
-    let within = some_within s.tracks i t is in
-    let last = get_or-set_same s.tracks i (untold_track s.clocks.at q.heard (Refused status date) x) no_track within in
-    absurd (not_both given (ap (λ (w : Track). is_first_try w.attempt) last ∙ untold_first s.clocks.at status date q.heard x x.attempt))
-looked_runs quick late s q Busy terms t is_reply is first settled'' given = absurd is_reply
-looked_runs quick late s q Lost terms t is_reply is first settled'' given = absurd (not_both (all_whole quick late q.since) is_reply)
+looked_runs s q (Refused status date) terms t is first settled'' given = absurd (not_both given (untold_left s q (Refused status date) (some_within s.tracks q.entry t is) tt))
+looked_runs s q Busy terms t is first settled'' given = absurd (not_both given (untold_left s q Busy (some_within s.tracks q.entry t is) tt))
+looked_runs s q Lost terms t is first settled'' given = absurd (not_both given (untold_left s q Lost (some_within s.tracks q.entry t is) tt))
 
 -- and that to a renewal leaves none
-renewed_first : (quick late : ℕ) (s : WatchState) (q : Out) (reply : Reply) → IsReplyInOutage (without_outage quick late) reply q → q.entry < length s.tracks → is_first_try (attempt_at (state_renewed s q reply) q.entry) ≡ false
-unfolding renewed_track granted_from ungranted_track
-renewed_first quick late s q (Told seconds renewable date) is_reply within =
+ungranted_left :
+    (s : WatchState) (q : Out) (reply : Reply) → q.entry < length s.tracks → IsUntold reply →
+    is_first_try (attempt_at (with_track s q.entry (ungranted_track s.clocks.at q.heard reply (track_at s q.entry))) q.entry) ≡ false
+unfolding ungranted_track
+ungranted_left s q reply within none =
+    let x = track_at s q.entry in
+    ap (λ (w : Track). is_first_try w.attempt) (get_or-set_same s.tracks q.entry (ungranted_track s.clocks.at q.heard reply x) no_track within) ∙ ungranted_first s.clocks.at q.heard reply x x.attempt none
+
+renewed_first : (s : WatchState) (q : Out) (reply : Reply) → q.entry < length s.tracks → is_first_try (attempt_at (state_renewed s q reply) q.entry) ≡ false
+unfolding renewed_track granted_from
+renewed_first s q (Told seconds renewable date) within =
     let x = track_at s q.entry in
     let step = (entry_of s q.entry).step in
     let from = from_try s.forest.margin step seconds s.clocks.at q.since x.attempt in
     ap (λ (w : Track). is_first_try w.attempt) (get_or-set_same s.tracks q.entry (track_renewed s q (Told seconds renewable date)) no_track within) ∙ granted_first s.clocks.at (sec from + seconds) x.owes x.attempt
-renewed_first quick late s q (Refused status date) is_reply within =
-    let x = track_at s q.entry in
-    ap (λ (w : Track). is_first_try w.attempt) (get_or-set_same s.tracks q.entry (track_renewed s q (Refused status date)) no_track within) ∙ ungranted_first s.clocks.at status date q.heard x x.attempt
-renewed_first quick late s q Busy is_reply within = absurd is_reply
-renewed_first quick late s q Lost is_reply within = absurd (not_both (all_whole quick late q.since) is_reply)
+renewed_first s q (Refused status date) within = ungranted_left s q (Refused status date) within tt
+renewed_first s q Busy within = ungranted_left s q Busy within tt
+renewed_first s q Lost within = ungranted_left s q Lost within tt
 
 looked_way :
     (quick late i j : ℕ) (old new : WatchState) (found : Option Out) (reply : Reply) (terms : Terms) (output : Output) → StepLooked old found reply terms output new → IfSome found (IsReplyInOutage (without_outage quick late) reply) →
@@ -296,10 +287,9 @@ looked_way quick late i j old new (Some q) reply terms output step is_reply firs
       outs = looked_out s q reply terms;
       presence = looked_presence s q reply terms;
       clocks = ap (λ (x : WatchState). x.clocks) (looked_rest s q reply terms);
-      answers = looked_answers s q reply terms;
       own = λ same left.
           let at = ap (λ (x : WatchState). x.clocks.at) (looked_rest s q reply terms) in
-          let runs = looked_runs quick late s q reply terms way.attempt is_reply (subst (λ k. attempt_at old k ≡ Some way.attempt) (sym same) way.attempt_is) way.first way.settled (subst (λ k. is_first_try (attempt_at mid k) ≡ true) (sym same) left) in (
+          let runs = looked_runs s q reply terms way.attempt (subst (λ k. attempt_at old k ≡ Some way.attempt) (sym same) way.attempt_is) way.first way.settled (subst (λ k. is_first_try (attempt_at mid k) ≡ true) (sym same) left) in (
             later_runs s.clocks.at mid.clocks.at (attempt_at mid i) (omega (arith, at)) (subst (λ k. Runs s.clocks.at (attempt_at mid k)) same runs.0),
             subst (λ k. (track_at mid k).out ≡ false) same runs.1,
           );
@@ -319,10 +309,9 @@ renewed_way quick late i old new (Some q) reply output step is_reply first way =
       outs = refl;
       presence = refl;
       clocks = refl;
-      answers = refl;
       own = λ same left.
           let within = some_within old.tracks i way.attempt way.attempt_is in
-          absurd (not_both left (subst (λ k. is_first_try (attempt_at mid k) ≡ false) same (renewed_first quick late s q reply is_reply (subst (λ k. k < length old.tracks) (sym same) within))));
+          absurd (not_both left (subst (λ k. is_first_try (attempt_at mid k) ≡ false) same (renewed_first s q reply (subst (λ k. k < length old.tracks) (sym same) within))));
       other = λ apart. get_or-set_other s.tracks q.entry i _ no_track (λ e. apart (sym e));
     })
     first way
@@ -372,10 +361,6 @@ not_fresh : (margin : ℕ) (e : Entry) (x : Track) (need now : ℕ) → is_press
 unfolding is_fresh
 not_fresh margin e x need now h = none_fresh (wants x need) (has_come margin e x now) (is_pressed x) x.out h
 
-presence_free : (margin at : ℕ) (xs : List Track) (answers : List Answer) (p : Presence) → list_any (λ (a : Answer). is_busy a.reply) answers ≡ false → (presence_after margin at xs answers p).free ≡ p.free
-unfolding presence_after
-presence_free margin at xs answers p none = cond-false (list_any (λ (a : Answer). is_busy a.reply) answers) (at + 1000) p.free none
-
 clock_way :
     (quick late width n i : ℕ) (old new : WatchState) (wall elapsed : ℕ) (output : Output) → StepClock old wall elapsed output new → IsBase width n old → is_wanted new i ≡ true → FirstTryIsUnderWay (without_outage quick late) old i →
     FirstTryIsUnderWay (without_outage quick late) new i
@@ -406,15 +391,12 @@ clock_way quick late width n i old new wall elapsed output step base wanted way 
     let tried : Runs end'.clocks.at (attempt_at end' i) = subst (Runs end'.clocks.at) (sym (attempt_sent s (round_of round) rs i)) (subst (Runs end'.clocks.at) (sym same) runs) in
     let presence = ap (λ (x : WatchState). x.presence) made.1 ∙ ready_presence old wall elapsed in
     let away : new.presence.away ≡ false = ap (λ (p : Presence). p.away) presence ∙ presence_away old.forest.margin (timed old wall elapsed).clocks.at old.tracks old.answers old.presence ∙ way.there in
-    let at = ap (λ (x : WatchState). x.clocks.at) made.1 in
-    let f = ap (λ (p : Presence). p.free) presence ∙ presence_free old.forest.margin (timed old wall elapsed).clocks.at old.tracks old.answers old.presence way.unbusy in
-    let low = way.free in
     to_way o new i (subst (λ (x : WatchState). Runs x.clocks.at (attempt_at x i)) (sym made.1) tried)
     (λ out. elim (cases_Bool (track_at old i).out) as (λ _. is_request_served o new i ≡ true) [
       | inl was ↦ still_out old new wall elapsed output (λ (q : Out). q.entry == i && is_request_whole o q.since) h (way.lane was)
       | inr free ↦ goes_out_now old new wall elapsed output i (is_request_whole o) h free out (all_whole quick late (pressed (readied old wall elapsed) h.round).clocks.at)
     ])
-    away (omega (arith, at, f, low, le)) (ap (list_any (λ (a : Answer). is_busy a.reply)) (ap (λ (x : WatchState). x.answers) made.1 ∙ readied_answers old wall elapsed))
+    away
 
 -- ---- a step, a turn
 
@@ -425,13 +407,13 @@ step_way quick late width n i due old new (Clock wall elapsed) output step there
 step_way quick late width n i due old new (Looked j reply terms) output step there base wanted first way = looked_way quick late i j old new (request_out old.out j Look) reply terms output step there first way
 step_way quick late width n i due old new (Renewed j reply) output step there base wanted first way = renewed_way quick late i old new (request_out old.out j Renew) reply output step there first way
 step_way quick late width n i due old new (Need j until) output step there base wanted first way =
-    subst (λ (x : WatchState). FirstTryIsUnderWay (without_outage quick late) x i) (sym step.1) (same_way (without_outage quick late) i old (with_need_until old j until) refl refl refl refl refl refl way)
+    subst (λ (x : WatchState). FirstTryIsUnderWay (without_outage quick late) x i) (sym step.1) (same_way (without_outage quick late) i old (with_need_until old j until) refl refl refl refl refl way)
 step_way quick late width n i due old new Begin output step there base wanted first way =
-    subst (λ (x : WatchState). FirstTryIsUnderWay (without_outage quick late) x i) (sym step.1) (same_way (without_outage quick late) i old (record old { asked = true }) refl refl refl refl refl refl way)
+    subst (λ (x : WatchState). FirstTryIsUnderWay (without_outage quick late) x i) (sym step.1) (same_way (without_outage quick late) i old (record old { asked = true }) refl refl refl refl refl way)
 step_way quick late width n i due old new (Known j end renewable) output step there base wanted first way =
     let R : Track → Track → Type 0 = λ y x. (y.attempt ≡ x.attempt) × (y.out ≡ x.out) in
     let kept = set_kept R (λ x. (refl, refl)) old.tracks j (record (track_at old j) { end = At (min END_MAX end); renewable = renewable }) (refl, refl) i in
-    subst (λ (x : WatchState). FirstTryIsUnderWay (without_outage quick late) x i) (sym step.1) (same_way (without_outage quick late) i old (known old j end renewable) kept.0 kept.1 refl refl refl refl way)
+    subst (λ (x : WatchState). FirstTryIsUnderWay (without_outage quick late) x i) (sym step.1) (same_way (without_outage quick late) i old (known old j end renewable) kept.0 kept.1 refl refl refl way)
 
 turn_way :
     (quick late width n i due : ℕ) (old new : WatchState) (event : Event) (result : Result Output WatchFault) → Turn old event result new → IsThereAt (without_outage quick late) due old event result → IsBase width n old →

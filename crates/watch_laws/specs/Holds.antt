@@ -1,25 +1,15 @@
--- Holds: how long later tries are held back while the broker is away, and how long all are after it was busy. The law is the contract of a
--- public function without a body.
--- Source: this project's own; 429 is Vault, HTTP API, "HTTP status codes".
-use Rattle.std.specs.Prelude.{◌≡◌, ℕ, ◌+◌, ◌-◌, ◌*◌, ◌^◌, ◌<◌, ◌≤◌, Bool, true, false, ◌&&◌, if◌then◌else◌, [], ◌∷◌, Some, length, min}
+-- Holds: how long later tries are held back while the broker is away. The law is the contract of a public function without a body.
+-- Source: this project's own.
+use Rattle.std.specs.Prelude.{◌≡◌, ℕ, ◌+◌, ◌-◌, ◌*◌, ◌^◌, ◌<◌, ◌≤◌, Bool, true, false, ◌&&◌, if◌then◌else◌, List, [], ◌∷◌, Some, length, min}
 use Rattle.std.specs.List.{list_any}
-use Rattle.watch_machine.specs.declared.event.Reply.{Reply}
-use Rattle.watch_machine.specs.declared.event.Reply.TheVariants.{Told, Refused, Busy, Lost}
-use Rattle.watch_machine.specs.declared.lanes.Answer.{Answer}
+use Rattle.keep_tree.specs.Forest.{Forest}
 use Rattle.watch_machine.specs.declared.track.Try.{Try}
-use Rattle.watch_machine.specs.History.{History, Turned}
+use Rattle.watch_machine.specs.History.{History, IsWatchRun, Turned, after_all}
 use Rattle.watch_machine.specs.Pauses.{cap}
 use Rattle.watch_machine.specs.Settling.{is_silent}
-use Rattle.watch_machine.specs.State.{WatchState, attempt_at, track_at}
+use Rattle.watch_machine.specs.State.{WatchState, attempt_at, opened, track_at}
 use Rattle.watch_laws.specs.Absence.{is_clock, is_event_taken}
 use Rattle.watch_laws.specs.Clocks.{IsClock}
-
--- the broker was too busy to answer
-abbrev pub is_too_busy : Reply → Bool
-is_too_busy (Told seconds renewable date) = false
-is_too_busy (Refused status date) = false
-is_too_busy Busy = true
-is_too_busy Lost = false
 
 -- no entry that is pressed may pause for less than so long at a moment
 abbrev pub NonePausesLess : WatchState → ℕ → ℕ → Type 0
@@ -58,7 +48,8 @@ pub record HoldEnds (new : WatchState) : Type 0 where
 
 -- while the broker is away, a clock after a request that had no answer, and heard of none to another, holds later tries back: once more
 -- where the hold so far is over, else no longer than so far. Any other clock leaves the hold; so does every other event, but that the
--- broker goes away or comes back, which ends it. And for a second after it said that it was busy nothing goes out
+-- broker goes away or comes back, which ends it. So nothing is held back while the broker is there, whatever it answers: not by an answer that
+-- it is busy either
 pub record HoldLaw : Type 0 where
   pub anew :
       (old : WatchState) (turn : Turned) (wall elapsed : ℕ) → History old (turn ∷ []) → IsClock wall elapsed turn → old.presence.away ≡ true → list_any is_silent old.answers ≡ true →
@@ -71,9 +62,5 @@ pub record HoldLaw : Type 0 where
   pub stays :
       (old : WatchState) (turn : Turned) → History old (turn ∷ []) → is_event_taken turn.result && is_clock turn.event ≡ false → turn.state.presence.away ≡ old.presence.away → HoldStays old turn.state
   pub ends : (old : WatchState) (turn : Turned) (away : Bool) → History old (turn ∷ []) → old.presence.away ≡ away → turn.state.presence.away ≡ (if away then false else true) → HoldEnds turn.state
-  pub busy :
-      (old : WatchState) (turn : Turned) (wall elapsed : ℕ) → History old (turn ∷ []) → IsClock wall elapsed turn → list_any (λ (a : Answer). is_too_busy a.reply) old.answers ≡ true →
-      turn.state.presence.free ≡ turn.state.clocks.at + 1000
-  pub free :
-      (old : WatchState) (turn : Turned) → History old (turn ∷ []) → (is_event_taken turn.result && is_clock turn.event) && list_any (λ (a : Answer). is_too_busy a.reply) old.answers ≡ false →
-      turn.state.presence.free ≡ old.presence.free
+  pub there :
+      (g : Forest) (width : ℕ) (turns : List Turned) → IsWatchRun g width turns → (after_all (opened g width) turns).presence.away ≡ false → (after_all (opened g width) turns).presence.hold ≡ 0

@@ -2,7 +2,7 @@
 -- then renewed; and who is asked first. Each law is the contract of a public function without a body.
 -- Source: this project's own.
 use Rattle.std.specs.Prelude.{◌≡◌, ◌⊎◌, ◌==◌, ℕ, ◌+◌, ◌*◌, ◌<◌, ◌≤◌, Bool, true, false, ◌&&◌, if◌then◌else◌, List, [], ◌∷◌, ◌++◌, Option, Some, None, Result, Ok, Err, IfSome, length}
-use Rattle.std.specs.List.{All, list_any}
+use Rattle.std.specs.List.{All}
 use Rattle.keep_tree.specs.Forest.{Forest}
 use Rattle.watch_machine.specs.declared.command.Output.{Output}
 use Rattle.watch_machine.specs.declared.event.Event.{Event}
@@ -13,7 +13,7 @@ use Rattle.watch_machine.specs.declared.track.Try.{Try}
 use Rattle.watch_machine.specs.History.{IsWatchRun, Turned}
 use Rattle.watch_machine.specs.Lines.{is_first}
 use Rattle.watch_machine.specs.Refusal.{request_out}
-use Rattle.watch_machine.specs.Settling.{is_busy, timed}
+use Rattle.watch_machine.specs.Settling.{timed}
 use Rattle.watch_machine.specs.State.{WatchState, attempt_at, second, track_at}
 use Rattle.watch_machine.specs.Wanted.{is_alive, is_wanted}
 use Rattle.watch_laws.specs.Absence.{is_clock, is_event_taken}
@@ -78,7 +78,7 @@ abbrev pub is_first_try : Option Try → Bool
 is_first_try None = false
 is_first_try (Some t) = is_first t
 
--- i is on its first try, which may go out by now or is out; the broker is there, and nothing is held back
+-- i is on its first try, which may go out by now or is out, and the broker is there
 pub record FirstTryIsUnderWay (o : Outage) (s : WatchState) (i : ℕ) : Type 0 where
   pub attempt : Try
   pub attempt_is : attempt_at s i ≡ Some attempt
@@ -87,10 +87,8 @@ pub record FirstTryIsUnderWay (o : Outage) (s : WatchState) (i : ℕ) : Type 0 w
   pub soon : attempt.at ≤ s.clocks.at
   pub lane : (track_at s i).out ≡ true → is_request_served o s i ≡ true
   pub there : s.presence.away ≡ false
-  pub free : s.presence.free ≤ s.clocks.at
-  pub unbusy : list_any (λ a. is_busy a.reply) s.answers ≡ false
 
--- the broker is there: a clock comes in time, and no reply is lost or says that the broker is busy
+-- the broker is there: a clock comes in time, and no reply is lost
 abbrev pub BrokerIsThere : Outage → ℕ → WatchState → Event → Type 0
 BrokerIsThere o due s (Clock wall elapsed) = (timed s wall elapsed).clocks.at ≤ due
 BrokerIsThere o due s (Looked j reply terms) = IfSome (request_out s.out j Look) (IsReplyInOutage o reply)

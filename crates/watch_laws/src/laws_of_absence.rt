@@ -16,7 +16,7 @@ pub fn spared_law()
 /// The law of the hold: while the broker is away, a clock after a request that had no answer, and heard of none to another, holds later
 /// tries back. If the hold so far is over it does so once more: for a second at first, twice as long each time, but never for longer
 /// than five minutes, or than an entry that is pressed may pause. Else the hold is so long at most. It ends as the broker comes back.
-/// And for a second after it said that it was busy nothing goes out.
+/// While it is there nothing is held back, whatever it answers: not by an answer that it is busy either.
 pub fn hold_law()
     ensures { HoldLaw }
 {}

@@ -9,8 +9,8 @@ pub fn start_law()
     ensures { StartLaw }
 {}
 
-/// The law of a wanted entry's start: so it is of each entry that is wanted and on its first try, while no reply is lost and none says
-/// that the broker is busy. It is looked up within all those rounds, and renewed, if its time has come, within one round more.
+/// The law of a wanted entry's start: so it is of each entry that is wanted and on its first try, while no reply is lost. It is looked up
+/// within all those rounds, and renewed, if its time has come, within one round more.
 pub fn soon_law()
     ensures { SoonLaw }
 {}
@@ -26,7 +26,7 @@ pub fn known_first_law()
 /// ahead come before the other first tries, these before later tries, and these before lookups that are only owed; while the broker is away
 /// the later tries and the owed lookups come before the first. First tries that a round asked along come last. First tries stand by the
 /// ends of their entries, any others by when they were last asked. A first try may go out from its own moment on, any other not before the
-/// hold is over either; nothing goes out for a second after the broker was busy.
+/// hold is over either; an answer that the broker is busy keeps nobody else back.
 pub fn line_law()
     ensures line { LineLaw }
     ensures ready { ReadyLaw }
