@@ -1,5 +1,5 @@
 -- Failures: what a reply that tells nothing makes of a try. For the law of what is asked after a failure.
-use Rattle.std.proofs.Common.{◌≡◌, ◌∙◌, ℕ, Bool, true, false, not, ◌&&◌, ◌||◌, if◌then◌else◌, List, [], ◌∷◌, Option, Some, None, Result, Ok, Err, refl, sym, ap, subst, true≢false}
+use Rattle.std.proofs.Common.{◌≡◌, ◌∙◌, ℕ, ◌<◌, Bool, true, false, not, ◌&&◌, ◌||◌, if◌then◌else◌, List, [], ◌∷◌, Option, Some, None, Result, Ok, Err, length, refl, sym, ap, subst, true≢false}
 use Rattle.std.proofs.lemmas.List.{get_or-set_same}
 use Rattle.watch_machine.specs.declared.command.Output.{Output}
 use Rattle.watch_machine.specs.declared.event.Event.{Event}
@@ -14,7 +14,6 @@ use Rattle.watch_machine.specs.declared.lanes.Out.{Out}
 use Rattle.watch_machine.specs.declared.track.Track.{Track}
 use Rattle.watch_machine.specs.declared.track.Try.{Try}
 use Rattle.watch_machine.specs.Answers.{back_track, back_try, due_again, failing, noted, replied, with_track}
-use Rattle.watch_machine.specs.Beginning.{hastened}
 use Rattle.watch_machine.specs.Clocks.{sec}
 use Rattle.watch_machine.specs.History.{Turn, Turned}
 use Rattle.watch_machine.specs.Lines.{rested}
@@ -31,8 +30,8 @@ use Rattle.watch_laws.specs.Failures.{FailureLaw, IsFailure, asked_after_lookup,
 use Rattle.watch_laws.proofs.Minding.{some_within}
 use Rattle.watch_laws.proofs.Tracking.{back_kept, set_holds}
 
--- what holds of the try of an entry that is not out holds when the broker is back, if it holds of one that is hastened
-module _ (Q : Try → Type 0) (hasten : (t : Try) (from : ℕ) → Q t → Q (hastened t from)) where
+-- what holds of the try of an entry that is not out holds when the broker is back, if it holds of one that was lost and is due again
+module _ (Q : Try → Type 0) (again : (t : Try) (from : ℕ) → t.lost ≡ true → Q t → Q (due_again t from)) where
   abbrev pub Free : Track → Type 0
   Free x = (x.out ≡ false) × ((u : Try) → x.attempt ≡ Some u → Q u)
 
@@ -43,7 +42,8 @@ module _ (Q : Try → Type 0) (hasten : (t : Try) (from : ℕ) → Q t → Q (ha
   back_some x None free h u = λ is. absurd cc
   back_some x (Some t) free h u =
       if_cases (λ (o : Option Try). o ≡ Some u → Q u) x.out (Some (record t { fails = 0 })) (if t.lost then Some (due_again t (rested x.last)) else Some t) (λ out. absurd (not_both out free))
-      (λ _. if_both (λ (o : Option Try). o ≡ Some u → Q u) t.lost (Some (due_again t (rested x.last))) (Some t) (λ is. subst Q (value_is (due_again t (rested x.last)) u is) (hasten t (rested x.last) (h t refl))) (h u))
+      (λ _. if_cases (λ (o : Option Try). o ≡ Some u → Q u) t.lost (Some (due_again t (rested x.last))) (Some t)
+      (λ lost is. subst Q (value_is (due_again t (rested x.last)) u is) (again t (rested x.last) lost (h t refl))) (λ kept. h u))
 
   pub back_free : (x : Track) → Free x → Free (back_track x)
   unfolding back_track
@@ -53,12 +53,12 @@ module _ (Q : Try → Type 0) (hasten : (t : Try) (from : ℕ) → Q t → Q (ha
   set_free s q reply y h = back_kept (λ z x. Free x → Free z) (λ x k. k) (λ x. back_free x) (with_track s q.entry y) q reply q.entry (set_holds Free none_free s.tracks q.entry y h)
 
 -- a failure, by what is asked next
-hasten_failure : (t : Try) (reply : Reply) (heard : Bool) (next : Operation) (u : Try) (from : ℕ) → IsFailure t u reply heard next → IsFailure t (hastened u from) reply heard next
-hasten_failure t reply heard next u from h = record { fails = h.fails; base = h.base; alone = h.alone; pressed = h.pressed; operation = h.operation }
+again_failure : (t : Try) (reply : Reply) (heard : Bool) (next : Operation) (u : Try) (from : ℕ) → u.lost ≡ true → IsFailure t u reply heard next → IsFailure t (due_again u from) reply heard next
+again_failure t reply heard next u from lost h = record { fails = h.fails; base = h.base; alone = h.alone; pressed = h.pressed; operation = h.operation }
 
 -- a renewal
 ungranted_fails :
-    (at : ℕ) (heard : Bool) (reply : Reply) (x : Track) (t : Try) → is_told reply ≡ false → IsFailure t (ungranted_try at heard reply x t) reply heard (asked_after_renewal reply x.owes (is_alive (sec at) x))
+    (at : ℕ) (heard : Bool) (reply : Reply) (x : Track) (t : Try) → is_told reply ≡ false → IsFailure t (ungranted_try at heard reply x t) reply heard (asked_after_renewal reply (is_alive (sec at) x))
 ungranted_fails at heard (Told seconds renewable date) x t none = absurd cc
 ungranted_fails at heard (Refused status date) x t none = record { fails = refl; base = refl; alone = refl; pressed = refl; operation = refl }
 ungranted_fails at heard Busy x t none = record { fails = refl; base = refl; alone = refl; pressed = refl; operation = refl }
@@ -66,39 +66,61 @@ ungranted_fails at heard Lost x t none = record { fails = refl; base = refl; alo
 
 ungranted_some :
     (at : ℕ) (heard : Bool) (reply : Reply) (x : Track) (t u : Try) → is_told reply ≡ false → x.attempt ≡ Some t → ungranted at heard reply x x.attempt ≡ Some u →
-    IsFailure t u reply heard (asked_after_renewal reply x.owes (is_alive (sec at) x))
+    IsFailure t u reply heard (asked_after_renewal reply (is_alive (sec at) x))
 ungranted_some at heard reply x t u none is there =
-    subst (λ v. IsFailure t v reply heard (asked_after_renewal reply x.owes (is_alive (sec at) x)))
+    subst (λ v. IsFailure t v reply heard (asked_after_renewal reply (is_alive (sec at) x)))
     (value_is (ungranted_try at heard reply x t) u (sym (ap (ungranted at heard reply x) is) ∙ there)) (ungranted_fails at heard reply x t none)
 
 renewed_fails :
     (margin step at : ℕ) (q : Out) (reply : Reply) (x : Track) (t : Try) → is_told reply ≡ false → x.attempt ≡ Some t →
-    Free (λ u. IsFailure t u reply q.heard (asked_after_renewal reply x.owes (is_alive (sec at) x))) (hasten_failure t reply q.heard (asked_after_renewal reply x.owes (is_alive (sec at) x))) (renewed_track margin step at q reply x)
+    Free (λ u. IsFailure t u reply q.heard (asked_after_renewal reply (is_alive (sec at) x))) (again_failure t reply q.heard (asked_after_renewal reply (is_alive (sec at) x))) (renewed_track margin step at q reply x)
 unfolding renewed_track ungranted_track
 renewed_fails margin step at q (Told seconds renewable date) x t none is = absurd cc
 renewed_fails margin step at q (Refused status date) x t none is = (refl, λ u there. ungranted_some at q.heard (Refused status date) x t u none is there)
 renewed_fails margin step at q Busy x t none is = (refl, λ u there. ungranted_some at q.heard Busy x t u none is there)
 renewed_fails margin step at q Lost x t none is = (refl, λ u there. ungranted_some at q.heard Lost x t u none is there)
 
+renewed_owes : (margin step at : ℕ) (q : Out) (reply : Reply) (x : Track) → is_told reply ≡ false → (renewed_track margin step at q reply x).owes ≡ x.owes
+unfolding renewed_track ungranted_track
+renewed_owes margin step at q (Told seconds renewable date) x none = absurd cc
+renewed_owes margin step at q (Refused status date) x none = refl
+renewed_owes margin step at q Busy x none = refl
+renewed_owes margin step at q Lost x none = refl
+
+back_owes : (owes : Bool) (x : Track) → x.owes ≡ owes → (back_track x).owes ≡ owes
+unfolding back_track
+back_owes owes x h = h
+
+-- what is owed of an entry after the answer, by what is owed of the track that it makes
+replied_owes : (s : WatchState) (q : Out) (reply : Reply) (y : Track) (owes : Bool) → q.entry < length s.tracks → y.owes ≡ owes → (track_at (replied (with_track s q.entry y) q reply) q.entry).owes ≡ owes
+replied_owes s q reply y owes within is =
+    back_kept (λ z w. w.owes ≡ owes → z.owes ≡ owes) (λ w k. k) (λ w. back_owes owes w) (with_track s q.entry y) q reply q.entry
+    (ap (λ (w : Track). w.owes) (get_or-set_same s.tracks q.entry y no_track within) ∙ is)
+
+abbrev LeftByRenewal : WatchState → ℕ → Try → Try → Reply → Bool → WatchState → Type 0
+LeftByRenewal old i t u reply heard new =
+    IsFailure t u reply heard (asked_after_renewal reply (is_alive (second old) (track_at old i))) × ((track_at new i).owes ≡ (track_at old i).owes)
+
 renewal_step :
     (old new : WatchState) (found : Option Out) (i : ℕ) (reply : Reply) (output : Output) (t u : Try) (q : Out) → request_out old.out i Renew ≡ found → found ≡ Some q → StepRenewed old found reply output new → is_told reply ≡ false →
-    attempt_at old i ≡ Some t → attempt_at new i ≡ Some u → IsFailure t u reply q.heard (asked_after_renewal reply (track_at old i).owes (is_alive (second old) (track_at old i)))
+    attempt_at old i ≡ Some t → attempt_at new i ≡ Some u → LeftByRenewal old i t u reply q.heard new
 renewal_step old new None i reply output t u q is some step none before after = absurd step
 renewal_step old new (Some r) i reply output t u q is some step none before after =
     let same : r ≡ q = value_is r q some in
     let own = out_entry old.out i Renew r is in
-    let next = asked_after_renewal reply (track_at old r.entry).owes (is_alive (second old) (track_at old r.entry)) in
+    let next = asked_after_renewal reply (is_alive (second old) (track_at old r.entry)) in
     let Q : Try → Type 0 = λ v. IsFailure t v reply r.heard next in
-    let h = set_free Q (hasten_failure t reply r.heard next) (noted old r reply) r reply _
-    (renewed_fails old.forest.margin _ old.clocks.at r reply (track_at old r.entry) t none (subst (λ k. attempt_at old k ≡ Some t) (sym own) before)) in
+    let before' = subst (λ k. attempt_at old k ≡ Some t) (sym own) before in
+    let h = set_free Q (again_failure t reply r.heard next) (noted old r reply) r reply _ (renewed_fails old.forest.margin _ old.clocks.at r reply (track_at old r.entry) t none before') in
+    let owes = replied_owes (noted old r reply) r reply _ (track_at old r.entry).owes (some_within old.tracks r.entry t before') (renewed_owes old.forest.margin _ old.clocks.at r reply (track_at old r.entry) none) in
     let there : attempt_at (replied (state_renewed (noted old r reply) r reply) r reply) r.entry ≡ Some u =
     ap (λ (x : WatchState). attempt_at x r.entry) (sym step.1) ∙ subst (λ k. attempt_at new k ≡ Some u) (sym own) after in
-    subst (λ (o : Out). IsFailure t u reply o.heard (asked_after_renewal reply (track_at old i).owes (is_alive (second old) (track_at old i)))) same
-    (subst (λ k. IsFailure t u reply r.heard (asked_after_renewal reply (track_at old k).owes (is_alive (second old) (track_at old k)))) own (h.1 u there))
+    subst (λ (o : Out). LeftByRenewal old i t u reply o.heard new) same
+    (subst (λ k. LeftByRenewal old k t u reply r.heard new) own (h.1 u there, ap (λ (x : WatchState). (track_at x r.entry).owes) step.1 ∙ owes))
 
 renewal_turn :
     (old new : WatchState) (event : Event) (result : Result Output WatchFault) (i : ℕ) (reply : Reply) (t u : Try) (q : Out) → Turn old event result new → event ≡ Renewed i reply → is_event_taken result ≡ true → is_told reply ≡ false →
-    request_out old.out i Renew ≡ Some q → attempt_at old i ≡ Some t → attempt_at new i ≡ Some u → IsFailure t u reply q.heard (asked_after_renewal reply (track_at old i).owes (is_alive (second old) (track_at old i)))
+    request_out old.out i Renew ≡ Some q → attempt_at old i ≡ Some t → attempt_at new i ≡ Some u → LeftByRenewal old i t u reply q.heard new
 renewal_turn old new event (Err fault) i reply t u q turn is taken' none asked before after = absurd (true≢false (sym taken'))
 renewal_turn old new event (Ok output) i reply t u q turn is taken' none asked before after =
     renewal_step old new (request_out old.out i Renew) i reply output t u q refl asked (subst (λ e. Step old e output new) is turn.1) none before after
@@ -127,7 +149,7 @@ untold_some at heard reply x t u none is there =
 
 untold_free :
     (at : ℕ) (heard : Bool) (reply : Reply) (x : Track) (t : Try) → is_told reply ≡ false → x.attempt ≡ Some t →
-    Free (λ u. IsFailure t u reply heard (asked_after_lookup reply t.pressed (is_open (sec at) x))) (hasten_failure t reply heard (asked_after_lookup reply t.pressed (is_open (sec at) x))) (untold_track at heard reply x)
+    Free (λ u. IsFailure t u reply heard (asked_after_lookup reply t.pressed (is_open (sec at) x))) (again_failure t reply heard (asked_after_lookup reply t.pressed (is_open (sec at) x))) (untold_track at heard reply x)
 unfolding untold_track
 untold_free at heard reply x t none is = (refl, λ u there. untold_some at heard reply x t u none is there)
 
@@ -137,10 +159,6 @@ untold_owes at heard (Told seconds renewable date) x none = absurd cc
 untold_owes at heard (Refused status date) x none = refl
 untold_owes at heard Busy x none = refl
 untold_owes at heard Lost x none = refl
-
-back_owes : (owes : Bool) (x : Track) → x.owes ≡ owes → (back_track x).owes ≡ owes
-unfolding back_track
-back_owes owes x h = h
 
 untold_is : (s : WatchState) (r : Out) (reply : Reply) (terms : Terms) → is_told reply ≡ false → looked s r reply terms ≡ with_track s r.entry (untold_track s.clocks.at r.heard reply (track_at s r.entry))
 untold_is s r (Told seconds renewable date) terms none = absurd cc
@@ -162,10 +180,9 @@ lookup_made old r reply t u none before after =
     let y = untold_track old.clocks.at r.heard reply x in
     let next = asked_after_lookup reply t.pressed (is_open (second old) x) in
     let owes = x.owes && not (is_refused reply) in
-    let free = set_free (λ v. IsFailure t v reply r.heard next) (hasten_failure t reply r.heard next) s r reply y (untold_free old.clocks.at r.heard reply x t none before) in (
+    let free = set_free (λ v. IsFailure t v reply r.heard next) (again_failure t reply r.heard next) s r reply y (untold_free old.clocks.at r.heard reply x t none before) in (
       free.1 u after,
-      back_kept (λ z w. w.owes ≡ owes → z.owes ≡ owes) (λ w k. k) (λ w. back_owes owes w) (with_track s r.entry y) r reply r.entry
-          (ap (λ (w : Track). w.owes) (get_or-set_same s.tracks r.entry y no_track (some_within old.tracks r.entry t before)) ∙ untold_owes old.clocks.at r.heard reply x none),
+      replied_owes s r reply y owes (some_within old.tracks r.entry t before) (untold_owes old.clocks.at r.heard reply x none),
     )
 
 lookup_step :

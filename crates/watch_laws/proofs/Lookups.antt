@@ -291,7 +291,7 @@ back_told x h = record { owes = h.owes; known = h.known; asks = λ free. back_as
 at_once_asks : (at : ℕ) (t : Try) → (at_once at t).operation ≡ Renew
 unfolding at_once
 at_once_asks at t =
-    if_both (λ (u : Try). u.operation ≡ Renew) t.pressed (record t { at = at; operation = Renew }) (record { at = at; operation = Renew; pressed = true; along = false; base = Some at; fails = 0; lost = false; alone = false; failed = false }) refl refl
+    if_both (λ (u : Try). u.operation ≡ Renew) t.pressed (record t { at = at; operation = Renew; failed = false }) (record { at = at; operation = Renew; pressed = true; along = false; base = Some at; fails = 0; lost = false; alone = false; failed = false }) refl refl
 
 told_asks : (at : ℕ) (due : Bool) (x : Track) (o : Option Try) → is_alive (sec at) x ≡ true → AsksRenewal (told_try at due x o)
 told_asks at due x None alive = tt

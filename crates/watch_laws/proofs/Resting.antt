@@ -68,7 +68,7 @@ pause_above margin at x t =
 renews : (at : ℕ) (t : Try) → (at_once at t).operation ≡ Renew
 unfolding at_once
 renews at t =
-    if_cases (λ (u : Try). u.operation ≡ Renew) t.pressed (record t { at = at; operation = Renew })
+    if_cases (λ (u : Try). u.operation ≡ Renew) t.pressed (record t { at = at; operation = Renew; failed = false })
     (record { at = at; operation = Renew; pressed = true; along = false; base = Some at; fails = 0; lost = false; alone = false; failed = false }) (λ e. refl) (λ e. refl)
 
 -- a reply that tells nothing

@@ -23,7 +23,7 @@ use Rattle.watch_machine.specs.declared.track.Track.{Track}
 use Rattle.watch_machine.specs.declared.track.Try.{Try}
 use Rattle.watch_machine.specs.declared.track.End.TheVariants.{At, Never}
 use Rattle.watch_machine.specs.Answers.{back_track, back_try, due_again, failing, noted, replied, with_track}
-use Rattle.watch_machine.specs.Beginning.{begun, hastened, owed}
+use Rattle.watch_machine.specs.Beginning.{begun, owed}
 use Rattle.watch_machine.specs.Clocks.{sec}
 use Rattle.watch_machine.specs.History.{Turn, Turned}
 use Rattle.watch_machine.specs.Lines.{rested}
@@ -36,7 +36,7 @@ use Rattle.watch_machine.specs.Settling.{settled, timed}
 use Rattle.watch_machine.specs.State.{WatchState, attempt_at, entry_of, no_track, second, track_at, track_in}
 use Rattle.watch_machine.specs.Step.{Step, StepClock, StepLooked, StepRenewed, readied, why}
 use Rattle.watch_machine.specs.Wanted.{believed, is_alive, is_wanted, need_of, wanted_need, wants}
-use Rattle.watch_machine.proofs.Cases.{if_both, if_cases, value_is}
+use Rattle.watch_machine.proofs.Cases.{if_both, if_cases, not_both, value_is}
 use Rattle.watch_machine.proofs.Seeing.{SameSeen, need_same, sight}
 use Rattle.watch_machine.proofs.Within.{out_entry}
 use Rattle.watch_laws.specs.Absence.{is_event_taken}
@@ -91,18 +91,21 @@ module _ (mid : WatchState) (q : Out) (reply : Reply) (i : ℕ) where
   told_alive = ap (λ (c : Clocks). is_alive (sec c.at) (track_at replied_to i)) told_clocks ∙ ap (is_alive (second mid)) bears
 
 -- the try after it
-goes_on_hastened : (now : ℕ) (t u : Try) (from : ℕ) → GoesOnAsRenewal now t u → GoesOnAsRenewal now t (hastened u from)
-goes_on_hastened now t u from h = let l = h.at in record { at = omega (arith, l); operation = h.operation; pressed = h.pressed; same = h.same; anew = h.anew }
+goes_on_again : (now : ℕ) (t u : Try) (from : ℕ) → u.lost ≡ true → GoesOnAsRenewal now t u → GoesOnAsRenewal now t (due_again u from)
+goes_on_again now t u from lost h =
+    let l = h.at in
+    let at = cond-false u.failed from (min u.at from) h.failed in
+    record { at = omega (arith, l, at); operation = h.operation; pressed = h.pressed; failed = refl; same = h.same; anew = h.anew }
 
-past_hastened : (t u : Try) (from : ℕ) → EndsTooSoon t u → EndsTooSoon t (hastened u from)
-past_hastened t u from h = record { failed = h.failed; operation = h.operation; fails = h.fails }
+past_again : (t u : Try) (from : ℕ) → u.lost ≡ true → EndsTooSoon t u → EndsTooSoon t (due_again u from)
+past_again t u from lost h = absurd (not_both lost h.lost)
 
 once_goes : (now : ℕ) (t : Try) → GoesOnAsRenewal now t (at_once now t)
 unfolding at_once
 once_goes now t = by t.pressed refl where
-  by : (b : Bool) → t.pressed ≡ b → GoesOnAsRenewal now t (if b then record t { at = now; operation = Renew } else record { at = now; operation = Renew; pressed = true; along = false; base = Some now; fails = 0; lost = false; alone = false; failed = false })
-  by true is = record { at = omega arith; operation = refl; pressed = is; same = λ yes'. (refl, refl); anew = λ no'. absurd (true≢false (sym is ∙ no')) }
-  by false is = record { at = omega arith; operation = refl; pressed = refl; same = λ yes'. absurd (true≢false (sym yes' ∙ is)); anew = λ no'. (refl, refl) }
+  by : (b : Bool) → t.pressed ≡ b → GoesOnAsRenewal now t (if b then record t { at = now; operation = Renew; failed = false } else record { at = now; operation = Renew; pressed = true; along = false; base = Some now; fails = 0; lost = false; alone = false; failed = false })
+  by true is = record { at = omega arith; operation = refl; pressed = is; failed = refl; same = λ yes'. (refl, refl); anew = λ no'. absurd (true≢false (sym is ∙ no')) }
+  by false is = record { at = omega arith; operation = refl; pressed = refl; failed = refl; same = λ yes'. absurd (true≢false (sym yes' ∙ is)); anew = λ no'. (refl, refl) }
 
 due_try : (now : ℕ) (due : Bool) (x : Track) (t : Try) → due ≡ true → told_try now due x (Some t) ≡ Some (at_once now t)
 due_try now due x t yes' = cond-true due (Some (at_once now t)) (if is_alive (sec now) x then None else Some (failing t Look false false)) yes'
@@ -197,8 +200,8 @@ module _ (old : WatchState) (q : Out) (seconds : ℕ) (renewable : Bool) (date :
   z_try o is = ap (told_try told_mid.clocks.at (is_called_for told_mid i) (track_at told_mid i)) (ap (λ (x : Track). x.attempt) there ∙ told_attempt q.since seconds renewable terms.endless (track_at old i) ∙ is)
 
   -- by what the answer leaves of its try
-  try_holds : (Q : Try → Type 0) → ((v : Try) (from : ℕ) → Q v → Q (hastened v from)) → (v : Try) → z.attempt ≡ Some v → Q v → (u : Try) → attempt_at last i ≡ Some u → Q u
-  try_holds Q hasten v is h = (set_free Q hasten told_mid q telling z (z_out, λ w some. subst Q (value_is v w (sym is ∙ some)) h)).1
+  try_holds : (Q : Try → Type 0) → ((v : Try) (from : ℕ) → v.lost ≡ true → Q v → Q (due_again v from)) → (v : Try) → z.attempt ≡ Some v → Q v → (u : Try) → attempt_at last i ≡ Some u → Q u
+  try_holds Q again v is h = (set_free Q again told_mid q telling z (z_out, λ w some. subst Q (value_is v w (sym is ∙ some)) h)).1
 
   is_told : IsToldByLookup old last i seconds renewable terms q
   is_told =
@@ -214,14 +217,14 @@ module _ (old : WatchState) (q : Out) (seconds : ℕ) (renewable : Bool) (date :
             (ap is_some (z_try (Some t) is ∙ due_try told_mid.clocks.at (is_called_for told_mid i) (track_at told_mid i) t (sym due ∙ yes')));
         renews = λ yes' t u is after.
             subst (λ n. GoesOnAsRenewal n t u) (sym clock)
-            (try_holds (GoesOnAsRenewal told_mid.clocks.at t) (goes_on_hastened told_mid.clocks.at t) (at_once told_mid.clocks.at t) (z_try (Some t) is ∙ due_try told_mid.clocks.at (is_called_for told_mid i) (track_at told_mid i) t (sym due ∙ yes'))
+            (try_holds (GoesOnAsRenewal told_mid.clocks.at t) (goes_on_again told_mid.clocks.at t) (at_once told_mid.clocks.at t) (z_try (Some t) is ∙ due_try told_mid.clocks.at (is_called_for told_mid i) (track_at told_mid i) t (sym due ∙ yes'))
             (once_goes told_mid.clocks.at t) u after);
         done = λ no' ahead.
             kept (λ (x : Track). x.attempt ≡ None) (λ x. back_is_none x)
             (z_try (attempt_at old i) refl ∙ done_try told_mid.clocks.at (is_called_for told_mid i) (track_at told_mid i) (attempt_at old i) (sym due ∙ no') (sym alive ∙ ahead));
         past = λ no' over t u is after.
-            try_holds (EndsTooSoon t) (past_hastened t) (failing t Look false false) (z_try (Some t) is ∙ past_try told_mid.clocks.at (is_called_for told_mid i) (track_at told_mid i) t (sym due ∙ no') (sym alive ∙ over))
-            (record { failed = refl; operation = refl; fails = refl }) u after;
+            try_holds (EndsTooSoon t) (past_again t) (failing t Look false false) (z_try (Some t) is ∙ past_try told_mid.clocks.at (is_called_for told_mid i) (track_at told_mid i) t (sym due ∙ no') (sym alive ∙ over))
+            (record { failed = refl; lost = refl; operation = refl; fails = refl }) u after;
       }
 
 told_turn :
@@ -239,28 +242,28 @@ pub told_so : ToldLaw
 told_so old turn i seconds renewable date terms q h within is taken' asked = told_turn old turn.state turn.event turn.result i seconds renewable date terms q h.0 within is taken' asked
 
 -- what a grant leaves to be asked
-later_hastened : (now : ℕ) (u : Try) (from : ℕ) → OwesLater now u → OwesLater now (hastened u from)
-later_hastened now u from h = let l = h.at in record { at = omega (arith, l); operation = h.operation; pressed = h.pressed }
+later_again : (now : ℕ) (u : Try) (from : ℕ) → u.lost ≡ true → OwesLater now u → OwesLater now (due_again u from)
+later_again now u from lost h = absurd (not_both lost h.lost)
 
 owed_try : (at end : ℕ) (o : Option Try) (u : Try) → sec at < end → granted_try at true end o ≡ Some u → OwesLater at u
 owed_try at end None u ahead is = absurd cc
 owed_try at end (Some t) u ahead is =
     let test : nat_lt (sec at) end ≡ true = grind (arith, nat_tests, ahead) in
     let same = value_is (owed (at + 30000)) u (sym (cond-true (nat_lt (sec at) end) (Some (owed (at + 30000))) (Some (failing t Look false false)) test) ∙ is) in
-    subst (OwesLater at) same (record { at = omega arith; operation = refl; pressed = refl })
+    subst (OwesLater at) same (record { at = omega arith; lost = refl; operation = refl; pressed = refl })
 
 over_try : (at end : ℕ) (owes : Bool) (t u : Try) → end ≤ sec at → granted_try at owes end (Some t) ≡ Some u → EndsTooSoon t u
 over_try at end owes t u over is =
     let test : nat_lt (sec at) end ≡ false = grind (arith, nat_tests, over) in
     let same = value_is (failing t Look false false) u (sym (cond-false (nat_lt (sec at) end) (if owes then Some (owed (at + 30000)) else None) (Some (failing t Look false false)) test) ∙ is) in
-    subst (EndsTooSoon t) same (record { failed = refl; operation = refl; fails = refl })
+    subst (EndsTooSoon t) same (record { failed = refl; lost = refl; operation = refl; fails = refl })
 
 module _ (old : WatchState) (i seconds : ℕ) (renewable : Bool) where
   record IsLeft (q : Out) (x : Track) : Type 0 where
     end : x.end ≡ At (sec (counts_from old i seconds q) + seconds)
     done : second old < sec (counts_from old i seconds q) + seconds → (track_at old i).owes ≡ false → x.attempt ≡ None
-    owes : second old < sec (counts_from old i seconds q) + seconds → (track_at old i).owes ≡ true → Free (OwesLater old.clocks.at) (later_hastened old.clocks.at) x
-    past : sec (counts_from old i seconds q) + seconds ≤ second old → (t : Try) → attempt_at old i ≡ Some t → Free (EndsTooSoon t) (past_hastened t) x
+    owes : second old < sec (counts_from old i seconds q) + seconds → (track_at old i).owes ≡ true → Free (OwesLater old.clocks.at) (later_again old.clocks.at) x
+    past : sec (counts_from old i seconds q) + seconds ≤ second old → (t : Try) → attempt_at old i ≡ Some t → Free (EndsTooSoon t) (past_again t) x
 
   left_made : (q : Out) → IsLeft q (made old i seconds renewable q)
   unfolding granted_from
@@ -278,8 +281,8 @@ module _ (old : WatchState) (i seconds : ℕ) (renewable : Bool) where
   back_left q x h = record {
     end = back_end (At (sec (counts_from old i seconds q) + seconds)) x h.end;
     done = λ ahead none. back_is_none x (h.done ahead none);
-    owes = λ ahead some. back_free (OwesLater old.clocks.at) (later_hastened old.clocks.at) x (h.owes ahead some);
-    past = λ over t is. back_free (EndsTooSoon t) (past_hastened t) x (h.past over t is);
+    owes = λ ahead some. back_free (OwesLater old.clocks.at) (later_again old.clocks.at) x (h.owes ahead some);
+    past = λ over t is. back_free (EndsTooSoon t) (past_again t) x (h.past over t is);
   }
 
 pub done_so : DoneLaw

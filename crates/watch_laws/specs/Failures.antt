@@ -12,58 +12,64 @@ use Rattle.watch_machine.specs.declared.event.Reply.TheVariants.{Told, Refused, 
 use Rattle.watch_machine.specs.declared.event.Terms.{Terms}
 use Rattle.watch_machine.specs.declared.fault.WatchFault.{WatchFault}
 use Rattle.watch_machine.specs.declared.lanes.Out.{Out}
+use Rattle.watch_machine.specs.declared.track.Track.{Track}
 use Rattle.watch_machine.specs.declared.track.Try.{Try}
 use Rattle.watch_machine.specs.History.{History, IsWatchRun, Turned}
 use Rattle.watch_machine.specs.Refusal.{request_out}
 use Rattle.watch_machine.specs.State.{WatchState, attempt_at, opened, second, track_at}
 use Rattle.watch_machine.specs.Wanted.{is_alive, is_open}
 use Rattle.watch_laws.specs.Absence.{is_event_taken}
-use Rattle.watch_laws.specs.Holds.{is_too_busy}
+use Rattle.watch_laws.specs.Presses.{asked_again_at}
 use Rattle.watch_laws.specs.Waiting.{TryFails}
 
 -- the try of an entry, if it has one, has failed, by a loss or by a refusal
 abbrev pub TryHasFailed : Bool → Option Try → Type 0
 TryHasFailed lost attempt = IfSome attempt (λ t. (t.failed ≡ true) × (t.lost ≡ lost))
 
--- or it may go out at once
+-- or it is no loss, and may go out at once
 abbrev pub MayGoNow : ℕ → Option Try → Type 0
-MayGoNow at attempt = IfSome attempt (λ t. t.at ≤ at)
+MayGoNow at attempt = IfSome attempt (λ t. (t.at ≤ at) × (t.lost ≡ false))
 
--- what the answer to a renewal leaves of the try of its entry: where it is refused, where the broker is busy, and where none came
-abbrev pub RenewalFails : Reply → Option Try → Type 0
-RenewalFails (Told seconds renewable date) attempt = Unit {0}
-RenewalFails (Refused status date) attempt = TryHasFailed false attempt
-RenewalFails Busy attempt = TryHasFailed true attempt
-RenewalFails Lost attempt = TryHasFailed true attempt
+-- the try of an entry to which the broker was too busy, if it has one, is lost. It has failed; or, if the broker was away before that answer,
+-- it is due at once, or a second after the entry was last asked
+abbrev pub IsLostToBusy : Bool → Track → Type 0
+IsLostToBusy away x = IfSome x.attempt (λ t. (t.lost ≡ true) × ((t.failed ≡ not away) × (away ≡ true → t.at ≡ asked_again_at x.last)))
+
+-- what the answer to a renewal leaves of its entry, by whether the broker was away before it: where it is refused, where the broker is busy, and
+-- where none came
+abbrev pub RenewalFails : Bool → Reply → Track → Type 0
+RenewalFails away (Told seconds renewable date) x = Unit {0}
+RenewalFails away (Refused status date) x = TryHasFailed false x.attempt
+RenewalFails away Busy x = IsLostToBusy away x
+RenewalFails away Lost x = TryHasFailed true x.attempt
 
 -- and that to a lookup, after whose refusal a renewal may go out at once
-abbrev pub LookupFails : ℕ → Reply → Option Try → Type 0
-LookupFails at (Told seconds renewable date) attempt = Unit {0}
-LookupFails at (Refused status date) attempt = TryHasFailed false attempt ⊎ MayGoNow at attempt
-LookupFails at Busy attempt = TryHasFailed true attempt
-LookupFails at Lost attempt = TryHasFailed true attempt
+abbrev pub LookupFails : Bool → ℕ → Reply → Track → Type 0
+LookupFails away at (Told seconds renewable date) x = Unit {0}
+LookupFails away at (Refused status date) x = TryHasFailed false x.attempt ⊎ MayGoNow at x.attempt
+LookupFails away at Busy x = IsLostToBusy away x
+LookupFails away at Lost x = TryHasFailed true x.attempt
 
--- s is the state after the event
-abbrev pub FailsTaken : WatchState → Event → Type 0
-FailsTaken s (Clock wall elapsed) = Unit {0}
-FailsTaken s (Looked i reply terms) = LookupFails s.clocks.at reply (attempt_at s i)
-FailsTaken s (Renewed i reply) = RenewalFails reply (attempt_at s i)
-FailsTaken s (Need i until) = Unit {0}
-FailsTaken s Begin = Unit {0}
-FailsTaken s (Known i end renewable) = Unit {0}
+abbrev pub FailsTaken : WatchState → Event → WatchState → Type 0
+FailsTaken old (Clock wall elapsed) new = Unit {0}
+FailsTaken old (Looked i reply terms) new = LookupFails old.presence.away new.clocks.at reply (track_at new i)
+FailsTaken old (Renewed i reply) new = RenewalFails old.presence.away reply (track_at new i)
+FailsTaken old (Need i until) new = Unit {0}
+FailsTaken old Begin new = Unit {0}
+FailsTaken old (Known i end renewable) new = Unit {0}
 
-abbrev pub FailsRight : WatchState → Event → Result Output WatchFault → Type 0
-FailsRight s event (Ok output) = FailsTaken s event
-FailsRight s event (Err fault) = Unit {0}
+abbrev pub FailsRight : WatchState → Event → Result Output WatchFault → WatchState → Type 0
+FailsRight old event (Ok output) new = FailsTaken old event new
+FailsRight old event (Err fault) new = Unit {0}
 
-abbrev pub AllFailRight : List Turned → Type 0
-AllFailRight [] = Unit {0}
-AllFailRight (turn ∷ turns) = FailsRight turn.state turn.event turn.result × AllFailRight turns
+abbrev pub AllFailRight : WatchState → List Turned → Type 0
+AllFailRight old [] = Unit {0}
+AllFailRight old (turn ∷ turns) = FailsRight old turn.event turn.result turn.state × AllFailRight turn.state turns
 
 -- an answer that tells nothing of its entry leaves its try as one that failed: as lost where none came or the broker was busy. After a
--- lookup that is refused a renewal may go out at once instead
+-- lookup that is refused a renewal may go out at once instead; and so may the try to which the broker was busy, when it is back with that
 abbrev pub FailedLaw : Type 0
-FailedLaw = (g : Forest) (width : ℕ) (turns : List Turned) → IsWatchRun g width turns → AllFailRight turns
+FailedLaw = (g : Forest) (width : ℕ) (turns : List Turned) → IsWatchRun g width turns → AllFailRight (opened g width) turns
 
 -- the clock after a failure leaves the try of its entry as lost as it was, where it is pressed and not out; or that may go out within a
 -- second
@@ -98,29 +104,29 @@ is_lost Busy = false
 is_lost Lost = true
 
 -- the try u that a reply which tells nothing leaves of t, to a request that had heard of an answer to another or not: it has failed once
--- more, 20 times at most, or for the first time where the broker was busy; nothing counts from when it began; and it is alone where no
--- reply came though others were answered. It asks this next
+-- more, 20 times at most; nothing counts from when it began; and it is alone where no reply came though others were answered. It asks this
+-- next
 pub record IsFailure (t u : Try) (reply : Reply) (heard : Bool) (next : Operation) : Type 0 where
-  pub fails : u.fails ≡ (if is_too_busy reply then 1 else min 20 (t.fails + 1))
+  pub fails : u.fails ≡ min 20 (t.fails + 1)
   pub base : u.base ≡ None
   pub alone : u.alone ≡ is_lost reply && heard
   pub pressed : u.pressed ≡ t.pressed
   pub operation : u.operation ≡ next
 
--- after a renewal: a lookup where it was refused, where one is owed, or where the end is not ahead; else the renewal again
-abbrev pub asked_after_renewal : Reply → Bool → Bool → Operation
-asked_after_renewal reply owes ahead = if is_refused reply || (owes || not ahead) then Look else Renew
+-- after a renewal: the renewal again while the end is ahead, also where a lookup is owed; but a lookup where it was refused
+abbrev pub asked_after_renewal : Reply → Bool → Operation
+asked_after_renewal reply ahead = if not (is_refused reply) && ahead then Renew else Look
 
 -- after a lookup: a renewal where the end is ahead or unknown and the lookup was refused, or the entry is to be kept alive; else the lookup again
 abbrev pub asked_after_lookup : Reply → Bool → Bool → Operation
 asked_after_lookup reply pressed lives = if (is_refused reply || pressed) && lives then Renew else Look
 
--- so after each reply that tells nothing. And a lookup is owed until it is told or refused
+-- so after each reply that tells nothing. And a lookup that is owed stays so, until it is told or refused
 pub record FailureLaw : Type 0 where
   pub renewal :
       (old : WatchState) (turn : Turned) (i : ℕ) (reply : Reply) (t u : Try) (q : Out) → History old (turn ∷ []) → turn.event ≡ Renewed i reply → is_event_taken turn.result ≡ true → is_told reply ≡ false →
       request_out old.out i Renew ≡ Some q → attempt_at old i ≡ Some t → attempt_at turn.state i ≡ Some u →
-      IsFailure t u reply q.heard (asked_after_renewal reply (track_at old i).owes (is_alive (second old) (track_at old i)))
+      IsFailure t u reply q.heard (asked_after_renewal reply (is_alive (second old) (track_at old i))) × ((track_at turn.state i).owes ≡ (track_at old i).owes)
   pub lookup :
       (old : WatchState) (turn : Turned) (i : ℕ) (reply : Reply) (terms : Terms) (t u : Try) (q : Out) → History old (turn ∷ []) → turn.event ≡ Looked i reply terms → is_event_taken turn.result ≡ true →
       is_told reply ≡ false → request_out old.out i Look ≡ Some q → attempt_at old i ≡ Some t → attempt_at turn.state i ≡ Some u →

@@ -23,17 +23,20 @@ use Rattle.watch_machine.specs.Wanted.{believed, is_alive, is_wanted}
 use Rattle.watch_laws.specs.Absence.{is_event_taken}
 use Rattle.watch_laws.specs.Time.{is_come}
 
--- the try u that goes on as a renewal from the lookup of the try t: at once. It is the same try where that was pressed; else it begins now
+-- the try u that goes on as a renewal from the lookup of the try t: at once, as one that has not failed. It is the same try where that was
+-- pressed; else it begins now
 pub record GoesOnAsRenewal (now : ℕ) (t u : Try) : Type 0 where
   pub at : u.at ≤ now
   pub operation : u.operation ≡ Renew
   pub pressed : u.pressed ≡ true
+  pub failed : u.failed ≡ false
   pub same : t.pressed ≡ true → (u.base ≡ t.base) × (u.fails ≡ t.fails)
   pub anew : t.pressed ≡ false → (u.base ≡ Some now) × (u.fails ≡ 0)
 
--- the try u that failed since an end was told which is not ahead
+-- the try u that failed, and is not lost, since an end was told which is not ahead
 pub record EndsTooSoon (t u : Try) : Type 0 where
   pub failed : u.failed ≡ true
+  pub lost : u.lost ≡ false
   pub operation : u.operation ≡ Look
   pub fails : u.fails ≡ min 20 (t.fails + 1)
 
@@ -55,9 +58,10 @@ ToldLaw =
     (old : WatchState) (turn : Turned) (i seconds : ℕ) (renewable : Bool) (date : Option ℕ) (terms : Terms) (q : Out) → History old (turn ∷ []) → i < length old.tracks →
     turn.event ≡ Looked i (Told seconds renewable date) terms → is_event_taken turn.result ≡ true → request_out old.out i Look ≡ Some q → IsToldByLookup old turn.state i seconds renewable terms q
 
--- the try u that only owes a lookup, which it may go out for within half a minute
+-- the try u that only owes a lookup, which it may go out for within half a minute; it is not lost
 pub record OwesLater (now : ℕ) (u : Try) : Type 0 where
   pub at : u.at ≤ now + 30000
+  pub lost : u.lost ≡ false
   pub operation : u.operation ≡ Look
   pub pressed : u.pressed ≡ false
 
