@@ -1,6 +1,6 @@
 -- Lulls: while a lull lasts a clock leaves all entries as they are. For `quiet_until`, and for what begins a lull and keeps it.
-use Rattle.std.proofs.Common.{◌≡◌, ◌∙◌, ℕ, zero, suc, ◌+◌, ◌<◌, ◌≤◌, Bool, true, false, ◌&&◌, ◌||◌, if◌then◌else◌, List, [], ◌∷◌, filter, length, map, min, nat_lt, IfSome, Option, Some, None, refl, sym, ap, ap₂, arith, inl, inr}
-use Rattle.std.proofs.lemmas.Bool.{cases_lt, cond-false, or_parts}
+use Rattle.std.proofs.Common.{◌≡◌, ◌∙◌, ℕ, zero, suc, ◌+◌, ◌<◌, ◌≤◌, Bool, true, false, ◌&&◌, if◌then◌else◌, List, [], ◌∷◌, filter, length, map, min, nat_lt, IfSome, Option, Some, None, refl, sym, ap, ap₂, arith, inl, inr}
+use Rattle.std.proofs.lemmas.Bool.{cases_lt, cond-false}
 use Rattle.std.proofs.lemmas.Bool.Decides.{nat_tests}
 use Rattle.std.specs.List.{list_any, range_with_len}
 use Rattle.keep_needs.specs.Carried.{CarriedNeed, load_at}
@@ -20,7 +20,7 @@ use Rattle.watch_machine.specs.Outlook.{IsNextTime, is_timed, is_timed_at}
 use Rattle.watch_machine.specs.Press.{pressed_track}
 use Rattle.watch_machine.specs.Round.{opens, opens_some}
 use Rattle.watch_machine.specs.Sending.{due, place}
-use Rattle.watch_machine.specs.Settling.{count_after, held_back, hold_after, is_busy, is_silent, pace_after, presence_after, settled_track}
+use Rattle.watch_machine.specs.Settling.{count_after, held_back, hold_after, is_silent, pace_after, presence_after, settled_track}
 use Rattle.watch_machine.specs.State.{WatchState, each, track_in}
 use Rattle.watch_machine.specs.Wait.{latest, next_of}
 use Rattle.watch_machine.specs.Wanted.{HasNeeds, believed, is_alive, least, need_of, wants}
@@ -125,18 +125,14 @@ pub known_on :
 known_on g xs old new p pace alike None is = tt
 known_on g xs old new p pace alike (Some lull) is = goes_on g xs old new p pace lull alike is
 
--- answers of which none says that the broker is busy, and none is silent while it is away, change only how long answers take
+-- answers of which none is silent while the broker is away change only how long answers take
 pub paced_alone :
-    (margin at : ℕ) (xs : List Track) (answers : List Answer) (p : Presence) → list_any (λ (a : Answer). is_busy a.reply) answers || (p.away && list_any is_silent answers) ≡ false →
+    (margin at : ℕ) (xs : List Track) (answers : List Answer) (p : Presence) → p.away && list_any is_silent answers ≡ false →
     presence_after margin at xs answers p ≡ record p { pace = pace_after at p.pace answers }
 unfolding presence_after held_back
 paced_alone margin at xs answers p none =
-    let busy = list_any (λ (a : Answer). is_busy a.reply) answers in
-    let silent = p.away && list_any is_silent answers in
-    let two = or_parts busy silent none in
-    ap (λ (q : Presence). record q { free = if busy then at + 1000 else p.free; pace = pace_after at p.pace answers })
-    (cond-false silent (record p { count = count_after at p; hold = hold_after margin at xs p }) p two.1)
-    ∙ ap (λ n. record p { free = n; pace = pace_after at p.pace answers }) (cond-false busy (at + 1000) p.free two.0)
+    ap (λ (q : Presence). record q { pace = pace_after at p.pace answers })
+    (cond-false (p.away && list_any is_silent answers) (record p { count = count_after at p; hold = hold_after margin at xs p }) p none)
 
 -- before a second that is no later than an end which was ahead, it is ahead
 pub alive_alike : (s t b l : ℕ) → s ≤ t → t < l → (s < b → l ≤ b) → nat_lt t b ≡ nat_lt s b
@@ -216,7 +212,7 @@ module _ (s : WatchState) (c : Clocks) (lull : Lull) (is : IsLull s.forest s.tra
       none_opens (λ i. opens g.margin (entry_at g.entries i) (track_in xs i) (need i) (sec c.at)) (length g.entries) (λ i below. (still_at 0 i below).shut)
 
   pub is_quiet :
-      (stepped jumped : Bool) (until : ℕ) → list_any (λ (a : Answer). is_busy a.reply) s.answers || (s.presence.away && list_any is_silent s.answers) ≡ false →
+      (stepped jumped : Bool) (until : ℕ) → s.presence.away && list_any is_silent s.answers ≡ false →
       beginning s.begun s.asked stepped jumped c.at s.tracks ≡ None → until ≡ min (latest s.forest.margin c.at) lull.next → IsQuiet s c stepped jumped until
   is_quiet stepped jumped until none reason waits = record {
     needs = carries_on;

@@ -1,6 +1,6 @@
 -- RoundClock: a clock at which lanes are filled from the line is a step of the definitions, and keeps the line. For `round_until`,
 -- `line_clock` and `clock`.
-use Rattle.std.proofs.Common.{◌≡◌, ◌∙◌, ℕ, ◌-◌, ◌<◌, ◌≤◌, Bool, true, false, ◌&&◌, ◌||◌, List, [], None, length, map, min, take, refl, sym, ap, subst}
+use Rattle.std.proofs.Common.{◌≡◌, ◌∙◌, ℕ, ◌-◌, ◌<◌, ◌≤◌, Bool, true, false, ◌&&◌, List, [], None, length, map, min, take, refl, sym, ap, subst}
 use Rattle.std.proofs.Math.Path.{fun_ext}
 use Rattle.std.proofs.lemmas.Bool.{cond-false, cond-true}
 use Rattle.std.proofs.lemmas.List.{length-map, length-take, take-map, take_min}
@@ -11,7 +11,6 @@ use Rattle.watch_machine.specs.declared.command.Command.TheVariants.{Go}
 use Rattle.watch_machine.specs.declared.command.Output.{Output}
 use Rattle.watch_machine.specs.declared.command.Request.{Request}
 use Rattle.watch_machine.specs.declared.event.Reply.{Reply}
-use Rattle.watch_machine.specs.declared.lanes.Answer.{Answer}
 use Rattle.watch_machine.specs.declared.lanes.Out.{Out}
 use Rattle.watch_machine.specs.declared.lanes.Presence.{Presence}
 use Rattle.watch_machine.specs.declared.line.Line.{Line}
@@ -23,7 +22,7 @@ use Rattle.watch_machine.specs.Beginning.{beginning}
 use Rattle.watch_machine.specs.Clocks.{sec}
 use Rattle.watch_machine.specs.Press.{pressed_tracks}
 use Rattle.watch_machine.specs.Sending.{IsGoing, IsSendingOrder, request, sent_in}
-use Rattle.watch_machine.specs.Settling.{clocks_after, has_jumped, has_stepped, is_busy, is_real, is_silent, pace_after}
+use Rattle.watch_machine.specs.Settling.{clocks_after, has_jumped, has_stepped, is_real, is_silent, pace_after}
 use Rattle.watch_machine.specs.State.{WatchState, each}
 use Rattle.watch_machine.specs.Step.{StepClock, nothing_noted}
 use Rattle.watch_machine.specs.Wait.{latest}
@@ -63,7 +62,7 @@ module _ (s : WatchState) (line : Line) (is : IsLine s.forest s.tracks (calm s.p
       ∙ ap (λ f. wait_by g c (paced_by pace s) ys f) (fun_ext (λ i. need_same ys xs (sent_seen c.at rs xs) g.entries c i))
 
   pub is_round_clock :
-      (stepped jumped : Bool) (until : ℕ) → list_any (λ (a : Answer). is_busy a.reply) s.answers || (s.presence.away && list_any is_silent s.answers) ≡ false →
+      (stepped jumped : Bool) (until : ℕ) → s.presence.away && list_any is_silent s.answers ≡ false →
       beginning s.begun s.asked stepped jumped c.at s.tracks ≡ None → until ≡ min (latest s.forest.margin c.at) line.next → IsRoundClock s line c stepped jumped until
   is_round_clock stepped jumped until none reason waits = record {
     settled = all_settled g xs p line is beside c on low far before early;

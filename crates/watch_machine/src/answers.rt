@@ -62,8 +62,7 @@ pub(crate) fn hear_all(out: &mut [Out])
 /// A try that was lost, due at once, but no sooner than its entry has rested: it pauses no longer, and one that failed since the
 /// last clock does not begin to.
 fn due_again(attempt: Try, from: Millis) -> Try
-    requires from { from ≤ READING_MAX + 1000 }
-    requires attempt { IsTry attempt }
+    requires { IsTry attempt }
     ensures value { result ≡ due_again attempt from }
     ensures bounds { IsTry result }
 {

@@ -1,9 +1,8 @@
 -- While a lull lasts and the clocks go on as before, nothing is to be done of any entry.
-use Rattle.std.proofs.Common.{◌≡◌, ◌∙◌, ◌||◌, ◌&&◌, false, None, ap, min, subst, sym}
+use Rattle.std.proofs.Common.{◌≡◌, ◌∙◌, ◌&&◌, false, None, ap, min, subst, sym}
 use Rattle.std.specs.List.{list_any}
-use Rattle.watch_machine.specs.declared.lanes.Answer.{Answer}
 use Rattle.watch_machine.specs.Beginning.{beginning}
-use Rattle.watch_machine.specs.Settling.{is_busy, is_silent}
+use Rattle.watch_machine.specs.Settling.{is_silent}
 use Rattle.watch_machine.specs.State.{WatchState}
 use Rattle.watch_machine.specs.Wait.{latest}
 use Rattle.watch_machine.specs.code.Lull.{GoesOn, IsLull, IsQuiet}
@@ -34,8 +33,8 @@ returns-in-None c =
     let is : IsLull w.forest w.tracks.items w.clocks p lull = of_value (IsLull w.forest w.tracks.items w.clocks p) w.lull lull kept.lull c.in-Some.is in
     let lasts = c.lasts.ensures c.if-not-lasts.false in
     let on : GoesOn k w.clocks = c.goes_on.ensures c.if-not-goes_on.false in
-    let none : list_any (λ (a : Answer). is_busy a.reply) w.answers.items || (p.away && list_any is_silent w.answers.items) ≡ false =
-    sym (c.is_holding.ensures ∙ ap (λ as'. list_any (λ (a : Answer). is_busy a.reply) as' || (p.away && list_any is_silent as')) c.deref.ensures.value) ∙ c.if-is_holding.false in
+    let none : p.away && list_any is_silent w.answers.items ≡ false =
+    sym (c.is_holding.ensures ∙ ap (λ as'. p.away && list_any is_silent as') c.deref.ensures.value) ∙ c.if-is_holding.false in
     let reason : beginning s.begun s.asked t.stepped t.jumped k.at s.tracks ≡ None =
     sym
     (c.reason.ensures ∙ ap (λ (n : WatchState). beginning n.begun n.asked t.stepped t.jumped k.at c.deref-2.result.now) (sym c.self.view_is)
