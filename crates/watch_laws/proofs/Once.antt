@@ -19,7 +19,7 @@ use Rattle.watch_machine.specs.declared.event.Event.TheVariants.{Clock, Looked, 
 use Rattle.watch_machine.specs.declared.event.Operation.{Operation}
 use Rattle.watch_machine.specs.declared.event.Operation.TheVariants.{Look, Renew}
 use Rattle.watch_machine.specs.declared.event.Reply.{Reply}
-use Rattle.watch_machine.specs.declared.event.Reply.TheVariants.{Lost}
+use Rattle.watch_machine.specs.declared.event.Reply.TheVariants.{Told, Refused, Busy, Lost}
 use Rattle.watch_machine.specs.declared.event.Terms.{Terms}
 use Rattle.watch_machine.specs.declared.fault.WatchFault.{WatchFault}
 use Rattle.watch_machine.specs.declared.lanes.Out.{Out}
@@ -27,12 +27,12 @@ use Rattle.watch_machine.specs.declared.notes.Why.{Why}
 use Rattle.watch_machine.specs.declared.track.End.{End}
 use Rattle.watch_machine.specs.declared.track.Track.{Track}
 use Rattle.watch_machine.specs.declared.track.Try.{Try}
-use Rattle.watch_machine.specs.Answers.{answers_all, failing, lane_freed, noted, replied, silent}
+use Rattle.watch_machine.specs.Answers.{answers_all, failing, lane_freed, noted, replied, silent, with_track}
 use Rattle.watch_machine.specs.Beginning.{begun, is_called, is_pressed, is_pressed_try, owing, owing_lookup, soon, sooner_try, untopped, untopped_track}
 use Rattle.watch_machine.specs.Clocks.{sec}
 use Rattle.watch_machine.specs.History.{History, Turn, Turned, after_all}
 use Rattle.watch_machine.specs.Lines.{is_first}
-use Rattle.watch_machine.specs.Looked.{after_look, looked, untold, untold_track}
+use Rattle.watch_machine.specs.Looked.{after_look, looked, refused_try, untold, untold_track}
 use Rattle.watch_machine.specs.Margins.{has_come, is_in_plan, lead}
 use Rattle.watch_machine.specs.Press.{asked_track, dropped, is_fresh, press, pressed, pressed_alone, pressed_track, track_asked_in}
 use Rattle.watch_machine.specs.Refusal.{request_out}
@@ -48,8 +48,9 @@ use Rattle.watch_machine.proofs.Seeing.{SameSeen, both_seen, each_past, each_rea
 use Rattle.watch_machine.proofs.Unseen.{pressed_seen, sent_seen}
 use Rattle.watch_machine.proofs.Within.{out_entry}
 use Rattle.watch_laws.specs.Absence.{is_event_taken}
+use Rattle.watch_laws.specs.Failures.{is_told}
 use Rattle.watch_laws.specs.Outage.{one_where}
-use Rattle.watch_laws.specs.Partial.{AreHung, IsUnanswered, OnceInFrontLaw, comes_before, is_own_first, is_own_try, often_before, stands_before, waits_before}
+use Rattle.watch_laws.specs.Partial.{AreHung, IsUntoldOf, OnceInFrontLaw, comes_before, is_own_first, is_own_try, often_before, stands_before, waits_before}
 use Rattle.watch_laws.proofs.Answering.{looked_leaves, renewed_leaves, rest_of}
 use Rattle.watch_laws.proofs.Believed.{written_at, written_count}
 use Rattle.watch_laws.proofs.Clocking.{readied_clocks, refused_stays}
@@ -284,7 +285,7 @@ pressed_within xs j is =
       | inr past ↦ absurd (not_both is (ap is_pressed (get_or_past xs j no_track past)))
     ]
 
--- a loss leaves the try pressed, and no first one
+-- a reply that tells nothing leaves the try pressed, and no first one
 never_first : (n : ℕ) → (min 20 (n + 1) == 0) ≡ false
 never_first n = grind (arith, nat_tests)
 
@@ -294,27 +295,57 @@ IsLater o = (is_pressed_try o ≡ true) × (is_own_try o ≡ false)
 failing_later : (t : Try) (next : Operation) (lost alone : Bool) → t.pressed ≡ true → IsLater (Some (failing t next lost alone))
 failing_later t next lost alone is = (is, ap (λ b. (b && (min 20 (t.fails + 1) == 0)) && not t.along) is ∙ ap (λ b. b && not t.along) (never_first t.fails))
 
-untold_later : (at : ℕ) (heard' : Bool) (x : Track) (o : Option Try) → is_pressed_try o ≡ true → IsLater (untold at heard' Lost x o)
-untold_later at heard' x None is = absurd cc
-untold_later at heard' x (Some t) is = failing_later t (after_look (sec at) x t) true heard' is
+refused_later : (at : ℕ) (x : Track) (t : Try) → t.pressed ≡ true → IsLater (Some (refused_try at x t))
+refused_later at x t is =
+    let P : Try → Type 0 = λ u. IsLater (Some u) in
+    if_both P (is_open (sec at) x) (if t.pressed then failing t Renew false false else record (failing t Renew false false) { at = at; failed = false }) (failing t Look false false)
+    (if_cases P t.pressed (failing t Renew false false) (record (failing t Renew false false) { at = at; failed = false }) (λ e. failing_later t Renew false false is) (λ e. absurd (not_both is e)))
+    (failing_later t Look false false is)
 
-ungranted_later : (at : ℕ) (heard' : Bool) (x : Track) (o : Option Try) → is_pressed_try o ≡ true → IsLater (ungranted at heard' Lost x o)
-ungranted_later at heard' x None is = absurd cc
-ungranted_later at heard' x (Some t) is = failing_later t (after_renewal (sec at) x) true heard' is
+untold_later : (at : ℕ) (heard' : Bool) (reply : Reply) (x : Track) (o : Option Try) → is_told reply ≡ false → is_pressed_try o ≡ true → IsLater (untold at heard' reply x o)
+untold_later at heard' reply x None none is = absurd cc
+untold_later at heard' (Told seconds renewable date) x (Some t) none is = absurd cc
+untold_later at heard' (Refused status date) x (Some t) none is = refused_later at x t is
+untold_later at heard' Busy x (Some t) none is = failing_later t (after_look (sec at) x t) true false is
+untold_later at heard' Lost x (Some t) none is = failing_later t (after_look (sec at) x t) true heard' is
 
-looked_later : (s : WatchState) (q : Out) (terms : Terms) → is_pressed (track_at s q.entry) ≡ true → IsLater (track_at (looked s q Lost terms) q.entry).attempt
+ungranted_later : (at : ℕ) (heard' : Bool) (reply : Reply) (x : Track) (o : Option Try) → is_told reply ≡ false → is_pressed_try o ≡ true → IsLater (ungranted at heard' reply x o)
+ungranted_later at heard' reply x None none is = absurd cc
+ungranted_later at heard' (Told seconds renewable date) x (Some t) none is = absurd cc
+ungranted_later at heard' (Refused status date) x (Some t) none is = failing_later t Look false false is
+ungranted_later at heard' Busy x (Some t) none is = failing_later t (after_renewal (sec at) x) true false is
+ungranted_later at heard' Lost x (Some t) none is = failing_later t (after_renewal (sec at) x) true heard' is
+
+-- so that of a reply which tells nothing
+abbrev LeavesLater : WatchState → ℕ → Track → Type 0
+LeavesLater s i x = IsLater (track_at (with_track s i x) i).attempt
+
+untold_at : (s : WatchState) (q : Out) (reply : Reply) → is_told reply ≡ false → is_pressed (track_at s q.entry) ≡ true → LeavesLater s q.entry (untold_track s.clocks.at q.heard reply (track_at s q.entry))
 unfolding untold_track
-looked_later s q terms is =
+untold_at s q reply none is =
     let x = track_at s q.entry in
-    let within = pressed_within s.tracks q.entry is in
-    subst (λ (y : Track). IsLater y.attempt) (sym (get_or-set_same s.tracks q.entry (untold_track s.clocks.at q.heard Lost x) no_track within)) (untold_later s.clocks.at q.heard x x.attempt is)
+    subst (λ (y : Track). IsLater y.attempt) (sym (get_or-set_same s.tracks q.entry (untold_track s.clocks.at q.heard reply x) no_track (pressed_within s.tracks q.entry is)))
+    (untold_later s.clocks.at q.heard reply x x.attempt none is)
 
-renewed_later : (s : WatchState) (q : Out) → is_pressed (track_at s q.entry) ≡ true → IsLater (track_at (state_renewed s q Lost) q.entry).attempt
-unfolding renewed_track ungranted_track
-renewed_later s q is =
+ungranted_at : (s : WatchState) (q : Out) (reply : Reply) → is_told reply ≡ false → is_pressed (track_at s q.entry) ≡ true → LeavesLater s q.entry (ungranted_track s.clocks.at q.heard reply (track_at s q.entry))
+unfolding ungranted_track
+ungranted_at s q reply none is =
     let x = track_at s q.entry in
-    let within = pressed_within s.tracks q.entry is in
-    subst (λ (y : Track). IsLater y.attempt) (sym (get_or-set_same s.tracks q.entry (ungranted_track s.clocks.at q.heard Lost x) no_track within)) (ungranted_later s.clocks.at q.heard x x.attempt is)
+    subst (λ (y : Track). IsLater y.attempt) (sym (get_or-set_same s.tracks q.entry (ungranted_track s.clocks.at q.heard reply x) no_track (pressed_within s.tracks q.entry is)))
+    (ungranted_later s.clocks.at q.heard reply x x.attempt none is)
+
+looked_later : (s : WatchState) (q : Out) (reply : Reply) (terms : Terms) → is_told reply ≡ false → is_pressed (track_at s q.entry) ≡ true → IsLater (track_at (looked s q reply terms) q.entry).attempt
+looked_later s q (Told seconds renewable date) terms none is = absurd cc
+looked_later s q (Refused status date) terms none is = untold_at s q (Refused status date) none is
+looked_later s q Busy terms none is = untold_at s q Busy none is
+looked_later s q Lost terms none is = untold_at s q Lost none is
+
+renewed_later : (s : WatchState) (q : Out) (reply : Reply) → is_told reply ≡ false → is_pressed (track_at s q.entry) ≡ true → IsLater (track_at (state_renewed s q reply) q.entry).attempt
+unfolding renewed_track
+renewed_later s q (Told seconds renewable date) none is = absurd cc
+renewed_later s q (Refused status date) none is = ungranted_at s q (Refused status date) none is
+renewed_later s q Busy none is = ungranted_at s q Busy none is
+renewed_later s q Lost none is = ungranted_at s q Lost none is
 
 -- an answer leaves the tracks but for its own, while the broker is there
 tracks_left : (s : WatchState) (q : Out) (reply : Reply) → s.presence.away ≡ false → (replied s q reply).tracks ≡ s.tracks
@@ -343,10 +374,10 @@ answer_stays old mid new q reply j made there clocks is what =
     ]
 
 looked_stays :
-    (old new : WatchState) (k j : ℕ) (found : Option Out) (reply : Reply) (terms : Terms) (output : Output) → request_out old.out k Look ≡ found → StepLooked old found reply terms output new → (k ≡ j → reply ≡ Lost) →
+    (old new : WatchState) (k j : ℕ) (found : Option Out) (reply : Reply) (terms : Terms) (output : Output) → request_out old.out k Look ≡ found → StepLooked old found reply terms output new → (k ≡ j → is_told reply ≡ false) →
     old.presence.away ≡ false → is_pressed (track_at old j) ≡ true → Stays old new j
-looked_stays old new k j None reply terms output is_found step lost there is = absurd step
-looked_stays old new k j (Some q) reply terms output is_found step lost there is =
+looked_stays old new k j None reply terms output is_found step untold' there is = absurd step
+looked_stays old new k j (Some q) reply terms output is_found step untold' there is =
     let s = noted old q reply in
     let mid = looked s q reply terms in
     let entry = out_entry old.out k Look q is_found in
@@ -354,18 +385,18 @@ looked_stays old new k j (Some q) reply terms output is_found step lost there is
     (elim (cases_Bool (q.entry == j)) as (λ _. (track_at mid j ≡ track_at old j) ⊎ IsLater (track_at mid j).attempt) [
       | inl same ↦
           let e = eqb-true q.entry j same in
-          let is' = lost (sym entry ∙ e) in
-          inr (subst (λ m. IsLater (track_at mid m).attempt) e (subst (λ r. IsLater (track_at (looked (noted old q r) q r terms) q.entry).attempt) (sym is') (looked_later (noted old q Lost) q terms (ap (λ m. is_pressed (track_at old m)) e ∙ is))))
+          let none = untold' (sym entry ∙ e) in
+          inr (subst (λ m. IsLater (track_at mid m).attempt) e (looked_later s q reply terms none (ap (λ m. is_pressed (track_at old m)) e ∙ is)))
       | inr other ↦ inl (looked_other s q reply terms j (λ e. not_both (same_index q.entry j e) other))
     ]) where
       same_index : (a b : ℕ) → a ≡ b → (a == b) ≡ true
       same_index a b e = grind (arith, nat_tests)
 
 renewed_stays :
-    (old new : WatchState) (k j : ℕ) (found : Option Out) (reply : Reply) (output : Output) → request_out old.out k Renew ≡ found → StepRenewed old found reply output new → (k ≡ j → reply ≡ Lost) →
+    (old new : WatchState) (k j : ℕ) (found : Option Out) (reply : Reply) (output : Output) → request_out old.out k Renew ≡ found → StepRenewed old found reply output new → (k ≡ j → is_told reply ≡ false) →
     old.presence.away ≡ false → is_pressed (track_at old j) ≡ true → Stays old new j
-renewed_stays old new k j None reply output is_found step lost there is = absurd step
-renewed_stays old new k j (Some q) reply output is_found step lost there is =
+renewed_stays old new k j None reply output is_found step untold' there is = absurd step
+renewed_stays old new k j (Some q) reply output is_found step untold' there is =
     let s = noted old q reply in
     let mid = state_renewed s q reply in
     let entry = out_entry old.out k Renew q is_found in
@@ -373,15 +404,15 @@ renewed_stays old new k j (Some q) reply output is_found step lost there is =
     (elim (cases_Bool (q.entry == j)) as (λ _. (track_at mid j ≡ track_at old j) ⊎ IsLater (track_at mid j).attempt) [
       | inl same ↦
           let e = eqb-true q.entry j same in
-          let is' = lost (sym entry ∙ e) in
-          inr (subst (λ m. IsLater (track_at mid m).attempt) e (subst (λ r. IsLater (track_at (state_renewed (noted old q r) q r) q.entry).attempt) (sym is') (renewed_later (noted old q Lost) q (ap (λ m. is_pressed (track_at old m)) e ∙ is))))
+          let none = untold' (sym entry ∙ e) in
+          inr (subst (λ m. IsLater (track_at mid m).attempt) e (renewed_later s q reply none (ap (λ m. is_pressed (track_at old m)) e ∙ is)))
       | inr other ↦ inl (get_or-set_other s.tracks q.entry j _ no_track (λ e. not_both (same_index q.entry j (sym e)) other))
     ]) where
       same_index : (a b : ℕ) → a ≡ b → (a == b) ≡ true
       same_index a b e = grind (arith, nat_tests)
 
 step_stays :
-    (old new : WatchState) (event : Event) (output : Output) (j : ℕ) → Step old event output new → IsUnanswered j event → IsPast old → old.presence.away ≡ false → is_pressed (track_at old j) ≡ true → is_wanted new j ≡ true →
+    (old new : WatchState) (event : Event) (output : Output) (j : ℕ) → Step old event output new → IsUntoldOf j event → IsPast old → old.presence.away ≡ false → is_pressed (track_at old j) ≡ true → is_wanted new j ≡ true →
     Stays old new j
 step_stays old new (Clock wall elapsed) output j step quiet past there is wanted = clock_stays old new wall elapsed output j step past is wanted
 step_stays old new (Looked k reply terms) output j step quiet past there is wanted = looked_stays old new k j (request_out old.out k Look) reply terms output refl step quiet there is
@@ -392,7 +423,7 @@ step_stays old new (Known k told renewable) output j step quiet past there is wa
     subst (λ (x : WatchState). Stays old x j) (sym step.1) (same_stays old (known old k told renewable) j (get_or-set_other old.tracks k j _ no_track (λ e. quiet (sym e))) refl is)
 
 turn_stays :
-    (old new : WatchState) (event : Event) (result : Result Output WatchFault) (j : ℕ) → Turn old event result new → (is_event_taken result ≡ true → IsUnanswered j event) → IsPast old → old.presence.away ≡ false →
+    (old new : WatchState) (event : Event) (result : Result Output WatchFault) (j : ℕ) → Turn old event result new → (is_event_taken result ≡ true → IsUntoldOf j event) → IsPast old → old.presence.away ≡ false →
     is_pressed (track_at old j) ≡ true → is_wanted new j ≡ true → Stays old new j
 turn_stays old new event (Ok output) j turn quiet past there is wanted = step_stays old new event output j turn.1 (quiet refl) past there is wanted
 turn_stays old new event (Err fault) j turn quiet past there is wanted =
@@ -436,7 +467,7 @@ counts_once width n i j (turn ∷ turns) s history hung base there =
     let later = rest.0 in
     let few = rest.1 in (
       (λ is.
-          let stays = turn_stays s new turn.event turn.result j history.0 here.unanswered base.past there is here.wanted in
+          let stays = turn_stays s new turn.event turn.result j history.0 here.untold base.past there is here.wanted in
           let none = ap one_where (no_coming i j s new stays here.same) in
           let after = later stays.pressed' in
           omega (arith, none, after)),

@@ -11,7 +11,6 @@ use Rattle.watch_machine.specs.declared.command.Patience.TheVariants.{Full, AtMo
 use Rattle.watch_machine.specs.declared.command.Request.{Request}
 use Rattle.watch_machine.specs.declared.event.Event.{Event}
 use Rattle.watch_machine.specs.declared.event.Event.TheVariants.{Clock, Looked, Renewed, Need, Begin, Known}
-use Rattle.watch_machine.specs.declared.event.Reply.TheVariants.{Lost}
 use Rattle.watch_machine.specs.declared.fault.WatchFault.{WatchFault}
 use Rattle.watch_machine.specs.declared.lanes.Out.{Out}
 use Rattle.watch_machine.specs.declared.track.Try.{Try}
@@ -22,11 +21,12 @@ use Rattle.watch_machine.specs.Settling.{timed}
 use Rattle.watch_machine.specs.State.{WatchState, attempt_at, opened, second, track_at}
 use Rattle.watch_machine.specs.Wanted.{believed, is_alive, is_wanted, least}
 use Rattle.watch_laws.specs.Absence.{is_clock, is_event_taken}
+use Rattle.watch_laws.specs.Failures.{is_told}
 use Rattle.watch_laws.specs.Outage.{how_many, one_where}
 use Rattle.watch_laws.specs.Recovery.{MayGo}
 
--- a partial outage, in milliseconds of the watch's clock: which entries are hung, so that each of their requests is silent until its
--- patience is over; how long the request of an entry takes that goes out at a moment; within what those of the others are answered; the
+-- a partial outage, in milliseconds of the watch's clock: which entries are hung, so that each of their requests may be silent until
+-- its patience is over; how long the request of an entry takes that goes out at a moment; within what those of the others are answered; the
 -- driver's time-out; the longest patience while somebody is alone; and how late a clock is handed in at most
 pub record Partial : Type 0 where
   pub hung : ℕ → Bool
@@ -151,18 +151,18 @@ PartialLaw =
     width * next.state.clocks.at
     ≤ width * (first.state.clocks.at + o.slow + o.late) + (waiting_before o (length g.entries) i first.state + coming_before o (length g.entries) i first.state turns)
 
--- nothing is answered of j: each request of it is lost, and nothing else tells its end
-abbrev pub IsUnanswered : ℕ → Event → Type 0
-IsUnanswered j (Clock wall elapsed) = Unit {0}
-IsUnanswered j (Looked k reply terms) = k ≡ j → reply ≡ Lost
-IsUnanswered j (Renewed k reply) = k ≡ j → reply ≡ Lost
-IsUnanswered j (Need k until) = Unit {0}
-IsUnanswered j Begin = Unit {0}
-IsUnanswered j (Known k end renewable) = k ≢ j
+-- nothing is told of j: each request of it is lost or refused, or finds the broker busy, and nothing else tells its end
+abbrev pub IsUntoldOf : ℕ → Event → Type 0
+IsUntoldOf j (Clock wall elapsed) = Unit {0}
+IsUntoldOf j (Looked k reply terms) = k ≡ j → is_told reply ≡ false
+IsUntoldOf j (Renewed k reply) = k ≡ j → is_told reply ≡ false
+IsUntoldOf j (Need k until) = Unit {0}
+IsUntoldOf j Begin = Unit {0}
+IsUntoldOf j (Known k end renewable) = k ≢ j
 
 -- a turn at which j is hung: it is wanted after it, the broker is there, and the end of i stays as it is
 pub record IsHung (i j : ℕ) (old : WatchState) (turn : Turned) : Type 0 where
-  pub unanswered : is_event_taken turn.result ≡ true → IsUnanswered j turn.event
+  pub untold : is_event_taken turn.result ≡ true → IsUntoldOf j turn.event
   pub wanted : is_wanted turn.state j ≡ true
   pub there : turn.state.presence.away ≡ false
   pub same : (track_at turn.state i).end ≡ (track_at old i).end
@@ -176,7 +176,7 @@ abbrev pub often_before : ℕ → ℕ → WatchState → List Turned → ℕ
 often_before i j old [] = 0
 often_before i j old (turn ∷ turns) = one_where (comes_before i old turn.state j) + often_before i j turn.state turns
 
--- an entry that is never answered stands before another one once: at its first try. After that it stands behind it
+-- an entry of which nothing is told stands before another one once: at its first try. After that it stands behind it
 abbrev pub OnceInFrontLaw : Type 0
 OnceInFrontLaw =
     (g : Forest) (width : ℕ) (before turns : List Turned) (i j : ℕ) → IsWatchRun g width (before ++ turns) → (after_all (opened g width) before).presence.away ≡ false →

@@ -8,15 +8,16 @@ pub fn partial_law()
     ensures { PartialLaw }
 {}
 
-/// The law of one stand: while the broker is there, an entry that is wanted and never answered stands before another one once, at its
-/// first try. After that it is tried again only where nobody's first try may go out.
+/// The law of one stand: while the broker is there, an entry that is wanted and of which nothing is told, since its requests are lost or
+/// refused or find the broker busy, stands before another one once, at its first try. After that it is tried again only where nobody's
+/// first try may go out.
 pub fn once_law()
     ensures { OnceInFrontLaw }
 {}
 
-/// The law of hung entries: however long the requests of some entries have no answer, while the broker is there an entry whose own
-/// time has come goes out as soon as the lanes have served what was out by then, for the time-out at most, each hung entry once, for
-/// its patience, and each other one that stands before it or comes to, for its answer.
+/// The law of hung entries: however long nothing is told of some entries, since their requests are lost or refused or find the broker
+/// busy, while the broker is there an entry whose own time has come goes out as soon as the lanes have served what was out by then, for
+/// the time-out at most, each hung entry once, for its patience, and each other one that stands before it or comes to, for its answer.
 pub fn hung_law()
     ensures { HungLaw }
 {}
