@@ -1,5 +1,5 @@
 -- Begins: when a clock begins anew, and what a beginning leaves. For the law of when everything is looked up anew.
-use Rattle.std.proofs.Common.{◌≡◌, ◌⊎◌, ◌∙◌, ℕ, ◌+◌, ◌<◌, ◌≤◌, Bool, true, false, not, ◌&&◌, ◌||◌, if◌then◌else◌, List, [], ◌∷◌, ◌++◌, Option, Some, None, Result, Ok, Err, is_none, is_some, length, min, nat_le, nat_lt, refl, sym, ap, subst, arith, inl, inr, true≢false}
+use Rattle.std.proofs.Common.{◌≡◌, ◌⊎◌, ◌∙◌, ℕ, ◌+◌, ◌<◌, ◌≤◌, Bool, true, false, not, ◌&&◌, if◌then◌else◌, List, [], ◌∷◌, Option, Some, None, Result, Ok, Err, is_none, is_some, length, min, nat_le, nat_lt, refl, sym, ap, subst, arith, inl, inr, true≢false}
 use Rattle.std.proofs.lemmas.Bool.{and_from, and_parts, cases_Bool, cases_lt, cond-false, cond-true}
 use Rattle.std.proofs.lemmas.Bool.Decides.{nat_tests}
 use Rattle.std.proofs.lemmas.List.{get_or_past}
@@ -12,17 +12,17 @@ use Rattle.watch_machine.specs.declared.event.Event.TheVariants.{Clock, Begin}
 use Rattle.watch_machine.specs.declared.fault.WatchFault.{WatchFault}
 use Rattle.watch_machine.specs.declared.notes.Notes.{Notes}
 use Rattle.watch_machine.specs.declared.notes.Why.{Why}
-use Rattle.watch_machine.specs.declared.notes.Why.TheVariants.{Start, Asked, Jump, Day}
+use Rattle.watch_machine.specs.declared.notes.Why.TheVariants.{Asked, Jump, Day}
 use Rattle.watch_machine.specs.declared.reading.TheConstants.{READING_MAX}
 use Rattle.watch_machine.specs.declared.track.Track.{Track}
 use Rattle.watch_machine.specs.Beginning.{beginning, begun, is_called, is_past, is_pressed, is_urgent, owing, owing_lookup, soon, sooner_try, untopped, untopped_track}
-use Rattle.watch_machine.specs.Clocks.{is_stepped, reading, sec}
-use Rattle.watch_machine.specs.History.{Turn, Turned, after_all}
+use Rattle.watch_machine.specs.Clocks.{reading, sec}
+use Rattle.watch_machine.specs.History.{Turn, after_all}
 use Rattle.watch_machine.specs.Press.{pressed}
 use Rattle.watch_machine.specs.Round.{asked_by_round}
 use Rattle.watch_machine.specs.Sending.{sent}
 use Rattle.watch_machine.specs.Settling.{at_reading, has_jumped, settled, settled_track, timed}
-use Rattle.watch_machine.specs.State.{WatchState, each, no_track, opened, second, track_at, track_in}
+use Rattle.watch_machine.specs.State.{WatchState, no_track, opened, second, track_at, track_in}
 use Rattle.watch_machine.specs.Step.{Step, StepClock, readied, why}
 use Rattle.watch_machine.specs.Wanted.{believed, is_alive, is_open}
 use Rattle.watch_machine.proofs.Cases.{if_both, not_both}

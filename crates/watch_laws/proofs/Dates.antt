@@ -1,5 +1,5 @@
 -- Dates: what the date of one reply makes of the broker's clock. For the law of dates.
-use Rattle.std.proofs.Common.{◌≡◌, ◌⊎◌, ◌∙◌, ℕ, ◌+◌, ◌-◌, ◌<◌, ◌≤◌, Bool, true, false, ◌&&◌, ◌||◌, if◌then◌else◌, List, [], ◌∷◌, ◌++◌, Option, Some, None, Result, Ok, Err, fold, is_none, min, nat_lt, refl, sym, ap, subst, arith, inl, inr, true≢false}
+use Rattle.std.proofs.Common.{◌≡◌, ◌∙◌, ℕ, ◌+◌, ◌-◌, ◌<◌, ◌≤◌, Bool, true, false, ◌&&◌, ◌||◌, if◌then◌else◌, List, [], ◌∷◌, Option, Some, None, is_none, min, nat_lt, refl, sym, ap, subst, arith, inl, inr}
 use Rattle.std.proofs.lemmas.Bool.{cases_Bool, cond-false, cond-true, or_left, or_right}
 use Rattle.std.proofs.lemmas.Bool.Decides.{nat_tests}
 use Rattle.keep_moment.specs.declared.moment.TheConstants.{LAST}
@@ -11,17 +11,17 @@ use Rattle.watch_machine.specs.declared.event.Reply.TheVariants.{Told, Refused, 
 use Rattle.watch_machine.specs.declared.lanes.Answer.{Answer}
 use Rattle.watch_machine.specs.declared.notes.Notes.{Notes}
 use Rattle.watch_machine.specs.Clocks.{dated_by, first_clocks, is_ahead, is_behind, is_stepped, reading, sec, to_broker, walled}
-use Rattle.watch_machine.specs.History.{Turned, after_all}
+use Rattle.watch_machine.specs.History.{after_all}
 use Rattle.watch_machine.specs.Press.{pressed}
 use Rattle.watch_machine.specs.Round.{asked_by_round}
-use Rattle.watch_machine.specs.Settling.{at_reading, clocks_after, date_of, dated, dated_by_all, dated_on, has_stepped, is_step, read, settled, steps, timed}
+use Rattle.watch_machine.specs.Settling.{at_reading, clocks_after, date_of, dated_by_all, dated_on, has_stepped, is_step, read, settled, steps, timed}
 use Rattle.watch_machine.specs.State.{WatchState, opened, second}
 use Rattle.watch_machine.specs.Step.{StepClock, readied, why}
-use Rattle.watch_machine.proofs.Cases.{if_both, not_both}
+use Rattle.watch_machine.proofs.Cases.{if_both}
 use Rattle.watch_laws.specs.Clocks.{date_told}
 use Rattle.watch_laws.specs.Dates.{IsAheadOf, IsBehindOf, IsDatedBy, IsSteppedBy, WindowLaw}
 use Rattle.watch_laws.proofs.Begins.{begun_stepped, turn_of}
-use Rattle.watch_laws.proofs.Clocking.{clock_at, clock_rises, dated_at, sent_by}
+use Rattle.watch_laws.proofs.Clocking.{clock_rises, dated_at, sent_by}
 use Rattle.watch_laws.proofs.Dating.{clock_of, opened_clocked, parts, ran_clocked}
 use Rattle.watch_laws.proofs.OnPlan.{sec_rises}
 

@@ -1,5 +1,5 @@
 -- Failures: what a reply that tells nothing makes of a try. For the law of what is asked after a failure.
-use Rattle.std.proofs.Common.{◌≡◌, ◌∙◌, ℕ, ◌<◌, Bool, true, false, not, ◌&&◌, ◌||◌, if◌then◌else◌, List, [], ◌∷◌, Option, Some, None, Result, Ok, Err, length, refl, sym, ap, subst, true≢false}
+use Rattle.std.proofs.Common.{◌≡◌, ◌∙◌, ℕ, ◌<◌, Bool, true, false, not, ◌&&◌, if◌then◌else◌, Option, Some, None, Result, Ok, Err, length, refl, sym, ap, subst, true≢false}
 use Rattle.std.proofs.lemmas.List.{get_or-set_same}
 use Rattle.watch_machine.specs.declared.command.Output.{Output}
 use Rattle.watch_machine.specs.declared.event.Event.{Event}
@@ -15,15 +15,15 @@ use Rattle.watch_machine.specs.declared.track.Track.{Track}
 use Rattle.watch_machine.specs.declared.track.Try.{Try}
 use Rattle.watch_machine.specs.Answers.{back_track, back_try, due_again, failing, noted, replied, with_track}
 use Rattle.watch_machine.specs.Clocks.{sec}
-use Rattle.watch_machine.specs.History.{Turn, Turned}
+use Rattle.watch_machine.specs.History.{Turn}
 use Rattle.watch_machine.specs.Lines.{rested}
-use Rattle.watch_machine.specs.Looked.{looked, refused_try, untold, untold_track, untold_try}
+use Rattle.watch_machine.specs.Looked.{looked, untold, untold_track, untold_try}
 use Rattle.watch_machine.specs.Refusal.{request_out}
 use Rattle.watch_machine.specs.Renewed.{renewed_track, state_renewed, ungranted, ungranted_track, ungranted_try}
 use Rattle.watch_machine.specs.State.{WatchState, attempt_at, no_track, second, track_at}
 use Rattle.watch_machine.specs.Step.{Step, StepLooked, StepRenewed}
 use Rattle.watch_machine.specs.Wanted.{is_alive, is_open}
-use Rattle.watch_machine.proofs.Cases.{if_both, if_cases, not_both, value_is}
+use Rattle.watch_machine.proofs.Cases.{if_cases, not_both, value_is}
 use Rattle.watch_machine.proofs.Within.{out_entry}
 use Rattle.watch_laws.specs.Absence.{is_event_taken}
 use Rattle.watch_laws.specs.Failures.{FailureLaw, IsFailure, asked_after_lookup, asked_after_renewal, is_refused, is_told}

@@ -1,5 +1,5 @@
 -- Told: what a lookup that tells makes of its entry, and what writes the forest. For the laws of what is told.
-use Rattle.std.proofs.Common.{◌≡◌, ◌≢◌, ◌∙◌, ℕ, ◌+◌, ◌<◌, ◌≤◌, Bool, true, false, not, ◌&&◌, if◌then◌else◌, List, [], ◌∷◌, Option, Some, None, Result, Ok, Err, is_some, length, min, nat_lt, option_map, refl, slice_set, sym, ap, subst, arith, true≢false}
+use Rattle.std.proofs.Common.{◌≡◌, ◌∙◌, ℕ, ◌+◌, ◌<◌, ◌≤◌, Bool, true, false, ◌&&◌, if◌then◌else◌, Option, Some, None, Result, Ok, Err, is_some, length, min, nat_lt, option_map, refl, slice_set, sym, ap, subst, arith, true≢false}
 use Rattle.std.proofs.lemmas.Bool.{cond-false, cond-true}
 use Rattle.std.proofs.lemmas.Bool.Decides.{nat_tests}
 use Rattle.std.proofs.lemmas.List.{get_or-set_same, length-set}
@@ -22,10 +22,10 @@ use Rattle.watch_machine.specs.declared.notes.Why.{Why}
 use Rattle.watch_machine.specs.declared.track.Track.{Track}
 use Rattle.watch_machine.specs.declared.track.Try.{Try}
 use Rattle.watch_machine.specs.declared.track.End.TheVariants.{At, Never}
-use Rattle.watch_machine.specs.Answers.{back_track, back_try, due_again, failing, noted, replied, with_track}
+use Rattle.watch_machine.specs.Answers.{back_track, back_try, due_again, failing, noted, replied}
 use Rattle.watch_machine.specs.Beginning.{begun, owed}
 use Rattle.watch_machine.specs.Clocks.{sec}
-use Rattle.watch_machine.specs.History.{Turn, Turned}
+use Rattle.watch_machine.specs.History.{Turn}
 use Rattle.watch_machine.specs.Lines.{rested}
 use Rattle.watch_machine.specs.Looked.{at_once, by_terms, is_called_for, looked, step_told, told_state, told_track, told_try, with_told_try}
 use Rattle.watch_machine.specs.Press.{pressed}
@@ -33,10 +33,10 @@ use Rattle.watch_machine.specs.Refusal.{request_out}
 use Rattle.watch_machine.specs.Renewed.{granted_from, granted_try, state_renewed}
 use Rattle.watch_machine.specs.Round.{asked_by_round}
 use Rattle.watch_machine.specs.Settling.{settled, timed}
-use Rattle.watch_machine.specs.State.{WatchState, attempt_at, entry_of, no_track, second, track_at, track_in}
+use Rattle.watch_machine.specs.State.{WatchState, attempt_at, entry_of, no_track, second, track_at}
 use Rattle.watch_machine.specs.Step.{Step, StepClock, StepLooked, StepRenewed, readied, why}
 use Rattle.watch_machine.specs.Wanted.{believed, is_alive, is_wanted, need_of, wanted_need, wants}
-use Rattle.watch_machine.proofs.Cases.{if_both, if_cases, not_both, value_is}
+use Rattle.watch_machine.proofs.Cases.{if_both, not_both, value_is}
 use Rattle.watch_machine.proofs.Seeing.{SameSeen, need_same, sight}
 use Rattle.watch_machine.proofs.Within.{out_entry}
 use Rattle.watch_laws.specs.Absence.{is_event_taken}
