@@ -75,13 +75,13 @@ class Asked(Scenario):
         self.assertGreater(len(self.moments("e0")), 5)
         self.assertNotIn("alert", self.stage.output.getvalue())
 
-    def test_a_quota_is_waited_for(self) -> None:
-        """No slice goes out within a second of a 429; and whose lookup failed is renewed, since a grant tells its end too."""
+    def test_a_busy_broker_delays_only_its_own_entry(self) -> None:
+        """After a 429 its entry waits for a second, and no other; and whose lookup failed is renewed, since a grant tells its end too."""
         async def scene(stage: Stage) -> None:
             stage.vault.faults.append(fault(0, 2.5, status=429, on=both(lookups, about("e1"))))
             await stage.finish(10)
         self.play(fleet(20, 300, 20, 200), scene)
-        self.assertEqual(sorted({moment for moment, *_ in self.stage.vault.log}), [BEGAN, BEGAN + 1])
+        self.assertEqual([(moment, name) for moment, _, name, _ in self.stage.vault.log if moment != BEGAN], [(BEGAN + 1, "e1")])
         self.assertEqual((self.moments("e1", "lookup"), self.moments("e1", "renew")), ([0], [1]))
         self.assert_kept()
 

@@ -75,7 +75,7 @@ pub(crate) fn owed(from: Millis) -> Try
 }
 
 /// A try that goes out no later than that.
-pub(crate) fn hastened(attempt: Try, from: Millis) -> Try
+fn hastened(attempt: Try, from: Millis) -> Try
     requires { IsTry attempt }
     ensures value { result ≡ hastened attempt from }
     ensures bounds { IsTry result }
