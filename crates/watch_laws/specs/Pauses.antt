@@ -6,7 +6,8 @@ use Rattle.watch_machine.specs.declared.track.Track.{Track}
 use Rattle.watch_machine.specs.declared.track.Try.{Try}
 use Rattle.watch_machine.specs.History.{History, Turned}
 use Rattle.watch_machine.specs.Pauses.{cap}
-use Rattle.watch_machine.specs.State.{WatchState, track_at}
+use Rattle.watch_machine.specs.State.{WatchState, attempt_at, track_at}
+use Rattle.watch_laws.specs.Absence.{is_clock, is_event_taken}
 use Rattle.watch_laws.specs.Beginnings.{why_begun}
 use Rattle.watch_laws.specs.Waiting.{TryFails}
 
@@ -60,3 +61,23 @@ pub record IsPaused (old : WatchState) (turn : Turned) (i : ℕ) (t u : Try) : T
 -- failed as often as before, and is alone if it was and was out for a second
 abbrev pub DoubledLaw : Type 0
 DoubledLaw = (old : WatchState) (turn : Turned) (i : ℕ) (t u : Try) → History old (turn ∷ []) → TryFails old turn i t u → 0 < u.fails → IsPaused old turn i t u
+
+-- a clock leaves i, where it is pressed, a try that has not failed since the clock before
+pub record TryWaits (old : WatchState) (turn : Turned) (i : ℕ) (t u : Try) : Type 0 where
+  pub clock : is_clock turn.event ≡ true
+  pub taken : is_event_taken turn.result ≡ true
+  pub before : attempt_at old i ≡ Some t
+  pub waits : t.failed ≡ false
+  pub after : attempt_at turn.state i ≡ Some u
+  pub pressed : u.pressed ≡ true
+
+-- it may go as soon as it might
+pub record IsUnpaused (turn : Turned) (t u : Try) : Type 0 where
+  pub soon : u.at ≤ t.at
+  pub same : why_begun turn.result ≡ None → u.at ≡ t.at
+  pub fails : u.fails ≡ t.fails
+  pub alone : u.alone ≡ t.alone
+
+-- no other begins to pause: not one that failed before, nor one that was lost and is due again since the broker is back
+abbrev pub UnpausedLaw : Type 0
+UnpausedLaw = (old : WatchState) (turn : Turned) (i : ℕ) (t u : Try) → History old (turn ∷ []) → TryWaits old turn i t u → 0 < u.fails → IsUnpaused turn t u

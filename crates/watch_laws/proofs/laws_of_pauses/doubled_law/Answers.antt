@@ -1,5 +1,5 @@
 -- doubled_law: the laws as they are proved in Pausing and Doubling.
-use Rattle.watch_laws.proofs.Doubling.{pauses_double}
+use Rattle.watch_laws.proofs.Doubling.{others_go_on, pauses_double}
 use Rattle.watch_laws.proofs.Pausing.{longest_so}
 use Rattle.watch_laws.proofs.laws_of_pauses.doubled_law.Goals as goal
 
@@ -8,3 +8,6 @@ returns-clause-longest c = longest_so
 
 pub returns-clause-doubled : goal.returns-clause-doubled
 returns-clause-doubled c = pauses_double
+
+pub returns-clause-unpaused : goal.returns-clause-unpaused
+returns-clause-unpaused c = others_go_on
