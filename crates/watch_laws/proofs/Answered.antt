@@ -1,7 +1,7 @@
 -- Answered: what an answer makes of the stages of an outage. For the law of outages.
-use Rattle.std.proofs.Common.{◌≡◌, ◌≢◌, ◌⊎◌, ◌∙◌, ℕ, suc, ◌+◌, ◌<◌, ◌≤◌, Bool, true, false, ◌&&◌, ◌==◌, [], ◌∷◌, ◌++◌, Some, All, length, refl, sym, ap, subst, arith, inl, inr}
+use Rattle.std.proofs.Common.{◌≡◌, ◌≢◌, ◌⊎◌, ◌∙◌, ℕ, suc, ◌+◌, ◌<◌, ◌≤◌, Bool, true, false, ◌&&◌, ◌==◌, Some, All, length, refl, sym, ap, subst, arith, inl, inr}
 use Rattle.std.proofs.lemmas.Bool.{cases_Bool, eqb-true}
-use Rattle.std.proofs.lemmas.List.{get_or-set_other, get_or-set_same, length-set}
+use Rattle.std.proofs.lemmas.List.{get_or-set_other, get_or-set_same}
 use Rattle.std.specs.List.{list_any}
 use Rattle.watch_machine.specs.declared.command.Output.{Output}
 use Rattle.watch_machine.specs.declared.event.Operation.{Operation}
@@ -9,15 +9,13 @@ use Rattle.watch_machine.specs.declared.event.Operation.TheVariants.{Look, Renew
 use Rattle.watch_machine.specs.declared.event.Reply.{Reply}
 use Rattle.watch_machine.specs.declared.event.Reply.TheVariants.{Told, Refused, Busy, Lost}
 use Rattle.watch_machine.specs.declared.event.Terms.{Terms}
-use Rattle.watch_machine.specs.declared.lanes.Answer.{Answer}
 use Rattle.watch_machine.specs.declared.lanes.Out.{Out}
-use Rattle.watch_machine.specs.declared.lanes.Presence.{Presence}
 use Rattle.watch_machine.specs.Answers.{heard, noted}
 use Rattle.watch_machine.specs.Clocks.{ms}
-use Rattle.watch_machine.specs.Looked.{looked}
+use Rattle.watch_machine.specs.Looked.{looked, untold_track}
 use Rattle.watch_machine.specs.Refusal.{request_out}
-use Rattle.watch_machine.specs.Renewed.{renewed_track, state_renewed, track_renewed, ungranted_track}
-use Rattle.watch_machine.specs.Settling.{is_busy, is_real}
+use Rattle.watch_machine.specs.Renewed.{renewed_track, state_renewed, ungranted_track}
+use Rattle.watch_machine.specs.Settling.{is_real}
 use Rattle.watch_machine.specs.State.{WatchState, no_track, track_at}
 use Rattle.watch_machine.specs.Step.{StepLooked, StepRenewed}
 use Rattle.watch_machine.proofs.Cases.{not_both, of_value}
@@ -25,13 +23,13 @@ use Rattle.watch_machine.proofs.Within.{out_all, out_entry}
 use Rattle.watch_laws.specs.Outage.{IsReplyInOutage, comes, how_many, is_request_served, is_request_whole, outage_settled_by, waiting}
 use Rattle.watch_laws.proofs.Alone.{flag}
 use Rattle.watch_laws.proofs.Answering.{looked_leaves, renewed_leaves, rest_of}
-use Rattle.watch_laws.proofs.Enduring.{Cutting, Endures, IsAnswered, after, any_more, lost_endures, own_endures, real_endures, second_before}
+use Rattle.watch_laws.proofs.Enduring.{Cutting, Endures, IsAnswered, IsFailed, lost_endures, own_endures, real_endures, ungranted_failed, untold_failed}
 use Rattle.watch_laws.proofs.Holding.{looked_presence}
 use Rattle.watch_laws.proofs.Lanes.{Sends, all_left, fewer_wait, is_of, passes, replied_any, replied_lane}
-use Rattle.watch_laws.proofs.Lasting.{Same, no_look, same_time}
-use Rattle.watch_laws.proofs.Retrying.{replied_free}
+use Rattle.watch_laws.proofs.Lasting.{Same, same_time}
 use Rattle.watch_laws.proofs.Sparing.{found_lane, looked_answers}
 use Rattle.watch_laws.proofs.Spacing.{after_flag, looked_other, looked_out, same_index}
+use Rattle.watch_laws.proofs.Grounds.{IsBase}
 use Rattle.watch_laws.proofs.Stages.{Facts, IsGoing, IsThrough, free_from}
 
 -- an answer that was lived
@@ -42,7 +40,7 @@ pub record IsReplied (f : Facts) (due : ℕ) (old mid new : WatchState) (q : Out
   pub found : request_out old.out j operation ≡ Some q
   pub reply_is : IsReplyInOutage f.o reply q
   pub other : q.entry ≢ f.i → track_at mid f.i ≡ track_at old f.i
-  pub own : q.entry ≡ f.i → (reply ≡ Lost) × ((f.i < length mid.tracks) × (track_at mid f.i ≡ ungranted_track old.clocks.at q.heard Lost (track_at old f.i)))
+  pub own : q.entry ≡ f.i → (reply ≡ Lost) × IsFailed (track_at mid f.i) (track_at old f.i)
   pub going : IsGoing f due old
   pub base : IsBase f.width f.n new
   pub same : Same f.i old new
@@ -58,69 +56,46 @@ module _ (f : Facts) (due : ℕ) (old mid new : WatchState) (q : Out) (reply : R
   lost_broke is = subst (λ r. IsReplyInOutage f.o r q) is t.reply_is
 
   -- the entry endures it
-  by_lost : (bound : ℕ) (miss : Type 0) → (w : Reply) → reply ≡ w → (q.entry ≡ f.i → reply ≡ Lost → miss) → Endures f.o f.i f.end bound due miss old → Endures f.o f.i f.end bound due miss new
-  by_lost bound miss (Told seconds renewable date) is may h =
+  by_reply : (bound : ℕ) (miss : Type 0) → (w : Reply) → reply ≡ w → Endures f.o f.i f.end bound due miss old → Endures f.o f.i f.end bound due miss new
+  by_reply bound miss (Told seconds renewable date) is h =
       let apart : q.entry ≢ f.i = λ own. (let bad : Told seconds renewable date ≡ Lost = sym is ∙ (t.own own).0 in absurd cc) in
-      real_endures f.o f.i f.end bound due miss old mid new q reply t.answered (t.other apart) apart (ap is_real is) t.going.base.past.hold h
-  by_lost bound miss (Refused status date) is may h =
+      real_endures f.o f.i f.end bound due miss old mid new q reply t.answered (t.other apart) (ap is_real is) t.going.base.past.hold h
+  by_reply bound miss (Refused status date) is h =
       let apart : q.entry ≢ f.i = λ own. (let bad : Refused status date ≡ Lost = sym is ∙ (t.own own).0 in absurd cc) in
-      real_endures f.o f.i f.end bound due miss old mid new q reply t.answered (t.other apart) apart (ap is_real is) t.going.base.past.hold h
-  by_lost bound miss Busy is may h = absurd (subst (λ r. IsReplyInOutage f.o r q) is t.reply_is)
-  by_lost bound miss Lost is may h =
+      real_endures f.o f.i f.end bound due miss old mid new q reply t.answered (t.other apart) (ap is_real is) t.going.base.past.hold h
+  by_reply bound miss Busy is h =
+      let apart : q.entry ≢ f.i = λ own. (let bad : Busy ≡ Lost = sym is ∙ (t.own own).0 in absurd cc) in
+      real_endures f.o f.i f.end bound due miss old mid new q reply t.answered (t.other apart) (ap is_real is) t.going.base.past.hold h
+  by_reply bound miss Lost is h =
       let broke = lost_broke is in
       let a : IsAnswered old mid new q Lost = subst (IsAnswered old mid new q) is t.answered in
-      let ahead = t.going.ahead in
       elim (cases_Bool (q.entry == f.i)) as (λ _. Endures f.o f.i f.end bound due miss new) [
         | inl here ↦
             let mine = eqb-true q.entry f.i here in
-            let own = t.own mine in
-            own_endures f.o f.i f.end bound due miss old mid new q a broke timely h (may mine is) mine own.1.0 own.1.1 (second_before old.clocks.at f.end ahead)
-            (λ heard'. (of_this (Cutting f.o f.i bound miss old) h.out mine).1.1 heard')
+            own_endures f.o f.i f.end bound due miss old mid new q a broke timely h (of_this (Cutting f.o f.i bound miss old) h.out) mine (t.own mine).1
         | inr different ↦
             let apart : q.entry ≢ f.i = λ e. not_both (subst (λ n. (n == f.i) ≡ true) (sym e) (same_index f.i)) different in
-            lost_endures f.o f.i f.end bound due miss old mid new q a broke timely h (t.other apart) apart
+            lost_endures f.o f.i f.end bound due miss old mid new q a broke timely h (t.other apart)
       ]
 
-  pub endures_reply : (bound : ℕ) (miss : Type 0) → (q.entry ≡ f.i → reply ≡ Lost → miss) → Endures f.o f.i f.end bound due miss old → Endures f.o f.i f.end bound due miss new
-  endures_reply bound miss may h = by_lost bound miss reply refl may h
+  pub endures_reply : (bound : ℕ) (miss : Type 0) → Endures f.o f.i f.end bound due miss old → Endures f.o f.i f.end bound due miss new
+  endures_reply bound miss h = by_reply bound miss reply refl h
 
   kept_all : (P : Out → Type 0) → ((r : Out) → P r → P (heard r)) → All P old.out → All P new.out
   kept_all P hears all = subst (λ (x : WatchState). All P x.out) (sym t.answered.is) (all_left P hears mid q reply (subst (All P) (sym t.answered.outs) all))
-
-  not_busy : (w : Reply) → IsReplyInOutage f.o w q → is_busy w ≡ false
-  not_busy (Told seconds renewable date) h = refl
-  not_busy (Refused status date) h = refl
-  not_busy Busy h = absurd h
-  not_busy Lost h = refl
 
   pub goes_on_after : IsGoing f due new
   goes_on_after =
       let clock = ap (λ c. c.at) t.answered.clocks in
       let ahead = t.going.ahead in
       let by = t.going.by in
-      let a : Answer = record { since = q.since; heard = q.heard; reply = reply } in
-      let answers : new.answers ≡ old.answers ++ a ∷ [] = after old mid new q reply t.answered in
       record {
         base = t.base;
         entries = t.same.count ∙ t.going.entries;
         time = same_time f.i old new t.same ∙ t.going.time;
         margin = t.same.margin ∙ t.going.margin;
-        end_is = t.same.bears.0 ∙ t.going.end_is;
-        asks = kept_all (λ (r : Out). r.entry ≡ f.i → r.operation ≡ Renew) (λ r h. h) t.going.asks;
+        end_is = t.same.ends.0 ∙ t.going.end_is;
         timely = kept_all (λ (r : Out). due ≤ outage_settled_by f.o r.since + f.o.late) (λ r h. h) t.going.timely;
-        calm =
-            elim (cases_Bool (list_any (λ (b : Answer). is_busy b.reply) new.answers)) as (λ _. list_any (λ (b : Answer). is_busy b.reply) new.answers ≡ false) [
-              | inl busy ↦
-                  elim (any_more (λ (b : Answer). is_busy b.reply) old.answers a (sym (ap (list_any (λ (b : Answer). is_busy b.reply)) answers) ∙ busy)) [
-                    | inl before ↦ absurd (not_both before t.going.calm)
-                    | inr this ↦ absurd (not_both this (not_busy reply t.reply_is))
-                  ]
-              | inr calm ↦ calm
-            ];
-        free =
-            let e = ap (λ (x : WatchState). x.presence.free) t.answered.is ∙ replied_free mid q reply ∙ ap (λ (p : Presence). p.free) t.answered.presence in
-            let low = t.going.free in
-            omega (arith, e, low);
         ahead = omega (arith, clock, ahead);
         by = omega (arith, clock, by);
       }
@@ -151,7 +126,7 @@ module _ (f : Facts) (due : ℕ) (old mid new : WatchState) (q : Out) (reply : R
       let apart = apart_of h.idle in
       let clock = ap (λ c. c.at) t.answered.clocks in
       inl (inl (record {
-        endures = endures_reply (ms f.time) ⊥ (λ own is. apart own) h.endures;
+        endures = endures_reply (ms f.time) ⊥ h.endures;
         idle = after_flag old mid new q reply f.i t.answered.is t.answered.outs t.other apart ∙ h.idle;
         whole = kept_all (λ (r : Out). is_request_whole f.o r.since ≡ true) (λ r k. k) h.whole;
         r = h.r;
@@ -170,7 +145,7 @@ module _ (f : Facts) (due : ℕ) (old mid new : WatchState) (q : Out) (reply : R
       let all = fewer_wait f.o f.o.until f.n old new t.going.base.alone t.base.alone t.base.tries sends in
       let count = h.count in
       inl (inr (record {
-        endures = endures_reply (free_from f) Unit (λ own is. tt) h.endures;
+        endures = endures_reply (free_from f) Unit h.endures;
         unserved = stays_unserved h.unserved;
         r = h.r;
         count = omega (arith, all, count);
@@ -184,7 +159,7 @@ module _ (f : Facts) (due : ℕ) (old mid new : WatchState) (q : Out) (reply : R
       let clock = ap (λ c. c.at) t.answered.clocks in
       let now = h.now in
       inr (inl (record {
-        endures = endures_reply (free_from f) Unit (λ own is. tt) h.endures;
+        endures = endures_reply (free_from f) Unit h.endures;
         unserved = stays_unserved h.unserved;
         back = kept_all (λ (r : Out). f.o.until ≤ r.since) (λ r k. k) h.back;
         r = h.r;
@@ -216,12 +191,11 @@ module _ (f : Facts) (due : ℕ) (old mid new : WatchState) (q : Out) (reply : R
   replied_through rest sends (inr (inr (inr h))) =
       let all = fewer_wait f.o (suc h.from) f.n old new t.going.base.alone t.base.alone t.base.tries sends in
       let count = h.count in
-      let apart = apart_of h.idle in
       let clock = ap (λ c. c.at) t.answered.clocks in
       let over = h.over in
       inr (inr (inr (record {
-        endures = endures_reply (ms f.time) ⊥ (λ own is. apart own) h.endures;
-        idle = after_flag old mid new q reply f.i t.answered.is t.answered.outs t.other apart ∙ h.idle;
+        endures = endures_reply (ms f.time) ⊥ h.endures;
+        unserved = stays_unserved h.unserved;
         over = omega (arith, clock, over);
         soon = h.soon;
         from = h.from;
@@ -229,13 +203,31 @@ module _ (f : Facts) (due : ℕ) (old mid new : WatchState) (q : Out) (reply : R
         next = h.next;
       })))
 
+-- what a loss makes of the track
+looked_made : (t : WatchState) (r : Out) (w : Reply) (terms : Terms) (i : ℕ) → r.entry ≡ i → w ≡ Lost → i < length t.tracks → IsFailed (track_at (looked (noted t r w) r w terms) i) (track_at t i)
+looked_made t r w terms i is lost' below' =
+    subst (λ v. IsFailed (track_at (looked (noted t r v) r v terms) i) (track_at t i)) (sym lost')
+    (subst (λ k. IsFailed (track_at (looked (noted t r Lost) r Lost terms) k) (track_at t k)) is
+    (subst (λ x. IsFailed x (track_at t r.entry)) (sym (get_or-set_same t.tracks r.entry (untold_track t.clocks.at r.heard Lost (track_at t r.entry)) no_track (omega (arith, is, below'))))
+    (untold_failed t.clocks.at r.heard (track_at t r.entry))))
+
+own_made : (t : WatchState) (r : Out) (w : Reply) (i : ℕ) → r.entry ≡ i → w ≡ Lost → i < length t.tracks → IsFailed (track_at (state_renewed (noted t r w) r w) i) (track_at t i)
+unfolding renewed_track
+own_made t r w i is lost' below' =
+    subst (λ v. IsFailed (track_at (state_renewed (noted t r v) r v) i) (track_at t i)) (sym lost')
+    (subst (λ k. IsFailed (track_at (state_renewed (noted t r Lost) r Lost) k) (track_at t k)) is
+    (subst (λ x. IsFailed x (track_at t r.entry)) (sym (get_or-set_same t.tracks r.entry (ungranted_track t.clocks.at r.heard Lost (track_at t r.entry)) no_track (omega (arith, is, below'))))
+    (ungranted_failed t.clocks.at r.heard (track_at t r.entry))))
+
 -- the answers themselves
 pub looked_replied :
-    (f : Facts) (due : ℕ) (old new : WatchState) (j : ℕ) (q : Out) (reply : Reply) (terms : Terms) (output : Output) → request_out old.out j Look ≡ Some q → StepLooked old (Some q) reply terms output new →
-    IsReplyInOutage f.o reply q → IsGoing f due old → IsBase f.width f.n new → Same f.i old new → IsReplied f due old (looked (noted old q reply) q reply terms) new q reply
-looked_replied f due old new j q reply terms output found step reply_is going base same =
+    (f : Facts) (due : ℕ) (old new : WatchState) (j : ℕ) (q : Out) (reply : Reply) (terms : Terms) (output : Output) → f.i < f.n → request_out old.out j Look ≡ Some q → StepLooked old (Some q) reply terms output new →
+    IsReplyInOutage f.o reply q → (j ≡ f.i → reply ≡ Lost) → IsGoing f due old → IsBase f.width f.n new → Same f.i old new → IsReplied f due old (looked (noted old q reply) q reply terms) new q reply
+looked_replied f due old new j q reply terms output low found step reply_is lost going base same =
     let s = noted old q reply in
-    let apart = no_look f.i j old q found going.asks in
+    let entry = out_entry old.out j Look q found in
+    let count = going.base.count in
+    let below : f.i < length old.tracks = omega (arith, low, count) in
     record {
       answered = record {
         is = step.1;
@@ -249,18 +241,13 @@ looked_replied f due old new j q reply terms output found step reply_is going ba
       found = found;
       reply_is = reply_is;
       other = looked_other s q reply terms f.i;
-      own = λ is. absurd (apart is);
+      own = λ is.
+          let is_lost = lost (sym entry ∙ is) in
+          (is_lost, looked_made old q reply terms f.i is is_lost below);
       going = going;
       base = base;
       same = same;
     }
-
-own_made : (t : WatchState) (r : Out) (w : Reply) (i : ℕ) → r.entry ≡ i → w ≡ Lost → i < length t.tracks → track_at (state_renewed (noted t r w) r w) i ≡ ungranted_track t.clocks.at r.heard Lost (track_at t i)
-unfolding renewed_track
-own_made t r w i is lost' below' =
-    subst (λ v. track_at (state_renewed (noted t r v) r v) i ≡ ungranted_track t.clocks.at r.heard Lost (track_at t i)) (sym lost')
-    (subst (λ k. track_at (state_renewed (noted t r Lost) r Lost) k ≡ ungranted_track t.clocks.at r.heard Lost (track_at t k)) is
-    (get_or-set_same t.tracks r.entry (ungranted_track t.clocks.at r.heard Lost (track_at t r.entry)) no_track (omega (arith, is, below'))))
 
 pub renewed_replied :
     (f : Facts) (due : ℕ) (old new : WatchState) (j : ℕ) (q : Out) (reply : Reply) (output : Output) → f.i < f.n → request_out old.out j Renew ≡ Some q → StepRenewed old (Some q) reply output new →
@@ -270,7 +257,6 @@ renewed_replied f due old new j q reply output low found step reply_is lost goin
     let entry = out_entry old.out j Renew q found in
     let count = going.base.count in
     let below : f.i < length old.tracks = omega (arith, low, count) in
-    let many = length-set old.tracks q.entry (track_renewed s q reply) in
     record {
       answered = record {
         is = step.1;
@@ -285,10 +271,8 @@ renewed_replied f due old new j q reply output low found step reply_is lost goin
       reply_is = reply_is;
       other = λ apart. get_or-set_other s.tracks q.entry f.i _ no_track (λ e. apart (sym e));
       own = λ is.
-          let is_lost = lost (sym entry ∙ is) in (
-            is_lost,
-            (omega (arith, many, below), own_made old q reply f.i is is_lost below),
-          );
+          let is_lost = lost (sym entry ∙ is) in
+          (is_lost, own_made old q reply f.i is is_lost below);
       going = going;
       base = base;
       same = same;

@@ -28,6 +28,7 @@ use Rattle.watch_laws.proofs.Answering.{looked_leaves, renewed_leaves, rest_of}
 use Rattle.watch_laws.proofs.Clocking.{readied_clocks, refused_stays}
 use Rattle.watch_laws.proofs.Going.{entry_by}
 use Rattle.watch_laws.proofs.Lanes.{Ticks, all_left, all_sent, pressed_count, ticks}
+use Rattle.watch_laws.proofs.Marked.{AllMarked, first_free, turn_marked}
 use Rattle.watch_laws.proofs.Owed.{AllTry, first_tries, turn_outcome}
 use Rattle.watch_laws.proofs.Retrying.{IsPast, first_past, rises, turn_past}
 use Rattle.watch_laws.proofs.Spacing.{looked_out}
@@ -43,6 +44,7 @@ pub record IsBase (width n : ℕ) (s : WatchState) : Type 0 where
   pub past : IsPast s
   pub within : All (λ (q : Out). q.entry < n) s.out
   pub since : All (λ (q : Out). q.since ≤ s.clocks.at) s.out
+  pub marked : AllMarked s
 
 abbrev Bounds : ℕ → WatchState → Type 0
 Bounds n s = All (λ (q : Out). q.entry < n) s.out × All (λ (q : Out). q.since ≤ s.clocks.at) s.out
@@ -106,6 +108,7 @@ turn_base width n old new event result turn h =
       past = turn_past old new event result turn h.past;
       within = bounds.0;
       since = bounds.1;
+      marked = turn_marked old new event result turn h.marked;
     }
 
 -- over a history
@@ -122,6 +125,7 @@ opened_base g width = record {
   past = record { start = λ none. refl; hold = λ there. refl; last = λ i. let l = first_past g.entries i in omega (arith, l) };
   within = All-nil (λ (q : Out). q.entry < length g.entries);
   since = All-nil (λ (q : Out). q.since ≤ 0);
+  marked = λ i out. absurd (true≢false (sym out ∙ first_free g.entries i));
 }
 
 -- the first turns, and the others

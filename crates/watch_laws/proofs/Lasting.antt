@@ -1,5 +1,5 @@
 -- Lasting: what stays of an entry while its requests are lost. For the law of outages.
-use Rattle.std.proofs.Common.{◌≡◌, ◌≢◌, ◌∙◌, ℕ, zero, suc, Bool, true, false, min, not, ◌||◌, ◌==◌, if◌then◌else◌, List, [], ◌∷◌, Option, Some, None, All, Result, Ok, Err, length, refl, sym, ap, subst, inl, inr}
+use Rattle.std.proofs.Common.{◌≡◌, ◌≢◌, ◌∙◌, ℕ, zero, suc, Bool, true, false, min, not, ◌&&◌, ◌||◌, ◌==◌, if◌then◌else◌, List, [], ◌∷◌, Option, Some, None, Result, Ok, Err, length, refl, sym, ap, subst, inl, inr}
 use Rattle.std.proofs.lemmas.Bool.{cases_Bool, eqb-true}
 use Rattle.std.proofs.lemmas.List.{get_or-set_other, length-set}
 use Rattle.std.specs.List.{list_any}
@@ -20,10 +20,10 @@ use Rattle.watch_machine.specs.declared.lanes.Out.{Out}
 use Rattle.watch_machine.specs.declared.notes.Why.{Why}
 use Rattle.watch_machine.specs.declared.track.Track.{Track}
 use Rattle.watch_machine.specs.Answers.{back_track, noted, replied}
-use Rattle.watch_machine.specs.Beginning.{begun}
+use Rattle.watch_machine.specs.Beginning.{begun, is_called, owing, owing_lookup, soon, sooner_try, untopped, untopped_track}
 use Rattle.watch_machine.specs.Clocks.{sec}
 use Rattle.watch_machine.specs.History.{Turn}
-use Rattle.watch_machine.specs.Looked.{by_terms, looked}
+use Rattle.watch_machine.specs.Looked.{by_terms, looked, untold_track}
 use Rattle.watch_machine.specs.Margins.{has_come, own_by, own_margin, lead, time, time_before}
 use Rattle.watch_machine.specs.Press.{asked_track, dropped, is_fresh, press, pressed, pressed_alone, pressed_track, track_asked_in}
 use Rattle.watch_machine.specs.Outlook.{time_of}
@@ -32,19 +32,15 @@ use Rattle.watch_machine.specs.Renewed.{renewed_track, state_renewed, ungranted_
 use Rattle.watch_machine.specs.Sending.{sent, sent_in, sent_track}
 use Rattle.watch_machine.specs.Settling.{settled, settled_track, timed}
 use Rattle.watch_machine.specs.State.{WatchState, entry_of, no_track, track_at, track_in}
-use Rattle.watch_machine.specs.Step.{Step, StepLooked, StepRenewed, readied, why, with_need_until}
-use Rattle.watch_machine.specs.Wanted.{need_of, wants}
-use Rattle.watch_machine.proofs.Cases.{if_both, not_both, of_value}
-use Rattle.watch_machine.proofs.Within.{out_all, out_entry}
+use Rattle.watch_machine.specs.Step.{Step, StepLooked, StepRenewed, known, readied, why, with_need_until}
+use Rattle.watch_machine.specs.Wanted.{is_open, need_of, wants}
+use Rattle.watch_machine.proofs.Cases.{if_both, not_both}
+use Rattle.watch_machine.proofs.Within.{out_entry}
 use Rattle.watch_laws.specs.Outage.{IsLived, Outage}
 use Rattle.watch_laws.proofs.Clocking.{refused_stays}
 use Rattle.watch_laws.proofs.Lanes.{Ticks, ticks}
-use Rattle.watch_laws.proofs.Spacing.{looked_other, out_operation, same_index}
+use Rattle.watch_laws.proofs.Spacing.{looked_other, same_index}
 use Rattle.watch_laws.proofs.Tracking.{back_kept, each_kept, replied_forest, set_kept}
-
--- the requests of i that are out are renewals
-abbrev pub Asks : ℕ → WatchState → Type 0
-Asks i s = All (λ (q : Out). q.entry ≡ i → q.operation ≡ Renew) s.out
 
 -- the end, the last grant and what is owed
 abbrev pub Bears : Track → Track → Type 0
@@ -52,6 +48,19 @@ Bears y x = (y.end ≡ x.end) × ((y.grant ≡ x.grant) × (y.owes ≡ x.owes))
 
 pub same_bears : (x : Track) → Bears x x
 same_bears x = (refl, (refl, refl))
+
+-- the end and the last grant
+abbrev pub Ends : Track → Track → Type 0
+Ends y x = (y.end ≡ x.end) × (y.grant ≡ x.grant)
+
+pub same_ends : (x : Track) → Ends x x
+same_ends x = (refl, refl)
+
+both_end : (z y x : Track) → Ends z y → Ends y x → Ends z x
+both_end z y x h k = (h.0 ∙ k.0, h.1 ∙ k.1)
+
+bears_end : (y x : Track) → Bears y x → Ends y x
+bears_end y x h = (h.0, h.1.0)
 
 pub both_bear : (z y x : Track) → Bears z y → Bears y x → Bears z x
 both_bear z y x h k = (h.0 ∙ k.0, (h.1.0 ∙ k.1.0, h.1.1 ∙ k.1.1))
@@ -79,9 +88,28 @@ pub back_bears : (x : Track) → Bears (back_track x) x
 unfolding back_track
 back_bears x = (refl, (refl, refl))
 
-ungranted_bears : (at : ℕ) (heard : Bool) (reply : Reply) (x : Track) → Bears (ungranted_track at heard reply x) x
+ungranted_ends : (at : ℕ) (heard : Bool) (reply : Reply) (x : Track) → Ends (ungranted_track at heard reply x) x
 unfolding ungranted_track
-ungranted_bears at heard reply x = (refl, (refl, refl))
+ungranted_ends at heard reply x = (refl, refl)
+
+untold_ends : (at : ℕ) (heard : Bool) (reply : Reply) (x : Track) → Ends (untold_track at heard reply x) x
+unfolding untold_track
+untold_ends at heard reply x = (refl, refl)
+
+-- a beginning
+owing_ends : (at : ℕ) (called : Bool) (x : Track) → Ends (owing at called x) x
+unfolding owing
+owing_ends at called x =
+    if_both (λ y. Ends y x) (called && is_open (sec at) x) (owing_lookup at x) x
+    (if_both (λ y. Ends y x) x.out (record x { owes = true }) (record x { owes = true; attempt = Some (sooner_try (soon at x) x.attempt) }) (refl, refl) (refl, refl)) (refl, refl)
+
+begun_ends : (s : WatchState) (w : Option Why) (i : ℕ) → Ends (track_at (begun s w) i) (track_at s i)
+begun_ends s None i = same_ends (track_at s i)
+begun_ends s (Some w) i =
+    let xs = untopped s.tracks in
+    both_end (track_at (begun s (Some w)) i) (track_in xs i) (track_at s i)
+    (each_kept Ends (same_ends no_track) (λ j. owing s.clocks.at (is_called s.forest xs s.clocks j)) xs (λ j x. owing_ends s.clocks.at (is_called s.forest xs s.clocks j) x) i)
+    (each_kept Ends (same_ends no_track) (λ j. untopped_track) s.tracks (λ j x. (refl, refl)) i)
 
 -- a clock at which nothing begins anew
 pub calm_ready : (s : WatchState) (wall elapsed : ℕ) → why s wall elapsed ≡ None → readied s wall elapsed ≡ settled (timed s wall elapsed)
@@ -111,6 +139,20 @@ clock_bears old new wall elapsed output i h none =
     (subst (λ (x : WatchState). Bears (track_at x i) (track_at old i)) (sym calm)
     (each_kept Bears (same_bears no_track) (λ j. settled_track t.forest.margin t.clocks.at) t.tracks (λ j x. settled_bears t.forest.margin t.clocks.at x) i))))
 
+-- any clock
+clock_ends : (old new : WatchState) (wall elapsed : ℕ) (output : Output) (i : ℕ) → Ticks old new wall elapsed output → Ends (track_at new i) (track_at old i)
+unfolding readied
+clock_ends old new wall elapsed output i h =
+    let t = timed old wall elapsed in
+    let ready = readied old wall elapsed in
+    let mid = pressed ready h.round in
+    subst (λ (x : WatchState). Ends (track_at x i) (track_at old i)) (sym h.new_is)
+    (both_end (track_at (sent mid h.requests) i) (track_at mid i) (track_at old i)
+    (bears_end (track_at (sent mid h.requests) i) (track_at mid i) (each_kept Bears (same_bears no_track) (sent_in mid.clocks.at h.requests) mid.tracks (λ j x. sent_bears mid.clocks.at h.requests j x) i))
+    (both_end (track_at mid i) (track_at ready i) (track_at old i) (bears_end (track_at mid i) (track_at ready i) (mid_bears ready h.round i))
+    (both_end (track_at ready i) (track_at (settled t) i) (track_at old i) (begun_ends (settled t) (why old wall elapsed) i)
+    (each_kept Ends (same_ends no_track) (λ j. settled_track t.forest.margin t.clocks.at) t.tracks (λ j x. bears_end (settled_track t.forest.margin t.clocks.at x) x (settled_bears t.forest.margin t.clocks.at x)) i))))
+
 begun_forest : (s : WatchState) (w : Option Why) → (begun s w).forest ≡ s.forest
 begun_forest s None = refl
 begun_forest s (Some w) = refl
@@ -124,10 +166,10 @@ pub record Same (i : ℕ) (old new : WatchState) : Type 0 where
   pub count : length new.forest.entries ≡ length old.forest.entries
   pub margin : new.forest.margin ≡ old.forest.margin
   pub step : (entry_of new i).step ≡ (entry_of old i).step
-  pub bears : Bears (track_at new i) (track_at old i)
+  pub ends : Ends (track_at new i) (track_at old i)
 
 pub same_first : (i : ℕ) (s : WatchState) → Same i s s
-same_first i s = record { count = refl; margin = refl; step = refl; bears = same_bears (track_at s i) }
+same_first i s = record { count = refl; margin = refl; step = refl; ends = same_ends (track_at s i) }
 
 -- so its time does
 pub same_time : (i : ℕ) (old new : WatchState) → Same i old new → time_of new i ≡ time_of old i
@@ -135,8 +177,8 @@ unfolding time own_margin
 same_time i old new h =
     let m = h.margin in
     let s = h.step in
-    let e = h.bears.0 in
-    let g = h.bears.1.0 in
+    let e = h.ends.0 in
+    let g = h.ends.1 in
     ap (λ n. time_before (track_at new i).end (own_by n (lead (entry_of new i).step (track_at new i).grant))) m
     ∙ ap (λ n. time_before (track_at new i).end (own_by old.forest.margin (lead n (track_at new i).grant))) s
     ∙ ap (λ x. time_before (track_at new i).end (own_by old.forest.margin (lead (entry_of old i).step x))) g
@@ -155,14 +197,16 @@ entry_other : (es : List Entry) (j : ℕ) (e : Entry) (i : ℕ) → i ≢ j → 
 unfolding entry_at
 entry_other es j e i apart = get_or-set_other es j i e no_entry apart
 
--- the answer to a lookup of another
-looked_forest : (s : WatchState) (q : Out) (reply : Reply) (terms : Terms) (i : ℕ) → q.entry ≢ i → (length (looked s q reply terms).forest.entries ≡ length s.forest.entries) × (((looked s q reply terms).forest.margin ≡ s.forest.margin) × ((entry_of (looked s q reply terms) i).step ≡ (entry_of s i).step))
-looked_forest s q (Told seconds renewable date) terms i apart =
+-- the answer to a lookup: of another, or lost
+looked_forest :
+    (s : WatchState) (q : Out) (reply : Reply) (terms : Terms) (i : ℕ) → (q.entry ≡ i → reply ≡ Lost) →
+    (length (looked s q reply terms).forest.entries ≡ length s.forest.entries) × (((looked s q reply terms).forest.margin ≡ s.forest.margin) × ((entry_of (looked s q reply terms) i).step ≡ (entry_of s i).step))
+looked_forest s q (Told seconds renewable date) terms i lost =
     let e = by_terms s.forest.margin terms (entry_of s q.entry) in
-    (length-set s.forest.entries q.entry e, (refl, ap (λ (x : Entry). x.step) (entry_other s.forest.entries q.entry e i (λ is. apart (sym is)))))
-looked_forest s q (Refused status date) terms i apart = (refl, (refl, refl))
-looked_forest s q Busy terms i apart = (refl, (refl, refl))
-looked_forest s q Lost terms i apart = (refl, (refl, refl))
+    (length-set s.forest.entries q.entry e, (refl, ap (λ (x : Entry). x.step) (entry_other s.forest.entries q.entry e i (λ is. let bad : Told seconds renewable date ≡ Lost = lost (sym is) in absurd cc))))
+looked_forest s q (Refused status date) terms i lost = (refl, (refl, refl))
+looked_forest s q Busy terms i lost = (refl, (refl, refl))
+looked_forest s q Lost terms i lost = (refl, (refl, refl))
 
 replied_same : (i : ℕ) (old mid new : WatchState) (q : Out) (reply : Reply) → new ≡ replied mid q reply → Same i old mid → Same i old new
 replied_same i old mid new q reply is h =
@@ -172,37 +216,45 @@ replied_same i old mid new q reply is h =
       count = ap (λ (g : Forest). length g.entries) forest ∙ h.count;
       margin = ap (λ (g : Forest). g.margin) forest ∙ h.margin;
       step = ap (λ (g : Forest). (entry_at g.entries i).step) forest ∙ h.step;
-      bears = both_bear (track_at new i) (track_at mid i) (track_at old i) bears h.bears;
+      ends = both_end (track_at new i) (track_at mid i) (track_at old i) (bears_end (track_at new i) (track_at mid i) bears) h.ends;
     }
 
--- a lookup that is out is not of i
-pub no_look : (i j : ℕ) (s : WatchState) (q : Out) → request_out s.out j Look ≡ Some q → Asks i s → q.entry ≢ i
-no_look i j s q found asks is =
-    let operation = of_value (λ (r : Out). r.entry ≡ i → r.operation ≡ Renew) (request_out s.out j Look) q (out_all (λ (r : Out). r.entry ≡ i → r.operation ≡ Renew) s.out j Look asks) found is in
-    absurd (let bad : Look ≡ Renew = sym (out_operation s.out j Look q found) ∙ operation in cc)
+apart_from : (j i : ℕ) → (j == i) ≡ false → j ≢ i
+apart_from j i different e = not_both (subst (λ n. (n == i) ≡ true) (sym e) (same_index i)) different
+
+lost_look_ends : (t : WatchState) (r : Out) (terms : Terms) (k : ℕ) → Ends (track_at (looked t r Lost terms) k) (track_at t k)
+lost_look_ends t r terms k = set_kept Ends same_ends t.tracks r.entry _ (untold_ends t.clocks.at r.heard Lost (track_at t r.entry)) k
+
+looked_ends : (s : WatchState) (q : Out) (reply : Reply) (terms : Terms) (i : ℕ) → (q.entry ≡ i → reply ≡ Lost) → Ends (track_at (looked s q reply terms) i) (track_at s i)
+looked_ends s q reply terms i lost =
+    elim (cases_Bool (q.entry == i)) [
+      | inl same ↦ subst (λ r. Ends (track_at (looked s q r terms) i) (track_at s i)) (sym (lost (eqb-true q.entry i same))) (lost_look_ends s q terms i)
+      | inr different ↦ subst (λ x. Ends x (track_at s i)) (sym (looked_other s q reply terms i (apart_from q.entry i different))) (same_ends (track_at s i))
+    ]
 
 looked_same :
-    (i j : ℕ) (old new : WatchState) (found : Option Out) (reply : Reply) (terms : Terms) (output : Output) → request_out old.out j Look ≡ found → StepLooked old found reply terms output new → Asks i old →
+    (i j : ℕ) (old new : WatchState) (found : Option Out) (reply : Reply) (terms : Terms) (output : Output) → request_out old.out j Look ≡ found → StepLooked old found reply terms output new → (j ≡ i → reply ≡ Lost) →
     Same i old new
-looked_same i j old new None reply terms output is step asks = absurd step
-looked_same i j old new (Some q) reply terms output is step asks =
+looked_same i j old new None reply terms output is step lost = absurd step
+looked_same i j old new (Some q) reply terms output is step lost =
     let s = noted old q reply in
-    let apart = no_look i j old q is asks in
-    let forest = looked_forest s q reply terms i apart in
+    let entry = out_entry old.out j Look q is in
+    let own : q.entry ≡ i → reply ≡ Lost = λ e. lost (sym entry ∙ e) in
+    let forest = looked_forest s q reply terms i own in
     replied_same i old (looked s q reply terms) new q reply step.1
-    (record { count = forest.0; margin = forest.1.0; step = forest.1.1; bears = subst (λ x. Bears x (track_at old i)) (sym (looked_other s q reply terms i apart)) (same_bears (track_at old i)) })
+    (record { count = forest.0; margin = forest.1.0; step = forest.1.1; ends = looked_ends s q reply terms i own })
 
-lost_bears : (t : WatchState) (r : Out) (k : ℕ) → Bears (track_at (state_renewed t r Lost) k) (track_at t k)
+lost_ends : (t : WatchState) (r : Out) (k : ℕ) → Ends (track_at (state_renewed t r Lost) k) (track_at t k)
 unfolding renewed_track
-lost_bears t r k = set_kept Bears same_bears t.tracks r.entry _ (ungranted_bears t.clocks.at r.heard Lost (track_at t r.entry)) k
+lost_ends t r k = set_kept Ends same_ends t.tracks r.entry _ (ungranted_ends t.clocks.at r.heard Lost (track_at t r.entry)) k
 
-renewed_bears : (s : WatchState) (q : Out) (reply : Reply) (i : ℕ) → (q.entry ≡ i → reply ≡ Lost) → Bears (track_at (state_renewed s q reply) i) (track_at s i)
-renewed_bears s q reply i lost =
+renewed_ends : (s : WatchState) (q : Out) (reply : Reply) (i : ℕ) → (q.entry ≡ i → reply ≡ Lost) → Ends (track_at (state_renewed s q reply) i) (track_at s i)
+renewed_ends s q reply i lost =
     elim (cases_Bool (q.entry == i)) [
-      | inl same ↦ subst (λ r. Bears (track_at (state_renewed s q r) i) (track_at s i)) (sym (lost (eqb-true q.entry i same))) (lost_bears s q i)
+      | inl same ↦ subst (λ r. Ends (track_at (state_renewed s q r) i) (track_at s i)) (sym (lost (eqb-true q.entry i same))) (lost_ends s q i)
       | inr different ↦
-          let apart : q.entry ≢ i = λ e. not_both (subst (λ n. (n == i) ≡ true) (sym e) (same_index i)) different in
-          subst (λ x. Bears x (track_at s i)) (sym (get_or-set_other s.tracks q.entry i _ no_track (λ e. apart (sym e)))) (same_bears (track_at s i))
+          let apart = apart_from q.entry i different in
+          subst (λ x. Ends x (track_at s i)) (sym (get_or-set_other s.tracks q.entry i _ no_track (λ e. apart (sym e)))) (same_ends (track_at s i))
     ]
 
 renewed_same :
@@ -212,29 +264,35 @@ renewed_same i j old new (Some q) reply output is step lost =
     let s = noted old q reply in
     let entry = out_entry old.out j Renew q is in
     replied_same i old (state_renewed s q reply) new q reply step.1
-    (record { count = refl; margin = refl; step = refl; bears = renewed_bears s q reply i (λ own. lost (sym entry ∙ own)) })
+    (record { count = refl; margin = refl; step = refl; ends = renewed_ends s q reply i (λ own. lost (sym entry ∙ own)) })
+
+-- an end that an earlier watch told of another
+pub known_other : (s : WatchState) (j end : ℕ) (renewable : Bool) (i : ℕ) → j ≢ i → track_at (known s j end renewable) i ≡ track_at s i
+known_other s j end renewable i apart = get_or-set_other s.tracks j i _ no_track (λ e. apart (sym e))
 
 needed_step : (s : WatchState) (j until i : ℕ) → (entry_of (with_need_until s j until) i).step ≡ (entry_of s i).step
 needed_step s j until i = entry_kept s.forest.entries j (record (entry_of s j) { need = min LAST until }) i refl
 
 -- a turn
-step_same : (o : Outage) (i due : ℕ) (old new : WatchState) (event : Event) (output : Output) → Step old event output new → IsLived o i due old event (Ok output) → Asks i old → Same i old new
-step_same o i due old new (Clock wall elapsed) output step lived asks =
+step_same : (o : Outage) (i due : ℕ) (old new : WatchState) (event : Event) (output : Output) → Step old event output new → IsLived o i due old event (Ok output) → Same i old new
+step_same o i due old new (Clock wall elapsed) output step lived =
     let h = ticks old new wall elapsed output step in
     let forest = clock_forest old new wall elapsed output h in
     record {
       count = ap (λ (g : Forest). length g.entries) forest;
       margin = ap (λ (g : Forest). g.margin) forest;
       step = ap (λ (g : Forest). (entry_at g.entries i).step) forest;
-      bears = clock_bears old new wall elapsed output i h lived.1;
+      ends = clock_ends old new wall elapsed output i h;
     }
-step_same o i due old new (Looked j reply terms) output step lived asks = looked_same i j old new (request_out old.out j Look) reply terms output refl step asks
-step_same o i due old new (Renewed j reply) output step lived asks = renewed_same i j old new (request_out old.out j Renew) reply output refl step lived.1
-step_same o i due old new (Need j until) output step lived asks =
-    subst (Same i old) (sym step.1) (record { count = length-set old.forest.entries j _; margin = refl; step = needed_step old j until i; bears = same_bears (track_at old i) })
-step_same o i due old new Begin output step lived asks = absurd lived
-step_same o i due old new (Known j end renewable) output step lived asks = absurd lived
+step_same o i due old new (Looked j reply terms) output step lived = looked_same i j old new (request_out old.out j Look) reply terms output refl step lived.1
+step_same o i due old new (Renewed j reply) output step lived = renewed_same i j old new (request_out old.out j Renew) reply output refl step lived.1
+step_same o i due old new (Need j until) output step lived =
+    subst (Same i old) (sym step.1) (record { count = length-set old.forest.entries j _; margin = refl; step = needed_step old j until i; ends = same_ends (track_at old i) })
+step_same o i due old new Begin output step lived = subst (Same i old) (sym step.1) (record { count = refl; margin = refl; step = refl; ends = same_ends (track_at old i) })
+step_same o i due old new (Known j end renewable) output step lived =
+    subst (Same i old) (sym step.1)
+    (record { count = refl; margin = refl; step = refl; ends = subst (λ x. Ends x (track_at old i)) (sym (known_other old j end renewable i lived)) (same_ends (track_at old i)) })
 
-pub turn_same : (o : Outage) (i due : ℕ) (old new : WatchState) (event : Event) (result : Result Output WatchFault) → Turn old event result new → IsLived o i due old event result → Asks i old → Same i old new
-turn_same o i due old new event (Ok output) turn lived asks = step_same o i due old new event output turn.1 lived asks
-turn_same o i due old new event (Err fault) turn lived asks = subst (Same i old) (sym (refused_stays old new event fault turn)) (same_first i old)
+pub turn_same : (o : Outage) (i due : ℕ) (old new : WatchState) (event : Event) (result : Result Output WatchFault) → Turn old event result new → IsLived o i due old event result → Same i old new
+turn_same o i due old new event (Ok output) turn lived = step_same o i due old new event output turn.1 lived
+turn_same o i due old new event (Err fault) turn lived = subst (Same i old) (sym (refused_stays old new event fault turn)) (same_first i old)

@@ -39,10 +39,12 @@ pub mod Ends
 pub mod Counting
 pub mod Lanes
 pub mod Lasting
+pub mod Marked
 pub mod Grounds
 pub mod Requests
 pub mod Enduring
 pub mod Stages
+pub mod Undisturbed
 pub mod Ticking
 pub mod Answered
 pub mod Outliving

@@ -1,5 +1,5 @@
 -- Outliving: an entry outlives every outage that its margin does. For the laws of outages.
-use Rattle.std.proofs.Common.{◌≡◌, ◌⊎◌, ◌∙◌, ℕ, suc, ◌+◌, ◌*◌, ◌<◌, ◌≤◌, Bool, true, false, not, ◌&&◌, ◌||◌, List, [], ◌∷◌, ◌++◌, Option, Some, None, All, IfSome, Result, Ok, Err, get_or, is_some, length, map, nat_lt, refl, sym, ap, subst, arith, inl, inr, true≢false}
+use Rattle.std.proofs.Common.{◌≡◌, ◌⊎◌, ◌∙◌, ℕ, suc, ◌+◌, ◌*◌, ◌<◌, ◌≤◌, Bool, true, false, not, ◌&&◌, ◌||◌, ◌==◌, List, [], ◌∷◌, ◌++◌, Option, Some, None, All, IfSome, Result, Ok, Err, get_or, length, map, nat_lt, refl, sym, ap, subst, arith, inl, inr, true≢false}
 use Rattle.std.proofs.lemmas.Bool.{and_parts, cases_Bool, cases_lt, eqb-true}
 use Rattle.std.proofs.lemmas.List.{length-set}
 use Rattle.std.proofs.lemmas.List.Elements.{All-weaker}
@@ -14,12 +14,12 @@ use Rattle.watch_machine.specs.declared.event.Reply.{Reply}
 use Rattle.watch_machine.specs.declared.event.Reply.TheVariants.{Told, Refused, Busy, Lost}
 use Rattle.watch_machine.specs.declared.event.Terms.{Terms}
 use Rattle.watch_machine.specs.declared.fault.WatchFault.{WatchFault}
-use Rattle.watch_machine.specs.declared.lanes.Answer.{Answer}
 use Rattle.watch_machine.specs.declared.lanes.Out.{Out}
 use Rattle.watch_machine.specs.declared.track.End.{End}
 use Rattle.watch_machine.specs.declared.track.End.TheVariants.{Unknown, At, Never}
 use Rattle.watch_machine.specs.declared.track.Track.{Track}
 use Rattle.watch_machine.specs.Answers.{noted, replied}
+use Rattle.watch_machine.specs.Beginning.{is_pressed, is_pressed_try}
 use Rattle.watch_machine.specs.Clocks.{ms}
 use Rattle.watch_machine.specs.History.{History, IsWatchRun, Turn, Turned, after_all}
 use Rattle.watch_machine.specs.Lines.{rested}
@@ -30,29 +30,29 @@ use Rattle.watch_machine.specs.Outlook.{time_of}
 use Rattle.watch_machine.specs.Refusal.{request_out}
 use Rattle.watch_machine.specs.Renewed.{state_renewed}
 use Rattle.watch_machine.specs.Sending.{sent}
-use Rattle.watch_machine.specs.Settling.{is_busy, is_silent}
-use Rattle.watch_machine.specs.State.{WatchState, attempt_at, entry_of, opened, second, track_at}
-use Rattle.watch_machine.specs.Step.{Step, StepLooked, StepRenewed, readied, with_need_until}
+use Rattle.watch_machine.specs.Settling.{is_real, is_silent}
+use Rattle.watch_machine.specs.State.{WatchState, entry_of, opened, second, track_at, track_in}
+use Rattle.watch_machine.specs.Step.{Step, StepLooked, StepRenewed, known, readied, with_need_until}
 use Rattle.watch_machine.specs.Wait.{wait}
 use Rattle.watch_machine.specs.Wanted.{believed, is_never, is_unknown, is_wanted, wanted_need, wants}
 use Rattle.watch_machine.proofs.Cases.{not_both}
 use Rattle.watch_machine.proofs.Leasts.{least_start}
-use Rattle.watch_laws.specs.Absence.{is_clock, is_event_taken}
-use Rattle.watch_laws.specs.Outage.{AllInTime, AreLived, GrantLaw, IsBefore, IsIncident, EndIsInTime, IsLived, IsReplyInOutage, IsShortOutage, Outage, OutageLaw, again, clock_asked_at, coming, comes, granted_at, granted_by, granted_next, how_many, is_request_served, is_request_whole, outage_next_after, outage_next_after_command, outage_next_by, outage_settled_by, waiting}
-use Rattle.watch_laws.proofs.Alone.{IsAlone}
+use Rattle.watch_laws.specs.Absence.{is_event_taken}
+use Rattle.watch_laws.specs.Outage.{AllInTime, AreLived, GrantLaw, IsBefore, IsIncident, EndIsInTime, IsLived, IsReplyInOutage, IsShortOutage, Outage, OutageLaw, again, clock_asked_at, coming, comes, granted_at, granted_by, granted_next, how_many, is_request_served, is_request_whole, is_told, outage_next_after, outage_next_after_command, outage_next_by, outage_settled_by, tells, waiting}
 use Rattle.watch_laws.proofs.Answered.{IsReplied, goes_on_after, looked_replied, renewed_replied, replied_through}
 use Rattle.watch_laws.proofs.Clocking.{refused_stays}
 use Rattle.watch_laws.proofs.Counting.{least_all}
 use Rattle.watch_laws.proofs.Enduring.{Cutting, Endures, Kept, Missed, cut, cut_off, real_away}
 use Rattle.watch_laws.proofs.Grounds.{IsBase, first_turns, last_turns, opened_base, ran_base, starts, turn_base}
-use Rattle.watch_laws.proofs.Lanes.{Sends, Ticks, served_marked, ticks, turn_sends}
-use Rattle.watch_laws.proofs.Lasting.{Asks, Same, clock_forest, same_time, turn_same}
+use Rattle.watch_laws.proofs.Lanes.{Sends, Ticks, fewer_wait, is_anew, ticks, turn_sends}
+use Rattle.watch_laws.proofs.Lasting.{Same, clock_forest, known_other, same_time, turn_same}
+use Rattle.watch_laws.proofs.Marked.{not_out, only_cut, only_whole}
 use Rattle.watch_laws.proofs.Requests.{any_gives, anew_none, none_passes, quick_if}
 use Rattle.watch_laws.proofs.Retrying.{rises}
 use Rattle.watch_laws.proofs.Minding.{end_minded}
 use Rattle.watch_laws.proofs.Sparing.{readied_answers}
-use Rattle.watch_laws.proofs.Stages.{Facts, IsGoing, IsPlanned, IsThrough, due_ahead, free_from, margin_holds, turn_of}
-use Rattle.watch_laws.proofs.Ticking.{IsTick, before_time, clock_goes, early_cut, free_lanes, none_of, not_so, not_whole, so_whole, ticks_through}
+use Rattle.watch_laws.proofs.Stages.{Facts, IsGoing, IsPlanned, IsServed, IsThrough, due_ahead, free_from, margin_holds, turn_of}
+use Rattle.watch_laws.proofs.Ticking.{IsTick, before_time, goes_on, not_so, not_whole, so_whole, ticks_through}
 use Rattle.watch_laws.proofs.Tracking.{replied_forest}
 
 -- what holds after a turn
@@ -76,8 +76,7 @@ clock_stays f due rest old new wall elapsed output planned step lived wanted bas
     let ahead = due_ahead f due (Until f old new rest) old planned h.through in
     let t : IsTick f due old new wall elapsed output = record {
       ticks = go;
-      none = lived.1;
-      soon = lived.0;
+      soon = lived;
       rises = rises old wall elapsed h.going.base.past.start;
       planned = planned;
       going = h.going;
@@ -88,7 +87,7 @@ clock_stays f due rest old new wall elapsed output planned step lived wanted bas
       by = ahead.1;
     } in
     subst (λ c. Stays f (outage_next_after_command f.o c new due) (After f new rest) new) (sym go.command)
-    (record { going = clock_goes f due old new wall elapsed output t sends rest h.through; through = ticks_through f due old new wall elapsed output t sends rest h.through })
+    (record { going = goes_on f due old new wall elapsed output t; through = ticks_through f due old new wall elapsed output t sends rest h.through })
 
 -- an answer
 taken_due : (o : Outage) (new : WatchState) (due : ℕ) (output out : Output) → output ≡ out → out.command ≡ Taken → outage_next_after_command o output.command new due ≡ due
@@ -99,13 +98,13 @@ replied_stays :
 replied_stays f due rest old mid new q reply t sends h = record { going = goes_on_after f due old mid new q reply t; through = replied_through f due old mid new q reply t rest sends h.through }
 
 looked_stays :
-    (f : Facts) (due rest : ℕ) (old new : WatchState) (j : ℕ) (found : Option Out) (reply : Reply) (terms : Terms) (output : Output) → request_out old.out j Look ≡ found → StepLooked old found reply terms output new →
-    IfSome found (IsReplyInOutage f.o reply) → IsBase f.width f.n new → Sends old new f.n → Same f.i old new → Stays f due (Until f old new rest) old →
+    (f : Facts) (due rest : ℕ) (old new : WatchState) (j : ℕ) (found : Option Out) (reply : Reply) (terms : Terms) (output : Output) → f.i < f.n → request_out old.out j Look ≡ found → StepLooked old found reply terms output new →
+    IfSome found (IsReplyInOutage f.o reply) → (j ≡ f.i → reply ≡ Lost) → IsBase f.width f.n new → Sends old new f.n → Same f.i old new → Stays f due (Until f old new rest) old →
     Stays f (outage_next_after_command f.o output.command new due) (After f new rest) new
-looked_stays f due rest old new j None reply terms output is step lived base sends same h = absurd step
-looked_stays f due rest old new j (Some q) reply terms output is step lived base sends same h =
+looked_stays f due rest old new j None reply terms output low is step lived lost base sends same h = absurd step
+looked_stays f due rest old new j (Some q) reply terms output low is step lived lost base sends same h =
     subst (λ n. Stays f n (After f new rest) new) (sym (taken_due f.o new due output _ step.0 refl))
-    (replied_stays f due rest old (looked (noted old q reply) q reply terms) new q reply (looked_replied f due old new j q reply terms output is step lived h.going base same) sends h)
+    (replied_stays f due rest old (looked (noted old q reply) q reply terms) new q reply (looked_replied f due old new j q reply terms output low is step lived lost h.going base same) sends h)
 
 renewed_stays :
     (f : Facts) (due rest : ℕ) (old new : WatchState) (j : ℕ) (found : Option Out) (reply : Reply) (output : Output) → f.i < f.n → request_out old.out j Renew ≡ found → StepRenewed old found reply output new →
@@ -116,24 +115,31 @@ renewed_stays f due rest old new j (Some q) reply output low is step lived lost 
     subst (λ n. Stays f n (After f new rest) new) (sym (taken_due f.o new due output _ step.0 refl))
     (replied_stays f due rest old (state_renewed (noted old q reply) q reply) new q reply (renewed_replied f due old new j q reply output low is step lived lost h.going base same) sends h)
 
--- a forest that is written anew leaves all of it
-forest_endures : (o : Outage) (i end bound due : ℕ) (miss : Type 0) (s : WatchState) (g : Forest) → Endures o i end bound due miss s → Endures o i end bound due miss (record s { forest = g })
+-- what leaves the entry, the requests, the clocks and the presence leaves all of it
+abbrev Written : WatchState → Forest → List Track → Bool → WatchState
+Written s g ts b = record s { forest = g; tracks = ts; asked = b }
+
+left_endures :
+    (o : Outage) (i end bound due : ℕ) (miss : Type 0) (s : WatchState) (g : Forest) (ts : List Track) (b : Bool) → track_in ts i ≡ track_at s i → Endures o i end bound due miss s → Endures o i end bound due miss (Written s g ts b)
 unfolding Kept Missed
-forest_endures o i end bound due miss s g h = record {
-  end_is = h.end_is;
-  owes = h.owes;
-  last = h.last;
-  tries = λ u is. record { pressed = (h.tries u is).pressed; renews = (h.tries u is).renews; how = (h.tries u is).how };
-  lane = h.lane;
-  out = h.out;
+left_endures o i end bound due miss s g ts b e h = record {
+  end_is = ap (λ (x : Track). x.end) e ∙ h.end_is;
+  last = let r = ap (λ (x : Track). rested x.last) e in let l = h.last in omega (arith, r, l);
+  tries = λ u is pressed'.
+      elim (h.tries u (sym (ap (λ (x : Track). x.attempt) e) ∙ is) pressed') as (λ _. Kept i bound miss (Written s g ts b) u ⊎ Missed i bound due (cut o) miss (Written s g ts b) u) [
+        | inl kept ↦ inl (kept.0, (kept.1.0, λ free. kept.1.1 (sym (ap (λ (x : Track). x.out) e) ∙ free)))
+        | inr missed ↦ inr (missed.0, (ap (λ (x : Track). x.out) e ∙ missed.1.0, missed.1.1))
+      ];
+  out = All-weaker (Cutting o i bound miss s) (Cutting o i bound miss (Written s g ts b)) (λ r k is. ((k is).0, λ pressed'. (k is).1 (sym (ap is_pressed e) ∙ pressed'))) s.out h.out;
   silent' = h.silent';
 }
 
 -- and fewer may wait
-forest_through : (f : Facts) (due k m : ℕ) (s : WatchState) (g : Forest) → m ≤ k → IsThrough f due k s → IsThrough f due m (record s { forest = g })
-forest_through f due k m s g less (inl (inl h)) = let count = h.count in inl (inl (record {
-  endures = forest_endures f.o f.i f.end (ms f.time) due ⊥ s g h.endures;
-  idle = h.idle;
+left_through :
+    (f : Facts) (due k m : ℕ) (s : WatchState) (g : Forest) (ts : List Track) (b : Bool) → track_in ts f.i ≡ track_at s f.i → m ≤ k → IsThrough f due k s → IsThrough f due m (Written s g ts b)
+left_through f due k m s g ts b e less (inl (inl h)) = let count = h.count in inl (inl (record {
+  endures = left_endures f.o f.i f.end (ms f.time) due ⊥ s g ts b e h.endures;
+  idle = ap (λ (x : Track). x.out) e ∙ h.idle;
   whole = h.whole;
   r = h.r;
   from = h.from;
@@ -147,8 +153,8 @@ forest_through f due k m s g less (inl (inl h)) = let count = h.count in inl (in
   start = h.start;
   next = h.next;
 }))
-forest_through f due k m s g less (inl (inr h)) = let count = h.count in inl (inr (record {
-  endures = forest_endures f.o f.i f.end (free_from f) due Unit s g h.endures;
+left_through f due k m s g ts b e less (inl (inr h)) = let count = h.count in inl (inr (record {
+  endures = left_endures f.o f.i f.end (free_from f) due Unit s g ts b e h.endures;
   unserved = h.unserved;
   r = h.r;
   count = omega (arith, count, less);
@@ -156,8 +162,8 @@ forest_through f due k m s g less (inl (inr h)) = let count = h.count in inl (in
   room = h.room;
   next = h.next;
 }))
-forest_through f due k m s g less (inr (inl h)) = let count = h.count in inr (inl (record {
-  endures = forest_endures f.o f.i f.end (free_from f) due Unit s g h.endures;
+left_through f due k m s g ts b e less (inr (inl h)) = let count = h.count in inr (inl (record {
+  endures = left_endures f.o f.i f.end (free_from f) due Unit s g ts b e h.endures;
   unserved = h.unserved;
   back = h.back;
   r = h.r;
@@ -173,13 +179,13 @@ forest_through f due k m s g less (inr (inl h)) = let count = h.count in inr (in
   now = h.now;
   next = h.next;
 }))
-forest_through f due k m s g less (inr (inr (inl h))) =
+left_through f due k m s g ts b e less (inr (inr (inl h))) =
     inr (inr (inl (record { served = h.served; sent = h.sent; whole = h.whole; next = h.next; last_ahead = h.last_ahead; last_by = h.last_by })))
-forest_through f due k m s g less (inr (inr (inr h))) =
+left_through f due k m s g ts b e less (inr (inr (inr h))) =
     let count = h.count in
     inr (inr (inr (record {
-      endures = forest_endures f.o f.i f.end (ms f.time) due ⊥ s g h.endures;
-      idle = h.idle;
+      endures = left_endures f.o f.i f.end (ms f.time) due ⊥ s g ts b e h.endures;
+      unserved = h.unserved;
       over = h.over;
       soon = h.soon;
       from = h.from;
@@ -187,31 +193,30 @@ forest_through f due k m s g less (inr (inr (inr h))) =
       next = h.next;
     })))
 
--- a need
-forest_stays :
-    (f : Facts) (due rest : ℕ) (old new : WatchState) (g : Forest) → new ≡ record old { forest = g } → IsBase f.width f.n new → Same f.i old new →
+-- a need, a beginning that is asked for, an end of another
+left_stays :
+    (f : Facts) (due rest : ℕ) (old new : WatchState) (g : Forest) (ts : List Track) (b : Bool) → new ≡ Written old g ts b → track_in ts f.i ≡ track_at old f.i → IsBase f.width f.n new → Sends old new f.n → Same f.i old new →
     Stays f due (Until f old new rest) old → Stays f due (After f new rest) new
-forest_stays f due rest old new g is base same h =
+left_stays f due rest old new g ts b is e base sends same h =
     let go = h.going in
     let clock = ap (λ (x : WatchState). x.clocks.at) is in
     let ahead = go.ahead in
     let by = go.by in
-    let waits' = ap (waiting f.o f.n) is in
+    let all = fewer_wait f.o 0 f.n old new go.base.alone base.alone base.tries sends in
+    let outs = ap (λ (x : WatchState). how_many f.n (is_anew f.o 0 x)) is in
+    let less : After f new rest ≤ Until f old new rest = omega (arith, all, outs) in
     record {
       going = record {
         base = base;
         entries = same.count ∙ go.entries;
         time = same_time f.i old new same ∙ go.time;
         margin = same.margin ∙ go.margin;
-        end_is = same.bears.0 ∙ go.end_is;
-        asks = subst (Asks f.i) (sym is) go.asks;
+        end_is = same.ends.0 ∙ go.end_is;
         timely = subst (λ (x : WatchState). All (λ (q : Out). due ≤ outage_settled_by f.o q.since + f.o.late) x.out) (sym is) go.timely;
-        calm = subst (λ (x : WatchState). list_any (λ (a : Answer). is_busy a.reply) x.answers ≡ false) (sym is) go.calm;
-        free = subst (λ (x : WatchState). x.presence.free ≤ ms f.time) (sym is) go.free;
         ahead = omega (arith, clock, ahead);
         by = omega (arith, clock, by);
       };
-      through = subst (IsThrough f due (After f new rest)) (sym is) (forest_through f due (Until f old new rest) (After f new rest) old g (omega (arith, waits')) h.through);
+      through = subst (IsThrough f due (After f new rest)) (sym is) (left_through f due (Until f old new rest) (After f new rest) old g ts b e less h.through);
     }
 
 -- a turn
@@ -220,20 +225,24 @@ step_stays :
     IsBase f.width f.n new → Sends old new f.n → Same f.i old new → Stays f due (Until f old new rest) old → Stays f (outage_next_after_command f.o output.command new due) (After f new rest) new
 step_stays f due rest old new (Clock wall elapsed) output planned step lived wanted base sends same h = clock_stays f due rest old new wall elapsed output planned step lived wanted base sends same h
 step_stays f due rest old new (Looked j reply terms) output planned step lived wanted base sends same h =
-    looked_stays f due rest old new j (request_out old.out j Look) reply terms output refl step lived base sends same h
+    looked_stays f due rest old new j (request_out old.out j Look) reply terms output planned.within refl step lived.0 lived.1 base sends same h
 step_stays f due rest old new (Renewed j reply) output planned step lived wanted base sends same h =
     renewed_stays f due rest old new j (request_out old.out j Renew) reply output planned.within refl step lived.0 lived.1 base sends same h
 step_stays f due rest old new (Need j until) output planned step lived wanted base sends same h =
-    subst (λ n. Stays f n (After f new rest) new) (sym (taken_due f.o new due output _ step.0 refl)) (forest_stays f due rest old new (with_need_until old j until).forest step.1 base same h)
-step_stays f due rest old new Begin output planned step lived wanted base sends same h = absurd lived
-step_stays f due rest old new (Known j end renewable) output planned step lived wanted base sends same h = absurd lived
+    subst (λ n. Stays f n (After f new rest) new) (sym (taken_due f.o new due output _ step.0 refl))
+    (left_stays f due rest old new (with_need_until old j until).forest old.tracks old.asked step.1 refl base sends same h)
+step_stays f due rest old new Begin output planned step lived wanted base sends same h =
+    subst (λ n. Stays f n (After f new rest) new) (sym (taken_due f.o new due output _ step.0 refl)) (left_stays f due rest old new old.forest old.tracks true step.1 refl base sends same h)
+step_stays f due rest old new (Known j end renewable) output planned step lived wanted base sends same h =
+    subst (λ n. Stays f n (After f new rest) new) (sym (taken_due f.o new due output _ step.0 refl))
+    (left_stays f due rest old new old.forest (known old j end renewable).tracks old.asked step.1 (known_other old j end renewable f.i lived) base sends same h)
 
 turn_stays :
     (f : Facts) (due rest : ℕ) (old new : WatchState) (event : Event) (result : Result Output WatchFault) → IsPlanned f → Turn old event result new → IsLived f.o f.i due old event result → is_wanted new f.i ≡ true →
     IsBase f.width f.n new → Sends old new f.n → Same f.i old new → Stays f due (Until f old new rest) old → Stays f (outage_next_after f.o result new due) (After f new rest) new
 turn_stays f due rest old new event (Ok output) planned turn lived wanted base sends same h = step_stays f due rest old new event output planned turn.1 lived wanted base sends same h
 turn_stays f due rest old new event (Err fault) planned turn lived wanted base sends same h =
-    forest_stays f due rest old new old.forest (refused_stays old new event fault turn) base same h
+    left_stays f due rest old new old.forest old.tracks old.asked (refused_stays old new event fault turn) refl base sends same h
 
 -- every turn is in time
 in_time : (f : Facts) (due k : ℕ) (s : WatchState) → Stays f due k s → EndIsInTime f.o f.i s
@@ -254,7 +263,7 @@ along f planned (turn ∷ turns) due old history lived h =
     let base = turn_base f.width f.n old turn.state turn.event turn.result history.0 h.going.base in
     let count = base.count in
     let sends = turn_sends old turn.state turn.event turn.result f.n (omega (arith, count)) history.0 in
-    let same = turn_same f.o f.i due old turn.state turn.event turn.result history.0 lived.0 h.going.asks in
+    let same = turn_same f.o f.i due old turn.state turn.event turn.result history.0 lived.0 in
     let here = turn_stays f due (coming f.o f.n turn.state turns) old turn.state turn.event turn.result planned history.0 lived.0 lived.1.0 base sends same h in (
       in_time f (outage_next_after f.o turn.result turn.state due) (After f turn.state (coming f.o f.n turn.state turns)) turn.state here,
       along f planned turns (outage_next_after f.o turn.result turn.state due) turn.state history.1 lived.1.1 here,
@@ -337,25 +346,16 @@ first_end o n width margin s i b same =
     record { end = k.0; end_is = k.1.0; sum = omega (arith, sum, t, same) }
 
 first_endures :
-    (o : Outage) (i end bound due : ℕ) (miss : Type 0) (s : WatchState) → (track_at s i).end ≡ At end → (track_at s i).owes ≡ false → rested (track_at s i).last ≤ bound → attempt_at s i ≡ None → (track_at s i).out ≡ false →
-    IsAlone s → (list_any is_silent s.answers ≡ true → s.presence.away ≡ true → ⊥) → Endures o i end bound due miss s
-first_endures o i end bound due miss s end_is owes last idle free alone quiet = record {
+    (o : Outage) (i end bound due : ℕ) (miss : Type 0) (s : WatchState) → (track_at s i).end ≡ At end → rested (track_at s i).last ≤ bound → is_pressed (track_at s i) ≡ false → is_request_served o s i ≡ false →
+    (list_any is_silent s.answers ≡ true → s.presence.away ≡ true → ⊥) → Endures o i end bound due miss s
+first_endures o i end bound due miss s end_is last loose unserved quiet = record {
   end_is = end_is;
-  owes = owes;
   last = last;
-  tries = λ u is. absurd (let bad : None ≡ Some u = sym idle ∙ is in cc);
-  lane = λ out. absurd (not_both out free);
-  out = All-weaker (λ (q : Out). q.entry ≡ i → ⊥) (Cutting o i bound miss s) (λ q no' is. absurd (no' is)) s.out (none_of i s.out (free_lanes i s alone free));
+  tries = λ u is pressed'. absurd (not_both (ap is_pressed_try is ∙ pressed') loose);
+  out =
+      All-weaker (λ (q : Out). q.entry ≡ i → is_request_whole o q.since ≡ false) (Cutting o i bound miss s) (λ q c is. (c is, λ pressed'. absurd (not_both pressed' loose))) s.out (only_cut o i s unserved);
   silent' = λ any away. absurd (quiet any away);
 }
-
--- who is idle is not out
-idle_free : (width n : ℕ) (s : WatchState) (i : ℕ) → IsBase width n s → attempt_at s i ≡ None → (track_at s i).out ≡ false
-idle_free width n s i base idle =
-    elim (cases_Bool (track_at s i).out) as (λ _. (track_at s i).out ≡ false) [
-      | inl out ↦ absurd (true≢false (sym ((base.tries i).out out) ∙ ap is_some idle))
-      | inr no' ↦ no'
-    ]
 
 -- all that is out is whole, and the next clock comes soon; or the outage has begun; or it is over, and what it cut is settled soon
 abbrev Begins : Facts → ℕ → WatchState → Type 0
@@ -366,19 +366,43 @@ Begins f due s =
 abbrev facts_of : Outage → ℕ → ℕ → ℕ → ℕ → WatchState → Facts
 facts_of o i n width end s = record { o = o; i = i; n = n; width = width; margin = s.forest.margin; time = time_of s i; end = end }
 
+-- where a lookup of it is out that is whole
+first_served :
+    (o : Outage) (width n : ℕ) (s : WatchState) (i due end : ℕ) → IsPlanned (facts_of o i n width end s) → IsBase width n s → s.clocks.at < ms (time_of s i) → All (λ (q : Out). due ≤ outage_settled_by o q.since + o.late) s.out →
+    is_request_served o s i ≡ true → IsServed (facts_of o i n width end s) due s
+first_served o width n s i due end planned base before timely served =
+    let at = s.clocks.at in
+    let now = base.since in
+    let only = only_whole o i s base.alone served in
+    let holds = margin_holds (facts_of o i n width end s) planned in
+    record {
+      served = served;
+      sent = at;
+      whole = λ k d below is. (only k d below is, now k d below);
+      next =
+          any_gives (due ≤ at + turn_of o) (λ (q : Out). q.entry == i && is_request_whole o q.since) s.out served
+          (λ k d below yes'.
+          let q = get_or s.out k d in
+          let both = and_parts (q.entry == i) (is_request_whole o q.since) yes' in
+          let e = quick_if o q.since both.1 in
+          let l = timely k d below in
+          let le = now k d below in
+          omega (arith, e, l, le));
+      last_ahead = omega (arith, before, holds);
+      last_by = omega (arith, before);
+    }
+
 first_stays :
     (o : Outage) (width n : ℕ) (s : WatchState) (i due k end : ℕ) → IsPlanned (facts_of o i n width end s) → IsBase width n s → length s.forest.entries ≡ n → IsBefore s i → (track_at s i).end ≡ At end →
-    list_any (λ (a : Answer). is_busy a.reply) s.answers ≡ false → (list_any is_silent s.answers ≡ true → s.presence.away ≡ true → ⊥) → All (λ (q : Out). due ≤ outage_settled_by o q.since + o.late) s.out →
-    k ≤ width * o.rounds → Begins (facts_of o i n width end s) due s → Stays (facts_of o i n width end s) due k s
-first_stays o width n s i due k end planned base entries b end_is calm quiet timely few begins =
+    (list_any is_silent s.answers ≡ true → s.presence.away ≡ true → ⊥) → All (λ (q : Out). due ≤ outage_settled_by o q.since + o.late) s.out →
+    k ≤ width * o.rounds → (is_request_served o s i ≡ false → Begins (facts_of o i n width end s) due s) → Stays (facts_of o i n width end s) due k s
+first_stays o width n s i due k end planned base entries b end_is quiet timely few begins =
     let f : Facts = facts_of o i n width end s in
     let at = s.clocks.at in
     let before = before_time s i (time_of s i) refl b.ahead in
     let sum = planned.end_is in
     let rest = b.rested in
     let reach : ms (time_of s i) ≤ free_from f = omega arith in
-    let free = idle_free width n s i base b.idle in
-    let none' = none_of i s.out (free_lanes i s base.alone free) in
     let now = base.since in
     record {
       going = record {
@@ -387,80 +411,85 @@ first_stays o width n s i due k end planned base entries b end_is calm quiet tim
         time = refl;
         margin = refl;
         end_is = end_is;
-        asks = All-weaker (λ (q : Out). q.entry ≡ i → ⊥) (λ (q : Out). q.entry ≡ i → q.operation ≡ Renew) (λ q no' is. absurd (no' is)) s.out none';
         timely = timely;
-        calm = calm;
-        free = omega (arith, rest);
         ahead = omega (arith, before, sum);
         by = omega (arith, before);
       };
-      through = elim begins as (λ _. IsThrough f due k s) [
-        | inl there ↦
-            let zero' = anew_none o (suc at) n s now (omega arith) in
-            let soon = there.1 in
-            inl (inl (record {
-              endures = first_endures o i end (ms (time_of s i)) due ⊥ s end_is b.owes (omega (arith, rest)) b.idle free base.alone quiet;
-              idle = free;
-              whole = there.0;
-              r = o.rounds;
-              from = at;
-              count = omega (arith, few, zero');
-              fewer = omega arith;
-              base = ms (time_of s i);
-              reach = omega arith;
-              over = inl refl;
-              base_ahead = (let holds = margin_holds f planned in omega (arith, holds));
-              base_by = reach;
-              start = omega (arith, before);
-              next = omega (arith, soon);
-            }))
-        | inr begun' ↦
-            elim begun' as (λ _. IsThrough f due k s) [
-              | inr late ↦
+      through = elim (cases_Bool (is_request_served o s i)) as (λ _. IsThrough f due k s) [
+        | inl served ↦ inr (inr (inl (first_served o width n s i due end planned base before timely served)))
+        | inr unserved ↦
+            elim (begins unserved) as (λ _. IsThrough f due k s) [
+              | inl there ↦
                   let zero' = anew_none o (suc at) n s now (omega arith) in
-                  let over = late.0 in
-                  inr (inr (inr (record {
-                    endures = first_endures o i end (ms (time_of s i)) due ⊥ s end_is b.owes (omega (arith, rest)) b.idle free base.alone quiet;
-                    idle = free;
-                    over = over;
-                    soon = omega (arith, over, before);
+                  let soon = there.1 in
+                  inl (inl (record {
+                    endures = first_endures o i end (ms (time_of s i)) due ⊥ s end_is rest b.loose unserved quiet;
+                    idle = not_out o i s base.marked unserved there.0;
+                    whole = there.0;
+                    r = o.rounds;
                     from = at;
                     count = omega (arith, few, zero');
-                    next = late.1;
-                  })))
-              | inl broke ↦
-                  let early = broke.0 in
-                  let late = broke.1.0 in
-                  let zero' = anew_none o o.until n s now early in
-                  inl (inr (record {
-                    endures = first_endures o i end (free_from f) due Unit s end_is b.owes (omega (arith, rest, reach)) b.idle free base.alone quiet;
-                    unserved = elim (cases_Bool (is_request_served o s i)) as (λ _. is_request_served o s i ≡ false) [
-                      | inl served ↦ absurd (not_both (served_marked o s i base.alone served) free)
-                      | inr no' ↦ no'
-                    ];
-                    r = o.rounds;
-                    count = omega (arith, few, zero');
                     fewer = omega arith;
-                    room = omega (arith, late, before);
-                    next = broke.1.1;
+                    base = ms (time_of s i);
+                    reach = omega arith;
+                    over = inl refl;
+                    base_ahead = (let holds = margin_holds f planned in omega (arith, holds));
+                    base_by = reach;
+                    start = omega (arith, before);
+                    next = omega (arith, soon);
                   }))
+              | inr begun' ↦
+                  elim begun' as (λ _. IsThrough f due k s) [
+                    | inr late ↦
+                        let zero' = anew_none o (suc at) n s now (omega arith) in
+                        let over = late.0 in
+                        inr (inr (inr (record {
+                          endures = first_endures o i end (ms (time_of s i)) due ⊥ s end_is rest b.loose unserved quiet;
+                          unserved = unserved;
+                          over = over;
+                          soon = omega (arith, over, before);
+                          from = at;
+                          count = omega (arith, few, zero');
+                          next = late.1;
+                        })))
+                    | inl broke ↦
+                        let early = broke.0 in
+                        let late = broke.1.0 in
+                        let zero' = anew_none o o.until n s now early in
+                        inl (inr (record {
+                          endures = first_endures o i end (free_from f) due Unit s end_is (omega (arith, rest, reach)) b.loose unserved quiet;
+                          unserved = unserved;
+                          r = o.rounds;
+                          count = omega (arith, few, zero');
+                          fewer = omega arith;
+                          room = omega (arith, late, before);
+                          next = broke.1.1;
+                        }))
+                  ]
             ]
       ];
     }
 
--- all that is out is whole, or the outage has begun; and where it is over, what it cut is settled soon
+-- all that is out is whole, or the outage has begun, or it is over; and what it cut is settled soon
 whole_or_broke :
     (o : Outage) (s : WatchState) (due : ℕ) → All (λ (q : Out). q.since ≤ s.clocks.at) s.out → All (λ (q : Out). due ≤ outage_settled_by o q.since + o.late) s.out →
-    All (λ (q : Out). is_request_whole o q.since ≡ true) s.out ⊎ (((s.clocks.at < o.until) × (o.from < s.clocks.at + o.quick)) ⊎ ((o.until ≤ s.clocks.at) × (due ≤ cut o)))
+    All (λ (q : Out). is_request_whole o q.since ≡ true) s.out ⊎ (((s.clocks.at < o.until) × ((o.from < s.clocks.at + o.quick) × (due ≤ cut o))) ⊎ ((o.until ≤ s.clocks.at) × (due ≤ cut o)))
 whole_or_broke o s due now timely =
     let at = s.clocks.at in
     elim (cases_Bool (list_any (λ (q : Out). not (is_request_whole o q.since)) s.out))
-    as (λ _. All (λ (q : Out). is_request_whole o q.since ≡ true) s.out ⊎ (((at < o.until) × (o.from < at + o.quick)) ⊎ ((o.until ≤ at) × (due ≤ cut o)))) [
+    as (λ _. All (λ (q : Out). is_request_whole o q.since ≡ true) s.out ⊎ (((at < o.until) × ((o.from < at + o.quick) × (due ≤ cut o))) ⊎ ((o.until ≤ at) × (due ≤ cut o)))) [
       | inr all_whole ↦
           inl (All-weaker (λ (q : Out). not (is_request_whole o q.since) ≡ false) (λ (q : Out). is_request_whole o q.since ≡ true) (λ q h. so_whole (is_request_whole o q.since) h) s.out
           (none_passes (λ (q : Out). not (is_request_whole o q.since)) s.out all_whole))
       | inl broke ↦
-          elim (cases_lt at o.until) as (λ _. All (λ (q : Out). is_request_whole o q.since ≡ true) s.out ⊎ (((at < o.until) × (o.from < at + o.quick)) ⊎ ((o.until ≤ at) × (due ≤ cut o)))) [
+          let soon : due ≤ cut o =
+          any_gives (due ≤ cut o) (λ (q : Out). not (is_request_whole o q.since)) s.out broke
+          (λ j d below no'.
+          let q = get_or s.out j d in
+          let c = cut_off o q.since (not_so (is_request_whole o q.since) no') in
+          let l = timely j d below in
+          omega (arith, c, l)) in
+          elim (cases_lt at o.until) as (λ _. All (λ (q : Out). is_request_whole o q.since ≡ true) s.out ⊎ (((at < o.until) × ((o.from < at + o.quick) × (due ≤ cut o))) ⊎ ((o.until ≤ at) × (due ≤ cut o)))) [
             | inl early ↦
                 let late : o.from < at + o.quick =
                 any_gives (o.from < at + o.quick) (λ (q : Out). not (is_request_whole o q.since)) s.out broke
@@ -470,22 +499,14 @@ whole_or_broke o s due now timely =
                 let l = h.0 in
                 let le = now j d below in
                 omega (arith, l, le)) in
-                inr (inl (early, late))
-            | inr over ↦
-                let soon : due ≤ cut o =
-                any_gives (due ≤ cut o) (λ (q : Out). not (is_request_whole o q.since)) s.out broke
-                (λ j d below no'.
-                let q = get_or s.out j d in
-                let c = cut_off o q.since (not_so (is_request_whole o q.since) no') in
-                let l = timely j d below in
-                omega (arith, c, l)) in
-                inr (inr (over, soon))
+                inr (inl (early, (late, soon)))
+            | inr over ↦ inr (inr (over, soon))
           ]
     ]
 
 -- until then is waited at most
-waits_for : (old s : WatchState) (wall elapsed : ℕ) (output : Output) (i : ℕ) → Ticks old s wall elapsed output → i < length s.forest.entries → is_wanted s i ≡ true → attempt_at s i ≡ None → (track_at s i).out ≡ false → wait s ≤ ms (time_of s i)
-waits_for old s wall elapsed output i h within wanted idle free =
+waits_for : (old s : WatchState) (wall elapsed : ℕ) (output : Output) (i : ℕ) → Ticks old s wall elapsed output → i < length s.forest.entries → is_wanted s i ≡ true → is_pressed (track_at s i) ≡ false → (track_at s i).out ≡ false → wait s ≤ ms (time_of s i)
+waits_for old s wall elapsed output i h within wanted loose free =
     let ready' = readied old wall elapsed in
     let end = sent (pressed ready' h.round) h.requests in
     let is = h.new_is in
@@ -494,7 +515,7 @@ waits_for old s wall elapsed output i h within wanted idle free =
       | inl out ↦ absurd (not_both out (subst (λ (x : WatchState). (track_at x i).out ≡ false) is free))
       | inr minded ↦
           elim minded as (λ _. wait end ≤ ms (time_of end i)) [
-            | inl pressed' ↦ absurd (let bad : None ≡ Some pressed'.has.attempt = sym (subst (λ (x : WatchState). attempt_at x i ≡ None) is idle) ∙ pressed'.has.attempt_is in cc)
+            | inl pressed' ↦ absurd (not_both (ap is_pressed_try pressed'.has.attempt_is ∙ pressed'.pressed) (subst (λ (x : WatchState). is_pressed (track_at x i) ≡ false) is loose))
             | inr ahead ↦ ahead.heeded
           ]
     ])
@@ -503,9 +524,9 @@ waits_for old s wall elapsed output i h within wanted idle free =
 from_there :
     (o : Outage) (g : Forest) (width : ℕ) (before : List Turned) (last : Turned) (turns : List Turned) (i due : ℕ) → 0 < width → IsWatchRun g width (before ++ last ∷ turns) → IsBefore last.state i →
     AreLived o i due last.state turns → waiting o (length g.entries) last.state + coming o (length g.entries) last.state turns ≤ width * o.rounds → o.from ≤ o.until → IsShortOutage o g.margin →
-    list_any (λ (a : Answer). is_busy a.reply) last.state.answers ≡ false → (list_any is_silent last.state.answers ≡ true → last.state.presence.away ≡ true → ⊥) →
-    All (λ (q : Out). due ≤ outage_settled_by o q.since + o.late) last.state.out → ((f : Facts) → f.o ≡ o → f.time ≡ time_of last.state i → IsBase width (length g.entries) last.state → Begins f due last.state) → AllInTime o i turns
-from_there o g width before last turns i due wide run b lived few order short calm quiet timely begins =
+    (list_any is_silent last.state.answers ≡ true → last.state.presence.away ≡ true → ⊥) →
+    All (λ (q : Out). due ≤ outage_settled_by o q.since + o.late) last.state.out → ((f : Facts) → f.o ≡ o → f.time ≡ time_of last.state i → IsBase width (length g.entries) last.state → is_request_served o last.state i ≡ false → Begins f due last.state) → AllInTime o i turns
+from_there o g width before last turns i due wide run b lived few order short quiet timely begins =
     let n = length g.entries in
     let old = after_all (opened g width) before in
     let history = last_turns before (last ∷ turns) (opened g width) run in
@@ -520,7 +541,7 @@ from_there o g width before last turns i due wide run b lived few order short ca
     let f : Facts = facts_of o i n width e.end s in
     let low = b.within in
     let planned : IsPlanned f = record { wide = wide; within = omega (arith, low, entries); order = order; short = subst (IsShortOutage o) (sym margin) short; end_is = e.sum } in
-    let stays = first_stays o width n s i due (waiting o n s + coming o n s turns) e.end planned base entries b e.end_is calm quiet timely few (begins f refl refl base) in
+    let stays = first_stays o width n s i due (waiting o n s + coming o n s turns) e.end planned base entries b e.end_is quiet timely few (begins f refl refl base) in
     along f planned turns due s history.1 lived stays
 
 pub outlives : OutageLaw
@@ -532,26 +553,29 @@ outlives o g width before last turns i wide run clock taken' b lived few order s
     let answers : s.answers ≡ [] = ap (λ (x : WatchState). x.answers) start.ticks'.new_is ∙ readied_answers old start.wall start.elapsed in
     let due = outage_next_by o (wait s) s.out in
     let timely = least_all (λ (q : Out). outage_settled_by o q.since + o.late) (wait s + o.late) s.out in
-    from_there o g width before last turns i due wide run b (subst (λ d. AreLived o i d s turns) start.due lived) few order short (ap (list_any (λ (a : Answer). is_busy a.reply)) answers)
+    from_there o g width before last turns i due wide run b (subst (λ d. AreLived o i d s turns) start.due lived) few order short
     (λ any away. absurd (not_both any (ap (list_any is_silent) answers))) timely
-    (λ f same time base.
-    let free = idle_free width (length g.entries) s i base b.idle in
-    let until = waits_for old s start.wall start.elapsed start.output i start.ticks' b.within b.wanted b.idle free in
-    let least' = least_start (wait s + o.late) (map (λ (q : Out). outage_settled_by o q.since + o.late) s.out) in
+    (λ f same time base unserved.
     let late = ap (λ (x : Outage). x.late) same in
     let quick = ap (λ (x : Outage). x.quick) same in
-    let soon : due ≤ ms f.time + f.o.late = omega (arith, until, least', late, time) in
     let from' = ap (λ (x : Outage). x.from) same in
     let until' = ap (λ (x : Outage). x.until) same in
     let ends : cut f.o ≡ cut o = ap cut same in
+    let reach : again f.end (cut f.o) ≤ free_from f = omega arith in
     elim (whole_or_broke o s due base.since timely) as (λ _. Begins f due s) [
-      | inl whole ↦ inl (subst (λ (x : Outage). All (λ (q : Out). is_request_whole x q.since ≡ true) s.out) (sym same) whole, omega (arith, soon))
+      | inl whole ↦
+          let free = not_out o i s base.marked unserved whole in
+          let until = waits_for old s start.wall start.elapsed start.output i start.ticks' b.within b.wanted b.loose free in
+          let least' = least_start (wait s + o.late) (map (λ (q : Out). outage_settled_by o q.since + o.late) s.out) in
+          let soon : due ≤ ms f.time + f.o.late = omega (arith, until, least', late, time) in
+          inl (subst (λ (x : Outage). All (λ (q : Out). is_request_whole x q.since ≡ true) s.out) (sym same) whole, omega (arith, soon))
       | inr begun' ↦
           elim begun' as (λ _. Begins f due s) [
             | inl broke ↦
                 let early = broke.0 in
-                let gone = broke.1 in
-                inr (inl (omega (arith, early, until'), (omega (arith, gone, from', quick), omega (arith, soon))))
+                let gone = broke.1.0 in
+                let by' = broke.1.1 in
+                inr (inl (omega (arith, early, until'), (omega (arith, gone, from', quick), omega (arith, by', reach, ends))))
             | inr over ↦
                 let late' = over.0 in
                 let by' = over.1 in
@@ -559,13 +583,30 @@ outlives o g width before last turns i wide run clock taken' b lived few order s
           ]
     ])
 
--- a grant shows that the broker is there
-grant_there : (old new : WatchState) (event : Event) (result : Result Output WatchFault) (i seconds : ℕ) (renewable : Bool) (date : Option ℕ) → Turn old event result new → is_event_taken result ≡ true → event ≡ Renewed i (Told seconds renewable date) → new.presence.away ≡ false
-grant_there old new event (Ok output) i seconds renewable date turn taken' told = by (request_out old.out i Renew) (subst (λ e. Step old e output new) told turn.1) where
-  by : (found : Option Out) → StepRenewed old found (Told seconds renewable date) output new → new.presence.away ≡ false
-  by None step = absurd step
-  by (Some q) step = ap (λ (x : WatchState). x.presence.away) step.1 ∙ real_away (state_renewed (noted old q (Told seconds renewable date)) q (Told seconds renewable date)) q (Told seconds renewable date) refl
-grant_there old new event (Err fault) i seconds renewable date turn taken' told = absurd (true≢false (sym taken'))
+-- what tells an end shows that the broker is there
+told_real : (reply : Reply) → is_told reply ≡ true → is_real reply ≡ true
+told_real (Told seconds renewable date) h = refl
+told_real (Refused status date) h = absurd cc
+told_real Busy h = absurd cc
+told_real Lost h = absurd cc
+
+looked_there : (old new : WatchState) (found : Option Out) (reply : Reply) (terms : Terms) (output : Output) → StepLooked old found reply terms output new → is_told reply ≡ true → new.presence.away ≡ false
+looked_there old new None reply terms output step told = absurd step
+looked_there old new (Some q) reply terms output step told =
+    ap (λ (x : WatchState). x.presence.away) step.1 ∙ real_away (looked (noted old q reply) q reply terms) q reply (told_real reply told)
+
+renewed_there : (old new : WatchState) (found : Option Out) (reply : Reply) (output : Output) → StepRenewed old found reply output new → is_told reply ≡ true → new.presence.away ≡ false
+renewed_there old new None reply output step told = absurd step
+renewed_there old new (Some q) reply output step told = ap (λ (x : WatchState). x.presence.away) step.1 ∙ real_away (state_renewed (noted old q reply) q reply) q reply (told_real reply told)
+
+told_there : (old new : WatchState) (event : Event) (result : Result Output WatchFault) (i : ℕ) → Turn old event result new → is_event_taken result ≡ true → tells i event ≡ true → new.presence.away ≡ false
+told_there old new (Clock wall elapsed) (Ok output) i turn taken' told = absurd cc
+told_there old new (Looked j reply terms) (Ok output) i turn taken' told = looked_there old new (request_out old.out j Look) reply terms output turn.1 (and_parts (j == i) (is_told reply) told).1
+told_there old new (Renewed j reply) (Ok output) i turn taken' told = renewed_there old new (request_out old.out j Renew) reply output turn.1 (and_parts (j == i) (is_told reply) told).1
+told_there old new (Need j until) (Ok output) i turn taken' told = absurd cc
+told_there old new Begin (Ok output) i turn taken' told = absurd cc
+told_there old new (Known j end renewable) (Ok output) i turn taken' told = absurd cc
+told_there old new event (Err fault) i turn taken' told = absurd (true≢false (sym taken'))
 
 asked_before : (last : Option ℕ) (at : ℕ) → rested last ≤ at + 1000 → clock_asked_at last ≤ at
 asked_before None at h = omega arith
@@ -577,12 +618,12 @@ outlives_again o g width before grant turns i wide run b lived few order short =
     let history = last_turns before (grant ∷ turns) (opened g width) run in
     let s = grant.state in
     let at = s.clocks.at in
-    let there = grant_there old s grant.event grant.result i b.seconds b.renewable b.date history.0 b.taken b.told in
+    let there = told_there old s grant.event grant.result i history.0 b.taken b.told in
     let asked = granted_at s i in
     let due = granted_next o s i in
     let timely = least_all (λ (q : Out). outage_settled_by o q.since + o.late) (outage_settled_by o asked + o.late) s.out in
-    from_there o g width before grant turns i due wide run b.before lived few order short b.calm (λ any away. absurd (not_both away there)) timely
-    (λ f same time base.
+    from_there o g width before grant turns i due wide run b.before lived few order short (λ any away. absurd (not_both away there)) timely
+    (λ f same time base unserved.
     let least' = least_start (outage_settled_by o asked + o.late) (map (λ (q : Out). outage_settled_by o q.since + o.late) s.out) in
     let early = asked_before (track_at s i).last at (base.past.last i) in
     let ahead = before_time s i (time_of s i) refl b.before.ahead in
@@ -602,9 +643,9 @@ outlives_again o g width before grant turns i wide run b lived few order short =
                 elim begun' as (λ _. Begins f due s) [
                   | inl broke ↦
                       let a = broke.0 in
-                      let c = broke.1 in
-                      let cut' : due ≤ cut o = (let k = early_cut o asked order (omega (arith, early, a)) in omega (arith, least', k)) in
-                      inr (inl (omega (arith, a, until'), (omega (arith, c, from', quick), omega (arith, cut', reach, ends))))
+                      let c = broke.1.0 in
+                      let by' = broke.1.1 in
+                      inr (inl (omega (arith, a, until'), (omega (arith, c, from', quick), omega (arith, by', reach, ends))))
                   | inr over ↦
                       let late' = over.0 in
                       let by' = over.1 in

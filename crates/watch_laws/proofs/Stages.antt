@@ -1,18 +1,15 @@
 -- Stages: how an outage goes by for an entry, stage by stage, and the sums of each. For the law of outages.
 use Rattle.std.proofs.Common.{◌≡◌, ◌⊎◌, ℕ, suc, ◌+◌, ◌-◌, ◌*◌, ◌/◌, ◌<◌, ◌≤◌, true, false, max, All, length, sym, subst, arith, inl, inr}
 use Rattle.std.proofs.Math.Nat.{mul-suc}
-use Rattle.std.specs.List.{list_any}
 use Rattle.watch_machine.specs.declared.lanes.Out.{Out}
 use Rattle.watch_machine.specs.declared.track.End.TheVariants.{At}
 use Rattle.watch_machine.specs.Clocks.{ms}
 use Rattle.watch_machine.specs.Outlook.{time_of}
-use Rattle.watch_machine.specs.Settling.{is_busy}
 use Rattle.watch_machine.specs.State.{WatchState, track_at}
 use Rattle.watch_laws.specs.Outage.{IsShortOutage, Outage, again, granted_by, how_many, is_request_served, is_request_whole, outage_settled_by}
 use Rattle.watch_laws.proofs.Enduring.{Endures, cut}
 use Rattle.watch_laws.proofs.Grounds.{IsBase}
 use Rattle.watch_laws.proofs.Lanes.{is_anew}
-use Rattle.watch_laws.proofs.Lasting.{Asks}
 
 -- what does not change: the outage, the entry, how many there are, the width and the margin, and the entry's time and end
 pub record Facts : Type 0 where
@@ -45,10 +42,7 @@ pub record IsGoing (f : Facts) (due : ℕ) (s : WatchState) : Type 0 where
   pub time : time_of s f.i ≡ f.time
   pub margin : s.forest.margin ≡ f.margin
   pub end_is : (track_at s f.i).end ≡ At f.end
-  pub asks : Asks f.i s
   pub timely : All (λ (q : Out). due ≤ outage_settled_by f.o q.since + f.o.late) s.out
-  pub calm : list_any (λ a. is_busy a.reply) s.answers ≡ false
-  pub free : s.presence.free ≤ ms f.time
   pub ahead : s.clocks.at < ms f.end
   pub by : s.clocks.at ≤ granted_by f.o f.time f.end
 
@@ -109,7 +103,7 @@ pub record IsServed (f : Facts) (due : ℕ) (s : WatchState) : Type 0 where
 -- and where the outage was over first, until all requests that it cut are settled
 pub record IsLate (f : Facts) (due k : ℕ) (s : WatchState) : Type 0 where
   pub endures : Endures f.o f.i f.end (ms f.time) due ⊥ s
-  pub idle : (track_at s f.i).out ≡ false
+  pub unserved : is_request_served f.o s f.i ≡ false
   pub over : f.o.until ≤ s.clocks.at
   pub soon : f.o.until ≤ ms f.time
   pub from : ℕ

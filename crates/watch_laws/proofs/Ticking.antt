@@ -1,58 +1,48 @@
 -- Ticking: what a clock makes of the stages of an outage. For the law of outages.
-use Rattle.std.proofs.Common.{◌≡◌, ◌⊎◌, ◌∙◌, ℕ, suc, ◌+◌, ◌*◌, ◌<◌, ◌≤◌, Bool, true, false, max, not, ◌&&◌, ◌||◌, ◌==◌, List, [], ◌∷◌, Option, Some, None, All, get_or, is_some, length, map, nat_le, nat_lt, refl, sym, ap, subst, arith, inl, inr}
+use Rattle.std.proofs.Common.{◌≡◌, ◌⊎◌, ◌∙◌, ℕ, suc, ◌+◌, ◌*◌, ◌<◌, ◌≤◌, Bool, true, false, max, not, ◌&&◌, ◌||◌, ◌==◌, List, [], ◌∷◌, Some, All, get_or, length, map, nat_le, nat_lt, refl, sym, ap, subst, arith, inl, inr}
 use Rattle.std.proofs.Math.Nat.{mul-suc}
-use Rattle.std.proofs.lemmas.Bool.{and_from, and_parts, cases_Bool, cases_lt, cond-false, eqb-true, or_parts}
+use Rattle.std.proofs.lemmas.Bool.{and_from, and_parts, cases_Bool, cases_lt, eqb-true, or_parts}
 use Rattle.std.proofs.lemmas.Bool.Decides.{nat_tests}
-use Rattle.std.proofs.lemmas.List.Elements.{All-head, All-nil, All-cons, All-tail, All-weaker}
+use Rattle.std.proofs.lemmas.List.Elements.{All-weaker}
 use Rattle.std.specs.List.{list_any}
 use Rattle.watch_machine.specs.declared.command.Output.{Output}
 use Rattle.watch_machine.specs.declared.command.Request.{Request}
-use Rattle.watch_machine.specs.declared.event.Operation.TheVariants.{Renew}
-use Rattle.watch_machine.specs.declared.lanes.Answer.{Answer}
 use Rattle.watch_machine.specs.declared.lanes.Out.{Out}
 use Rattle.watch_machine.specs.declared.lanes.Presence.{Presence}
 use Rattle.watch_machine.specs.declared.track.Track.{Track}
 use Rattle.watch_machine.specs.declared.track.Try.{Try}
+use Rattle.watch_machine.specs.Beginning.{is_pressed}
 use Rattle.watch_machine.specs.Clocks.{ms, sec}
 use Rattle.watch_machine.specs.Lines.{is_due, is_first, ready, rested}
 use Rattle.watch_machine.specs.Press.{pressed}
 use Rattle.watch_machine.specs.Outlook.{time_of}
 use Rattle.watch_machine.specs.Sending.{sent, sent_in, sent_track}
-use Rattle.watch_machine.specs.Settling.{is_busy, is_silent, presence_after, timed}
+use Rattle.watch_machine.specs.Settling.{is_silent, presence_after, timed}
 use Rattle.watch_machine.specs.State.{WatchState, attempt_at, second, track_at, track_in}
-use Rattle.watch_machine.specs.Step.{readied, why}
+use Rattle.watch_machine.specs.Step.{readied}
 use Rattle.watch_machine.specs.Wait.{wait}
 use Rattle.watch_machine.specs.Wanted.{is_wanted}
 use Rattle.watch_machine.proofs.Cases.{if_both, if_cases, not_both}
 use Rattle.watch_machine.proofs.Leasts.{least_start}
 use Rattle.watch_laws.specs.Outage.{Outage, again, comes, granted_by, how_many, is_request_served, is_request_whole, is_tried, outage_next_by, outage_settled_by, waiting, waits_to_be_asked}
-use Rattle.watch_laws.proofs.Alone.{IsAlone, flag, lanes_of}
 use Rattle.watch_laws.proofs.Clocking.{readied_clocks}
-use Rattle.watch_laws.proofs.Counting.{lanes_apart, lanes_most, least_all, no_lane, none, some}
-use Rattle.watch_laws.proofs.Enduring.{Cutting, Endures, Kept, Missed, Steady, any_time, clock_held, clock_steady, cut, cut_off, later_endures}
-use Rattle.watch_laws.proofs.Going.{asks_by, entry_by, named_of, one_sent, operation_of}
+use Rattle.watch_laws.proofs.Counting.{lanes_apart, lanes_most, least_all, some}
+use Rattle.watch_laws.proofs.Enduring.{Cutting, Endures, Kept, Missed, Steady, clock_held, clock_steady, cut, cut_off, later_endures}
+use Rattle.watch_laws.proofs.Going.{entry_by, named_of, one_sent}
 use Rattle.watch_laws.proofs.Grounds.{IsBase}
 use Rattle.watch_laws.proofs.Holding.{ready_presence}
 use Rattle.watch_laws.proofs.Lanes.{Sends, Ticks, all_sent, fewer_wait, goes_out_now, is_anew, is_of, pressed_count, served_marked, served_tried, stays_free, still_out}
-use Rattle.watch_laws.proofs.Lasting.{Asks, Same, same_time}
+use Rattle.watch_laws.proofs.Lasting.{Same, same_time}
+use Rattle.watch_laws.proofs.Marked.{any_time, free_lanes, none_of, not_out}
 use Rattle.watch_laws.proofs.Minding.{end_minded, tended}
-use Rattle.watch_laws.proofs.Owed.{due_some}
 use Rattle.watch_laws.proofs.Requests.{any_gives, anew_none, later_than, none_passes, one_lane, one_left, quick_if, some_lane, take_one, whole_after}
 use Rattle.watch_laws.proofs.Retrying.{ready_first, ready_later}
 use Rattle.watch_laws.proofs.Sparing.{readied_answers}
-use Rattle.watch_laws.proofs.Spacing.{free_of, mid_flag, passed_over, same_index, went}
+use Rattle.watch_laws.proofs.Spacing.{free_of, mid_flag, passed_over, went}
 use Rattle.watch_laws.proofs.Stages.{Facts, IsBack, IsCut, IsEarly, IsGoing, IsLate, IsPlanned, IsServed, IsThrough, free_from, late_base, late_holds, room_back, turn_of}
 use Rattle.watch_laws.proofs.Topping.{readied_count}
 use Rattle.watch_laws.proofs.Tracking.{each_kept}
-
-pub none_of : (i : ℕ) (out : List Out) → lanes_of i out ≡ 0 → All (λ (q : Out). q.entry ≡ i → ⊥) out
-none_of i out h =
-    All-weaker (λ (q : Out). (q.entry == i && true) ≡ false) (λ (q : Out). q.entry ≡ i → ⊥)
-    (λ q other is. not_both (and_from (q.entry == i) true (ap (λ k. k == i) is ∙ same_index i) refl) other) out
-    (none_passes (λ (q : Out). q.entry == i && true) out (no_lane i (λ q. true) out h))
-
-pub free_lanes : (i : ℕ) (s : WatchState) → IsAlone s → (track_at s i).out ≡ false → lanes_of i s.out ≡ 0
-free_lanes i s alone free = let once = alone.once i in let e = ap flag free in omega (arith, once, e)
+use Rattle.watch_laws.proofs.Undisturbed.{Undisturbed, clock_undisturbed}
 
 pub before_time : (s : WatchState) (i n : ℕ) → time_of s i ≡ n → second s < time_of s i → s.clocks.at < ms n
 unfolding sec
@@ -96,7 +86,6 @@ any_lane test (q ∷ out) h = refl
 -- a clock that was lived
 pub record IsTick (f : Facts) (due : ℕ) (old new : WatchState) (wall elapsed : ℕ) (output : Output) : Type 0 where
   pub ticks : Ticks old new wall elapsed output
-  pub none : why old wall elapsed ≡ None
   pub soon : (timed old wall elapsed).clocks.at ≤ due
   pub rises : old.clocks.at ≤ (timed old wall elapsed).clocks.at
   pub planned : IsPlanned f
@@ -146,21 +135,20 @@ module _ (f : Facts) (due : ℕ) (old new : WatchState) (wall elapsed : ℕ) (ou
   Spares bound miss = ((track_at old i).out ≡ true) ⊎ (miss × (new.presence.hold ≤ bound))
 
   -- the try with which the entry was pressed
-  steady : (bound : ℕ) (miss : Type 0) → Endures o i f.end bound due miss old → (miss → again f.end (cut o) ≤ bound) → Steady f.end at bound (Spares bound miss) (track_at mid i)
+  steady : (bound : ℕ) (miss : Type 0) → Endures o i f.end bound due miss old → (miss → again f.end (cut o) ≤ bound) → Steady at bound (Spares bound miss) (track_at mid i)
   steady bound miss h far =
       let c = clock in
       let a = at_ahead in
-      let first = clock_steady o i f.end bound due miss old wall elapsed t.ticks.round t.none within h (omega (arith, c, a)) t.soon t.rises far in
-      subst (λ n. Steady f.end n bound (((track_at old i).out ≡ true) ⊎ (miss × (new.presence.hold ≤ bound))) (track_at mid i)) (sym c)
-      (subst (λ (p : Presence). Steady f.end (timed old wall elapsed).clocks.at bound (((track_at old i).out ≡ true) ⊎ (miss × (p.hold ≤ bound))) (track_at mid i)) (sym presence) first)
+      let first = clock_steady o i f.end bound due miss old wall elapsed t.ticks.round within h (omega (arith, c, a)) t.soon t.rises far in
+      subst (λ n. Steady n bound (((track_at old i).out ≡ true) ⊎ (miss × (new.presence.hold ≤ bound))) (track_at mid i)) (sym c)
+      (subst (λ (p : Presence). Steady (timed old wall elapsed).clocks.at bound (((track_at old i).out ≡ true) ⊎ (miss × (p.hold ≤ bound))) (track_at mid i)) (sym presence) first)
 
-  held : (bound : ℕ) (miss : Type 0) → Endures o i f.end bound due miss old → (miss → again f.end (cut o) ≤ bound) → miss → (track_at old i).out ≡ true → old.presence.hold ≤ bound → new.presence.hold ≤ bound
-  held bound miss h far may out low =
+  held : (bound : ℕ) (miss : Type 0) → Endures o i f.end bound due miss old → (miss → again f.end (cut o) ≤ bound) → miss → is_pressed (track_at old i) ≡ true → old.presence.hold ≤ bound → new.presence.hold ≤ bound
+  held bound miss h far may pressed' low =
       let c = clock in
       let a = at_ahead in
-      let some' = (t.going.base.tries i).out out in
       let e = ap (λ (p : Presence). p.hold) presence in
-      let l = clock_held o i f.end bound due miss old (timed old wall elapsed).clocks.at within h (omega (arith, c, a)) t.soon t.rises far may some' low in
+      let l = clock_held o i f.end bound due miss old (timed old wall elapsed).clocks.at within h (omega (arith, c, a)) t.soon t.rises far may pressed' low in
       omega (arith, e, l)
 
   -- what stays
@@ -218,43 +206,17 @@ module _ (f : Facts) (due : ℕ) (old new : WatchState) (wall elapsed : ℕ) (ou
       ]
 
   -- what holds whatever the stage
-  renews : (o' : Option Try) → is_some o' ≡ true → ((u : Try) → o' ≡ Some u → u.operation ≡ Renew) → operation_of o' ≡ Renew
-  renews None some' all = absurd cc
-  renews (Some u) some' all = all u refl
-
-  kept_asks : (list_any (λ (r : Request). r.entry == i) t.ticks.requests ≡ true → (u : Try) → attempt_at mid i ≡ Some u → u.operation ≡ Renew) → Asks i new
-  kept_asks all =
-      let p = mid.presence in
-      let now = sec mid.clocks.at in
-      all_sent (λ (q : Out). q.entry ≡ i → q.operation ≡ Renew) old new wall elapsed output t.ticks t.going.asks
-      (λ k low due'' named is.
-      let same : k ≡ i = sym (entry_by p now mid.tracks k) ∙ is in
-      let some' = due_some p mid.clocks.at (track_at mid k) due'' in
-      asks_by p now mid.tracks k ∙ subst (λ j. operation_of (attempt_at mid j) ≡ Renew) (sym same) (renews (attempt_at mid i) (subst (λ j. is_some (attempt_at mid j) ≡ true) same some') (all (subst (λ j. list_any (λ (r : Request). r.entry == j) t.ticks.requests ≡ true) same named))))
-
-  spared : new.presence.free ≤ ms f.time
-  unfolding presence_after
-  spared =
-      let e = ap (λ (p : Presence). p.free) presence in
-      let n = (timed old wall elapsed).clocks.at in
-      let calm = cond-false (list_any (λ (a : Answer). is_busy a.reply) old.answers) (n + 1000) old.presence.free t.going.calm in
-      let low = t.going.free in
-      omega (arith, e, calm, low)
-
   no_answers : new.answers ≡ []
   no_answers = ap (λ (x : WatchState). x.answers) t.ticks.new_is ∙ readied_answers old wall elapsed
 
-  pub goes_on : (list_any (λ (r : Request). r.entry == i) t.ticks.requests ≡ true → (u : Try) → attempt_at mid i ≡ Some u → u.operation ≡ Renew) → IsGoing f due' new
-  goes_on all = record {
+  pub goes_on : IsGoing f due' new
+  goes_on = record {
     base = t.base;
     entries = t.same.count ∙ t.going.entries;
     time = same_time i old new t.same ∙ t.going.time;
     margin = t.same.margin ∙ t.going.margin;
-    end_is = t.same.bears.0 ∙ t.going.end_is;
-    asks = kept_asks all;
+    end_is = t.same.ends.0 ∙ t.going.end_is;
     timely = least_all (λ (q : Out). outage_settled_by o q.since + o.late) (wait new + o.late) new.out;
-    calm = ap (list_any (λ (a : Answer). is_busy a.reply)) no_answers;
-    free = spared;
     ahead = at_ahead;
     by = let c = in_time in let b = t.by in omega (arith, c, b);
   }
@@ -266,10 +228,16 @@ module _ (f : Facts) (due : ℕ) (old new : WatchState) (wall elapsed : ℕ) (ou
         | inr free' ↦ free'
       ]
 
+  -- whose request is out is pressed no more than it was
+  still_pressed : (track_at old i).out ≡ true → is_pressed (track_at new i) ≡ true → is_pressed (track_at old i) ≡ true
+  still_pressed out pressed' = (subst (λ (x : WatchState). Undisturbed (track_at x i) (track_at old i)) (sym t.ticks.new_is) (clock_undisturbed old wall elapsed t.ticks.round t.ticks.requests i)).1 out pressed'
+
   still_cutting : (bound : ℕ) (miss : Type 0) → Endures o i f.end bound due miss old → (miss → again f.end (cut o) ≤ bound) → All (Cutting o i bound miss new) old.out
   still_cutting bound miss h far =
       elim (cases_Bool (track_at old i).out) as (λ _. All (Cutting o i bound miss new) old.out) [
-        | inl out ↦ All-weaker (Cutting o i bound miss old) (Cutting o i bound miss new) (λ q c is. ((c is).0, ((c is).1.0, λ heard'. held bound miss h far (c is).0 out ((c is).1.1 heard')))) old.out h.out
+        | inl out ↦
+            All-weaker (Cutting o i bound miss old) (Cutting o i bound miss new)
+            (λ q c is. ((c is).0, λ pressed'. let was = still_pressed out pressed' in let k = (c is).1 was in (k.0, λ heard'. held bound miss h far k.0 was (k.1 heard')))) old.out h.out
         | inr free ↦ All-weaker (λ (q : Out). q.entry ≡ i → ⊥) (Cutting o i bound miss new) (λ q no' is. absurd (no' is)) old.out (none_of i old.out (free_lanes i old t.going.base.alone free))
       ]
 
@@ -279,36 +247,25 @@ module _ (f : Facts) (due : ℕ) (old new : WatchState) (wall elapsed : ℕ) (ou
   unfolding Kept Missed
   endures bound miss h far newly =
       let s = steady bound miss h far in
-      let all_due = least_all (λ (q : Out). outage_settled_by o q.since + o.late) (wait new + o.late) new.out in
       record {
-        end_is = t.same.bears.0 ∙ h.end_is;
-        owes = t.same.bears.1.1 ∙ h.owes;
+        end_is = t.same.ends.0 ∙ h.end_is;
         last = last_kept bound s.last (λ free out. (newly free out).1.1);
-        tries = λ u is.
-            let k = s.tries u (sym attempt_kept ∙ is) in
-            record {
-              pressed = k.pressed;
-              renews = k.renews;
-              how = inl (
-                k.settled,
-                (
-                  k.soon,
-                  λ free. elim k.first as (λ _. (is_first u ≡ true) ⊎ (miss × (new.presence.hold ≤ bound))) [
-                    | inl first ↦ inl first
-                    | inr held' ↦
-                        elim held' as (λ _. (is_first u ≡ true) ⊎ (miss × (new.presence.hold ≤ bound))) [
-                          | inl out ↦ absurd (not_both out (was_free free))
-                          | inr low ↦ inr low
-                        ]
-                  ],
-                ),
-              );
-            };
-        lane = λ out.
-            elim (cases_Bool (track_at old i).out) as (λ _. list_any (is_of i any_time) new.out ≡ true) [
-              | inl before ↦ still_out old new wall elapsed output (is_of i any_time) t.ticks (h.lane before)
-              | inr free ↦ goes_out_now old new wall elapsed output i any_time t.ticks free out refl
-            ];
+        tries = λ u is pressed'.
+            let k = s.tries u (sym attempt_kept ∙ is) pressed' in
+            inl (
+              k.settled,
+              (
+                k.soon,
+                λ free. elim k.first as (λ _. (is_first u ≡ true) ⊎ (miss × (new.presence.hold ≤ bound))) [
+                  | inl first ↦ inl first
+                  | inr held' ↦
+                      elim held' as (λ _. (is_first u ≡ true) ⊎ (miss × (new.presence.hold ≤ bound))) [
+                        | inl out ↦ absurd (not_both out (was_free free))
+                        | inr low ↦ inr low
+                      ]
+                ],
+              ),
+            );
         out = all_sent (Cutting o i bound miss new) old new wall elapsed output t.ticks
             (still_cutting bound miss h far)
             (λ k low due'' named is.
@@ -316,14 +273,14 @@ module _ (f : Facts) (due : ℕ) (old new : WatchState) (wall elapsed : ℕ) (ou
             let named' = subst (λ j. list_any (λ (r : Request). r.entry == j) t.ticks.requests ≡ true) same named in
             let below = subst (λ j. j < length mid.tracks) same low in
             let goes' = newly (named_free named') (named_marked named' below) in
-            (goes'.0, (subst (λ n. is_request_whole o n ≡ false) (sym mid_clock) goes'.1.0, λ heard'. absurd cc)));
+            (subst (λ n. is_request_whole o n ≡ false) (sym mid_clock) goes'.1.0, λ pressed'. (goes'.0, λ heard'. absurd cc)));
         silent' = λ any away. absurd (not_both any (ap (list_any is_silent) no_answers));
       }
 
   -- what has to be done of an entry that is not out: its try may go later, or all lanes are taken, or its time is ahead
   abbrev Tended : Type 0
   Tended =
-      ((u : Try) × ((attempt_at new i ≡ Some u) × ((at < ready new.presence (track_at new i) u) × (wait new ≤ ready new.presence (track_at new i) u))))
+      ((u : Try) × ((attempt_at new i ≡ Some u) × ((u.pressed ≡ true) × ((at < ready new.presence (track_at new i) u) × (wait new ≤ ready new.presence (track_at new i) u)))))
       ⊎ ((f.width ≤ length new.out) ⊎ ((at < ms f.time) × (wait new ≤ ms f.time)))
 
   tend : (track_at new i).out ≡ false → Tended
@@ -337,21 +294,21 @@ module _ (f : Facts) (due : ℕ) (old new : WatchState) (wall elapsed : ℕ) (ou
       let there : i < length ready'.forest.entries = subst (λ (x : WatchState). i < length x.forest.entries) is below in
       let free' : (track_at end i).out ≡ false = subst (λ (x : WatchState). (track_at x i).out ≡ false) is free in
       let time : time_of new i ≡ f.time = same_time i old new t.same ∙ t.going.time in
-      subst (λ (x : WatchState). ((u : Try) × ((attempt_at x i ≡ Some u) × ((x.clocks.at < ready x.presence (track_at x i) u) × (wait x ≤ ready x.presence (track_at x i) u))))
+      subst (λ (x : WatchState). ((u : Try) × ((attempt_at x i ≡ Some u) × ((u.pressed ≡ true) × ((x.clocks.at < ready x.presence (track_at x i) u) × (wait x ≤ ready x.presence (track_at x i) u)))))
       ⊎ ((f.width ≤ length x.out) ⊎ ((x.clocks.at < ms f.time) × (wait x ≤ ms f.time)))) (sym is)
       (elim (end_minded ready' t.ticks.round t.ticks.requests i t.ticks.going there (subst (λ (x : WatchState). is_wanted x i ≡ true) is t.wanted))
-      as (λ _. ((u : Try) × ((attempt_at end i ≡ Some u) × ((end.clocks.at < ready end.presence (track_at end i) u) × (wait end ≤ ready end.presence (track_at end i) u))))
+      as (λ _. ((u : Try) × ((attempt_at end i ≡ Some u) × ((u.pressed ≡ true) × ((end.clocks.at < ready end.presence (track_at end i) u) × (wait end ≤ ready end.presence (track_at end i) u)))))
       ⊎ ((f.width ≤ length end.out) ⊎ ((end.clocks.at < ms f.time) × (wait end ≤ ms f.time)))) [
         | inl out ↦ absurd (not_both out free')
         | inr minded ↦
-            elim minded as (λ _. ((u : Try) × ((attempt_at end i ≡ Some u) × ((end.clocks.at < ready end.presence (track_at end i) u) × (wait end ≤ ready end.presence (track_at end i) u))))
+            elim minded as (λ _. ((u : Try) × ((attempt_at end i ≡ Some u) × ((u.pressed ≡ true) × ((end.clocks.at < ready end.presence (track_at end i) u) × (wait end ≤ ready end.presence (track_at end i) u)))))
             ⊎ ((f.width ≤ length end.out) ⊎ ((end.clocks.at < ms f.time) × (wait end ≤ ms f.time)))) [
               | inl pressed' ↦
                   let u = pressed'.has.attempt in
                   elim (tended ready' t.ticks.round t.ticks.requests i u t.ticks.going there free' pressed'.has.attempt_is)
-                  as (λ _. ((u : Try) × ((attempt_at end i ≡ Some u) × ((end.clocks.at < ready end.presence (track_at end i) u) × (wait end ≤ ready end.presence (track_at end i) u))))
+                  as (λ _. ((u : Try) × ((attempt_at end i ≡ Some u) × ((u.pressed ≡ true) × ((end.clocks.at < ready end.presence (track_at end i) u) × (wait end ≤ ready end.presence (track_at end i) u)))))
                   ⊎ ((f.width ≤ length end.out) ⊎ ((end.clocks.at < ms f.time) × (wait end ≤ ms f.time)))) [
-                    | inl later ↦ inl (u, (pressed'.has.attempt_is, later))
+                    | inl later ↦ inl (u, (pressed'.has.attempt_is, (pressed'.pressed, later)))
                     | inr full ↦ (let w = ap (λ (x : WatchState). x.width) (sym is) ∙ t.base.fits.0 in inr (inl (omega (arith, full, w))))
                   ]
               | inr ahead ↦
@@ -361,18 +318,17 @@ module _ (f : Facts) (due : ℕ) (old new : WatchState) (wall elapsed : ℕ) (ou
       ])
 
   -- its try may go by the bound, or now
-  ready_by : (bound : ℕ) (miss : Type 0) (u : Try) → ms f.time ≤ bound → Steady f.end at bound (Spares bound miss) (track_at mid i) → (track_at new i).out ≡ false → attempt_at new i ≡ Some u →
+  ready_by : (bound : ℕ) (miss : Type 0) (u : Try) → Steady at bound (Spares bound miss) (track_at mid i) → (track_at new i).out ≡ false → attempt_at new i ≡ Some u → u.pressed ≡ true →
       ready new.presence (track_at new i) u ≤ max at bound
-  ready_by bound miss u reach s free is =
-      let k = s.tries u (sym attempt_kept ∙ is) in
+  ready_by bound miss u s free is pressed' =
+      let k = s.tries u (sym attempt_kept ∙ is) pressed' in
       let soon' = k.soon in
-      let spare = spared in
       elim k.first as (λ _. ready new.presence (track_at new i) u ≤ max at bound) [
-        | inl first ↦ ready_first new.presence (track_at new i) u (max at bound) first (omega (arith, spare, reach)) soon'
+        | inl first ↦ ready_first new.presence (track_at new i) u (max at bound) first soon'
         | inr held' ↦
             elim held' as (λ _. ready new.presence (track_at new i) u ≤ max at bound) [
               | inl out ↦ absurd (not_both out (was_free free))
-              | inr both ↦ (let low = both.1 in ready_later new.presence (track_at new i) u (max at bound) (omega (arith, spare, reach)) (omega (arith, low)) soon')
+              | inr both ↦ (let low = both.1 in ready_later new.presence (track_at new i) u (max at bound) (omega (arith, low)) soon')
             ]
       ]
 
@@ -383,13 +339,13 @@ module _ (f : Facts) (due : ℕ) (old new : WatchState) (wall elapsed : ℕ) (ou
   waits_by : (n : ℕ) → wait new ≤ n → due' ≤ n + o.late
   waits_by n le = let start = least_start (wait new + o.late) (map (λ (q : Out). outage_settled_by o q.since + o.late) new.out) in omega (arith, start, le)
 
-  heeds : (bound : ℕ) (miss : Type 0) → ms f.time ≤ bound → Steady f.end at bound (Spares bound miss) (track_at mid i) → (track_at new i).out ≡ false → Heeds bound
+  heeds : (bound : ℕ) (miss : Type 0) → ms f.time ≤ bound → Steady at bound (Spares bound miss) (track_at mid i) → (track_at new i).out ≡ false → Heeds bound
   heeds bound miss reach s free =
       elim (tend free) as (λ _. Heeds bound) [
         | inl later ↦
-            let r = ready_by bound miss later.0 reach s free later.1.0 in
-            let ahead = later.1.1.0 in
-            let until = later.1.1.1 in
+            let r = ready_by bound miss later.0 s free later.1.0 later.1.1.0 in
+            let ahead = later.1.1.1.0 in
+            let until = later.1.1.1.1 in
             inl (waits_by bound (omega (arith, r, ahead, until)))
         | inr rest ↦
             elim rest as (λ _. Heeds bound) [
@@ -399,12 +355,12 @@ module _ (f : Facts) (due : ℕ) (old new : WatchState) (wall elapsed : ℕ) (ou
       ]
 
   -- and where its time has come before any failure, all lanes are taken
-  full_now : ms f.time ≤ at → Steady f.end at (ms f.time) (Spares (ms f.time) ⊥) (track_at mid i) → (track_at new i).out ≡ false → f.width ≤ length new.out
+  full_now : ms f.time ≤ at → Steady at (ms f.time) (Spares (ms f.time) ⊥) (track_at mid i) → (track_at new i).out ≡ false → f.width ≤ length new.out
   full_now come s free =
       elim (tend free) as (λ _. f.width ≤ length new.out) [
         | inl later ↦
-            let r = ready_by (ms f.time) ⊥ later.0 (omega arith) s free later.1.0 in
-            let ahead = later.1.1.0 in
+            let r = ready_by (ms f.time) ⊥ later.0 s free later.1.0 later.1.1.0 in
+            let ahead = later.1.1.1.0 in
             absurd (omega (arith, r, ahead, come))
         | inr rest ↦
             elim rest as (λ _. f.width ≤ length new.out) [
@@ -674,7 +630,7 @@ module _ (f : Facts) (due : ℕ) (old new : WatchState) (wall elapsed : ℕ) (ou
       let due'' = h.next in
       let by' : next ≤ free_from f + o.late =
       elim (cases_Bool (track_at new f.i).out) as (λ _. next ≤ free_from f + o.late) [
-        | inl out ↦ (let c = cut_before early (any_lane (is_of f.i any_time) new.out (lasts.lane out)) in omega (arith, c, far))
+        | inl out ↦ (let c = cut_before early (any_lane (is_of f.i any_time) new.out (t.base.marked f.i out)) in omega (arith, c, far))
         | inr free ↦
             let s = steady f due old new wall elapsed output t (free_from f) Unit more (λ u. far) in
             elim (heeds f due old new wall elapsed output t (free_from f) Unit reach s free) as (λ _. next ≤ free_from f + o.late) [
@@ -762,25 +718,6 @@ module _ (f : Facts) (due : ℕ) (old new : WatchState) (wall elapsed : ℕ) (ou
   all_late : list_any (λ (q : Out). nat_lt q.since f.o.until) new.out ≡ false → All (λ (q : Out). f.o.until ≤ q.since) new.out
   all_late none' = All-weaker (λ (q : Out). nat_lt q.since f.o.until ≡ false) (λ (q : Out). f.o.until ≤ q.since) (λ q no'. grind (arith, nat_tests)) new.out (none_passes (λ (q : Out). nat_lt q.since f.o.until) new.out none')
 
-  -- who is not served is not out where all are whole
-  not_out : Endures f.o f.i f.end (free_from f) next Unit new → is_request_served f.o new f.i ≡ false → All (λ (q : Out). is_request_whole f.o q.since ≡ true) new.out → (track_at new f.i).out ≡ false
-  not_out lasts unserved whole =
-      elim (cases_Bool (track_at new f.i).out) as (λ _. (track_at new f.i).out ≡ false) [
-        | inl out ↦ absurd (not_both (lane_served new.out (lasts.lane out) whole) unserved)
-        | inr free ↦ free
-      ] where
-        lane_served : (out : List Out) → list_any (is_of f.i any_time) out ≡ true → All (λ (q : Out). is_request_whole f.o q.since ≡ true) out → list_any (λ (q : Out). q.entry == f.i && is_request_whole f.o q.since) out ≡ true
-        lane_served [] any all = absurd cc
-        lane_served (q ∷ out) any all =
-            elim (cases_Bool (q.entry == f.i)) as (λ _. (q.entry == f.i && is_request_whole f.o q.since) || list_any (λ (r : Out). r.entry == f.i && is_request_whole f.o r.since) out ≡ true) [
-              | inl here ↦
-                  let w = All-head (λ (r : Out). is_request_whole f.o r.since ≡ true) q out all in
-                  ap (λ b. b || list_any (λ (r : Out). r.entry == f.i && is_request_whole f.o r.since) out) (and_from (q.entry == f.i) (is_request_whole f.o q.since) here w)
-              | inr there ↦
-                  ap (λ b. (b && is_request_whole f.o q.since) || list_any (λ (r : Out). r.entry == f.i && is_request_whole f.o r.since) out) there
-                  ∙ lane_served out (sym (ap (λ b. (b && true) || list_any (is_of f.i any_time) out) there) ∙ any) (All-tail (λ (r : Out). is_request_whole f.o r.since ≡ true) q out all)
-            ]
-
   pub cut_ticks : IsCut f due before old → IsThrough f next now new
   cut_ticks h =
       let at = new.clocks.at in
@@ -817,7 +754,7 @@ module _ (f : Facts) (due : ℕ) (old new : WatchState) (wall elapsed : ℕ) (ou
               | inr none' ↦
                   let back = all_late none' in
                   let whole = All-weaker (λ (q : Out). o.until ≤ q.since) (λ (q : Out). is_request_whole o q.since ≡ true) (λ q le. whole_after o q.since le) new.out back in
-                  let free = not_out lasts unserved whole in
+                  let free = not_out o f.i new t.base.marked unserved whole in
                   let s = steady f due old new wall elapsed output t (free_from f) Unit h.endures (λ u. far) in
                   elim (heeds f due old new wall elapsed output t (free_from f) Unit reach s free) as (λ _. IsThrough f next now new) [
                     | inl by' ↦ inl (inr (still_cut h.r (omega (arith, less, count)) h.fewer h.room lasts unserved by'))
@@ -872,7 +809,7 @@ module _ (f : Facts) (due : ℕ) (old new : WatchState) (wall elapsed : ℕ) (ou
         | inr unserved ↦
             let lasts = endures f due old new wall elapsed output t (free_from f) Unit h.endures (λ u. far)
             (λ was out. absurd (not_both (goes_out_now old new wall elapsed output f.i (is_request_whole o) t.ticks was out (subst (λ n. is_request_whole o n ≡ true) (sym mc) is_back)) unserved)) in
-            let free = not_out lasts unserved whole in
+            let free = not_out o f.i new t.base.marked unserved whole in
             let s = steady f due old new wall elapsed output t (free_from f) Unit h.endures (λ u. far) in
             elim (heeds f due old new wall elapsed output t (free_from f) Unit reach s free) as (λ _. IsThrough f next now new) [
               | inl by' ↦
@@ -941,22 +878,6 @@ module _ (f : Facts) (due : ℕ) (old new : WatchState) (wall elapsed : ℕ) (ou
         last_by = h.last_by;
       })))
 
-  -- and what holds whatever the stage
-  pub clock_goes : IsThrough f due before old → IsGoing f next new
-  clock_goes (inl (inl h)) =
-      goes_on f due old new wall elapsed output t (λ named u is. ((steady f due old new wall elapsed output t (ms f.time) ⊥ h.endures (λ bad. absurd bad)).tries u is).renews)
-  clock_goes (inl (inr h)) =
-      let far : again f.end (cut f.o) ≤ free_from f = omega arith in
-      goes_on f due old new wall elapsed output t (λ named u is. ((steady f due old new wall elapsed output t (free_from f) Unit h.endures (λ v. far)).tries u is).renews)
-  clock_goes (inr (inl h)) =
-      let far : again f.end (cut f.o) ≤ free_from f = omega arith in
-      goes_on f due old new wall elapsed output t (λ named u is. ((steady f due old new wall elapsed output t (free_from f) Unit h.endures (λ v. far)).tries u is).renews)
-  clock_goes (inr (inr (inl h))) =
-      goes_on f due old new wall elapsed output t
-      (λ named u is. absurd (not_both (served_marked f.o old f.i t.going.base.alone h.served) (named_free f due old new wall elapsed output t named)))
-  clock_goes (inr (inr (inr h))) =
-      goes_on f due old new wall elapsed output t (λ named u is. ((steady f due old new wall elapsed output t (ms f.time) ⊥ h.endures (λ bad. absurd bad)).tries u is).renews)
-
   -- where the outage was over first
   late_ticks : IsLate f due before old → IsThrough f next now new
   late_ticks h =
@@ -973,30 +894,22 @@ module _ (f : Facts) (due : ℕ) (old new : WatchState) (wall elapsed : ℕ) (ou
       let less = fewer (suc h.from) in
       let count = h.count in
       let holds = late_holds f t.planned h.soon in
-      let unserved : is_request_served o old f.i ≡ false =
-      elim (cases_Bool (is_request_served o old f.i)) as (λ _. is_request_served o old f.i ≡ false) [
-        | inl served ↦ absurd (not_both (served_marked o old f.i t.going.base.alone served) h.idle)
-        | inr no' ↦ no'
-      ] in
       elim (cases_Bool (is_request_served o new f.i)) as (λ _. IsThrough f next now new) [
-        | inl served ↦ inr (inr (inl (serves unserved served (omega (arith, in', due'', holds)) (omega (arith, in', due'')))))
+        | inl served ↦ inr (inr (inl (serves h.unserved served (omega (arith, in', due'', holds)) (omega (arith, in', due'')))))
         | inr not_served ↦
-            let free : (track_at new f.i).out ≡ false =
-            elim (cases_Bool (track_at new f.i).out) as (λ _. (track_at new f.i).out ≡ false) [
-              | inl out ↦ absurd (not_both (goes_out_now old new wall elapsed output f.i (is_request_whole o) t.ticks h.idle out (subst (λ n. is_request_whole o n ≡ true) (sym mc) is_back)) not_served)
-              | inr no' ↦ no'
-            ] in
-            let lasts = endures f due old new wall elapsed output t (ms f.time) ⊥ h.endures (λ bad. absurd bad) (λ was out. absurd (not_both out free)) in
+            let lasts = endures f due old new wall elapsed output t (ms f.time) ⊥ h.endures (λ bad. absurd bad)
+            (λ was out. absurd (not_both (goes_out_now old new wall elapsed output f.i (is_request_whole o) t.ticks was out (subst (λ n. is_request_whole o n ≡ true) (sym mc) is_back)) not_served)) in
             elim (cases_Bool (list_any (λ (q : Out). not (is_request_whole o q.since)) new.out)) as (λ _. IsThrough f next now new) [
               | inl some' ↦
                   let by' : next ≤ cut o =
                   settles f due old new wall elapsed output t (λ q. not (is_request_whole o q.since)) (cut o) some'
                   (λ k d below yes'. cut_off o (get_or new.out k d).since (not_so (is_request_whole o (get_or new.out k d).since) yes')) in
-                  inr (inr (inr (record { endures = lasts; idle = free; over = here; soon = h.soon; from = h.from; count = omega (arith, less, count); next = by' })))
+                  inr (inr (inr (record { endures = lasts; unserved = not_served; over = here; soon = h.soon; from = h.from; count = omega (arith, less, count); next = by' })))
               | inr none' ↦
                   let whole : All (λ (q : Out). is_request_whole o q.since ≡ true) new.out =
                   All-weaker (λ (q : Out). not (is_request_whole o q.since) ≡ false) (λ (q : Out). is_request_whole o q.since ≡ true) (λ q e. so_whole (is_request_whole o q.since) e) new.out
                   (none_passes (λ (q : Out). not (is_request_whole o q.since)) new.out none') in
+                  let free = not_out o f.i new t.base.marked not_served whole in
                   let s = steady f due old new wall elapsed output t (ms f.time) ⊥ h.endures (λ bad. absurd bad) in
                   let zero' = anew_none o (suc at) f.n new t.base.since (omega arith) in
                   let soon : next ≤ late_base f + turn_of o =

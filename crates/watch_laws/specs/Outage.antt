@@ -1,6 +1,6 @@
 -- Outage: how long the broker may be away. Each law is the contract of a public function without a body.
 -- Source: this project's own.
-use Rattle.std.specs.Prelude.{◌≡◌, ◌==◌, ℕ, zero, suc, ◌+◌, ◌-◌, ◌*◌, ◌/◌, ◌<◌, ◌≤◌, Bool, true, false, not, ◌&&◌, ◌||◌, if◌then◌else◌, List, [], ◌∷◌, ◌++◌, Option, Some, None, Result, Ok, Err, IfSome, is_some, length, map, max, nat_le}
+use Rattle.std.specs.Prelude.{◌≡◌, ◌≢◌, ◌==◌, ℕ, zero, suc, ◌+◌, ◌-◌, ◌*◌, ◌/◌, ◌<◌, ◌≤◌, Bool, true, false, not, ◌&&◌, ◌||◌, if◌then◌else◌, List, [], ◌∷◌, ◌++◌, Option, Some, None, Result, Ok, Err, IfSome, is_some, length, map, max, nat_le}
 use Rattle.std.specs.List.{list_any}
 use Rattle.keep_tree.specs.Forest.{Forest}
 use Rattle.watch_machine.specs.declared.command.Command.{Command}
@@ -13,6 +13,7 @@ use Rattle.watch_machine.specs.declared.event.Reply.{Reply}
 use Rattle.watch_machine.specs.declared.event.Reply.TheVariants.{Told, Refused, Busy, Lost}
 use Rattle.watch_machine.specs.declared.fault.WatchFault.{WatchFault}
 use Rattle.watch_machine.specs.declared.lanes.Out.{Out}
+use Rattle.watch_machine.specs.Beginning.{is_pressed}
 use Rattle.watch_machine.specs.Clocks.{ms}
 use Rattle.watch_machine.specs.History.{IsWatchRun, Turned}
 use Rattle.watch_machine.specs.Lines.{rested}
@@ -21,7 +22,6 @@ use Rattle.watch_machine.specs.Outlook.{time_of}
 use Rattle.watch_machine.specs.Refusal.{request_out}
 use Rattle.watch_machine.specs.Settling.{timed}
 use Rattle.watch_machine.specs.State.{WatchState, attempt_at, entry_of, second, track_at}
-use Rattle.watch_machine.specs.Step.{why}
 use Rattle.watch_machine.specs.Wanted.{believed, is_wanted, least}
 use Rattle.watch_laws.specs.Absence.{is_clock, is_event_taken}
 
@@ -63,15 +63,15 @@ IsReplyInOutage o (Refused status date) q = Unit {0}
 IsReplyInOutage o Busy q = Unit {0}
 IsReplyInOutage o Lost q = is_request_whole o q.since ≡ false
 
--- what happens until i is granted: a clock in time, at which nothing begins anew; replies, of which those to renewals of i are lost; and
--- needs
+-- what happens until a request of i is answered: a clock in time, with or without a beginning; replies, of which those to i are lost; needs;
+-- beginnings that are asked for; and ends of others, as an earlier watch told them
 abbrev pub IsIncident : Outage → ℕ → ℕ → WatchState → Event → Type 0
-IsIncident o i due s (Clock wall elapsed) = ((timed s wall elapsed).clocks.at ≤ due) × (why s wall elapsed ≡ None)
-IsIncident o i due s (Looked j reply terms) = IfSome (request_out s.out j Look) (IsReplyInOutage o reply)
+IsIncident o i due s (Clock wall elapsed) = (timed s wall elapsed).clocks.at ≤ due
+IsIncident o i due s (Looked j reply terms) = IfSome (request_out s.out j Look) (IsReplyInOutage o reply) × (j ≡ i → reply ≡ Lost)
 IsIncident o i due s (Renewed j reply) = IfSome (request_out s.out j Renew) (IsReplyInOutage o reply) × (j ≡ i → reply ≡ Lost)
 IsIncident o i due s (Need j until) = Unit {0}
-IsIncident o i due s Begin = ⊥
-IsIncident o i due s (Known j end renewable) = ⊥
+IsIncident o i due s Begin = Unit {0}
+IsIncident o i due s (Known j end renewable) = j ≢ i
 
 abbrev pub IsLived : Outage → ℕ → ℕ → WatchState → Event → Result Output WatchFault → Type 0
 IsLived o i due s event (Ok output) = IsIncident o i due s event
@@ -136,16 +136,17 @@ granted_by o time end = max (ms time) (again end (o.until + o.slow + o.late)) + 
 abbrev pub IsShortOutage : Outage → ℕ → Type 0
 IsShortOutage o margin = (o.until - o.from) + o.slow + 2 * (o.quick + o.late) + sweep o + breath o ≤ ms margin
 
--- a state in which the time of i is ahead: i is wanted, in the plan, and not asked, and may be asked when its time comes
+-- a state in which the time of i is ahead: i is wanted, in the plan, and not pressed, and may be asked when its time comes. A lookup of it may
+-- be owed, and out
 pub record IsBefore (s : WatchState) (i : ℕ) : Type 0 where
   pub within : i < length s.forest.entries
   pub wanted : is_wanted s i ≡ true
   pub in_plan : is_in_plan s.forest.margin (entry_of s i) (track_at s i) ≡ true
-  pub idle : attempt_at s i ≡ None
+  pub loose : is_pressed (track_at s i) ≡ false
   pub ahead : second s < time_of s i
   pub rested : rested (track_at s i).last ≤ ms (time_of s i)
 
--- the clock at which the last request of i went out, the one that was granted
+-- the clock at which the last request of i went out, the one that told its end
 abbrev pub clock_asked_at : Option ℕ → ℕ
 clock_asked_at None = 0
 clock_asked_at (Some at) = at
@@ -153,12 +154,24 @@ clock_asked_at (Some at) = at
 abbrev pub granted_at : WatchState → ℕ → ℕ
 granted_at s i = clock_asked_at (track_at s i).last
 
--- a renewal of i is granted, and its time is ahead after it
+-- a reply tells the end of i: to a renewal that is granted, or to a lookup
+abbrev pub is_told : Reply → Bool
+is_told (Told seconds renewable date) = true
+is_told (Refused status date) = false
+is_told Busy = false
+is_told Lost = false
+
+abbrev pub tells : ℕ → Event → Bool
+tells i (Clock wall elapsed) = false
+tells i (Looked j reply terms) = j == i && is_told reply
+tells i (Renewed j reply) = j == i && is_told reply
+tells i (Need j until) = false
+tells i Begin = false
+tells i (Known j end renewable) = false
+
+-- so it does, and the time of i is ahead after it
 pub record IsGrant (turn : Turned) (i : ℕ) : Type 0 where
-  pub seconds : ℕ
-  pub renewable : Bool
-  pub date : Option ℕ
-  pub told : turn.event ≡ Renewed i (Told seconds renewable date)
+  pub told : tells i turn.event ≡ true
   pub taken : is_event_taken turn.result ≡ true
   pub before : IsBefore turn.state i
 
@@ -174,8 +187,8 @@ abbrev pub AllInTime : Outage → ℕ → List Turned → Type 0
 AllInTime o i [] = Unit {0}
 AllInTime o i (turn ∷ turns) = EndIsInTime o i turn.state × AllInTime o i turns
 
--- whatever was before: from a clock on at which the time of an entry is ahead that is wanted and in the plan, until it is granted, its end
--- is ahead, through any outage that the margin outlasts
+-- whatever was before: from a clock on at which the time of an entry is ahead that is wanted and in the plan, until it is granted or looked
+-- up, its end is ahead, through any outage that the margin outlasts
 abbrev pub OutageLaw : Type 0
 OutageLaw =
     (o : Outage) (g : Forest) (width : ℕ) (before : List Turned) (last : Turned) (turns : List Turned) (i : ℕ) → 0 < width →
@@ -184,7 +197,7 @@ OutageLaw =
     waiting o (length g.entries) last.state + coming o (length g.entries) last.state turns ≤ width * o.rounds → o.from ≤ o.until → IsShortOutage o g.margin →
     AllInTime o i turns
 
--- and so it is from a grant of the entry on, until the next one. So outages of which no two lie between the same two grants count each
+-- and so it is from a grant or a lookup of the entry on, until the next one. So outages of which no two lie between the same two count each
 -- by itself
 abbrev pub GrantLaw : Type 0
 GrantLaw =

@@ -1,15 +1,16 @@
 ghost use Rattle.watch_laws.specs.Outage.{GrantLaw, OutageLaw};
 
-/// The law of outages: from a clock on at which the time of an entry is ahead that is wanted and in the plan, and until it is granted,
-/// its end is ahead, through any outage that the margin outlasts: it is no longer than the margin less the request that its end cuts,
-/// two requests more, all the rounds of the lanes that hold those that wait meanwhile, and one pause. The entry is granted no later
-/// than all those rounds take, after its time or after the first pause after the outage, whichever is later.
+/// The law of outages: from a clock on at which the time of an entry is ahead that is wanted and in the plan, and until it is granted or
+/// looked up, its end is ahead, through any outage that the margin outlasts: it is no longer than the margin less the request that its
+/// end cuts, two requests more, all the rounds of the lanes that hold those that wait meanwhile, and one pause. A lookup of it may be
+/// owed, and everything may begin anew meanwhile. The entry is answered no later than all those rounds take, after its time or after the
+/// first pause after the outage, whichever is later.
 pub fn outage_law()
     ensures { OutageLaw }
 {}
 
-/// The law of several outages: the law of outages holds from each grant of an entry on until the next one, if its time is ahead after
-/// it. So outages of which no two lie between the same two grants count each by itself.
+/// The law of several outages: the law of outages holds from each grant and each lookup of an entry on until the next one, if its time
+/// is ahead after it. So outages of which no two lie between the same two count each by itself.
 pub fn grant_law()
     ensures { GrantLaw }
 {}
