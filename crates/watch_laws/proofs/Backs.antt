@@ -1,6 +1,6 @@
 -- Backs: what a reply makes of the entries that it is not for. For the law of the broker's return.
-use Rattle.std.proofs.Common.{◌≡◌, ◌≢◌, ◌∙◌, ℕ, Bool, true, false, ◌&&◌, ◌==◌, if◌then◌else◌, List, [], ◌∷◌, Option, Some, None, Result, Ok, Err, min, refl, sym, ap, subst, true≢false}
-use Rattle.std.proofs.lemmas.Bool.{and_parts, cond-false, cond-true, eqb-true}
+use Rattle.std.proofs.Common.{◌≡◌, ◌≢◌, ◌∙◌, ℕ, Bool, true, false, ◌&&◌, if◌then◌else◌, Option, Some, None, Result, Ok, Err, refl, sym, ap, subst, true≢false}
+use Rattle.std.proofs.lemmas.Bool.{cond-false, cond-true, eqb-true}
 use Rattle.std.proofs.lemmas.List.{get_or-set_other}
 use Rattle.watch_machine.specs.declared.command.Output.{Output}
 use Rattle.watch_machine.specs.declared.event.Event.{Event}
@@ -14,21 +14,20 @@ use Rattle.watch_machine.specs.declared.lanes.Out.{Out}
 use Rattle.watch_machine.specs.declared.lanes.Presence.{Presence}
 use Rattle.watch_machine.specs.declared.track.Track.{Track}
 use Rattle.watch_machine.specs.declared.track.Try.{Try}
-use Rattle.watch_machine.specs.Answers.{answers_all, back_track, back_try, due_again, heard, is_back, lane_freed, noted, replied, silent}
-use Rattle.watch_machine.specs.History.{Turn, Turned}
+use Rattle.watch_machine.specs.Answers.{answers_all, back_track, back_try, due_again, lane_freed, noted, replied, silent}
+use Rattle.watch_machine.specs.History.{Turn}
 use Rattle.watch_machine.specs.Lines.{rested}
 use Rattle.watch_machine.specs.Looked.{looked, told_state}
 use Rattle.watch_machine.specs.Refusal.{request_out}
 use Rattle.watch_machine.specs.Renewed.{state_renewed}
 use Rattle.watch_machine.specs.State.{WatchState, attempt_at, each, no_track, track_at, track_in}
-use Rattle.watch_machine.specs.Step.{Step, StepLooked, StepRenewed}
+use Rattle.watch_machine.specs.Step.{StepLooked, StepRenewed}
 use Rattle.watch_machine.proofs.Cases.{if_both, if_cases}
 use Rattle.watch_machine.proofs.Seeing.{each_read}
 use Rattle.watch_machine.proofs.Within.{out_entry}
 use Rattle.watch_laws.specs.Absence.{is_event_taken}
-use Rattle.watch_laws.specs.Backs.{BackLaw, due_after_absence, is_reply_to, replies_to}
+use Rattle.watch_laws.specs.Backs.{BackLaw, due_after_absence, replies_to}
 use Rattle.watch_laws.specs.Presence.{answers, is_answered}
-use Rattle.watch_laws.specs.Presses.{asked_again_at}
 use Rattle.watch_laws.proofs.Holding.{looked_presence}
 use Rattle.watch_laws.proofs.Minding.{some_within}
 use Rattle.watch_laws.proofs.Presses.{again_is}

@@ -1,5 +1,5 @@
 -- Holds: how long a clock holds tries back. For the law of the hold.
-use Rattle.std.proofs.Common.{◌≡◌, ◌⊎◌, ◌∙◌, ℕ, zero, suc, ◌+◌, ◌<◌, ◌≤◌, Bool, true, false, ◌&&◌, ◌||◌, if◌then◌else◌, List, [], ◌∷◌, Option, Some, None, Result, Ok, Err, length, map, min, nat_le, refl, sym, ap, subst, arith, inl, inr, true≢false}
+use Rattle.std.proofs.Common.{◌≡◌, ◌⊎◌, ◌∙◌, ℕ, suc, ◌+◌, ◌<◌, ◌≤◌, Bool, true, false, ◌&&◌, if◌then◌else◌, List, [], ◌∷◌, Option, Some, None, Result, Ok, Err, length, map, min, nat_le, refl, sym, ap, subst, arith, inl, inr, true≢false}
 use Rattle.std.proofs.lemmas.Bool.{and_from, cond-false, cond-true}
 use Rattle.std.proofs.lemmas.Bool.Decides.{nat_tests}
 use Rattle.std.specs.List.{list_any}
@@ -8,7 +8,6 @@ use Rattle.watch_machine.specs.declared.event.Event.{Event}
 use Rattle.watch_machine.specs.declared.event.Event.TheVariants.{Clock, Looked, Renewed, Need, Begin, Known}
 use Rattle.watch_machine.specs.declared.event.Operation.TheVariants.{Look, Renew}
 use Rattle.watch_machine.specs.declared.event.Reply.{Reply}
-use Rattle.watch_machine.specs.declared.event.Reply.TheVariants.{Told, Refused, Busy, Lost}
 use Rattle.watch_machine.specs.declared.event.Terms.{Terms}
 use Rattle.watch_machine.specs.declared.fault.WatchFault.{WatchFault}
 use Rattle.watch_machine.specs.declared.lanes.Answer.{Answer}
@@ -31,7 +30,7 @@ use Rattle.watch_machine.specs.Wanted.{least}
 use Rattle.watch_machine.proofs.Cases.{if_both, if_cases, not_both}
 use Rattle.watch_machine.proofs.Leasts.{least_start}
 use Rattle.watch_laws.specs.Absence.{is_clock, is_event_taken}
-use Rattle.watch_laws.specs.Holds.{HoldEnds, HoldLaw, HoldStays, HoldsAnew, HoldsOn, IsHold, NonePausesLess}
+use Rattle.watch_laws.specs.Holds.{HoldEnds, HoldLaw, HoldStays, HoldsAnew, HoldsOn, IsHold}
 use Rattle.watch_laws.proofs.Clocking.{readied_clocks, refused_stays, sent_by}
 use Rattle.watch_laws.proofs.Holding.{looked_presence, ready_presence}
 use Rattle.watch_laws.proofs.Retrying.{IsPast, held_least, opened_past, turn_past}

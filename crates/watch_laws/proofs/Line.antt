@@ -1,5 +1,5 @@
 -- Line: what goes out stands in front of what may and does not. For the law of the line.
-use Rattle.std.proofs.Common.{◌≡◌, ◌≢◌, ◌⊎◌, ◌∙◌, ℕ, ◌+◌, ◌<◌, Bool, true, false, not, ◌&&◌, ◌||◌, ◌==◌, if◌then◌else◌, List, [], ◌∷◌, Option, Some, None, All, Result, Ok, Err, get_or, is_some, max, min, nat_lt, refl, sym, ap, subst, arith, inl, inr}
+use Rattle.std.proofs.Common.{◌≡◌, ◌≢◌, ◌⊎◌, ◌∙◌, ℕ, ◌+◌, ◌<◌, Bool, true, false, not, ◌&&◌, ◌||◌, ◌==◌, if◌then◌else◌, List, Option, Some, None, All, Result, Ok, Err, get_or, is_some, max, min, nat_lt, refl, sym, ap, subst, arith, inl, inr}
 use Rattle.std.proofs.lemmas.Bool.{cases_lt}
 use Rattle.std.proofs.lemmas.Bool.Decides.{nat_tests}
 use Rattle.std.proofs.lemmas.List.Elements.{All-map, All-nil}
@@ -20,13 +20,13 @@ use Rattle.watch_machine.specs.declared.track.End.{End}
 use Rattle.watch_machine.specs.declared.track.Track.{Track}
 use Rattle.watch_machine.specs.declared.track.Try.{Try}
 use Rattle.watch_machine.specs.Clocks.{sec}
-use Rattle.watch_machine.specs.History.{Turn, Turned}
+use Rattle.watch_machine.specs.History.{Turn}
 use Rattle.watch_machine.specs.Lines.{asked_rank, is_first, part, rank, ready}
 use Rattle.watch_machine.specs.Margins.{has_come}
 use Rattle.watch_machine.specs.Press.{asked_track, press, pressed, pressed_alone, pressed_track, track_asked_in}
 use Rattle.watch_machine.specs.Refusal.{request_out}
-use Rattle.watch_machine.specs.Sending.{is_before, place, place_of, sent}
-use Rattle.watch_machine.specs.State.{WatchState, attempt_at, second, track_at, track_in}
+use Rattle.watch_machine.specs.Sending.{is_before, place_of, sent}
+use Rattle.watch_machine.specs.State.{WatchState, attempt_at, second, track_at}
 use Rattle.watch_machine.specs.Step.{Step, StepLooked, StepRenewed, readied}
 use Rattle.watch_machine.specs.Wanted.{believed, is_alive, need_of}
 use Rattle.watch_machine.proofs.Cases.{if_both}
@@ -38,7 +38,7 @@ use Rattle.watch_laws.proofs.Fronts.{sent_stays}
 use Rattle.watch_laws.proofs.Going.{entry_by, request_at}
 use Rattle.watch_laws.proofs.Lanes.{Ticks, ticks}
 use Rattle.watch_laws.proofs.Owed.{due_some}
-use Rattle.watch_laws.proofs.Presses.{Keeps, again_is, pressed_last, readied_keeps}
+use Rattle.watch_laws.proofs.Presses.{again_is, pressed_last, readied_keeps}
 use Rattle.watch_laws.proofs.Tracking.{each_kept}
 
 -- what is not behind another one is in front of it
