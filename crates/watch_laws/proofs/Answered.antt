@@ -92,8 +92,7 @@ module _ (f : Facts) (due : ℕ) (old mid new : WatchState) (q : Out) (reply : R
       record {
         base = t.base;
         entries = t.same.count ∙ t.going.entries;
-        time = same_time f.i old new t.same ∙ t.going.time;
-        margin = t.same.margin ∙ t.going.margin;
+        time = let e = same_time f.i old new t.same in let h = t.going.time in omega (arith, e, h);
         end_is = t.same.ends.0 ∙ t.going.end_is;
         timely = kept_all (λ (r : Out). due ≤ outage_settled_by f.o r.since + f.o.late) (λ r h. h) t.going.timely;
         ahead = omega (arith, clock, ahead);

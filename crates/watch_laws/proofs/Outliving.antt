@@ -1,5 +1,5 @@
 -- Outliving: an entry outlives every outage that its margin does. For the laws of outages.
-use Rattle.std.proofs.Common.{◌≡◌, ◌⊎◌, ◌∙◌, ℕ, suc, ◌+◌, ◌*◌, ◌<◌, ◌≤◌, Bool, true, false, not, ◌&&◌, ◌||◌, ◌==◌, List, [], ◌∷◌, ◌++◌, Option, Some, None, All, IfSome, Result, Ok, Err, get_or, length, map, nat_lt, refl, sym, ap, subst, arith, inl, inr, true≢false}
+use Rattle.std.proofs.Common.{◌≡◌, ◌⊎◌, ◌∙◌, ℕ, suc, ◌+◌, ◌-◌, ◌*◌, ◌<◌, ◌≤◌, Bool, true, false, not, ◌&&◌, ◌||◌, ◌==◌, List, [], ◌∷◌, ◌++◌, Option, Some, None, All, IfSome, Result, Ok, Err, get_or, length, map, nat_lt, refl, sym, ap, subst, arith, inl, inr, true≢false}
 use Rattle.std.proofs.lemmas.Bool.{and_parts, cases_Bool, cases_lt, eqb-true}
 use Rattle.std.proofs.lemmas.List.{length-set}
 use Rattle.std.proofs.lemmas.List.Elements.{All-weaker}
@@ -31,14 +31,14 @@ use Rattle.watch_machine.specs.Refusal.{request_out}
 use Rattle.watch_machine.specs.Renewed.{state_renewed}
 use Rattle.watch_machine.specs.Sending.{sent}
 use Rattle.watch_machine.specs.Settling.{is_real, is_silent}
-use Rattle.watch_machine.specs.State.{WatchState, entry_of, opened, second, track_at, track_in}
+use Rattle.watch_machine.specs.State.{WatchState, attempt_at, entry_of, opened, second, track_at, track_in}
 use Rattle.watch_machine.specs.Step.{Step, StepLooked, StepRenewed, known, readied, with_need_until}
 use Rattle.watch_machine.specs.Wait.{wait}
-use Rattle.watch_machine.specs.Wanted.{believed, is_never, is_unknown, is_wanted, wanted_need, wants}
+use Rattle.watch_machine.specs.Wanted.{believed, is_known, is_never, is_unknown, is_wanted, wanted_need, wants}
 use Rattle.watch_machine.proofs.Cases.{not_both}
 use Rattle.watch_machine.proofs.Leasts.{least_start}
-use Rattle.watch_laws.specs.Absence.{is_event_taken}
-use Rattle.watch_laws.specs.Outage.{AllInTime, AreLived, GrantLaw, IsBefore, IsIncident, EndIsInTime, IsLived, IsReplyInOutage, IsShortOutage, Outage, OutageLaw, again, clock_asked_at, coming, comes, granted_at, granted_by, granted_next, how_many, is_request_served, is_request_whole, is_told, outage_next_after, outage_next_after_command, outage_next_by, outage_settled_by, tells, waiting}
+use Rattle.watch_laws.specs.Absence.{is_clock, is_event_taken}
+use Rattle.watch_laws.specs.Outage.{AllInTime, AreLived, GrantLaw, IsBefore, IsIncident, EndIsInTime, IsLived, IsReplyInOutage, IsShortOutage, LeftLaw, MayBeAsked, Outage, OutageLaw, again, clock_asked_at, coming, comes, granted_at, granted_by, granted_next, how_many, is_request_served, is_request_whole, is_told, outage_next_after, outage_next_after_command, outage_next_by, outage_settled_by, tells, waiting}
 use Rattle.watch_laws.proofs.Answered.{IsReplied, goes_on_after, looked_replied, renewed_replied, replied_through}
 use Rattle.watch_laws.proofs.Clocking.{refused_stays}
 use Rattle.watch_laws.proofs.Counting.{least_all}
@@ -47,12 +47,12 @@ use Rattle.watch_laws.proofs.Grounds.{IsBase, first_turns, last_turns, opened_ba
 use Rattle.watch_laws.proofs.Lanes.{Sends, Ticks, fewer_wait, is_anew, ticks, turn_sends}
 use Rattle.watch_laws.proofs.Lasting.{Same, clock_forest, known_other, same_time, turn_same}
 use Rattle.watch_laws.proofs.Marked.{not_out, only_cut, only_whole}
-use Rattle.watch_laws.proofs.Requests.{any_gives, anew_none, none_passes, quick_if}
-use Rattle.watch_laws.proofs.Retrying.{rises}
-use Rattle.watch_laws.proofs.Minding.{end_minded}
+use Rattle.watch_laws.proofs.Requests.{any_gives, anew_none, none_passes, quick_if, some_lane}
+use Rattle.watch_laws.proofs.Retrying.{ready_first, rises}
+use Rattle.watch_laws.proofs.Minding.{end_minded, tended}
 use Rattle.watch_laws.proofs.Sparing.{readied_answers}
 use Rattle.watch_laws.proofs.Stages.{Facts, IsGoing, IsPlanned, IsServed, IsThrough, due_ahead, free_from, margin_holds, turn_of}
-use Rattle.watch_laws.proofs.Ticking.{IsTick, before_time, goes_on, not_so, not_whole, so_whole, ticks_through}
+use Rattle.watch_laws.proofs.Ticking.{IsTick, before_second, goes_on, not_so, not_whole, so_whole, ticks_through}
 use Rattle.watch_laws.proofs.Tracking.{replied_forest}
 
 -- what holds after a turn
@@ -209,8 +209,7 @@ left_stays f due rest old new g ts b is e base sends same h =
       going = record {
         base = base;
         entries = same.count ∙ go.entries;
-        time = same_time f.i old new same ∙ go.time;
-        margin = same.margin ∙ go.margin;
+        time = let e' = same_time f.i old new same in let h' = go.time in omega (arith, e', h');
         end_is = same.ends.0 ∙ go.end_is;
         timely = subst (λ (x : WatchState). All (λ (q : Out). due ≤ outage_settled_by f.o q.since + f.o.late) x.out) (sym is) go.timely;
         ahead = omega (arith, clock, ahead);
@@ -245,19 +244,16 @@ turn_stays f due rest old new event (Err fault) planned turn lived wanted base s
     left_stays f due rest old new old.forest old.tracks old.asked (refused_stays old new event fault turn) refl base sends same h
 
 -- every turn is in time
-in_time : (f : Facts) (due k : ℕ) (s : WatchState) → Stays f due k s → EndIsInTime f.o f.i s
+in_time : (f : Facts) (due k : ℕ) (s : WatchState) → Stays f due k s → EndIsInTime f.o f.i f.time s
 in_time f due k s h =
     let end = ap believed h.going.end_is in
-    let time = h.going.time in
     let ahead = h.going.ahead in
-    let by = h.going.by in (
-      subst (λ n. s.clocks.at < ms n) (sym end) ahead,
-      subst (λ n. s.clocks.at ≤ granted_by f.o (time_of s f.i) n) (sym end) (subst (λ n. s.clocks.at ≤ granted_by f.o n f.end) (sym time) by),
-    )
+    let by = h.going.by in
+    (subst (λ n. s.clocks.at < ms n) (sym end) ahead, subst (λ n. s.clocks.at ≤ granted_by f.o f.time n) (sym end) by)
 
 along :
     (f : Facts) → IsPlanned f → (turns : List Turned) (due : ℕ) (old : WatchState) → History old turns → AreLived f.o f.i due old turns → Stays f due (waiting f.o f.n old + coming f.o f.n old turns) old →
-    AllInTime f.o f.i turns
+    AllInTime f.o f.i f.time turns
 along f planned [] due old history lived h = tt
 along f planned (turn ∷ turns) due old history lived h =
     let base = turn_base f.width f.n old turn.state turn.event turn.result history.0 h.going.base in
@@ -331,29 +327,33 @@ time_is : (s : WatchState) (i : ℕ) → is_in_plan s.forest.margin (entry_of s 
 unfolding time
 time_is s i h = ap (time_before (track_at s i).end) (plan_margin s i h)
 
--- all facts, and the first stage
-record First (o : Outage) (n width margin : ℕ) (s : WatchState) (i : ℕ) : Type 0 where
+record First (s : WatchState) (i : ℕ) : Type 0 where
   end : ℕ
   end_is : (track_at s i).end ≡ At end
-  sum : end ≡ time_of s i + margin
+  sum : end ≡ time_of s i + s.forest.margin
 
-first_end : (o : Outage) (n width margin : ℕ) (s : WatchState) (i : ℕ) → IsBefore s i → s.forest.margin ≡ margin → First o n width margin s i
-first_end o n width margin s i b same =
+first_end : (s : WatchState) (i : ℕ) → IsBefore s i → First s i
+first_end s i b =
     let t = time_is s i b.in_plan in
     let ahead = b.ahead in
     let k = end_known (track_at s i).end s.forest.margin (second s) (track_at s i) (wanted_need s i) refl b.wanted (omega (arith, t, ahead)) in
     let sum = k.1.1 in
-    record { end = k.0; end_is = k.1.0; sum = omega (arith, sum, t, same) }
+    record { end = k.0; end_is = k.1.0; sum = omega (arith, sum, t) }
 
+-- what is left holds more than a second
+left_over : (o : Outage) (end from : ℕ) → IsShortOutage o (end - from) → end ≡ from + (end - from)
+left_over o end from short = omega (arith, short)
+
+-- the first stage
 first_endures :
-    (o : Outage) (i end bound due : ℕ) (miss : Type 0) (s : WatchState) → (track_at s i).end ≡ At end → rested (track_at s i).last ≤ bound → is_pressed (track_at s i) ≡ false → is_request_served o s i ≡ false →
+    (o : Outage) (i from end bound due : ℕ) (miss : Type 0) (s : WatchState) → MayBeAsked s i from → (track_at s i).end ≡ At end → ms from ≤ bound → All (Cutting o i bound miss s) s.out →
     (list_any is_silent s.answers ≡ true → s.presence.away ≡ true → ⊥) → Endures o i end bound due miss s
-first_endures o i end bound due miss s end_is last loose unserved quiet = record {
+unfolding Kept Missed
+first_endures o i from end bound due miss s b end_is reach cuts quiet = record {
   end_is = end_is;
-  last = last;
-  tries = λ u is pressed'. absurd (not_both (ap is_pressed_try is ∙ pressed') loose);
-  out =
-      All-weaker (λ (q : Out). q.entry ≡ i → is_request_whole o q.since ≡ false) (Cutting o i bound miss s) (λ q c is. (c is, λ pressed'. absurd (not_both pressed' loose))) s.out (only_cut o i s unserved);
+  last = let l = b.rested in omega (arith, l, reach);
+  tries = λ u is pressed'. let k = b.first u is pressed' in let at = k.1.1 in inl (k.1.0, (omega (arith, at, reach), λ free. inl k.0));
+  out = cuts;
   silent' = λ any away. absurd (quiet any away);
 }
 
@@ -363,18 +363,18 @@ Begins f due s =
     (All (λ (q : Out). is_request_whole f.o q.since ≡ true) s.out × (due ≤ ms f.time + turn_of f.o))
     ⊎ (((s.clocks.at < f.o.until) × ((f.o.from < s.clocks.at + f.o.quick) × (due ≤ free_from f + f.o.late))) ⊎ ((f.o.until ≤ s.clocks.at) × (due ≤ cut f.o)))
 
-abbrev facts_of : Outage → ℕ → ℕ → ℕ → ℕ → WatchState → Facts
-facts_of o i n width end s = record { o = o; i = i; n = n; width = width; margin = s.forest.margin; time = time_of s i; end = end }
+abbrev facts_of : Outage → ℕ → ℕ → ℕ → ℕ → ℕ → Facts
+facts_of o i n width from end = record { o = o; i = i; n = n; width = width; margin = end - from; time = from; end = end }
 
--- where a lookup of it is out that is whole
+-- where a request of it is out that is whole
 first_served :
-    (o : Outage) (width n : ℕ) (s : WatchState) (i due end : ℕ) → IsPlanned (facts_of o i n width end s) → IsBase width n s → s.clocks.at < ms (time_of s i) → All (λ (q : Out). due ≤ outage_settled_by o q.since + o.late) s.out →
-    is_request_served o s i ≡ true → IsServed (facts_of o i n width end s) due s
-first_served o width n s i due end planned base before timely served =
+    (o : Outage) (width n : ℕ) (s : WatchState) (i from due end : ℕ) → IsPlanned (facts_of o i n width from end) → IsBase width n s → s.clocks.at < ms from → All (λ (q : Out). due ≤ outage_settled_by o q.since + o.late) s.out →
+    is_request_served o s i ≡ true → IsServed (facts_of o i n width from end) due s
+first_served o width n s i from due end planned base before timely served =
     let at = s.clocks.at in
     let now = base.since in
     let only = only_whole o i s base.alone served in
-    let holds = margin_holds (facts_of o i n width end s) planned in
+    let holds = margin_holds (facts_of o i n width from end) planned in
     record {
       served = served;
       sent = at;
@@ -393,44 +393,43 @@ first_served o width n s i due end planned base before timely served =
     }
 
 first_stays :
-    (o : Outage) (width n : ℕ) (s : WatchState) (i due k end : ℕ) → IsPlanned (facts_of o i n width end s) → IsBase width n s → length s.forest.entries ≡ n → IsBefore s i → (track_at s i).end ≡ At end →
+    (o : Outage) (width n : ℕ) (s : WatchState) (i from due k end : ℕ) → IsPlanned (facts_of o i n width from end) → IsBase width n s → length s.forest.entries ≡ n → MayBeAsked s i from → (track_at s i).end ≡ At end →
     (list_any is_silent s.answers ≡ true → s.presence.away ≡ true → ⊥) → All (λ (q : Out). due ≤ outage_settled_by o q.since + o.late) s.out →
-    k ≤ width * o.rounds → (is_request_served o s i ≡ false → Begins (facts_of o i n width end s) due s) → Stays (facts_of o i n width end s) due k s
-first_stays o width n s i due k end planned base entries b end_is quiet timely few begins =
-    let f : Facts = facts_of o i n width end s in
+    k ≤ width * o.rounds → (is_request_served o s i ≡ false → Begins (facts_of o i n width from end) due s) → Stays (facts_of o i n width from end) due k s
+first_stays o width n s i from due k end planned base entries b end_is quiet timely few begins =
+    let f : Facts = facts_of o i n width from end in
     let at = s.clocks.at in
-    let before = before_time s i (time_of s i) refl b.ahead in
+    let before = before_second s from b.ahead in
     let sum = planned.end_is in
-    let rest = b.rested in
-    let reach : ms (time_of s i) ≤ free_from f = omega arith in
+    let reach : ms from ≤ free_from f = omega arith in
     let now = base.since in
     record {
       going = record {
         base = base;
         entries = entries;
-        time = refl;
-        margin = refl;
+        time = b.come;
         end_is = end_is;
         timely = timely;
         ahead = omega (arith, before, sum);
         by = omega (arith, before);
       };
       through = elim (cases_Bool (is_request_served o s i)) as (λ _. IsThrough f due k s) [
-        | inl served ↦ inr (inr (inl (first_served o width n s i due end planned base before timely served)))
+        | inl served ↦ inr (inr (inl (first_served o width n s i from due end planned base before timely served)))
         | inr unserved ↦
+            let only = only_cut o i s unserved in
             elim (begins unserved) as (λ _. IsThrough f due k s) [
               | inl there ↦
                   let zero' = anew_none o (suc at) n s now (omega arith) in
                   let soon = there.1 in
                   inl (inl (record {
-                    endures = first_endures o i end (ms (time_of s i)) due ⊥ s end_is rest b.loose unserved quiet;
+                    endures = first_endures o i from end (ms from) due ⊥ s b end_is (omega arith) (λ k d below is. absurd (not_both (there.0 k d below) (only k d below is))) quiet;
                     idle = not_out o i s base.marked unserved there.0;
                     whole = there.0;
                     r = o.rounds;
                     from = at;
                     count = omega (arith, few, zero');
                     fewer = omega arith;
-                    base = ms (time_of s i);
+                    base = ms from;
                     reach = omega arith;
                     over = inl refl;
                     base_ahead = (let holds = margin_holds f planned in omega (arith, holds));
@@ -444,7 +443,15 @@ first_stays o width n s i due k end planned base entries b end_is quiet timely f
                         let zero' = anew_none o (suc at) n s now (omega arith) in
                         let over = late.0 in
                         inr (inr (inr (record {
-                          endures = first_endures o i end (ms (time_of s i)) due ⊥ s end_is rest b.loose unserved quiet;
+                          endures =
+                              first_endures o i from end (ms from) due ⊥ s b end_is (omega arith)
+                              (λ k d below is. (
+                                only k d below is,
+                                λ pressed'.
+                                    let c = (not_whole o (get_or s.out k d).since (only k d below is)).1 in
+                                    let e = (b.fresh k d below is pressed').1 in
+                                    absurd (omega (arith, c, e, over)),
+                              )) quiet;
                           unserved = unserved;
                           over = over;
                           soon = omega (arith, over, before);
@@ -457,7 +464,9 @@ first_stays o width n s i due k end planned base entries b end_is quiet timely f
                         let late = broke.1.0 in
                         let zero' = anew_none o o.until n s now early in
                         inl (inr (record {
-                          endures = first_endures o i end (free_from f) due Unit s end_is (omega (arith, rest, reach)) b.loose unserved quiet;
+                          endures =
+                              first_endures o i from end (free_from f) due Unit s b end_is reach
+                              (λ k d below is. (only k d below is, λ pressed'. (tt, λ heard'. absurd (not_both heard' (b.fresh k d below is pressed').0)))) quiet;
                           unserved = unserved;
                           r = o.rounds;
                           count = omega (arith, few, zero');
@@ -504,29 +513,50 @@ whole_or_broke o s due now timely =
           ]
     ]
 
--- until then is waited at most
-waits_for : (old s : WatchState) (wall elapsed : ℕ) (output : Output) (i : ℕ) → Ticks old s wall elapsed output → i < length s.forest.entries → is_wanted s i ≡ true → is_pressed (track_at s i) ≡ false → (track_at s i).out ≡ false → wait s ≤ ms (time_of s i)
-waits_for old s wall elapsed output i h within wanted loose free =
+-- until then is waited at most, or some request is out
+waits_for :
+    (old s : WatchState) (wall elapsed : ℕ) (output : Output) (i from width n : ℕ) → Ticks old s wall elapsed output → 0 < width → IsBase width n s → MayBeAsked s i from → (track_at s i).out ≡ false →
+    (wait s ≤ ms from) ⊎ (1 ≤ length s.out)
+waits_for old s wall elapsed output i from width n h wide base b free =
     let ready' = readied old wall elapsed in
     let end = sent (pressed ready' h.round) h.requests in
     let is = h.new_is in
-    subst (λ (x : WatchState). wait x ≤ ms (time_of x i)) (sym is)
-    (elim (end_minded ready' h.round h.requests i h.going (subst (λ (x : WatchState). i < length x.forest.entries) is within) (subst (λ (x : WatchState). is_wanted x i ≡ true) is wanted)) as (λ _. wait end ≤ ms (time_of end i)) [
-      | inl out ↦ absurd (not_both out (subst (λ (x : WatchState). (track_at x i).out ≡ false) is free))
+    let come = subst (λ (x : WatchState). time_of x i ≤ from) is b.come in
+    let there : i < length ready'.forest.entries = subst (λ (x : WatchState). i < length x.forest.entries) is b.within in
+    let free' : (track_at end i).out ≡ false = subst (λ (x : WatchState). (track_at x i).out ≡ false) is free in
+    subst (λ (x : WatchState). (wait x ≤ ms from) ⊎ (1 ≤ length x.out)) (sym is)
+    (elim (end_minded ready' h.round h.requests i h.going there (subst (λ (x : WatchState). is_wanted x i ≡ true) is b.wanted)) as (λ _. (wait end ≤ ms from) ⊎ (1 ≤ length end.out)) [
+      | inl out ↦ absurd (not_both out free')
       | inr minded ↦
-          elim minded as (λ _. wait end ≤ ms (time_of end i)) [
-            | inl pressed' ↦ absurd (not_both (ap is_pressed_try pressed'.has.attempt_is ∙ pressed'.pressed) (subst (λ (x : WatchState). is_pressed (track_at x i) ≡ false) is loose))
-            | inr ahead ↦ ahead.heeded
+          elim minded as (λ _. (wait end ≤ ms from) ⊎ (1 ≤ length end.out)) [
+            | inl pressed' ↦
+                let u = pressed'.has.attempt in
+                let k = b.first u (subst (λ (x : WatchState). attempt_at x i ≡ Some u) (sym is) pressed'.has.attempt_is) pressed'.pressed in
+                elim (tended ready' h.round h.requests i u h.going there free' pressed'.has.attempt_is) as (λ _. (wait end ≤ ms from) ⊎ (1 ≤ length end.out)) [
+                  | inl later ↦
+                      let r = ready_first end.presence (track_at end i) u (ms from) k.0 k.1.1 in
+                      let until = later.1 in
+                      inl (omega (arith, r, until))
+                  | inr full ↦ (let w = ap (λ (x : WatchState). x.width) (sym is) ∙ base.fits.0 in inr (omega (arith, full, w, wide)))
+                ]
+            | inr ahead ↦ (let a = ahead.heeded in inl (omega (arith, a, come)))
           ]
     ])
 
+-- an end that is known, of an entry that is wanted
+known_end : (e : End) (x : Track) (need : ℕ) → x.end ≡ e → wants x need ≡ true → is_known e ≡ true → (k : ℕ) × (e ≡ At k)
+known_end Unknown x need is wanted known' = absurd cc
+known_end (At k) x need is wanted known' = (k, refl)
+known_end Never x need is wanted known' = absurd cc
+
 -- what follows whatever the turn is from which on it is lived
 from_there :
-    (o : Outage) (g : Forest) (width : ℕ) (before : List Turned) (last : Turned) (turns : List Turned) (i due : ℕ) → 0 < width → IsWatchRun g width (before ++ last ∷ turns) → IsBefore last.state i →
-    AreLived o i due last.state turns → waiting o (length g.entries) last.state + coming o (length g.entries) last.state turns ≤ width * o.rounds → o.from ≤ o.until → IsShortOutage o g.margin →
+    (o : Outage) (g : Forest) (width : ℕ) (before : List Turned) (last : Turned) (turns : List Turned) (i from due : ℕ) → 0 < width → IsWatchRun g width (before ++ last ∷ turns) → MayBeAsked last.state i from →
+    AreLived o i due last.state turns → waiting o (length g.entries) last.state + coming o (length g.entries) last.state turns ≤ width * o.rounds → o.from ≤ o.until → IsShortOutage o (believed (track_at last.state i).end - from) →
     (list_any is_silent last.state.answers ≡ true → last.state.presence.away ≡ true → ⊥) →
-    All (λ (q : Out). due ≤ outage_settled_by o q.since + o.late) last.state.out → ((f : Facts) → f.o ≡ o → f.time ≡ time_of last.state i → IsBase width (length g.entries) last.state → is_request_served o last.state i ≡ false → Begins f due last.state) → AllInTime o i turns
-from_there o g width before last turns i due wide run b lived few order short quiet timely begins =
+    All (λ (q : Out). due ≤ outage_settled_by o q.since + o.late) last.state.out →
+    ((f : Facts) → f.o ≡ o → f.time ≡ from → IsBase width (length g.entries) last.state → is_request_served o last.state i ≡ false → Begins f due last.state) → AllInTime o i from turns
+from_there o g width before last turns i from due wide run b lived few order short quiet timely begins =
     let n = length g.entries in
     let old = after_all (opened g width) before in
     let history = last_turns before (last ∷ turns) (opened g width) run in
@@ -536,16 +566,20 @@ from_there o g width before last turns i due wide run b lived few order short qu
     let shape = turn_shape old s last.event last.result history.0 in
     let shapes = ran_shape before (opened g width) first in
     let entries : length s.forest.entries ≡ n = shape.0 ∙ shapes.0 in
-    let margin : s.forest.margin ≡ g.margin = shape.1 ∙ shapes.1 in
-    let e = first_end o n width s.forest.margin s i b refl in
-    let f : Facts = facts_of o i n width e.end s in
+    let e = known_end (track_at s i).end (track_at s i) (wanted_need s i) refl b.wanted b.known in
+    let f : Facts = facts_of o i n width from e.0 in
     let low = b.within in
-    let planned : IsPlanned f = record { wide = wide; within = omega (arith, low, entries); order = order; short = subst (IsShortOutage o) (sym margin) short; end_is = e.sum } in
-    let stays = first_stays o width n s i due (waiting o n s + coming o n s turns) e.end planned base entries b e.end_is quiet timely few (begins f refl refl base) in
+    let is : believed (track_at s i).end ≡ e.0 = ap believed e.1 in
+    let short' : IsShortOutage o (e.0 - from) = subst (λ k. IsShortOutage o (k - from)) is short in
+    let planned : IsPlanned f = record { wide = wide; within = omega (arith, low, entries); order = order; short = short'; end_is = left_over o e.0 from short' } in
+    let stays = first_stays o width n s i from due (waiting o n s + coming o n s turns) e.0 planned base entries b e.1 quiet timely few (begins f refl refl base) in
     along f planned turns due s history.1 lived stays
 
-pub outlives : OutageLaw
-outlives o g width before last turns i wide run clock taken' b lived few order short =
+left_from_clock :
+    (o : Outage) (g : Forest) (width : ℕ) (before : List Turned) (last : Turned) (turns : List Turned) (i from : ℕ) → 0 < width → IsWatchRun g width (before ++ last ∷ turns) → is_clock last.event ≡ true →
+    is_event_taken last.result ≡ true → MayBeAsked last.state i from → AreLived o i (outage_next_after o last.result last.state 0) last.state turns →
+    waiting o (length g.entries) last.state + coming o (length g.entries) last.state turns ≤ width * o.rounds → o.from ≤ o.until → IsShortOutage o (believed (track_at last.state i).end - from) → AllInTime o i from turns
+left_from_clock o g width before last turns i from wide run clock taken' b lived few order short =
     let old = after_all (opened g width) before in
     let history = last_turns before (last ∷ turns) (opened g width) run in
     let s = last.state in
@@ -553,7 +587,7 @@ outlives o g width before last turns i wide run clock taken' b lived few order s
     let answers : s.answers ≡ [] = ap (λ (x : WatchState). x.answers) start.ticks'.new_is ∙ readied_answers old start.wall start.elapsed in
     let due = outage_next_by o (wait s) s.out in
     let timely = least_all (λ (q : Out). outage_settled_by o q.since + o.late) (wait s + o.late) s.out in
-    from_there o g width before last turns i due wide run b (subst (λ d. AreLived o i d s turns) start.due lived) few order short
+    from_there o g width before last turns i from due wide run b (subst (λ d. AreLived o i d s turns) start.due lived) few order short
     (λ any away. absurd (not_both any (ap (list_any is_silent) answers))) timely
     (λ f same time base unserved.
     let late = ap (λ (x : Outage). x.late) same in
@@ -565,10 +599,22 @@ outlives o g width before last turns i wide run clock taken' b lived few order s
     elim (whole_or_broke o s due base.since timely) as (λ _. Begins f due s) [
       | inl whole ↦
           let free = not_out o i s base.marked unserved whole in
-          let until = waits_for old s start.wall start.elapsed start.output i start.ticks' b.within b.wanted b.loose free in
           let least' = least_start (wait s + o.late) (map (λ (q : Out). outage_settled_by o q.since + o.late) s.out) in
-          let soon : due ≤ ms f.time + f.o.late = omega (arith, until, least', late, time) in
-          inl (subst (λ (x : Outage). All (λ (q : Out). is_request_whole x q.since ≡ true) s.out) (sym same) whole, omega (arith, soon))
+          let ahead = before_second s from b.ahead in
+          let now = base.since in
+          let soon : due ≤ ms from + turn_of o =
+          elim (waits_for old s start.wall start.elapsed start.output i from width (length g.entries) start.ticks' wide base b free) as (λ _. due ≤ ms from + turn_of o) [
+            | inl until ↦ omega (arith, until, least')
+            | inr some' ↦
+                any_gives (due ≤ ms from + turn_of o) (λ q. true) s.out (some_lane s.out some')
+                (λ k d below yes'.
+                let q = get_or s.out k d in
+                let e = quick_if o q.since (whole k d below) in
+                let l = timely k d below in
+                let le = now k d below in
+                omega (arith, e, l, le, ahead))
+          ] in
+          inl (subst (λ (x : Outage). All (λ (q : Out). is_request_whole x q.since ≡ true) s.out) (sym same) whole, omega (arith, soon, late, quick, time))
       | inr begun' ↦
           elim begun' as (λ _. Begins f due s) [
             | inl broke ↦
@@ -612,21 +658,24 @@ asked_before : (last : Option ℕ) (at : ℕ) → rested last ≤ at + 1000 → 
 asked_before None at h = omega arith
 asked_before (Some n) at h = omega (arith, h)
 
-pub outlives_again : GrantLaw
-outlives_again o g width before grant turns i wide run b lived few order short =
+left_from_told :
+    (o : Outage) (g : Forest) (width : ℕ) (before : List Turned) (grant : Turned) (turns : List Turned) (i from : ℕ) → 0 < width → IsWatchRun g width (before ++ grant ∷ turns) → tells i grant.event ≡ true →
+    is_event_taken grant.result ≡ true → MayBeAsked grant.state i from → AreLived o i (granted_next o grant.state i) grant.state turns →
+    waiting o (length g.entries) grant.state + coming o (length g.entries) grant.state turns ≤ width * o.rounds → o.from ≤ o.until → IsShortOutage o (believed (track_at grant.state i).end - from) → AllInTime o i from turns
+left_from_told o g width before grant turns i from wide run told taken' b lived few order short =
     let old = after_all (opened g width) before in
     let history = last_turns before (grant ∷ turns) (opened g width) run in
     let s = grant.state in
     let at = s.clocks.at in
-    let there = told_there old s grant.event grant.result i history.0 b.taken b.told in
+    let there = told_there old s grant.event grant.result i history.0 taken' told in
     let asked = granted_at s i in
     let due = granted_next o s i in
     let timely = least_all (λ (q : Out). outage_settled_by o q.since + o.late) (outage_settled_by o asked + o.late) s.out in
-    from_there o g width before grant turns i due wide run b.before lived few order short (λ any away. absurd (not_both away there)) timely
+    from_there o g width before grant turns i from due wide run b lived few order short (λ any away. absurd (not_both away there)) timely
     (λ f same time base unserved.
     let least' = least_start (outage_settled_by o asked + o.late) (map (λ (q : Out). outage_settled_by o q.since + o.late) s.out) in
     let early = asked_before (track_at s i).last at (base.past.last i) in
-    let ahead = before_time s i (time_of s i) refl b.before.ahead in
+    let ahead = before_second s from b.ahead in
     let late = ap (λ (x : Outage). x.late) same in
     let quick = ap (λ (x : Outage). x.quick) same in
     let from' = ap (λ (x : Outage). x.from) same in
@@ -661,3 +710,47 @@ outlives_again o g width before grant turns i wide run b lived few order short =
             | inr over ↦ inr (inr (omega (arith, over, until'), omega (arith, least', k, ends)))
           ]
     ])
+
+pub left : LeftLaw
+left o g width before last turns i from due wide run (inl clock) b lived few order short =
+    left_from_clock o g width before last turns i from wide run clock.0 clock.1.0 b (subst (λ d. AreLived o i d last.state turns) clock.1.1 lived) few order short
+left o g width before last turns i from due wide run (inr told) b lived few order short =
+    left_from_told o g width before last turns i from wide run told.0 told.1.0 b (subst (λ d. AreLived o i d last.state turns) told.1.1 lived) few order short
+
+-- in the plan, where the time is ahead: what is left from there on is the margin
+may_at_time : (s : WatchState) (i : ℕ) → IsBefore s i → MayBeAsked s i (time_of s i) × (believed (track_at s i).end - time_of s i ≡ s.forest.margin)
+may_at_time s i b =
+    let e = first_end s i b in
+    let is = ap believed e.end_is in
+    let sum = e.sum in (
+      record {
+        within = b.within;
+        wanted = b.wanted;
+        known = ap is_known e.end_is;
+        first = λ u is' pressed'. absurd (not_both (ap is_pressed_try is' ∙ pressed') b.loose);
+        fresh = λ k d below is' pressed'. absurd (not_both pressed' b.loose);
+        come = omega arith;
+        ahead = b.ahead;
+        rested = b.rested;
+      },
+      omega (arith, is, sum),
+    )
+
+-- the margin stays
+margin_stays : (g : Forest) (width : ℕ) (before : List Turned) (last : Turned) (turns : List Turned) → IsWatchRun g width (before ++ last ∷ turns) → last.state.forest.margin ≡ g.margin
+margin_stays g width before last turns run =
+    let history = last_turns before (last ∷ turns) (opened g width) run in
+    let first = first_turns before (last ∷ turns) (opened g width) run in
+    (turn_shape (after_all (opened g width) before) last.state last.event last.result history.0).1 ∙ (ran_shape before (opened g width) first).1
+
+pub outlives : OutageLaw
+outlives o g width before last turns i wide run clock taken' b lived few order short =
+    let m = may_at_time last.state i b in
+    let same : g.margin ≡ believed (track_at last.state i).end - time_of last.state i = sym (margin_stays g width before last turns run) ∙ sym m.1 in
+    left_from_clock o g width before last turns i (time_of last.state i) wide run clock taken' m.0 lived few order (subst (IsShortOutage o) same short)
+
+pub outlives_again : GrantLaw
+outlives_again o g width before grant turns i wide run b lived few order short =
+    let m = may_at_time grant.state i b.before in
+    let same : g.margin ≡ believed (track_at grant.state i).end - time_of grant.state i = sym (margin_stays g width before grant turns run) ∙ sym m.1 in
+    left_from_told o g width before grant turns i (time_of grant.state i) wide run b.told b.taken m.0 lived few order (subst (IsShortOutage o) same short)

@@ -11,7 +11,8 @@ use Rattle.watch_laws.proofs.Enduring.{Endures, cut}
 use Rattle.watch_laws.proofs.Grounds.{IsBase}
 use Rattle.watch_laws.proofs.Lanes.{is_anew}
 
--- what does not change: the outage, the entry, how many there are, the width and the margin, and the entry's time and end
+-- what does not change: the outage, the entry, how many there are, the width, the second from which on the entry may be asked, its end, and
+-- what is left to that
 pub record Facts : Type 0 where
   pub o : Outage
   pub i : ℕ
@@ -39,8 +40,7 @@ pub record IsPlanned (f : Facts) : Type 0 where
 pub record IsGoing (f : Facts) (due : ℕ) (s : WatchState) : Type 0 where
   pub base : IsBase f.width f.n s
   pub entries : length s.forest.entries ≡ f.n
-  pub time : time_of s f.i ≡ f.time
-  pub margin : s.forest.margin ≡ f.margin
+  pub time : time_of s f.i ≤ f.time
   pub end_is : (track_at s f.i).end ≡ At f.end
   pub timely : All (λ (q : Out). due ≤ outage_settled_by f.o q.since + f.o.late) s.out
   pub ahead : s.clocks.at < ms f.end

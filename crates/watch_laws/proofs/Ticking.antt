@@ -44,9 +44,9 @@ use Rattle.watch_laws.proofs.Topping.{readied_count}
 use Rattle.watch_laws.proofs.Tracking.{each_kept}
 use Rattle.watch_laws.proofs.Undisturbed.{Undisturbed, clock_undisturbed}
 
-pub before_time : (s : WatchState) (i n : ℕ) → time_of s i ≡ n → second s < time_of s i → s.clocks.at < ms n
+pub before_second : (s : WatchState) (n : ℕ) → second s < n → s.clocks.at < ms n
 unfolding sec
-before_time s i n same h = omega (arith, same, h)
+before_second s n h = omega (arith, h)
 
 pub so_whole : (w : Bool) → not w ≡ false → w ≡ true
 so_whole true h = refl
@@ -213,8 +213,7 @@ module _ (f : Facts) (due : ℕ) (old new : WatchState) (wall elapsed : ℕ) (ou
   goes_on = record {
     base = t.base;
     entries = t.same.count ∙ t.going.entries;
-    time = same_time i old new t.same ∙ t.going.time;
-    margin = t.same.margin ∙ t.going.margin;
+    time = let e = same_time i old new t.same in let h = t.going.time in omega (arith, e, h);
     end_is = t.same.ends.0 ∙ t.going.end_is;
     timely = least_all (λ (q : Out). outage_settled_by o q.since + o.late) (wait new + o.late) new.out;
     ahead = at_ahead;
@@ -293,7 +292,9 @@ module _ (f : Facts) (due : ℕ) (old new : WatchState) (wall elapsed : ℕ) (ou
       let below : i < length new.forest.entries = omega (arith, entries, low) in
       let there : i < length ready'.forest.entries = subst (λ (x : WatchState). i < length x.forest.entries) is below in
       let free' : (track_at end i).out ≡ false = subst (λ (x : WatchState). (track_at x i).out ≡ false) is free in
-      let time : time_of new i ≡ f.time = same_time i old new t.same ∙ t.going.time in
+      let e' = same_time i old new t.same in
+      let h' = t.going.time in
+      let time : time_of new i ≤ f.time = omega (arith, e', h') in
       subst (λ (x : WatchState). ((u : Try) × ((attempt_at x i ≡ Some u) × ((u.pressed ≡ true) × ((x.clocks.at < ready x.presence (track_at x i) u) × (wait x ≤ ready x.presence (track_at x i) u)))))
       ⊎ ((f.width ≤ length x.out) ⊎ ((x.clocks.at < ms f.time) × (wait x ≤ ms f.time)))) (sym is)
       (elim (end_minded ready' t.ticks.round t.ticks.requests i t.ticks.going there (subst (λ (x : WatchState). is_wanted x i ≡ true) is t.wanted))
@@ -312,8 +313,9 @@ module _ (f : Facts) (due : ℕ) (old new : WatchState) (wall elapsed : ℕ) (ou
                     | inr full ↦ (let w = ap (λ (x : WatchState). x.width) (sym is) ∙ t.base.fits.0 in inr (inl (omega (arith, full, w))))
                   ]
               | inr ahead ↦
-                  let same : time_of end i ≡ f.time = subst (λ (x : WatchState). time_of x i ≡ f.time) is time in
-                  inr (inr (before_time end i f.time same ahead.ahead, (let h = ahead.heeded in omega (arith, h, same))))
+                  let same : time_of end i ≤ f.time = subst (λ (x : WatchState). time_of x i ≤ f.time) is time in
+                  let a = ahead.ahead in
+                  inr (inr (before_second end f.time (omega (arith, a, same)), (let h = ahead.heeded in omega (arith, h, same))))
             ]
       ])
 

@@ -1,7 +1,7 @@
 -- Outage: how long the broker may be away. Each law is the contract of a public function without a body.
 -- Source: this project's own.
-use Rattle.std.specs.Prelude.{◌≡◌, ◌≢◌, ◌==◌, ℕ, zero, suc, ◌+◌, ◌-◌, ◌*◌, ◌/◌, ◌<◌, ◌≤◌, Bool, true, false, not, ◌&&◌, ◌||◌, if◌then◌else◌, List, [], ◌∷◌, ◌++◌, Option, Some, None, Result, Ok, Err, IfSome, is_some, length, map, max, nat_le}
-use Rattle.std.specs.List.{list_any}
+use Rattle.std.specs.Prelude.{◌≡◌, ◌≢◌, ◌⊎◌, ◌==◌, ℕ, zero, suc, ◌+◌, ◌-◌, ◌*◌, ◌/◌, ◌<◌, ◌≤◌, Bool, true, false, not, ◌&&◌, ◌||◌, if◌then◌else◌, List, [], ◌∷◌, ◌++◌, Option, Some, None, Result, Ok, Err, IfSome, is_some, length, map, max, nat_le}
+use Rattle.std.specs.List.{All, list_any}
 use Rattle.keep_tree.specs.Forest.{Forest}
 use Rattle.watch_machine.specs.declared.command.Command.{Command}
 use Rattle.watch_machine.specs.declared.command.Command.TheVariants.{Go, Taken}
@@ -13,16 +13,17 @@ use Rattle.watch_machine.specs.declared.event.Reply.{Reply}
 use Rattle.watch_machine.specs.declared.event.Reply.TheVariants.{Told, Refused, Busy, Lost}
 use Rattle.watch_machine.specs.declared.fault.WatchFault.{WatchFault}
 use Rattle.watch_machine.specs.declared.lanes.Out.{Out}
+use Rattle.watch_machine.specs.declared.track.Try.{Try}
 use Rattle.watch_machine.specs.Beginning.{is_pressed}
 use Rattle.watch_machine.specs.Clocks.{ms}
 use Rattle.watch_machine.specs.History.{IsWatchRun, Turned}
-use Rattle.watch_machine.specs.Lines.{rested}
+use Rattle.watch_machine.specs.Lines.{is_first, rested}
 use Rattle.watch_machine.specs.Margins.{is_in_plan}
 use Rattle.watch_machine.specs.Outlook.{time_of}
 use Rattle.watch_machine.specs.Refusal.{request_out}
 use Rattle.watch_machine.specs.Settling.{timed}
 use Rattle.watch_machine.specs.State.{WatchState, attempt_at, entry_of, second, track_at}
-use Rattle.watch_machine.specs.Wanted.{believed, is_wanted, least}
+use Rattle.watch_machine.specs.Wanted.{believed, is_known, is_wanted, least}
 use Rattle.watch_laws.specs.Absence.{is_clock, is_event_taken}
 
 -- an outage, in milliseconds of the watch's clock: when it begins and ends; by when a request is settled while the broker is there,
@@ -146,6 +147,18 @@ pub record IsBefore (s : WatchState) (i : ℕ) : Type 0 where
   pub ahead : second s < time_of s i
   pub rested : rested (track_at s i).last ≤ ms (time_of s i)
 
+-- a state in which i is wanted and its end is known, and from a second on that is ahead, and not before its time, it may be asked: it is not
+-- pressed, or on a first try of which nothing is out but what went out just now
+pub record MayBeAsked (s : WatchState) (i from : ℕ) : Type 0 where
+  pub within : i < length s.forest.entries
+  pub wanted : is_wanted s i ≡ true
+  pub known : is_known (track_at s i).end ≡ true
+  pub first : (t : Try) → attempt_at s i ≡ Some t → t.pressed ≡ true → (is_first t ≡ true) × ((t.failed ≡ false) × (t.at ≤ ms from))
+  pub fresh : All (λ q. q.entry ≡ i → is_pressed (track_at s i) ≡ true → (q.heard ≡ false) × (q.since ≡ s.clocks.at)) s.out
+  pub come : time_of s i ≤ from
+  pub ahead : second s < from
+  pub rested : rested (track_at s i).last ≤ ms from
+
 -- the clock at which the last request of i went out, the one that told its end
 abbrev pub clock_asked_at : Option ℕ → ℕ
 clock_asked_at None = 0
@@ -179,13 +192,13 @@ pub record IsGrant (turn : Turned) (i : ℕ) : Type 0 where
 abbrev pub granted_next : Outage → WatchState → ℕ → ℕ
 granted_next o s i = outage_next_by o (outage_settled_by o (granted_at s i)) s.out
 
--- after each turn the end of i is ahead, and it is no later than i is granted
-abbrev pub EndIsInTime : Outage → ℕ → WatchState → Type 0
-EndIsInTime o i s = (s.clocks.at < ms (believed (track_at s i).end)) × (s.clocks.at ≤ granted_by o (time_of s i) (believed (track_at s i).end))
+-- after each turn the end of i is ahead, and it is no later than i is granted, from a second on
+abbrev pub EndIsInTime : Outage → ℕ → ℕ → WatchState → Type 0
+EndIsInTime o i from s = (s.clocks.at < ms (believed (track_at s i).end)) × (s.clocks.at ≤ granted_by o from (believed (track_at s i).end))
 
-abbrev pub AllInTime : Outage → ℕ → List Turned → Type 0
-AllInTime o i [] = Unit {0}
-AllInTime o i (turn ∷ turns) = EndIsInTime o i turn.state × AllInTime o i turns
+abbrev pub AllInTime : Outage → ℕ → ℕ → List Turned → Type 0
+AllInTime o i from [] = Unit {0}
+AllInTime o i from (turn ∷ turns) = EndIsInTime o i from turn.state × AllInTime o i from turns
 
 -- whatever was before: from a clock on at which the time of an entry is ahead that is wanted and in the plan, until it is granted or looked
 -- up, its end is ahead, through any outage that the margin outlasts
@@ -195,7 +208,7 @@ OutageLaw =
     IsWatchRun g width (before ++ last ∷ turns) → is_clock last.event ≡ true → is_event_taken last.result ≡ true → IsBefore last.state i →
     AreLived o i (outage_next_after o last.result last.state 0) last.state turns →
     waiting o (length g.entries) last.state + coming o (length g.entries) last.state turns ≤ width * o.rounds → o.from ≤ o.until → IsShortOutage o g.margin →
-    AllInTime o i turns
+    AllInTime o i (time_of last.state i) turns
 
 -- and so it is from a grant or a lookup of the entry on, until the next one. So outages of which no two lie between the same two count each
 -- by itself
@@ -204,4 +217,20 @@ GrantLaw =
     (o : Outage) (g : Forest) (width : ℕ) (before : List Turned) (grant : Turned) (turns : List Turned) (i : ℕ) → 0 < width →
     IsWatchRun g width (before ++ grant ∷ turns) → IsGrant grant i → AreLived o i (granted_next o grant.state i) grant.state turns →
     waiting o (length g.entries) grant.state + coming o (length g.entries) grant.state turns ≤ width * o.rounds → o.from ≤ o.until → IsShortOutage o g.margin →
-    AllInTime o i turns
+    AllInTime o i (time_of grant.state i) turns
+
+-- a turn from which on an entry is lived with: a clock, or a reply that tells its end; and by when the next clock is handed in
+abbrev pub StartsBy : Outage → Turned → ℕ → ℕ → Type 0
+StartsBy o turn i due =
+    ((is_clock turn.event ≡ true) × ((is_event_taken turn.result ≡ true) × (due ≡ outage_next_after o turn.result turn.state 0)))
+    ⊎ ((tells i turn.event ≡ true) × ((is_event_taken turn.result ≡ true) × (due ≡ granted_next o turn.state i)))
+
+-- and so it is of any entry that is wanted and whose end is known, in the plan or not, its time come or not: what is left to its end, from a
+-- second on from which it may be asked, stands for the margin. So after a lookup at which its time has come, and at the first clock of a watch
+-- that was told the ends of an earlier one
+abbrev pub LeftLaw : Type 0
+LeftLaw =
+    (o : Outage) (g : Forest) (width : ℕ) (before : List Turned) (last : Turned) (turns : List Turned) (i from due : ℕ) → 0 < width →
+    IsWatchRun g width (before ++ last ∷ turns) → StartsBy o last i due → MayBeAsked last.state i from → AreLived o i due last.state turns →
+    waiting o (length g.entries) last.state + coming o (length g.entries) last.state turns ≤ width * o.rounds → o.from ≤ o.until →
+    IsShortOutage o (believed (track_at last.state i).end - from) → AllInTime o i from turns

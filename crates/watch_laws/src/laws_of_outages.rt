@@ -1,4 +1,4 @@
-ghost use Rattle.watch_laws.specs.Outage.{GrantLaw, OutageLaw};
+ghost use Rattle.watch_laws.specs.Outage.{GrantLaw, LeftLaw, OutageLaw};
 
 /// The law of outages: from a clock on at which the time of an entry is ahead that is wanted and in the plan, and until it is granted or
 /// looked up, its end is ahead, through any outage that the margin outlasts: it is no longer than the margin less the request that its
@@ -13,4 +13,11 @@ pub fn outage_law()
 /// is ahead after it. So outages of which no two lie between the same two count each by itself.
 pub fn grant_law()
     ensures { GrantLaw }
+{}
+
+/// The law of what is left: of any entry that is wanted and whose end is known the same holds with what is left to its end in the place
+/// of the margin, from a second on from which it may be asked. So it holds outside the plan, after a lookup at which the entry's time
+/// has come, and from the first clock on of a watch that was told the ends of an earlier one.
+pub fn left_law()
+    ensures { LeftLaw }
 {}
