@@ -1,5 +1,5 @@
 -- Patience: how long the requests of a clock may take. For the law of patience.
-use Rattle.std.proofs.Common.{◌≡◌, ◌⊎◌, ◌↔◌, ◌∙◌, ℕ, ◌-◌, ◌*◌, ◌^◌, ◌<◌, Bool, true, false, ◌&&◌, ◌||◌, ◌==◌, if◌then◌else◌, List, [], ◌∷◌, Option, Some, None, All, Result, Ok, Err, get_or, is_some, max, min, nat_lt, refl, sym, ap, subst, arith, inl, inr}
+use Rattle.std.proofs.Common.{◌≡◌, ◌⊎◌, ◌∙◌, ℕ, ◌-◌, ◌*◌, ◌^◌, ◌<◌, Bool, true, false, ◌&&◌, ◌||◌, ◌==◌, if◌then◌else◌, List, Option, Some, None, All, Result, Ok, Err, get_or, is_some, max, min, nat_lt, refl, sym, ap, subst, arith, inl, inr}
 use Rattle.std.proofs.lemmas.Bool.{and_from, and_parts, cases_Bool, cond-false, cond-true}
 use Rattle.std.proofs.lemmas.Bool.Decides.{nat_tests}
 use Rattle.std.proofs.lemmas.List.Elements.{All-map, All-nil}
@@ -17,17 +17,16 @@ use Rattle.watch_machine.specs.declared.lanes.Out.{Out}
 use Rattle.watch_machine.specs.declared.track.End.{End}
 use Rattle.watch_machine.specs.declared.track.End.TheVariants.{Unknown, At, Never}
 use Rattle.watch_machine.specs.declared.track.Try.{Try}
-use Rattle.watch_machine.specs.Clocks.{sec}
-use Rattle.watch_machine.specs.History.{Turn, Turned}
+use Rattle.watch_machine.specs.History.{Turn}
 use Rattle.watch_machine.specs.Lines.{is_first}
 use Rattle.watch_machine.specs.Press.{pressed}
 use Rattle.watch_machine.specs.Refusal.{request_out}
 use Rattle.watch_machine.specs.Sending.{is_alone, is_alone_try, is_partial, patience, request_of, sent}
-use Rattle.watch_machine.specs.State.{WatchState, attempt_at, second, track_at, track_in}
+use Rattle.watch_machine.specs.State.{WatchState, attempt_at, second, track_at}
 use Rattle.watch_machine.specs.Step.{Step, StepLooked, StepRenewed, readied}
 use Rattle.watch_machine.specs.Wanted.{believed, is_open, is_unknown}
 use Rattle.watch_laws.specs.Load.{requests_asked_by, requests_at_turn}
-use Rattle.watch_laws.specs.Patience.{AloneLaw, IsAloneAt, IsOfTry, IsPatience, NeedsNoHaste, PatienceLaw, SomebodyIsAlone}
+use Rattle.watch_laws.specs.Patience.{AloneLaw, IsAloneAt, IsOfTry, IsPatience, PatienceLaw, SomebodyIsAlone}
 use Rattle.watch_laws.proofs.Fronts.{alone_index, index_alone, sent_partial, sent_stays}
 use Rattle.watch_laws.proofs.Going.{request_at}
 use Rattle.watch_laws.proofs.Lanes.{Ticks, ticks}

@@ -1,5 +1,5 @@
 -- Waits: until when a clock waits. For the law of the wait.
-use Rattle.std.proofs.Common.{◌≡◌, ◌⊎◌, ◌∙◌, ℕ, zero, suc, ◌+◌, ◌*◌, ◌<◌, ◌≤◌, Bool, true, false, not, ◌&&◌, if◌then◌else◌, List, [], ◌∷◌, Option, Some, None, Result, Ok, Err, length, map, max, min, nat_lt, refl, sym, ap, subst, arith, inl, inr}
+use Rattle.std.proofs.Common.{◌≡◌, ◌⊎◌, ◌∙◌, ℕ, zero, suc, ◌+◌, ◌<◌, ◌≤◌, Bool, true, false, not, ◌&&◌, Option, Some, None, Result, Ok, Err, length, map, min, nat_lt, refl, sym, ap, subst, arith, inl, inr}
 use Rattle.std.proofs.lemmas.Bool.{and_parts, cases_Bool, cases_lt, cond-false, cond-true}
 use Rattle.std.proofs.lemmas.Bool.Decides.{nat_tests}
 use Rattle.std.specs.List.{range_with_len}
@@ -19,18 +19,18 @@ use Rattle.watch_machine.specs.declared.track.Track.{Track}
 use Rattle.watch_machine.specs.declared.track.Try.{Try}
 use Rattle.watch_machine.specs.Beginning.{is_pressed}
 use Rattle.watch_machine.specs.Clocks.{ms}
-use Rattle.watch_machine.specs.History.{Turn, Turned}
+use Rattle.watch_machine.specs.History.{Turn}
 use Rattle.watch_machine.specs.Lines.{ready}
 use Rattle.watch_machine.specs.Margins.{time}
 use Rattle.watch_machine.specs.Press.{pressed}
 use Rattle.watch_machine.specs.Refusal.{request_out}
 use Rattle.watch_machine.specs.Round.{asked_by_round}
-use Rattle.watch_machine.specs.State.{WatchState, attempt_at, entry_of, track_at}
+use Rattle.watch_machine.specs.State.{WatchState, entry_of, track_at}
 use Rattle.watch_machine.specs.Step.{Step, StepCommand, StepLooked, StepRenewed, readied}
 use Rattle.watch_machine.specs.Wait.{latest, next_of, time_at, try_at, wait}
-use Rattle.watch_machine.specs.Wanted.{is_wanted, least, wanted_need, wants}
+use Rattle.watch_machine.specs.Wanted.{least, wanted_need, wants}
 use Rattle.watch_machine.proofs.Leasts.{least_start}
-use Rattle.watch_laws.specs.Waits.{EndsSo, IsToBeDone, IsWait, TimeComes, TryComes, WaitLaw, WaitsSo, latest_wait}
+use Rattle.watch_laws.specs.Waits.{EndsSo, IsToBeDone, IsWait, WaitLaw, WaitsSo, latest_wait}
 use Rattle.watch_laws.proofs.Minding.{by_time, by_try, next_at, wait_each}
 
 -- the least of some numbers is one of them
