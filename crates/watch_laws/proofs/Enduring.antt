@@ -67,7 +67,7 @@ module _ (at bound : ℕ) (S : Type 0) where
   abbrev AllKept : Option Try → Type 0
   AllKept o = (t : Try) → o ≡ Some t → t.pressed ≡ true → IsKept at bound S t
 
-  none_stands : Stands no_track
+  pub none_stands : Stands no_track
   none_stands = record { last = omega arith; tries = λ t is. absurd cc }
 
   press_kept : (along : Bool) (x : Track) → Stands x → IsKept at bound S (press at along x)
@@ -130,7 +130,7 @@ mid_steady s round i bound S h =
     (pressed_stands c.at bound S g.margin (entry_at g.entries i) (need_of g.entries s.tracks c i) (track_at s i) h)))
 
 -- with or without a beginning
-begun_steady : (s : WatchState) (w : Option Why) (round : List ℕ) (i bound : ℕ) (S : Type 0) → Steady s.clocks.at bound S (track_at s i) → Steady s.clocks.at bound S (track_at (pressed (begun s w) round) i)
+pub begun_steady : (s : WatchState) (w : Option Why) (round : List ℕ) (i bound : ℕ) (S : Type 0) → Steady s.clocks.at bound S (track_at s i) → Steady s.clocks.at bound S (track_at (pressed (begun s w) round) i)
 begun_steady s None round i bound S h = mid_steady (begun s None) round i bound S h
 begun_steady s (Some w) round i bound S h =
     let at = s.clocks.at in

@@ -48,6 +48,7 @@ pub mod Undisturbed
 pub mod Ticking
 pub mod Answered
 pub mod Outliving
+pub mod Handed
 pub mod Recovering
 pub mod Fronts
 pub mod Foremost

@@ -297,11 +297,11 @@ step_shape old new (Need j until) output step = forest_shape new (with_need_unti
 step_shape old new Begin output step = forest_shape new old old (ap (λ (x : WatchState). x.forest) step.1) (refl, refl)
 step_shape old new (Known j end renewable) output step = forest_shape new old old (ap (λ (x : WatchState). x.forest) step.1) (refl, refl)
 
-turn_shape : (old new : WatchState) (event : Event) (result : Result Output WatchFault) → Turn old event result new → Shape new old
+pub turn_shape : (old new : WatchState) (event : Event) (result : Result Output WatchFault) → Turn old event result new → Shape new old
 turn_shape old new event (Ok output) turn = step_shape old new event output turn.1
 turn_shape old new event (Err fault) turn = forest_shape new old old (ap (λ (x : WatchState). x.forest) (refused_stays old new event fault turn)) (refl, refl)
 
-ran_shape : (turns : List Turned) (old : WatchState) → History old turns → Shape (after_all old turns) old
+pub ran_shape : (turns : List Turned) (old : WatchState) → History old turns → Shape (after_all old turns) old
 ran_shape [] old h = (refl, refl)
 ran_shape (turn ∷ turns) old h =
     let here = turn_shape old turn.state turn.event turn.result h.0 in
@@ -575,7 +575,7 @@ from_there o g width before last turns i from due wide run b lived few order sho
     let stays = first_stays o width n s i from due (waiting o n s + coming o n s turns) e.0 planned base entries b e.1 quiet timely few (begins f refl refl base) in
     along f planned turns due s history.1 lived stays
 
-left_from_clock :
+pub left_from_clock :
     (o : Outage) (g : Forest) (width : ℕ) (before : List Turned) (last : Turned) (turns : List Turned) (i from : ℕ) → 0 < width → IsWatchRun g width (before ++ last ∷ turns) → is_clock last.event ≡ true →
     is_event_taken last.result ≡ true → MayBeAsked last.state i from → AreLived o i (outage_next_after o last.result last.state 0) last.state turns →
     waiting o (length g.entries) last.state + coming o (length g.entries) last.state turns ≤ width * o.rounds → o.from ≤ o.until → IsShortOutage o (believed (track_at last.state i).end - from) → AllInTime o i from turns

@@ -35,7 +35,7 @@ both_undisturbed z y x h k = ((λ out. h.0 (k.0 out)), (λ out pressed'. k.1 out
 none_undisturbed : Undisturbed no_track no_track
 none_undisturbed = ((λ out. out), (λ out pressed'. pressed'))
 
-settled_pressed : (margin at : ℕ) (x : Track) (o : Option Try) → is_pressed_try (settled_try margin at x o) ≡ true → is_pressed_try o ≡ true
+pub settled_pressed : (margin at : ℕ) (x : Track) (o : Option Try) → is_pressed_try (settled_try margin at x o) ≡ true → is_pressed_try o ≡ true
 settled_pressed margin at x None = λ h. h
 settled_pressed margin at x (Some t) =
     if_both (λ (o : Option Try). is_pressed_try o ≡ true → t.pressed ≡ true) t.failed (Some (record t { at = at + pause margin at x t; alone = t.alone && nat_le (rested x.last) at; failed = false })) (Some t)

@@ -234,3 +234,30 @@ LeftLaw =
     IsWatchRun g width (before ++ last ∷ turns) → StartsBy o last i due → MayBeAsked last.state i from → AreLived o i due last.state turns →
     waiting o (length g.entries) last.state + coming o (length g.entries) last.state turns ≤ width * o.rounds → o.from ≤ o.until →
     IsShortOutage o (believed (track_at last.state i).end - from) → AllInTime o i from turns
+
+-- what a new watch may be told before its first clock: ends of an earlier one, needs, and that all is to begin anew
+abbrev pub is_handed : Event → Bool
+is_handed (Clock wall elapsed) = false
+is_handed (Looked j reply terms) = false
+is_handed (Renewed j reply) = false
+is_handed (Need j until) = true
+is_handed Begin = true
+is_handed (Known j end renewable) = true
+
+abbrev pub AreHanded : List Turned → Type 0
+AreHanded [] = Unit {0}
+AreHanded (turn ∷ turns) = (is_handed turn.event ≡ true) × AreHanded turns
+
+-- from which second on what is left to the end of i counts: from its time on, or from two seconds after now where that is later
+abbrev pub left_from : WatchState → ℕ → ℕ
+left_from s i = max (time_of s i) (second s + 2)
+
+-- a kill: so it is from the first clock of a watch on that was told the end of an entry which is wanted. It costs the time until that clock, as
+-- far as it lies past the entry's time, and two seconds
+abbrev pub KillLaw : Type 0
+KillLaw =
+    (o : Outage) (g : Forest) (width : ℕ) (before : List Turned) (first : Turned) (turns : List Turned) (i : ℕ) → 0 < width →
+    IsWatchRun g width (before ++ first ∷ turns) → AreHanded before → is_clock first.event ≡ true → is_event_taken first.result ≡ true → i < length g.entries →
+    is_wanted first.state i ≡ true → is_known (track_at first.state i).end ≡ true → AreLived o i (outage_next_after o first.result first.state 0) first.state turns →
+    waiting o (length g.entries) first.state + coming o (length g.entries) first.state turns ≤ width * o.rounds → o.from ≤ o.until →
+    IsShortOutage o (believed (track_at first.state i).end - left_from first.state i) → AllInTime o i (left_from first.state i) turns

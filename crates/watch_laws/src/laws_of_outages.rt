@@ -1,4 +1,4 @@
-ghost use Rattle.watch_laws.specs.Outage.{GrantLaw, LeftLaw, OutageLaw};
+ghost use Rattle.watch_laws.specs.Outage.{GrantLaw, KillLaw, LeftLaw, OutageLaw};
 
 /// The law of outages: from a clock on at which the time of an entry is ahead that is wanted and in the plan, and until it is granted or
 /// looked up, its end is ahead, through any outage that the margin outlasts: it is no longer than the margin less the request that its
@@ -20,4 +20,10 @@ pub fn grant_law()
 /// has come, and from the first clock on of a watch that was told the ends of an earlier one.
 pub fn left_law()
     ensures { LeftLaw }
+{}
+
+/// The law of a kill: from the first clock on of a watch that was told the end of an entry, this outlives each outage that what is left
+/// to its end outlasts, from its time on, or from two seconds after that clock where these are later.
+pub fn kill_law()
+    ensures { KillLaw }
 {}

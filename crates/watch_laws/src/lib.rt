@@ -34,7 +34,7 @@ pub use laws_of_ends::never_past_law;
 pub use laws_of_load::{load_law, spaced_law, width_law};
 pub use laws_of_margins::{counted_law, granted_law, in_plan_law, time_law};
 pub use laws_of_needs::{called_law, needed_law};
-pub use laws_of_outages::{grant_law, outage_law};
+pub use laws_of_outages::{grant_law, kill_law, left_law, outage_law};
 pub use laws_of_pace::pace_law;
 pub use laws_of_partial::{hung_law, once_law, partial_law, patience_law};
 pub use laws_of_pauses::{doubled_law, failed_law, failure_law, pause_law};

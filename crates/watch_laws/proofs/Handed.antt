@@ -1,0 +1,156 @@
+-- Handed: at a clock before which an entry was not pressed it is on its first try, if any; so at the first clock of a watch that was told ends.
+-- For the law of kills.
+use Rattle.std.proofs.Common.{◌≡◌, ◌∙◌, ℕ, zero, suc, ◌+◌, ◌<◌, ◌≤◌, true, false, ◌==◌, List, [], ◌∷◌, Some, All, Result, Ok, Err, length, map, refl, sym, ap, subst, arith, inl, inr}
+use Rattle.std.proofs.lemmas.Bool.{cases_Bool}
+use Rattle.std.proofs.lemmas.List.Elements.{All-weaker}
+use Rattle.std.specs.List.{list_any}
+use Rattle.keep_tree.specs.declared.entry.Entry.{Entry}
+use Rattle.watch_machine.specs.declared.command.Output.{Output}
+use Rattle.watch_machine.specs.declared.command.Request.{Request}
+use Rattle.watch_machine.specs.declared.event.Event.{Event}
+use Rattle.watch_machine.specs.declared.event.Event.TheVariants.{Clock, Looked, Renewed, Need, Begin, Known}
+use Rattle.watch_machine.specs.declared.fault.WatchFault.{WatchFault}
+use Rattle.watch_machine.specs.declared.lanes.Out.{Out}
+use Rattle.watch_machine.specs.declared.track.Track.{Track}
+use Rattle.watch_machine.specs.declared.track.Try.{Try}
+use Rattle.watch_machine.specs.Beginning.{is_pressed, is_pressed_try}
+use Rattle.watch_machine.specs.Clocks.{ms, sec}
+use Rattle.watch_machine.specs.History.{History, Turn, Turned, after_all}
+use Rattle.watch_machine.specs.Lines.{is_first, rested}
+use Rattle.watch_machine.specs.Press.{pressed}
+use Rattle.watch_machine.specs.Sending.{sent_in, sent_track}
+use Rattle.watch_machine.specs.Settling.{settled, settled_track, timed}
+use Rattle.watch_machine.specs.State.{WatchState, attempt_at, fresh_track, opened, track_at, track_in}
+use Rattle.watch_machine.specs.Step.{Step, readied, why}
+use Rattle.watch_machine.specs.Wanted.{is_known, is_wanted}
+use Rattle.watch_machine.proofs.Cases.{if_both, not_both}
+use Rattle.watch_laws.specs.Outage.{AreHanded, KillLaw, MayBeAsked, is_handed, left_from}
+use Rattle.watch_laws.proofs.Clocking.{readied_clocks, refused_stays}
+use Rattle.watch_laws.proofs.Enduring.{Steady, begun_steady, none_stands}
+use Rattle.watch_laws.proofs.Grounds.{IsBase, first_turns, last_turns, opened_base, ran_base, starts, turn_base}
+use Rattle.watch_laws.proofs.Lanes.{Ticks, all_sent}
+use Rattle.watch_laws.proofs.Marked.{free_lanes, none_of}
+use Rattle.watch_laws.proofs.Outliving.{left_from_clock, ran_shape, turn_shape}
+use Rattle.watch_laws.proofs.Retrying.{rises}
+use Rattle.watch_laws.proofs.Tracking.{each_holds, each_kept, set_kept}
+use Rattle.watch_laws.proofs.Undisturbed.{Undisturbed, clock_undisturbed, settled_pressed}
+
+-- two seconds hold the rest of this one, and one more
+two_seconds : (at : ℕ) → at + 1000 ≤ ms (sec at + 2)
+unfolding sec
+two_seconds at = omega arith
+
+-- who was not pressed has no pressed try when all that failed have settled
+loose_settles : (margin at bound : ℕ) (x : Track) → is_pressed x ≡ false → rested x.last ≤ bound → Steady at bound ⊥ (settled_track margin at x)
+unfolding settled_track
+loose_settles margin at bound x loose last =
+    record { last = last; tries = λ u is pressed'. absurd (not_both (settled_pressed margin at x x.attempt (ap is_pressed_try is ∙ pressed')) loose) }
+
+module _ (width n : ℕ) (old new : WatchState) (wall elapsed : ℕ) (output : Output) (i : ℕ) (h : Ticks old new wall elapsed output) (before : IsBase width n old) (after : IsBase width n new) (loose : is_pressed (track_at old i) ≡ false) where
+  abbrev mid : WatchState
+  mid = pressed (readied old wall elapsed) h.round
+
+  abbrev now : ℕ
+  now = (timed old wall elapsed).clocks.at
+
+  clock : new.clocks.at ≡ now
+  clock = ap (λ (x : WatchState). x.clocks.at) h.new_is ∙ ap (λ c. c.at) (readied_clocks old wall elapsed)
+
+  steady : Steady now (now + 1000) ⊥ (track_at mid i)
+  unfolding readied
+  steady =
+      let t = timed old wall elapsed in
+      let up = rises old wall elapsed before.past.start in
+      let last = before.past.last i in
+      let low : rested (track_at old i).last ≤ now + 1000 = omega (arith, up, last) in
+      begun_steady (settled t) (why old wall elapsed) h.round i (now + 1000) ⊥
+      (each_holds (Steady now (now + 1000) ⊥) (none_stands now (now + 1000) ⊥) (λ j. settled_track old.forest.margin now) old.tracks i
+      (loose_settles old.forest.margin now (now + 1000) (track_at old i) loose low))
+
+  attempt_kept : attempt_at new i ≡ attempt_at mid i
+  attempt_kept =
+      ap (λ (x : WatchState). attempt_at x i) h.new_is
+      ∙ each_kept (λ (y x : Track). y.attempt ≡ x.attempt) refl (sent_in mid.clocks.at h.requests) mid.tracks
+      (λ j x. if_both (λ (y : Track). y.attempt ≡ x.attempt) (list_any (λ (r : Request). r.entry == j) h.requests) (sent_track mid.clocks.at x) x refl refl) i
+
+  first_try : (t : Try) → attempt_at new i ≡ Some t → t.pressed ≡ true → (is_first t ≡ true) × ((t.failed ≡ false) × (t.at ≤ new.clocks.at + 1000))
+  first_try t is pressed' =
+      let k = steady.tries t (sym attempt_kept ∙ is) pressed' in
+      let soon = k.soon in
+      let c = clock in
+      elim k.first as (λ _. (is_first t ≡ true) × ((t.failed ≡ false) × (t.at ≤ new.clocks.at + 1000))) [
+        | inl first ↦ (first, (k.settled, omega (arith, soon, c)))
+        | inr never ↦ absurd never
+      ]
+
+  abbrev GoesNow : Out → Type 0
+  GoesNow q = q.entry ≡ i → is_pressed (track_at new i) ≡ true → (q.heard ≡ false) × (q.since ≡ new.clocks.at)
+
+  -- what was out is not of it, or not for a pressed try
+  was_out : All GoesNow old.out
+  was_out =
+      elim (cases_Bool (track_at old i).out) as (λ _. All GoesNow old.out) [
+        | inl out ↦
+            let still = subst (λ (x : WatchState). Undisturbed (track_at x i) (track_at old i)) (sym h.new_is) (clock_undisturbed old wall elapsed h.round h.requests i) in
+            (λ k d below is pressed'. absurd (not_both (still.1 out pressed') loose))
+        | inr free ↦ All-weaker (λ (q : Out). q.entry ≡ i → ⊥) GoesNow (λ q no' is. absurd (no' is)) old.out (none_of i old.out (free_lanes i old before.alone free))
+      ]
+
+  goes_now : All GoesNow new.out
+  goes_now =
+      let same : new.clocks.at ≡ mid.clocks.at = ap (λ (x : WatchState). x.clocks.at) h.new_is in
+      all_sent GoesNow old new wall elapsed output h was_out (λ k low due named is pressed'. (refl, sym same))
+
+  pub may_be_asked : i < length new.forest.entries → is_wanted new i ≡ true → is_known (track_at new i).end ≡ true → MayBeAsked new i (left_from new i)
+  may_be_asked within wanted known' =
+      let two = two_seconds new.clocks.at in
+      let last = after.past.last i in
+      record {
+        within = within;
+        wanted = wanted;
+        known = known';
+        first = λ t is pressed'. let f = first_try t is pressed' in let soon = f.1.1 in (f.0, (f.1.0, omega (arith, soon, two)));
+        fresh = goes_now;
+        come = omega arith;
+        ahead = omega arith;
+        rested = omega (arith, last, two);
+      }
+
+-- before its first clock a watch has pressed nobody
+step_loose : (i : ℕ) (old new : WatchState) (event : Event) (output : Output) → is_handed event ≡ true → Step old event output new → is_pressed (track_at old i) ≡ false → is_pressed (track_at new i) ≡ false
+step_loose i old new (Clock wall elapsed) output handed step loose = absurd cc
+step_loose i old new (Looked j reply terms) output handed step loose = absurd cc
+step_loose i old new (Renewed j reply) output handed step loose = absurd cc
+step_loose i old new (Need j until) output handed step loose = ap (λ (x : WatchState). is_pressed (track_at x i)) step.1 ∙ loose
+step_loose i old new Begin output handed step loose = ap (λ (x : WatchState). is_pressed (track_at x i)) step.1 ∙ loose
+step_loose i old new (Known j end renewable) output handed step loose =
+    ap (λ (x : WatchState). is_pressed (track_at x i)) step.1 ∙ set_kept (λ (y x : Track). is_pressed y ≡ is_pressed x) (λ x. refl) old.tracks j _ refl i ∙ loose
+
+turn_loose : (i : ℕ) (old new : WatchState) (event : Event) (result : Result Output WatchFault) → is_handed event ≡ true → Turn old event result new → is_pressed (track_at old i) ≡ false → is_pressed (track_at new i) ≡ false
+turn_loose i old new event (Ok output) handed turn loose = step_loose i old new event output handed turn.1 loose
+turn_loose i old new event (Err fault) handed turn loose = ap (λ (x : WatchState). is_pressed (track_at x i)) (refused_stays old new event fault turn) ∙ loose
+
+ran_loose : (i : ℕ) (turns : List Turned) (old : WatchState) → AreHanded turns → History old turns → is_pressed (track_at old i) ≡ false → is_pressed (track_at (after_all old turns) i) ≡ false
+ran_loose i [] old handed h loose = loose
+ran_loose i (turn ∷ turns) old handed h loose = ran_loose i turns turn.state handed.1 h.1 (turn_loose i old turn.state turn.event turn.result handed.0 h.0 loose)
+
+first_loose : (es : List Entry) (i : ℕ) → is_pressed (track_in (map fresh_track es) i) ≡ false
+first_loose [] i = refl
+first_loose (e ∷ es) zero = refl
+first_loose (e ∷ es) (suc i) = first_loose es i
+
+pub killed : KillLaw
+killed o g width before first turns i wide run handed clock' taken' low wanted known' lived few order short =
+    let n = length g.entries in
+    let old = after_all (opened g width) before in
+    let s = first.state in
+    let history = last_turns before (first ∷ turns) (opened g width) run in
+    let until = first_turns before (first ∷ turns) (opened g width) run in
+    let base = ran_base width n before (opened g width) until (opened_base g width) in
+    let after = turn_base width n old s first.event first.result history.0 base in
+    let start = starts o old first first.event first.result refl history.0 clock' taken' in
+    let loose = ran_loose i before (opened g width) handed until (first_loose g.entries i) in
+    let here = (turn_shape old s first.event first.result history.0).0 in
+    let there = (ran_shape before (opened g width) until).0 in
+    left_from_clock o g width before first turns i (left_from s i) wide run clock' taken'
+    (may_be_asked width n old s start.wall start.elapsed start.output i start.ticks' base after loose (omega (arith, low, here, there)) wanted known') lived few order short
