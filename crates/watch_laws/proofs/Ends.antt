@@ -41,9 +41,10 @@ use Rattle.watch_machine.specs.State.{WatchState, entry_of, fresh_track, no_trac
 use Rattle.watch_machine.specs.Step.{Step, StepClock, StepCommand, StepLooked, StepRenewed, known, readied}
 use Rattle.watch_machine.proofs.Cases.{if_both, not_both, of_value}
 use Rattle.watch_machine.proofs.Within.{out_all, out_entry}
-use Rattle.watch_laws.specs.Ends.{AllNoLater, AreLivedFrom, IsHonest, IsNoLater, IsTrueEvent, IsTrueReply, Lived, NeverPastLaw, Origin, TimedWorld, asked_after, no_origin, tells, tells_an_end, told_after}
+use Rattle.watch_laws.specs.Ends.{AllNoLater, AreLivedFrom, IsHonest, IsNoLater, IsTrueEvent, IsTrueReply, Lived, NeverPastLaw, Origin, TimedWorld, asked_after, no_origin, tells, told_after}
 use Rattle.watch_laws.specs.Absence.{is_event_taken}
 use Rattle.watch_laws.specs.Load.{requests_asked_by, requests_at_turn}
+use Rattle.watch_laws.specs.Presence.{is_told}
 use Rattle.watch_laws.proofs.Alone.{IsAlone, flag, turn_alone}
 use Rattle.watch_laws.proofs.Answering.{looked_leaves, renewed_leaves, rest_of}
 use Rattle.watch_laws.proofs.Basing.{BaseBy, Passes, Timely, back_passes, base_later, from_try_by, granted_base, later_timely, mid_passes, none_timely, readied_passes, same_passes, told_base, ungranted_base, untold_base}
@@ -335,7 +336,7 @@ module _ (w : TimedWorld) (honest : IsHonest w) (asked real : ℕ) (told o : Ori
       set_holds (Freed w s.clocks.phase real told s.clocks.at) (none_freed w s.clocks.phase real told s.clocks.at) s.tracks q.entry (untold_track s.clocks.at q.heard reply (track_at s q.entry))
       (record { end = end; base = untold_base s.clocks.at s.clocks.at q.heard reply (track_at s q.entry) (track_at s q.entry).attempt base; free = refl })
 
-  looked_freed : (reply : Reply) (terms : Terms) → IsTrueReply asked real o reply → Freed w s.clocks.phase real (if tells_an_end reply then o else told) s.clocks.at (track_at (looked s q reply terms) q.entry)
+  looked_freed : (reply : Reply) (terms : Terms) → IsTrueReply asked real o reply → Freed w s.clocks.phase real (if is_told reply then o else told) s.clocks.at (track_at (looked s q reply terms) q.entry)
   looked_freed (Told seconds renewable date) terms so =
       let i = q.entry in
       let P : Track → Type 0 = Freed w s.clocks.phase real o s.clocks.at in
@@ -367,16 +368,16 @@ module _ (w : TimedWorld) (honest : IsHonest w) (asked real : ℕ) (told o : Ori
   unfolding ungranted_track
   ungranted_freed reply = record { end = end; base = ungranted_base s.clocks.at s.clocks.at q.heard reply (track_at s q.entry) (track_at s q.entry).attempt base; free = refl }
 
-  renewed_made : (reply : Reply) → IsTrueReply asked real o reply → BaseBy (w.reading asked + s.clocks.phase) (track_at s q.entry).attempt → Freed w s.clocks.phase real (if tells_an_end reply then o else told) s.clocks.at (track_renewed s q reply)
+  renewed_made : (reply : Reply) → IsTrueReply asked real o reply → BaseBy (w.reading asked + s.clocks.phase) (track_at s q.entry).attempt → Freed w s.clocks.phase real (if is_told reply then o else told) s.clocks.at (track_renewed s q reply)
   unfolding renewed_track
   renewed_made (Told seconds renewable date) so early = granted_freed s.forest.margin (entry_of s q.entry).step seconds renewable date so early
   renewed_made (Refused status date) so early = ungranted_freed (Refused status date)
   renewed_made Busy so early = ungranted_freed Busy
   renewed_made Lost so early = ungranted_freed Lost
 
-  renewed_freed : (reply : Reply) → IsTrueReply asked real o reply → BaseBy (w.reading asked + s.clocks.phase) (track_at s q.entry).attempt → Freed w s.clocks.phase real (if tells_an_end reply then o else told) s.clocks.at (track_at (state_renewed s q reply) q.entry)
+  renewed_freed : (reply : Reply) → IsTrueReply asked real o reply → BaseBy (w.reading asked + s.clocks.phase) (track_at s q.entry).attempt → Freed w s.clocks.phase real (if is_told reply then o else told) s.clocks.at (track_at (state_renewed s q reply) q.entry)
   renewed_freed reply so early =
-      let after = if tells_an_end reply then o else told in
+      let after = if is_told reply then o else told in
       set_holds (Freed w s.clocks.phase real after s.clocks.at) (none_freed w s.clocks.phase real after s.clocks.at) s.tracks q.entry (track_renewed s q reply) (renewed_made reply so early)
 
 -- a request that is found is marked as out
@@ -407,24 +408,24 @@ both_false false b h = refl
 own_answer :
     (w : TimedWorld) (i now asked j : ℕ) (told o : Origin) (real : ℕ) (old mid new : WatchState) (q : Out) (reply : Reply) → new ≡ replied mid q reply → mid.out ≡ old.out → rest_of new ≡ rest_of old →
     IsAlone new → q.entry ≡ j → Stands w i now asked told real old → (q.entry ≢ i → track_at mid i ≡ track_at old i) →
-    (j ≡ i → q.entry ≡ i → Freed w old.clocks.phase real (if tells_an_end reply then o else told) old.clocks.at (track_at mid q.entry)) →
-    Stands w i now asked (if tells_an_end reply && j == i then o else told) real new
+    (j ≡ i → q.entry ≡ i → Freed w old.clocks.phase real (if is_told reply then o else told) old.clocks.at (track_at mid q.entry)) →
+    Stands w i now asked (if is_told reply && j == i then o else told) real new
 own_answer w i now asked j told o real old mid new q reply is out rest alone entry h other own =
     let n = w.reading asked + old.clocks.phase in
-    let after = if tells_an_end reply && j == i then o else told in
+    let after = if is_told reply && j == i then o else told in
     elim (cases_Bool (j == i)) as (λ _. Stands w i now asked after real new) [
       | inl same ↦
           let mine : q.entry ≡ i = entry ∙ eqb-true j i same in
           let freed = own (eqb-true j i same) mine in
-          let which = ap (λ b. if b then o else told) (both_true (tells_an_end reply) (j == i) same) in
-          let this = if tells_an_end reply then o else told in
+          let which = ap (λ b. if b then o else told) (both_true (is_told reply) (j == i) same) in
+          let this = if is_told reply then o else told in
           let x : Freed w old.clocks.phase real this old.clocks.at (track_at mid i) = subst (λ k. Freed w old.clocks.phase real this old.clocks.at (track_at mid k)) mine freed in
           subst (λ y. Stands w i now asked y real new) (sym which)
           (answered w i now asked told this real old mid new q reply is out rest alone h x.end (freed_timely w old.clocks.phase real this old.clocks.at n (track_at mid i) x))
       | inr different ↦
           let apart : q.entry ≢ i = λ e. not_both (subst (λ k. (k == i) ≡ true) (sym e ∙ entry) (same_index i)) different in
           let left = other apart in
-          let which = ap (λ b. if b then o else told) (both_false (tells_an_end reply) (j == i) different) in
+          let which = ap (λ b. if b then o else told) (both_false (is_told reply) (j == i) different) in
           subst (λ y. Stands w i now asked y real new) (sym which)
           (answered w i now asked told told real old mid new q reply is out rest alone h (subst (λ (x : Track). EndBy w old.clocks.phase real told x.end) (sym left) h.end)
           (subst (Timely old.clocks.at n) (sym left) h.timely))
@@ -433,7 +434,7 @@ own_answer w i now asked j told o real old mid new q reply is out rest alone ent
 looked_stands :
     (w : TimedWorld) → IsHonest w → (i now asked j : ℕ) (told o : Origin) (real : ℕ) (old new : WatchState) (found : Option Out) (reply : Reply) (terms : Terms) (output : Output) → request_out old.out j Look ≡ found →
     StepLooked old found reply terms output new → IsAlone new → (j ≡ i → IsTrueReply asked real o reply) → Stands w i now asked told real old →
-    Stands w i now asked (if tells_an_end reply && j == i then o else told) real new
+    Stands w i now asked (if is_told reply && j == i then o else told) real new
 looked_stands w honest i now asked j told o real old new None reply terms output is step alone so h = absurd step
 looked_stands w honest i now asked j told o real old new (Some q) reply terms output is step alone so h =
     let s = noted old q reply in
@@ -446,7 +447,7 @@ looked_stands w honest i now asked j told o real old new (Some q) reply terms ou
 renewed_stands :
     (w : TimedWorld) → IsHonest w → (i now asked j : ℕ) (told o : Origin) (real : ℕ) (old new : WatchState) (found : Option Out) (reply : Reply) (output : Output) → request_out old.out j Renew ≡ found →
     StepRenewed old found reply output new → IsAlone new → (j ≡ i → IsTrueReply asked real o reply) → Stands w i now asked told real old →
-    Stands w i now asked (if tells_an_end reply && j == i then o else told) real new
+    Stands w i now asked (if is_told reply && j == i then o else told) real new
 renewed_stands w honest i now asked j told o real old new None reply output is step alone so h = absurd step
 renewed_stands w honest i now asked j told o real old new (Some q) reply output is step alone so h =
     let s = noted old q reply in
@@ -524,10 +525,10 @@ step_stands :
     IsTrueEvent w i asked old l event → Step old event output new → IsAlone new → Stands w i l.at (Asked i l.at asked (Ok output)) (if tells i event then l.origin else told) l.real new
 step_stands w honest i asked told l old (Clock wall elapsed) output new h so step alone = clock_stands w honest i l.at asked told l.real old new wall elapsed output h so step alone
 step_stands w honest i asked told l old (Looked j reply terms) output new h so step alone =
-    subst (λ a. Stands w i l.at a (if tells_an_end reply && j == i then l.origin else told) l.real new) (sym (looked_quiet i l.at asked old new (request_out old.out j Look) reply terms output step))
+    subst (λ a. Stands w i l.at a (if is_told reply && j == i then l.origin else told) l.real new) (sym (looked_quiet i l.at asked old new (request_out old.out j Look) reply terms output step))
     (looked_stands w honest i l.at asked j told l.origin l.real old new (request_out old.out j Look) reply terms output refl step alone so h)
 step_stands w honest i asked told l old (Renewed j reply) output new h so step alone =
-    subst (λ a. Stands w i l.at a (if tells_an_end reply && j == i then l.origin else told) l.real new) (sym (renewed_quiet i l.at asked old new (request_out old.out j Renew) reply output step))
+    subst (λ a. Stands w i l.at a (if is_told reply && j == i then l.origin else told) l.real new) (sym (renewed_quiet i l.at asked old new (request_out old.out j Renew) reply output step))
     (renewed_stands w honest i l.at asked j told l.origin l.real old new (request_out old.out j Renew) reply output refl step alone so h)
 step_stands w honest i asked told l old (Need j until) output new h so step alone =
     subst (λ a. Stands w i l.at a told l.real new) (sym (quiet i l.at asked output _ step.0 refl))

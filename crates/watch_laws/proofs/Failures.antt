@@ -26,7 +26,8 @@ use Rattle.watch_machine.specs.Wanted.{is_alive, is_open}
 use Rattle.watch_machine.proofs.Cases.{if_cases, not_both, value_is}
 use Rattle.watch_machine.proofs.Within.{out_entry}
 use Rattle.watch_laws.specs.Absence.{is_event_taken}
-use Rattle.watch_laws.specs.Failures.{FailureLaw, IsFailure, asked_after_lookup, asked_after_renewal, is_refused, is_told}
+use Rattle.watch_laws.specs.Failures.{FailureLaw, IsFailure, asked_after_lookup, asked_after_renewal, is_refused}
+use Rattle.watch_laws.specs.Presence.{is_told}
 use Rattle.watch_laws.proofs.Minding.{some_within}
 use Rattle.watch_laws.proofs.Tracking.{back_kept, set_holds}
 

@@ -1,7 +1,7 @@
 -- Ends: no believed end comes after the real one. The law is the contract of a public function without a body.
 -- Source: this project's own, over Vault, HTTP API: `auth/token`, "Lookup a token (self)" and "Renew a token (self)";
 -- `sys/leases`, "Read lease" and "Renew lease" (the seconds count from the reply).
-use Rattle.std.specs.Prelude.{◌≡◌, ◌==◌, ℕ, ◌+◌, ◌≤◌, Bool, true, false, ◌&&◌, if◌then◌else◌, List, [], ◌∷◌}
+use Rattle.std.specs.Prelude.{◌≡◌, ◌==◌, ℕ, ◌+◌, ◌≤◌, Bool, false, ◌&&◌, if◌then◌else◌, List, [], ◌∷◌}
 use Rattle.std.specs.List.{list_any}
 use Rattle.keep_tree.specs.Forest.{Forest}
 use Rattle.watch_machine.specs.declared.event.Event.{Event}
@@ -14,6 +14,7 @@ use Rattle.watch_machine.specs.History.{Turn, Turned}
 use Rattle.watch_machine.specs.State.{WatchState, opened, track_at}
 use Rattle.watch_laws.specs.Absence.{is_event_taken}
 use Rattle.watch_laws.specs.Load.{requests_at_turn}
+use Rattle.watch_laws.specs.Presence.{is_told}
 
 -- the world beside a watch. Moments of it are milliseconds of real time: what the clock that never steps shows at each, and by
 -- how much it may have fallen behind between two
@@ -77,16 +78,10 @@ AreLivedFrom w i s last asked real (l ∷ ls) =
     × AreLivedFrom w i l.turn.state l.at (asked_after i asked l) l.real ls)))
 
 -- an event tells the end of i
-abbrev pub tells_an_end : Reply → Bool
-tells_an_end (Told seconds renewable date) = true
-tells_an_end (Refused status date) = false
-tells_an_end Busy = false
-tells_an_end Lost = false
-
 abbrev pub tells : ℕ → Event → Bool
 tells i (Clock wall elapsed) = false
-tells i (Looked j reply terms) = tells_an_end reply && j == i
-tells i (Renewed j reply) = tells_an_end reply && j == i
+tells i (Looked j reply terms) = is_told reply && j == i
+tells i (Renewed j reply) = is_told reply && j == i
 tells i (Need j until) = false
 tells i Begin = false
 tells i (Known j end renewable) = j == i

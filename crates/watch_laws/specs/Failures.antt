@@ -19,6 +19,7 @@ use Rattle.watch_machine.specs.Refusal.{request_out}
 use Rattle.watch_machine.specs.State.{WatchState, attempt_at, opened, second, track_at}
 use Rattle.watch_machine.specs.Wanted.{is_alive, is_open}
 use Rattle.watch_laws.specs.Absence.{is_event_taken}
+use Rattle.watch_laws.specs.Presence.{is_told}
 use Rattle.watch_laws.specs.Presses.{asked_again_at}
 use Rattle.watch_laws.specs.Waiting.{TryFails}
 
@@ -84,13 +85,7 @@ AllKeepLoss old (turn ∷ turns) = KeepsLoss old turn × AllKeepLoss turn.state 
 abbrev pub StaysLostLaw : Type 0
 StaysLostLaw = (g : Forest) (width : ℕ) (turns : List Turned) → IsWatchRun g width turns → AllKeepLoss (opened g width) turns
 
--- what came of a request
-abbrev pub is_told : Reply → Bool
-is_told (Told seconds renewable date) = true
-is_told (Refused status date) = false
-is_told Busy = false
-is_told Lost = false
-
+-- what came of a request that told nothing
 abbrev pub is_refused : Reply → Bool
 is_refused (Told seconds renewable date) = false
 is_refused (Refused status date) = true

@@ -21,8 +21,8 @@ use Rattle.watch_machine.specs.Settling.{timed}
 use Rattle.watch_machine.specs.State.{WatchState, attempt_at, opened, second, track_at}
 use Rattle.watch_machine.specs.Wanted.{believed, is_alive, is_wanted, least}
 use Rattle.watch_laws.specs.Absence.{is_clock, is_event_taken}
-use Rattle.watch_laws.specs.Failures.{is_told}
 use Rattle.watch_laws.specs.Outage.{how_many, one_where}
+use Rattle.watch_laws.specs.Presence.{is_told}
 use Rattle.watch_laws.specs.Recovery.{MayGo}
 
 -- a partial outage, in milliseconds of the watch's clock: which entries are hung, so that each of their requests may be silent until

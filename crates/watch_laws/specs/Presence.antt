@@ -20,6 +20,13 @@ is_answered (Refused status date) = true
 is_answered Busy = true
 is_answered Lost = false
 
+-- it told what was asked
+abbrev pub is_told : Reply → Bool
+is_told (Told seconds renewable date) = true
+is_told (Refused status date) = false
+is_told Busy = false
+is_told Lost = false
+
 -- so at an event
 abbrev pub answers : Event → Bool
 answers (Clock wall elapsed) = false
