@@ -25,6 +25,7 @@ use Rattle.watch_machine.specs.Settling.{timed}
 use Rattle.watch_machine.specs.State.{WatchState, attempt_at, entry_of, second, track_at}
 use Rattle.watch_machine.specs.Wanted.{believed, is_known, is_wanted, least}
 use Rattle.watch_laws.specs.Absence.{is_clock, is_event_taken}
+use Rattle.watch_laws.specs.Presence.{is_told}
 
 -- an outage, in milliseconds of the watch's clock: when it begins and ends; by when a request is settled while the broker is there,
 -- and by when at all; how late a clock is handed in at most; and how many rounds of all lanes hold those that wait and come to wait
@@ -168,12 +169,6 @@ abbrev pub granted_at : WatchState → ℕ → ℕ
 granted_at s i = clock_asked_at (track_at s i).last
 
 -- a reply tells the end of i: to a renewal that is granted, or to a lookup
-abbrev pub is_told : Reply → Bool
-is_told (Told seconds renewable date) = true
-is_told (Refused status date) = false
-is_told Busy = false
-is_told Lost = false
-
 abbrev pub tells : ℕ → Event → Bool
 tells i (Clock wall elapsed) = false
 tells i (Looked j reply terms) = j == i && is_told reply
