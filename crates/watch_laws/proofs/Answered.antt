@@ -1,8 +1,9 @@
 -- Answered: what an answer makes of the stages of an outage. For the law of outages.
-use Rattle.std.proofs.Common.{◌≡◌, ◌≢◌, ◌⊎◌, ◌∙◌, ℕ, suc, ◌+◌, ◌<◌, ◌≤◌, Bool, true, false, ◌&&◌, ◌==◌, Some, All, length, refl, sym, ap, subst, arith, inl, inr}
+use Rattle.std.proofs.Common.{◌≡◌, ◌≢◌, ◌⊎◌, ◌∙◌, ℕ, suc, ◌+◌, ◌<◌, ◌≤◌, Bool, true, false, ◌&&◌, ◌==◌, List, Some, All, length, refl, sym, ap, subst, arith, inl, inr, true≢false}
 use Rattle.std.proofs.lemmas.Bool.{cases_Bool, eqb-true}
 use Rattle.std.proofs.lemmas.List.{get_or-set_other, get_or-set_same}
 use Rattle.std.specs.List.{list_any}
+use Rattle.std.specs.Prelude.{slice_set}
 use Rattle.watch_machine.specs.declared.command.Output.{Output}
 use Rattle.watch_machine.specs.declared.event.Operation.{Operation}
 use Rattle.watch_machine.specs.declared.event.Operation.TheVariants.{Look, Renew}
@@ -10,20 +11,22 @@ use Rattle.watch_machine.specs.declared.event.Reply.{Reply}
 use Rattle.watch_machine.specs.declared.event.Reply.TheVariants.{Told, Refused, Busy, Lost}
 use Rattle.watch_machine.specs.declared.event.Terms.{Terms}
 use Rattle.watch_machine.specs.declared.lanes.Out.{Out}
+use Rattle.watch_machine.specs.declared.track.Track.{Track}
 use Rattle.watch_machine.specs.Answers.{heard, noted}
 use Rattle.watch_machine.specs.Clocks.{ms}
-use Rattle.watch_machine.specs.Looked.{looked, untold_track}
+use Rattle.watch_machine.specs.Looked.{looked}
 use Rattle.watch_machine.specs.Refusal.{request_out}
-use Rattle.watch_machine.specs.Renewed.{renewed_track, state_renewed, ungranted_track}
+use Rattle.watch_machine.specs.Renewed.{renewed_track, state_renewed}
 use Rattle.watch_machine.specs.Settling.{is_real}
-use Rattle.watch_machine.specs.State.{WatchState, no_track, track_at}
+use Rattle.watch_machine.specs.State.{WatchState, no_track, track_at, track_in}
 use Rattle.watch_machine.specs.Step.{StepLooked, StepRenewed}
 use Rattle.watch_machine.proofs.Cases.{not_both, of_value}
 use Rattle.watch_machine.proofs.Within.{out_all, out_entry}
-use Rattle.watch_laws.specs.Outage.{IsReplyInOutage, comes, how_many, is_request_served, is_request_whole, outage_settled_by, waiting}
+use Rattle.watch_laws.specs.Outage.{IsReplyInOutage, TellsNothing, comes, how_many, is_request_served, is_request_whole, outage_settled_by, waiting}
+use Rattle.watch_laws.specs.Presence.{is_told}
 use Rattle.watch_laws.proofs.Alone.{flag}
 use Rattle.watch_laws.proofs.Answering.{looked_leaves, renewed_leaves, rest_of}
-use Rattle.watch_laws.proofs.Enduring.{Cutting, Endures, IsAnswered, IsFailed, lost_endures, own_endures, real_endures, ungranted_failed, untold_failed}
+use Rattle.watch_laws.proofs.Enduring.{Cutting, Endures, IsAnswered, IsFailed, lost_endures, own_endures, real_endures, refused_endures, ungranted_failed, untold_failed}
 use Rattle.watch_laws.proofs.Holding.{looked_presence}
 use Rattle.watch_laws.proofs.Lanes.{Sends, all_left, fewer_wait, is_of, passes, replied_any, replied_lane}
 use Rattle.watch_laws.proofs.Lasting.{Same, same_time}
@@ -40,7 +43,7 @@ pub record IsReplied (f : Facts) (due : ℕ) (old mid new : WatchState) (q : Out
   pub found : request_out old.out j operation ≡ Some q
   pub reply_is : IsReplyInOutage f.o reply q
   pub other : q.entry ≢ f.i → track_at mid f.i ≡ track_at old f.i
-  pub own : q.entry ≡ f.i → (reply ≡ Lost) × IsFailed (track_at mid f.i) (track_at old f.i)
+  pub own : q.entry ≡ f.i → TellsNothing f.o reply q × IsFailed (track_at mid f.i) (track_at old f.i)
   pub going : IsGoing f due old
   pub base : IsBase f.width f.n new
   pub same : Same f.i old new
@@ -56,16 +59,22 @@ module _ (f : Facts) (due : ℕ) (old mid new : WatchState) (q : Out) (reply : R
   lost_broke is = subst (λ r. IsReplyInOutage f.o r q) is t.reply_is
 
   -- the entry endures it
+  by_real : (bound : ℕ) (miss : Type 0) → is_real reply ≡ true → Endures f.o f.i f.end bound due miss old → Endures f.o f.i f.end bound due miss new
+  by_real bound miss real h =
+      elim (cases_Bool (q.entry == f.i)) as (λ _. Endures f.o f.i f.end bound due miss new) [
+        | inl here ↦
+            let mine = eqb-true q.entry f.i here in
+            let own = t.own mine in
+            refused_endures f.o f.i f.end bound due miss old mid new q reply t.answered real t.going.base.past.hold own.0.1 timely (of_this (Cutting f.o f.i bound miss old) h.out) mine own.1 h
+        | inr different ↦
+            let apart : q.entry ≢ f.i = λ e. not_both (subst (λ n. (n == f.i) ≡ true) (sym e) (same_index f.i)) different in
+            real_endures f.o f.i f.end bound due miss old mid new q reply t.answered (t.other apart) real t.going.base.past.hold h
+      ]
+
   by_reply : (bound : ℕ) (miss : Type 0) → (w : Reply) → reply ≡ w → Endures f.o f.i f.end bound due miss old → Endures f.o f.i f.end bound due miss new
-  by_reply bound miss (Told seconds renewable date) is h =
-      let apart : q.entry ≢ f.i = λ own. (let bad : Told seconds renewable date ≡ Lost = sym is ∙ (t.own own).0 in absurd cc) in
-      real_endures f.o f.i f.end bound due miss old mid new q reply t.answered (t.other apart) (ap is_real is) t.going.base.past.hold h
-  by_reply bound miss (Refused status date) is h =
-      let apart : q.entry ≢ f.i = λ own. (let bad : Refused status date ≡ Lost = sym is ∙ (t.own own).0 in absurd cc) in
-      real_endures f.o f.i f.end bound due miss old mid new q reply t.answered (t.other apart) (ap is_real is) t.going.base.past.hold h
-  by_reply bound miss Busy is h =
-      let apart : q.entry ≢ f.i = λ own. (let bad : Busy ≡ Lost = sym is ∙ (t.own own).0 in absurd cc) in
-      real_endures f.o f.i f.end bound due miss old mid new q reply t.answered (t.other apart) (ap is_real is) t.going.base.past.hold h
+  by_reply bound miss (Told seconds renewable date) is h = by_real bound miss (ap is_real is) h
+  by_reply bound miss (Refused status date) is h = by_real bound miss (ap is_real is) h
+  by_reply bound miss Busy is h = by_real bound miss (ap is_real is) h
   by_reply bound miss Lost is h =
       let broke = lost_broke is in
       let a : IsAnswered old mid new q Lost = subst (IsAnswered old mid new q) is t.answered in
@@ -176,7 +185,7 @@ module _ (f : Facts) (due : ℕ) (old mid new : WatchState) (q : Out) (reply : R
       }))
   replied_through rest sends (inr (inr (inl h))) =
       let P : Out → Type 0 = λ r. r.entry ≡ f.i → (is_request_whole f.o r.since ≡ true) × (r.since ≤ h.sent) in
-      let apart : q.entry ≢ f.i = λ is. not_both (of_this P h.whole is).0 (lost_broke (t.own is).0) in
+      let apart : q.entry ≢ f.i = λ is. not_both (of_this P h.whole is).0 (t.own is).0.1 in
       inr (inr (inl (record {
         served =
             ap (λ (x : WatchState). is_request_served f.o x f.i) t.answered.is
@@ -202,27 +211,33 @@ module _ (f : Facts) (due : ℕ) (old mid new : WatchState) (q : Out) (reply : R
         next = h.next;
       })))
 
--- what a loss makes of the track
-looked_made : (t : WatchState) (r : Out) (w : Reply) (terms : Terms) (i : ℕ) → r.entry ≡ i → w ≡ Lost → i < length t.tracks → IsFailed (track_at (looked (noted t r w) r w terms) i) (track_at t i)
-looked_made t r w terms i is lost' below' =
-    subst (λ v. IsFailed (track_at (looked (noted t r v) r v terms) i) (track_at t i)) (sym lost')
-    (subst (λ k. IsFailed (track_at (looked (noted t r Lost) r Lost terms) k) (track_at t k)) is
-    (subst (λ x. IsFailed x (track_at t r.entry)) (sym (get_or-set_same t.tracks r.entry (untold_track t.clocks.at r.heard Lost (track_at t r.entry)) no_track (omega (arith, is, below'))))
-    (untold_failed t.clocks.at r.heard (track_at t r.entry))))
+-- what an answer makes of the track that tells nothing
+set_failed : (xs : List Track) (k : ℕ) (y : Track) → k < length xs → IsFailed y (track_in xs k) → IsFailed (track_in (slice_set xs k y) k) (track_in xs k)
+set_failed xs k y below' h = subst (λ x. IsFailed x (track_in xs k)) (sym (get_or-set_same xs k y no_track below')) h
 
-own_made : (t : WatchState) (r : Out) (w : Reply) (i : ℕ) → r.entry ≡ i → w ≡ Lost → i < length t.tracks → IsFailed (track_at (state_renewed (noted t r w) r w) i) (track_at t i)
+looked_at : (t : WatchState) (r : Out) (w : Reply) (terms : Terms) → is_told w ≡ false → r.entry < length t.tracks → IsFailed (track_at (looked (noted t r w) r w terms) r.entry) (track_at t r.entry)
+looked_at t r (Told seconds renewable date) terms untold' below' = absurd (true≢false untold')
+looked_at t r (Refused status date) terms untold' below' = set_failed t.tracks r.entry _ below' (untold_failed t.clocks.at r.heard (Refused status date) (track_at t r.entry) refl)
+looked_at t r Busy terms untold' below' = set_failed t.tracks r.entry _ below' (untold_failed t.clocks.at r.heard Busy (track_at t r.entry) refl)
+looked_at t r Lost terms untold' below' = set_failed t.tracks r.entry _ below' (untold_failed t.clocks.at r.heard Lost (track_at t r.entry) refl)
+
+looked_made : (t : WatchState) (r : Out) (w : Reply) (terms : Terms) (i : ℕ) → r.entry ≡ i → is_told w ≡ false → i < length t.tracks → IsFailed (track_at (looked (noted t r w) r w terms) i) (track_at t i)
+looked_made t r w terms i is untold' below' = subst (λ k. IsFailed (track_at (looked (noted t r w) r w terms) k) (track_at t k)) is (looked_at t r w terms untold' (omega (arith, is, below')))
+
+renewed_at : (t : WatchState) (r : Out) (w : Reply) → is_told w ≡ false → r.entry < length t.tracks → IsFailed (track_at (state_renewed (noted t r w) r w) r.entry) (track_at t r.entry)
 unfolding renewed_track
-own_made t r w i is lost' below' =
-    subst (λ v. IsFailed (track_at (state_renewed (noted t r v) r v) i) (track_at t i)) (sym lost')
-    (subst (λ k. IsFailed (track_at (state_renewed (noted t r Lost) r Lost) k) (track_at t k)) is
-    (subst (λ x. IsFailed x (track_at t r.entry)) (sym (get_or-set_same t.tracks r.entry (ungranted_track t.clocks.at r.heard Lost (track_at t r.entry)) no_track (omega (arith, is, below'))))
-    (ungranted_failed t.clocks.at r.heard (track_at t r.entry))))
+renewed_at t r (Told seconds renewable date) untold' below' = absurd (true≢false untold')
+renewed_at t r (Refused status date) untold' below' = set_failed t.tracks r.entry _ below' (ungranted_failed t.clocks.at r.heard (Refused status date) (track_at t r.entry) refl)
+renewed_at t r Busy untold' below' = set_failed t.tracks r.entry _ below' (ungranted_failed t.clocks.at r.heard Busy (track_at t r.entry) refl)
+renewed_at t r Lost untold' below' = set_failed t.tracks r.entry _ below' (ungranted_failed t.clocks.at r.heard Lost (track_at t r.entry) refl)
 
--- the answers themselves
+renewed_made : (t : WatchState) (r : Out) (w : Reply) (i : ℕ) → r.entry ≡ i → is_told w ≡ false → i < length t.tracks → IsFailed (track_at (state_renewed (noted t r w) r w) i) (track_at t i)
+renewed_made t r w i is untold' below' = subst (λ k. IsFailed (track_at (state_renewed (noted t r w) r w) k) (track_at t k)) is (renewed_at t r w untold' (omega (arith, is, below')))
+
 pub looked_replied :
     (f : Facts) (due : ℕ) (old new : WatchState) (j : ℕ) (q : Out) (reply : Reply) (terms : Terms) (output : Output) → f.i < f.n → request_out old.out j Look ≡ Some q → StepLooked old (Some q) reply terms output new →
-    IsReplyInOutage f.o reply q → (j ≡ f.i → reply ≡ Lost) → IsGoing f due old → IsBase f.width f.n new → Same f.i old new → IsReplied f due old (looked (noted old q reply) q reply terms) new q reply
-looked_replied f due old new j q reply terms output low found step reply_is lost going base same =
+    IsReplyInOutage f.o reply q → (j ≡ f.i → TellsNothing f.o reply q) → IsGoing f due old → IsBase f.width f.n new → Same f.i old new → IsReplied f due old (looked (noted old q reply) q reply terms) new q reply
+looked_replied f due old new j q reply terms output low found step reply_is untold' going base same =
     let s = noted old q reply in
     let entry = out_entry old.out j Look q found in
     let count = going.base.count in
@@ -241,8 +256,8 @@ looked_replied f due old new j q reply terms output low found step reply_is lost
       reply_is = reply_is;
       other = looked_other s q reply terms f.i;
       own = λ is.
-          let is_lost = lost (sym entry ∙ is) in
-          (is_lost, looked_made old q reply terms f.i is is_lost below);
+          let nothing = untold' (sym entry ∙ is) in
+          (nothing, looked_made old q reply terms f.i is nothing.0 below);
       going = going;
       base = base;
       same = same;
@@ -250,8 +265,8 @@ looked_replied f due old new j q reply terms output low found step reply_is lost
 
 pub renewed_replied :
     (f : Facts) (due : ℕ) (old new : WatchState) (j : ℕ) (q : Out) (reply : Reply) (output : Output) → f.i < f.n → request_out old.out j Renew ≡ Some q → StepRenewed old (Some q) reply output new →
-    IsReplyInOutage f.o reply q → (j ≡ f.i → reply ≡ Lost) → IsGoing f due old → IsBase f.width f.n new → Same f.i old new → IsReplied f due old (state_renewed (noted old q reply) q reply) new q reply
-renewed_replied f due old new j q reply output low found step reply_is lost going base same =
+    IsReplyInOutage f.o reply q → (j ≡ f.i → TellsNothing f.o reply q) → IsGoing f due old → IsBase f.width f.n new → Same f.i old new → IsReplied f due old (state_renewed (noted old q reply) q reply) new q reply
+renewed_replied f due old new j q reply output low found step reply_is untold' going base same =
     let s = noted old q reply in
     let entry = out_entry old.out j Renew q found in
     let count = going.base.count in
@@ -270,8 +285,8 @@ renewed_replied f due old new j q reply output low found step reply_is lost goin
       reply_is = reply_is;
       other = λ apart. get_or-set_other s.tracks q.entry f.i _ no_track (λ e. apart (sym e));
       own = λ is.
-          let is_lost = lost (sym entry ∙ is) in
-          (is_lost, own_made old q reply f.i is is_lost below);
+          let nothing = untold' (sym entry ∙ is) in
+          (nothing, renewed_made old q reply f.i is nothing.0 below);
       going = going;
       base = base;
       same = same;

@@ -6,10 +6,9 @@ use Rattle.std.proofs.lemmas.List.Elements.{All-filter, All-weaker}
 use Rattle.std.specs.List.{list_any}
 use Rattle.keep_tree.specs.declared.entry.Entry.{Entry}
 use Rattle.keep_tree.specs.Forest.{entry_at}
-use Rattle.watch_machine.specs.declared.event.Operation.{Operation}
-use Rattle.watch_machine.specs.declared.event.Operation.TheVariants.{Look}
+use Rattle.watch_machine.specs.declared.event.Operation.TheVariants.{Look, Renew}
 use Rattle.watch_machine.specs.declared.event.Reply.{Reply}
-use Rattle.watch_machine.specs.declared.event.Reply.TheVariants.{Lost}
+use Rattle.watch_machine.specs.declared.event.Reply.TheVariants.{Told, Refused, Busy, Lost}
 use Rattle.watch_machine.specs.declared.lanes.Answer.{Answer}
 use Rattle.watch_machine.specs.declared.lanes.Out.{Out}
 use Rattle.watch_machine.specs.declared.lanes.Presence.{Presence}
@@ -21,17 +20,18 @@ use Rattle.watch_machine.specs.Answers.{answers_all, back_track, back_try, due_a
 use Rattle.watch_machine.specs.Beginning.{begun, hastened, is_called, is_pressed, is_pressed_try, owed, owing, owing_lookup, soon, sooner_try, untopped, untopped_track}
 use Rattle.watch_machine.specs.Clocks.{ms, sec}
 use Rattle.watch_machine.specs.Lines.{is_first, rested}
-use Rattle.watch_machine.specs.Looked.{after_look, untold, untold_track}
+use Rattle.watch_machine.specs.Looked.{untold, untold_track, untold_try}
 use Rattle.watch_machine.specs.Margins.{has_come}
 use Rattle.watch_machine.specs.Pauses.{cap, cap_of, left_to, pause}
 use Rattle.watch_machine.specs.Press.{asked_track, dropped, is_fresh, let_go, press, pressed, pressed_alone, pressed_track, track_asked_in}
-use Rattle.watch_machine.specs.Renewed.{after_renewal, ungranted, ungranted_track}
+use Rattle.watch_machine.specs.Renewed.{ungranted, ungranted_track, ungranted_try}
 use Rattle.watch_machine.specs.Settling.{is_real, is_silent, presence_after, settled, settled_track, settled_try, timed}
 use Rattle.watch_machine.specs.State.{WatchState, attempt_at, each, no_track, track_at, track_in}
 use Rattle.watch_machine.specs.Step.{readied, why}
 use Rattle.watch_machine.specs.Wanted.{is_open, need_of, wants}
 use Rattle.watch_machine.proofs.Cases.{if_both, if_cases, not_both, value_is}
 use Rattle.watch_laws.specs.Outage.{Outage, again, is_request_whole, outage_settled_by}
+use Rattle.watch_laws.specs.Presence.{is_told}
 use Rattle.watch_laws.proofs.Lanes.{all_left}
 use Rattle.watch_laws.proofs.Retrying.{held_least, held_to, pause_within}
 use Rattle.watch_laws.proofs.Tracking.{back_kept, each_holds}
@@ -471,13 +471,49 @@ lost_out s q =
     let P : WatchState → Type 0 = λ t. t.out ≡ without_request q.entry s.out in
     if_both P q.heard free (silent free) refl (if_both P s.presence.away free (record free { presence = presence_gone s.presence }) refl refl)
 
--- what its own loss leaves of the entry: a try that is pressed was, and has failed now
+-- what an answer leaves of its entry that tells nothing: a try that is pressed was, and has failed now
 pub record IsFailed (y x : Track) : Type 0 where
   pub end : y.end ≡ x.end
   pub last : y.last ≡ x.last
   pub out : y.out ≡ false
   pub pressed : is_pressed y ≡ true → is_pressed x ≡ true
-  pub failed : (u : Try) → y.attempt ≡ Some u → u.failed ≡ true
+  pub failed : (u : Try) → y.attempt ≡ Some u → u.pressed ≡ true → u.failed ≡ true
+
+-- a real one to the entry itself, to a request that the outage cut: it fails, and nothing is held back
+pub refused_endures :
+    (o : Outage) (i end bound due : ℕ) (miss : Type 0) (old mid new : WatchState) (q : Out) (reply : Reply) → IsAnswered old mid new q reply → is_real reply ≡ true → (old.presence.away ≡ false → old.presence.hold ≡ 0) →
+    is_request_whole o q.since ≡ false → due ≤ outage_settled_by o q.since + o.late → Cutting o i bound miss old q → q.entry ≡ i → IsFailed (track_at mid i) (track_at old i) → Endures o i end bound due miss old →
+    Endures o i end bound due miss new
+unfolding Kept Missed
+refused_endures o i end bound due miss old mid new q reply a real none not_whole in_time cuts own f h =
+    let backs = new_backs old mid new q reply a i in
+    let hold : new.presence.hold ≡ 0 =
+    ap (λ (x : WatchState). x.presence.hold) a.is ∙ real_hold mid q reply real (subst (λ (p : Presence). p.away ≡ false → p.hold ≡ 0) (sym a.presence) none) in
+    let low : new.presence.hold ≤ bound = omega (arith, hold) in
+    let c = cut_off o q.since not_whole in
+    let by_cut' : due ≤ cut o = omega (arith, in_time, c) in
+    let before : rested (track_at mid i).last ≤ bound = (let e = ap rested f.last in let l = h.last in omega (arith, e, l)) in
+    let was : is_pressed (track_at new i) ≡ true → is_pressed (track_at old i) ≡ true = λ pressed'. f.pressed (sym backs.pressed ∙ pressed') in
+    let P : Out → Type 0 = Cutting o i bound miss new in
+    record {
+      end_is = backs.end ∙ f.end ∙ h.end_is;
+      last = let e = ap rested backs.last in omega (arith, e, before);
+      tries = λ u is pressed'.
+          let b = backs.tries u is in
+          let t = b.0 in
+          let pressed'' : t.pressed ≡ true = sym b.1.1.0 ∙ pressed' in
+          let failed' = f.failed t b.1.0 pressed'' in
+          let may = (cuts own).1 (f.pressed (ap is_pressed_try b.1.0 ∙ pressed'')) in
+          elim b.1.1.1.0 as (λ _. Kept i bound miss new u ⊎ Missed i bound due (cut o) miss new u) [
+            | inl stays ↦ inr (stays.0 ∙ failed', (backs.out ∙ f.out, (may.0, (by_cut', inl low))))
+            | inr again' ↦ (let at = again'.1 in inl (again'.0, (omega (arith, at, before), λ free. inr (may.0, low))))
+          ];
+      out =
+          subst (λ (x : WatchState). All P x.out) (sym a.is)
+          (all_left P (λ r k e. ((k e).0, λ pressed'. (((k e).1 pressed').0, λ heard'. low))) mid q reply
+          (subst (All P) (sym a.outs) (All-weaker (Cutting o i bound miss old) P (λ r k e. ((k e).0, λ pressed'. (((k e).1 (was pressed')).0, λ heard'. low))) old.out h.out)));
+      silent' = λ any away. absurd (not_both away (ap (λ (x : WatchState). x.presence.away) a.is ∙ real_away mid q reply real));
+    }
 
 module _ (o : Outage) (i end bound due : ℕ) (miss : Type 0) (old mid new : WatchState) (q : Out) (a : IsAnswered old mid new q Lost) (not_whole : is_request_whole o q.since ≡ false) (in_time : due ≤ outage_settled_by o q.since + o.late) (h : Endures o i end bound due miss old) where
   by_cut : due ≤ cut o
@@ -556,7 +592,7 @@ module _ (o : Outage) (i end bound due : ℕ) (miss : Type 0) (old mid new : Wat
         end_is = ap (λ (y : Track). y.end) track ∙ f.end ∙ h.end_is;
         last = let e = ap (λ (y : Track). rested y.last) track in let g = ap rested f.last in let k = h.last in omega (arith, e, g, k);
         tries = λ u is pressed'.
-            let failed = f.failed u (sym (ap (λ (y : Track). y.attempt) track) ∙ is) in
+            let failed = f.failed u (sym (ap (λ (y : Track). y.attempt) track) ∙ is) pressed' in
             let may = (cuts own).1 (was (ap is_pressed_try is ∙ pressed')) in
             inr (
               failed,
@@ -582,33 +618,49 @@ module _ (o : Outage) (i end bound due : ℕ) (miss : Type 0) (old mid new : Wat
         silent' = λ any away. by_cut;
       }
 
--- its loss, as a renewal and as a lookup
-lost_pressed : (next : Operation) (alone : Bool) (t u : Try) → Some (failing t next true alone) ≡ Some u → (u.pressed ≡ t.pressed) × (u.failed ≡ true)
-lost_pressed next alone t u is =
-    let same = value_is (failing t next true alone) u is in
-    (ap (λ (v : Try). v.pressed) (sym same), ap (λ (v : Try). v.failed) (sym same))
+-- so after a renewal and after a lookup that tell nothing
+abbrev Failing : Try → Try → Type 0
+Failing t v = (v.pressed ≡ t.pressed) × (v.pressed ≡ true → v.failed ≡ true)
 
-pub ungranted_failed : (at : ℕ) (heard : Bool) (x : Track) → IsFailed (ungranted_track at heard Lost x) x
+ungranted_fails : (at : ℕ) (heard : Bool) (reply : Reply) (x : Track) (t : Try) → is_told reply ≡ false → Failing t (ungranted_try at heard reply x t)
+ungranted_fails at heard (Told seconds renewable date) x t untold' = absurd (true≢false untold')
+ungranted_fails at heard (Refused status date) x t untold' = (refl, λ p. refl)
+ungranted_fails at heard Busy x t untold' = (refl, λ p. refl)
+ungranted_fails at heard Lost x t untold' = (refl, λ p. refl)
+
+untold_fails : (at : ℕ) (heard : Bool) (reply : Reply) (x : Track) (t : Try) → is_told reply ≡ false → Failing t (untold_try at heard reply x t)
+untold_fails at heard (Told seconds renewable date) x t untold' = absurd (true≢false untold')
+untold_fails at heard (Refused status date) x t untold' =
+    if_both (Failing t) (is_open (sec at) x) (if t.pressed then failing t Renew false false else record (failing t Renew false false) { at = at; failed = false }) (failing t Look false false)
+    (if_cases (Failing t) t.pressed (failing t Renew false false) (record (failing t Renew false false) { at = at; failed = false }) (λ e. (refl, λ p. refl)) (λ e. (refl, λ p. absurd (not_both p e))))
+    (refl, λ p. refl)
+untold_fails at heard Busy x t untold' = (refl, λ p. refl)
+untold_fails at heard Lost x t untold' = (refl, λ p. refl)
+
+fails_so : (t v u : Try) → Failing t v → Some v ≡ Some u → u.pressed ≡ true → u.failed ≡ true
+fails_so t v u h is = subst (λ (w : Try). w.pressed ≡ true → w.failed ≡ true) (value_is v u is) h.1
+
+pub ungranted_failed : (at : ℕ) (heard : Bool) (reply : Reply) (x : Track) → is_told reply ≡ false → IsFailed (ungranted_track at heard reply x) x
 unfolding ungranted_track
-ungranted_failed at heard x = record { end = refl; last = refl; out = refl; pressed = pressed' x.attempt; failed = failed' x.attempt } where
-  pressed' : (o : Option Try) → is_pressed_try (ungranted at heard Lost x o) ≡ true → is_pressed_try o ≡ true
+ungranted_failed at heard reply x untold' = record { end = refl; last = refl; out = refl; pressed = pressed' x.attempt; failed = failed' x.attempt } where
+  pressed' : (o : Option Try) → is_pressed_try (ungranted at heard reply x o) ≡ true → is_pressed_try o ≡ true
   pressed' None h = h
-  pressed' (Some t) h = h
+  pressed' (Some t) h = sym (ungranted_fails at heard reply x t untold').0 ∙ h
 
-  failed' : (o : Option Try) (u : Try) → ungranted at heard Lost x o ≡ Some u → u.failed ≡ true
+  failed' : (o : Option Try) (u : Try) → ungranted at heard reply x o ≡ Some u → u.pressed ≡ true → u.failed ≡ true
   failed' None u is = absurd cc
-  failed' (Some t) u is = (lost_pressed (after_renewal (sec at) x) heard t u is).1
+  failed' (Some t) u is = fails_so t (ungranted_try at heard reply x t) u (ungranted_fails at heard reply x t untold') is
 
-pub untold_failed : (at : ℕ) (heard : Bool) (x : Track) → IsFailed (untold_track at heard Lost x) x
+pub untold_failed : (at : ℕ) (heard : Bool) (reply : Reply) (x : Track) → is_told reply ≡ false → IsFailed (untold_track at heard reply x) x
 unfolding untold_track
-untold_failed at heard x = record { end = refl; last = refl; out = refl; pressed = pressed' x.attempt; failed = failed' x.attempt } where
-  pressed' : (o : Option Try) → is_pressed_try (untold at heard Lost x o) ≡ true → is_pressed_try o ≡ true
+untold_failed at heard reply x untold' = record { end = refl; last = refl; out = refl; pressed = pressed' x.attempt; failed = failed' x.attempt } where
+  pressed' : (o : Option Try) → is_pressed_try (untold at heard reply x o) ≡ true → is_pressed_try o ≡ true
   pressed' None h = h
-  pressed' (Some t) h = h
+  pressed' (Some t) h = sym (untold_fails at heard reply x t untold').0 ∙ h
 
-  failed' : (o : Option Try) (u : Try) → untold at heard Lost x o ≡ Some u → u.failed ≡ true
+  failed' : (o : Option Try) (u : Try) → untold at heard reply x o ≡ Some u → u.pressed ≡ true → u.failed ≡ true
   failed' None u is = absurd cc
-  failed' (Some t) u is = (lost_pressed (after_look (sec at) x t) heard t u is).1
+  failed' (Some t) u is = fails_so t (untold_try at heard reply x t) u (untold_fails at heard reply x t untold') is
 
 -- the bound may be later, and then it may miss
 pub later_endures :

@@ -1,5 +1,5 @@
 -- Lasting: what stays of an entry while its requests are lost. For the law of outages.
-use Rattle.std.proofs.Common.{◌≡◌, ◌≢◌, ◌∙◌, ℕ, zero, suc, Bool, true, false, min, not, ◌&&◌, ◌||◌, ◌==◌, if◌then◌else◌, List, [], ◌∷◌, Option, Some, None, Result, Ok, Err, length, refl, sym, ap, subst, inl, inr}
+use Rattle.std.proofs.Common.{◌≡◌, ◌≢◌, ◌∙◌, ℕ, zero, suc, Bool, true, false, min, not, ◌&&◌, ◌||◌, ◌==◌, if◌then◌else◌, List, [], ◌∷◌, Option, Some, None, IfSome, Result, Ok, Err, length, refl, sym, ap, subst, inl, inr, true≢false}
 use Rattle.std.proofs.lemmas.Bool.{cases_Bool, eqb-true}
 use Rattle.std.proofs.lemmas.List.{get_or-set_other, length-set}
 use Rattle.std.specs.List.{list_any}
@@ -36,7 +36,8 @@ use Rattle.watch_machine.specs.Step.{Step, StepLooked, StepRenewed, known, readi
 use Rattle.watch_machine.specs.Wanted.{is_open, need_of, wants}
 use Rattle.watch_machine.proofs.Cases.{if_both, not_both}
 use Rattle.watch_machine.proofs.Within.{out_entry}
-use Rattle.watch_laws.specs.Outage.{IsLived, Outage}
+use Rattle.watch_laws.specs.Outage.{IsLived, Outage, TellsNothing}
+use Rattle.watch_laws.specs.Presence.{is_told}
 use Rattle.watch_laws.proofs.Clocking.{refused_stays}
 use Rattle.watch_laws.proofs.Lanes.{Ticks, ticks}
 use Rattle.watch_laws.proofs.Spacing.{looked_other, same_index}
@@ -197,16 +198,16 @@ entry_other : (es : List Entry) (j : ℕ) (e : Entry) (i : ℕ) → i ≢ j → 
 unfolding entry_at
 entry_other es j e i apart = get_or-set_other es j i e no_entry apart
 
--- the answer to a lookup: of another, or lost
+-- the answer to a lookup: of another, or such as tells nothing
 looked_forest :
-    (s : WatchState) (q : Out) (reply : Reply) (terms : Terms) (i : ℕ) → (q.entry ≡ i → reply ≡ Lost) →
+    (s : WatchState) (q : Out) (reply : Reply) (terms : Terms) (i : ℕ) → (q.entry ≡ i → is_told reply ≡ false) →
     (length (looked s q reply terms).forest.entries ≡ length s.forest.entries) × (((looked s q reply terms).forest.margin ≡ s.forest.margin) × ((entry_of (looked s q reply terms) i).step ≡ (entry_of s i).step))
-looked_forest s q (Told seconds renewable date) terms i lost =
+looked_forest s q (Told seconds renewable date) terms i untold' =
     let e = by_terms s.forest.margin terms (entry_of s q.entry) in
-    (length-set s.forest.entries q.entry e, (refl, ap (λ (x : Entry). x.step) (entry_other s.forest.entries q.entry e i (λ is. let bad : Told seconds renewable date ≡ Lost = lost (sym is) in absurd cc))))
-looked_forest s q (Refused status date) terms i lost = (refl, (refl, refl))
-looked_forest s q Busy terms i lost = (refl, (refl, refl))
-looked_forest s q Lost terms i lost = (refl, (refl, refl))
+    (length-set s.forest.entries q.entry e, (refl, ap (λ (x : Entry). x.step) (entry_other s.forest.entries q.entry e i (λ is. absurd (true≢false (untold' (sym is)))))))
+looked_forest s q (Refused status date) terms i untold' = (refl, (refl, refl))
+looked_forest s q Busy terms i untold' = (refl, (refl, refl))
+looked_forest s q Lost terms i untold' = (refl, (refl, refl))
 
 replied_same : (i : ℕ) (old mid new : WatchState) (q : Out) (reply : Reply) → new ≡ replied mid q reply → Same i old mid → Same i old new
 replied_same i old mid new q reply is h =
@@ -222,49 +223,56 @@ replied_same i old mid new q reply is h =
 apart_from : (j i : ℕ) → (j == i) ≡ false → j ≢ i
 apart_from j i different e = not_both (subst (λ n. (n == i) ≡ true) (sym e) (same_index i)) different
 
-lost_look_ends : (t : WatchState) (r : Out) (terms : Terms) (k : ℕ) → Ends (track_at (looked t r Lost terms) k) (track_at t k)
-lost_look_ends t r terms k = set_kept Ends same_ends t.tracks r.entry _ (untold_ends t.clocks.at r.heard Lost (track_at t r.entry)) k
+untold_look_ends : (t : WatchState) (r : Out) (reply : Reply) (terms : Terms) (k : ℕ) → is_told reply ≡ false → Ends (track_at (looked t r reply terms) k) (track_at t k)
+untold_look_ends t r (Told seconds renewable date) terms k untold' = absurd (true≢false untold')
+untold_look_ends t r (Refused status date) terms k untold' = set_kept Ends same_ends t.tracks r.entry _ (untold_ends t.clocks.at r.heard (Refused status date) (track_at t r.entry)) k
+untold_look_ends t r Busy terms k untold' = set_kept Ends same_ends t.tracks r.entry _ (untold_ends t.clocks.at r.heard Busy (track_at t r.entry)) k
+untold_look_ends t r Lost terms k untold' = set_kept Ends same_ends t.tracks r.entry _ (untold_ends t.clocks.at r.heard Lost (track_at t r.entry)) k
 
-looked_ends : (s : WatchState) (q : Out) (reply : Reply) (terms : Terms) (i : ℕ) → (q.entry ≡ i → reply ≡ Lost) → Ends (track_at (looked s q reply terms) i) (track_at s i)
-looked_ends s q reply terms i lost =
+looked_ends : (s : WatchState) (q : Out) (reply : Reply) (terms : Terms) (i : ℕ) → (q.entry ≡ i → is_told reply ≡ false) → Ends (track_at (looked s q reply terms) i) (track_at s i)
+looked_ends s q reply terms i untold' =
     elim (cases_Bool (q.entry == i)) [
-      | inl same ↦ subst (λ r. Ends (track_at (looked s q r terms) i) (track_at s i)) (sym (lost (eqb-true q.entry i same))) (lost_look_ends s q terms i)
+      | inl same ↦ untold_look_ends s q reply terms i (untold' (eqb-true q.entry i same))
       | inr different ↦ subst (λ x. Ends x (track_at s i)) (sym (looked_other s q reply terms i (apart_from q.entry i different))) (same_ends (track_at s i))
     ]
 
 looked_same :
-    (i j : ℕ) (old new : WatchState) (found : Option Out) (reply : Reply) (terms : Terms) (output : Output) → request_out old.out j Look ≡ found → StepLooked old found reply terms output new → (j ≡ i → reply ≡ Lost) →
-    Same i old new
-looked_same i j old new None reply terms output is step lost = absurd step
-looked_same i j old new (Some q) reply terms output is step lost =
+    (o : Outage) (i j : ℕ) (old new : WatchState) (found : Option Out) (reply : Reply) (terms : Terms) (output : Output) → request_out old.out j Look ≡ found → StepLooked old found reply terms output new →
+    (j ≡ i → IfSome found (TellsNothing o reply)) → Same i old new
+looked_same o i j old new None reply terms output is step untold' = absurd step
+looked_same o i j old new (Some q) reply terms output is step untold' =
     let s = noted old q reply in
     let entry = out_entry old.out j Look q is in
-    let own : q.entry ≡ i → reply ≡ Lost = λ e. lost (sym entry ∙ e) in
+    let own : q.entry ≡ i → is_told reply ≡ false = λ e. (untold' (sym entry ∙ e)).0 in
     let forest = looked_forest s q reply terms i own in
     replied_same i old (looked s q reply terms) new q reply step.1
     (record { count = forest.0; margin = forest.1.0; step = forest.1.1; ends = looked_ends s q reply terms i own })
 
-lost_ends : (t : WatchState) (r : Out) (k : ℕ) → Ends (track_at (state_renewed t r Lost) k) (track_at t k)
+untold_renewal_ends : (t : WatchState) (r : Out) (reply : Reply) (k : ℕ) → is_told reply ≡ false → Ends (track_at (state_renewed t r reply) k) (track_at t k)
 unfolding renewed_track
-lost_ends t r k = set_kept Ends same_ends t.tracks r.entry _ (ungranted_ends t.clocks.at r.heard Lost (track_at t r.entry)) k
+untold_renewal_ends t r (Told seconds renewable date) k untold' = absurd (true≢false untold')
+untold_renewal_ends t r (Refused status date) k untold' = set_kept Ends same_ends t.tracks r.entry _ (ungranted_ends t.clocks.at r.heard (Refused status date) (track_at t r.entry)) k
+untold_renewal_ends t r Busy k untold' = set_kept Ends same_ends t.tracks r.entry _ (ungranted_ends t.clocks.at r.heard Busy (track_at t r.entry)) k
+untold_renewal_ends t r Lost k untold' = set_kept Ends same_ends t.tracks r.entry _ (ungranted_ends t.clocks.at r.heard Lost (track_at t r.entry)) k
 
-renewed_ends : (s : WatchState) (q : Out) (reply : Reply) (i : ℕ) → (q.entry ≡ i → reply ≡ Lost) → Ends (track_at (state_renewed s q reply) i) (track_at s i)
-renewed_ends s q reply i lost =
+renewed_ends : (s : WatchState) (q : Out) (reply : Reply) (i : ℕ) → (q.entry ≡ i → is_told reply ≡ false) → Ends (track_at (state_renewed s q reply) i) (track_at s i)
+renewed_ends s q reply i untold' =
     elim (cases_Bool (q.entry == i)) [
-      | inl same ↦ subst (λ r. Ends (track_at (state_renewed s q r) i) (track_at s i)) (sym (lost (eqb-true q.entry i same))) (lost_ends s q i)
+      | inl same ↦ untold_renewal_ends s q reply i (untold' (eqb-true q.entry i same))
       | inr different ↦
           let apart = apart_from q.entry i different in
           subst (λ x. Ends x (track_at s i)) (sym (get_or-set_other s.tracks q.entry i _ no_track (λ e. apart (sym e)))) (same_ends (track_at s i))
     ]
 
 renewed_same :
-    (i j : ℕ) (old new : WatchState) (found : Option Out) (reply : Reply) (output : Output) → request_out old.out j Renew ≡ found → StepRenewed old found reply output new → (j ≡ i → reply ≡ Lost) → Same i old new
-renewed_same i j old new None reply output is step lost = absurd step
-renewed_same i j old new (Some q) reply output is step lost =
+    (o : Outage) (i j : ℕ) (old new : WatchState) (found : Option Out) (reply : Reply) (output : Output) → request_out old.out j Renew ≡ found → StepRenewed old found reply output new →
+    (j ≡ i → IfSome found (TellsNothing o reply)) → Same i old new
+renewed_same o i j old new None reply output is step untold' = absurd step
+renewed_same o i j old new (Some q) reply output is step untold' =
     let s = noted old q reply in
     let entry = out_entry old.out j Renew q is in
     replied_same i old (state_renewed s q reply) new q reply step.1
-    (record { count = refl; margin = refl; step = refl; ends = renewed_ends s q reply i (λ own. lost (sym entry ∙ own)) })
+    (record { count = refl; margin = refl; step = refl; ends = renewed_ends s q reply i (λ own. (untold' (sym entry ∙ own)).0) })
 
 -- an end that an earlier watch told of another
 pub known_other : (s : WatchState) (j end : ℕ) (renewable : Bool) (i : ℕ) → j ≢ i → track_at (known s j end renewable) i ≡ track_at s i
@@ -284,8 +292,8 @@ step_same o i due old new (Clock wall elapsed) output step lived =
       step = ap (λ (g : Forest). (entry_at g.entries i).step) forest;
       ends = clock_ends old new wall elapsed output i h;
     }
-step_same o i due old new (Looked j reply terms) output step lived = looked_same i j old new (request_out old.out j Look) reply terms output refl step lived.1
-step_same o i due old new (Renewed j reply) output step lived = renewed_same i j old new (request_out old.out j Renew) reply output refl step lived.1
+step_same o i due old new (Looked j reply terms) output step lived = looked_same o i j old new (request_out old.out j Look) reply terms output refl step lived.1
+step_same o i due old new (Renewed j reply) output step lived = renewed_same o i j old new (request_out old.out j Renew) reply output refl step lived.1
 step_same o i due old new (Need j until) output step lived =
     subst (Same i old) (sym step.1) (record { count = length-set old.forest.entries j _; margin = refl; step = needed_step old j until i; ends = same_ends (track_at old i) })
 step_same o i due old new Begin output step lived = subst (Same i old) (sym step.1) (record { count = refl; margin = refl; step = refl; ends = same_ends (track_at old i) })

@@ -38,7 +38,7 @@ use Rattle.watch_machine.specs.Wanted.{believed, is_known, is_never, is_unknown,
 use Rattle.watch_machine.proofs.Cases.{not_both}
 use Rattle.watch_machine.proofs.Leasts.{least_start}
 use Rattle.watch_laws.specs.Absence.{is_clock, is_event_taken}
-use Rattle.watch_laws.specs.Outage.{AllInTime, AreLived, GrantLaw, IsBefore, IsIncident, EndIsInTime, IsLived, IsReplyInOutage, IsShortOutage, LeftLaw, MayBeAsked, Outage, OutageLaw, again, clock_asked_at, coming, comes, granted_at, granted_by, granted_next, how_many, is_request_served, is_request_whole, outage_next_after, outage_next_after_command, outage_next_by, outage_settled_by, tells, waiting}
+use Rattle.watch_laws.specs.Outage.{AllInTime, AreLived, GrantLaw, IsBefore, IsIncident, EndIsInTime, IsLived, IsReplyInOutage, IsShortOutage, LeftLaw, MayBeAsked, Outage, TellsNothing, OutageLaw, again, clock_asked_at, coming, comes, granted_at, granted_by, granted_next, how_many, is_request_served, is_request_whole, outage_next_after, outage_next_after_command, outage_next_by, outage_settled_by, tells, waiting}
 use Rattle.watch_laws.specs.Presence.{is_told}
 use Rattle.watch_laws.proofs.Answered.{IsReplied, goes_on_after, looked_replied, renewed_replied, replied_through}
 use Rattle.watch_laws.proofs.Clocking.{refused_stays}
@@ -100,7 +100,7 @@ replied_stays f due rest old mid new q reply t sends h = record { going = goes_o
 
 looked_stays :
     (f : Facts) (due rest : ℕ) (old new : WatchState) (j : ℕ) (found : Option Out) (reply : Reply) (terms : Terms) (output : Output) → f.i < f.n → request_out old.out j Look ≡ found → StepLooked old found reply terms output new →
-    IfSome found (IsReplyInOutage f.o reply) → (j ≡ f.i → reply ≡ Lost) → IsBase f.width f.n new → Sends old new f.n → Same f.i old new → Stays f due (Until f old new rest) old →
+    IfSome found (IsReplyInOutage f.o reply) → (j ≡ f.i → IfSome found (TellsNothing f.o reply)) → IsBase f.width f.n new → Sends old new f.n → Same f.i old new → Stays f due (Until f old new rest) old →
     Stays f (outage_next_after_command f.o output.command new due) (After f new rest) new
 looked_stays f due rest old new j None reply terms output low is step lived lost base sends same h = absurd step
 looked_stays f due rest old new j (Some q) reply terms output low is step lived lost base sends same h =
@@ -109,7 +109,7 @@ looked_stays f due rest old new j (Some q) reply terms output low is step lived 
 
 renewed_stays :
     (f : Facts) (due rest : ℕ) (old new : WatchState) (j : ℕ) (found : Option Out) (reply : Reply) (output : Output) → f.i < f.n → request_out old.out j Renew ≡ found → StepRenewed old found reply output new →
-    IfSome found (IsReplyInOutage f.o reply) → (j ≡ f.i → reply ≡ Lost) → IsBase f.width f.n new → Sends old new f.n → Same f.i old new → Stays f due (Until f old new rest) old →
+    IfSome found (IsReplyInOutage f.o reply) → (j ≡ f.i → IfSome found (TellsNothing f.o reply)) → IsBase f.width f.n new → Sends old new f.n → Same f.i old new → Stays f due (Until f old new rest) old →
     Stays f (outage_next_after_command f.o output.command new due) (After f new rest) new
 renewed_stays f due rest old new j None reply output low is step lived lost base sends same h = absurd step
 renewed_stays f due rest old new j (Some q) reply output low is step lived lost base sends same h =

@@ -65,12 +65,16 @@ IsReplyInOutage o (Refused status date) q = Unit {0}
 IsReplyInOutage o Busy q = Unit {0}
 IsReplyInOutage o Lost q = is_request_whole o q.since ≡ false
 
--- what happens until a request of i is answered: a clock in time, with or without a beginning; replies, of which those to i are lost; needs;
+-- a reply that tells nothing, and not to a request that is whole
+abbrev pub TellsNothing : Outage → Reply → Out → Type 0
+TellsNothing o reply q = (is_told reply ≡ false) × (is_request_whole o q.since ≡ false)
+
+-- what happens until i is told, or a request of it that is whole is answered: a clock in time, with or without a beginning; replies; needs;
 -- beginnings that are asked for; and ends of others, as an earlier watch told them
 abbrev pub IsIncident : Outage → ℕ → ℕ → WatchState → Event → Type 0
 IsIncident o i due s (Clock wall elapsed) = (timed s wall elapsed).clocks.at ≤ due
-IsIncident o i due s (Looked j reply terms) = IfSome (request_out s.out j Look) (IsReplyInOutage o reply) × (j ≡ i → reply ≡ Lost)
-IsIncident o i due s (Renewed j reply) = IfSome (request_out s.out j Renew) (IsReplyInOutage o reply) × (j ≡ i → reply ≡ Lost)
+IsIncident o i due s (Looked j reply terms) = IfSome (request_out s.out j Look) (IsReplyInOutage o reply) × (j ≡ i → IfSome (request_out s.out j Look) (TellsNothing o reply))
+IsIncident o i due s (Renewed j reply) = IfSome (request_out s.out j Renew) (IsReplyInOutage o reply) × (j ≡ i → IfSome (request_out s.out j Renew) (TellsNothing o reply))
 IsIncident o i due s (Need j until) = Unit {0}
 IsIncident o i due s Begin = Unit {0}
 IsIncident o i due s (Known j end renewable) = j ≢ i
@@ -177,7 +181,7 @@ tells i (Need j until) = false
 tells i Begin = false
 tells i (Known j end renewable) = false
 
--- so it does, and the time of i is ahead after it
+-- and the time of i is ahead after it
 pub record IsGrant (turn : Turned) (i : ℕ) : Type 0 where
   pub told : tells i turn.event ≡ true
   pub taken : is_event_taken turn.result ≡ true
