@@ -81,7 +81,7 @@ class Asked(Scenario):
             stage.vault.faults.append(fault(0, 2.5, status=429, on=both(lookups, about("e1"))))
             await stage.finish(10)
         self.play(fleet(20, 300, 20, 200), scene)
-        self.assertEqual([(moment, name) for moment, _, name, _ in self.stage.vault.log if moment != BEGAN], [(BEGAN + 1, "e1")])
+        self.assertEqual([(moment, name) for moment, _, name, _ in self.stage.vault.log if moment > BEGAN + 0.5], [(BEGAN + 1, "e1")])
         self.assertEqual((self.moments("e1", "lookup"), self.moments("e1", "renew")), ([0], [1]))
         self.assert_kept()
 
