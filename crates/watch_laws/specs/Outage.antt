@@ -83,7 +83,7 @@ abbrev pub IsLived : Outage → ℕ → ℕ → WatchState → Event → Result 
 IsLived o i due s event (Ok output) = IsIncident o i due s event
 IsLived o i due s event (Err fault) = Unit {0}
 
--- turns that are lived through the outage, until i is granted; i is wanted after each
+-- turns that are lived through the outage, until i is told; i is wanted after each
 abbrev pub AreLived : Outage → ℕ → ℕ → WatchState → List Turned → Type 0
 AreLived o i due s [] = Unit {0}
 AreLived o i due s (turn ∷ turns) =
@@ -191,7 +191,7 @@ pub record IsGrant (turn : Turned) (i : ℕ) : Type 0 where
 abbrev pub granted_next : Outage → WatchState → ℕ → ℕ
 granted_next o s i = outage_next_by o (outage_settled_by o (granted_at s i)) s.out
 
--- after each turn the end of i is ahead, and it is no later than i is granted, from a second on
+-- after each turn the end of i is ahead, and it is no later than i is told, where it may be asked from a second on
 abbrev pub EndIsInTime : Outage → ℕ → ℕ → WatchState → Type 0
 EndIsInTime o i from s = (s.clocks.at < ms (believed (track_at s i).end)) × (s.clocks.at ≤ granted_by o from (believed (track_at s i).end))
 
