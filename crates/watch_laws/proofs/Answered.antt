@@ -13,7 +13,6 @@ use Rattle.watch_machine.specs.declared.event.Terms.{Terms}
 use Rattle.watch_machine.specs.declared.lanes.Out.{Out}
 use Rattle.watch_machine.specs.declared.track.Track.{Track}
 use Rattle.watch_machine.specs.Answers.{heard, noted}
-use Rattle.watch_machine.specs.Clocks.{ms}
 use Rattle.watch_machine.specs.Looked.{looked}
 use Rattle.watch_machine.specs.Refusal.{request_out}
 use Rattle.watch_machine.specs.Renewed.{renewed_track, state_renewed}
@@ -134,7 +133,7 @@ module _ (f : Facts) (due : ℕ) (old mid new : WatchState) (q : Out) (reply : R
       let apart = apart_of h.idle in
       let clock = ap (λ c. c.at) t.answered.clocks in
       inl (inl (record {
-        endures = endures_reply (ms f.time) ⊥ h.endures;
+        endures = endures_reply f.time ⊥ h.endures;
         idle = after_flag old mid new q reply f.i t.answered.is t.answered.outs t.other apart ∙ h.idle;
         whole = kept_all (λ (r : Out). is_request_whole f.o r.since ≡ true) (λ r k. k) h.whole;
         r = h.r;
@@ -143,7 +142,7 @@ module _ (f : Facts) (due : ℕ) (old mid new : WatchState) (q : Out) (reply : R
         fewer = h.fewer;
         base = h.base;
         reach = h.reach;
-        over = elim h.over as (λ _. (h.base ≡ ms f.time) ⊎ (f.o.until ≤ new.clocks.at)) [ inl yes' ↦ inl yes' | inr no' ↦ inr (omega (arith, clock, no')) ];
+        over = elim h.over as (λ _. (h.base ≡ f.time) ⊎ (f.o.until ≤ new.clocks.at)) [ inl yes' ↦ inl yes' | inr no' ↦ inr (omega (arith, clock, no')) ];
         base_ahead = h.base_ahead;
         base_by = h.base_by;
         start = h.start;
@@ -202,7 +201,7 @@ module _ (f : Facts) (due : ℕ) (old mid new : WatchState) (q : Out) (reply : R
       let clock = ap (λ c. c.at) t.answered.clocks in
       let over = h.over in
       inr (inr (inr (record {
-        endures = endures_reply (ms f.time) ⊥ h.endures;
+        endures = endures_reply f.time ⊥ h.endures;
         unserved = stays_unserved h.unserved;
         over = omega (arith, clock, over);
         soon = h.soon;

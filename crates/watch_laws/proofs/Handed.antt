@@ -1,7 +1,7 @@
 -- Handed: at a clock before which an entry was not pressed it is on its first try, if any; so at the first clock of a watch that was told ends.
 -- For the law of kills.
-use Rattle.std.proofs.Common.{◌≡◌, ◌∙◌, ℕ, zero, suc, ◌+◌, ◌<◌, ◌≤◌, true, false, ◌==◌, List, [], ◌∷◌, Some, All, Result, Ok, Err, length, map, refl, sym, ap, subst, arith, inl, inr}
-use Rattle.std.proofs.lemmas.Bool.{cases_Bool}
+use Rattle.std.proofs.Common.{◌≡◌, ◌∙◌, Bool, ℕ, zero, suc, ◌<◌, ◌≤◌, true, false, ◌==◌, List, [], ◌∷◌, Some, All, Result, Ok, Err, length, map, refl, sym, ap, subst, arith, inl, inr}
+use Rattle.std.proofs.lemmas.Bool.{cases_Bool, cond-false}
 use Rattle.std.proofs.lemmas.List.Elements.{All-weaker}
 use Rattle.std.specs.List.{list_any}
 use Rattle.keep_tree.specs.declared.entry.Entry.{Entry}
@@ -14,7 +14,6 @@ use Rattle.watch_machine.specs.declared.lanes.Out.{Out}
 use Rattle.watch_machine.specs.declared.track.Track.{Track}
 use Rattle.watch_machine.specs.declared.track.Try.{Try}
 use Rattle.watch_machine.specs.Beginning.{is_pressed, is_pressed_try}
-use Rattle.watch_machine.specs.Clocks.{ms, sec}
 use Rattle.watch_machine.specs.History.{History, Turn, Turned, after_all}
 use Rattle.watch_machine.specs.Lines.{is_first, rested}
 use Rattle.watch_machine.specs.Press.{pressed}
@@ -28,17 +27,11 @@ use Rattle.watch_laws.specs.Outage.{AreHanded, KillLaw, MayBeAsked, is_handed, l
 use Rattle.watch_laws.proofs.Clocking.{readied_clocks, refused_stays}
 use Rattle.watch_laws.proofs.Enduring.{Steady, begun_steady, none_stands}
 use Rattle.watch_laws.proofs.Grounds.{IsBase, first_turns, last_turns, opened_base, ran_base, starts, turn_base}
-use Rattle.watch_laws.proofs.Lanes.{Ticks, all_sent}
+use Rattle.watch_laws.proofs.Lanes.{Ticks, all_sent, stays_free}
 use Rattle.watch_laws.proofs.Marked.{free_lanes, none_of}
 use Rattle.watch_laws.proofs.Outliving.{left_from_clock, ran_shape, turn_shape}
-use Rattle.watch_laws.proofs.Retrying.{rises}
 use Rattle.watch_laws.proofs.Tracking.{each_holds, each_kept, set_kept}
 use Rattle.watch_laws.proofs.Undisturbed.{Undisturbed, clock_undisturbed, settled_pressed}
-
--- two seconds hold the rest of this one, and one more
-two_seconds : (at : ℕ) → at + 1000 ≤ ms (sec at + 2)
-unfolding sec
-two_seconds at = omega arith
 
 -- who was not pressed has no pressed try when all that failed have settled
 loose_settles : (margin at bound : ℕ) (x : Track) → is_pressed x ≡ false → rested x.last ≤ bound → Steady at bound ⊥ (settled_track margin at x)
@@ -46,7 +39,7 @@ unfolding settled_track
 loose_settles margin at bound x loose last =
     record { last = last; tries = λ u is pressed'. absurd (not_both (settled_pressed margin at x x.attempt (ap is_pressed_try is ∙ pressed')) loose) }
 
-module _ (width n : ℕ) (old new : WatchState) (wall elapsed : ℕ) (output : Output) (i : ℕ) (h : Ticks old new wall elapsed output) (before : IsBase width n old) (after : IsBase width n new) (loose : is_pressed (track_at old i) ≡ false) where
+module _ (width n : ℕ) (old new : WatchState) (wall elapsed : ℕ) (output : Output) (i : ℕ) (low : i < n) (h : Ticks old new wall elapsed output) (before : IsBase width n old) (after : IsBase width n new) (loose : is_pressed (track_at old i) ≡ false) (never : rested (track_at old i).last ≤ 0) where
   abbrev mid : WatchState
   mid = pressed (readied old wall elapsed) h.round
 
@@ -56,16 +49,12 @@ module _ (width n : ℕ) (old new : WatchState) (wall elapsed : ℕ) (output : O
   clock : new.clocks.at ≡ now
   clock = ap (λ (x : WatchState). x.clocks.at) h.new_is ∙ ap (λ c. c.at) (readied_clocks old wall elapsed)
 
-  steady : Steady now (now + 1000) ⊥ (track_at mid i)
+  steady : Steady now 0 ⊥ (track_at mid i)
   unfolding readied
   steady =
       let t = timed old wall elapsed in
-      let up = rises old wall elapsed before.past.start in
-      let last = before.past.last i in
-      let low : rested (track_at old i).last ≤ now + 1000 = omega (arith, up, last) in
-      begun_steady (settled t) (why old wall elapsed) h.round i (now + 1000) ⊥
-      (each_holds (Steady now (now + 1000) ⊥) (none_stands now (now + 1000) ⊥) (λ j. settled_track old.forest.margin now) old.tracks i
-      (loose_settles old.forest.margin now (now + 1000) (track_at old i) loose low))
+      begun_steady (settled t) (why old wall elapsed) h.round i 0 ⊥
+      (each_holds (Steady now 0 ⊥) (none_stands now 0 ⊥) (λ j. settled_track old.forest.margin now) old.tracks i (loose_settles old.forest.margin now 0 (track_at old i) loose never))
 
   attempt_kept : attempt_at new i ≡ attempt_at mid i
   attempt_kept =
@@ -73,12 +62,12 @@ module _ (width n : ℕ) (old new : WatchState) (wall elapsed : ℕ) (output : O
       ∙ each_kept (λ (y x : Track). y.attempt ≡ x.attempt) refl (sent_in mid.clocks.at h.requests) mid.tracks
       (λ j x. if_both (λ (y : Track). y.attempt ≡ x.attempt) (list_any (λ (r : Request). r.entry == j) h.requests) (sent_track mid.clocks.at x) x refl refl) i
 
-  first_try : (t : Try) → attempt_at new i ≡ Some t → t.pressed ≡ true → (is_first t ≡ true) × ((t.failed ≡ false) × (t.at ≤ new.clocks.at + 1000))
+  first_try : (t : Try) → attempt_at new i ≡ Some t → t.pressed ≡ true → (is_first t ≡ true) × ((t.failed ≡ false) × (t.at ≤ new.clocks.at))
   first_try t is pressed' =
       let k = steady.tries t (sym attempt_kept ∙ is) pressed' in
       let soon = k.soon in
       let c = clock in
-      elim k.first as (λ _. (is_first t ≡ true) × ((t.failed ≡ false) × (t.at ≤ new.clocks.at + 1000))) [
+      elim k.first as (λ _. (is_first t ≡ true) × ((t.failed ≡ false) × (t.at ≤ new.clocks.at))) [
         | inl first ↦ (first, (k.settled, omega (arith, soon, c)))
         | inr never ↦ absurd never
       ]
@@ -101,43 +90,59 @@ module _ (width n : ℕ) (old new : WatchState) (wall elapsed : ℕ) (output : O
       let same : new.clocks.at ≡ mid.clocks.at = ap (λ (x : WatchState). x.clocks.at) h.new_is in
       all_sent GoesNow old new wall elapsed output h was_out (λ k low due named is pressed'. (refl, sym same))
 
-  pub may_be_asked : i < length new.forest.entries → is_wanted new i ≡ true → is_known (track_at new i).end ≡ true → MayBeAsked new i (left_from new i)
-  may_be_asked within wanted known' =
-      let two = two_seconds new.clocks.at in
-      let last = after.past.last i in
-      record {
-        within = within;
-        wanted = wanted;
-        known = known';
-        first = λ t is pressed'. let f = first_try t is pressed' in let soon = f.1.1 in (f.0, (f.1.0, omega (arith, soon, two)));
-        fresh = goes_now;
-        come = omega arith;
-        ahead = omega arith;
-        rested = omega (arith, last, two);
-      }
+  rested_free : (track_at new i).out ≡ false → rested (track_at new i).last ≤ 0
+  rested_free free =
+      let within : i < length old.tracks = (let count = before.count in omega (arith, count, low)) in
+      let same = ap (λ (x : Track). rested x.last) (stays_free old new wall elapsed output i h within free) in
+      let zero' = steady.last in
+      omega (arith, same, zero')
 
--- before its first clock a watch has pressed nobody
-step_loose : (i : ℕ) (old new : WatchState) (event : Event) (output : Output) → is_handed event ≡ true → Step old event output new → is_pressed (track_at old i) ≡ false → is_pressed (track_at new i) ≡ false
-step_loose i old new (Clock wall elapsed) output handed step loose = absurd cc
-step_loose i old new (Looked j reply terms) output handed step loose = absurd cc
-step_loose i old new (Renewed j reply) output handed step loose = absurd cc
-step_loose i old new (Need j until) output handed step loose = ap (λ (x : WatchState). is_pressed (track_at x i)) step.1 ∙ loose
-step_loose i old new Begin output handed step loose = ap (λ (x : WatchState). is_pressed (track_at x i)) step.1 ∙ loose
-step_loose i old new (Known j end renewable) output handed step loose =
-    ap (λ (x : WatchState). is_pressed (track_at x i)) step.1 ∙ set_kept (λ (y x : Track). is_pressed y ≡ is_pressed x) (λ x. refl) old.tracks j _ refl i ∙ loose
+  abbrev from : ℕ
+  from = left_from new i
 
-turn_loose : (i : ℕ) (old new : WatchState) (event : Event) (result : Result Output WatchFault) → is_handed event ≡ true → Turn old event result new → is_pressed (track_at old i) ≡ false → is_pressed (track_at new i) ≡ false
-turn_loose i old new event (Ok output) handed turn loose = step_loose i old new event output handed turn.1 loose
-turn_loose i old new event (Err fault) handed turn loose = ap (λ (x : WatchState). is_pressed (track_at x i)) (refused_stays old new event fault turn) ∙ loose
+  rests : (p : Bool) → is_pressed (track_at new i) ≡ p → (is_pressed (track_at new i) ≡ true → (track_at new i).out ≡ false) → rested (track_at new i).last ≤ from
+  rests true is free = let r = rested_free (free is) in omega (arith, r)
+  rests false is free =
+      let e = cond-false (is_pressed (track_at new i)) 0 (rested (track_at new i).last) is in
+      omega (arith, e)
 
-ran_loose : (i : ℕ) (turns : List Turned) (old : WatchState) → AreHanded turns → History old turns → is_pressed (track_at old i) ≡ false → is_pressed (track_at (after_all old turns) i) ≡ false
-ran_loose i [] old handed h loose = loose
-ran_loose i (turn ∷ turns) old handed h loose = ran_loose i turns turn.state handed.1 h.1 (turn_loose i old turn.state turn.event turn.result handed.0 h.0 loose)
+  pub may_be_asked : i < length new.forest.entries → is_wanted new i ≡ true → is_known (track_at new i).end ≡ true → MayBeAsked new i from
+  may_be_asked within wanted known' = record {
+    within = within;
+    wanted = wanted;
+    known = known';
+    first = λ t is pressed'. let f = first_try t is pressed' in let soon = f.1.1 in (f.0, (f.1.0, omega (arith, soon)));
+    fresh = goes_now;
+    come = omega arith;
+    ahead = omega arith;
+    rested = rests (is_pressed (track_at new i)) refl;
+  }
 
-first_loose : (es : List Entry) (i : ℕ) → is_pressed (track_in (map fresh_track es) i) ≡ false
-first_loose [] i = refl
-first_loose (e ∷ es) zero = refl
-first_loose (e ∷ es) (suc i) = first_loose es i
+-- before its first clock a watch has pressed and asked nobody
+abbrev Untouched : Track → Type 0
+Untouched x = (is_pressed x ≡ false) × (rested x.last ≤ 0)
+
+step_untouched : (i : ℕ) (old new : WatchState) (event : Event) (output : Output) → is_handed event ≡ true → Step old event output new → Untouched (track_at old i) → Untouched (track_at new i)
+step_untouched i old new (Clock wall elapsed) output handed step h = absurd cc
+step_untouched i old new (Looked j reply terms) output handed step h = absurd cc
+step_untouched i old new (Renewed j reply) output handed step h = absurd cc
+step_untouched i old new (Need j until) output handed step h = subst (λ (x : WatchState). Untouched (track_at x i)) (sym step.1) h
+step_untouched i old new Begin output handed step h = subst (λ (x : WatchState). Untouched (track_at x i)) (sym step.1) h
+step_untouched i old new (Known j end renewable) output handed step h =
+    subst (λ (x : WatchState). Untouched (track_at x i)) (sym step.1) (set_kept (λ (y x : Track). Untouched x → Untouched y) (λ x k. k) old.tracks j _ (λ k. k) i h)
+
+turn_untouched : (i : ℕ) (old new : WatchState) (event : Event) (result : Result Output WatchFault) → is_handed event ≡ true → Turn old event result new → Untouched (track_at old i) → Untouched (track_at new i)
+turn_untouched i old new event (Ok output) handed turn h = step_untouched i old new event output handed turn.1 h
+turn_untouched i old new event (Err fault) handed turn h = subst (λ (x : WatchState). Untouched (track_at x i)) (sym (refused_stays old new event fault turn)) h
+
+ran_untouched : (i : ℕ) (turns : List Turned) (old : WatchState) → AreHanded turns → History old turns → Untouched (track_at old i) → Untouched (track_at (after_all old turns) i)
+ran_untouched i [] old handed h first = first
+ran_untouched i (turn ∷ turns) old handed h first = ran_untouched i turns turn.state handed.1 h.1 (turn_untouched i old turn.state turn.event turn.result handed.0 h.0 first)
+
+first_untouched : (es : List Entry) (i : ℕ) → Untouched (track_in (map fresh_track es) i)
+first_untouched [] i = (refl, omega arith)
+first_untouched (e ∷ es) zero = (refl, omega arith)
+first_untouched (e ∷ es) (suc i) = first_untouched es i
 
 pub killed : KillLaw
 killed o g width before first turns i wide run handed clock' taken' low wanted known' lived few order short =
@@ -149,8 +154,8 @@ killed o g width before first turns i wide run handed clock' taken' low wanted k
     let base = ran_base width n before (opened g width) until (opened_base g width) in
     let after = turn_base width n old s first.event first.result history.0 base in
     let start = starts o old first first.event first.result refl history.0 clock' taken' in
-    let loose = ran_loose i before (opened g width) handed until (first_loose g.entries i) in
+    let untouched = ran_untouched i before (opened g width) handed until (first_untouched g.entries i) in
     let here = (turn_shape old s first.event first.result history.0).0 in
     let there = (ran_shape before (opened g width) until).0 in
     left_from_clock o g width before first turns i (left_from s i) wide run clock' taken'
-    (may_be_asked width n old s start.wall start.elapsed start.output i start.ticks' base after loose (omega (arith, low, here, there)) wanted known') lived few order short
+    (may_be_asked width n old s start.wall start.elapsed start.output i low start.ticks' base after untouched.0 untouched.1 (omega (arith, low, here, there)) wanted known') lived few order short

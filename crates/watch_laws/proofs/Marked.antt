@@ -143,6 +143,23 @@ not_out o i s marked unserved whole =
       | inr free ↦ free
     ]
 
+-- of whom no request is out, is not marked as out
+none_of_entry : (i : ℕ) (out : List Out) → All (λ (q : Out). q.entry ≡ i → ⊥) out → list_any (is_of i any_time) out ≡ false
+none_of_entry i [] all = refl
+none_of_entry i (q ∷ out) all =
+    let P : Out → Type 0 = λ r. r.entry ≡ i → ⊥ in
+    elim (cases_Bool (q.entry == i)) as (λ _. (q.entry == i && true) || list_any (is_of i any_time) out ≡ false) [
+      | inl here ↦ absurd (All-head P q out all (eqb-true q.entry i here))
+      | inr other ↦ ap (λ b. (b && true) || list_any (is_of i any_time) out) other ∙ none_of_entry i out (All-tail P q out all)
+    ]
+
+pub none_out : (i : ℕ) (s : WatchState) → AllMarked s → All (λ (q : Out). q.entry ≡ i → ⊥) s.out → (track_at s i).out ≡ false
+none_out i s marked none =
+    elim (cases_Bool (track_at s i).out) as (λ _. (track_at s i).out ≡ false) [
+      | inl out ↦ absurd (not_both (marked i out) (none_of_entry i s.out none))
+      | inr free ↦ free
+    ]
+
 -- where no lane holds a request of an entry, none that is out is of it
 pub none_of : (i : ℕ) (out : List Out) → lanes_of i out ≡ 0 → All (λ (q : Out). q.entry ≡ i → ⊥) out
 none_of i out h =

@@ -38,7 +38,7 @@ use Rattle.watch_machine.specs.Wanted.{believed, is_known, is_never, is_unknown,
 use Rattle.watch_machine.proofs.Cases.{not_both}
 use Rattle.watch_machine.proofs.Leasts.{least_start}
 use Rattle.watch_laws.specs.Absence.{is_clock, is_event_taken}
-use Rattle.watch_laws.specs.Outage.{AllInTime, AreLived, GrantLaw, IsBefore, IsIncident, EndIsInTime, IsLived, IsReplyInOutage, IsShortOutage, LeftLaw, MayBeAsked, Outage, TellsNothing, OutageLaw, again, clock_asked_at, coming, comes, granted_at, granted_by, granted_next, how_many, is_request_served, is_request_whole, outage_next_after, outage_next_after_command, outage_next_by, outage_settled_by, tells, waiting}
+use Rattle.watch_laws.specs.Outage.{AllInTime, AreLived, GrantLaw, IsBefore, IsIncident, EndIsInTime, IsLived, IsReplyInOutage, IsShortFor, LeftLaw, MayBeAsked, Outage, TellsNothing, OutageLaw, again, clock_asked_at, coming, comes, granted_at, granted_by, granted_next, how_many, is_request_served, is_request_whole, outage_next_after, outage_next_after_command, outage_next_by, outage_settled_by, tells, waiting}
 use Rattle.watch_laws.specs.Presence.{is_told}
 use Rattle.watch_laws.proofs.Answered.{IsReplied, goes_on_after, looked_replied, renewed_replied, replied_through}
 use Rattle.watch_laws.proofs.Clocking.{refused_stays}
@@ -47,7 +47,7 @@ use Rattle.watch_laws.proofs.Enduring.{Cutting, Endures, Kept, Missed, cut, cut_
 use Rattle.watch_laws.proofs.Grounds.{IsBase, first_turns, last_turns, opened_base, ran_base, starts, turn_base}
 use Rattle.watch_laws.proofs.Lanes.{Sends, Ticks, fewer_wait, is_anew, ticks, turn_sends}
 use Rattle.watch_laws.proofs.Lasting.{Same, clock_forest, known_other, same_time, turn_same}
-use Rattle.watch_laws.proofs.Marked.{not_out, only_cut, only_whole}
+use Rattle.watch_laws.proofs.Marked.{none_out, not_out, only_cut, only_whole}
 use Rattle.watch_laws.proofs.Requests.{any_gives, anew_none, none_passes, quick_if, some_lane}
 use Rattle.watch_laws.proofs.Retrying.{ready_first, rises}
 use Rattle.watch_laws.proofs.Minding.{end_minded, tended}
@@ -139,7 +139,7 @@ left_endures o i end bound due miss s g ts b e h = record {
 left_through :
     (f : Facts) (due k m : ℕ) (s : WatchState) (g : Forest) (ts : List Track) (b : Bool) → track_in ts f.i ≡ track_at s f.i → m ≤ k → IsThrough f due k s → IsThrough f due m (Written s g ts b)
 left_through f due k m s g ts b e less (inl (inl h)) = let count = h.count in inl (inl (record {
-  endures = left_endures f.o f.i f.end (ms f.time) due ⊥ s g ts b e h.endures;
+  endures = left_endures f.o f.i f.end f.time due ⊥ s g ts b e h.endures;
   idle = ap (λ (x : Track). x.out) e ∙ h.idle;
   whole = h.whole;
   r = h.r;
@@ -185,7 +185,7 @@ left_through f due k m s g ts b e less (inr (inr (inl h))) =
 left_through f due k m s g ts b e less (inr (inr (inr h))) =
     let count = h.count in
     inr (inr (inr (record {
-      endures = left_endures f.o f.i f.end (ms f.time) due ⊥ s g ts b e h.endures;
+      endures = left_endures f.o f.i f.end f.time due ⊥ s g ts b e h.endures;
       unserved = h.unserved;
       over = h.over;
       soon = h.soon;
@@ -342,17 +342,17 @@ first_end s i b =
     record { end = k.0; end_is = k.1.0; sum = omega (arith, sum, t) }
 
 -- what is left holds more than a second
-left_over : (o : Outage) (end from : ℕ) → IsShortOutage o (end - from) → end ≡ from + (end - from)
+left_over : (o : Outage) (end from : ℕ) → IsShortFor o (ms end - from) → ms end ≡ from + (ms end - from)
 left_over o end from short = omega (arith, short)
 
 -- the first stage
 first_endures :
-    (o : Outage) (i from end bound due : ℕ) (miss : Type 0) (s : WatchState) → MayBeAsked s i from → (track_at s i).end ≡ At end → ms from ≤ bound → All (Cutting o i bound miss s) s.out →
+    (o : Outage) (i from end bound due : ℕ) (miss : Type 0) (s : WatchState) → MayBeAsked s i from → (track_at s i).end ≡ At end → from ≤ bound → rested (track_at s i).last ≤ bound → All (Cutting o i bound miss s) s.out →
     (list_any is_silent s.answers ≡ true → s.presence.away ≡ true → ⊥) → Endures o i end bound due miss s
 unfolding Kept Missed
-first_endures o i from end bound due miss s b end_is reach cuts quiet = record {
+first_endures o i from end bound due miss s b end_is reach low cuts quiet = record {
   end_is = end_is;
-  last = let l = b.rested in omega (arith, l, reach);
+  last = low;
   tries = λ u is pressed'. let k = b.first u is pressed' in let at = k.1.1 in inl (k.1.0, (omega (arith, at, reach), λ free. inl k.0));
   out = cuts;
   silent' = λ any away. absurd (quiet any away);
@@ -361,15 +361,15 @@ first_endures o i from end bound due miss s b end_is reach cuts quiet = record {
 -- all that is out is whole, and the next clock comes soon; or the outage has begun; or it is over, and what it cut is settled soon
 abbrev Begins : Facts → ℕ → WatchState → Type 0
 Begins f due s =
-    (All (λ (q : Out). is_request_whole f.o q.since ≡ true) s.out × (due ≤ ms f.time + turn_of f.o))
+    (All (λ (q : Out). is_request_whole f.o q.since ≡ true) s.out × (due ≤ f.time + turn_of f.o))
     ⊎ (((s.clocks.at < f.o.until) × ((f.o.from < s.clocks.at + f.o.quick) × (due ≤ free_from f + f.o.late))) ⊎ ((f.o.until ≤ s.clocks.at) × (due ≤ cut f.o)))
 
 abbrev facts_of : Outage → ℕ → ℕ → ℕ → ℕ → ℕ → Facts
-facts_of o i n width from end = record { o = o; i = i; n = n; width = width; margin = end - from; time = from; end = end }
+facts_of o i n width from end = record { o = o; i = i; n = n; width = width; time = from; end = end; left = ms end - from }
 
 -- where a request of it is out that is whole
 first_served :
-    (o : Outage) (width n : ℕ) (s : WatchState) (i from due end : ℕ) → IsPlanned (facts_of o i n width from end) → IsBase width n s → s.clocks.at < ms from → All (λ (q : Out). due ≤ outage_settled_by o q.since + o.late) s.out →
+    (o : Outage) (width n : ℕ) (s : WatchState) (i from due end : ℕ) → IsPlanned (facts_of o i n width from end) → IsBase width n s → s.clocks.at < from → All (λ (q : Out). due ≤ outage_settled_by o q.since + o.late) s.out →
     is_request_served o s i ≡ true → IsServed (facts_of o i n width from end) due s
 first_served o width n s i from due end planned base before timely served =
     let at = s.clocks.at in
@@ -400,9 +400,9 @@ first_stays :
 first_stays o width n s i from due k end planned base entries b end_is quiet timely few begins =
     let f : Facts = facts_of o i n width from end in
     let at = s.clocks.at in
-    let before = before_second s from b.ahead in
+    let before = b.ahead in
     let sum = planned.end_is in
-    let reach : ms from ≤ free_from f = omega arith in
+    let reach : from ≤ free_from f = omega arith in
     let now = base.since in
     record {
       going = record {
@@ -422,15 +422,16 @@ first_stays o width n s i from due k end planned base entries b end_is quiet tim
               | inl there ↦
                   let zero' = anew_none o (suc at) n s now (omega arith) in
                   let soon = there.1 in
+                  let idle' = not_out o i s base.marked unserved there.0 in
                   inl (inl (record {
-                    endures = first_endures o i from end (ms from) due ⊥ s b end_is (omega arith) (λ k d below is. absurd (not_both (there.0 k d below) (only k d below is))) quiet;
-                    idle = not_out o i s base.marked unserved there.0;
+                    endures = first_endures o i from end from due ⊥ s b end_is (omega arith) (b.rested (λ pressed'. idle')) (λ k d below is. absurd (not_both (there.0 k d below) (only k d below is))) quiet;
+                    idle = idle';
                     whole = there.0;
                     r = o.rounds;
                     from = at;
                     count = omega (arith, few, zero');
                     fewer = omega arith;
-                    base = ms from;
+                    base = from;
                     reach = omega arith;
                     over = inl refl;
                     base_ahead = (let holds = margin_holds f planned in omega (arith, holds));
@@ -443,16 +444,15 @@ first_stays o width n s i from due k end planned base entries b end_is quiet tim
                     | inr late ↦
                         let zero' = anew_none o (suc at) n s now (omega arith) in
                         let over = late.0 in
+                        let never : is_pressed (track_at s i) ≡ true → All (λ (q : Out). q.entry ≡ i → ⊥) s.out =
+                        λ pressed' k d below is.
+                        let c = (not_whole o (get_or s.out k d).since (only k d below is)).1 in
+                        let e = (b.fresh k d below is pressed').1 in
+                        omega (arith, c, e, over) in
                         inr (inr (inr (record {
                           endures =
-                              first_endures o i from end (ms from) due ⊥ s b end_is (omega arith)
-                              (λ k d below is. (
-                                only k d below is,
-                                λ pressed'.
-                                    let c = (not_whole o (get_or s.out k d).since (only k d below is)).1 in
-                                    let e = (b.fresh k d below is pressed').1 in
-                                    absurd (omega (arith, c, e, over)),
-                              )) quiet;
+                              first_endures o i from end from due ⊥ s b end_is (omega arith) (b.rested (λ pressed'. none_out i s base.marked (never pressed')))
+                              (λ k d below is. (only k d below is, λ pressed'. absurd (never pressed' k d below is))) quiet;
                           unserved = unserved;
                           over = over;
                           soon = omega (arith, over, before);
@@ -463,10 +463,11 @@ first_stays o width n s i from due k end planned base entries b end_is quiet tim
                     | inl broke ↦
                         let early = broke.0 in
                         let late = broke.1.0 in
+                        let last = base.past.last i in
                         let zero' = anew_none o o.until n s now early in
                         inl (inr (record {
                           endures =
-                              first_endures o i from end (free_from f) due Unit s b end_is reach
+                              first_endures o i from end (free_from f) due Unit s b end_is reach (omega (arith, last, early))
                               (λ k d below is. (only k d below is, λ pressed'. (tt, λ heard'. absurd (not_both heard' (b.fresh k d below is pressed').0)))) quiet;
                           unserved = unserved;
                           r = o.rounds;
@@ -517,25 +518,25 @@ whole_or_broke o s due now timely =
 -- until then is waited at most, or some request is out
 waits_for :
     (old s : WatchState) (wall elapsed : ℕ) (output : Output) (i from width n : ℕ) → Ticks old s wall elapsed output → 0 < width → IsBase width n s → MayBeAsked s i from → (track_at s i).out ≡ false →
-    (wait s ≤ ms from) ⊎ (1 ≤ length s.out)
+    (wait s ≤ from) ⊎ (1 ≤ length s.out)
 waits_for old s wall elapsed output i from width n h wide base b free =
     let ready' = readied old wall elapsed in
     let end = sent (pressed ready' h.round) h.requests in
     let is = h.new_is in
-    let come = subst (λ (x : WatchState). time_of x i ≤ from) is b.come in
+    let come = subst (λ (x : WatchState). ms (time_of x i) ≤ from) is b.come in
     let there : i < length ready'.forest.entries = subst (λ (x : WatchState). i < length x.forest.entries) is b.within in
     let free' : (track_at end i).out ≡ false = subst (λ (x : WatchState). (track_at x i).out ≡ false) is free in
-    subst (λ (x : WatchState). (wait x ≤ ms from) ⊎ (1 ≤ length x.out)) (sym is)
-    (elim (end_minded ready' h.round h.requests i h.going there (subst (λ (x : WatchState). is_wanted x i ≡ true) is b.wanted)) as (λ _. (wait end ≤ ms from) ⊎ (1 ≤ length end.out)) [
+    subst (λ (x : WatchState). (wait x ≤ from) ⊎ (1 ≤ length x.out)) (sym is)
+    (elim (end_minded ready' h.round h.requests i h.going there (subst (λ (x : WatchState). is_wanted x i ≡ true) is b.wanted)) as (λ _. (wait end ≤ from) ⊎ (1 ≤ length end.out)) [
       | inl out ↦ absurd (not_both out free')
       | inr minded ↦
-          elim minded as (λ _. (wait end ≤ ms from) ⊎ (1 ≤ length end.out)) [
+          elim minded as (λ _. (wait end ≤ from) ⊎ (1 ≤ length end.out)) [
             | inl pressed' ↦
                 let u = pressed'.has.attempt in
                 let k = b.first u (subst (λ (x : WatchState). attempt_at x i ≡ Some u) (sym is) pressed'.has.attempt_is) pressed'.pressed in
-                elim (tended ready' h.round h.requests i u h.going there free' pressed'.has.attempt_is) as (λ _. (wait end ≤ ms from) ⊎ (1 ≤ length end.out)) [
+                elim (tended ready' h.round h.requests i u h.going there free' pressed'.has.attempt_is) as (λ _. (wait end ≤ from) ⊎ (1 ≤ length end.out)) [
                   | inl later ↦
-                      let r = ready_first end.presence (track_at end i) u (ms from) k.0 k.1.1 in
+                      let r = ready_first end.presence (track_at end i) u from k.0 k.1.1 in
                       let until = later.1 in
                       inl (omega (arith, r, until))
                   | inr full ↦ (let w = ap (λ (x : WatchState). x.width) (sym is) ∙ base.fits.0 in inr (omega (arith, full, w, wide)))
@@ -553,7 +554,7 @@ known_end Never x need is wanted known' = absurd cc
 -- what follows whatever the turn is from which on it is lived
 from_there :
     (o : Outage) (g : Forest) (width : ℕ) (before : List Turned) (last : Turned) (turns : List Turned) (i from due : ℕ) → 0 < width → IsWatchRun g width (before ++ last ∷ turns) → MayBeAsked last.state i from →
-    AreLived o i due last.state turns → waiting o (length g.entries) last.state + coming o (length g.entries) last.state turns ≤ width * o.rounds → o.from ≤ o.until → IsShortOutage o (believed (track_at last.state i).end - from) →
+    AreLived o i due last.state turns → waiting o (length g.entries) last.state + coming o (length g.entries) last.state turns ≤ width * o.rounds → o.from ≤ o.until → IsShortFor o (ms (believed (track_at last.state i).end) - from) →
     (list_any is_silent last.state.answers ≡ true → last.state.presence.away ≡ true → ⊥) →
     All (λ (q : Out). due ≤ outage_settled_by o q.since + o.late) last.state.out →
     ((f : Facts) → f.o ≡ o → f.time ≡ from → IsBase width (length g.entries) last.state → is_request_served o last.state i ≡ false → Begins f due last.state) → AllInTime o i from turns
@@ -571,7 +572,7 @@ from_there o g width before last turns i from due wide run b lived few order sho
     let f : Facts = facts_of o i n width from e.0 in
     let low = b.within in
     let is : believed (track_at s i).end ≡ e.0 = ap believed e.1 in
-    let short' : IsShortOutage o (e.0 - from) = subst (λ k. IsShortOutage o (k - from)) is short in
+    let short' : IsShortFor o (ms e.0 - from) = subst (λ k. IsShortFor o (ms k - from)) is short in
     let planned : IsPlanned f = record { wide = wide; within = omega (arith, low, entries); order = order; short = short'; end_is = left_over o e.0 from short' } in
     let stays = first_stays o width n s i from due (waiting o n s + coming o n s turns) e.0 planned base entries b e.1 quiet timely few (begins f refl refl base) in
     along f planned turns due s history.1 lived stays
@@ -579,7 +580,7 @@ from_there o g width before last turns i from due wide run b lived few order sho
 pub left_from_clock :
     (o : Outage) (g : Forest) (width : ℕ) (before : List Turned) (last : Turned) (turns : List Turned) (i from : ℕ) → 0 < width → IsWatchRun g width (before ++ last ∷ turns) → is_clock last.event ≡ true →
     is_event_taken last.result ≡ true → MayBeAsked last.state i from → AreLived o i (outage_next_after o last.result last.state 0) last.state turns →
-    waiting o (length g.entries) last.state + coming o (length g.entries) last.state turns ≤ width * o.rounds → o.from ≤ o.until → IsShortOutage o (believed (track_at last.state i).end - from) → AllInTime o i from turns
+    waiting o (length g.entries) last.state + coming o (length g.entries) last.state turns ≤ width * o.rounds → o.from ≤ o.until → IsShortFor o (ms (believed (track_at last.state i).end) - from) → AllInTime o i from turns
 left_from_clock o g width before last turns i from wide run clock taken' b lived few order short =
     let old = after_all (opened g width) before in
     let history = last_turns before (last ∷ turns) (opened g width) run in
@@ -601,13 +602,13 @@ left_from_clock o g width before last turns i from wide run clock taken' b lived
       | inl whole ↦
           let free = not_out o i s base.marked unserved whole in
           let least' = least_start (wait s + o.late) (map (λ (q : Out). outage_settled_by o q.since + o.late) s.out) in
-          let ahead = before_second s from b.ahead in
+          let ahead = b.ahead in
           let now = base.since in
-          let soon : due ≤ ms from + turn_of o =
-          elim (waits_for old s start.wall start.elapsed start.output i from width (length g.entries) start.ticks' wide base b free) as (λ _. due ≤ ms from + turn_of o) [
+          let soon : due ≤ from + turn_of o =
+          elim (waits_for old s start.wall start.elapsed start.output i from width (length g.entries) start.ticks' wide base b free) as (λ _. due ≤ from + turn_of o) [
             | inl until ↦ omega (arith, until, least')
             | inr some' ↦
-                any_gives (due ≤ ms from + turn_of o) (λ q. true) s.out (some_lane s.out some')
+                any_gives (due ≤ from + turn_of o) (λ q. true) s.out (some_lane s.out some')
                 (λ k d below yes'.
                 let q = get_or s.out k d in
                 let e = quick_if o q.since (whole k d below) in
@@ -662,7 +663,7 @@ asked_before (Some n) at h = omega (arith, h)
 left_from_told :
     (o : Outage) (g : Forest) (width : ℕ) (before : List Turned) (grant : Turned) (turns : List Turned) (i from : ℕ) → 0 < width → IsWatchRun g width (before ++ grant ∷ turns) → tells i grant.event ≡ true →
     is_event_taken grant.result ≡ true → MayBeAsked grant.state i from → AreLived o i (granted_next o grant.state i) grant.state turns →
-    waiting o (length g.entries) grant.state + coming o (length g.entries) grant.state turns ≤ width * o.rounds → o.from ≤ o.until → IsShortOutage o (believed (track_at grant.state i).end - from) → AllInTime o i from turns
+    waiting o (length g.entries) grant.state + coming o (length g.entries) grant.state turns ≤ width * o.rounds → o.from ≤ o.until → IsShortFor o (ms (believed (track_at grant.state i).end) - from) → AllInTime o i from turns
 left_from_told o g width before grant turns i from wide run told taken' b lived few order short =
     let old = after_all (opened g width) before in
     let history = last_turns before (grant ∷ turns) (opened g width) run in
@@ -676,7 +677,7 @@ left_from_told o g width before grant turns i from wide run told taken' b lived 
     (λ f same time base unserved.
     let least' = least_start (outage_settled_by o asked + o.late) (map (λ (q : Out). outage_settled_by o q.since + o.late) s.out) in
     let early = asked_before (track_at s i).last at (base.past.last i) in
-    let ahead = before_second s from b.ahead in
+    let ahead = b.ahead in
     let late = ap (λ (x : Outage). x.late) same in
     let quick = ap (λ (x : Outage). x.quick) same in
     let from' = ap (λ (x : Outage). x.from) same in
@@ -719,7 +720,7 @@ left o g width before last turns i from due wide run (inr told) b lived few orde
     left_from_told o g width before last turns i from wide run told.0 told.1.0 b (subst (λ d. AreLived o i d last.state turns) told.1.1 lived) few order short
 
 -- in the plan, where the time is ahead: what is left from there on is the margin
-may_at_time : (s : WatchState) (i : ℕ) → IsBefore s i → MayBeAsked s i (time_of s i) × (believed (track_at s i).end - time_of s i ≡ s.forest.margin)
+may_at_time : (s : WatchState) (i : ℕ) → IsBefore s i → MayBeAsked s i (ms (time_of s i)) × (ms (believed (track_at s i).end) - ms (time_of s i) ≡ ms s.forest.margin)
 may_at_time s i b =
     let e = first_end s i b in
     let is = ap believed e.end_is in
@@ -731,8 +732,8 @@ may_at_time s i b =
         first = λ u is' pressed'. absurd (not_both (ap is_pressed_try is' ∙ pressed') b.loose);
         fresh = λ k d below is' pressed'. absurd (not_both pressed' b.loose);
         come = omega arith;
-        ahead = b.ahead;
-        rested = b.rested;
+        ahead = before_second s (time_of s i) b.ahead;
+        rested = λ free. b.rested;
       },
       omega (arith, is, sum),
     )
@@ -747,11 +748,11 @@ margin_stays g width before last turns run =
 pub outlives : OutageLaw
 outlives o g width before last turns i wide run clock taken' b lived few order short =
     let m = may_at_time last.state i b in
-    let same : g.margin ≡ believed (track_at last.state i).end - time_of last.state i = sym (margin_stays g width before last turns run) ∙ sym m.1 in
-    left_from_clock o g width before last turns i (time_of last.state i) wide run clock taken' m.0 lived few order (subst (IsShortOutage o) same short)
+    let same : ms g.margin ≡ ms (believed (track_at last.state i).end) - ms (time_of last.state i) = ap ms (sym (margin_stays g width before last turns run)) ∙ sym m.1 in
+    left_from_clock o g width before last turns i (ms (time_of last.state i)) wide run clock taken' m.0 lived few order (subst (IsShortFor o) same short)
 
 pub outlives_again : GrantLaw
 outlives_again o g width before grant turns i wide run b lived few order short =
     let m = may_at_time grant.state i b.before in
-    let same : g.margin ≡ believed (track_at grant.state i).end - time_of grant.state i = sym (margin_stays g width before grant turns run) ∙ sym m.1 in
-    left_from_told o g width before grant turns i (time_of grant.state i) wide run b.told b.taken m.0 lived few order (subst (IsShortOutage o) same short)
+    let same : ms g.margin ≡ ms (believed (track_at grant.state i).end) - ms (time_of grant.state i) = ap ms (sym (margin_stays g width before grant turns run)) ∙ sym m.1 in
+    left_from_told o g width before grant turns i (ms (time_of grant.state i)) wide run b.told b.taken m.0 lived few order (subst (IsShortFor o) same short)

@@ -1,46 +1,46 @@
 -- Stages: how an outage goes by for an entry, stage by stage, and the sums of each. For the law of outages.
-use Rattle.std.proofs.Common.{◌≡◌, ◌⊎◌, ℕ, suc, ◌+◌, ◌-◌, ◌*◌, ◌/◌, ◌<◌, ◌≤◌, true, false, max, All, length, sym, subst, arith, inl, inr}
+use Rattle.std.proofs.Common.{◌≡◌, ◌⊎◌, ℕ, suc, ◌+◌, ◌-◌, ◌*◌, ◌/◌, ◌<◌, ◌≤◌, true, false, max, All, length, arith, inl, inr}
 use Rattle.std.proofs.Math.Nat.{mul-suc}
 use Rattle.watch_machine.specs.declared.lanes.Out.{Out}
 use Rattle.watch_machine.specs.declared.track.End.TheVariants.{At}
 use Rattle.watch_machine.specs.Clocks.{ms}
 use Rattle.watch_machine.specs.Outlook.{time_of}
 use Rattle.watch_machine.specs.State.{WatchState, track_at}
-use Rattle.watch_laws.specs.Outage.{IsShortOutage, Outage, again, granted_by, how_many, is_request_served, is_request_whole, outage_settled_by}
+use Rattle.watch_laws.specs.Outage.{IsShortFor, Outage, again, granted_by, how_many, is_request_served, is_request_whole, outage_settled_by}
 use Rattle.watch_laws.proofs.Enduring.{Endures, cut}
 use Rattle.watch_laws.proofs.Grounds.{IsBase}
 use Rattle.watch_laws.proofs.Lanes.{is_anew}
 
--- what does not change: the outage, the entry, how many there are, the width, the second from which on the entry may be asked, its end, and
+-- what does not change: the outage, the entry, how many there are, the width, the moment from which on the entry may be asked, its end, and
 -- what is left to that
 pub record Facts : Type 0 where
   pub o : Outage
   pub i : ℕ
   pub n : ℕ
   pub width : ℕ
-  pub margin : ℕ
   pub time : ℕ
   pub end : ℕ
+  pub left : ℕ
 
 abbrev pub turn_of : Outage → ℕ
 turn_of o = o.quick + o.late
 
 -- from then on the entry may be asked, after the outage
 abbrev pub free_from : Facts → ℕ
-free_from f = max (ms f.time) (again f.end (cut f.o))
+free_from f = max f.time (again f.end (cut f.o))
 
 pub record IsPlanned (f : Facts) : Type 0 where
   pub wide : 0 < f.width
   pub within : f.i < f.n
   pub order : f.o.from ≤ f.o.until
-  pub short : IsShortOutage f.o f.margin
-  pub end_is : f.end ≡ f.time + f.margin
+  pub short : IsShortFor f.o f.left
+  pub end_is : ms f.end ≡ f.time + f.left
 
 -- and after a turn that was lived, where due is by when the next clock comes
 pub record IsGoing (f : Facts) (due : ℕ) (s : WatchState) : Type 0 where
   pub base : IsBase f.width f.n s
   pub entries : length s.forest.entries ≡ f.n
-  pub time : time_of s f.i ≤ f.time
+  pub time : ms (time_of s f.i) ≤ f.time
   pub end_is : (track_at s f.i).end ≡ At f.end
   pub timely : All (λ (q : Out). due ≤ outage_settled_by f.o q.since + f.o.late) s.out
   pub ahead : s.clocks.at < ms f.end
@@ -48,7 +48,7 @@ pub record IsGoing (f : Facts) (due : ℕ) (s : WatchState) : Type 0 where
 
 -- before the outage, or after it: r rounds from base on hold those that wait, but for those that went out after from
 pub record IsEarly (f : Facts) (due k : ℕ) (s : WatchState) : Type 0 where
-  pub endures : Endures f.o f.i f.end (ms f.time) due ⊥ s
+  pub endures : Endures f.o f.i f.end f.time due ⊥ s
   pub idle : (track_at s f.i).out ≡ false
   pub whole : All (λ (q : Out). is_request_whole f.o q.since ≡ true) s.out
   pub r : ℕ
@@ -56,8 +56,8 @@ pub record IsEarly (f : Facts) (due k : ℕ) (s : WatchState) : Type 0 where
   pub count : k + how_many f.n (is_anew f.o (suc from) s) ≤ f.width * r
   pub fewer : turn_of f.o * r ≤ turn_of f.o * f.o.rounds
   pub base : ℕ
-  pub reach : ms f.time ≤ base
-  pub over : (base ≡ ms f.time) ⊎ (f.o.until ≤ s.clocks.at)
+  pub reach : f.time ≤ base
+  pub over : (base ≡ f.time) ⊎ (f.o.until ≤ s.clocks.at)
   pub base_ahead : base + turn_of f.o * f.o.rounds + turn_of f.o < ms f.end
   pub base_by : base ≤ free_from f
   pub start : from + turn_of f.o * r ≤ base + turn_of f.o * f.o.rounds
@@ -70,7 +70,7 @@ pub record IsCut (f : Facts) (due k : ℕ) (s : WatchState) : Type 0 where
   pub r : ℕ
   pub count : k + how_many f.n (is_anew f.o f.o.until s) ≤ f.width * r
   pub fewer : turn_of f.o * r ≤ turn_of f.o * f.o.rounds
-  pub room : f.o.from + 1 + turn_of f.o * r ≤ ms f.time + turn_of f.o + f.o.quick + turn_of f.o * f.o.rounds
+  pub room : f.o.from + 1 + turn_of f.o * r ≤ f.time + turn_of f.o + f.o.quick + turn_of f.o * f.o.rounds
   pub next : due ≤ free_from f + f.o.late
 
 -- after it, while all lanes are taken by requests that went out since
@@ -83,7 +83,7 @@ pub record IsBack (f : Facts) (due k : ℕ) (s : WatchState) : Type 0 where
   pub last : ℕ
   pub count : k + how_many f.n (is_anew f.o (suc from) s) ≤ f.width * r
   pub fewer : turn_of f.o * suc r ≤ turn_of f.o * f.o.rounds
-  pub room : f.o.from + 1 + turn_of f.o * suc r ≤ ms f.time + turn_of f.o + f.o.quick + turn_of f.o * f.o.rounds
+  pub room : f.o.from + 1 + turn_of f.o * suc r ≤ f.time + turn_of f.o + f.o.quick + turn_of f.o * f.o.rounds
   pub start : from + turn_of f.o * suc r ≤ last
   pub last_ahead : last < ms f.end
   pub last_by : last ≤ granted_by f.o f.time f.end
@@ -102,10 +102,10 @@ pub record IsServed (f : Facts) (due : ℕ) (s : WatchState) : Type 0 where
 
 -- and where the outage was over first, until all requests that it cut are settled
 pub record IsLate (f : Facts) (due k : ℕ) (s : WatchState) : Type 0 where
-  pub endures : Endures f.o f.i f.end (ms f.time) due ⊥ s
+  pub endures : Endures f.o f.i f.end f.time due ⊥ s
   pub unserved : is_request_served f.o s f.i ≡ false
   pub over : f.o.until ≤ s.clocks.at
-  pub soon : f.o.until ≤ ms f.time
+  pub soon : f.o.until ≤ f.time
   pub from : ℕ
   pub count : k + how_many f.n (is_anew f.o (suc from) s) ≤ f.width * f.o.rounds
   pub next : due ≤ cut f.o
@@ -117,36 +117,35 @@ IsThrough f due k s = (IsEarly f due k s ⊎ IsCut f due k s) ⊎ (IsBack f due 
 sum_pause : (end x rest q : ℕ) → rest ≤ q → x + rest + max 1000 (q / 15) + 1 ≤ ms end → again end x + rest < ms end
 sum_pause end x rest q few room = omega (arith, few, room)
 
-sum_back : (from until quick slow late a c time margin : ℕ) → from ≤ until → a ≤ c → from + 1 + a ≤ ms time + (quick + late) + quick + c →
-    (until - from) + slow + 2 * (quick + late) + (c + late) + max 1000 ((c + late) / 15) ≤ ms margin → max (ms time) (again (time + margin) (until + slow + late)) + late + a < ms (time + margin)
-sum_back from until quick slow late a c time margin order fewer room short =
-    let h = sum_pause (time + margin) (until + slow + late) (late + a) (c + late) (omega (arith, fewer)) (omega (arith, order, room, short)) in
-    omega (arith, h, fewer, short)
+sum_back : (from until quick slow late a c time left end : ℕ) → from ≤ until → a ≤ c → from + 1 + a ≤ time + (quick + late) + quick + c →
+    (until - from) + slow + 2 * (quick + late) + (c + late) + max 1000 ((c + late) / 15) ≤ left → ms end ≡ time + left → max time (again end (until + slow + late)) + late + a < ms end
+sum_back from until quick slow late a c time left end order fewer room short sum =
+    let h = sum_pause end (until + slow + late) (late + a) (c + late) (omega (arith, fewer)) (omega (arith, order, room, short, sum)) in
+    omega (arith, h, fewer, short, sum)
 
 pub room_back :
-    (f : Facts) (r : ℕ) → IsPlanned f → turn_of f.o * r ≤ turn_of f.o * f.o.rounds → f.o.from + 1 + turn_of f.o * r ≤ ms f.time + turn_of f.o + f.o.quick + turn_of f.o * f.o.rounds →
+    (f : Facts) (r : ℕ) → IsPlanned f → turn_of f.o * r ≤ turn_of f.o * f.o.rounds → f.o.from + 1 + turn_of f.o * r ≤ f.time + turn_of f.o + f.o.quick + turn_of f.o * f.o.rounds →
     free_from f + f.o.late + turn_of f.o * r < ms f.end
 room_back f r planned fewer room =
     let o = f.o in
-    subst (λ e. max (ms f.time) (again e (cut o)) + o.late + turn_of o * r < ms e) (sym planned.end_is)
-    (sum_back o.from o.until o.quick o.slow o.late (turn_of o * r) (turn_of o * o.rounds) f.time f.margin planned.order fewer room planned.short)
+    sum_back o.from o.until o.quick o.slow o.late (turn_of o * r) (turn_of o * o.rounds) f.time f.left f.end planned.order fewer room planned.short planned.end_is
 
 -- the margin holds all rounds
-pub margin_holds : (f : Facts) → IsPlanned f → ms f.time + turn_of f.o + turn_of f.o * f.o.rounds + f.o.late + turn_of f.o < ms f.end
+pub margin_holds : (f : Facts) → IsPlanned f → f.time + turn_of f.o + turn_of f.o * f.o.rounds + f.o.late + turn_of f.o < ms f.end
 margin_holds f planned =
     let o = f.o in
-    let short : (o.until - o.from) + o.slow + 2 * (o.quick + o.late) + (turn_of o * o.rounds + o.late) + max 1000 ((turn_of o * o.rounds + o.late) / 15) ≤ ms f.margin = planned.short in
+    let short : (o.until - o.from) + o.slow + 2 * (o.quick + o.late) + (turn_of o * o.rounds + o.late) + max 1000 ((turn_of o * o.rounds + o.late) / 15) ≤ f.left = planned.short in
     let end = planned.end_is in
     omega (arith, short, end)
 
 -- where the outage was over before the time came, all rounds are held after the last request that it cut, too
 abbrev pub late_base : Facts → ℕ
-late_base f = max (ms f.time) (cut f.o)
+late_base f = max f.time (cut f.o)
 
-pub late_holds : (f : Facts) → IsPlanned f → f.o.until ≤ ms f.time → late_base f + turn_of f.o * f.o.rounds + turn_of f.o < ms f.end
+pub late_holds : (f : Facts) → IsPlanned f → f.o.until ≤ f.time → late_base f + turn_of f.o * f.o.rounds + turn_of f.o < ms f.end
 late_holds f planned soon =
     let o = f.o in
-    let short : (o.until - o.from) + o.slow + 2 * (o.quick + o.late) + (turn_of o * o.rounds + o.late) + max 1000 ((turn_of o * o.rounds + o.late) / 15) ≤ ms f.margin = planned.short in
+    let short : (o.until - o.from) + o.slow + 2 * (o.quick + o.late) + (turn_of o * o.rounds + o.late) + max 1000 ((turn_of o * o.rounds + o.late) / 15) ≤ f.left = planned.short in
     let end = planned.end_is in
     omega (arith, short, end, soon)
 

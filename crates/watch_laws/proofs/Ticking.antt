@@ -280,7 +280,7 @@ module _ (f : Facts) (due : ℕ) (old new : WatchState) (wall elapsed : ℕ) (ou
   abbrev Tended : Type 0
   Tended =
       ((u : Try) × ((attempt_at new i ≡ Some u) × ((u.pressed ≡ true) × ((at < ready new.presence (track_at new i) u) × (wait new ≤ ready new.presence (track_at new i) u)))))
-      ⊎ ((f.width ≤ length new.out) ⊎ ((at < ms f.time) × (wait new ≤ ms f.time)))
+      ⊎ ((f.width ≤ length new.out) ⊎ ((at < f.time) × (wait new ≤ f.time)))
 
   tend : (track_at new i).out ≡ false → Tended
   tend free =
@@ -294,28 +294,28 @@ module _ (f : Facts) (due : ℕ) (old new : WatchState) (wall elapsed : ℕ) (ou
       let free' : (track_at end i).out ≡ false = subst (λ (x : WatchState). (track_at x i).out ≡ false) is free in
       let e' = same_time i old new t.same in
       let h' = t.going.time in
-      let time : time_of new i ≤ f.time = omega (arith, e', h') in
+      let time : ms (time_of new i) ≤ f.time = omega (arith, e', h') in
       subst (λ (x : WatchState). ((u : Try) × ((attempt_at x i ≡ Some u) × ((u.pressed ≡ true) × ((x.clocks.at < ready x.presence (track_at x i) u) × (wait x ≤ ready x.presence (track_at x i) u)))))
-      ⊎ ((f.width ≤ length x.out) ⊎ ((x.clocks.at < ms f.time) × (wait x ≤ ms f.time)))) (sym is)
+      ⊎ ((f.width ≤ length x.out) ⊎ ((x.clocks.at < f.time) × (wait x ≤ f.time)))) (sym is)
       (elim (end_minded ready' t.ticks.round t.ticks.requests i t.ticks.going there (subst (λ (x : WatchState). is_wanted x i ≡ true) is t.wanted))
       as (λ _. ((u : Try) × ((attempt_at end i ≡ Some u) × ((u.pressed ≡ true) × ((end.clocks.at < ready end.presence (track_at end i) u) × (wait end ≤ ready end.presence (track_at end i) u)))))
-      ⊎ ((f.width ≤ length end.out) ⊎ ((end.clocks.at < ms f.time) × (wait end ≤ ms f.time)))) [
+      ⊎ ((f.width ≤ length end.out) ⊎ ((end.clocks.at < f.time) × (wait end ≤ f.time)))) [
         | inl out ↦ absurd (not_both out free')
         | inr minded ↦
             elim minded as (λ _. ((u : Try) × ((attempt_at end i ≡ Some u) × ((u.pressed ≡ true) × ((end.clocks.at < ready end.presence (track_at end i) u) × (wait end ≤ ready end.presence (track_at end i) u)))))
-            ⊎ ((f.width ≤ length end.out) ⊎ ((end.clocks.at < ms f.time) × (wait end ≤ ms f.time)))) [
+            ⊎ ((f.width ≤ length end.out) ⊎ ((end.clocks.at < f.time) × (wait end ≤ f.time)))) [
               | inl pressed' ↦
                   let u = pressed'.has.attempt in
                   elim (tended ready' t.ticks.round t.ticks.requests i u t.ticks.going there free' pressed'.has.attempt_is)
                   as (λ _. ((u : Try) × ((attempt_at end i ≡ Some u) × ((u.pressed ≡ true) × ((end.clocks.at < ready end.presence (track_at end i) u) × (wait end ≤ ready end.presence (track_at end i) u)))))
-                  ⊎ ((f.width ≤ length end.out) ⊎ ((end.clocks.at < ms f.time) × (wait end ≤ ms f.time)))) [
+                  ⊎ ((f.width ≤ length end.out) ⊎ ((end.clocks.at < f.time) × (wait end ≤ f.time)))) [
                     | inl later ↦ inl (u, (pressed'.has.attempt_is, (pressed'.pressed, later)))
                     | inr full ↦ (let w = ap (λ (x : WatchState). x.width) (sym is) ∙ t.base.fits.0 in inr (inl (omega (arith, full, w))))
                   ]
               | inr ahead ↦
-                  let same : time_of end i ≤ f.time = subst (λ (x : WatchState). time_of x i ≤ f.time) is time in
-                  let a = ahead.ahead in
-                  inr (inr (before_second end f.time (omega (arith, a, same)), (let h = ahead.heeded in omega (arith, h, same))))
+                  let same : ms (time_of end i) ≤ f.time = subst (λ (x : WatchState). ms (time_of x i) ≤ f.time) is time in
+                  let a = before_second end (time_of end i) ahead.ahead in
+                  inr (inr (omega (arith, a, same), (let h = ahead.heeded in omega (arith, h, same))))
             ]
       ])
 
@@ -341,7 +341,7 @@ module _ (f : Facts) (due : ℕ) (old new : WatchState) (wall elapsed : ℕ) (ou
   waits_by : (n : ℕ) → wait new ≤ n → due' ≤ n + o.late
   waits_by n le = let start = least_start (wait new + o.late) (map (λ (q : Out). outage_settled_by o q.since + o.late) new.out) in omega (arith, start, le)
 
-  heeds : (bound : ℕ) (miss : Type 0) → ms f.time ≤ bound → Steady at bound (Spares bound miss) (track_at mid i) → (track_at new i).out ≡ false → Heeds bound
+  heeds : (bound : ℕ) (miss : Type 0) → f.time ≤ bound → Steady at bound (Spares bound miss) (track_at mid i) → (track_at new i).out ≡ false → Heeds bound
   heeds bound miss reach s free =
       elim (tend free) as (λ _. Heeds bound) [
         | inl later ↦
@@ -357,11 +357,11 @@ module _ (f : Facts) (due : ℕ) (old new : WatchState) (wall elapsed : ℕ) (ou
       ]
 
   -- and where its time has come before any failure, all lanes are taken
-  full_now : ms f.time ≤ at → Steady at (ms f.time) (Spares (ms f.time) ⊥) (track_at mid i) → (track_at new i).out ≡ false → f.width ≤ length new.out
+  full_now : f.time ≤ at → Steady at f.time (Spares f.time ⊥) (track_at mid i) → (track_at new i).out ≡ false → f.width ≤ length new.out
   full_now come s free =
       elim (tend free) as (λ _. f.width ≤ length new.out) [
         | inl later ↦
-            let r = ready_by (ms f.time) ⊥ later.0 s free later.1.0 later.1.1.0 in
+            let r = ready_by f.time ⊥ later.0 s free later.1.0 later.1.1.0 in
             let ahead = later.1.1.1.0 in
             absurd (omega (arith, r, ahead, come))
         | inr rest ↦
@@ -482,7 +482,7 @@ module _ (f : Facts) (due : ℕ) (old new : WatchState) (wall elapsed : ℕ) (ou
       let clock = mid_clock f due old new wall elapsed output t in
       all_sent (λ (q : Out). is_request_whole f.o q.since ≡ true) old new wall elapsed output t.ticks there (λ k low due'' named. subst (λ n. is_request_whole f.o n ≡ true) (sym clock) whole)
 
-  still_over : (base : ℕ) → (base ≡ ms f.time) ⊎ (f.o.until ≤ old.clocks.at) → (base ≡ ms f.time) ⊎ (f.o.until ≤ new.clocks.at)
+  still_over : (base : ℕ) → (base ≡ f.time) ⊎ (f.o.until ≤ old.clocks.at) → (base ≡ f.time) ⊎ (f.o.until ≤ new.clocks.at)
   still_over base (inl is) = inl is
   still_over base (inr before') = let up = t.rises in let c = clock f due old new wall elapsed output t in inr (omega (arith, before', up, c))
 
@@ -501,22 +501,22 @@ module _ (f : Facts) (due : ℕ) (old new : WatchState) (wall elapsed : ℕ) (ou
       serves unserved served (omega (arith, holds, soon, due'', m)) (omega (arith, soon, due'', m, far))
 
   -- the time is ahead
-  early_ahead : (h : IsEarly f due before old) → All (λ (q : Out). is_request_whole f.o q.since ≡ true) new.out → (track_at new f.i).out ≡ false → new.clocks.at < ms f.time → IsEarly f next now new
+  early_ahead : (h : IsEarly f due before old) → All (λ (q : Out). is_request_whole f.o q.since ≡ true) new.out → (track_at new f.i).out ≡ false → new.clocks.at < f.time → IsEarly f next now new
   early_ahead h whole free ahead =
       let at = new.clocks.at in
-      let s = steady f due old new wall elapsed output t (ms f.time) ⊥ h.endures (λ bad. absurd bad) in
+      let s = steady f due old new wall elapsed output t f.time ⊥ h.endures (λ bad. absurd bad) in
       let less = fewer (suc h.from) in
       let count = h.count in
       let zero' = none_anew f due old new wall elapsed output t (suc at) (omega arith) in
       let few = h.fewer in
       let reach = h.reach in
-      let soon : next ≤ ms f.time + turn_of f.o =
-      elim (heeds f due old new wall elapsed output t (ms f.time) ⊥ (omega arith) s free) as (λ _. next ≤ ms f.time + turn_of f.o) [
+      let soon : next ≤ f.time + turn_of f.o =
+      elim (heeds f due old new wall elapsed output t f.time ⊥ (omega arith) s free) as (λ _. next ≤ f.time + turn_of f.o) [
         | inl by' ↦ omega (arith, by')
         | inr full ↦ (let q = full_quick f due old new wall elapsed output t full whole in omega (arith, q, ahead))
       ] in
       record {
-        endures = endures f due old new wall elapsed output t (ms f.time) ⊥ h.endures (λ bad. absurd bad) (λ was out. absurd (not_both out free));
+        endures = endures f due old new wall elapsed output t f.time ⊥ h.endures (λ bad. absurd bad) (λ was out. absurd (not_both out free));
         idle = free;
         whole = whole;
         r = h.r;
@@ -533,17 +533,17 @@ module _ (f : Facts) (due : ℕ) (old new : WatchState) (wall elapsed : ℕ) (ou
       }
 
   -- it has come, and all lanes are taken
-  early_full : (h : IsEarly f due before old) → All (λ (q : Out). is_request_whole f.o q.since ≡ true) new.out → (track_at new f.i).out ≡ false → ms f.time ≤ new.clocks.at → IsEarly f next now new
+  early_full : (h : IsEarly f due before old) → All (λ (q : Out). is_request_whole f.o q.since ≡ true) new.out → (track_at new f.i).out ≡ false → f.time ≤ new.clocks.at → IsEarly f next now new
   early_full h whole free come =
       let at = new.clocks.at in
       let o = f.o in
-      let s = steady f due old new wall elapsed output t (ms f.time) ⊥ h.endures (λ bad. absurd bad) in
+      let s = steady f due old new wall elapsed output t f.time ⊥ h.endures (λ bad. absurd bad) in
       let full = full_now f due old new wall elapsed output t come s free in
       let less = fewer (suc h.from) in
       let count = h.count in
       let few = h.fewer in
       let start = h.start in
-      let lasts = endures f due old new wall elapsed output t (ms f.time) ⊥ h.endures (λ bad. absurd bad) (λ was out. absurd (not_both out free)) in
+      let lasts = endures f due old new wall elapsed output t f.time ⊥ h.endures (λ bad. absurd bad) (λ was out. absurd (not_both out free)) in
       elim (cases_Bool (list_any (λ (q : Out). nat_le q.since h.from) new.out)) as (λ _. IsEarly f next now new) [
         | inl some' ↦
             let soon = some_old f due old new wall elapsed output t h.from some' whole in
@@ -614,16 +614,16 @@ module _ (f : Facts) (due : ℕ) (old new : WatchState) (wall elapsed : ℕ) (ou
       let between = not_whole o at broke in
       let late = between.0 in
       let soon'' = between.1 in
-      let is_base : h.base ≡ ms f.time =
-      elim (still_over h.base h.over) as (λ _. h.base ≡ ms f.time) [
+      let is_base : h.base ≡ f.time =
+      elim (still_over h.base h.over) as (λ _. h.base ≡ f.time) [
         | inl is ↦ is
         | inr over ↦ absurd (omega (arith, over, soon''))
       ] in
       let now' = t.base.since in
       let early : All (λ (q : Out). q.since < o.until) new.out = All-weaker (λ (q : Out). q.since ≤ at) (λ (q : Out). q.since < o.until) (λ q le. omega (arith, le, soon'')) new.out now' in
-      let reach : ms f.time ≤ free_from f = omega arith in
+      let reach : f.time ≤ free_from f = omega arith in
       let far : again E (cut o) ≤ free_from f = omega arith in
-      let more = later_endures o f.i E (ms f.time) (free_from f) due ⊥ Unit old reach (λ bad. absurd bad) h.endures in
+      let more = later_endures o f.i E f.time (free_from f) due ⊥ Unit old reach (λ bad. absurd bad) h.endures in
       let lasts = endures f due old new wall elapsed output t (free_from f) Unit more (λ u. far) (λ was out. (tt, (broke, omega (arith, soon'')))) in
       let less = fewer (suc h.from) in
       let count = h.count in
@@ -672,7 +672,7 @@ module _ (f : Facts) (due : ℕ) (old new : WatchState) (wall elapsed : ℕ) (ou
                         absurd (not_both (goes_out_now old new wall elapsed output f.i (is_request_whole o) t.ticks h.idle out (subst (λ n. is_request_whole o n ≡ true) (sym clock) whole)) not_served)
                     | inr no' ↦ no'
                   ] in
-                  elim (cases_lt new.clocks.at (ms f.time)) as (λ _. IsThrough f next now new) [
+                  elim (cases_lt new.clocks.at f.time) as (λ _. IsThrough f next now new) [
                     | inl ahead ↦ inl (inl (early_ahead h all free ahead))
                     | inr come ↦ inl (inl (early_full h all free come))
                   ]
@@ -681,13 +681,13 @@ module _ (f : Facts) (due : ℕ) (old new : WatchState) (wall elapsed : ℕ) (ou
 
   -- the outage: nothing waits for longer than until the entry may go
   still_cut : (r : ℕ) → now + how_many f.n (is_anew f.o f.o.until new) ≤ f.width * r → turn_of f.o * r ≤ turn_of f.o * f.o.rounds →
-      f.o.from + 1 + turn_of f.o * r ≤ ms f.time + turn_of f.o + f.o.quick + turn_of f.o * f.o.rounds → Endures f.o f.i f.end (free_from f) next Unit new → is_request_served f.o new f.i ≡ false → next ≤ free_from f + f.o.late →
+      f.o.from + 1 + turn_of f.o * r ≤ f.time + turn_of f.o + f.o.quick + turn_of f.o * f.o.rounds → Endures f.o f.i f.end (free_from f) next Unit new → is_request_served f.o new f.i ≡ false → next ≤ free_from f + f.o.late →
       IsCut f next now new
   still_cut r count few room lasts unserved by' = record { endures = lasts; unserved = unserved; r = r; count = count; fewer = few; room = room; next = by' }
 
   -- all lanes are taken since the broker is back, by r rounds of which the first is out
   back_from :
-      (r : ℕ) (last : ℕ) → now ≤ f.width * r → turn_of f.o * suc r ≤ turn_of f.o * f.o.rounds → f.o.from + 1 + turn_of f.o * suc r ≤ ms f.time + turn_of f.o + f.o.quick + turn_of f.o * f.o.rounds →
+      (r : ℕ) (last : ℕ) → now ≤ f.width * r → turn_of f.o * suc r ≤ turn_of f.o * f.o.rounds → f.o.from + 1 + turn_of f.o * suc r ≤ f.time + turn_of f.o + f.o.quick + turn_of f.o * f.o.rounds →
       Endures f.o f.i f.end (free_from f) next Unit new → is_request_served f.o new f.i ≡ false → All (λ (q : Out). f.o.until ≤ q.since) new.out → f.width ≤ length new.out →
       new.clocks.at + turn_of f.o * suc r ≤ last → last < ms f.end → last ≤ granted_by f.o f.time f.end → IsBack f next now new
   back_from r last count few room lasts unserved back full start ahead by =
@@ -725,7 +725,7 @@ module _ (f : Facts) (due : ℕ) (old new : WatchState) (wall elapsed : ℕ) (ou
       let at = new.clocks.at in
       let o = f.o in
       let E = f.end in
-      let reach : ms f.time ≤ free_from f = omega arith in
+      let reach : f.time ≤ free_from f = omega arith in
       let far : again E (cut o) ≤ free_from f = omega arith in
       let less = fewer o.until in
       let count = h.count in
@@ -781,7 +781,7 @@ module _ (f : Facts) (due : ℕ) (old new : WatchState) (wall elapsed : ℕ) (ou
       let at = new.clocks.at in
       let o = f.o in
       let E = f.end in
-      let reach : ms f.time ≤ free_from f = omega arith in
+      let reach : f.time ≤ free_from f = omega arith in
       let far : again E (cut o) ≤ free_from f = omega arith in
       let less = fewer (suc h.from) in
       let count = h.count in
@@ -899,7 +899,7 @@ module _ (f : Facts) (due : ℕ) (old new : WatchState) (wall elapsed : ℕ) (ou
       elim (cases_Bool (is_request_served o new f.i)) as (λ _. IsThrough f next now new) [
         | inl served ↦ inr (inr (inl (serves h.unserved served (omega (arith, in', due'', holds)) (omega (arith, in', due'')))))
         | inr not_served ↦
-            let lasts = endures f due old new wall elapsed output t (ms f.time) ⊥ h.endures (λ bad. absurd bad)
+            let lasts = endures f due old new wall elapsed output t f.time ⊥ h.endures (λ bad. absurd bad)
             (λ was out. absurd (not_both (goes_out_now old new wall elapsed output f.i (is_request_whole o) t.ticks was out (subst (λ n. is_request_whole o n ≡ true) (sym mc) is_back)) not_served)) in
             elim (cases_Bool (list_any (λ (q : Out). not (is_request_whole o q.since)) new.out)) as (λ _. IsThrough f next now new) [
               | inl some' ↦
@@ -912,10 +912,10 @@ module _ (f : Facts) (due : ℕ) (old new : WatchState) (wall elapsed : ℕ) (ou
                   All-weaker (λ (q : Out). not (is_request_whole o q.since) ≡ false) (λ (q : Out). is_request_whole o q.since ≡ true) (λ q e. so_whole (is_request_whole o q.since) e) new.out
                   (none_passes (λ (q : Out). not (is_request_whole o q.since)) new.out none') in
                   let free = not_out o f.i new t.base.marked not_served whole in
-                  let s = steady f due old new wall elapsed output t (ms f.time) ⊥ h.endures (λ bad. absurd bad) in
+                  let s = steady f due old new wall elapsed output t f.time ⊥ h.endures (λ bad. absurd bad) in
                   let zero' = anew_none o (suc at) f.n new t.base.since (omega arith) in
                   let soon : next ≤ late_base f + turn_of o =
-                  elim (heeds f due old new wall elapsed output t (ms f.time) ⊥ (omega arith) s free) as (λ _. next ≤ late_base f + turn_of o) [
+                  elim (heeds f due old new wall elapsed output t f.time ⊥ (omega arith) s free) as (λ _. next ≤ late_base f + turn_of o) [
                     | inl by' ↦ omega (arith, by')
                     | inr full ↦ (let q = full_quick f due old new wall elapsed output t full whole in omega (arith, q, in', due''))
                   ] in

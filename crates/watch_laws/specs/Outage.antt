@@ -133,14 +133,18 @@ breath o = max 1000 (sweep o / 15)
 abbrev pub again : ℕ → ℕ → ℕ
 again end at = at + max 1000 ((ms end - at) / 16)
 
--- by when an entry of that time and end is granted
+-- by when an entry of that end is granted which may be asked from a moment on
 abbrev pub granted_by : Outage → ℕ → ℕ → ℕ
-granted_by o time end = max (ms time) (again end (o.until + o.slow + o.late)) + sweep o + o.quick
+granted_by o from end = max from (again end (o.until + o.slow + o.late)) + sweep o + o.quick
 
--- an outage that a margin of so many seconds outlasts: beside it there is room for the request that its end cuts, that which its
--- beginning cuts, the one under way when the time came, all rounds, and one pause
+-- an outage that so much time outlasts: beside it there is room for the request that its end cuts, that which its beginning cuts, the one
+-- under way when the time came, all rounds, and one pause
+abbrev pub IsShortFor : Outage → ℕ → Type 0
+IsShortFor o left = (o.until - o.from) + o.slow + 2 * (o.quick + o.late) + sweep o + breath o ≤ left
+
+-- so a margin of so many seconds does
 abbrev pub IsShortOutage : Outage → ℕ → Type 0
-IsShortOutage o margin = (o.until - o.from) + o.slow + 2 * (o.quick + o.late) + sweep o + breath o ≤ ms margin
+IsShortOutage o margin = IsShortFor o (ms margin)
 
 -- a state in which the time of i is ahead: i is wanted, in the plan, and not pressed, and may be asked when its time comes. A lookup of it may
 -- be owed, and out
@@ -152,17 +156,17 @@ pub record IsBefore (s : WatchState) (i : ℕ) : Type 0 where
   pub ahead : second s < time_of s i
   pub rested : rested (track_at s i).last ≤ ms (time_of s i)
 
--- a state in which i is wanted and its end is known, and from a second on that is ahead, and not before its time, it may be asked: it is not
--- pressed, or on a first try of which nothing is out but what went out just now
+-- a state in which i is wanted and its end is known, and from a moment on that is ahead, and not before its time, it may be asked: it is not
+-- pressed, or on a first try of which nothing is out but what went out just now; and it has rested by then, but where that is out
 pub record MayBeAsked (s : WatchState) (i from : ℕ) : Type 0 where
   pub within : i < length s.forest.entries
   pub wanted : is_wanted s i ≡ true
   pub known : is_known (track_at s i).end ≡ true
-  pub first : (t : Try) → attempt_at s i ≡ Some t → t.pressed ≡ true → (is_first t ≡ true) × ((t.failed ≡ false) × (t.at ≤ ms from))
+  pub first : (t : Try) → attempt_at s i ≡ Some t → t.pressed ≡ true → (is_first t ≡ true) × ((t.failed ≡ false) × (t.at ≤ from))
   pub fresh : All (λ q. q.entry ≡ i → is_pressed (track_at s i) ≡ true → (q.heard ≡ false) × (q.since ≡ s.clocks.at)) s.out
-  pub come : time_of s i ≤ from
-  pub ahead : second s < from
-  pub rested : rested (track_at s i).last ≤ ms from
+  pub come : ms (time_of s i) ≤ from
+  pub ahead : s.clocks.at < from
+  pub rested : (is_pressed (track_at s i) ≡ true → (track_at s i).out ≡ false) → rested (track_at s i).last ≤ from
 
 -- the clock at which the last request of i went out, the one that told its end
 abbrev pub clock_asked_at : Option ℕ → ℕ
@@ -191,7 +195,7 @@ pub record IsGrant (turn : Turned) (i : ℕ) : Type 0 where
 abbrev pub granted_next : Outage → WatchState → ℕ → ℕ
 granted_next o s i = outage_next_by o (outage_settled_by o (granted_at s i)) s.out
 
--- after each turn the end of i is ahead, and it is no later than i is told, where it may be asked from a second on
+-- after each turn the end of i is ahead, and it is no later than i is told, where it may be asked from a moment on
 abbrev pub EndIsInTime : Outage → ℕ → ℕ → WatchState → Type 0
 EndIsInTime o i from s = (s.clocks.at < ms (believed (track_at s i).end)) × (s.clocks.at ≤ granted_by o from (believed (track_at s i).end))
 
@@ -207,7 +211,7 @@ OutageLaw =
     IsWatchRun g width (before ++ last ∷ turns) → is_clock last.event ≡ true → is_event_taken last.result ≡ true → IsBefore last.state i →
     AreLived o i (outage_next_after o last.result last.state 0) last.state turns →
     waiting o (length g.entries) last.state + coming o (length g.entries) last.state turns ≤ width * o.rounds → o.from ≤ o.until → IsShortOutage o g.margin →
-    AllInTime o i (time_of last.state i) turns
+    AllInTime o i (ms (time_of last.state i)) turns
 
 -- and so it is from a grant or a lookup of the entry on, until the next one. So outages of which no two lie between the same two count each
 -- by itself
@@ -216,7 +220,7 @@ GrantLaw =
     (o : Outage) (g : Forest) (width : ℕ) (before : List Turned) (grant : Turned) (turns : List Turned) (i : ℕ) → 0 < width →
     IsWatchRun g width (before ++ grant ∷ turns) → IsGrant grant i → AreLived o i (granted_next o grant.state i) grant.state turns →
     waiting o (length g.entries) grant.state + coming o (length g.entries) grant.state turns ≤ width * o.rounds → o.from ≤ o.until → IsShortOutage o g.margin →
-    AllInTime o i (time_of grant.state i) turns
+    AllInTime o i (ms (time_of grant.state i)) turns
 
 -- a turn from which on an entry is lived with: a clock, or a reply that tells its end; and by when the next clock is handed in
 abbrev pub StartsBy : Outage → Turned → ℕ → ℕ → Type 0
@@ -225,14 +229,14 @@ StartsBy o turn i due =
     ⊎ ((tells i turn.event ≡ true) × ((is_event_taken turn.result ≡ true) × (due ≡ granted_next o turn.state i)))
 
 -- and so it is of any entry that is wanted and whose end is known, in the plan or not, its time come or not: what is left to its end, from a
--- second on from which it may be asked, stands for the margin. So after a lookup at which its time has come, and at the first clock of a watch
+-- moment on from which it may be asked, stands for the margin. So after a lookup at which its time has come, and at the first clock of a watch
 -- that was told the ends of an earlier one
 abbrev pub LeftLaw : Type 0
 LeftLaw =
     (o : Outage) (g : Forest) (width : ℕ) (before : List Turned) (last : Turned) (turns : List Turned) (i from due : ℕ) → 0 < width →
     IsWatchRun g width (before ++ last ∷ turns) → StartsBy o last i due → MayBeAsked last.state i from → AreLived o i due last.state turns →
     waiting o (length g.entries) last.state + coming o (length g.entries) last.state turns ≤ width * o.rounds → o.from ≤ o.until →
-    IsShortOutage o (believed (track_at last.state i).end - from) → AllInTime o i from turns
+    IsShortFor o (ms (believed (track_at last.state i).end) - from) → AllInTime o i from turns
 
 -- what a new watch may be told before its first clock: ends of an earlier one, needs, and that all is to begin anew
 abbrev pub is_handed : Event → Bool
@@ -247,16 +251,17 @@ abbrev pub AreHanded : List Turned → Type 0
 AreHanded [] = Unit {0}
 AreHanded (turn ∷ turns) = (is_handed turn.event ≡ true) × AreHanded turns
 
--- from which second on what is left to the end of i counts: from its time on, or from two seconds after now where that is later
+-- from when on what is left to the end of i counts: from its time on, or from now where that is later; but not before it has rested, where it is
+-- not pressed
 abbrev pub left_from : WatchState → ℕ → ℕ
-left_from s i = max (time_of s i) (second s + 2)
+left_from s i = max (ms (time_of s i)) (max (s.clocks.at + 1) (if is_pressed (track_at s i) then 0 else rested (track_at s i).last))
 
 -- a kill: so it is from the first clock of a watch on that was told the end of an entry which is wanted. It costs the time until that clock, as
--- far as it lies past the entry's time, and two seconds
+-- far as it lies past the entry's time, and nothing more
 abbrev pub KillLaw : Type 0
 KillLaw =
     (o : Outage) (g : Forest) (width : ℕ) (before : List Turned) (first : Turned) (turns : List Turned) (i : ℕ) → 0 < width →
     IsWatchRun g width (before ++ first ∷ turns) → AreHanded before → is_clock first.event ≡ true → is_event_taken first.result ≡ true → i < length g.entries →
     is_wanted first.state i ≡ true → is_known (track_at first.state i).end ≡ true → AreLived o i (outage_next_after o first.result first.state 0) first.state turns →
     waiting o (length g.entries) first.state + coming o (length g.entries) first.state turns ≤ width * o.rounds → o.from ≤ o.until →
-    IsShortOutage o (believed (track_at first.state i).end - left_from first.state i) → AllInTime o i (left_from first.state i) turns
+    IsShortFor o (ms (believed (track_at first.state i).end) - left_from first.state i) → AllInTime o i (left_from first.state i) turns

@@ -16,14 +16,15 @@ pub fn grant_law()
 {}
 
 /// The law of what is left: of any entry that is wanted and whose end is known the same holds with what is left to its end in the place
-/// of the margin, from a second on from which it may be asked. So it holds outside the plan, after a lookup at which the entry's time
+/// of the margin, from a moment on from which it may be asked. So it holds outside the plan, after a lookup at which the entry's time
 /// has come, and from the first clock on of a watch that was told the ends of an earlier one.
 pub fn left_law()
     ensures { LeftLaw }
 {}
 
 /// The law of a kill: from the first clock on of a watch that was told the end of an entry, this outlives each outage that what is left
-/// to its end outlasts, from its time on, or from two seconds after that clock where these are later.
+/// to its end outlasts, from its time on, or from that clock where it is later. (Where it is looked up at that clock, from a second
+/// after it at the earliest.)
 pub fn kill_law()
     ensures { KillLaw }
 {}
