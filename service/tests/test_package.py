@@ -53,6 +53,7 @@ class Package(unittest.TestCase):
             ("usr/bin/leasekeep", 0o755), ("usr/bin/minibroker", 0o755), ("usr/lib/leasekeep/leasekeepd", 0o755),
             ("usr/lib/leasekeep/leasekeep-draw", 0o755), ("lib/systemd/system/leasekeep.service", 0o644),
             ("lib/systemd/system/leasekeep@.service", 0o644), ("lib/systemd/system/leasekeepd.service", 0o644),
+            ("lib/systemd/system/leasekeep-proxy.service", 0o644),
             ("usr/lib/sysusers.d/leasekeep.conf", 0o644), ("usr/lib/tmpfiles.d/leasekeep.conf", 0o644),
             ("usr/share/man/man1/leasekeepd.1.gz", 0o644), ("usr/share/man/man1/leasekeep.1.gz", 0o644),
             ("usr/share/bash-completion/completions/leasekeepd", 0o644), ("usr/share/zsh/vendor-completions/_leasekeep", 0o644),
