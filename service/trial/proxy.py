@@ -3,7 +3,6 @@
 from __future__ import annotations
 
 import asyncio
-import grp
 import os
 import shutil
 import ssl
@@ -71,8 +70,7 @@ class Proxy:
 
     def _haproxy(self) -> tuple[list[str], dict[str, str]]:
         environment = {
-            "PROXY_SOCKET": str(self.socket), "PROXY_GROUP": grp.getgrgid(os.getgid()).gr_name,
-            "VAULT_ADDRESS": f"127.0.0.1:{self._port}", "VAULT_HOST": HOST,
+            "PROXY_SOCKET": str(self.socket), "VAULT_ADDRESS": f"127.0.0.1:{self._port}", "VAULT_HOST": HOST,
             "VAULT_CA": str(self._folder / "ca.pem")}
         if self._namespace:
             environment["VAULT_NAMESPACE"] = self._namespace
