@@ -1,8 +1,10 @@
-"""The Debian package and the archive: what is in them, and that they work in a system without the clone."""
+"""The Debian package, the archive and the image: what is in them, and that they work in a system without the clone."""
 
 from __future__ import annotations
 
 import gzip
+import importlib.util
+import json
 import os
 import re
 import shutil
@@ -53,6 +55,7 @@ class Package(unittest.TestCase):
             ("usr/bin/leasekeep", 0o755), ("usr/bin/minibroker", 0o755), ("usr/lib/leasekeep/leasekeepd", 0o755),
             ("usr/lib/leasekeep/leasekeep-draw", 0o755), ("lib/systemd/system/leasekeep.service", 0o644),
             ("lib/systemd/system/leasekeep@.service", 0o644), ("lib/systemd/system/leasekeepd.service", 0o644),
+            ("lib/systemd/system/leasekeep-proxy.service", 0o644),
             ("usr/lib/sysusers.d/leasekeep.conf", 0o644), ("usr/lib/tmpfiles.d/leasekeep.conf", 0o644),
             ("usr/share/man/man1/leasekeepd.1.gz", 0o644), ("usr/share/man/man1/leasekeep.1.gz", 0o644),
             ("usr/share/bash-completion/completions/leasekeepd", 0o644), ("usr/share/zsh/vendor-completions/_leasekeep", 0o644),
@@ -129,6 +132,55 @@ class Package(unittest.TestCase):
         for script in ("postinst", "prerm", "postrm"):
             checked = subprocess.run(["sh", "-n", str(self.root / "DEBIAN" / script)], capture_output=True, text=True, timeout=60 * SLOWER)
             self.assertEqual((checked.returncode, checked.stderr), (0, ""))
+
+
+MANIFEST = (TOP / "packaging" / "kubernetes" / "sidecar.yaml").read_text()
+
+
+@unittest.skipIf(shutil.which("ldd") is None or shutil.which("strip") is None, "ldd or strip is not installed")
+class Image(unittest.TestCase):
+    """What a container's image is made of."""
+
+    root: Path
+    dockerfile: str
+
+    @classmethod
+    def setUpClass(cls) -> None:
+        folder = Path(tempfile.mkdtemp())
+        cls.addClassCleanup(shutil.rmtree, folder, True)
+        folder.chmod(0o755)
+        subprocess.run([str(TOP / "scripts" / "image"), "--built", str(programs(folder / "programs")), str(folder / "out")], check=True,
+                       capture_output=True, timeout=60 * SLOWER)
+        cls.root = folder / "out" / "root"
+        cls.dockerfile = (folder / "out" / "Dockerfile").read_text()
+
+    @unittest.skipIf(os.getuid() != 0, "chroot is root's")
+    def test_the_programs_run_in_it_as_its_user(self) -> None:
+        for program in ("leasekeep", "minibroker"):
+            ran = subprocess.run(["chroot", "--userspec=65532:65532", str(self.root), f"/usr/bin/{program}", "--version"],
+                                 capture_output=True, text=True, timeout=60 * SLOWER)
+            self.assertEqual((ran.returncode, ran.stdout), (0, f"{program} {VERSION}\n"), ran.stderr)
+
+    def test_it_has_each_folder_that_is_mounted(self) -> None:
+        volumes = json.loads(re.findall(r"(?m)^VOLUME (.*)$", self.dockerfile)[0])
+        for volume in volumes:
+            self.assertTrue((self.root / volume[1:]).is_dir(), volume)
+            self.assertIn(f"mountPath: {volume}\n", MANIFEST)
+
+    def test_it_serves_with_the_words_of_the_manifest(self) -> None:
+        words = json.loads(re.findall(r"(?m)^CMD (.*)$", self.dockerfile)[0])
+        arguments = MANIFEST.split("          args:\n")[1].split("          ports:\n")[0]
+        self.assertEqual(re.findall(r"(?m)^ +- (.*)$", arguments), words)
+
+    @unittest.skipIf(importlib.util.find_spec("yaml") is None, "python3-yaml is not installed")
+    def test_the_manifest_is_well_formed(self) -> None:
+        yaml = importlib.import_module("yaml")
+        deployment, claim = yaml.safe_load_all(MANIFEST)
+        pod = deployment["spec"]["template"]["spec"]
+        volumes = {volume["name"]: volume for volume in pod["volumes"]}
+        self.assertEqual(volumes["inventory"]["secret"]["defaultMode"], 0o440)
+        self.assertEqual(volumes["state"]["persistentVolumeClaim"]["claimName"], claim["metadata"]["name"])
+        self.assertEqual({mount["name"] for container in pod["containers"] for mount in container.get("volumeMounts", [])}, set(volumes))
 
 
 if __name__ == "__main__":

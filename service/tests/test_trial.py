@@ -40,12 +40,6 @@ class BuiltPrograms(unittest.TestCase):
             self.skipTest("no built minibroker with moments from its input: the scripted one is used")
 
 
-class Documents(unittest.TestCase):
-    def test_the_proxy_that_is_tried_is_the_one_that_is_shown(self) -> None:
-        shown = (SCRIPTS.parents[1] / "docs" / "vault.md").read_text()
-        self.assertIn((SCRIPTS.parent / "proxy" / "haproxy.cfg").read_text().strip(), shown)
-
-
 class Trials(unittest.IsolatedAsyncioTestCase):
     """Those of one test all at the same time, since real time is what they take."""
 

@@ -14,7 +14,9 @@ from trial.programs import SLOWER
 
 TOP = Path(__file__).resolve().parents[2]
 SERVE, FLEET, STANDBY = (TOP / "service" / name for name in ("leasekeep.service", "leasekeep@.service", "leasekeepd.service"))
-UNITS = SERVE, FLEET, STANDBY
+AGENTS = SERVE, FLEET, STANDBY
+PROXY = TOP / "service" / "leasekeep-proxy.service"
+UNITS = *AGENTS, PROXY
 SYSUSERS = TOP / "service" / "leasekeep.sysusers"
 TMPFILES = TOP / "service" / "leasekeep.tmpfiles"
 
@@ -30,9 +32,9 @@ class Units(unittest.TestCase):
             with self.subTest(unit=unit.name):
                 copy = self.folder / unit.name
                 text = unit.read_text()
-                for program in ("leasekeepd", "leasekeep"):
+                for program in ("/usr/local/bin/leasekeepd", "/usr/local/bin/leasekeep", "/usr/sbin/haproxy"):
                     # (a program has to be there: another one stands for it)
-                    text = text.replace(f"=/usr/local/bin/{program} ", f"={shutil.which('true')} ")
+                    text = text.replace(f"={program} ", f"={shutil.which('true')} ")
                 copy.write_text(text)
                 said = subprocess.run(["systemd-analyze", "verify", "--man=no", str(copy)], capture_output=True, text=True,
                                       timeout=60 * SLOWER)
@@ -42,9 +44,9 @@ class Units(unittest.TestCase):
     def test_what_lives_depend_on_stands_in_each(self) -> None:
         for unit in UNITS:
             lines = unit.read_text().splitlines()
+            own = ("User=leasekeep-proxy",) if unit == PROXY else ("User=leasekeep", "IPAddressDeny=any", "IPAddressAllow=localhost")
             for line in ("Restart=always", "RestartSec=1", "StartLimitIntervalSec=0", "NoNewPrivileges=yes", "ProtectSystem=strict",
-                         "User=leasekeep", "IPAddressDeny=any", "IPAddressAllow=localhost", "SocketBindDeny=any",
-                         "MemoryDenyWriteExecute=yes", "SystemCallErrorNumber=EPERM"):
+                         "Group=leasekeep", "SocketBindDeny=any", "MemoryDenyWriteExecute=yes", "SystemCallErrorNumber=EPERM", *own):
                 with self.subTest(unit=unit.name, line=line):
                     self.assertIn(line, lines)
 
@@ -83,9 +85,10 @@ class Units(unittest.TestCase):
 
     def test_its_user_and_folders_are_made(self) -> None:
         users, folders = SYSUSERS.read_text(), TMPFILES.read_text()
-        self.assertRegex(users, r"(?m)^u leasekeep ")
-        for path, mode, owner in (("/etc/leasekeep", "0750", "leasekeep"), ("/run/vault-proxy", "0750", "root")):
-            for unit in UNITS:
+        for user in ("leasekeep", "leasekeep-proxy"):
+            self.assertRegex(users, rf"(?m)^u {user} ")
+        for path, mode, owner in (("/etc/leasekeep", "0750", "leasekeep"), ("/run/vault-proxy", "0750", "leasekeep-proxy")):
+            for unit in AGENTS:
                 self.assertIn(path, unit.read_text())
             self.assertRegex(folders, rf"(?m)^d {path} {mode} {owner} leasekeep -$")
 
@@ -127,10 +130,11 @@ class Installed(unittest.TestCase):
             made = subprocess.run([program, f"--root={self.folder}", *words, "leasekeep.conf"], capture_output=True, text=True, timeout=60 * SLOWER)
             self.assertEqual(made.returncode, 0, made.stderr)
         users = [line.split(":") for line in (self.folder / "etc/passwd").read_text().splitlines()]
-        number, group = next((int(user[2]), int(user[3])) for user in users if user[0] == "leasekeep")
-        for path, mode, owner in (("etc/leasekeep", 0o750, number), ("run/vault-proxy", 0o750, 0)):
+        numbers = {user[0]: (int(user[2]), int(user[3])) for user in users}
+        for path, owner in (("etc/leasekeep", "leasekeep"), ("run/vault-proxy", "leasekeep-proxy")):
             folder = (self.folder / path).stat()
-            self.assertEqual((stat.S_IMODE(folder.st_mode), folder.st_uid, folder.st_gid), (mode, owner, group), path)
+            self.assertEqual((stat.S_IMODE(folder.st_mode), folder.st_uid, folder.st_gid),
+                             (0o750, numbers[owner][0], numbers["leasekeep"][1]), path)
 
     def test_the_program(self) -> None:
         program = str(self.local / "bin" / "leasekeepd")

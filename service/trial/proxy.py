@@ -3,9 +3,7 @@
 from __future__ import annotations
 
 import asyncio
-import grp
 import os
-import pwd
 import shutil
 import ssl
 import subprocess
@@ -14,8 +12,7 @@ from pathlib import Path
 PROXIES = Path(__file__).resolve().parents[1] / "proxy"
 HOST = "vault.example.com"
 START_SECONDS = 10.0
-NGINX_NAMESPACE = "            proxy_set_header X-Vault-Namespace admin;\n"
-HAPROXY_USER = "    user haproxy\n    group haproxy\n"
+NGINX_NAMESPACE = "            # proxy_set_header X-Vault-Namespace team-a;\n"
 EC = ("-newkey", "ec", "-pkeyopt", "ec_paramgen_curve:P-256", "-nodes")
 
 
@@ -38,15 +35,6 @@ def make_certificate(folder: Path, host: str = HOST) -> ssl.SSLContext:
     context = ssl.SSLContext(ssl.PROTOCOL_TLS_SERVER)
     context.load_cert_chain(folder / f"{host}.pem", folder / f"{host}.key")
     return context
-
-
-def _may_become(user: str) -> bool:
-    """Whether a program started here can go on as that user: as root, where there is one."""
-    try:
-        pwd.getpwnam(user)
-    except KeyError:
-        return False
-    return os.getuid() == 0
 
 
 class Proxy:
@@ -82,23 +70,19 @@ class Proxy:
 
     def _haproxy(self) -> tuple[list[str], dict[str, str]]:
         environment = {
-            "PROXY_SOCKET": str(self.socket), "PROXY_GROUP": grp.getgrgid(os.getgid()).gr_name,
-            "VAULT_ADDRESS": f"127.0.0.1:{self._port}", "VAULT_HOST": HOST,
+            "PROXY_SOCKET": str(self.socket), "VAULT_ADDRESS": f"127.0.0.1:{self._port}", "VAULT_HOST": HOST,
             "VAULT_CA": str(self._folder / "ca.pem")}
         if self._namespace:
             environment["VAULT_NAMESPACE"] = self._namespace
-        text = (PROXIES / "haproxy.cfg").read_text()
-        if HAPROXY_USER not in text:
-            raise ValueError(f"haproxy.cfg has no {HAPROXY_USER!r}")
-        (self._folder / "haproxy.cfg").write_text(text if _may_become("haproxy") else text.replace(HAPROXY_USER, ""))
-        return ["haproxy", "-db", "-f", str(self._folder / "haproxy.cfg")], environment
+        return ["haproxy", "-db", "-f", str(PROXIES / "haproxy.cfg")], environment
 
     def _nginx(self) -> tuple[list[str], dict[str, str]]:
         text = (PROXIES / "nginx.conf").read_text()
         for old, new in (
             ("/run/vault-proxy/vault.sock", str(self.socket)), ("https://vault.example.com:8200",
              f"https://127.0.0.1:{self._port}"), ("/etc/vault-proxy/ca.pem", str(self._folder / "ca.pem")),
-            (NGINX_NAMESPACE, NGINX_NAMESPACE.replace("admin", self._namespace) if self._namespace else ""),
+            (NGINX_NAMESPACE, NGINX_NAMESPACE.replace("# ", "").replace("team-a", self._namespace) if self._namespace else NGINX_NAMESPACE),
+            ("/tmp/nginx-", f"{self._folder}/nginx-"),
         ):
             if old not in text:
                 raise ValueError(f"nginx.conf has no {old!r}")
