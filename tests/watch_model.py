@@ -10,7 +10,7 @@ from dataclasses import dataclass, field, replace
 
 from watch_plays import SILENT, START, TOGETHER, Judge, Row, true_reply
 
-NEW: tuple[str, ...] = ()
+NEW: tuple[str, ...] = ("along",)
 """The rules that the program does not have yet."""
 SECOND = 1000
 DAY = 86_400_000
@@ -453,7 +453,8 @@ class Machine:
         if not attempt.is_first:
             part = (0 if self.away else 2) + (0 if attempt.pressed else 1)
             return part, 0 if track.last is None else track.last + 1, index
-        part = 4 if attempt.along else (2 if self.away else 0) + (0 if track.is_alive(self.now) else 1)
+        along = attempt.renews and not self._has_come(index) if "along" in self.rules else attempt.along
+        part = 4 if along else (2 if self.away else 0) + (0 if track.is_alive(self.now) else 1)
         return part, track.believed, index
 
     def _fill(self) -> list[Out]:
