@@ -10,7 +10,7 @@ from dataclasses import dataclass, field, replace
 
 from watch_plays import SILENT, START, TOGETHER, Judge, Row, true_reply
 
-NEW: tuple[str, ...] = ("along",)
+NEW: tuple[str, ...] = ("along", "busy")
 """The rules that the program does not have yet."""
 SECOND = 1000
 DAY = 86_400_000
@@ -250,7 +250,7 @@ class Machine:
         """A loss, or the broker was too busy."""
         self._failing(index, renews, True, not reply.busy and request.heard)
         track = self.tracks[index]
-        if reply.busy and track.attempt:
+        if reply.busy and "busy" not in self.rules and track.attempt:
             track.attempt = replace(track.attempt, fails=1)
 
     def _looked(self, index: int, request: Out, reply: Reply) -> None:
@@ -351,7 +351,7 @@ class Machine:
     def _settle(self) -> None:
         unheard = any(not reply.is_real and not request.heard for request, reply in self._answers)
         caps = [self._cap(track, track.attempt) for track in self.tracks if track.attempt and track.attempt.pressed]
-        if any(reply.busy for _, reply in self._answers):
+        if any(reply.busy for _, reply in self._answers) and "busy" not in self.rules:
             self._free = self.at + SECOND
         if self.away and unheard:
             is_over = self._hold <= self.at
