@@ -10,7 +10,7 @@ from dataclasses import dataclass, field, replace
 
 from watch_plays import SILENT, START, TOGETHER, Judge, Row, true_reply
 
-NEW: tuple[str, ...] = ("along", "busy")
+NEW: tuple[str, ...] = ("along", "busy", "owed")
 """The rules that the program does not have yet."""
 SECOND = 1000
 DAY = 86_400_000
@@ -291,7 +291,7 @@ class Machine:
         elif reply.status is not None:
             self._failing(index, False)
         else:
-            looks = not track.is_alive(self.now) or track.owes
+            looks = not track.is_alive(self.now) or (track.owes and "owed" not in self.rules)
             self._unheard(index, request, reply, not looks)
 
     def _granted(self, index: int, request: Out, seconds: int, renewable: bool) -> None:
