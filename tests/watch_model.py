@@ -10,7 +10,7 @@ from dataclasses import dataclass, field, replace
 
 from watch_plays import SILENT, START, TOGETHER, Judge, Row, true_reply
 
-NEW: tuple[str, ...] = ("along", "busy", "owed")
+NEW: tuple[str, ...] = ("along", "busy", "owed", "never")
 """The rules that the program does not have yet."""
 SECOND = 1000
 DAY = 86_400_000
@@ -56,6 +56,7 @@ class Track:
     top: bool = False
     grant: tuple[int, int] | None = None
     owes: bool = False
+    known: bool = False
     attempt: Try | None = None
     last: int | None = None
     out: bool = False
@@ -205,7 +206,7 @@ class Machine:
 
     def know(self, index: int, end: int, renewable: bool) -> None:
         track = self.tracks[index]
-        track.end, track.renewable = end, renewable
+        track.end, track.renewable, track.known = end, renewable, True
 
     def need(self, index: int, until: int) -> None:
         self.entries[index] = replace(self.entries[index], need=until)
@@ -377,13 +378,14 @@ class Machine:
             why = "day"
         else:
             return
-        self._begun, self._asked = self.at, False
+        is_first, self._begun, self._asked = self._begun is None, self.at, False
         self.notes.append(["begin", why])
         for track in self.tracks:
             track.top = False
         for index, track in enumerate(self.tracks):
             called = self._carried(index) > 0 or any(self.entries[below].need for below in self._below[index])
-            if called and track.is_open(self.now):
+            ended = is_first and track.known and "never" in self.rules
+            if called and (track.is_open(self.now) or ended):
                 self._owe(track)
 
     def _owe(self, track: Track) -> None:
@@ -594,7 +596,7 @@ class ModelPlay:
         if said[0] == "entry":
             said[2] = str(self.machine.broker_moment(self.machine.now) + int(said[2]))
         lines = [said]
-        if reply.told is not None:
+        if reply.told is not None and not (reply.endless and "never" in self.machine.rules):
             end = self.machine.tracks[entry].end
             told = self.machine.now + reply.told[0] if end in (None, NEVER) else end
             lines.append(["end", name, f"{int(told or 0) * SECOND - self.machine.phase}", "yes" if reply.told[1] else "no"])
