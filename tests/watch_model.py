@@ -10,7 +10,7 @@ from dataclasses import dataclass, field, replace
 
 from watch_plays import SILENT, START, TOGETHER, Judge, Row, true_reply
 
-NEW: tuple[str, ...] = ("along", "busy", "owed", "never")
+NEW: tuple[str, ...] = ("along", "busy", "owed", "never", "last-try")
 """The rules that the program does not have yet."""
 SECOND = 1000
 DAY = 86_400_000
@@ -54,6 +54,7 @@ class Track:
     end: float | None = None
     renewable: bool = True
     top: bool = False
+    last_try: bool = False
     grant: tuple[int, int] | None = None
     owes: bool = False
     known: bool = False
@@ -174,8 +175,13 @@ class Machine:
         needs = (min(self._need_here(below), self._limit(below)) for below in self._below[index])
         return max((need for need in needs if need > self.now), default=0)
 
+    def _carried_unlimited(self, index: int) -> int:
+        return max((need for need in map(self._need_here, self._below[index]) if need > self.now), default=0)
+
     def _wants(self, index: int, need: float) -> bool:
         track = self.tracks[index]
+        if track.last_try and track.renewable and track.believed < self._carried_unlimited(index):
+            return True
         return (track.renewable or track.end is None) and not track.top and track.end != NEVER and track.believed < need
 
     def _lead(self, index: int) -> int:
@@ -194,7 +200,7 @@ class Machine:
     def _time(self, index: int) -> float:
         track = self.tracks[index]
         own = self._own_margin(index)
-        return 0 if track.end is None else max(0, track.end - own)
+        return 0 if track.end is None else max(0, track.end - (own // 2 if track.last_try else own))
 
     def _has_come(self, index: int) -> bool:
         return self._time(index) <= self.now
@@ -307,6 +313,7 @@ class Machine:
             before, since = track.grant
             most = min(track.end, since // SECOND + before)
             is_no_further = since // SECOND + 2 <= counts // SECOND and before < step and seconds < step and end <= most + 1
+        track.last_try = "last-try" in self.rules and is_no_further and not track.top
         track.top, track.end, track.renewable, track.grant = is_no_further, end, renewable, (seconds, counts)
         if is_no_further:
             self.notes.append(["top", self.entries[index].name, str(self.broker_moment(end))])
@@ -381,7 +388,7 @@ class Machine:
         is_first, self._begun, self._asked = self._begun is None, self.at, False
         self.notes.append(["begin", why])
         for track in self.tracks:
-            track.top = False
+            track.top = track.last_try = False
         for index, track in enumerate(self.tracks):
             called = self._carried(index) > 0 or any(self.entries[below].need for below in self._below[index])
             ended = is_first and track.known and "never" in self.rules
