@@ -10,7 +10,7 @@ from dataclasses import dataclass, field, replace
 
 from watch_plays import SILENT, START, TOGETHER, Judge, Row, true_reply
 
-NEW: tuple[str, ...] = ("along", "busy", "owed", "never", "last-try")
+NEW: tuple[str, ...] = ("along", "busy", "owed", "never", "last-try", "back")
 """The rules that the program does not have yet."""
 SECOND = 1000
 DAY = 86_400_000
@@ -245,7 +245,11 @@ class Machine:
             if track.attempt and track.out:
                 track.attempt = replace(track.attempt, fails=0)
             elif track.attempt and track.attempt.lost:
-                track.attempt = replace(track.attempt, at=min(track.attempt.at, track.rested))
+                soon = min(track.attempt.at, track.rested)
+                if "back" in self.rules and track.attempt.failed:
+                    track.attempt = replace(track.attempt, at=track.rested, failed=False)
+                else:
+                    track.attempt = replace(track.attempt, at=soon)
 
     def _failing(self, index: int, renews: bool, lost: bool = False, alone: bool = False) -> None:
         track = self.tracks[index]
