@@ -10,7 +10,7 @@ from dataclasses import dataclass, field, replace
 
 from watch_plays import SILENT, START, TOGETHER, Judge, Row, true_reply
 
-NEW: tuple[str, ...] = ("along", "busy", "owed", "never", "last-try", "back")
+NEW: tuple[str, ...] = ("along", "busy", "owed", "never", "last-try", "back", "changed")
 """The rules that the program does not have yet."""
 SECOND = 1000
 DAY = 86_400_000
@@ -85,7 +85,7 @@ class Track:
         return self.end not in (None, NEVER) and (not self.renewable or self.top)
 
 
-@dataclass
+@dataclass(eq=False)
 class Out:
     """A request that is out."""
 
@@ -214,20 +214,41 @@ class Machine:
         track = self.tracks[index]
         track.end, track.renewable, track.known = end, renewable, True
 
+    def changed(self, entries: list[Entry]) -> Machine:
+        """The watch after a change of the inventory. Known ends are handed on, and all else is as at a start; or, by the new rule, what was
+        keeps all that is known of it, its request that is out too. That of an entry that is no more is out of none, -1."""
+        was = {entry.name: index for index, entry in enumerate(self.entries)}
+        before = [was.get(entry.name) for entry in entries]
+        new = Machine(entries, self.margin, self.width, self.rules)
+        if "changed" not in self.rules:
+            for index, old in enumerate(before):
+                if old is not None and (end := self.tracks[old].end) not in (None, NEVER):
+                    new.know(index, int(end or 0), self.tracks[old].renewable)
+            return new
+        for index, old in enumerate(before):
+            new.tracks[index] = Track() if old is None else self.tracks[old]
+            if old is None or self.entries[old].step != entries[index].step:
+                new.tracks[index].top = new.tracks[index].last_try = False
+                new._owe_at(new.tracks[index], self.at)
+        kept = {old: index for index, old in enumerate(before) if old is not None}
+        new.out = self.out
+        for out in new.out:
+            out.entry = kept.get(out.entry, -1)
+        new.at, new.phase, new.away = self.at, self.phase, self.away
+        new._answers, new._wall, new._begun, new._asked = self._answers, self._wall, self._begun, self._asked
+        new._count, new._hold, new._free, new._pace = self._count, self._hold, self._free, self._pace
+        return new
+
     def need(self, index: int, until: int) -> None:
         self.entries[index] = replace(self.entries[index], need=until)
 
-    def answer(self, index: int, reply: Reply) -> None:
-        """Takes the answer to the request that is out of an entry."""
-        request = next(out for out in self.out if out.entry == index)
+    def answer(self, request: Out, reply: Reply) -> None:
+        """Takes the answer to a request that is out."""
         self._answers.append((request, reply))
-        track = self.tracks[index]
-        track.out = False
-        if request.renews:
-            self._renewed(index, request, reply)
-        else:
-            self._looked(index, request, reply)
-        self.out.remove(request)
+        if request.entry >= 0:
+            self.tracks[request.entry].out = False
+            (self._renewed if request.renews else self._looked)(request.entry, request, reply)
+        self.out = [out for out in self.out if out is not request]
         if reply.is_real:
             self._hear()
         elif not request.heard and not self.away:
@@ -397,12 +418,12 @@ class Machine:
             called = self._carried(index) > 0 or any(self.entries[below].need for below in self._below[index])
             ended = is_first and track.known and "never" in self.rules
             if called and (track.is_open(self.now) or ended):
-                self._owe(track)
+                self._owe_at(track, self.at)
 
-    def _owe(self, track: Track) -> None:
+    def _owe_at(self, track: Track, at: int) -> None:
         track.owes = True
         if not track.out:
-            soon = max(self.at, track.rested)
+            soon = max(at, track.rested)
             track.attempt = replace(track.attempt, at=min(track.attempt.at, soon)) if track.attempt else Try(soon, False, False)
 
     def _is_fresh(self, index: int, need: float) -> bool:
@@ -509,19 +530,23 @@ class ModelPlay:
     def __init__(self, rows: dict[str, Row], steps: dict[str, int], judge: Judge, margin: int, width: int, timeout: int,
                  rules: frozenset[str], now: int = START) -> None:
         self.now, self.rows, self.judge, self._timeout = now, rows, judge, timeout
-        self._names = list(rows)
-        self._at = {name: index for index, name in enumerate(rows)}
-        parents = [row.parent for row in rows.values()]
-        entries = [Entry(name, steps[name], 90_000_000, None if parent is None else self._at[parent])
-                   for name, parent in zip(rows, parents)]
-        self.machine = Machine(entries, margin, width, rules)
-        self._coming: list[tuple[int, int, str, bytes | None]] = []
-        """The moment, the entry, what is asked, and the reply, None where there is none."""
+        self.machine = Machine(self._entries(steps), margin, width, rules)
+        self._coming: list[tuple[int, int, Out, str, bytes | None]] = []
+        """The moment, the number of the request, the request, why it is lost, and what is sent in place of the true reply, if anything."""
+        self._sent = 0
         self._unread: list[tuple[int, str, bool]] = []
         """The moment at which the broker reads a request, its entry, and whether that is to be renewed."""
         self._told: dict[str, bytes] = {}
         self.is_tied = False
         """Whether an answer came at the moment at which no more were waited for, so that a program may take it or not."""
+
+    def _entries(self, steps: dict[str, int]) -> list[Entry]:
+        """The entries of these names, with their steps."""
+        self._names = list(steps)
+        self._at = {name: index for index, name in enumerate(steps)}
+        parents = [self.rows[name].parent for name in steps]
+        return [Entry(name, step, 90_000_000, None if parent is None else self._at[parent])
+                for (name, step), parent in zip(steps.items(), parents)]
 
     def tell(self, line: str) -> list[list[str]]:
         match line.split():
@@ -532,6 +557,12 @@ class ModelPlay:
             case ["need", name, until]:
                 self.machine.need(self._at[name], int(until))
         return [["clock"]]
+
+    def change(self, steps: dict[str, int]) -> None:
+        """From now on these are watched, with their steps. (Among the lines of `leasekeep watch` there is none for that.)"""
+        self.machine = self.machine.changed(self._entries(steps))
+        self._coming = [coming for coming in self._coming if coming[2] in self.machine.out]
+        heapq.heapify(self._coming)
 
     def clock(self, wall: int) -> list[list[str]]:
         """Hands in both clocks; the words of each line that answers."""
@@ -563,16 +594,17 @@ class ModelPlay:
 
     def _send(self, request: Out) -> None:
         name = self._names[request.entry]
+        self._sent += 1
         fate = self.judge(self.now, name)
         patience = self._timeout * SECOND if request.patience is None else min(request.patience, self._timeout * SECOND)
         if fate == SILENT or fate.after is None:
-            heapq.heappush(self._coming, (self.now + patience, request.entry, "timeout", None))
+            heapq.heappush(self._coming, (self.now + patience, self._sent, request, "timeout", None))
             return
         if fate.text is None:
             heapq.heappush(self._unread, (self.now + fate.after // 2, name, request.renews))
         late = fate.after >= patience
         why, text = ("timeout", None) if late else ("", fate.text)
-        heapq.heappush(self._coming, (self.now + min(fate.after, patience), request.entry, why, text))
+        heapq.heappush(self._coming, (self.now + min(fate.after, patience), self._sent, request, why, text))
 
     def _grant_until(self, moment: float) -> None:
         """The broker reads what was sent."""
@@ -592,23 +624,24 @@ class ModelPlay:
         while self._coming and self._coming[0][0] <= self.now:
             answers.append(heapq.heappop(self._coming))
         lines: list[list[str]] = []
-        for _, entry, why, text in sorted(answers, key=lambda answer: answer[1]):
-            lines += self._answer(entry, why, text)
+        for _, _, request, why, text in sorted(answers, key=lambda answer: answer[2].entry):
+            lines += self._answer(request, why, text)
         return lines
 
-    def _answer(self, entry: int, why: str, text: bytes | None) -> list[list[str]]:
-        name = self._names[entry]
-        renews = next(out.renews for out in self.machine.out if out.entry == entry)
+    def _answer(self, request: Out, why: str, text: bytes | None) -> list[list[str]]:
+        name = self._names[request.entry] if request.entry >= 0 else ""
         if why:
             reply, said = Reply(), ["lost", name, why]
         else:
-            reply, said = read_reply(name, renews, self._told.pop(name) if text is None else text)
-        self.machine.answer(entry, reply)
+            reply, said = read_reply(name, request.renews, self._told.pop(name, b"") if text is None else text)
+        self.machine.answer(request, reply)
+        if request.entry < 0:
+            return self._noted()
         if said[0] == "entry":
             said[2] = str(self.machine.broker_moment(self.machine.now) + int(said[2]))
         lines = [said]
         if reply.told is not None and not (reply.endless and "never" in self.machine.rules):
-            end = self.machine.tracks[entry].end
+            end = self.machine.tracks[request.entry].end
             told = self.machine.now + reply.told[0] if end in (None, NEVER) else end
             lines.append(["end", name, f"{int(told or 0) * SECOND - self.machine.phase}", "yes" if reply.told[1] else "no"])
         return lines + self._noted()
