@@ -47,7 +47,7 @@ soon at x = max at (rested x.last)
 
 -- a lookup that is only owed, from a moment on
 abbrev pub owed : ℕ → Try
-owed from = record { at = from; operation = Look; pressed = false; along = false; base = None; fails = 0; lost = false; alone = false; failed = false }
+owed from = record { at = from; operation = Look; pressed = false; base = None; fails = 0; lost = false; alone = false; failed = false }
 
 -- a try that goes out no later than that
 abbrev pub hastened : Try → ℕ → Try

@@ -1,9 +1,13 @@
 -- Lines: from which moment on a try may go out, and where it stands among those that may.
 -- Source: this project's own.
 use Rattle.std.specs.Prelude.{ℕ, ◌+◌, Bool, false, not, ◌&&◌, ◌==◌, if◌then◌else◌, Option, Some, None, max, min, nat_le}
+use Rattle.keep_tree.specs.declared.entry.Entry.{Entry}
+use Rattle.watch_machine.specs.declared.event.Operation.TheVariants.{Renew}
 use Rattle.watch_machine.specs.declared.lanes.Presence.{Presence}
 use Rattle.watch_machine.specs.declared.track.Track.{Track}
 use Rattle.watch_machine.specs.declared.track.Try.{Try}
+use Rattle.watch_machine.specs.Margins.{has_come}
+use Rattle.watch_machine.specs.Refusal.{is_same}
 use Rattle.watch_machine.specs.Wanted.{believed, is_alive}
 
 -- the moment from which an entry may be asked again: a second after it was last asked
@@ -31,17 +35,21 @@ is_due_try p at x (Some t) = nat_le (ready p x t) at
 unfoldable pub is_due : Presence → ℕ → Track → Bool
 is_due p at x = not x.out && is_due_try p at x x.attempt
 
+-- it is renewed along with others: its own time has not come
+abbrev pub is_along : ℕ → Entry → ℕ → Track → Try → Bool
+is_along margin e now x t = is_same t.operation Renew && not (has_come margin e x now)
+
 -- in which part of the line a first try stands, and in which a later one: first tries whose ends are ahead, the other first
--- tries, later ones, those that only owe a lookup, and first tries that a round asked along. While the broker is away the later
--- ones stand in front
-abbrev pub part_of_first : Bool → ℕ → Track → Try → ℕ
-part_of_first away now x t = if t.along then 4 else ((if away then 2 else 0) + (if is_alive now x then 0 else 1))
+-- tries, later ones, those that only owe a lookup, and first tries that go along. While the broker is away the later ones stand
+-- in front
+abbrev pub part_of_first : ℕ → Entry → Bool → ℕ → Track → Try → ℕ
+part_of_first margin e away now x t = if is_along margin e now x t then 4 else ((if away then 2 else 0) + (if is_alive now x then 0 else 1))
 
 abbrev pub part_of_later : Bool → Try → ℕ
 part_of_later away t = (if away then 0 else 2) + (if t.pressed then 0 else 1)
 
-abbrev pub part : Bool → ℕ → Track → Try → ℕ
-part away now x t = if is_first t then part_of_first away now x t else part_of_later away t
+abbrev pub part : ℕ → Entry → Bool → ℕ → Track → Try → ℕ
+part margin e away now x t = if is_first t then part_of_first margin e away now x t else part_of_later away t
 
 -- where a try stands in its part: a first one by its end, a later one by when it was last asked
 abbrev pub asked_rank : Option ℕ → ℕ

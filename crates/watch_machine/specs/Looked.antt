@@ -56,7 +56,7 @@ unfoldable pub at_once : ℕ → Try → Try
 at_once at t =
     if t.pressed
     then record t { at = at; operation = Renew; failed = false }
-    else record { at = at; operation = Renew; pressed = true; along = false; base = Some at; fails = 0; lost = false; alone = false; failed = false }
+    else record { at = at; operation = Renew; pressed = true; base = Some at; fails = 0; lost = false; alone = false; failed = false }
 
 -- the try after that: where the entry is to be asked it is renewed at once; an end that is not ahead is a failure; else the try ends
 abbrev pub told_try : ℕ → Bool → Track → Option Try → Option Try

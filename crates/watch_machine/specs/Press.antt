@@ -20,12 +20,11 @@ unfoldable pub is_fresh : ℕ → Entry → Track → ℕ → ℕ → Bool
 is_fresh margin e x need now = wants x need && (has_come margin e x now && (not (is_pressed x) && not x.out))
 
 -- the try of an entry that is pressed at a clock: a renewal while its end is ahead, else a lookup
-unfoldable pub press : ℕ → Bool → Track → Try
-press at along x = record {
+unfoldable pub press : ℕ → Track → Try
+press at x = record {
   at = soon at x;
   operation = if is_alive (sec at) x then Renew else Look;
   pressed = true;
-  along = along;
   base = Some at;
   fails = 0;
   lost = false;
@@ -45,22 +44,22 @@ dropped x (Some t) = if t.pressed || not x.owes then let_go x t else Some t
 -- that is out stays as it is
 unfoldable pub pressed_track : ℕ → Entry → ℕ → ℕ → Track → Track
 pressed_track margin e need at x =
-    if is_fresh margin e x need (sec at) then record x { attempt = Some (press at false x) }
+    if is_fresh margin e x need (sec at) then record x { attempt = Some (press at x) }
     else (if wants x need || x.out then x else record x { attempt = dropped x x.attempt })
 
--- an entry that a round asks: along, where its own time has not come
-unfoldable pub asked_track : ℕ → Entry → ℕ → Track → Track
-asked_track margin e at x = if x.out then x else record x { attempt = Some (press at (not (has_come margin e x (sec at))) x) }
+-- an entry that a round asks
+unfoldable pub asked_track : ℕ → Track → Track
+asked_track at x = if x.out then x else record x { attempt = Some (press at x) }
 
-abbrev pub track_asked_in : ℕ → Entry → ℕ → List ℕ → ℕ → Track → Track
-track_asked_in margin e at round i x = if list_any (λ j. j == i) round then asked_track margin e at x else x
+abbrev pub track_asked_in : ℕ → List ℕ → ℕ → Track → Track
+track_asked_in at round i x = if list_any (λ j. j == i) round then asked_track at x else x
 
 -- the tracks after those are pressed whose time has come, and then those whom a round asks
 abbrev pub pressed_alone : Forest → Clocks → List Track → List Track
 pressed_alone g c xs = each (λ i. pressed_track g.margin (entry_at g.entries i) (need_of g.entries xs c i) c.at) xs
 
 abbrev pub pressed_tracks : Forest → Clocks → List ℕ → List Track → List Track
-pressed_tracks g c round xs = each (λ i. track_asked_in g.margin (entry_at g.entries i) c.at round i) (pressed_alone g c xs)
+pressed_tracks g c round xs = each (track_asked_in c.at round) (pressed_alone g c xs)
 
 -- the state after step 4 of a clock, where round are those whom a round asks
 abbrev pub pressed : WatchState → List ℕ → WatchState

@@ -2,6 +2,8 @@
 -- Source: this project's own.
 use Rattle.std.specs.Prelude.{◌≡◌, ◌==◌, ℕ, ◌-◌, ◌*◌, ◌^◌, Bool, true, false, ◌&&◌, ◌||◌, if◌then◌else◌, List, ◌++◌, Option, Some, None, IsPermutation, IsSortedBy, filter, length, map, max, min, nat_lt, take}
 use Rattle.std.specs.List.{list_any, range_with_len}
+use Rattle.keep_tree.specs.declared.entry.Entry.{Entry}
+use Rattle.keep_tree.specs.Forest.{Forest, entry_at}
 use Rattle.watch_machine.specs.declared.command.Patience.{Patience}
 use Rattle.watch_machine.specs.declared.command.Patience.TheVariants.{Full, AtMost}
 use Rattle.watch_machine.specs.declared.command.Request.{Request}
@@ -21,29 +23,29 @@ pub record Place : Type 0 where
   pub rank : ℕ
   pub entry : ℕ
 
-abbrev pub place_of : Bool → ℕ → ℕ → Track → Option Try → Place
-place_of away now i x None = record { part = 0; rank = 0; entry = i }
-place_of away now i x (Some t) = record { part = part away now x t; rank = rank x t; entry = i }
+abbrev pub place_of : ℕ → Entry → Bool → ℕ → ℕ → Track → Option Try → Place
+place_of margin e away now i x None = record { part = 0; rank = 0; entry = i }
+place_of margin e away now i x (Some t) = record { part = part margin e away now x t; rank = rank x t; entry = i }
 
 -- by part, then by rank, and of equal ones the lower index
 abbrev pub is_before : Place → Place → Bool
 is_before p q = nat_lt p.part q.part || (p.part == q.part && (nat_lt p.rank q.rank || (p.rank == q.rank && nat_lt p.entry q.entry)))
 
-abbrev pub place : Bool → ℕ → List Track → ℕ → Place
-place away now xs i = place_of away now i (track_in xs i) (track_in xs i).attempt
+abbrev pub place : Forest → Bool → ℕ → List Track → ℕ → Place
+place g away now xs i = place_of g.margin (entry_at g.entries i) away now i (track_in xs i) (track_in xs i).attempt
 
 -- those of some tracks that may go out now, by index
-abbrev pub due : Presence → ℕ → List Track → List Place
-due p at xs = map (place p.away (sec at) xs) (filter (λ i. is_due p at (track_in xs i)) (range_with_len 0 (length xs)))
+abbrev pub due : Forest → Presence → ℕ → List Track → List Place
+due g p at xs = map (place g p.away (sec at) xs) (filter (λ i. is_due p at (track_in xs i)) (range_with_len 0 (length xs)))
 
 -- the same, in the order in which they go out
-pub record IsSendingOrder (p : Presence) (at : ℕ) (xs : List Track) (line : List Place) : Type 0 where
-  pub all : IsPermutation (due p at xs) line
+pub record IsSendingOrder (g : Forest) (p : Presence) (at : ℕ) (xs : List Track) (line : List Place) : Type 0 where
+  pub all : IsPermutation (due g p at xs) line
   pub in_order : IsSortedBy is_before line
 
 -- those of its front for whom lanes are free
-abbrev pub IsPicked : Presence → ℕ → List Track → ℕ → List Place → Type 0
-IsPicked p at xs lanes picked = (line : List Place) × (IsSendingOrder p at xs line × (picked ≡ take lanes line))
+abbrev pub IsPicked : Forest → Presence → ℕ → List Track → ℕ → List Place → Type 0
+IsPicked g p at xs lanes picked = (line : List Place) × (IsSendingOrder g p at xs line × (picked ≡ take lanes line))
 
 -- a request of this entry had no answer while others were answered, and its end is ahead or unknown
 abbrev pub is_alone_try : Option Try → Bool
@@ -87,11 +89,11 @@ abbrev pub sent : WatchState → List Request → WatchState
 sent s requests = record s { tracks = each (sent_in s.clocks.at requests) s.tracks; out = s.out ++ map (out_at s.clocks.at) requests }
 
 -- these requests go out at a clock: of those that are due as many as lanes are free
-pub record IsGoing (p : Presence) (at : ℕ) (xs : List Track) (lanes : ℕ) (requests : List Request) : Type 0 where
+pub record IsGoing (g : Forest) (p : Presence) (at : ℕ) (xs : List Track) (lanes : ℕ) (requests : List Request) : Type 0 where
   pub picked : List Place
-  pub is_picked : IsPicked p at xs lanes picked
+  pub is_picked : IsPicked g p at xs lanes picked
   pub requests_are : requests ≡ map (request p (sec at) xs) picked
 
 -- step 5 of a clock
 abbrev pub RequestsAreSent : WatchState → List Request → WatchState → Type 0
-RequestsAreSent s requests new = IsGoing s.presence s.clocks.at s.tracks (s.width - length s.out) requests × (new ≡ sent s requests)
+RequestsAreSent s requests new = IsGoing s.forest s.presence s.clocks.at s.tracks (s.width - length s.out) requests × (new ≡ sent s requests)

@@ -65,7 +65,6 @@ pub(crate) fn owed(from: Millis) -> Try
         at: from,
         operation: Operation::Look,
         pressed: false,
-        along: false,
         base: None,
         fails: 0,
         lost: false,

@@ -186,14 +186,7 @@ impl Watch {
             &needs,
         )?;
         let lanes = (self.width as usize).saturating_sub(self.out.len());
-        let Front { requests, line } = going(
-            alloc,
-            presence,
-            at,
-            &tracks,
-            self.forest.len(),
-            lanes,
-        )?;
+        let Front { requests, line } = going(alloc, &self.forest, presence, at, &tracks, lanes)?;
         let out = out_with(alloc, &self.out, at, &requests)?;
         send_all(&mut tracks, at, &requests);
         let until = wait(&self.forest, &tracks, &needs, presence, at);
@@ -344,7 +337,7 @@ fn press(
     let round = round(alloc, view, forest, tracks, clocks, needs)?;
     press_alone(tracks, forest, needs, clocks.at);
     if let Some(asked) = &round {
-        press_round(tracks, forest, asked.list(), clocks.at);
+        press_round(tracks, asked.list(), clocks.at);
     }
     Ok(round)
 }

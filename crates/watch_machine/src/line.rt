@@ -11,7 +11,7 @@ ghost use Rattle.watch_machine.specs.Wait.{latest};
 ghost use Rattle.watch_machine.specs.Wanted.{HasNeeds};
 ghost use Rattle.watch_machine.specs.declared.lull.TheConstants.{NEVER};
 ghost use Rattle.watch_machine.specs.declared.reading.TheConstants.{READING_MAX};
-ghost use Rattle.watch_machine.specs.code.Line.{IsInLine, IsKnown, IsLine, calm, first_left, left_at, left_by, moved, requests_of, rest_of, try_left};
+ghost use Rattle.watch_machine.specs.code.Line.{IsInLine, IsKnown, IsLine, calm, first_left, left_at, left_by, moved, requests_of, rest_of, time_in, try_left};
 ghost use Rattle.watch_machine.specs.code.Lull.{GoesOn};
 ghost use Rattle.watch_machine.specs.declared.track.Track.{Track};
 
@@ -20,6 +20,7 @@ use crate::command::Request;
 use crate::lanes::Presence;
 use crate::lines::{is_due, ready};
 use crate::lull::{NEVER, first_past, is_failed, is_owed_alone, time_due};
+use crate::margins::time;
 use crate::reading::{Millis, Seconds, second};
 use crate::sending::{Place, requests_by};
 use crate::track::Track;
@@ -42,7 +43,8 @@ pub(crate) struct Line {
     pub(crate) next: Millis,
     /// A moment before which no time comes of those that were due then.
     pub(crate) beyond: Millis,
-    /// The first second in which a need that is carried, or an end that was ahead, is past; [`NEVER`] where there is none.
+    /// The first second in which a need that is carried, or an end that was ahead, is past, or a time comes that was ahead of one
+    /// that was due; [`NEVER`] where there is none.
     pub(crate) lasting: Seconds,
 }
 
@@ -143,6 +145,35 @@ fn first_beyond(
     beyond
 }
 
+/// The earlier of a second so far and of the time of an entry, where that is ahead and the entry is due.
+fn coming_with(coming: Seconds, time: Seconds, is_due: bool, now: Seconds) -> Seconds
+    ensures least { result ≤ coming }
+    ensures due { IsTrue is_due → now < time → result ≤ time }
+{
+    if is_due && now < time {
+        coming.min(time)
+    } else {
+        coming
+    }
+}
+
+/// The first second in which a time comes that is ahead at `since`, of those that are due then; [`NEVER`] where there is none.
+fn first_coming(forest: &Forest, tracks: &[Track], presence: Presence, since: Millis) -> Seconds
+    requires count { length tracks.now ≡ length forest.now.entries }
+    requires tracks { All IsTrack tracks.now }
+    ensures { (i : ℕ) → i < length forest.now.entries → is_due presence since (track_in tracks.now i) ≡ true → sec since < time_in forest.now tracks.now i → result ≤ time_in forest.now tracks.now i }
+{
+    let now = second(since);
+    let margin = forest.margin();
+    let mut coming = NEVER;
+    for index in 0..forest.len() {
+        let track = tracks[index as usize];
+        let time = time(margin, forest.get(index), track);
+        coming = coming_with(coming, time, is_due(presence, since, track), now);
+    }
+    coming
+}
+
 /// Whether its request had no answer while others were answered.
 fn is_alone(track: Track) -> bool
     ensures { result ≡ is_alone_try track.attempt }
@@ -214,14 +245,16 @@ impl Line {
         requires count { length tracks.now ≡ length forest.now.entries }
         requires needs { length needs.now ≡ length forest.now.entries }
         requires tracks { All IsTrack tracks.now }
-        ensures { HasNeeds forest.now.entries tracks.now clocks needs.now → IsInLine (calm presence) clocks.at tracks.now (drop from places.items) → IsKnown forest.now tracks.now presence result }
+        ensures { HasNeeds forest.now.entries tracks.now clocks needs.now → IsInLine forest.now (calm presence) clocks.at tracks.now (drop from places.items) → IsKnown forest.now tracks.now presence result }
     {
         let at = clocks.at;
         let calm = calm(presence);
         let known = is_kept(from, presence, tracks);
         let next = first_left(forest, tracks, needs, calm, at);
         let beyond = first_beyond(forest, tracks, needs, calm, at);
-        let lasting = first_past(tracks, needs, forest.len(), second(at));
+        let past = first_past(tracks, needs, forest.len(), second(at));
+        let coming = first_coming(forest, tracks, calm, at);
+        let lasting = past.min(coming);
         Line {
             known,
             places,

@@ -1,12 +1,16 @@
 ghost use Rattle.std.specs.Prelude.{◌≡◌, ◌≤◌, IfSome};
 ghost use Rattle.watch_machine.specs.code.Bounds.{IsTrack};
 ghost use Rattle.watch_machine.specs.declared.reading.TheConstants.{READING_MAX};
-ghost use Rattle.watch_machine.specs.Lines.{asked_rank, is_due, is_first, later_at, part, part_of_first, part_of_later, rank, ready, rested};
+ghost use Rattle.watch_machine.specs.Lines.{asked_rank, is_along, is_due, is_first, later_at, part, part_of_first, part_of_later, rank, ready, rested};
 
+use crate::event::Operation;
 use crate::lanes::Presence;
+use crate::margins::has_come;
 use crate::reading::Millis;
+use crate::refusal::is_same;
 use crate::track::{Track, Try};
 use crate::wanted::{believed, is_alive};
+use keep_tree::Entry;
 
 /// The moment from which an entry may be asked again: a second after it was last asked.
 pub(crate) fn rested(last: Option<Millis>) -> Millis
@@ -66,11 +70,25 @@ pub(crate) fn is_due(presence: Presence, at: Millis, track: Track) -> bool
     }
 }
 
-/// In which part of the line a first try stands.
-fn part_of_first(away: bool, now: u64, track: Track, attempt: Try) -> u32
-    ensures { result ≡ part_of_first away now track attempt }
+/// Whether an entry is renewed along with others: its own time has not come.
+fn is_along(margin: u32, entry: &Entry, now: u64, track: Track, attempt: Try) -> bool
+    ensures { result ≡ is_along margin entry.now now track attempt }
 {
-    if attempt.along {
+    is_same(attempt.operation, Operation::Renew) && !has_come(margin, entry, track, now)
+}
+
+/// In which part of the line a first try stands.
+fn part_of_first(
+    margin: u32,
+    entry: &Entry,
+    away: bool,
+    now: u64,
+    track: Track,
+    attempt: Try,
+) -> u32
+    ensures { result ≡ part_of_first margin entry.now away now track attempt }
+{
+    if is_along(margin, entry, now, track, attempt) {
         return 4;
     }
     let front = if away { 2 } else { 0 };
@@ -90,12 +108,19 @@ fn part_of_later(away: bool, attempt: Try) -> u32
 }
 
 /// In which part of the line a try stands: first tries whose ends are ahead, the other first tries, later ones, those that only
-/// owe a lookup, and first tries that a round asked along. While the broker is away the later ones stand in front.
-pub(crate) fn part(away: bool, now: u64, track: Track, attempt: Try) -> u32
-    ensures { result ≡ part away now track attempt }
+/// owe a lookup, and first tries that go along. While the broker is away the later ones stand in front.
+pub(crate) fn part(
+    margin: u32,
+    entry: &Entry,
+    away: bool,
+    now: u64,
+    track: Track,
+    attempt: Try,
+) -> u32
+    ensures { result ≡ part margin entry.now away now track attempt }
 {
     if is_first(attempt) {
-        part_of_first(away, now, track, attempt)
+        part_of_first(margin, entry, away, now, track, attempt)
     } else {
         part_of_later(away, attempt)
     }

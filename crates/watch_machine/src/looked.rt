@@ -61,7 +61,6 @@ fn at_once(attempt: Try, at: Millis) -> Try
             at: at,
             operation: Operation::Renew,
             pressed: true,
-            along: false,
             base: Some(at),
             fails: 0,
             lost: false,

@@ -1,4 +1,4 @@
-ghost use Rattle.std.specs.Prelude.{◌≡◌, ◌≤◌, ℕ, IfSome, Some, length, not};
+ghost use Rattle.std.specs.Prelude.{◌≡◌, ◌≤◌, ℕ, IfSome, Some, length};
 ghost use Rattle.watch_machine.specs.code.Bounds.{IsTrack, IsTry};
 ghost use Rattle.watch_machine.specs.declared.reading.TheConstants.{READING_MAX};
 ghost use Rattle.std.specs.List.{All};
@@ -27,10 +27,10 @@ pub(crate) fn is_fresh(margin: u32, entry: &Entry, track: Track, need: u64, now:
 
 /// The try of an entry that is pressed at a clock: a renewal while its end is ahead, else a lookup.
 #[tactic(auto, unfolding(crate::specs::Press::press))]
-fn press(track: Track, at: Millis, along: bool) -> Try
+fn press(track: Track, at: Millis) -> Try
     requires track { IsTrack track }
     requires at { at ≤ READING_MAX }
-    ensures value { result ≡ press at along track }
+    ensures value { result ≡ press at track }
     ensures bounds { IsTry result }
 {
     let operation = if is_alive(track, second(at)) {
@@ -42,7 +42,6 @@ fn press(track: Track, at: Millis, along: bool) -> Try
         at: soon(at, track),
         operation,
         pressed: true,
-        along,
         base: Some(at),
         fails: 0,
         lost: false,
@@ -83,7 +82,7 @@ fn pressed(margin: u32, entry: &Entry, track: Track, need: u64, at: Millis) -> T
 {
     if is_fresh(margin, entry, track, need, second(at)) {
         return Track {
-            attempt: Some(press(track, at, false)),
+            attempt: Some(press(track, at)),
             ..track
         };
     }
@@ -97,20 +96,19 @@ fn pressed(margin: u32, entry: &Entry, track: Track, need: u64, at: Millis) -> T
     Track { attempt, ..track }
 }
 
-/// An entry that a round asks: along, where its own time has not come.
+/// An entry that a round asks.
 #[tactic(auto, unfolding(crate::specs::Press::asked_track))]
-fn asked(margin: u32, entry: &Entry, track: Track, at: Millis) -> Track
+fn asked(track: Track, at: Millis) -> Track
     requires track { IsTrack track }
     requires at { at ≤ READING_MAX }
-    ensures value { result ≡ asked_track margin entry.now at track }
+    ensures value { result ≡ asked_track at track }
     ensures bounds { IsTrack result }
 {
     if track.out {
         return track;
     }
-    let along = !has_come(margin, entry, track, second(at));
     Track {
-        attempt: Some(press(track, at, along)),
+        attempt: Some(press(track, at)),
         ..track
     }
 }
@@ -133,18 +131,16 @@ pub(crate) fn press_alone(tracks: &mut [Track], forest: &Forest, needs: &Carried
 }
 
 /// Presses those whom a round asks.
-pub(crate) fn press_round(tracks: &mut [Track], forest: &Forest, round: &[u32], at: Millis)
-    requires within { length tracks.old ≡ length forest.now.entries }
+pub(crate) fn press_round(tracks: &mut [Track], round: &[u32], at: Millis)
     requires at { at ≤ READING_MAX }
     requires tracks { All IsTrack tracks.old }
-    ensures value { tracks.new ≡ each (λ i. track_asked_in forest.now.margin (entry_at forest.now.entries i) at round.now i) tracks.old }
+    ensures value { tracks.new ≡ each (track_asked_in at round.now) tracks.old }
     ensures bounds { All IsTrack tracks.new }
 {
-    let margin = forest.margin();
-    for index in round {
-        if *index < forest.len() {
-            let track = tracks[*index as usize];
-            tracks[*index as usize] = asked(margin, forest.get(*index), track, at);
+    for entry in round {
+        let index = *entry as usize;
+        if index < tracks.len() {
+            tracks[index] = asked(tracks[index], at);
         }
     }
 }

@@ -14,7 +14,8 @@ fn is_request(request: Out, entry: u32, operation: Operation) -> bool
     request.entry == entry && is_same(request.operation, operation)
 }
 
-fn is_same(one: Operation, other: Operation) -> bool
+/// Whether both ask the same.
+pub(crate) fn is_same(one: Operation, other: Operation) -> bool
     ensures { result ≡ is_same one other }
 {
     match (one, other) {

@@ -19,6 +19,7 @@ use crate::lines::{is_due, is_first, part, rank};
 use crate::reading::{Millis, second};
 use crate::track::{Track, Try};
 use crate::wanted::is_open;
+use keep_tree::{Entry, Forest};
 use std::alloc::{AllocError, Global};
 
 /// Where an entry stands in the line.
@@ -29,43 +30,46 @@ pub(crate) struct Place {
     entry: u32,
 }
 
-/// Where an entry with that track stands.
-fn place_of(away: bool, now: u64, entry: u32, track: Track) -> Place
+/// Where an entry with that index and track stands.
+fn place_of(margin: u32, entry: &Entry, away: bool, now: u64, index: u32, track: Track) -> Place
     requires { IsTrack track }
-    ensures { place_is result ≡ place_of away now entry track track.attempt }
+    ensures { place_is result ≡ place_of margin entry.now away now index track track.attempt }
 {
     match track.attempt {
         None => Place {
             part: 0,
             rank: 0,
-            entry,
+            entry: index,
         },
         Some(attempt) => Place {
-            part: part(away, now, track, attempt),
+            part: part(margin, entry, away, now, track, attempt),
             rank: rank(track, attempt),
-            entry,
+            entry: index,
         },
     }
 }
 
-/// Those of `count` entries that may go out now, by index. The only error is lack of memory.
+/// Those of the entries that may go out now, by index. The only error is lack of memory.
 fn due(
     alloc: Global,
+    forest: &Forest,
     presence: Presence,
     at: Millis,
     tracks: &[Track],
-    count: u32,
 ) -> Result<Vec<Place>, AllocError>
-    requires count { count ≡ length tracks.now }
+    requires count { length tracks.now ≡ length forest.now.entries }
     requires tracks { All IsTrack tracks.now }
-    ensures { IfOk result (λ places. map place_is places.items ≡ Sending.due presence at tracks.now) }
+    ensures { IfOk result (λ places. map place_is places.items ≡ Sending.due forest.now presence at tracks.now) }
 {
     let now = second(at);
+    let away = presence.away;
+    let margin = forest.margin();
     let mut places = Vec::new(alloc);
-    for index in 0..count {
+    for index in 0..forest.len() {
         let track = tracks[index as usize];
         if is_due(presence, at, track) {
-            places.push(place_of(presence.away, now, index, track))?;
+            let entry = forest.get(index);
+            places.push(place_of(margin, entry, away, now, index, track))?;
         }
     }
     Ok(places)
@@ -183,22 +187,21 @@ pub(crate) struct Front {
     pub(crate) line: Vec<Place>,
 }
 
-/// The requests that go out at a clock: of those of `count` entries that are due as many as lanes are free. The only error is want
-/// of memory.
+/// The requests that go out at a clock: of the entries that are due as many as lanes are free. The only error is lack of memory.
 pub(crate) fn going(
     alloc: Global,
+    forest: &Forest,
     presence: Presence,
     at: Millis,
     tracks: &[Track],
-    count: u32,
     lanes: usize,
 ) -> Result<Front, AllocError>
-    requires count { count ≡ length tracks.now }
+    requires count { length tracks.now ≡ length forest.now.entries }
     requires tracks { All IsTrack tracks.now }
-    ensures going { IfOk result (λ going. IsGoing presence at tracks.now lanes going.requests.items) }
-    ensures line { IfOk result (λ going. IsFrontOf presence at tracks.now going.requests.items going.line.items) }
+    ensures going { IfOk result (λ going. IsGoing forest.now presence at tracks.now lanes going.requests.items) }
+    ensures line { IfOk result (λ going. IsFrontOf forest.now presence at tracks.now going.requests.items going.line.items) }
 {
-    let line = in_order(due(alloc, presence, at, tracks, count)?);
+    let line = in_order(due(alloc, forest, presence, at, tracks)?);
     let picked = lanes.min(line.len());
     let requests = requests(alloc, presence, second(at), tracks, &line[..picked])?;
     Ok(Front { requests, line })

@@ -24,8 +24,6 @@ pub struct Try {
     pub operation: Operation,
     /// The entry is to be kept alive by it; else it only owes a lookup.
     pub pressed: bool,
-    /// Its own time had not come: a round asked it along with others.
-    pub along: bool,
     /// The clock at which the try began, from whose second a first grant counts; `None` once it has failed.
     pub base: Option<Millis>,
     /// How often it failed in a row, at most 20.

@@ -18,6 +18,7 @@ use Rattle.watch_machine.specs.declared.track.Try.{Try}
 use Rattle.watch_machine.specs.Beginning.{beginning}
 use Rattle.watch_machine.specs.Clocks.{sec}
 use Rattle.watch_machine.specs.Lines.{is_due, ready}
+use Rattle.watch_machine.specs.Margins.{time}
 use Rattle.watch_machine.specs.Press.{pressed_alone}
 use Rattle.watch_machine.specs.Round.{opens_some}
 use Rattle.watch_machine.specs.Sending.{IsSendingOrder, is_alone_try, is_before, is_partial, out_at, place, request, sent_in}
@@ -55,6 +56,10 @@ left_of g xs c p i = left_by g xs (need_of g.entries xs c) p c.at i
 abbrev pub first_left : ℕ → Forest → List Track → (ℕ → ℕ) → Presence → ℕ → ℕ
 first_left last g xs need p since = least last (map (left_by g xs need p since) (range_with_len 0 (length g.entries)))
 
+-- the time of an entry
+abbrev pub time_in : Forest → List Track → ℕ → ℕ
+time_in g xs i = time g.margin (entry_at g.entries i) (track_in xs i)
+
 -- the entries of places
 abbrev pub entries_of : List Place → List ℕ
 entries_of qs = map (λ (q : Place). q.entry) qs
@@ -64,9 +69,9 @@ abbrev pub has : ℕ → List ℕ → Bool
 has i is = list_any (λ j. j == i) is
 
 -- the places of all that are due, each once, in the order in which they go out
-pub record IsInLine (p : Presence) (at : ℕ) (xs : List Track) (qs : List Place) : Type 0 where
+pub record IsInLine (g : Forest) (p : Presence) (at : ℕ) (xs : List Track) (qs : List Place) : Type 0 where
   pub sorted : IsSortedBy is_before (map place_is qs)
-  pub placed : All (λ (q : Place). place_is q ≡ place p.away (sec at) xs q.entry) qs
+  pub placed : All (λ (q : Place). place_is q ≡ place g p.away (sec at) xs q.entry) qs
   pub distinct : IsDistinct (λ i j. i == j) (entries_of qs)
   pub within : All (λ (q : Place). q.entry < length xs) qs
   pub members : (i : ℕ) → i < length xs → is_due p at (track_in xs i) ≡ has i (entries_of qs)
@@ -76,13 +81,14 @@ abbrev pub rest_of : Line → List Place
 rest_of line = drop line.from line.places.items
 
 -- since the clocks of the line all that were due stand in it, are out or have been answered. Of the others something is to be done
--- at `next`, or not before `beyond`; before the second `lasting` they carry as much and no end comes
+-- at `next`, or not before `beyond`; before the second `lasting` they carry as much, no end comes, and no time of one in line
 pub record IsLine (g : Forest) (xs : List Track) (p : Presence) (line : Line) : Type 0 where
-  pub order : IsInLine p line.clocks.at xs (rest_of line)
+  pub order : IsInLine g p line.clocks.at xs (rest_of line)
   pub next : (last : ℕ) → last ≤ line.beyond → last ≤ NEVER → first_left last g xs (need_of g.entries xs line.clocks) p line.clocks.at ≡ min last line.next
   pub beyond : (i : ℕ) → i < length g.entries → is_due p line.clocks.at (track_in xs i) ≡ true → line.beyond ≤ left_of g xs line.clocks p i
   pub needed : (i : ℕ) → i < length g.entries → 0 < need_of g.entries xs line.clocks i → line.lasting ≤ need_of g.entries xs line.clocks i
   pub ended : (i : ℕ) → i < length g.entries → sec line.clocks.at < believed (track_in xs i).end → line.lasting ≤ believed (track_in xs i).end
+  pub timed : (i : ℕ) → i < length g.entries → is_due p line.clocks.at (track_in xs i) ≡ true → sec line.clocks.at < time_in g xs i → line.lasting ≤ time_in g xs i
   pub there : p.away ≡ false
   pub together : list_any (λ (x : Track). is_alone_try x.attempt) xs ≡ false
 
@@ -110,8 +116,8 @@ abbrev pub requests_of : Presence → ℕ → List Track → ℕ → List Place 
 requests_of p now xs n qs = map (λ (q : Place). request p now xs (place_is q)) (take n qs)
 
 -- all that are due stand in this line, and these are the requests of its front
-pub record IsFrontOf (p : Presence) (at : ℕ) (xs : List Track) (rs : List Request) (qs : List Place) : Type 0 where
-  pub order : IsSendingOrder p at xs (map place_is qs)
+pub record IsFrontOf (g : Forest) (p : Presence) (at : ℕ) (xs : List Track) (rs : List Request) (qs : List Place) : Type 0 where
+  pub order : IsSendingOrder g p at xs (map place_is qs)
   pub front : rs ≡ requests_of p (sec at) xs (length rs) qs
 
 -- the tracks after these have gone out
@@ -125,7 +131,7 @@ pub record IsRoundClock (s : WatchState) (line : Line) (c : Clocks) (stepped jum
   pub reason : beginning s.begun s.asked stepped jumped c.at s.tracks ≡ None
   pub shut : opens_some s.forest s.tracks c ≡ false
   pub pressed : pressed_alone s.forest c s.tracks ≡ s.tracks
-  pub order : (pace : ℕ) → IsSendingOrder (paced_by pace s) c.at s.tracks (map place_is (rest_of line))
+  pub order : (pace : ℕ) → IsSendingOrder s.forest (paced_by pace s) c.at s.tracks (map place_is (rest_of line))
   pub together : is_partial (sec c.at) s.tracks ≡ false
   pub waits : (pace n : ℕ) (rs : List Request) → rs ≡ requests_of (paced_by pace s) (sec c.at) s.tracks n (rest_of line) →
       until ≡ wait_by s.forest c (paced_by pace s) (sent_on c.at rs s.tracks) (need_of s.forest.entries s.tracks c)

@@ -89,7 +89,7 @@ pub record IsQuiet (s : WatchState) (c : Clocks) (stepped jumped : Bool) (until 
   pub reason : beginning s.begun s.asked stepped jumped c.at s.tracks ≡ None
   pub shut : opens_some s.forest s.tracks c ≡ false
   pub pressed : pressed_alone s.forest c s.tracks ≡ s.tracks
-  pub idle : (pace : ℕ) → due (paced_by pace s) c.at s.tracks ≡ []
+  pub idle : (pace : ℕ) → due s.forest (paced_by pace s) c.at s.tracks ≡ []
   pub waits : (pace : ℕ) → until ≡ wait_by s.forest c (paced_by pace s) s.tracks (need_of s.forest.entries s.tracks c)
 
 -- the state after such a clock
