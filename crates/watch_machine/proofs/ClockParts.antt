@@ -55,7 +55,7 @@ module _ (round : List ℕ) (requests : List Request) (until : ℕ) (need : ℕ 
       (λ i below. ap (λ n. next_of g.margin (entry_at g.entries i) n m.presence m.clocks.at (track_in xs i)) (are i below)))
 
   command_of :
-      (m new : WatchState) → AreNeeds m.forest m.tracks m.clocks need → IsGoing m.presence m.clocks.at (pressed_of m) (m.width - length m.out) requests →
+      (m new : WatchState) → AreNeeds m.forest m.tracks m.clocks need → IsGoing m.forest m.presence m.clocks.at (pressed_of m) (m.width - length m.out) requests →
       until ≡ wait_by m.forest m.clocks m.presence (sent_of m) need → new ≡ sent (pressed m round) requests →
       StepCommand (pressed m round) (Go requests until) new
   command_of m new are going waits is = ((going, is), waits ∙ wait_is m are ∙ ap wait (sym is))
@@ -63,7 +63,7 @@ module _ (round : List ℕ) (requests : List Request) (until : ℕ) (need : ℕ 
   -- what goes out after a beginning, or where there was none
   pub command_is :
       (s new : WatchState) (w : Option Why) (xs : List Track) → xs ≡ begun_tracks s.forest s.clocks w s.tracks → AreNeeds s.forest xs s.clocks need →
-      IsGoing s.presence s.clocks.at (pressed_tracks s.forest s.clocks round xs) (s.width - length s.out) requests →
+      IsGoing s.forest s.presence s.clocks.at (pressed_tracks s.forest s.clocks round xs) (s.width - length s.out) requests →
       until ≡ wait_by s.forest s.clocks s.presence (each (sent_in s.clocks.at requests) (pressed_tracks s.forest s.clocks round xs)) need →
       new ≡ noted_begun (record s { tracks = each (sent_in s.clocks.at requests) (pressed_tracks s.forest s.clocks round xs); out = s.out ++ map (out_at s.clocks.at) requests }) w →
       StepCommand (pressed (begun s w) round) (Go requests until) new
@@ -108,7 +108,7 @@ module _ (old new : WatchState) (wall elapsed : ℕ) (k : Clocks) (stepped jumpe
       k ≡ clocks_after old wall elapsed → stepped ≡ has_stepped old wall elapsed → jumped ≡ has_jumped old wall elapsed →
       xs ≡ each (λ i. settled_track old.forest.margin k.at) old.tracks → p ≡ presence_after old.forest.margin k.at old.tracks old.answers old.presence →
       w ≡ beginning old.begun old.asked stepped jumped k.at xs → ys ≡ begun_tracks old.forest k w xs → AreNeeds old.forest ys k need → IsRound old.forest ys k round →
-      IsGoing p k.at (pressed_tracks old.forest k (asked_by_round round) ys) (old.width - length old.out) requests →
+      IsGoing old.forest p k.at (pressed_tracks old.forest k (asked_by_round round) ys) (old.width - length old.out) requests →
       until ≡ wait_by old.forest k p (each (sent_in k.at requests) (pressed_tracks old.forest k (asked_by_round round) ys)) need →
       notes ≡ record nothing_noted { began = w; round = round } →
       new ≡ noted_begun (record settled_to { tracks = each (sent_in k.at requests) (pressed_tracks old.forest k (asked_by_round round) ys); out = old.out ++ map (out_at k.at) requests }) w →

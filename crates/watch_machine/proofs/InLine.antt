@@ -8,6 +8,7 @@ use Rattle.std.specs.List.{range_with_len}
 use Rattle.std.specs.Ordering.{is_lt, nat_cmp, ordering_then}
 use Rattle.std.specs.declared.cmp.Ordering.TheVariants.{Less, Equal, Greater}
 use Rattle.keep_plan.proofs.Wanted.{asked_more}
+use Rattle.keep_tree.specs.Forest.{Forest}
 use Rattle.watch_machine.specs.declared.command.Request.{Request}
 use Rattle.watch_machine.specs.declared.lanes.Presence.{Presence}
 use Rattle.watch_machine.specs.declared.sending.Place.{Place}
@@ -20,32 +21,32 @@ use Rattle.watch_machine.specs.State.{track_in}
 use Rattle.watch_machine.specs.code.Places.{place_is}
 
 -- the places of those below n that may go out now
-abbrev pub due_below : Presence → ℕ → List Track → ℕ → List Sending.Place
-due_below p at xs n = map (place p.away (sec at) xs) (filter (λ i. is_due p at (track_in xs i)) (range_with_len 0 n))
+abbrev pub due_below : Forest → Presence → ℕ → List Track → ℕ → List Sending.Place
+due_below g p at xs n = map (place g p.away (sec at) xs) (filter (λ i. is_due p at (track_in xs i)) (range_with_len 0 n))
 
 below_more :
-    (p : Presence) (at : ℕ) (xs : List Track) (n : ℕ) →
-    due_below p at xs (n + 1) ≡ due_below p at xs n ++ map (place p.away (sec at) xs) (cond (is_due p at (track_in xs n)) (n ∷ []) [])
-below_more p at xs n =
+    (g : Forest) (p : Presence) (at : ℕ) (xs : List Track) (n : ℕ) →
+    due_below g p at xs (n + 1) ≡ due_below g p at xs n ++ map (place g p.away (sec at) xs) (cond (is_due p at (track_in xs n)) (n ∷ []) [])
+below_more g p at xs n =
     let test : ℕ → Bool = λ i. is_due p at (track_in xs i) in
-    ap (map (place p.away (sec at) xs)) (asked_more test n) ∙ map-append (place p.away (sec at) xs) (filter test (range_with_len 0 n)) (cond (test n) (n ∷ []) [])
+    ap (map (place g p.away (sec at) xs)) (asked_more test n) ∙ map-append (place g p.away (sec at) xs) (filter test (range_with_len 0 n)) (cond (test n) (n ∷ []) [])
 
 -- one more is due, in this place
 pub due_taken :
-    (p : Presence) (at : ℕ) (xs : List Track) (n : ℕ) (ps : List Place) (q : Place) → map place_is ps ≡ due_below p at xs n → is_due p at (track_in xs n) ≡ true →
-    place_is q ≡ place p.away (sec at) xs n → map place_is (ps ++ q ∷ []) ≡ due_below p at xs (n + 1)
-due_taken p at xs n ps q so_far is there =
-    map_push place_is ps q ∙ ap (λ ys. ys ++ place_is q ∷ []) so_far ∙ ap (λ y. due_below p at xs n ++ y ∷ []) there
-    ∙ sym (below_more p at xs n ∙ ap (λ is. due_below p at xs n ++ map (place p.away (sec at) xs) is) (cond-true (is_due p at (track_in xs n)) (n ∷ []) [] is))
+    (g : Forest) (p : Presence) (at : ℕ) (xs : List Track) (n : ℕ) (ps : List Place) (q : Place) → map place_is ps ≡ due_below g p at xs n → is_due p at (track_in xs n) ≡ true →
+    place_is q ≡ place g p.away (sec at) xs n → map place_is (ps ++ q ∷ []) ≡ due_below g p at xs (n + 1)
+due_taken g p at xs n ps q so_far is there =
+    map_push place_is ps q ∙ ap (λ ys. ys ++ place_is q ∷ []) so_far ∙ ap (λ y. due_below g p at xs n ++ y ∷ []) there
+    ∙ sym (below_more g p at xs n ∙ ap (λ is. due_below g p at xs n ++ map (place g p.away (sec at) xs) is) (cond-true (is_due p at (track_in xs n)) (n ∷ []) [] is))
 
 -- or it is not
 pub due_left :
-    (p : Presence) (at : ℕ) (xs : List Track) (n : ℕ) (ps : List Place) → map place_is ps ≡ due_below p at xs n → is_due p at (track_in xs n) ≡ false →
-    map place_is ps ≡ due_below p at xs (n + 1)
-due_left p at xs n ps so_far is =
+    (g : Forest) (p : Presence) (at : ℕ) (xs : List Track) (n : ℕ) (ps : List Place) → map place_is ps ≡ due_below g p at xs n → is_due p at (track_in xs n) ≡ false →
+    map place_is ps ≡ due_below g p at xs (n + 1)
+due_left g p at xs n ps so_far is =
     so_far
-    ∙ sym (below_more p at xs n ∙ ap (λ is. due_below p at xs n ++ map (place p.away (sec at) xs) is) (cond-false (is_due p at (track_in xs n)) (n ∷ []) [] is)
-    ∙ append-nil (due_below p at xs n))
+    ∙ sym (below_more g p at xs n ∙ ap (λ is. due_below g p at xs n ++ map (place g p.away (sec at) xs) is) (cond-false (is_due p at (track_in xs n)) (n ∷ []) [] is)
+    ∙ append-nil (due_below g p at xs n))
 
 -- the order that is derived of a part, a rank and an index
 by_tests :
@@ -64,9 +65,9 @@ before_is x y = by_tests (nat_lt x.part y.part) (x.part == y.part) (nat_lt x.ran
 
 -- sorted, they stand in line
 pub line_is :
-    (p : Presence) (at : ℕ) (xs : List Track) (ps qs : List Place) → map place_is ps ≡ due p at xs → IsPermutation ps qs →
-    IsSortedBy (λ a b. is_before (place_is a) (place_is b)) qs → IsSendingOrder p at xs (map place_is qs)
-line_is p at xs ps qs are all sorted = record {
+    (g : Forest) (p : Presence) (at : ℕ) (xs : List Track) (ps qs : List Place) → map place_is ps ≡ due g p at xs → IsPermutation ps qs →
+    IsSortedBy (λ a b. is_before (place_is a) (place_is b)) qs → IsSendingOrder g p at xs (map place_is qs)
+line_is g p at xs ps qs are all sorted = record {
   all = subst (λ ys. IsPermutation ys (map place_is qs)) are (IsPermutation-map place_is ps qs all);
   in_order = λ k d from within.
       let len = length-map qs place_is in
@@ -83,13 +84,13 @@ each_place g (q ∷ qs) = ap (λ rs. g (place_is q) ∷ rs) (each_place g qs)
 
 -- and the requests of the first of them go out
 pub going_is :
-    (p : Presence) (at : ℕ) (xs : List Track) (lanes many : ℕ) (ps qs : List Place) (requests : List Request) → map place_is ps ≡ due p at xs → IsPermutation ps qs →
+    (g : Forest) (p : Presence) (at : ℕ) (xs : List Track) (lanes many : ℕ) (ps qs : List Place) (requests : List Request) → map place_is ps ≡ due g p at xs → IsPermutation ps qs →
     IsSortedBy (λ a b. is_before (place_is a) (place_is b)) qs → many ≡ min lanes (length qs) → requests ≡ map (λ q. request p (sec at) xs (place_is q)) (take many qs) →
-    IsGoing p at xs lanes requests
-going_is p at xs lanes many ps qs requests are all sorted most made =
+    IsGoing g p at xs lanes requests
+going_is g p at xs lanes many ps qs requests are all sorted most made =
     let f : Place → Request = λ q. request p (sec at) xs (place_is q) in record {
       picked = take lanes (map place_is qs);
-      is_picked = (map place_is qs, (line_is p at xs ps qs are all sorted, refl));
+      is_picked = (map place_is qs, (line_is g p at xs ps qs are all sorted, refl));
       requests_are =
           made ∙ ap (λ n. map f (take n qs)) most ∙ ap (map f) (take_min lanes qs) ∙ each_place (request p (sec at) xs) (take lanes qs)
           ∙ ap (map (request p (sec at) xs)) (sym (take-map place_is lanes qs));

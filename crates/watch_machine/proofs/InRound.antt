@@ -4,6 +4,7 @@ use Rattle.std.proofs.Common.{◌≡◌, ◌∙◌, ℕ, ◌+◌, ◌<◌, ◌�
 use Rattle.std.proofs.lemmas.Bool.{cases_Bool, cond-false, cond-true}
 use Rattle.std.proofs.lemmas.Bool.Decides.{nat_tests}
 use Rattle.keep_tree.specs.declared.entry.Entry.{Entry}
+use Rattle.watch_machine.specs.declared.event.Operation.TheVariants.{Renew}
 use Rattle.watch_machine.specs.declared.lanes.Presence.{Presence}
 use Rattle.watch_machine.specs.declared.lull.TheConstants.{NEVER}
 use Rattle.watch_machine.specs.declared.reading.TheConstants.{READING_MAX}
@@ -11,7 +12,9 @@ use Rattle.watch_machine.specs.declared.track.Track.{Track}
 use Rattle.watch_machine.specs.declared.track.Try.{Try}
 use Rattle.watch_machine.specs.Clocks.{sec}
 use Rattle.watch_machine.specs.Lines.{is_due, is_due_try, is_first, part_of_later, rank, ready}
+use Rattle.watch_machine.specs.Margins.{has_come}
 use Rattle.watch_machine.specs.Press.{pressed_track}
+use Rattle.watch_machine.specs.Refusal.{is_same}
 use Rattle.watch_machine.specs.Round.{opens}
 use Rattle.watch_machine.specs.Sending.{Place, place_of}
 use Rattle.watch_machine.specs.Settling.{settled_track}
@@ -194,8 +197,12 @@ is_due_paced p pace at x = ap (λ b. not x.out && b) (due_try_paced p pace at x 
 abbrev place_by : ℕ → ℕ → ℕ → Place
 place_by part rank i = record { part = part; rank = rank; entry = i }
 
--- nor does the second, as long as no end passes, to where it stands
-pub place_on : (away : Bool) (now then' i : ℕ) (x : Track) (o : Option Try) → is_alive now x ≡ is_alive then' x → place_of away now i x o ≡ place_of away then' i x o
-place_on away now then' i x None same = refl
-place_on away now then' i x (Some t) same =
-    ap (λ b. place_by (if is_first t then (if t.along then 4 else ((if away then 2 else 0) + (if b then 0 else 1))) else part_of_later away t) (rank x t) i) same
+-- nor does the second, as long as neither its time comes nor its end passes, to where it stands
+pub place_on :
+    (margin : ℕ) (e : Entry) (away : Bool) (now then' i : ℕ) (x : Track) (o : Option Try) → is_alive now x ≡ is_alive then' x → has_come margin e x now ≡ has_come margin e x then' →
+    place_of margin e away now i x o ≡ place_of margin e away then' i x o
+place_on margin e away now then' i x None same come = refl
+place_on margin e away now then' i x (Some t) same come =
+    ap₂
+    (λ b d. place_by (if is_first t then (if is_same t.operation Renew && not d then 4 else ((if away then 2 else 0) + (if b then 0 else 1))) else part_of_later away t) (rank x t) i)
+    same come

@@ -24,7 +24,7 @@ use Rattle.watch_machine.specs.Margins.{time}
 use Rattle.watch_machine.specs.Sending.{is_alone_try, place_of}
 use Rattle.watch_machine.specs.State.{no_track, track_in}
 use Rattle.watch_machine.specs.Wanted.{believed, fixed_ends, is_fixed, least, least_over, limit, need_here, need_of, seen_entry, view, wants}
-use Rattle.watch_machine.specs.code.Line.{IsInLine, IsLine, IsPlain, entries_of, has, left_at, left_of, rest_of}
+use Rattle.watch_machine.specs.code.Line.{IsInLine, IsLine, IsPlain, entries_of, has, left_at, left_of, rest_of, time_in}
 use Rattle.watch_machine.specs.code.Lull.{is_failed_try}
 use Rattle.watch_machine.proofs.Cases.{if_cases, not_both}
 use Rattle.watch_machine.proofs.Leasts.{least_capped}
@@ -191,12 +191,12 @@ module _ (g : Forest) (xs : List Track) (p : Presence) (line : Line) (is : IsLin
   count : length ys ≡ length xs
   count = length-set xs i y
 
-  order_kept : IsInLine p since ys (rest_of line)
+  order_kept : IsInLine g p since ys (rest_of line)
   order_kept = record {
     sorted = is.order.sorted;
     placed = λ k d below.
         let e = (get_or (rest_of line) k d).entry in
-        is.order.placed k d below ∙ ap (λ (z : Track). place_of p.away (sec since) e z z.attempt) (sym (other e (not_in_line k d below)));
+        is.order.placed k d below ∙ ap (λ (z : Track). place_of g.margin (entry_at g.entries e) p.away (sec since) e z z.attempt) (sym (other e (not_in_line k d below)));
     distinct = is.order.distinct;
     within = λ k d below. let inside = is.order.within k d below in let c = count in omega (arith, inside, c);
     members = λ j below. due_kept j ∙ is.order.members j (let c = count in omega (arith, below, c));
@@ -238,6 +238,14 @@ module _ (g : Forest) (xs : List Track) (p : Presence) (line : Line) (is : IsLin
           (let e = ap (λ (z : Track). believed z.end) (other j there) in let n = is.ended j inside (omega (arith, living, e)) in omega (arith, e, n))
     ]
 
+    -- the one that was answered stands in line no more
+    timed_kept : (j : ℕ) → j < length g.entries → is_due p since (track_in ys j) ≡ true → sec since < time_in g ys j → after.lasting ≤ time_in g ys j
+    timed_kept j inside due yet = elim (cases_eq j i) [
+      | inl here ↦ absurd (not_both (subst (λ k. is_due p since (track_in ys k) ≡ true) here due) (ap (is_due p since) own ∙ idle_not_due p since y plain.idle))
+      | inr there ↦
+          (let e = ap (time g.margin (entry_at g.entries j)) (other j there) in let n = is.timed j inside (sym (due_kept j) ∙ due) (omega (arith, yet, e)) in omega (arith, e, n))
+    ]
+
     alone_kept : (j : ℕ) → j < length xs → is_alone_try (track_in xs j).attempt ≡ false → is_alone_try (track_in ys j).attempt ≡ false
     alone_kept j below off = elim (cases_eq j i) [
       | inl here ↦ subst (λ k. is_alone_try (track_in ys k).attempt ≡ false) (sym here) (ap (λ (z : Track). is_alone_try z.attempt) own ∙ ap is_alone_try plain.idle)
@@ -253,6 +261,7 @@ module _ (g : Forest) (xs : List Track) (p : Presence) (line : Line) (is : IsLin
       beyond = beyond_kept;
       needed = λ j inside some. let e = need_same j in let n = is.needed j inside (omega (arith, e, some)) in omega (arith, e, n);
       ended = ended_kept;
+      timed = timed_kept;
       there = is.there;
       together = any_kept (λ (z : Track). is_alone_try z.attempt) xs ys is.together count alone_kept;
     }

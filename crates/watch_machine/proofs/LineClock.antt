@@ -1,5 +1,5 @@
 -- LineClock: while a line lasts a clock leaves all entries as they are, and those who wait are all that are due. For `round_until`.
-use Rattle.std.proofs.Common.{◌≡◌, ◌∙◌, ℕ, suc, ◌<◌, ◌≤◌, ◌==◌, Bool, true, false, ◌&&◌, ◌||◌, List, [], ◌∷◌, IsPermutation, filter, length, map, min, get_or, refl, sym, ap, ap₂, subst, arith, inl, inr}
+use Rattle.std.proofs.Common.{◌≡◌, ◌∙◌, ℕ, suc, ◌<◌, ◌≤◌, ◌==◌, Bool, true, false, ◌&&◌, ◌||◌, List, [], ◌∷◌, IsPermutation, filter, length, map, min, get_or, nat_le, refl, sym, ap, ap₂, subst, arith, inl, inr}
 use Rattle.std.proofs.lemmas.Bool.{cases_lt, or_parts}
 use Rattle.std.proofs.lemmas.Bool.Decides.{nat_tests}
 use Rattle.std.proofs.lemmas.List.Sorted.{IsPermutation-map}
@@ -13,6 +13,7 @@ use Rattle.watch_machine.specs.declared.sending.Place.{Place}
 use Rattle.watch_machine.specs.declared.track.Track.{Track}
 use Rattle.watch_machine.specs.Clocks.{sec}
 use Rattle.watch_machine.specs.Lines.{is_due}
+use Rattle.watch_machine.specs.Margins.{has_come}
 use Rattle.watch_machine.specs.Press.{pressed_alone, pressed_track}
 use Rattle.watch_machine.specs.Round.{opens, opens_some}
 use Rattle.watch_machine.specs.Sending as Sending
@@ -21,12 +22,13 @@ use Rattle.watch_machine.specs.Settling.{settled_track}
 use Rattle.watch_machine.specs.State.{each, track_in}
 use Rattle.watch_machine.specs.Wait.{latest, next_of}
 use Rattle.watch_machine.specs.Wanted.{believed, is_alive, is_open, need_of}
-use Rattle.watch_machine.specs.code.Line.{IsLine, entries_of, first_left, has, left_at, left_by, rest_of}
+use Rattle.watch_machine.specs.code.Line.{IsLine, entries_of, first_left, has, left_at, left_by, rest_of, time_in}
 use Rattle.watch_machine.specs.code.Lull.{GoesOn, wait_by}
 use Rattle.watch_machine.specs.code.Places.{place_is}
 use Rattle.watch_machine.proofs.Carries.{need_on}
 use Rattle.watch_machine.proofs.InRound.{IsLeft, is_due_paced, left_is, next_paced, place_on}
 use Rattle.watch_machine.proofs.Leasts.{least_capped, least_each}
+use Rattle.watch_machine.proofs.LineSent.{each_has}
 use Rattle.watch_machine.proofs.Lulls.{alive_alike, each_kept, later}
 use Rattle.watch_machine.proofs.Members.{members_order, passing_distinct, passing_past, passing_within}
 use Rattle.watch_machine.proofs.Opening.{none_opens}
@@ -60,6 +62,21 @@ pub none_partial : (now : ℕ) (xs : List Track) → list_any (λ (x : Track). i
 unfolding is_partial
 none_partial now xs none = none_alone now xs none
 
+-- a time that has not come by a second that it would have to be past by
+come_alike : (then' now time last : ℕ) → then' ≤ now → now < last → (then' < time → last ≤ time) → nat_le time now ≡ nat_le time then'
+come_alike then' now time last later early ahead =
+    elim (cases_lt then' time) as (λ _. nat_le time now ≡ nat_le time then') [
+      | inl yet ↦
+          let most = ahead yet in
+          let here : nat_le time now ≡ false = grind (arith, nat_tests) in
+          let before : nat_le time then' ≡ false = grind (arith, nat_tests) in
+          here ∙ sym before
+      | inr come ↦
+          let here : nat_le time now ≡ true = grind (arith, nat_tests) in
+          let before : nat_le time then' ≡ true = grind (arith, nat_tests) in
+          here ∙ sym before
+    ]
+
 module _ (g : Forest) (xs : List Track) (p : Presence) (line : Line) (is : IsLine g xs p line) (beside : length xs ≡ length g.entries) (c : Clocks) (on : GoesOn c line.clocks) (low : c.at ≤ READING_MAX) (far : latest g.margin c.at ≤ line.beyond) (before : c.at < line.next) (early : sec c.at < line.lasting) where
   abbrev since : ℕ
   since = line.clocks.at
@@ -83,6 +100,11 @@ module _ (g : Forest) (xs : List Track) (p : Presence) (line : Line) (is : IsLin
   -- and no end has come
   alive_on : (i : ℕ) → i < length g.entries → is_alive (sec c.at) (track_in xs i) ≡ is_alive (sec since) (track_in xs i)
   alive_on i within = alive_alike (sec since) (sec c.at) (believed (track_in xs i).end) line.lasting (later on) early (is.ended i within)
+
+  -- nor the time of one that was due
+  come_on : (i : ℕ) → i < length g.entries → is_due p since (track_in xs i) ≡ true → has_come g.margin (entry_at g.entries i) (track_in xs i) (sec c.at) ≡ has_come g.margin (entry_at g.entries i) (track_in xs i) (sec since)
+  unfolding has_come
+  come_on i within due = come_alike (sec since) (sec c.at) (time_in g xs i) line.lasting (later on) early (is.timed i within due)
 
   -- nothing is to be done of any of them
   first_is : first_left last g xs old_need p since ≡ min last line.next
@@ -153,17 +175,20 @@ module _ (g : Forest) (xs : List Track) (p : Presence) (line : Line) (is : IsLin
     order_of : IsPermutation (filter is_now (range_with_len 0 (length xs))) (entries_of rest)
     order_of = members_order (filter is_now (range_with_len 0 (length xs))) (entries_of rest) (passing_distinct is_now (length xs)) is.order.distinct member_of
 
-    places_are : map place_is rest ≡ map (place q.away (sec c.at) xs) (entries_of rest)
+    places_are : map place_is rest ≡ map (place g q.away (sec c.at) xs) (entries_of rest)
     places_are =
-        places_by (place q.away (sec c.at) xs) rest
+        places_by (place g q.away (sec c.at) xs) rest
         (λ k d below.
         let r = get_or rest k d in
+        let i = r.entry in
         let inside = is.order.within k d below in
+        let within : i < length g.entries = omega (arith, beside, inside) in
+        let due : is_due p since (track_in xs i) ≡ true = is.order.members i inside ∙ each_has rest k d below in
         is.order.placed k d below
-        ∙ sym (place_on p.away (sec c.at) (sec since) r.entry (track_in xs r.entry) (track_in xs r.entry).attempt (alive_on r.entry (omega (arith, beside, inside)))))
+        ∙ sym (place_on g.margin (entry_at g.entries i) p.away (sec c.at) (sec since) i (track_in xs i) (track_in xs i).attempt (alive_on i within) (come_on i within due)))
 
-    pub order_on : IsSendingOrder q c.at xs (map place_is rest)
+    pub order_on : IsSendingOrder g q c.at xs (map place_is rest)
     order_on = record {
-      all = subst (λ ys. IsPermutation (due q c.at xs) ys) (sym places_are) (IsPermutation-map (place q.away (sec c.at) xs) (filter is_now (range_with_len 0 (length xs))) (entries_of rest) order_of);
+      all = subst (λ ys. IsPermutation (due g q c.at xs) ys) (sym places_are) (IsPermutation-map (place g q.away (sec c.at) xs) (filter is_now (range_with_len 0 (length xs))) (entries_of rest) order_of);
       in_order = is.order.sorted;
     }

@@ -8,6 +8,7 @@ use Rattle.std.proofs.lemmas.List.Sorted.{All-permutation, IsPermutation-map, li
 use Rattle.std.proofs.lemmas.Map.Keys.{IsDistinct-IsPermutation}
 use Rattle.std.specs.List.{All, list_any, range_with_len}
 use Rattle.keep_needs.specs.Carried.{CarriedNeed, load_at}
+use Rattle.keep_tree.specs.declared.entry.Entry.{Entry}
 use Rattle.keep_tree.specs.Forest.{Forest, entry_at}
 use Rattle.watch_machine.specs.declared.clocks.Clocks.{Clocks}
 use Rattle.watch_machine.specs.declared.lanes.Presence.{Presence}
@@ -22,7 +23,7 @@ use Rattle.watch_machine.specs.Sending as Sending
 use Rattle.watch_machine.specs.Sending.{IsSendingOrder, due, is_alone_try, place, place_of}
 use Rattle.watch_machine.specs.State.{track_in}
 use Rattle.watch_machine.specs.Wanted.{HasNeeds, believed, least, need_of}
-use Rattle.watch_machine.specs.code.Line.{IsInLine, IsLine, calm, entries_of, first_left, has, left_at, left_by, rest_of}
+use Rattle.watch_machine.specs.code.Line.{IsInLine, IsLine, calm, entries_of, first_left, has, left_at, left_by, rest_of, time_in}
 use Rattle.watch_machine.specs.code.Places.{place_is}
 use Rattle.watch_machine.proofs.Cases.{not_both}
 use Rattle.watch_machine.proofs.InRound.{is_due_paced}
@@ -45,29 +46,34 @@ module _ (g : Forest) (xs : List Track) (c : Clocks) (p : Presence) (needs : Lis
       ∙ (let e : last ≡ min last NEVER = omega (arith, low) in ap (λ n. least n lefts) e) ∙ least_min last NEVER lefts ∙ ap (min last) (sym next)
 
   pub line_by :
-      IsInLine p c.at xs (rest_of line) → line.next ≡ first_left NEVER g xs found p c.at →
+      IsInLine g p c.at xs (rest_of line) → line.next ≡ first_left NEVER g xs found p c.at →
       ((i : ℕ) → i < length g.entries → is_due p c.at (track_in xs i) ≡ true → line.beyond ≤ left_by g xs found p c.at i) →
       ((i : ℕ) → i < length g.entries → 0 < found i → line.lasting ≤ found i) →
-      ((i : ℕ) → i < length g.entries → now < believed (track_in xs i).end → line.lasting ≤ believed (track_in xs i).end) → p.away ≡ false →
+      ((i : ℕ) → i < length g.entries → now < believed (track_in xs i).end → line.lasting ≤ believed (track_in xs i).end) →
+      ((i : ℕ) → i < length g.entries → is_due p c.at (track_in xs i) ≡ true → sec c.at < time_in g xs i → line.lasting ≤ time_in g xs i) → p.away ≡ false →
       list_any (λ (x : Track). is_alone_try x.attempt) xs ≡ false → IsLine g xs p (record line { clocks = c })
-  line_by order next beyond needed ended there together = record {
+  line_by order next beyond needed ended timed there together = record {
     order = order;
     next = λ last low never. first_found last never next;
     beyond = λ i within due. let far = beyond i within due in let e = left_found i within in omega (arith, far, e);
     needed = λ i within some. let e = has' i within in let n = needed i within (omega (arith, e, some)) in omega (arith, e, n);
     ended = λ i within living. ended i within (omega (arith, now_is, living));
+    timed = timed;
     there = there;
     together = together;
   }
 
 -- the places of entries, and the entries of places
-entry_of_place : (away : Bool) (now i : ℕ) (x : Track) (o : Option Try) → (place_of away now i x o).entry ≡ i
-entry_of_place away now i x None = refl
-entry_of_place away now i x (Some t) = refl
+entry_of_place : (margin : ℕ) (e : Entry) (away : Bool) (now i : ℕ) (x : Track) (o : Option Try) → (place_of margin e away now i x o).entry ≡ i
+entry_of_place margin e away now i x None = refl
+entry_of_place margin e away now i x (Some t) = refl
 
-entries_back : (p : Presence) (at : ℕ) (xs : List Track) (es : List ℕ) → map (λ (q : Sending.Place). q.entry) (map (place p.away (sec at) xs) es) ≡ es
-entries_back p at xs [] = refl
-entries_back p at xs (i ∷ es) = ap₂ (λ j js. j ∷ js) (entry_of_place p.away (sec at) i (track_in xs i) (track_in xs i).attempt) (entries_back p at xs es)
+place_names : (g : Forest) (away : Bool) (now : ℕ) (xs : List Track) (i : ℕ) → (place g away now xs i).entry ≡ i
+place_names g away now xs i = entry_of_place g.margin (entry_at g.entries i) away now i (track_in xs i) (track_in xs i).attempt
+
+entries_back : (g : Forest) (p : Presence) (at : ℕ) (xs : List Track) (es : List ℕ) → map (λ (q : Sending.Place). q.entry) (map (place g p.away (sec at) xs) es) ≡ es
+entries_back g p at xs [] = refl
+entries_back g p at xs (i ∷ es) = ap₂ (λ j js. j ∷ js) (place_names g p.away (sec at) xs i) (entries_back g p at xs es)
 
 places_back : (qs : List Place) → map (λ (q : Sending.Place). q.entry) (map place_is qs) ≡ entries_of qs
 places_back [] = refl
@@ -86,7 +92,7 @@ all_mapped P f (x ∷ xs) all = λ k d below. elim k as (λ m. m < length (f x �
 member_at : (es : List ℕ) (k d : ℕ) → k < length es → has (get_or es k d) es ≡ true
 member_at es k d below = list_any_at (λ j. j == get_or es k d) es k d below (let i = get_or es k d in let same : (i == i) ≡ true = grind (arith, nat_tests) in same)
 
-module _ (p : Presence) (at : ℕ) (xs : List Track) where
+module _ (g : Forest) (p : Presence) (at : ℕ) (xs : List Track) where
   abbrev is_now : ℕ → Bool
   is_now i = is_due p at (track_in xs i)
 
@@ -94,7 +100,7 @@ module _ (p : Presence) (at : ℕ) (xs : List Track) where
   due_ones = filter is_now (range_with_len 0 (length xs))
 
   abbrev there : ℕ → Sending.Place
-  there i = place p.away (sec at) xs i
+  there i = place g p.away (sec at) xs i
 
   abbrev IsThere : Sending.Place → Type 0
   IsThere q = (q ≡ there q.entry) × (q.entry < length xs)
@@ -105,22 +111,22 @@ module _ (p : Presence) (at : ℕ) (xs : List Track) where
     | inr past ↦ absurd (not_both (member_at due_ones k d below) (passing_past is_now (length xs) (get_or due_ones k d) past))
   ]
 
-  all_there : All IsThere (map (place p.away (sec at) xs) due_ones)
+  all_there : All IsThere (map (place g p.away (sec at) xs) due_ones)
   all_there =
-      all_mapped IsThere (place p.away (sec at) xs) due_ones
+      all_mapped IsThere (place g p.away (sec at) xs) due_ones
       (λ k d below.
       let i = get_or due_ones k d in
-      let same = entry_of_place p.away (sec at) i (track_in xs i) (track_in xs i).attempt in
+      let same = place_names g p.away (sec at) xs i in
       let inside = within_all k d below in
       (sym (ap there same), (omega (arith, same, inside))))
 
   -- those that are due, sorted, stand in line, whatever answers take
-  pub line_in_order : (qs : List Place) → IsSendingOrder p at xs (map place_is qs) → IsInLine (calm p) at xs qs
+  pub line_in_order : (qs : List Place) → IsSendingOrder g p at xs (map place_is qs) → IsInLine g (calm p) at xs qs
   line_in_order qs is =
       let entry : Sending.Place → ℕ = λ q. q.entry in
-      let places = map (place p.away (sec at) xs) due_ones in
+      let places = map (place g p.away (sec at) xs) due_ones in
       let order : IsPermutation due_ones (entries_of qs) =
-      subst (λ ys. IsPermutation ys (entries_of qs)) (entries_back p at xs due_ones) (subst (IsPermutation (map entry places)) (places_back qs) (IsPermutation-map entry places (map place_is qs) is.all)) in
+      subst (λ ys. IsPermutation ys (entries_of qs)) (entries_back g p at xs due_ones) (subst (IsPermutation (map entry places)) (places_back qs) (IsPermutation-map entry places (map place_is qs) is.all)) in
       let each : All (λ (q : Place). IsThere (place_is q)) qs = all_placed IsThere qs (All-permutation IsThere places (map place_is qs) is.all all_there) in
       record {
         sorted = is.in_order;

@@ -17,10 +17,11 @@ use Rattle.watch_machine.specs.declared.track.Track.{Track}
 use Rattle.watch_machine.specs.declared.track.Try.{Try}
 use Rattle.watch_machine.specs.Clocks.{sec}
 use Rattle.watch_machine.specs.Lines.{is_due}
+use Rattle.watch_machine.specs.Margins.{time}
 use Rattle.watch_machine.specs.Sending.{is_alone_try, is_before, is_partial, place, place_of, request, request_of, sent_in, sent_track}
 use Rattle.watch_machine.specs.State.{no_track, track_in}
 use Rattle.watch_machine.specs.Wanted.{believed, need_of}
-use Rattle.watch_machine.specs.code.Line.{IsInLine, IsLine, entries_of, has, left_at, left_of, moved, requests_of, rest_of, sent_on}
+use Rattle.watch_machine.specs.code.Line.{IsInLine, IsLine, entries_of, has, left_at, left_of, moved, requests_of, rest_of, sent_on, time_in}
 use Rattle.watch_machine.specs.code.Lull.{is_failed_try}
 use Rattle.watch_machine.specs.code.Places.{place_is}
 use Rattle.watch_machine.proofs.Leasts.{least_capped}
@@ -96,7 +97,7 @@ module _ (at : ℕ) (x : Track) where
       ]
 
 -- the same of places that are left in line
-module _ (p : Presence) (since : ℕ) (xs : List Track) (qs : List Place) (is : IsInLine p since xs qs) (at n : ℕ) (rs : List Request) (named : (i : ℕ) → list_any (λ (r : Request). r.entry == i) rs ≡ has i (take n (entries_of qs))) where
+module _ (g : Forest) (p : Presence) (since : ℕ) (xs : List Track) (qs : List Place) (is : IsInLine g p since xs qs) (at n : ℕ) (rs : List Request) (named : (i : ℕ) → list_any (λ (r : Request). r.entry == i) rs ≡ has i (take n (entries_of qs))) where
   abbrev ys : List Track
   ys = sent_on at rs xs
 
@@ -119,7 +120,7 @@ module _ (p : Presence) (since : ℕ) (xs : List Track) (qs : List Place) (is : 
       let e = (get_or (drop n qs) k d).entry in
       not_named (names e) (has e (entries_of qs)) (sym (each_has (drop n qs) k d below) ∙ left_in e)
 
-  pub left_in_line : IsInLine p since ys (drop n qs)
+  pub left_in_line : IsInLine g p since ys (drop n qs)
   left_in_line = record {
     sorted = λ k d from within.
         let ps = map place_is qs in
@@ -134,9 +135,9 @@ module _ (p : Presence) (since : ℕ) (xs : List Track) (qs : List Place) (is : 
     placed = λ k d below.
         let q = get_or (drop n qs) k d in
         let inside = All-drop (λ (r : Place). r.entry < length xs) n qs is.within k d below in
-        All-drop (λ (r : Place). place_is r ≡ place p.away (sec since) xs r.entry) n qs is.placed k d below
+        All-drop (λ (r : Place). place_is r ≡ place g p.away (sec since) xs r.entry) n qs is.placed k d below
         ∙ sym
-        (ap (λ (x : Track). place_of p.away (sec since) q.entry x x.attempt)
+        (ap (λ (x : Track). place_of g.margin (entry_at g.entries q.entry) p.away (sec since) q.entry x x.attempt)
         (read_sent q.entry inside ∙ cond-false (names q.entry) (sent_track at (track_in xs q.entry)) (track_in xs q.entry) (unnamed k d below)));
     distinct = subst (λ es. AreDistinct es) (drop-map (λ (q : Place). q.entry) n qs) (drop_distinct n (entries_of qs) is.distinct);
     within = λ k d below. let inside = All-drop (λ (r : Place). r.entry < length xs) n qs is.within k d below in let count = each_length (sent_in at rs) xs in omega (arith, inside, count);
@@ -211,29 +212,37 @@ module _ (g : Forest) (xs : List Track) (p : Presence) (line : Line) (is : IsLin
   kept_due i within due =
       not_asked (asked i) (is_due p since (track_in xs i)) (sym (due_sent at (track_in xs i) p since (asked i)) ∙ ap (is_due p since) (sym (read i within)) ∙ due)
 
+  kept_track : (i : ℕ) → i < length g.entries → is_due p since (track_in zs i) ≡ true → track_in zs i ≡ track_in xs i
+  kept_track i within due = read i within ∙ cond-false (asked i) (sent_track at (track_in xs i)) (track_in xs i) (kept_due i within due)
+
   beyond_kept : (i : ℕ) → i < length g.entries → is_due p since (track_in zs i) ≡ true → line.beyond ≤ left_of g zs line.clocks p i
   beyond_kept i within due =
-      let no' = kept_due i within due in
       let x = track_in xs i in
-      let same : track_in zs i ≡ x = read i within ∙ cond-false (asked i) (sent_track at x) x no' in
-      let was : is_due p since x ≡ true = ap (is_due p since) (sym same) ∙ due in
+      let was : is_due p since x ≡ true = ap (is_due p since) (sym (kept_track i within due)) ∙ due in
       let far = is.beyond i within was in
       let is' : left_of g zs line.clocks p i ≡ left_of g xs line.clocks p i =
-      left_read i within ∙ ap (left_at g.margin (entry_at g.entries i) (need i) p since) (cond-false (asked i) (sent_track at x) x no') in
+      left_read i within ∙ ap (left_at g.margin (entry_at g.entries i) (need i) p since) (cond-false (asked i) (sent_track at x) x (kept_due i within due)) in
       omega (arith, far, is')
 
   end_same : (i : ℕ) → i < length g.entries → believed (track_in zs i).end ≡ believed (track_in xs i).end
   end_same i within = ap (λ (x : Track). believed x.end) (read i within) ∙ end_sent at (track_in xs i) (asked i)
 
+  -- whoever is due was, and keeps its time
+  timed_kept : (i : ℕ) → i < length g.entries → is_due p since (track_in zs i) ≡ true → sec since < time_in g zs i → line.lasting ≤ time_in g zs i
+  timed_kept i within due =
+      subst (λ (x : Track). is_due p since x ≡ true → sec since < time g.margin (entry_at g.entries i) x → line.lasting ≤ time g.margin (entry_at g.entries i) x)
+      (sym (kept_track i within due)) (is.timed i within) due
+
   pub line_sent : IsLine g zs p (moved line n)
   line_sent = record {
-    order = subst (IsInLine p since zs) (sym (rest_moved line n)) (left_in_line p since xs (rest_of line) is.order at n rs named);
+    order = subst (IsInLine g p since zs) (sym (rest_moved line n)) (left_in_line g p since xs (rest_of line) is.order at n rs named);
     next = λ last low never.
         least_capped (left_of g zs line.clocks p) (left_of g xs line.clocks p) last last 0 (length g.entries) (omega arith) (λ i from below. left_same last i low never (omega (arith, below)))
         ∙ is.next last low never;
     beyond = beyond_kept;
     needed = λ i within some. let e = same_need i in let n' = is.needed i within (omega (arith, e, some)) in omega (arith, e, n');
     ended = λ i within living. let e = end_same i within in let n' = is.ended i within (omega (arith, e, living)) in omega (arith, e, n');
+    timed = timed_kept;
     there = is.there;
     together = any_kept (λ (x : Track). is_alone_try x.attempt) xs zs is.together (each_length (sent_in at rs) xs)
         (λ i within off. ap (λ (x : Track). is_alone_try x.attempt) (each_read (sent_in at rs) xs i within) ∙ alone_sent at (track_in xs i) (asked i) ∙ off);

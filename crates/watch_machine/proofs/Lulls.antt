@@ -192,9 +192,9 @@ module _ (s : WatchState) (c : Clocks) (lull : Lull) (is : IsLull s.forest s.tra
     still_at : (i : ℕ) → i < length g.entries → IsStill g.margin (entry_at g.entries i) (need i) p c.at (track_in xs i) (due_of i)
     still_at i within = still g.margin (entry_at g.entries i) (need i) p c.at (track_in xs i) low (before_each i within)
 
-    none_due : due p c.at xs ≡ []
+    none_due : due g p c.at xs ≡ []
     none_due =
-        ap (map (place p.away (sec c.at) xs)) (none_found (λ i. is_due p c.at (track_in xs i)) 0 (length xs) (λ i from below. (still_at i (omega (arith, beside, below))).due))
+        ap (map (place g p.away (sec c.at) xs)) (none_found (λ i. is_due p c.at (track_in xs i)) 0 (length xs) (λ i from below. (still_at i (omega (arith, beside, below))).due))
 
     waits_so : min (latest g.margin c.at) lull.next ≡ wait_by g c p xs need
     unfolding next_due

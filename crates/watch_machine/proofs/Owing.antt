@@ -43,4 +43,4 @@ module _ (g : Forest) (xs : List Track) (c : Clocks) (needs : List CarriedNeed) 
 
 -- where no round opens nobody is asked by one
 pub none_asked : (g : Forest) (c : Clocks) (xs : List Track) → pressed_tracks g c [] xs ≡ pressed_alone g c xs
-none_asked g c xs = each_id (λ i. track_asked_in g.margin (entry_at g.entries i) c.at [] i) (pressed_alone g c xs) (λ i x. refl)
+none_asked g c xs = each_id (track_asked_in c.at []) (pressed_alone g c xs) (λ i x. refl)

@@ -79,7 +79,7 @@ module _ (margin : ℕ) (e : Entry) (need : ℕ) (p : Presence) (at : ℕ) (x : 
   pub stays : fresh ≡ false → wants x need || x.out ≡ true → pressed_track margin e need at x ≡ x
   unfolding pressed_track
   stays not_fresh kept =
-      cond-false fresh (record x { attempt = Some (press at false x) }) (if wants x need || x.out then x else record x { attempt = dropped x x.attempt }) not_fresh
+      cond-false fresh (record x { attempt = Some (press at x) }) (if wants x need || x.out then x else record x { attempt = dropped x x.attempt }) not_fresh
       ∙ cond-true (wants x need || x.out) x (record x { attempt = dropped x x.attempt }) kept
 
   -- or where it has nothing to be let go
@@ -93,7 +93,7 @@ module _ (margin : ℕ) (e : Entry) (need : ℕ) (p : Presence) (at : ℕ) (x : 
   pub is_kept : fresh ≡ false → wants x need || x.out ≡ false → is_owed_alone x.owes x.attempt ≡ true → pressed_track margin e need at x ≡ x
   unfolding pressed_track
   is_kept not_fresh left alone =
-      cond-false fresh (record x { attempt = Some (press at false x) }) (if wants x need || x.out then x else record x { attempt = dropped x x.attempt }) not_fresh
+      cond-false fresh (record x { attempt = Some (press at x) }) (if wants x need || x.out then x else record x { attempt = dropped x x.attempt }) not_fresh
       ∙ cond-false (wants x need || x.out) x (record x { attempt = dropped x x.attempt }) left ∙ ap (λ o. record x { attempt = o }) (try_kept x.attempt alone)
 
   -- it opens no round

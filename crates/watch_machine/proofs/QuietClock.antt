@@ -2,6 +2,7 @@
 use Rattle.std.proofs.Common.{◌≡◌, ◌∙◌, ℕ, zero, suc, ◌-◌, Bool, List, [], None, IsPermutation, length, take, refl, sym, ap, subst, arith}
 use Rattle.std.proofs.lemmas.List.{append-nil}
 use Rattle.std.proofs.lemmas.List.Sorted.{IsPermutation-refl}
+use Rattle.keep_tree.specs.Forest.{Forest}
 use Rattle.watch_machine.specs.declared.clocks.Clocks.{Clocks}
 use Rattle.watch_machine.specs.declared.command.Command.TheVariants.{Go}
 use Rattle.watch_machine.specs.declared.lanes.Out.{Out}
@@ -23,8 +24,8 @@ none_taken : (n : ℕ) → take {A = Place} n [] ≡ []
 none_taken zero = refl
 none_taken (suc n) = refl
 
-none_goes : (p : Presence) (at : ℕ) (xs : List Track) (lanes : ℕ) → due p at xs ≡ [] → IsGoing p at xs lanes []
-none_goes p at xs lanes none = record {
+none_goes : (g : Forest) (p : Presence) (at : ℕ) (xs : List Track) (lanes : ℕ) → due g p at xs ≡ [] → IsGoing g p at xs lanes []
+none_goes g p at xs lanes none = record {
   picked = [];
   is_picked = ([], (record { all = subst (λ ds. IsPermutation ds []) (sym none) (IsPermutation-refl []); in_order = λ k d from within. absurd (omega (arith, within)) }, sym (none_taken lanes)));
   requests_are = refl;
@@ -42,7 +43,7 @@ quiet_step old wall elapsed k stepped jumped until clocks_are stepped_is jumped_
     let sent : each (sent_in k.at []) (pressed_tracks g k [] xs) ≡ xs = each_id (sent_in k.at []) (pressed_tracks g k [] xs) (λ i x. refl) ∙ pressed in
     clock_step old (quieted old k stepped) wall elapsed k stepped jumped xs p None xs None [] until (need_of g.entries xs k) nothing_noted clocks_are stepped_is jumped_is (sym quiet.settled) (sym quiet.presence)
     (sym quiet.reason) refl (λ i below. refl) quiet.shut
-    (subst (λ ys. IsGoing p k.at ys (old.width - length old.out) []) (sym pressed) (none_goes p k.at xs (old.width - length old.out) (quiet.idle pace)))
+    (subst (λ ys. IsGoing g p k.at ys (old.width - length old.out) []) (sym pressed) (none_goes g p k.at xs (old.width - length old.out) (quiet.idle pace)))
     (quiet.waits pace ∙ ap (λ ys. wait_by g k p ys (need_of g.entries xs k)) (sym sent)) refl
     (ap (λ ys. record old { clocks = k; presence = p; stepped = stepped; answers = []; tracks = ys }) (sym sent)
     ∙ ap (λ (os : List Out). record old { clocks = k; presence = p; stepped = stepped; answers = []; tracks = each (sent_in k.at []) (pressed_tracks g k [] xs); out = os }) (sym (append-nil old.out)))

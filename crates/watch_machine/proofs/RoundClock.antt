@@ -78,9 +78,9 @@ module _ (s : WatchState) (line : Line) (is : IsLine s.forest s.tracks (calm s.p
 
 -- those in front go out
 pub front_goes :
-    (p : Presence) (at : ℕ) (xs : List Track) (lanes : ℕ) (qs : List Place) (rs : List Request) → IsSendingOrder p at xs (map place_is qs) → rs ≡ requests_of p (sec at) xs lanes qs →
-    IsGoing p at xs lanes rs
-front_goes p at xs lanes qs rs order are = record {
+    (g : Forest) (p : Presence) (at : ℕ) (xs : List Track) (lanes : ℕ) (qs : List Place) (rs : List Request) → IsSendingOrder g p at xs (map place_is qs) → rs ≡ requests_of p (sec at) xs lanes qs →
+    IsGoing g p at xs lanes rs
+front_goes g p at xs lanes qs rs order are = record {
   picked = take lanes (map place_is qs);
   is_picked = (map place_is qs, (order, refl));
   requests_are = are ∙ each_place (request p (sec at) xs) (take lanes qs) ∙ ap (map (request p (sec at) xs)) (sym (take-map place_is lanes qs));
@@ -111,7 +111,7 @@ round_step old wall elapsed line k stepped jumped until output new clocks_are st
     (subst (λ (n : WatchState). StepClock old wall elapsed (record { command = Go rs until; notes = nothing_noted }) n) (sym done.state)
     (clock_step old (served old k stepped rs) wall elapsed k stepped jumped xs p None xs None rs until (need_of g.entries xs k) nothing_noted clocks_are stepped_is jumped_is (sym is.settled) (sym is.presence)
     (sym is.reason) refl (λ i below. refl) is.shut
-    (subst (λ ys. IsGoing p k.at ys (old.width - length old.out) rs) (sym pressed) (front_goes p k.at xs (old.width - length old.out) (rest_of line) rs (is.order pace) done.front))
+    (subst (λ ys. IsGoing g p k.at ys (old.width - length old.out) rs) (sym pressed) (front_goes g p k.at xs (old.width - length old.out) (rest_of line) rs (is.order pace) done.front))
     (is.waits pace (old.width - length old.out) rs done.front ∙ ap (λ ys. wait_by g k p ys (need_of g.entries xs k)) (sym sent)) refl
     (ap (λ ys. record (served old k stepped rs) { tracks = ys }) (sym sent))))
 

@@ -1,5 +1,5 @@
 -- Unseen: a beginning, a pressing and a sending write nothing of what is seen of entries. For the steps of a clock.
-use Rattle.std.proofs.Common.{◌≡◌, ℕ, Bool, true, false, not, ◌&&◌, ◌||◌, ◌==◌, List, Some, refl}
+use Rattle.std.proofs.Common.{◌≡◌, ℕ, Bool, true, ◌&&◌, ◌||◌, ◌==◌, List, Some, refl}
 use Rattle.std.specs.List.{list_any}
 use Rattle.keep_tree.specs.declared.entry.Entry.{Entry}
 use Rattle.keep_tree.specs.Forest.{Forest, entry_at}
@@ -9,7 +9,6 @@ use Rattle.watch_machine.specs.declared.track.Track.{Track}
 use Rattle.watch_machine.specs.Beginning.{is_called, owing, owing_all, owing_lookup, soon, sooner_try}
 use Rattle.watch_machine.specs.Clocks.{sec}
 use Rattle.watch_machine.specs.Press.{asked_track, dropped, is_fresh, press, pressed_alone, pressed_track, pressed_tracks, track_asked_in}
-use Rattle.watch_machine.specs.Margins.{has_come}
 use Rattle.watch_machine.specs.Sending.{sent_in, sent_track}
 use Rattle.watch_machine.specs.State.{each}
 use Rattle.watch_machine.specs.Wanted.{is_open, need_of, wants}
@@ -28,7 +27,7 @@ owing_seen g c xs = each_seen (λ i. owing c.at (is_called g xs c i)) xs (λ i x
 pressed_unseen : (margin : ℕ) (e : Entry) (need at : ℕ) (x : Track) → sight (pressed_track margin e need at x) ≡ sight x
 unfolding pressed_track
 pressed_unseen margin e need at x =
-    if_both (λ y. sight y ≡ sight x) (is_fresh margin e x need (sec at)) (record x { attempt = Some (press at false x) }) _ refl
+    if_both (λ y. sight y ≡ sight x) (is_fresh margin e x need (sec at)) (record x { attempt = Some (press at x) }) _ refl
     (if_both (λ y. sight y ≡ sight x) (wants x need || x.out) x (record x { attempt = dropped x x.attempt }) refl refl)
 
 pub alone_seen : (g : Forest) (c : Clocks) (xs : List Track) → SameSeen (pressed_alone g c xs) xs
@@ -36,17 +35,17 @@ alone_seen g c xs =
     each_seen (λ i. pressed_track g.margin (entry_at g.entries i) (need_of g.entries xs c i) c.at) xs
     (λ i x. pressed_unseen g.margin (entry_at g.entries i) (need_of g.entries xs c i) c.at x)
 
-asked_unseen : (margin : ℕ) (e : Entry) (at : ℕ) (round : List ℕ) (i : ℕ) (x : Track) → sight (track_asked_in margin e at round i x) ≡ sight x
+asked_unseen : (at : ℕ) (round : List ℕ) (i : ℕ) (x : Track) → sight (track_asked_in at round i x) ≡ sight x
 unfolding asked_track
-asked_unseen margin e at round i x =
-    if_both (λ y. sight y ≡ sight x) (list_any (λ j. j == i) round) (asked_track margin e at x) x
-    (if_both (λ y. sight y ≡ sight x) x.out x (record x { attempt = Some (press at (not (has_come margin e x (sec at))) x) }) refl refl) refl
+asked_unseen at round i x =
+    if_both (λ y. sight y ≡ sight x) (list_any (λ j. j == i) round) (asked_track at x) x
+    (if_both (λ y. sight y ≡ sight x) x.out x (record x { attempt = Some (press at x) }) refl refl) refl
 
 pub pressed_seen : (g : Forest) (c : Clocks) (round : List ℕ) (xs : List Track) → SameSeen (pressed_tracks g c round xs) xs
 pressed_seen g c round xs =
     let mid = pressed_alone g c xs in
     both_seen (pressed_tracks g c round xs) mid xs
-    (each_seen (λ i. track_asked_in g.margin (entry_at g.entries i) c.at round i) mid (λ i x. asked_unseen g.margin (entry_at g.entries i) c.at round i x)) (alone_seen g c xs)
+    (each_seen (track_asked_in c.at round) mid (asked_unseen c.at round)) (alone_seen g c xs)
 
 pub sent_seen : (at : ℕ) (requests : List Request) (xs : List Track) → SameSeen (each (sent_in at requests) xs) xs
 sent_seen at requests xs =

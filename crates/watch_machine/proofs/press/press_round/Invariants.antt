@@ -1,14 +1,13 @@
 -- Those whom the round asks before the index are pressed.
 use Rattle.std.proofs.Common.{ℕ}
 use Rattle.std.specs.List.{All}
-use Rattle.keep_tree.specs.Forest.{entry_at}
 use Rattle.watch_machine.specs.Press.{asked_track}
 use Rattle.watch_machine.specs.code.Bounds.{IsTrack}
 use Rattle.watch_machine.proofs.Marked.{Marked}
 use Rattle.watch_machine.proofs.press.press_round.Given as goal
 
-abbrev pub invariant-loop-index : goal.invariant-loop-index
-invariant-loop-index l = record {
-  marked : Marked (λ (j : ℕ). j) (λ i. asked_track l.forest.margin (entry_at l.forest.entries i) l.at) l.initial.tracks l.tracks l.round l.index-index;
+abbrev pub invariant-loop-entry : goal.invariant-loop-entry
+invariant-loop-entry l = record {
+  marked : Marked (λ (j : ℕ). j) (λ i. asked_track l.at) l.initial.tracks l.tracks l.round l.entry-index;
   bounds : All IsTrack l.tracks;
 }

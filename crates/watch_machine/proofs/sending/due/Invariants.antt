@@ -11,4 +11,4 @@ use Rattle.watch_machine.proofs.sending.due.Given as goal
 abbrev pub invariant-loop-index : goal.invariant-loop-index
 invariant-loop-index l =
     map place_is l.places.items
-    ≡ map (place l.presence.away (sec l.at) l.tracks) (filter (λ i. is_due l.presence l.at (track_in l.tracks i)) (range_with_len 0 l.index))
+    ≡ map (place l.forest l.presence.away (sec l.at) l.tracks) (filter (λ i. is_due l.presence l.at (track_in l.tracks i)) (range_with_len 0 l.index))

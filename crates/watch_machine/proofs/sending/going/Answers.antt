@@ -24,7 +24,7 @@ returns-clause-going c =
     let lanes = c.args.lanes in
     let line = c.in_order-line.result.items in
     let count : c.len.result ≡ length line = (let len = c.in_order-line.result.ok.0 in let e : c.len.result ≡ vec_len c.in_order-line.result = c.len.ensures in cc) in
-    going_is c.args.presence c.args.at c.args.tracks.now lanes c.min-picked.result c.in_ok-due.field-0.items line c.in_ok-requests.requests.items c.in_ok-due.ensures c.in_order-line.ensures.all c.in_order-line.ensures.sorted
+    going_is c.args.forest.now c.args.presence c.args.at c.args.tracks.now lanes c.min-picked.result c.in_ok-due.field-0.items line c.in_ok-requests.requests.items c.in_ok-due.ensures c.in_order-line.ensures.all c.in_order-line.ensures.sorted
     (c.min-picked.ensures ∙ ap (min lanes) count) (made c)
 
 pub returns-clause-line : goal.returns-clause-line
@@ -33,6 +33,6 @@ returns-clause-line c =
     let at = c.args.at in
     let xs = c.args.tracks.now in
     let line = c.in_order-line.result.items in record {
-      order = line_is p at xs c.in_ok-due.field-0.items line c.in_ok-due.ensures c.in_order-line.ensures.all c.in_order-line.ensures.sorted;
+      order = line_is c.args.forest.now p at xs c.in_ok-due.field-0.items line c.in_ok-due.ensures c.in_order-line.ensures.all c.in_order-line.ensures.sorted;
       front = front_many p (sec at) xs c.min-picked.result line c.in_ok-requests.requests.items (made c);
     }

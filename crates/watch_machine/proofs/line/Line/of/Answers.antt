@@ -17,13 +17,16 @@ returns c = λ has order known.
     let count = c.len.ensures.value in
     let needs = c.args.needs.now in
     let two = c.is_kept-known.ensures known in
+    let least = c.min-lasting.ensures in
     let found : ℕ → ℕ = λ i. (load_at needs i).need in
     line_by g xs c.args.clocks p needs
-    (record { known = c.is_kept-known.result; places = c.args.places; from = c.args.from; clocks = c.args.clocks; next = c.first_left-next.result; beyond = c.first_beyond-beyond.result; lasting = c.first_past-lasting.result })
+    (record { known = c.is_kept-known.result; places = c.args.places; from = c.args.from; clocks = c.args.clocks; next = c.first_left-next.result; beyond = c.first_beyond-beyond.result; lasting = c.min-lasting.result })
     refl c.second.result c.second.ensures.value has order (c.first_left-next.ensures ∙ ap (λ q. first_left NEVER g xs found q at) c.calm-calm.ensures)
     (λ i within due.
     let low = c.first_beyond-beyond.ensures i within (ap (λ q. is_due q at (track_in xs i)) c.calm-calm.ensures ∙ due) in
     let e = ap (λ q. left_by g xs found q at i) c.calm-calm.ensures in
     omega (arith, low, e))
-    (λ i within some. c.first_past-lasting.ensures.need i (omega (arith, within, count)) some) (λ i within living. c.first_past-lasting.ensures.end i (omega (arith, within, count)) living)
+    (λ i within some. let low = c.first_past-past.ensures.need i (omega (arith, within, count)) some in omega (arith, least, low))
+    (λ i within living. let low = c.first_past-past.ensures.end i (omega (arith, within, count)) living in omega (arith, least, low))
+    (λ i within due yet. let low = c.first_coming-coming.ensures i within (ap (λ q. is_due q at (track_in xs i)) c.calm-calm.ensures ∙ due) yet in omega (arith, least, low))
     two.0 two.1

@@ -117,12 +117,12 @@ lanes_are c = c.saturating_sub-lanes.ensures ∙ ap (λ n. c.self.inside.width -
 
 goes :
     (c : After-drop-needs-inside-2) →
-    IsGoing c.presence_after-presence.result c.timed-timed.result.clocks.at (pressed_of c) ((before c).width - length (before c).out) c.in_ok-requests.field-0.requests.items
+    IsGoing (before c).forest c.presence_after-presence.result c.timed-timed.result.clocks.at (pressed_of c) ((before c).width - length (before c).out) c.in_ok-requests.field-0.requests.items
 goes c =
     let p = c.presence_after-presence.result in
     let at = c.timed-timed.result.clocks.at in
     let requests = c.in_ok-requests.field-0.requests.items in
-    subst (λ n. IsGoing p at (pressed_of c) n requests) (lanes_are c) (subst (λ xs. IsGoing p at xs c.saturating_sub-lanes.result requests) (read_pressed c) c.in_ok-requests.ensures.going)
+    subst (λ n. IsGoing c.self.inside.forest p at (pressed_of c) n requests) (lanes_are c) (subst (λ xs. IsGoing c.self.inside.forest p at xs c.saturating_sub-lanes.result requests) (read_pressed c) c.in_ok-requests.ensures.going)
 
 out_are : (c : After-drop-needs-inside-2) → c.in_ok-out.out.items ≡ (before c).out ++ map (out_at c.timed-timed.result.clocks.at) c.in_ok-requests.field-0.requests.items
 out_are c =
@@ -259,9 +259,9 @@ invariant_of-self-2 c =
     let qs = c.in_ok-requests.field-0.line.items in
     let reads : c.deref-5.result.now ≡ pressed =
     c.deref-5.ensures.value ∙ twice v c.deref_mut.result.now c.begin.new.tracks c.deref_mut.ensures.value c.begin.auto.tracks c.press.new.tracks still ∙ presses in
-    let front : IsFrontOf p k.at pressed requests qs = subst (λ ys. IsFrontOf p k.at ys requests qs) reads c.in_ok-requests.ensures.line in
-    let in_line : IsInLine (calm p) k.at (each (sent_in k.at requests) pressed) (drop (length requests) qs) =
-    left_in_line (calm p) k.at pressed qs (line_in_order p k.at pressed qs front.order) k.at (length requests) requests
+    let front : IsFrontOf g p k.at pressed requests qs = subst (λ ys. IsFrontOf g p k.at ys requests qs) reads c.in_ok-requests.ensures.line in
+    let in_line : IsInLine g (calm p) k.at (each (sent_in k.at requests) pressed) (drop (length requests) qs) =
+    left_in_line g (calm p) k.at pressed qs (line_in_order g p k.at pressed qs front.order) k.at (length requests) requests
     (λ i. asked_are p (sec k.at) pressed (length requests) i qs requests front.front) in
     record {
       count = ap length written ∙ kept ∙ c.press.ensures.count;
@@ -272,8 +272,8 @@ invariant_of-self-2 c =
       line =
           subst (λ xs. IsKnown g xs p c.of-line.result) c.deref-12.ensures.value
           (c.of-line.ensures (subst (λ xs. HasNeeds g.entries xs k needs) (sym (c.deref-12.ensures.value ∙ written ∙ sends)) had)
-          (subst (λ n. IsInLine (calm p) k.at c.deref-12.result.now (drop n c.in_ok-requests.field-0.line.items)) (sym (c.len-3.ensures ∙ c.in_ok-requests.field-0.requests.ok.0))
-          (subst (λ xs. IsInLine (calm p) k.at xs (drop (length requests) c.in_ok-requests.field-0.line.items)) (sym (c.deref-12.ensures.value ∙ written ∙ sends)) in_line)));
+          (subst (λ n. IsInLine g (calm p) k.at c.deref-12.result.now (drop n c.in_ok-requests.field-0.line.items)) (sym (c.len-3.ensures ∙ c.in_ok-requests.field-0.requests.ok.0))
+          (subst (λ xs. IsInLine g (calm p) k.at xs (drop (length requests) c.in_ok-requests.field-0.line.items)) (sym (c.deref-12.ensures.value ∙ written ∙ sends)) in_line)));
       lull = subst (λ xs. IfSome c.after-lull.result (IsLull g xs k p)) c.deref-11.ensures.value (some_lull (HasNeeds g.entries c.deref-11.result.now k needs) (IsLull g c.deref-11.result.now k p) c.after-lull.result has c.after-lull.ensures);
     }
 
