@@ -1,6 +1,5 @@
 -- By what the entries carry, those are pressed whose time has come, and those whom a round asks.
 use Rattle.std.proofs.Common.{◌≡◌, ◌∙◌, ap, sym}
-use Rattle.keep_tree.specs.Forest.{entry_at}
 use Rattle.watch_machine.specs.Press.{pressed_alone, pressed_tracks, track_asked_in}
 use Rattle.watch_machine.specs.Round.{asked_by_round}
 use Rattle.watch_machine.specs.State.{each}
@@ -26,7 +25,7 @@ returns-clause-tracks c =
     let alone : mid ≡ pressed_alone g k old = c.press_alone.ensures.value ∙ pressed_are g old k needs c.requires.count (has_needs c.args.view.now g old k needs c.requires.needs) in
     elim c.match-round.branch [
       | in-Some w ↦
-          w.tracks-is ∙ w.press_round.ensures.value ∙ ap (λ r. each (λ i. track_asked_in g.margin (entry_at g.entries i) k.at r i) mid) w.list.ensures
-          ∙ ap (λ ys. each (λ i. track_asked_in g.margin (entry_at g.entries i) k.at w.in-Some.asked i) ys) alone ∙ ap (λ r. pressed_tracks g k (asked_by_round r) old) (sym w.in-Some.is)
+          w.tracks-is ∙ w.press_round.ensures.value ∙ ap (λ r. each (track_asked_in k.at r) mid) w.list.ensures ∙ ap (each (track_asked_in k.at w.in-Some.asked)) alone
+          ∙ ap (λ r. pressed_tracks g k (asked_by_round r) old) (sym w.in-Some.is)
       | in_default w ↦ w.tracks-is ∙ alone ∙ sym (none_asked g k old) ∙ ap (λ r. pressed_tracks g k (asked_by_round r) old) (sym w.in_default.is)
     ]

@@ -272,7 +272,7 @@ invariant_of-self-2 c =
       line =
           subst (λ xs. IsKnown g xs p c.of-line.result) c.deref-12.ensures.value
           (c.of-line.ensures (subst (λ xs. HasNeeds g.entries xs k needs) (sym (c.deref-12.ensures.value ∙ written ∙ sends)) had)
-          (subst (λ n. IsInLine g (calm p) k.at c.deref-12.result.now (drop n c.in_ok-requests.field-0.line.items)) (sym (c.len-3.ensures ∙ c.in_ok-requests.field-0.requests.ok.0))
+          (subst (λ n. IsInLine g (calm p) k.at c.deref-12.result.now (drop n c.in_ok-requests.field-0.line.items)) (sym (c.len-2.ensures ∙ c.in_ok-requests.field-0.requests.ok.0))
           (subst (λ xs. IsInLine g (calm p) k.at xs (drop (length requests) c.in_ok-requests.field-0.line.items)) (sym (c.deref-12.ensures.value ∙ written ∙ sends)) in_line)));
       lull = subst (λ xs. IfSome c.after-lull.result (IsLull g xs k p)) c.deref-11.ensures.value (some_lull (HasNeeds g.entries c.deref-11.result.now k needs) (IsLull g c.deref-11.result.now k p) c.after-lull.result has c.after-lull.ensures);
     }
