@@ -105,7 +105,7 @@ sent_lanes p now at xs i (j ∷ js) =
       | inr other ↦ ap (λ b. length (cond b (out_at at r ∷ tail) tail)) (ap (λ n. n == i) e ∙ other) ∙ rest ∙ sym (skips i j js other)
     ]
 
-sent_alone : (s : WatchState) (requests : List Request) (lanes : ℕ) → Goes s.presence s.clocks.at s.tracks lanes requests → IsAlone s → IsAlone (sent s requests)
+sent_alone : (s : WatchState) (requests : List Request) (lanes : ℕ) → Goes s.forest s.presence s.clocks.at s.tracks lanes requests → IsAlone s → IsAlone (sent s requests)
 sent_alone s requests lanes h alone = record {
   once = λ i.
       let p = s.presence in
@@ -147,7 +147,7 @@ mid_alone old wall elapsed round alone = record {
 
 commanded : (s new : WatchState) (command : Command) → IsAlone s → StepCommand s command new → IsAlone new
 commanded s new (Go requests until) alone h =
-    subst IsAlone (sym h.0.1) (sent_alone s requests (s.width - length s.out) (goes s.presence s.clocks.at s.tracks (s.width - length s.out) requests h.0.0) alone)
+    subst IsAlone (sym h.0.1) (sent_alone s requests (s.width - length s.out) (goes s.forest s.presence s.clocks.at s.tracks (s.width - length s.out) requests h.0.0) alone)
 commanded s new Taken alone h = absurd h
 
 -- an answer

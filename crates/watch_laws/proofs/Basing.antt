@@ -109,17 +109,17 @@ fresh_free margin e x need now fresh =
 pressed_passes : (now asked margin : ℕ) (e : Entry) (need at : ℕ) (x : Track) → at ≤ now → Passes now asked (pressed_track margin e need at x) x
 unfolding pressed_track press
 pressed_passes now asked margin e need at x le =
-    if_cases (λ y. Passes now asked y x) (is_fresh margin e x need (sec at)) (record x { attempt = Some (press at false x) }) (if wants x need || x.out then x else record x { attempt = dropped x x.attempt })
+    if_cases (λ y. Passes now asked y x) (is_fresh margin e x need (sec at)) (record x { attempt = Some (press at x) }) (if wants x need || x.out then x else record x { attempt = dropped x x.attempt })
     (λ fresh. (refl, λ h. record { base = le; out = λ o. absurd (not_both o (fresh_free margin e x need (sec at) fresh)) }))
     (λ e'.
     if_both (λ y. Passes now asked y x) (wants x need || x.out) x (record x { attempt = dropped x x.attempt }) (same_passes now asked x)
     (refl, λ h. record { base = dropped_base now x x.attempt h.base; out = λ o. dropped_base asked x x.attempt (h.out o) }))
 
-asked_passes : (now asked margin : ℕ) (e : Entry) (at : ℕ) (round : List ℕ) (i : ℕ) (x : Track) → at ≤ now → Passes now asked (track_asked_in margin e at round i x) x
+asked_passes : (now asked at : ℕ) (round : List ℕ) (i : ℕ) (x : Track) → at ≤ now → Passes now asked (track_asked_in at round i x) x
 unfolding asked_track press
-asked_passes now asked margin e at round i x le =
-    if_both (λ y. Passes now asked y x) (list_any (λ j. j == i) round) (asked_track margin e at x) x
-    (if_cases (λ y. Passes now asked y x) x.out x (record x { attempt = Some (press at (not (has_come margin e x (sec at))) x) }) (λ o. same_passes now asked x)
+asked_passes now asked at round i x le =
+    if_both (λ y. Passes now asked y x) (list_any (λ j. j == i) round) (asked_track at x) x
+    (if_cases (λ y. Passes now asked y x) x.out x (record x { attempt = Some (press at x) }) (λ o. same_passes now asked x)
     (λ free. (refl, λ h. record { base = le; out = λ o. absurd (not_both o free) })))
     (same_passes now asked x)
 
@@ -146,7 +146,7 @@ mid_passes now asked s round i le =
     let g = s.forest in
     let alone = pressed_alone g c s.tracks in
     both_pass now asked (track_at (pressed s round) i) (track_in alone i) (track_at s i)
-    (each_kept R (same_passes now asked no_track) (λ j. track_asked_in g.margin (entry_at g.entries j) c.at round j) alone (λ j x. asked_passes now asked g.margin (entry_at g.entries j) c.at round j x le) i)
+    (each_kept R (same_passes now asked no_track) (track_asked_in c.at round) alone (λ j x. asked_passes now asked c.at round j x le) i)
     (each_kept R (same_passes now asked no_track) (λ j. pressed_track g.margin (entry_at g.entries j) (need_of g.entries s.tracks c j) c.at) s.tracks
     (λ j x. pressed_passes now asked g.margin (entry_at g.entries j) (need_of g.entries s.tracks c j) c.at x le) i)
 

@@ -258,7 +258,7 @@ asked_short es margin s e t next i asked =
     grind (arith, nat_tests)
 
 -- an entry that is named, and not out, has the try of a round
-named_try : (r : WatchState) (round : List ℕ) (requests : List Request) (i : ℕ) → i < length r.tracks → list_any (λ j. j == i) round ≡ true → (track_at r i).out ≡ false → (along : Bool) × (x : Track) × ((attempt_at (pressed r round) i ≡ Some (press r.clocks.at along x)) × (x.end ≡ (track_at r i).end))
+named_try : (r : WatchState) (round : List ℕ) (requests : List Request) (i : ℕ) → i < length r.tracks → list_any (λ j. j == i) round ≡ true → (track_at r i).out ≡ false → (x : Track) × ((attempt_at (pressed r round) i ≡ Some (press r.clocks.at x)) × (x.end ≡ (track_at r i).end))
 unfolding asked_track
 named_try r round requests i within named free =
     let e = entry_of r i in
@@ -266,19 +266,19 @@ named_try r round requests i within named free =
     let at = r.clocks.at in
     let x = pressed_track m e (wanted_need r i) at (track_at r i) in
     let out : x.out ≡ false = out_pressed m e (wanted_need r i) at (track_at r i) ∙ free in
-    let read = mid_read r round requests i within ∙ cond-true (list_any (λ j. j == i) round) (asked_track m e at x) x named
-    ∙ cond-false x.out x (record x { attempt = Some (press at (not (has_come m e x (sec at))) x) }) out in
-    (not (has_come m e x (sec at)), x, (ap (λ (y : Track). y.attempt) read, end_pressed m e (wanted_need r i) at (track_at r i)))
+    let read = mid_read r round requests i within ∙ cond-true (list_any (λ j. j == i) round) (asked_track at x) x named
+    ∙ cond-false x.out x (record x { attempt = Some (press at x) }) out in
+    (x, (ap (λ (y : Track). y.attempt) read, end_pressed m e (wanted_need r i) at (track_at r i)))
 
-press_renews : (at : ℕ) (along : Bool) (x : Track) → sec at < believed x.end → (press at along x).operation ≡ Renew
+press_renews : (at : ℕ) (x : Track) → sec at < believed x.end → (press at x).operation ≡ Renew
 unfolding press
-press_renews at along x ahead =
+press_renews at x ahead =
     let alive : nat_lt (sec at) (believed x.end) ≡ true = grind (arith, nat_tests) in
     ap (λ b. cond b Renew Look) alive
 
-press_pressed : (at : ℕ) (along : Bool) (x : Track) → ((press at along x).pressed ≡ true) × (((press at along x).failed ≡ false) × ((press at along x).base ≡ Some at))
+press_pressed : (at : ℕ) (x : Track) → ((press at x).pressed ≡ true) × (((press at x).failed ≡ false) × ((press at x).base ≡ Some at))
 unfolding press
-press_pressed at along x = (refl, (refl, refl))
+press_pressed at x = (refl, (refl, refl))
 
 -- an entry that a round asks
 opened_tried :
@@ -300,15 +300,15 @@ opened_tried r asked requests now e us i forest calm count wanted named is_named
     let lead = lead_alike new r refl i (ap (λ (x : Track). x.grant) bears) in
     let same_end = ends_alike new r i bears in
     let got = named_try r asked requests i (omega arith) named (calm.unasked i w) in
-    let what = press_pressed r.clocks.at got.0 got.1 in
-    let end = ap believed got.2.1 in
+    let what = press_pressed r.clocks.at got.0 in
+    let end = ap believed got.1.1 in
     record {
       within = w;
-      try = press r.clocks.at got.0 got.1;
-      is = attempt_sent r asked requests i ∙ got.2.0;
+      try = press r.clocks.at got.0;
+      is = attempt_sent r asked requests i ∙ got.1.0;
       pressed = what.0;
       failed = what.1.0;
-      operation = press_renews r.clocks.at got.0 got.1 (omega arith);
+      operation = press_renews r.clocks.at got.0 (omega arith);
       base = r.clocks.at;
       base_is = what.1.1;
       base_now = at;

@@ -70,12 +70,12 @@ module _ (at bound : ℕ) (S : Type 0) where
   pub none_stands : Stands no_track
   none_stands = record { last = omega arith; tries = λ t is. absurd cc }
 
-  press_kept : (along : Bool) (x : Track) → Stands x → IsKept at bound S (press at along x)
+  press_kept : (x : Track) → Stands x → IsKept at bound S (press at x)
   unfolding press
-  press_kept along x h = let last = h.last in record { settled = refl; soon = omega (arith, last); first = inl refl }
+  press_kept x h = let last = h.last in record { settled = refl; soon = omega (arith, last); first = inl refl }
 
-  press_stands : (along : Bool) (x : Track) → Stands x → Stands (record x { attempt = Some (press at along x) })
-  press_stands along x h = record { last = h.last; tries = λ t is pressed'. subst (IsKept at bound S) (value_is (press at along x) t is) (press_kept along x h) }
+  press_stands : (x : Track) → Stands x → Stands (record x { attempt = Some (press at x) })
+  press_stands x h = record { last = h.last; tries = λ t is pressed'. subst (IsKept at bound S) (value_is (press at x) t is) (press_kept x h) }
 
   -- a beginning
   sooner_kept : (from : ℕ) (o : Option Try) → AllKept o → AllKept (Some (sooner_try from o))
@@ -106,16 +106,16 @@ module _ (at bound : ℕ) (S : Type 0) where
   pressed_stands : (margin : ℕ) (e : Entry) (need : ℕ) (x : Track) → Stands x → Stands (pressed_track margin e need at x)
   unfolding pressed_track
   pressed_stands margin e need x h =
-      if_both Stands (is_fresh margin e x need (sec at)) (record x { attempt = Some (press at false x) }) (if wants x need || x.out then x else record x { attempt = dropped x x.attempt })
-      (press_stands false x h)
+      if_both Stands (is_fresh margin e x need (sec at)) (record x { attempt = Some (press at x) }) (if wants x need || x.out then x else record x { attempt = dropped x x.attempt })
+      (press_stands x h)
       (if_both Stands (wants x need || x.out) x (record x { attempt = dropped x x.attempt }) h
       (record { last = h.last; tries = λ t is pressed'. absurd (not_both pressed' (dropped_loose x x.attempt t is)) }))
 
-  asked_stands : (margin : ℕ) (e : Entry) (round : List ℕ) (i : ℕ) (x : Track) → Stands x → Stands (track_asked_in margin e at round i x)
+  asked_stands : (round : List ℕ) (i : ℕ) (x : Track) → Stands x → Stands (track_asked_in at round i x)
   unfolding asked_track
-  asked_stands margin e round i x h =
-      if_both Stands (list_any (λ j. j == i) round) (asked_track margin e at x) x
-      (if_both Stands x.out x (record x { attempt = Some (press at (not (has_come margin e x (sec at))) x) }) h (press_stands (not (has_come margin e x (sec at))) x h)) h
+  asked_stands round i x h =
+      if_both Stands (list_any (λ j. j == i) round) (asked_track at x) x
+      (if_both Stands x.out x (record x { attempt = Some (press at x) }) h (press_stands x h)) h
 
 mid_steady : (s : WatchState) (round : List ℕ) (i bound : ℕ) (S : Type 0) → Steady s.clocks.at bound S (track_at s i) → Steady s.clocks.at bound S (track_at (pressed s round) i)
 mid_steady s round i bound S h =
@@ -124,8 +124,8 @@ mid_steady s round i bound S h =
     let alone = pressed_alone g c s.tracks in
     let P : Track → Type 0 = Steady c.at bound S in
     let none' : P no_track = none_stands c.at bound S in
-    each_holds P none' (λ j. track_asked_in g.margin (entry_at g.entries j) c.at round j) alone i
-    (asked_stands c.at bound S g.margin (entry_at g.entries i) round i (track_in alone i)
+    each_holds P none' (track_asked_in c.at round) alone i
+    (asked_stands c.at bound S round i (track_in alone i)
     (each_holds P none' (λ j. pressed_track g.margin (entry_at g.entries j) (need_of g.entries s.tracks c j) c.at) s.tracks i
     (pressed_stands c.at bound S g.margin (entry_at g.entries i) (need_of g.entries s.tracks c i) (track_at s i) h)))
 

@@ -1,6 +1,6 @@
 -- Foremost: while the broker is there, whatever goes out at a clock before an entry of known end whose time has come, and that has not
 -- failed, stands before it. For the laws of a start and of partial outages.
-use Rattle.std.proofs.Common.{◌≡◌, ◌≢◌, ◌∙◌, ℕ, ◌<◌, ◌≤◌, true, false, not, ◌==◌, List, [], ◌∷◌, Option, Some, None, All, Result, Ok, Err, get_or, length, refl, sym, ap, subst, arith, inl, inr}
+use Rattle.std.proofs.Common.{◌≡◌, ◌≢◌, ◌∙◌, ℕ, ◌<◌, ◌≤◌, Bool, true, false, not, ◌&&◌, ◌==◌, List, [], ◌∷◌, Option, Some, None, All, Result, Ok, Err, get_or, length, refl, sym, ap, subst, arith, inl, inr}
 use Rattle.std.proofs.lemmas.Bool.{and_from, cases_Bool, cases_lt}
 use Rattle.std.proofs.lemmas.Bool.Decides.{nat_tests}
 use Rattle.std.proofs.lemmas.List.Elements.{All-cons, All-map, All-nil}
@@ -23,7 +23,7 @@ use Rattle.watch_machine.specs.History.{History, Turn, Turned}
 use Rattle.watch_machine.specs.Lines.{is_due, is_first}
 use Rattle.watch_machine.specs.Margins.{has_come, time}
 use Rattle.watch_machine.specs.Press.{pressed}
-use Rattle.watch_machine.specs.Refusal.{request_out}
+use Rattle.watch_machine.specs.Refusal.{is_same, request_out}
 use Rattle.watch_machine.specs.Sending.{is_before, place, sent, sent_in}
 use Rattle.watch_machine.specs.State.{WatchState, entry_of, opened, second, track_at}
 use Rattle.watch_machine.specs.Step.{Step, StepLooked, StepRenewed, readied}
@@ -35,6 +35,7 @@ use Rattle.watch_laws.specs.Load.{requests_asked_by, requests_at_turn}
 use Rattle.watch_laws.specs.Partial.{is_own_try, stands_before}
 use Rattle.watch_laws.specs.Recovery.{MayGo}
 use Rattle.watch_laws.specs.Starts.{AllKnownFirst, IsToRenew, KnownFirstLaw}
+use Rattle.watch_laws.specs.Time.{is_come}
 use Rattle.watch_laws.specs.Waiting.{IsMinded}
 use Rattle.watch_laws.proofs.Fronts.{front_at, fronts, own_at, sent_front, sent_own}
 use Rattle.watch_laws.proofs.Going.{counts, entry_by, request_at, skips, some_named, times}
@@ -47,6 +48,12 @@ use Rattle.watch_laws.proofs.Spacing.{passed_over}
 come_by : (margin : ℕ) (e : Entry) (x : Track) (now : ℕ) → has_come margin e x now ≡ true → time margin e x ≤ now
 unfolding has_come
 come_by margin e x now h = grind (arith, nat_tests)
+
+-- whose time has come does not go along
+come_alone : (renews come : Bool) → come ≡ true → not (renews && not come) ≡ true
+come_alone true true come = refl
+come_alone false true come = refl
+come_alone renews false come = absurd cc
 
 -- none of some numbers is another
 absent : (i : ℕ) (is : List ℕ) → times i is ≡ 0 → All (λ k. k ≢ i) is
@@ -92,7 +99,7 @@ module _ (old new : WatchState) (wall elapsed : ℕ) (output : Output) (h : Tick
       ]
 
   -- whoever goes out is another, and stands no further behind
-  pub none_behind : MayGo left i → All (λ k. (k ≢ i) × (is_before (place mid.presence.away (sec at) mid.tracks i) (place mid.presence.away (sec at) mid.tracks k) ≡ false)) gone
+  pub none_behind : MayGo left i → All (λ k. (k ≢ i) × (is_before (place mid.forest mid.presence.away (sec at) mid.tracks i) (place mid.forest mid.presence.away (sec at) mid.tracks k) ≡ false)) gone
   none_behind may =
       let within = within_mid may in
       let same = passed_over mid h.requests i (not_named mid h.requests i within may.free) in
@@ -103,7 +110,7 @@ module _ (old new : WatchState) (wall elapsed : ℕ) (output : Output) (h : Tick
       λ k d below. (apart k d below, order k d below)
 
   -- while the broker is there, whoever goes out stands before a first try that is an entry's own and does not
-  pub all_front : MayGo left i → left.presence.away ≡ false → own_at (sec at) left.tracks i ≡ true → All (λ k. front_at (sec at) mid.tracks i k ≡ true) gone
+  pub all_front : MayGo left i → left.presence.away ≡ false → own_at mid.forest (sec at) left.tracks i ≡ true → All (λ k. front_at mid.forest (sec at) mid.tracks i k ≡ true) gone
   all_front may there own' =
       let within = within_mid may in
       let other = not_named mid h.requests i within may.free in
@@ -113,11 +120,11 @@ module _ (old new : WatchState) (wall elapsed : ℕ) (output : Output) (h : Tick
       let apart = absent i gone none in
       let order = h.going.order i within due none in
       let all = h.going.due in
-      let own : own_at (sec at) mid.tracks i ≡ true = sym (sent_own mid h.requests (sec at) i) ∙ own' in
-      λ k d below. fronts mid.presence at mid.tracks i (get_or gone k d) there own (all k d below).1 (apart k d below) (order k d below)
+      let own : own_at mid.forest (sec at) mid.tracks i ≡ true = sym (sent_own mid h.requests (sec at) i) ∙ own' in
+      λ k d below. fronts mid.forest mid.presence at mid.tracks i (get_or gone k d) there own (all k d below).1 (apart k d below) (order k d below)
 
   -- an entry of known end whose time has come has such a try
-  renews_own : IsToRenew left i → own_at (sec at) left.tracks i ≡ true
+  renews_own : IsToRenew left i → own_at mid.forest (sec at) left.tracks i ≡ true
   renews_own r =
       let may = r.may in
       let t = may.attempt in
@@ -131,8 +138,10 @@ module _ (old new : WatchState) (wall elapsed : ℕ) (output : Output) (h : Tick
         ]
       ] in
       let never : (t.fails == 0) ≡ true = (let e = r.first in grind (arith, nat_tests)) in
-      and_from (is_own_try x.attempt) (is_alive (sec at) x)
-      (ap is_own_try may.attempt_is ∙ and_from (is_first t) (not t.along) (and_from t.pressed (t.fails == 0) pressed' never) (ap not r.own)) r.alive
+      and_from (is_own_try (is_come left i) x.attempt) (is_alive (sec at) x)
+      (ap (is_own_try (is_come left i)) may.attempt_is
+      ∙ and_from (is_first t) (not (is_same t.operation Renew && not (is_come left i))) (and_from t.pressed (t.fails == 0) pressed' never) (come_alone (is_same t.operation Renew) (is_come left i) r.come))
+      r.alive
 
   clock_first : left.presence.away ≡ false → IsToRenew left i → All (λ (r : Request). stands_before i left r.entry ≡ true) h.requests
   clock_first there r =

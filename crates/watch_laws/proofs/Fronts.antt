@@ -4,16 +4,21 @@ use Rattle.std.proofs.Common.{◌≡◌, ◌≢◌, ◌∙◌, ℕ, zero, suc, �
 use Rattle.std.proofs.lemmas.Bool.{and_parts, cases_Bool, cond-false, cond-true, eqb-true, or_left, or_right}
 use Rattle.std.proofs.lemmas.Bool.Decides.{nat_tests}
 use Rattle.std.specs.List.{list_any}
+use Rattle.keep_tree.specs.declared.entry.Entry.{Entry}
+use Rattle.keep_tree.specs.Forest.{Forest, entry_at}
 use Rattle.watch_machine.specs.declared.command.Patience.TheVariants.{Full, AtMost}
 use Rattle.watch_machine.specs.declared.command.Request.{Request}
+use Rattle.watch_machine.specs.declared.event.Operation.TheVariants.{Renew}
 use Rattle.watch_machine.specs.declared.lanes.Presence.{Presence}
 use Rattle.watch_machine.specs.declared.track.End.{End}
 use Rattle.watch_machine.specs.declared.track.Track.{Track}
 use Rattle.watch_machine.specs.declared.track.Try.{Try}
 use Rattle.watch_machine.specs.Clocks.{sec}
-use Rattle.watch_machine.specs.Lines.{asked_rank, is_due, is_first, rank}
+use Rattle.watch_machine.specs.Lines.{asked_rank, is_along, is_due, is_first, rank}
+use Rattle.watch_machine.specs.Margins.{has_come, own_margin, time}
+use Rattle.watch_machine.specs.Refusal.{is_same}
 use Rattle.watch_machine.specs.Sending.{is_alone, is_alone_try, is_before, is_partial, patience, place, place_of, request_of, sent, sent_in, sent_track}
-use Rattle.watch_machine.specs.State.{WatchState, track_at, track_in}
+use Rattle.watch_machine.specs.State.{WatchState, entry_of, track_at, track_in}
 use Rattle.watch_machine.specs.Wanted.{believed, is_alive, is_unknown}
 use Rattle.watch_machine.proofs.Cases.{if_both}
 use Rattle.watch_machine.proofs.Written.{each_length}
@@ -23,12 +28,12 @@ use Rattle.watch_laws.proofs.Owed.{due_some}
 use Rattle.watch_laws.proofs.Tracking.{each_kept}
 
 -- an entry's own first try, and whether it stands before that of i, by the tracks
-abbrev pub own_at : ℕ → List Track → ℕ → Bool
-own_at now xs j = is_own_try (track_in xs j).attempt && is_alive now (track_in xs j)
+abbrev pub own_at : Forest → ℕ → List Track → ℕ → Bool
+own_at g now xs j = is_own_try (has_come g.margin (entry_at g.entries j) (track_in xs j) now) (track_in xs j).attempt && is_alive now (track_in xs j)
 
-abbrev pub front_at : ℕ → List Track → ℕ → ℕ → Bool
-front_at now xs i k =
-    own_at now xs k && (nat_lt (believed (track_in xs k).end) (believed (track_in xs i).end) || (believed (track_in xs k).end == believed (track_in xs i).end && nat_lt k i))
+abbrev pub front_at : Forest → ℕ → List Track → ℕ → ℕ → Bool
+front_at g now xs i k =
+    own_at g now xs k && (nat_lt (believed (track_in xs k).end) (believed (track_in xs i).end) || (believed (track_in xs k).end == believed (track_in xs i).end && nat_lt k i))
 
 -- the place of such a try, by its tests
 own_place :
@@ -53,23 +58,25 @@ not_after false a l true r q e i k other h = absurd cc
 not_after false a l false r q e i k other h = absurd cc
 
 before_own :
-    (now i k : ℕ) (x y : Track) (o u : Option Try) → is_own_try o && is_alive now x ≡ true → is_some u ≡ true → k ≢ i → is_before (place_of false now i x o) (place_of false now k y u) ≡ false →
-    (is_own_try u && is_alive now y) && (nat_lt (believed y.end) (believed x.end) || (believed y.end == believed x.end && nat_lt k i)) ≡ true
-before_own now i k x y None u own some other h = absurd cc
-before_own now i k x y (Some t) None own some other h = absurd cc
-before_own now i k x y (Some t) (Some u) own some other h =
-    let there = own_place (is_first t) t.along (is_alive now x) t.pressed (believed x.end) (asked_rank x.last) own in
-    let q = place_of false now k y (Some u) in
-    not_after (is_first u) u.along (is_alive now y) u.pressed (believed y.end) (asked_rank y.last) (believed x.end) i k other
+    (margin : ℕ) (e f : Entry) (now i k : ℕ) (x y : Track) (o u : Option Try) → is_own_try (has_come margin e x now) o && is_alive now x ≡ true → is_some u ≡ true → k ≢ i →
+    is_before (place_of margin e false now i x o) (place_of margin f false now k y u) ≡ false →
+    (is_own_try (has_come margin f y now) u && is_alive now y) && (nat_lt (believed y.end) (believed x.end) || (believed y.end == believed x.end && nat_lt k i)) ≡ true
+before_own margin e f now i k x y None u own some other h = absurd cc
+before_own margin e f now i k x y (Some t) None own some other h = absurd cc
+before_own margin e f now i k x y (Some t) (Some u) own some other h =
+    let there = own_place (is_first t) (is_along margin e now x t) (is_alive now x) t.pressed (believed x.end) (asked_rank x.last) own in
+    let q = place_of margin f false now k y (Some u) in
+    not_after (is_first u) (is_along margin f now y u) (is_alive now y) u.pressed (believed y.end) (asked_rank y.last) (believed x.end) i k other
     (sym (ap (λ n. is_before (record { part = n; rank = rank x t; entry = i }) q) there.0 ∙ ap (λ n. is_before (record { part = 0; rank = n; entry = i }) q) there.1) ∙ h)
 
 pub fronts :
-    (p : Presence) (at : ℕ) (xs : List Track) (i k : ℕ) → p.away ≡ false → own_at (sec at) xs i ≡ true → is_due p at (track_in xs k) ≡ true → k ≢ i →
-    is_before (place p.away (sec at) xs i) (place p.away (sec at) xs k) ≡ false → front_at (sec at) xs i k ≡ true
-fronts p at xs i k there own due other h =
+    (g : Forest) (p : Presence) (at : ℕ) (xs : List Track) (i k : ℕ) → p.away ≡ false → own_at g (sec at) xs i ≡ true → is_due p at (track_in xs k) ≡ true → k ≢ i →
+    is_before (place g p.away (sec at) xs i) (place g p.away (sec at) xs k) ≡ false → front_at g (sec at) xs i k ≡ true
+fronts g p at xs i k there own due other h =
     let x = track_in xs i in
     let y = track_in xs k in
-    before_own (sec at) i k x y x.attempt y.attempt own (due_some p at y due) other (sym (ap (λ b. is_before (place b (sec at) xs i) (place b (sec at) xs k)) there) ∙ h)
+    before_own g.margin (entry_at g.entries i) (entry_at g.entries k) (sec at) i k x y x.attempt y.attempt own (due_some p at y due) other
+    (sym (ap (λ b. is_before (place g b (sec at) xs i) (place g b (sec at) xs k)) there) ∙ h)
 
 -- going out leaves the tries and the ends
 abbrev Stays : Track → Track → Type 0
@@ -80,21 +87,30 @@ sent_stays s rs j =
     each_kept Stays (refl, refl) (sent_in s.clocks.at rs) s.tracks
     (λ k x. if_both (λ y. Stays y x) (list_any (λ (r : Request). r.entry == k) rs) (sent_track s.clocks.at x) x (refl, refl) (refl, refl)) j
 
-abbrev own_by : ℕ → Option Try → End → Bool
-own_by now o e = is_own_try o && nat_lt now (believed e)
+-- and whether a time has come
+pub sent_come : (s : WatchState) (rs : List Request) (margin : ℕ) (e : Entry) (now j : ℕ) → has_come margin e (track_at (sent s rs) j) now ≡ has_come margin e (track_at s j) now
+unfolding has_come time own_margin
+sent_come s rs margin e now j =
+    let R : Track → Track → Type 0 = λ y x. has_come margin e y now ≡ has_come margin e x now in
+    each_kept R refl (sent_in s.clocks.at rs) s.tracks (λ k x. if_both (λ y. R y x) (list_any (λ (r : Request). r.entry == k) rs) (sent_track s.clocks.at x) x refl refl) j
 
-pub sent_own : (s : WatchState) (rs : List Request) (now j : ℕ) → own_at now (sent s rs).tracks j ≡ own_at now s.tracks j
+abbrev own_by : ℕ → Bool → Option Try → End → Bool
+own_by now come o e = is_own_try come o && nat_lt now (believed e)
+
+pub sent_own : (s : WatchState) (rs : List Request) (now j : ℕ) → own_at s.forest now (sent s rs).tracks j ≡ own_at s.forest now s.tracks j
 sent_own s rs now j =
     let h = sent_stays s rs j in
-    ap (λ o. own_by now o (track_at (sent s rs) j).end) h.0 ∙ ap (λ e. own_by now (track_at s j).attempt e) h.1
+    let come = has_come s.forest.margin (entry_of s j) (track_at s j) now in
+    ap (λ b. own_by now b (track_at (sent s rs) j).attempt (track_at (sent s rs) j).end) (sent_come s rs s.forest.margin (entry_of s j) now j)
+    ∙ ap (λ o. own_by now come o (track_at (sent s rs) j).end) h.0 ∙ ap (own_by now come (track_at s j).attempt) h.1
 
-pub sent_front : (s : WatchState) (rs : List Request) (now i k : ℕ) → front_at now (sent s rs).tracks i k ≡ front_at now s.tracks i k
+pub sent_front : (s : WatchState) (rs : List Request) (now i k : ℕ) → front_at s.forest now (sent s rs).tracks i k ≡ front_at s.forest now s.tracks i k
 sent_front s rs now i k =
     let h = sent_stays s rs k in
     let e = sent_stays s rs i in
     let test : Bool → End → End → Bool = λ b y x. b && (nat_lt (believed y) (believed x) || (believed y == believed x && nat_lt k i)) in
-    ap (λ b. test b (track_at (sent s rs) k).end (track_at (sent s rs) i).end) (sent_own s rs now k) ∙ ap (λ y. test (own_at now s.tracks k) y (track_at (sent s rs) i).end) h.1
-    ∙ ap (λ x. test (own_at now s.tracks k) (track_at s k).end x) e.1
+    ap (λ b. test b (track_at (sent s rs) k).end (track_at (sent s rs) i).end) (sent_own s rs now k) 
+    ∙ ap (λ y. test (own_at s.forest now s.tracks k) y (track_at (sent s rs) i).end) h.1 ∙ ap (λ x. test (own_at s.forest now s.tracks k) (track_at s k).end x) e.1
 
 -- somebody is alone before the requests go out, if so after it
 pub alone_index : (test : Track → Bool) (xs : List Track) → list_any test xs ≡ true → (j : ℕ) × ((j < length xs) × (test (track_in xs j) ≡ true))
@@ -137,14 +153,15 @@ patience_first away partial pace t there alone none =
 
 -- so a request of it keeps a lane as long as is said
 pub keeps_short :
-    (o : Partial) (p : Presence) (now : ℕ) (xs : List Track) (k at : ℕ) → p.away ≡ false → is_partial now xs ≡ true → max 1000 (2 * p.pace) ≤ o.patience → own_at now xs k ≡ true →
+    (o : Partial) (g : Forest) (p : Presence) (now : ℕ) (xs : List Track) (k at : ℕ) → p.away ≡ false → is_partial now xs ≡ true → max 1000 (2 * p.pace) ≤ o.patience → own_at g now xs k ≡ true →
     o.takes k at ≤ longest o (request_at p now xs k) → o.takes k at + o.late ≤ keeps_lane o k
-keeps_short o p now xs k at there alone fits own h =
-    by (track_in xs k).attempt (and_parts (is_own_try (track_in xs k).attempt) (is_alive now (track_in xs k)) own).0 h where
-      by : (a : Option Try) → is_own_try a ≡ true → o.takes k at ≤ longest o (request_of p.away (is_partial now xs) p.pace k a) → o.takes k at + o.late ≤ keeps_lane o k
-      by None mine h' = absurd cc
-      by (Some t) mine h' =
-          let first = (and_parts (is_first t) (not t.along) mine).0 in
+keeps_short o g p now xs k at there alone fits own h =
+    let come = has_come g.margin (entry_at g.entries k) (track_in xs k) now in
+    by come (track_in xs k).attempt (and_parts (is_own_try come (track_in xs k).attempt) (is_alive now (track_in xs k)) own).0 h where
+      by : (come : Bool) (a : Option Try) → is_own_try come a ≡ true → o.takes k at ≤ longest o (request_of p.away (is_partial now xs) p.pace k a) → o.takes k at + o.late ≤ keeps_lane o k
+      by come None mine h' = absurd cc
+      by come (Some t) mine h' =
+          let first = (and_parts (is_first t) (not (is_same t.operation Renew && not come)) mine).0 in
           let none : t.fails ≡ 0 = eqb-true t.fails 0 (and_parts t.pressed (t.fails == 0) first).1 in
           let short = patience_first p.away (is_partial now xs) p.pace t there alone none in
           let most = ap (may_take o.slow) short in

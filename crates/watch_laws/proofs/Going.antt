@@ -8,6 +8,8 @@ use Rattle.std.proofs.lemmas.List.Elements.{All-cons, All-filter, All-head, All-
 use Rattle.std.proofs.lemmas.List.Sorted.{All-permutation, IsPermutation-map, sorted_far, sum_by-IsPermutation}
 use Rattle.std.proofs.lemmas.List.Sums.{sum_by-cons, sum_by-take-le}
 use Rattle.std.specs.List.{list_any, range_with_len}
+use Rattle.keep_tree.specs.declared.entry.Entry.{Entry}
+use Rattle.keep_tree.specs.Forest.{Forest, entry_at}
 use Rattle.watch_machine.specs.declared.command.Request.{Request}
 use Rattle.watch_machine.specs.declared.event.Operation.{Operation}
 use Rattle.watch_machine.specs.declared.event.Operation.TheVariants.{Look}
@@ -92,14 +94,17 @@ times_in p (suc n) a i from below yes' =
     ])
 
 -- the entries of those that are due are those that pass the test
-placed : (away : Bool) (now i : ℕ) (x : Track) (o : Option Try) → (place_of away now i x o).entry ≡ i
-placed away now i x None = refl
-placed away now i x (Some t) = refl
+placed_by : (margin : ℕ) (e : Entry) (away : Bool) (now i : ℕ) (x : Track) (o : Option Try) → (place_of margin e away now i x o).entry ≡ i
+placed_by margin e away now i x None = refl
+placed_by margin e away now i x (Some t) = refl
 
-placed_all : (away : Bool) (now : ℕ) (xs : List Track) (is : List ℕ) → map (λ (q : Place). q.entry) (map (place away now xs) is) ≡ is
-placed_all away now xs [] = refl
-placed_all away now xs (i ∷ is) =
-    ap (λ n. n ∷ map (λ (q : Place). q.entry) (map (place away now xs) is)) (placed away now i (track_in xs i) (track_in xs i).attempt) ∙ ap (λ js. i ∷ js) (placed_all away now xs is)
+placed : (g : Forest) (away : Bool) (now : ℕ) (xs : List Track) (i : ℕ) → (place g away now xs i).entry ≡ i
+placed g away now xs i = placed_by g.margin (entry_at g.entries i) away now i (track_in xs i) (track_in xs i).attempt
+
+placed_all : (g : Forest) (away : Bool) (now : ℕ) (xs : List Track) (is : List ℕ) → map (λ (q : Place). q.entry) (map (place g away now xs) is) ≡ is
+placed_all g away now xs [] = refl
+placed_all g away now xs (i ∷ is) =
+    ap (λ n. n ∷ map (λ (q : Place). q.entry) (map (place g away now xs) is)) (placed g away now xs i) ∙ ap (λ js. i ∷ js) (placed_all g away now xs is)
 
 -- the request of an entry, and those that go out, by index
 abbrev pub request_at : Presence → ℕ → List Track → ℕ → Request
@@ -111,14 +116,14 @@ requests_at p now xs [] = refl
 requests_at p now xs (q ∷ qs) = ap (λ rs. request_at p now xs q.entry ∷ rs) (requests_at p now xs qs)
 
 -- these entries' requests go out: each is due, and named once
-pub record Goes (p : Presence) (at : ℕ) (xs : List Track) (lanes : ℕ) (requests : List Request) : Type 0 where
+pub record Goes (g : Forest) (p : Presence) (at : ℕ) (xs : List Track) (lanes : ℕ) (requests : List Request) : Type 0 where
   pub entries : List ℕ
   pub requests_are : requests ≡ map (request_at p (sec at) xs) entries
   pub due : AreOf (λ i. is_due p at (track_in xs i)) (length xs) entries
   pub once : (i : ℕ) → times i entries ≤ 1
   pub few : length entries ≤ lanes
   pub full : (i : ℕ) → i < length xs → is_due p at (track_in xs i) ≡ true → (1 ≤ times i entries) ⊎ (lanes ≤ length entries)
-  pub order : (i : ℕ) → i < length xs → is_due p at (track_in xs i) ≡ true → times i entries ≡ 0 → All (λ k. is_before (place p.away (sec at) xs i) (place p.away (sec at) xs k) ≡ false) entries
+  pub order : (i : ℕ) → i < length xs → is_due p at (track_in xs i) ≡ true → times i entries ≡ 0 → All (λ k. is_before (place g p.away (sec at) xs i) (place g p.away (sec at) xs k) ≡ false) entries
 
 -- an entry that is named, and not among the first, is named after them
 somewhere : (i : ℕ) (qs : List Place) → 1 ≤ times i (map (λ (q : Place). q.entry) qs) → (b : ℕ) × ((b < length qs) × ((d : Place) → (get_or qs b d).entry ≡ i))
@@ -149,42 +154,42 @@ after_first i (suc n) (q ∷ qs) some none =
     ]
 
 -- the place of an entry is as it is made of its index
-abbrev IsPlaced : Presence → ℕ → List Track → Place → Type 0
-IsPlaced p at xs q = q ≡ place p.away (sec at) xs q.entry
+abbrev IsPlaced : Forest → Presence → ℕ → List Track → Place → Type 0
+IsPlaced g p at xs q = q ≡ place g p.away (sec at) xs q.entry
 
-all_placed : (p : Presence) (at : ℕ) (xs : List Track) (line : List Place) → IsPermutation (due p at xs) line → All (IsPlaced p at xs) line
-all_placed p at xs line all =
+all_placed : (g : Forest) (p : Presence) (at : ℕ) (xs : List Track) (line : List Place) → IsPermutation (due g p at xs) line → All (IsPlaced g p at xs) line
+all_placed g p at xs line all =
     let these = filter (λ i. is_due p at (track_in xs i)) (range_with_len 0 (length xs)) in
-    All-permutation (IsPlaced p at xs) (due p at xs) line all
-    (All-map (IsPlaced p at xs) (place p.away (sec at) xs) these
-    (λ k d below. (let i = get_or these k d in ap (place p.away (sec at) xs) (sym (placed p.away (sec at) i (track_in xs i) (track_in xs i).attempt)))))
+    All-permutation (IsPlaced g p at xs) (due g p at xs) line all
+    (All-map (IsPlaced g p at xs) (place g p.away (sec at) xs) these
+    (λ k d below. (let i = get_or these k d in ap (place g p.away (sec at) xs) (sym (placed g p.away (sec at) xs i)))))
 
 -- who is due and is not among the first stands before none of them
 first_in_line :
-    (p : Presence) (at : ℕ) (xs : List Track) (lanes : ℕ) (line : List Place) (i : ℕ) → IsSendingOrder p at xs line → 1 ≤ times i (map (λ (q : Place). q.entry) line) →
-    times i (map (λ (q : Place). q.entry) (take lanes line)) ≡ 0 → All (λ (q : Place). is_before (place p.away (sec at) xs i) (place p.away (sec at) xs q.entry) ≡ false) (take lanes line)
-first_in_line p at xs lanes line i h some none = λ k d below.
+    (g : Forest) (p : Presence) (at : ℕ) (xs : List Track) (lanes : ℕ) (line : List Place) (i : ℕ) → IsSendingOrder g p at xs line → 1 ≤ times i (map (λ (q : Place). q.entry) line) →
+    times i (map (λ (q : Place). q.entry) (take lanes line)) ≡ 0 → All (λ (q : Place). is_before (place g p.away (sec at) xs i) (place g p.away (sec at) xs q.entry) ≡ false) (take lanes line)
+first_in_line g p at xs lanes line i h some none = λ k d below.
     let there = after_first i lanes line some none in
     let b = there.0 in
     let far = there.1.0 in
     let within = there.1.1.0 in
     let many = length-take lanes line in
     let same = get_or-take lanes line k d (omega (arith, many, below)) in
-    let places = all_placed p at xs line h.all in
-    let mine : get_or line b d ≡ place p.away (sec at) xs i = places b d within ∙ ap (place p.away (sec at) xs) (there.1.1.1 d) in
-    let other : get_or line k d ≡ place p.away (sec at) xs (get_or (take lanes line) k d).entry =
-    places k d (omega (arith, many, below)) ∙ ap (λ (q : Place). place p.away (sec at) xs q.entry) (sym same) in
-    sym (ap (λ q. is_before q (place p.away (sec at) xs (get_or (take lanes line) k d).entry)) mine) ∙ sym (ap (λ q. is_before (get_or line b d) q) other)
+    let places = all_placed g p at xs line h.all in
+    let mine : get_or line b d ≡ place g p.away (sec at) xs i = places b d within ∙ ap (place g p.away (sec at) xs) (there.1.1.1 d) in
+    let other : get_or line k d ≡ place g p.away (sec at) xs (get_or (take lanes line) k d).entry =
+    places k d (omega (arith, many, below)) ∙ ap (λ (q : Place). place g p.away (sec at) xs q.entry) (sym same) in
+    sym (ap (λ q. is_before q (place g p.away (sec at) xs (get_or (take lanes line) k d).entry)) mine) ∙ sym (ap (λ q. is_before (get_or line b d) q) other)
     ∙ sorted_far is_before line_order line h.in_order k b d (omega (arith, many, below, far)) within
 
-pub goes : (p : Presence) (at : ℕ) (xs : List Track) (lanes : ℕ) (requests : List Request) → IsGoing p at xs lanes requests → Goes p at xs lanes requests
-goes p at xs lanes requests h =
+pub goes : (g : Forest) (p : Presence) (at : ℕ) (xs : List Track) (lanes : ℕ) (requests : List Request) → IsGoing g p at xs lanes requests → Goes g p at xs lanes requests
+goes g p at xs lanes requests h =
     let test : ℕ → Bool = λ i. is_due p at (track_in xs i) in
     let n = length xs in
     let these = filter test (range_with_len 0 n) in
     let line = h.is_picked.0 in
     let all : IsPermutation these (map (λ (q : Place). q.entry) line) =
-    subst (λ is. IsPermutation is (map (λ (q : Place). q.entry) line)) (placed_all p.away (sec at) xs these) (IsPermutation-map (λ (q : Place). q.entry) (due p at xs) line h.is_picked.1.0.all) in
+    subst (λ is. IsPermutation is (map (λ (q : Place). q.entry) line)) (placed_all g p.away (sec at) xs these) (IsPermutation-map (λ (q : Place). q.entry) (due g p at xs) line h.is_picked.1.0.all) in
     let front : map (λ (q : Place). q.entry) h.picked ≡ take lanes (map (λ (q : Place). q.entry) line) = ap (map (λ (q : Place). q.entry)) h.is_picked.1.1 ∙ sym (take-map (λ (q : Place). q.entry) lanes line) in
     let P : ℕ → Type 0 = λ i. (i < n) × (test i ≡ true) in
     record {
@@ -218,9 +223,9 @@ goes p at xs lanes requests h =
           let is : ℕ → ℕ = λ j. cond (j == i) 1 0 in
           let same = sum_by-IsPermutation is these es all in
           let here = times_in test n 0 i (omega arith) (omega (arith, within)) due' in
-          let first = first_in_line p at xs lanes line i h.is_picked.1.0 (omega (arith, same, here)) (ap (λ (qs : List Place). times i (map (λ (q : Place). q.entry) qs)) (sym h.is_picked.1.1) ∙ none) in
-          All-map (λ k. is_before (place p.away (sec at) xs i) (place p.away (sec at) xs k) ≡ false) (λ (q : Place). q.entry) h.picked
-          (subst (All (λ (q : Place). is_before (place p.away (sec at) xs i) (place p.away (sec at) xs q.entry) ≡ false)) (sym h.is_picked.1.1) first);
+          let first = first_in_line g p at xs lanes line i h.is_picked.1.0 (omega (arith, same, here)) (ap (λ (qs : List Place). times i (map (λ (q : Place). q.entry) qs)) (sym h.is_picked.1.1) ∙ none) in
+          All-map (λ k. is_before (place g p.away (sec at) xs i) (place g p.away (sec at) xs k) ≡ false) (λ (q : Place). q.entry) h.picked
+          (subst (All (λ (q : Place). is_before (place g p.away (sec at) xs i) (place g p.away (sec at) xs q.entry) ≡ false)) (sym h.is_picked.1.1) first);
     }
 
 -- what is asked of an entry by its try

@@ -81,7 +81,7 @@ module _ (o : Partial) (width n i : ℕ) (old new : WatchState) (wall elapsed : 
   mid_count : length mid.tracks ≡ n
   mid_count = pressed_count (readied old wall elapsed) h.round ∙ readied_count old wall elapsed ∙ base.count
 
-  all_front : IsHeldUp o left i → All (λ k. front_at (sec at) mid.tracks i k ≡ true) gone
+  all_front : IsHeldUp o left i → All (λ k. front_at mid.forest (sec at) mid.tracks i k ≡ true) gone
   all_front held = before old new wall elapsed output h i held.may held.there held.own
 
   all_go : IsHeldUp o left i → All (λ k. goes_before i old left k ≡ true) gone
@@ -104,7 +104,7 @@ module _ (o : Partial) (width n i : ℕ) (old new : WatchState) (wall elapsed : 
       let each' = mapped (λ r. o.takes r.entry at ≤ longest o r) rq gone (subst (All (λ r. o.takes r.entry at ≤ longest o r)) h.going.requests_are settled) in
       λ j d below.
       let k = get_or gone j d in
-      keeps_short o mid.presence (sec at) mid.tracks k at held.there alone held.patience (own_of (own_at (sec at) mid.tracks k) _ (front j d below))
+      keeps_short o mid.forest mid.presence (sec at) mid.tracks k at held.there alone held.patience (own_of (own_at mid.forest (sec at) mid.tracks k) _ (front j d below))
       (subst (λ m. o.takes m at ≤ longest o (rq k)) (entry_by mid.presence (sec at) mid.tracks k) (each' j d below)) where
         own_of : (a b : Bool) → a && b ≡ true → a ≡ true
         own_of true b e = refl

@@ -174,14 +174,14 @@ pub record Ticks (old new : WatchState) (wall elapsed : ℕ) (output : Output) :
   pub requests : List Request
   pub command : output.command ≡ Go requests (wait new)
   pub going :
-      Goes (pressed (readied old wall elapsed) round).presence (pressed (readied old wall elapsed) round).clocks.at (pressed (readied old wall elapsed) round).tracks
+      Goes (pressed (readied old wall elapsed) round).forest (pressed (readied old wall elapsed) round).presence (pressed (readied old wall elapsed) round).clocks.at (pressed (readied old wall elapsed) round).tracks
       ((readied old wall elapsed).width - length (readied old wall elapsed).out) requests
   pub new_is : new ≡ sent (pressed (readied old wall elapsed) round) requests
 
 commanded :
     (s new : WatchState) (command : Command) → StepCommand s command new →
-    (requests : List Request) × ((command ≡ Go requests (wait new)) × (Goes s.presence s.clocks.at s.tracks (s.width - length s.out) requests × (new ≡ sent s requests)))
-commanded s new (Go requests until) h = (requests, (ap (λ n. Go requests n) h.1, (goes s.presence s.clocks.at s.tracks (s.width - length s.out) requests h.0.0, h.0.1)))
+    (requests : List Request) × ((command ≡ Go requests (wait new)) × (Goes s.forest s.presence s.clocks.at s.tracks (s.width - length s.out) requests × (new ≡ sent s requests)))
+commanded s new (Go requests until) h = (requests, (ap (λ n. Go requests n) h.1, (goes s.forest s.presence s.clocks.at s.tracks (s.width - length s.out) requests h.0.0, h.0.1)))
 commanded s new Taken h = absurd h
 
 pub ticks : (old new : WatchState) (wall elapsed : ℕ) (output : Output) → StepClock old wall elapsed output new → Ticks old new wall elapsed output

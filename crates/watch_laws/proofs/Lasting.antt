@@ -73,14 +73,14 @@ settled_bears margin at x = (refl, (refl, refl))
 pressed_bears : (margin : ℕ) (e : Entry) (need at : ℕ) (x : Track) → Bears (pressed_track margin e need at x) x
 unfolding pressed_track
 pressed_bears margin e need at x =
-    if_both (λ y. Bears y x) (is_fresh margin e x need (sec at)) (record x { attempt = Some (press at false x) }) (if wants x need || x.out then x else record x { attempt = dropped x x.attempt })
+    if_both (λ y. Bears y x) (is_fresh margin e x need (sec at)) (record x { attempt = Some (press at x) }) (if wants x need || x.out then x else record x { attempt = dropped x x.attempt })
     (refl, (refl, refl)) (if_both (λ y. Bears y x) (wants x need || x.out) x (record x { attempt = dropped x x.attempt }) (refl, (refl, refl)) (refl, (refl, refl)))
 
-asked_bears : (margin : ℕ) (e : Entry) (at : ℕ) (round : List ℕ) (i : ℕ) (x : Track) → Bears (track_asked_in margin e at round i x) x
+asked_bears : (at : ℕ) (round : List ℕ) (i : ℕ) (x : Track) → Bears (track_asked_in at round i x) x
 unfolding asked_track
-asked_bears margin e at round i x =
-    if_both (λ y. Bears y x) (list_any (λ j. j == i) round) (asked_track margin e at x) x
-    (if_both (λ y. Bears y x) x.out x (record x { attempt = Some (press at (not (has_come margin e x (sec at))) x) }) (refl, (refl, refl)) (refl, (refl, refl))) (refl, (refl, refl))
+asked_bears at round i x =
+    if_both (λ y. Bears y x) (list_any (λ j. j == i) round) (asked_track at x) x
+    (if_both (λ y. Bears y x) x.out x (record x { attempt = Some (press at x) }) (refl, (refl, refl)) (refl, (refl, refl))) (refl, (refl, refl))
 
 pub sent_bears : (at : ℕ) (requests : List Request) (i : ℕ) (x : Track) → Bears (sent_in at requests i x) x
 sent_bears at requests i x = if_both (λ y. Bears y x) (list_any (λ (r : Request). r.entry == i) requests) (sent_track at x) x (refl, (refl, refl)) (refl, (refl, refl))
@@ -123,7 +123,7 @@ mid_bears s round i =
     let g = s.forest in
     let alone = pressed_alone g c s.tracks in
     both_bear (track_at (pressed s round) i) (track_in alone i) (track_at s i)
-    (each_kept Bears (same_bears no_track) (λ j. track_asked_in g.margin (entry_at g.entries j) c.at round j) alone (λ j x. asked_bears g.margin (entry_at g.entries j) c.at round j x) i)
+    (each_kept Bears (same_bears no_track) (track_asked_in c.at round) alone (asked_bears c.at round) i)
     (each_kept Bears (same_bears no_track) (λ j. pressed_track g.margin (entry_at g.entries j) (need_of g.entries s.tracks c j) c.at) s.tracks
     (λ j x. pressed_bears g.margin (entry_at g.entries j) (need_of g.entries s.tracks c j) c.at x) i)
 

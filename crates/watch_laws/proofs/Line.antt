@@ -21,20 +21,21 @@ use Rattle.watch_machine.specs.declared.track.Track.{Track}
 use Rattle.watch_machine.specs.declared.track.Try.{Try}
 use Rattle.watch_machine.specs.Clocks.{sec}
 use Rattle.watch_machine.specs.History.{Turn}
-use Rattle.watch_machine.specs.Lines.{asked_rank, is_first, part, rank, ready}
+use Rattle.watch_machine.specs.Lines.{asked_rank, is_along, is_first, part, rank, ready}
 use Rattle.watch_machine.specs.Margins.{has_come}
 use Rattle.watch_machine.specs.Press.{asked_track, press, pressed, pressed_alone, pressed_track, track_asked_in}
 use Rattle.watch_machine.specs.Refusal.{request_out}
 use Rattle.watch_machine.specs.Sending.{is_before, place_of, sent}
-use Rattle.watch_machine.specs.State.{WatchState, attempt_at, second, track_at}
+use Rattle.watch_machine.specs.State.{WatchState, attempt_at, entry_of, second, track_at}
 use Rattle.watch_machine.specs.Step.{Step, StepLooked, StepRenewed, readied}
 use Rattle.watch_machine.specs.Wanted.{believed, is_alive, need_of}
 use Rattle.watch_machine.proofs.Cases.{if_both}
 use Rattle.watch_laws.specs.Line.{IsInFront, LineLaw, ReadyLaw, StandsInFront, by_last, part_in_line, place_in_part}
 use Rattle.watch_laws.specs.Load.{requests_asked_by, requests_at_turn}
 use Rattle.watch_laws.specs.Recovery.{MayGo}
+use Rattle.watch_laws.specs.Time.{is_come}
 use Rattle.watch_laws.proofs.Foremost.{none_behind}
-use Rattle.watch_laws.proofs.Fronts.{sent_stays}
+use Rattle.watch_laws.proofs.Fronts.{sent_come, sent_stays}
 use Rattle.watch_laws.proofs.Going.{entry_by, request_at}
 use Rattle.watch_laws.proofs.Lanes.{Ticks, ticks}
 use Rattle.watch_laws.proofs.Owed.{due_some}
@@ -78,17 +79,17 @@ last_is None = refl
 last_is (Some last) = refl
 
 -- a place after the clock, where the track was last asked before it
-place_is : (away : Bool) (now : ℕ) (x : Track) (t : Try) → part_in_line away (is_alive now x) t ≡ part away now x t + 1
-place_is away now x t = part_is (is_first t) t.along away (is_alive now x) t.pressed
+place_is : (margin : ℕ) (e : Entry) (away : Bool) (now : ℕ) (x : Track) (t : Try) → part_in_line away (has_come margin e x now) (is_alive now x) t ≡ part margin e away now x t + 1
+place_is margin e away now x t = part_is (is_first t) (is_along margin e now x t) away (is_alive now x) t.pressed
 
 rank_is : (x : Track) (t : Try) (last : Option ℕ) → x.last ≡ last → place_in_part last x.end t ≡ rank x t
 rank_is x t last same = ap (λ n. if is_first t then believed x.end else n) (sym (ap asked_rank same ∙ last_is last))
 
-asked_last : (margin : ℕ) (e : Entry) (at : ℕ) (round : List ℕ) (i : ℕ) (x : Track) → (track_asked_in margin e at round i x).last ≡ x.last
+asked_last : (at : ℕ) (round : List ℕ) (i : ℕ) (x : Track) → (track_asked_in at round i x).last ≡ x.last
 unfolding asked_track
-asked_last margin e at round i x =
-    if_both (λ (y : Track). y.last ≡ x.last) (list_any (λ j. j == i) round) (asked_track margin e at x) x
-    (if_both (λ (y : Track). y.last ≡ x.last) x.out x (record x { attempt = Some (press at (not (has_come margin e x (sec at))) x) }) refl refl) refl
+asked_last at round i x =
+    if_both (λ (y : Track). y.last ≡ x.last) (list_any (λ j. j == i) round) (asked_track at x) x
+    (if_both (λ (y : Track). y.last ≡ x.last) x.out x (record x { attempt = Some (press at x) }) refl refl) refl
 
 -- pressing leaves when an entry was asked
 mid_last : (s : WatchState) (round : List ℕ) (i : ℕ) → (track_at (pressed s round) i).last ≡ (track_at s i).last
@@ -96,22 +97,24 @@ mid_last s round i =
     let g = s.forest in
     let c = s.clocks in
     let R : Track → Track → Type 0 = λ y x. y.last ≡ x.last in
-    each_kept R refl (λ j. track_asked_in g.margin (entry_at g.entries j) c.at round j) (pressed_alone g c s.tracks) (λ j x. asked_last g.margin (entry_at g.entries j) c.at round j x) i
+    each_kept R refl (track_asked_in c.at round) (pressed_alone g c s.tracks) (asked_last c.at round) i
     ∙ each_kept R refl (λ j. pressed_track g.margin (entry_at g.entries j) (need_of g.entries s.tracks c j) c.at) s.tracks
     (λ j x. pressed_last g.margin (entry_at g.entries j) (need_of g.entries s.tracks c j) c.at x) i
 
 -- the order of two places, in words of what is known after the clock
 ordered :
-    (away : Bool) (now i j : ℕ) (x y : Track) (t u : Try) (last other : Option ℕ) → i ≢ j → x.last ≡ last → y.last ≡ other →
-    is_before (place_of away now j y (Some u)) (place_of away now i x (Some t)) ≡ false →
-    IsInFront (part_in_line away (is_alive now x) t) (place_in_part last x.end t) i (part_in_line away (is_alive now y) u) (place_in_part other y.end u) j
-ordered away now i j x y t u last other apart asked asked' h =
-    let p = place_is away now x t in
-    let q = place_is away now y u in
+    (margin : ℕ) (e f : Entry) (away : Bool) (now i j : ℕ) (x y : Track) (t u : Try) (last other : Option ℕ) → i ≢ j → x.last ≡ last → y.last ≡ other →
+    is_before (place_of margin f away now j y (Some u)) (place_of margin e away now i x (Some t)) ≡ false →
+    IsInFront (part_in_line away (has_come margin e x now) (is_alive now x) t) (place_in_part last x.end t) i (part_in_line away (has_come margin f y now) (is_alive now y) u) (place_in_part other y.end u) j
+ordered margin e f away now i j x y t u last other apart asked asked' h =
+    let p = place_is margin e away now x t in
+    let q = place_is margin f away now y u in
+    let here = part_in_line away (has_come margin e x now) (is_alive now x) t in
+    let there = part_in_line away (has_come margin f y now) (is_alive now y) u in
     let r = rank_is x t last asked in
     let s = rank_is y u other asked' in
-    elim (in_front (part away now y u) (rank y u) j (part away now x t) (rank x t) i apart h)
-    as (λ _. IsInFront (part_in_line away (is_alive now x) t) (place_in_part last x.end t) i (part_in_line away (is_alive now y) u) (place_in_part other y.end u) j) [
+    elim (in_front (part margin f away now y u) (rank y u) j (part margin e away now x t) (rank x t) i apart h)
+    as (λ _. IsInFront here (place_in_part last x.end t) i there (place_in_part other y.end u) j) [
       | inl low ↦ inl (omega (arith, p, q, low))
       | inr same ↦
           let even = same.0 in
@@ -119,7 +122,7 @@ ordered away now i j x y t u last other apart asked asked' h =
             omega (arith, p, q, even),
             elim same.1 as (λ _. (place_in_part last x.end t < place_in_part other y.end u) ⊎ ((place_in_part last x.end t ≡ place_in_part other y.end u) × (i < j))) [
               | inl low ↦ inl (omega (arith, r, s, low))
-              | inr more ↦ (let e = more.0 in inr (omega (arith, r, s, e), more.1))
+              | inr more ↦ (let same' = more.0 in inr (omega (arith, r, s, same'), more.1))
             ],
           )
     ]
@@ -137,7 +140,8 @@ module _ (old new : WatchState) (wall elapsed : ℕ) (output : Output) (h : Tick
   -- by the tries of both
   by_tries :
       (k : ℕ) (o v : Option Try) → attempt_at mid k ≡ o → attempt_at mid j ≡ v → is_some o ≡ true → is_some v ≡ true → k ≢ j →
-      is_before (place_of mid.presence.away (second mid) j (track_at mid j) v) (place_of mid.presence.away (second mid) k (track_at mid k) o) ≡ false → StandsInFront old left k j
+      is_before (place_of mid.forest.margin (entry_of mid j) mid.presence.away (second mid) j (track_at mid j) v) (place_of mid.forest.margin (entry_of mid k) mid.presence.away (second mid) k (track_at mid k) o) ≡ false →
+      StandsInFront old left k j
   by_tries k None v is is' some some' apart before = absurd cc
   by_tries k (Some t) None is is' some some' apart before = absurd cc
   by_tries k (Some t) (Some u) is is' some some' apart before =
@@ -146,16 +150,22 @@ module _ (old new : WatchState) (wall elapsed : ℕ) (output : Output) (h : Tick
       let away = mid.presence.away in
       let now = second mid in
       let place : End → Option ℕ → Try → ℕ = λ e last v. place_in_part last e v in
-      let part' : End → Try → ℕ = λ e v. part_in_line away (nat_lt now (believed e)) v in
+      let part' : Bool → End → Try → ℕ = λ b e v. part_in_line away b (nat_lt now (believed e)) v in
+      let come = is_come mid k in
+      let come' = is_come mid j in
+      let here = sent_come mid h.requests mid.forest.margin (entry_of mid k) now k in
+      let there = sent_come mid h.requests mid.forest.margin (entry_of mid j) now j in
       record {
         first = t;
         first_is = one.0 ∙ is;
         other = u;
         other_is = two.0 ∙ is';
         in_front =
-            subst (λ (e : End). IsInFront (part' e t) (place e (track_at old k).last t) k (part' (track_at left j).end u) (place (track_at left j).end (track_at old j).last u) j) (sym one.1)
-            (subst (λ (e : End). IsInFront (part' (track_at mid k).end t) (place (track_at mid k).end (track_at old k).last t) k (part' e u) (place e (track_at old j).last u) j) (sym two.1)
-            (ordered away now k j (track_at mid k) (track_at mid j) t u (track_at old k).last (track_at old j).last apart (asked_before k) (asked_before j) before));
+            subst (λ b. IsInFront (part' b (track_at left k).end t) (place (track_at left k).end (track_at old k).last t) k (part' (is_come left j) (track_at left j).end u) (place (track_at left j).end (track_at old j).last u) j) (sym here)
+            (subst (λ b. IsInFront (part' come (track_at left k).end t) (place (track_at left k).end (track_at old k).last t) k (part' b (track_at left j).end u) (place (track_at left j).end (track_at old j).last u) j) (sym there)
+            (subst (λ (e : End). IsInFront (part' come e t) (place e (track_at old k).last t) k (part' come' (track_at left j).end u) (place (track_at left j).end (track_at old j).last u) j) (sym one.1)
+            (subst (λ (e : End). IsInFront (part' come (track_at mid k).end t) (place (track_at mid k).end (track_at old k).last t) k (part' come' e u) (place e (track_at old j).last u) j) (sym two.1)
+            (ordered mid.forest.margin (entry_of mid k) (entry_of mid j) away now k j (track_at mid k) (track_at mid j) t u (track_at old k).last (track_at old j).last apart (asked_before k) (asked_before j) before))));
       }
 
   clock_line : MayGo left j → All (λ (r : Request). StandsInFront old left r.entry j) h.requests

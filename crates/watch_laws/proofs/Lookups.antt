@@ -229,32 +229,32 @@ dropped_asks x (Some t) free = if_cases AsksRenewal (t.pressed || not x.owes) (l
   or_not false b h e = cc
 
 -- an entry that is pressed while its end is ahead is renewed
-press_asks : (at : ℕ) (along : Bool) (x : Track) → is_alive (sec at) x ≡ true → (press at along x).operation ≡ Renew
+press_asks : (at : ℕ) (x : Track) → is_alive (sec at) x ≡ true → (press at x).operation ≡ Renew
 unfolding press
-press_asks at along x alive = ap (λ b. if b then Renew else Look) alive
+press_asks at x alive = ap (λ b. if b then Renew else Look) alive
 
 -- told, with an end that is ahead
 abbrev pub Ahead : ℕ → Track → Type 0
 Ahead now x = IsTold x × (is_alive now x ≡ true)
 
-press_told : (at : ℕ) (along : Bool) (x : Track) → x.owes ≡ false → is_unknown x.end ≡ false → is_alive (sec at) x ≡ true → Ahead (sec at) (record x { attempt = Some (press at along x) })
-press_told at along x owes known alive = (record { owes = owes; known = known; asks = λ free. press_asks at along x alive }, alive)
+press_told : (at : ℕ) (x : Track) → x.owes ≡ false → is_unknown x.end ≡ false → is_alive (sec at) x ≡ true → Ahead (sec at) (record x { attempt = Some (press at x) })
+press_told at x owes known alive = (record { owes = owes; known = known; asks = λ free. press_asks at x alive }, alive)
 
 pub pressed_told :
     (margin : ℕ) (e : Entry) (need at : ℕ) (x : Track) → x.owes ≡ false → is_unknown x.end ≡ false → is_alive (sec at) x ≡ true → (wants x need || x.out ≡ true → x.out ≡ false → AsksRenewal x.attempt) →
     Ahead (sec at) (pressed_track margin e need at x)
 unfolding pressed_track
 pressed_told margin e need at x owes known alive h =
-    if_both (Ahead (sec at)) (is_fresh margin e x need (sec at)) (record x { attempt = Some (press at false x) }) (if wants x need || x.out then x else record x { attempt = dropped x x.attempt })
-    (press_told at false x owes known alive)
+    if_both (Ahead (sec at)) (is_fresh margin e x need (sec at)) (record x { attempt = Some (press at x) }) (if wants x need || x.out then x else record x { attempt = dropped x x.attempt })
+    (press_told at x owes known alive)
     (if_cases (Ahead (sec at)) (wants x need || x.out) x (record x { attempt = dropped x x.attempt }) (λ yes'. (record { owes = owes; known = known; asks = h yes' }, alive))
     (λ no'. (record { owes = owes; known = known; asks = λ free. dropped_asks x x.attempt owes }, alive)))
 
-asked_told : (margin : ℕ) (e : Entry) (at : ℕ) (round : List ℕ) (i : ℕ) (x : Track) → Ahead (sec at) x → Ahead (sec at) (track_asked_in margin e at round i x)
+asked_told : (at : ℕ) (round : List ℕ) (i : ℕ) (x : Track) → Ahead (sec at) x → Ahead (sec at) (track_asked_in at round i x)
 unfolding asked_track
-asked_told margin e at round i x h =
-    if_both (Ahead (sec at)) (list_any (λ j. j == i) round) (asked_track margin e at x) x
-    (if_both (Ahead (sec at)) x.out x (record x { attempt = Some (press at (not (has_come margin e x (sec at))) x) }) h (press_told at (not (has_come margin e x (sec at))) x h.0.owes h.0.known h.1)) h
+asked_told at round i x h =
+    if_both (Ahead (sec at)) (list_any (λ j. j == i) round) (asked_track at x) x
+    (if_both (Ahead (sec at)) x.out x (record x { attempt = Some (press at x) }) h (press_told at x h.0.owes h.0.known h.1)) h
 
 -- what is made of the track of an entry
 each_in : (P : Track → Type 0) (f : ℕ → Track → Track) (xs : List Track) (i : ℕ) → i < length xs → P (f i (track_in xs i)) → P (track_in (each f xs) i)
@@ -268,8 +268,8 @@ mid_told s round i within told =
     let g = s.forest in
     let alone = pressed_alone g c s.tracks in
     let count = each_length (λ j. pressed_track g.margin (entry_at g.entries j) (need_of g.entries s.tracks c j) c.at) s.tracks in
-    each_in (Ahead (sec c.at)) (λ j. track_asked_in g.margin (entry_at g.entries j) c.at round j) alone i (omega (arith, count, within))
-    (asked_told g.margin (entry_at g.entries i) c.at round i (track_in alone i)
+    each_in (Ahead (sec c.at)) (track_asked_in c.at round) alone i (omega (arith, count, within))
+    (asked_told c.at round i (track_in alone i)
     (each_in (Ahead (sec c.at)) (λ j. pressed_track g.margin (entry_at g.entries j) (need_of g.entries s.tracks c j) c.at) s.tracks i within told))
 
 pub sent_told : (s : WatchState) (requests : List Request) (i : ℕ) → Still (track_at (sent s requests) i) (track_at s i)
@@ -291,7 +291,7 @@ back_told x h = record { owes = h.owes; known = h.known; asks = λ free. back_as
 at_once_asks : (at : ℕ) (t : Try) → (at_once at t).operation ≡ Renew
 unfolding at_once
 at_once_asks at t =
-    if_both (λ (u : Try). u.operation ≡ Renew) t.pressed (record t { at = at; operation = Renew; failed = false }) (record { at = at; operation = Renew; pressed = true; along = false; base = Some at; fails = 0; lost = false; alone = false; failed = false }) refl refl
+    if_both (λ (u : Try). u.operation ≡ Renew) t.pressed (record t { at = at; operation = Renew; failed = false }) (record { at = at; operation = Renew; pressed = true; base = Some at; fails = 0; lost = false; alone = false; failed = false }) refl refl
 
 told_asks : (at : ℕ) (due : Bool) (x : Track) (o : Option Try) → is_alive (sec at) x ≡ true → AsksRenewal (told_try at due x o)
 told_asks at due x None alive = tt

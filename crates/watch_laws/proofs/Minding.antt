@@ -89,7 +89,7 @@ fresh_stands : (margin : ℕ) (e : Entry) (need at : ℕ) (x : Track) → Stands
 unfolding pressed_track is_fresh press wants
 fresh_stands margin e need at x =
     let fresh = wants x need && (has_come margin e x (sec at) && (not (is_pressed x) && not x.out)) in
-    if_cases (Stands margin e need (sec at)) fresh (record x { attempt = Some (press at false x) }) (if wants x need || x.out then x else record x { attempt = dropped x x.attempt })
+    if_cases (Stands margin e need (sec at)) fresh (record x { attempt = Some (press at x) }) (if wants x need || x.out then x else record x { attempt = dropped x x.attempt })
     (λ yes' wanted free. inl refl)
     (λ no'. if_cases (Stands margin e need (sec at)) (wants x need || x.out) x (record x { attempt = dropped x x.attempt })
     (λ kept wanted free.
@@ -107,11 +107,11 @@ fresh_stands margin e need at x =
       or_left' true b h = refl
       or_left' false b h = absurd cc
 
-asked_stands : (margin : ℕ) (e : Entry) (need at : ℕ) (round : List ℕ) (i : ℕ) (x : Track) → Stands margin e need (sec at) x → Stands margin e need (sec at) (track_asked_in margin e at round i x)
+asked_stands : (margin : ℕ) (e : Entry) (need at : ℕ) (round : List ℕ) (i : ℕ) (x : Track) → Stands margin e need (sec at) x → Stands margin e need (sec at) (track_asked_in at round i x)
 unfolding asked_track press
 asked_stands margin e need at round i x h =
-    if_both (Stands margin e need (sec at)) (list_any (λ j. j == i) round) (asked_track margin e at x) x
-    (if_both (Stands margin e need (sec at)) x.out x (record x { attempt = Some (press at (not (has_come margin e x (sec at))) x) }) h (λ wanted free. inl refl)) h
+    if_both (Stands margin e need (sec at)) (list_any (λ j. j == i) round) (asked_track at x) x
+    (if_both (Stands margin e need (sec at)) x.out x (record x { attempt = Some (press at x) }) h (λ wanted free. inl refl)) h
 
 none_stands : (margin : ℕ) (e : Entry) (need now : ℕ) → Stands margin e need now no_track
 unfolding wants
@@ -124,7 +124,7 @@ mid_stands s round i =
     let e = entry_at g.entries i in
     let need = need_of g.entries s.tracks c i in
     let alone = pressed_alone g c s.tracks in
-    each_holds (Stands g.margin e need (sec c.at)) (none_stands g.margin e need (sec c.at)) (λ j. track_asked_in g.margin (entry_at g.entries j) c.at round j) alone i
+    each_holds (Stands g.margin e need (sec c.at)) (none_stands g.margin e need (sec c.at)) (track_asked_in c.at round) alone i
     (asked_stands g.margin e need c.at round i (track_in alone i)
     (each_holds (Stands g.margin e need (sec c.at)) (none_stands g.margin e need (sec c.at)) (λ j. pressed_track g.margin (entry_at g.entries j) (need_of g.entries s.tracks c j) c.at) s.tracks i
     (fresh_stands g.margin e need c.at (track_at s i))))
@@ -154,7 +154,7 @@ module _ (s : WatchState) (requests : List Request) (i : ℕ) where
         | inr other ↦ other
       ]
 
-  heeded : (t : Try) → i < length s.tracks → Goes s.presence s.clocks.at s.tracks (s.width - length s.out) requests → (track_at gone i).out ≡ false → attempt_at gone i ≡ Some t →
+  heeded : (t : Try) → i < length s.tracks → Goes s.forest s.presence s.clocks.at s.tracks (s.width - length s.out) requests → (track_at gone i).out ≡ false → attempt_at gone i ≡ Some t →
       (s.clocks.at < ready s.presence (track_at gone i) t) ⊎ (s.width ≤ length gone.out)
   heeded t within going free is =
       let p = s.presence in
@@ -195,7 +195,7 @@ module _ (s : WatchState) (round : List ℕ) (requests : List Request) (i : ℕ)
   abbrev end : WatchState
   end = sent mid requests
 
-  pub has_try : (t : Try) → Goes s.presence s.clocks.at mid.tracks (s.width - length s.out) requests → i < length s.forest.entries → (track_at end i).out ≡ false → attempt_at end i ≡ Some t → HasTry end (wait end) i
+  pub has_try : (t : Try) → Goes s.forest s.presence s.clocks.at mid.tracks (s.width - length s.out) requests → i < length s.forest.entries → (track_at end i).out ≡ false → attempt_at end i ≡ Some t → HasTry end (wait end) i
   has_try t going within free is =
       let until = wait_each end i within in
       let count = each_length (sent_in s.clocks.at requests) mid.tracks in
@@ -212,7 +212,7 @@ module _ (s : WatchState) (round : List ℕ) (requests : List Request) (i : ℕ)
       }
 
   -- a try that is not out may go later, and the wait does not pass that; or all lanes are taken
-  pub tended : (t : Try) → Goes s.presence s.clocks.at mid.tracks (s.width - length s.out) requests → i < length s.forest.entries → (track_at end i).out ≡ false → attempt_at end i ≡ Some t →
+  pub tended : (t : Try) → Goes s.forest s.presence s.clocks.at mid.tracks (s.width - length s.out) requests → i < length s.forest.entries → (track_at end i).out ≡ false → attempt_at end i ≡ Some t →
       ((s.clocks.at < ready s.presence (track_at end i) t) × (wait end ≤ ready s.presence (track_at end i) t)) ⊎ (s.width ≤ length end.out)
   tended t going within free is =
       let until = wait_each end i within in
@@ -225,12 +225,12 @@ module _ (s : WatchState) (round : List ℕ) (requests : List Request) (i : ℕ)
         | inr full ↦ inr full
       ]
 
-  pressed_minded : (o : Option Try) → Goes s.presence s.clocks.at mid.tracks (s.width - length s.out) requests → i < length s.forest.entries → (track_at end i).out ≡ false → attempt_at end i ≡ o → is_pressed_try o ≡ true → IsPressed end (wait end) i
+  pressed_minded : (o : Option Try) → Goes s.forest s.presence s.clocks.at mid.tracks (s.width - length s.out) requests → i < length s.forest.entries → (track_at end i).out ≡ false → attempt_at end i ≡ o → is_pressed_try o ≡ true → IsPressed end (wait end) i
   unfolding has_try
   pressed_minded None going within free is pressed' = absurd cc
   pressed_minded (Some t) going within free is pressed' = record { has = has_try t going within free is; pressed = pressed' }
 
-  pub end_minded : Goes s.presence s.clocks.at mid.tracks (s.width - length s.out) requests → i < length s.forest.entries → is_wanted end i ≡ true → IsMinded end (wait end) i
+  pub end_minded : Goes s.forest s.presence s.clocks.at mid.tracks (s.width - length s.out) requests → i < length s.forest.entries → is_wanted end i ≡ true → IsMinded end (wait end) i
   end_minded going within wanted =
       let g = s.forest in
       let c = s.clocks in
@@ -294,7 +294,7 @@ end_later s round requests =
 -- a clock, a step, a turn
 commanded : (s new : WatchState) (round : List ℕ) (command : Command) → StepCommand (pressed s round) command new → WaitsRight command new
 commanded s new round (Go requests until) h =
-    let going = goes s.presence s.clocks.at (pressed s round).tracks (s.width - length s.out) requests h.0.0 in
+    let going = goes s.forest s.presence s.clocks.at (pressed s round).tracks (s.width - length s.out) requests h.0.0 in
     subst (λ n. WaitsRight (Go requests n) new) (sym h.1)
     (subst (λ (x : WatchState). WaitsRight (Go requests (wait x)) x) (sym h.0.1) (end_later s round requests, (λ i within wanted. end_minded s round requests i going within wanted)))
 commanded s new round Taken h = tt

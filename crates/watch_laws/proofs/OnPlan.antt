@@ -266,32 +266,32 @@ due_tried p at x (Some t) h none = absurd cc
 owes_pressed : (margin : ℕ) (e : Entry) (need at : ℕ) (x : Track) → (pressed_track margin e need at x).owes ≡ x.owes
 unfolding pressed_track
 owes_pressed margin e need at x =
-    if_both (λ (y : Track). y.owes ≡ x.owes) (is_fresh margin e x need (sec at)) (record x { attempt = Some (press at false x) }) (if wants x need || x.out then x else record x { attempt = dropped x x.attempt }) refl
+    if_both (λ (y : Track). y.owes ≡ x.owes) (is_fresh margin e x need (sec at)) (record x { attempt = Some (press at x) }) (if wants x need || x.out then x else record x { attempt = dropped x x.attempt }) refl
     (if_both (λ (y : Track). y.owes ≡ x.owes) (wants x need || x.out) x (record x { attempt = dropped x x.attempt }) refl refl)
 
-owes_asked : (margin : ℕ) (e : Entry) (at : ℕ) (round : List ℕ) (i : ℕ) (x : Track) → (track_asked_in margin e at round i x).owes ≡ x.owes
+owes_asked : (at : ℕ) (round : List ℕ) (i : ℕ) (x : Track) → (track_asked_in at round i x).owes ≡ x.owes
 unfolding asked_track
-owes_asked margin e at round i x =
-    if_both (λ (y : Track). y.owes ≡ x.owes) (list_any (λ j. j == i) round) (asked_track margin e at x) x
-    (if_both (λ (y : Track). y.owes ≡ x.owes) x.out x (record x { attempt = Some (press at (not (has_come margin e x (sec at))) x) }) refl refl) refl
+owes_asked at round i x =
+    if_both (λ (y : Track). y.owes ≡ x.owes) (list_any (λ j. j == i) round) (asked_track at x) x
+    (if_both (λ (y : Track). y.owes ≡ x.owes) x.out x (record x { attempt = Some (press at x) }) refl refl) refl
 
 pub out_pressed : (margin : ℕ) (e : Entry) (need at : ℕ) (x : Track) → (pressed_track margin e need at x).out ≡ x.out
 unfolding pressed_track
 out_pressed margin e need at x =
-    if_both (λ (y : Track). y.out ≡ x.out) (is_fresh margin e x need (sec at)) (record x { attempt = Some (press at false x) }) (if wants x need || x.out then x else record x { attempt = dropped x x.attempt }) refl
+    if_both (λ (y : Track). y.out ≡ x.out) (is_fresh margin e x need (sec at)) (record x { attempt = Some (press at x) }) (if wants x need || x.out then x else record x { attempt = dropped x x.attempt }) refl
     (if_both (λ (y : Track). y.out ≡ x.out) (wants x need || x.out) x (record x { attempt = dropped x x.attempt }) refl refl)
 
 pub end_pressed : (margin : ℕ) (e : Entry) (need at : ℕ) (x : Track) → (pressed_track margin e need at x).end ≡ x.end
 unfolding pressed_track
 end_pressed margin e need at x =
-    if_both (λ (y : Track). y.end ≡ x.end) (is_fresh margin e x need (sec at)) (record x { attempt = Some (press at false x) }) (if wants x need || x.out then x else record x { attempt = dropped x x.attempt }) refl
+    if_both (λ (y : Track). y.end ≡ x.end) (is_fresh margin e x need (sec at)) (record x { attempt = Some (press at x) }) (if wants x need || x.out then x else record x { attempt = dropped x x.attempt }) refl
     (if_both (λ (y : Track). y.end ≡ x.end) (wants x need || x.out) x (record x { attempt = dropped x x.attempt }) refl refl)
 
-out_asked : (margin : ℕ) (e : Entry) (at : ℕ) (round : List ℕ) (i : ℕ) (x : Track) → (track_asked_in margin e at round i x).out ≡ x.out
+out_asked : (at : ℕ) (round : List ℕ) (i : ℕ) (x : Track) → (track_asked_in at round i x).out ≡ x.out
 unfolding asked_track
-out_asked margin e at round i x =
-    if_both (λ (y : Track). y.out ≡ x.out) (list_any (λ j. j == i) round) (asked_track margin e at x) x
-    (if_both (λ (y : Track). y.out ≡ x.out) x.out x (record x { attempt = Some (press at (not (has_come margin e x (sec at))) x) }) refl refl) refl
+out_asked at round i x =
+    if_both (λ (y : Track). y.out ≡ x.out) (list_any (λ j. j == i) round) (asked_track at x) x
+    (if_both (λ (y : Track). y.out ≡ x.out) x.out x (record x { attempt = Some (press at x) }) refl refl) refl
 
 module _ (r : WatchState) (round : List ℕ) (requests : List Request) where
   abbrev pub mid : WatchState
@@ -309,7 +309,7 @@ module _ (r : WatchState) (round : List ℕ) (requests : List Request) where
       let g = r.forest in
       let R : Track → Track → Type 0 = λ y x. y.owes ≡ x.owes in
       each_kept R refl (sent_in c.at requests) mid.tracks (λ j x. if_both (λ y. R y x) (list_any (λ (q : Request). q.entry == j) requests) (sent_track c.at x) x refl refl) i
-      ∙ each_kept R refl (λ j. track_asked_in g.margin (entry_at g.entries j) c.at round j) alone (λ j x. owes_asked g.margin (entry_at g.entries j) c.at round j x) i
+      ∙ each_kept R refl (track_asked_in c.at round) alone (owes_asked c.at round) i
       ∙ each_kept R refl (λ j. pressed_track g.margin (entry_at g.entries j) (need_of g.entries r.tracks c j) c.at) r.tracks
       (λ j x. owes_pressed g.margin (entry_at g.entries j) (need_of g.entries r.tracks c j) c.at x) i
 
@@ -320,19 +320,19 @@ module _ (r : WatchState) (round : List ℕ) (requests : List Request) where
       (λ j x. if_both (λ (y : Track). y.attempt ≡ x.attempt) (list_any (λ (q : Request). q.entry == j) requests) (sent_track r.clocks.at x) x refl refl) i
 
   -- the track that is pressed and asked by a round
-  pub mid_read : (i : ℕ) → i < length r.tracks → track_at mid i ≡ track_asked_in r.forest.margin (entry_of r i) r.clocks.at round i (pressed_track r.forest.margin (entry_of r i) (wanted_need r i) r.clocks.at (track_at r i))
+  pub mid_read : (i : ℕ) → i < length r.tracks → track_at mid i ≡ track_asked_in r.clocks.at round i (pressed_track r.forest.margin (entry_of r i) (wanted_need r i) r.clocks.at (track_at r i))
   mid_read i within =
       let c = r.clocks in
       let g = r.forest in
       let count = each_length (λ j. pressed_track g.margin (entry_at g.entries j) (need_of g.entries r.tracks c j) c.at) r.tracks in
-      each_read (λ j. track_asked_in g.margin (entry_at g.entries j) c.at round j) alone i (omega (arith, count, within))
-      ∙ ap (track_asked_in g.margin (entry_at g.entries i) c.at round i) (each_read (λ j. pressed_track g.margin (entry_at g.entries j) (need_of g.entries r.tracks c j) c.at) r.tracks i within)
+      each_read (track_asked_in c.at round) alone i (omega (arith, count, within))
+      ∙ ap (track_asked_in c.at round i) (each_read (λ j. pressed_track g.margin (entry_at g.entries j) (need_of g.entries r.tracks c j) c.at) r.tracks i within)
 
   pub new_count : length new.tracks ≡ length r.tracks
   new_count =
       let c = r.clocks in
       let g = r.forest in
-      each_length (sent_in c.at requests) mid.tracks ∙ each_length (λ j. track_asked_in g.margin (entry_at g.entries j) c.at round j) alone
+      each_length (sent_in c.at requests) mid.tracks ∙ each_length (track_asked_in c.at round) alone
       ∙ each_length (λ j. pressed_track g.margin (entry_at g.entries j) (need_of g.entries r.tracks c j) c.at) r.tracks
 
   pub out_mid : (i : ℕ) → (track_at mid i).out ≡ (track_at r i).out
@@ -340,7 +340,7 @@ module _ (r : WatchState) (round : List ℕ) (requests : List Request) where
       let c = r.clocks in
       let g = r.forest in
       let R : Track → Track → Type 0 = λ y x. y.out ≡ x.out in
-      each_kept R refl (λ j. track_asked_in g.margin (entry_at g.entries j) c.at round j) alone (λ j x. out_asked g.margin (entry_at g.entries j) c.at round j x) i
+      each_kept R refl (track_asked_in c.at round) alone (out_asked c.at round) i
       ∙ each_kept R refl (λ j. pressed_track g.margin (entry_at g.entries j) (need_of g.entries r.tracks c j) c.at) r.tracks
       (λ j x. out_pressed g.margin (entry_at g.entries j) (need_of g.entries r.tracks c j) c.at x) i
 
@@ -350,7 +350,7 @@ module _ (r : WatchState) (round : List ℕ) (requests : List Request) where
       let c = r.clocks in
       let g = r.forest in
       let count = each_length (λ j. pressed_track g.margin (entry_at g.entries j) (need_of g.entries r.tracks c j) c.at) r.tracks in
-      ap (λ (x : Track). x.attempt) (each_past (λ j. track_asked_in g.margin (entry_at g.entries j) c.at round j) alone i (omega (arith, count, past)))
+      ap (λ (x : Track). x.attempt) (each_past (track_asked_in c.at round) alone i (omega (arith, count, past)))
       ∙ sym (ap (λ (x : Track). x.attempt) (get_or_past r.tracks i no_track past))
 
   -- a try that stays
@@ -365,8 +365,8 @@ module _ (r : WatchState) (round : List ℕ) (requests : List Request) where
             let m = r.forest.margin in
             let at = r.clocks.at in
             let alone' = pressed_track m e (wanted_need r i) at x in
-            ap (λ (y : Track). y.attempt) (mid_read i within ∙ cond-false (list_any (λ j. j == i) round) (asked_track m e at alone') alone' apart)
-            ∙ ap (λ (y : Track). y.attempt) (cond-false (is_fresh m e x (wanted_need r i) (sec at)) (record x { attempt = Some (press at false x) }) (if is_wanted r i || x.out then x else record x { attempt = dropped x x.attempt }) not_fresh)
+            ap (λ (y : Track). y.attempt) (mid_read i within ∙ cond-false (list_any (λ j. j == i) round) (asked_track at alone') alone' apart)
+            ∙ ap (λ (y : Track). y.attempt) (cond-false (is_fresh m e x (wanted_need r i) (sec at)) (record x { attempt = Some (press at x) }) (if is_wanted r i || x.out then x else record x { attempt = dropped x x.attempt }) not_fresh)
             ∙ rest (is_wanted r i || x.out) own
       ] where
         rest : (b : Bool) → (attempt_at r i ≡ None) ⊎ (is_wanted r i ≡ true) → (if is_wanted r i || (track_at r i).out then track_at r i else record (track_at r i) { attempt = dropped (track_at r i) (attempt_at r i) }).attempt ≡ attempt_at r i
@@ -381,7 +381,7 @@ module _ (r : WatchState) (round : List ℕ) (requests : List Request) where
     -- whoever goes out has a try
     pub sent_tried : (i : ℕ) → list_any (λ (q : Request). q.entry == i) requests ≡ true → attempt_at mid i ≡ None → ⊥
     sent_tried i named none =
-        let out = going mid.presence mid.clocks.at mid.tracks (mid.width - length mid.out) requests h.0 in
+        let out = going mid.forest mid.presence mid.clocks.at mid.tracks (mid.width - length mid.out) requests h.0 in
         by out.entries out.due (sym (ap (list_any (λ (q : Request). q.entry == i)) out.requests_are) ∙ named) where
           by : (is : List ℕ) → All (λ j. (j < length mid.tracks) × (is_due mid.presence mid.clocks.at (track_in mid.tracks j) ≡ true)) is → list_any (λ (q : Request). q.entry == i) (map (request_at mid.presence (sec mid.clocks.at) mid.tracks) is) ≡ true → ⊥
           by [] due some = absurd cc
@@ -407,7 +407,7 @@ module _ (r : WatchState) (round : List ℕ) (requests : List Request) where
     -- what goes out are renewals of those whom the wake-up asks
     pub sends : (e : ℕ → ℕ) (now : Wake) (ts : List ℕ) → ((i : ℕ) → IsIdle new e i ⊎ IsTried new e now ts i) → All (IsSent now new) requests
     sends e now ts each =
-        let out = going mid.presence mid.clocks.at mid.tracks (mid.width - length mid.out) requests h.0 in
+        let out = going mid.forest mid.presence mid.clocks.at mid.tracks (mid.width - length mid.out) requests h.0 in
         let rq : ℕ → Request = request_at mid.presence (sec mid.clocks.at) mid.tracks in
         subst (All (IsSent now new)) (sym out.requests_are) (All-map (IsSent now new) rq out.entries (λ k d within. one (get_or out.entries k d) (out.due k d within).1)) where
           one : (i : ℕ) → is_due mid.presence mid.clocks.at (track_in mid.tracks i) ≡ true → IsSent now new (request_at mid.presence (sec mid.clocks.at) mid.tracks i)

@@ -1,13 +1,15 @@
 -- Once: an entry that is pressed and never answered comes to no first try again. For the law of one stand.
-use Rattle.std.proofs.Common.{◌≡◌, ◌⊎◌, ◌∙◌, ℕ, zero, suc, ◌+◌, ◌<◌, ◌≤◌, Bool, true, false, not, ◌&&◌, ◌||◌, ◌==◌, if◌then◌else◌, List, [], ◌∷◌, Option, Some, None, Result, Ok, Err, filter, length, min, nat_lt, refl, sym, ap, subst, arith, inl, inr}
+use Rattle.std.proofs.Common.{◌≡◌, ◌⊎◌, ◌∙◌, ℕ, zero, suc, ◌+◌, ◌<◌, ◌≤◌, Bool, true, false, not, ◌&&◌, ◌||◌, ◌==◌, if◌then◌else◌, List, [], ◌∷◌, Option, Some, None, Result, Ok, Err, filter, length, min, nat_le, nat_lt, set, refl, sym, ap, ap₂, subst, arith, inl, inr}
 use Rattle.std.proofs.lemmas.Bool.{and_from, and_parts, cases_Bool, cond-false, cond-true, eqb-true}
 use Rattle.std.proofs.lemmas.Bool.Decides.{nat_tests}
-use Rattle.std.proofs.lemmas.List.{get_or-set_other, get_or-set_same, get_or_past}
-use Rattle.std.proofs.lemmas.Bool.{cases_lt}
+use Rattle.std.proofs.lemmas.Bool.{cases_eq, cases_lt}
+use Rattle.std.proofs.lemmas.List.{get_or-set_other, get_or-set_same, get_or_past, set_past}
 use Rattle.std.specs.List.{list_any, range_with_len}
+use Rattle.keep_moment.specs.declared.moment.TheConstants.{LAST}
 use Rattle.keep_tree.specs.declared.entry.Entry.{Entry}
 use Rattle.keep_tree.specs.Forest.{Forest, end_of, entry_at}
 use Rattle.keep_tree.specs.Renewal.{capped}
+use Rattle.keep_tree.proofs.Entries.{entry_at_set_other, entry_at_set_same}
 use Rattle.keep_rule.specs.Asks.{asks, is_to_be_asked as is_asked_for}
 use Rattle.watch_machine.specs.declared.clocks.Clocks.{Clocks}
 use Rattle.watch_machine.specs.declared.command.Command.{Command}
@@ -32,15 +34,15 @@ use Rattle.watch_machine.specs.Beginning.{begun, is_called, is_pressed, is_press
 use Rattle.watch_machine.specs.Clocks.{sec}
 use Rattle.watch_machine.specs.History.{History, Turn, Turned, after_all}
 use Rattle.watch_machine.specs.Lines.{is_first}
-use Rattle.watch_machine.specs.Looked.{after_look, looked, refused_try, untold, untold_track}
-use Rattle.watch_machine.specs.Margins.{has_come, is_in_plan, lead}
+use Rattle.watch_machine.specs.Looked.{after_look, by_terms, looked, refused_try, untold, untold_track}
+use Rattle.watch_machine.specs.Margins.{has_come, is_in_plan, lead, own_by, own_margin, time, time_before}
 use Rattle.watch_machine.specs.Press.{asked_track, dropped, is_fresh, press, pressed, pressed_alone, pressed_track, track_asked_in}
-use Rattle.watch_machine.specs.Refusal.{request_out}
+use Rattle.watch_machine.specs.Refusal.{is_same, request_out}
 use Rattle.watch_machine.specs.Renewed.{after_renewal, renewed_track, state_renewed, ungranted, ungranted_track}
 use Rattle.watch_machine.specs.Round.{IsRound, asked_by_round as round_of, entry_planned, is_hoped, plan_view, planned_by, step_in_plan}
 use Rattle.watch_machine.specs.Sending.{sent, sent_in, sent_track}
 use Rattle.watch_machine.specs.Settling.{is_real, settled, settled_track, settled_try, timed}
-use Rattle.watch_machine.specs.State.{WatchState, each, no_track, opened, second, track_at, track_in}
+use Rattle.watch_machine.specs.State.{WatchState, attempt_at, each, entry_of, no_track, opened, second, track_at, track_in}
 use Rattle.watch_machine.specs.Step.{Step, StepClock, StepCommand, StepLooked, StepRenewed, known, readied, why, with_need_until}
 use Rattle.watch_machine.specs.Wanted.{believed, is_alive, is_open, is_unknown, is_wanted, need_of, seen_entry, wants}
 use Rattle.watch_machine.proofs.Cases.{if_both, if_cases, not_both}
@@ -51,37 +53,40 @@ use Rattle.watch_laws.specs.Absence.{is_event_taken}
 use Rattle.watch_laws.specs.Outage.{one_where}
 use Rattle.watch_laws.specs.Partial.{AreHung, IsUntoldOf, OnceInFrontLaw, comes_before, is_own_first, is_own_try, often_before, stands_before, waits_before}
 use Rattle.watch_laws.specs.Presence.{is_told}
+use Rattle.watch_laws.specs.Time.{is_come}
 use Rattle.watch_laws.proofs.Answering.{looked_leaves, renewed_leaves, rest_of}
 use Rattle.watch_laws.proofs.Believed.{written_at, written_count}
 use Rattle.watch_laws.proofs.Clocking.{readied_clocks, refused_stays}
+use Rattle.watch_laws.proofs.Forested.{readied_forest}
 use Rattle.watch_laws.proofs.Grounds.{IsBase, first_turns, last_turns, opened_base, ran_base, turn_base}
 use Rattle.watch_laws.proofs.Holding.{looked_presence}
 use Rattle.watch_laws.proofs.OnPlan.{sec_rises}
 use Rattle.watch_laws.proofs.Opener.{mid_bears}
 use Rattle.watch_laws.proofs.Retrying.{IsPast, rises}
 use Rattle.watch_laws.proofs.Spacing.{looked_other}
-use Rattle.watch_laws.proofs.Tracking.{each_at, each_kept}
+use Rattle.watch_laws.proofs.Tracking.{each_at, each_kept, replied_forest}
 
 -- what of a track says whether its try is a first one, whether it is pressed and out, and when it ends
 record Alike (y x : Track) : Type 0 where
-  own : is_own_try y.attempt ≡ is_own_try x.attempt
+  own : (come : Bool) → is_own_try come y.attempt ≡ is_own_try come x.attempt
   pressed' : is_pressed y ≡ is_pressed x
   out : y.out ≡ x.out
   end : y.end ≡ x.end
+  grant : y.grant ≡ x.grant
 
 same_alike : (x : Track) → Alike x x
-same_alike x = record { own = refl; pressed' = refl; out = refl; end = refl }
+same_alike x = record { own = λ come. refl; pressed' = refl; out = refl; end = refl; grant = refl }
 
 both_alike : (z y x : Track) → Alike z y → Alike y x → Alike z x
-both_alike z y x h k = record { own = h.own ∙ k.own; pressed' = h.pressed' ∙ k.pressed'; out = h.out ∙ k.out; end = h.end ∙ k.end }
+both_alike z y x h k = record { own = λ come. h.own come ∙ k.own come; pressed' = h.pressed' ∙ k.pressed'; out = h.out ∙ k.out; end = h.end ∙ k.end; grant = h.grant ∙ k.grant }
 
 -- before who has to be asked is pressed, all stay so
 settled_alike : (margin at : ℕ) (x : Track) → Alike (settled_track margin at x) x
 unfolding settled_track
-settled_alike margin at x = record { own = own' x.attempt; pressed' = pressed'' x.attempt; out = refl; end = refl } where
-  own' : (o : Option Try) → is_own_try (settled_try margin at x o) ≡ is_own_try o
-  own' None = refl
-  own' (Some t) = if_both (λ u. is_own_try u ≡ is_own_try (Some t)) t.failed _ (Some t) refl refl
+settled_alike margin at x = record { own = λ come. own' come x.attempt; pressed' = pressed'' x.attempt; out = refl; end = refl; grant = refl } where
+  own' : (come : Bool) (o : Option Try) → is_own_try come (settled_try margin at x o) ≡ is_own_try come o
+  own' come None = refl
+  own' come (Some t) = if_both (λ u. is_own_try come u ≡ is_own_try come (Some t)) t.failed _ (Some t) refl refl
 
   pressed'' : (o : Option Try) → is_pressed_try (settled_try margin at x o) ≡ is_pressed_try o
   pressed'' None = refl
@@ -91,11 +96,11 @@ owing_alike : (at : ℕ) (called : Bool) (x : Track) → Alike (owing at called 
 unfolding owing
 owing_alike at called x =
     if_both (λ y. Alike y x) (called && is_open (sec at) x) (owing_lookup at x) x
-    (if_both (λ y. Alike y x) x.out (record x { owes = true }) (record x { owes = true; attempt = Some (sooner_try (soon at x) x.attempt) }) (record { own = refl; pressed' = refl; out = refl; end = refl })
-    (record { own = own' x.attempt; pressed' = pressed'' x.attempt; out = refl; end = refl })) (same_alike x) where
-      own' : (o : Option Try) → is_own_try (Some (sooner_try (soon at x) o)) ≡ is_own_try o
-      own' None = refl
-      own' (Some t) = refl
+    (if_both (λ y. Alike y x) x.out (record x { owes = true }) (record x { owes = true; attempt = Some (sooner_try (soon at x) x.attempt) }) (record { own = λ come. refl; pressed' = refl; out = refl; end = refl; grant = refl })
+    (record { own = λ come. own' come x.attempt; pressed' = pressed'' x.attempt; out = refl; end = refl; grant = refl })) (same_alike x) where
+      own' : (come : Bool) (o : Option Try) → is_own_try come (Some (sooner_try (soon at x) o)) ≡ is_own_try come o
+      own' come None = refl
+      own' come (Some t) = refl
 
       pressed'' : (o : Option Try) → is_pressed_try (Some (sooner_try (soon at x) o)) ≡ is_pressed_try o
       pressed'' None = refl
@@ -107,7 +112,7 @@ begun_alike s (Some w) j =
     let xs = untopped s.tracks in
     both_alike (track_at (begun s (Some w)) j) (track_in xs j) (track_at s j)
     (each_kept Alike (same_alike no_track) (λ k. owing s.clocks.at (is_called s.forest xs s.clocks k)) xs (λ k x. owing_alike s.clocks.at (is_called s.forest xs s.clocks k) x) j)
-    (each_kept Alike (same_alike no_track) (λ k. untopped_track) s.tracks (λ k x. record { own = refl; pressed' = refl; out = refl; end = refl }) j)
+    (each_kept Alike (same_alike no_track) (λ k. untopped_track) s.tracks (λ k x. record { own = λ come. refl; pressed' = refl; out = refl; end = refl; grant = refl }) j)
 
 readied_alike : (s : WatchState) (wall elapsed j : ℕ) → Alike (track_at (readied s wall elapsed) j) (track_at s j)
 unfolding readied
@@ -124,7 +129,7 @@ pressed_kept : (margin : ℕ) (e : Entry) (need at : ℕ) (x : Track) → Kept n
 unfolding pressed_track is_fresh
 pressed_kept margin e need at x is wanted =
     let fresh = wants x need && (has_come margin e x (sec at) && (not (is_pressed x) && not x.out)) in
-    if_cases (λ y. Alike y x) fresh (record x { attempt = Some (press at false x) }) (if wants x need || x.out then x else record x { attempt = dropped x x.attempt })
+    if_cases (λ y. Alike y x) fresh (record x { attempt = Some (press at x) }) (if wants x need || x.out then x else record x { attempt = dropped x x.attempt })
     (λ yes'. absurd (not_both (and_parts (not (is_pressed x)) (not x.out) (and_parts (has_come margin e x (sec at)) (not (is_pressed x) && not x.out) (and_parts (wants x need) _ yes').1).1).0 (ap not is)))
     (λ no'. if_cases (λ y. Alike y x) (wants x need || x.out) x (record x { attempt = dropped x x.attempt }) (λ kept. same_alike x) (λ let_go. absurd (not_both (ap (λ b. b || x.out) wanted) let_go)))
 
@@ -198,7 +203,7 @@ mid_alike s round j h is wanted =
     let need = need_of g.entries s.tracks c j in
     let none = names_none g s.tracks c round j h is wanted in
     let same : track_at (pressed s asked) j ≡ track_in alone j =
-    each_at (λ k. track_asked_in g.margin (entry_at g.entries k) c.at asked k) alone j (λ x. cond-false (list_any (λ k. k == j) asked) (asked_track g.margin e c.at x) x none) in
+    each_at (track_asked_in c.at asked) alone j (λ x. cond-false (list_any (λ k. k == j) asked) (asked_track c.at x) x none) in
     subst (λ y. Alike y (track_at s j)) (sym same)
     (each_kept_at (λ k. pressed_track g.margin (entry_at g.entries k) (need_of g.entries s.tracks c k) c.at) s.tracks j (pressed_kept g.margin e need c.at (track_at s j) is wanted)) where
       each_kept_at : (f : ℕ → Track → Track) (xs : List Track) (i : ℕ) → Alike (f i (track_in xs i)) (track_in xs i) → Alike (track_in (each f xs) i) (track_in xs i)
@@ -212,23 +217,51 @@ mid_alike s round j h is wanted =
 record Sends (y x : Track) : Type 0 where
   attempt : y.attempt ≡ x.attempt
   end : y.end ≡ x.end
+  grant : y.grant ≡ x.grant
   out : x.out ≡ true → y.out ≡ true
 
 sent_sends : (s : WatchState) (rs : List Request) (j : ℕ) → Sends (track_at (sent s rs) j) (track_at s j)
 sent_sends s rs j =
-    each_kept Sends (record { attempt = refl; end = refl; out = λ h. h }) (sent_in s.clocks.at rs) s.tracks
-    (λ k x. if_both (λ y. Sends y x) (list_any (λ (r : Request). r.entry == k) rs) (sent_track s.clocks.at x) x (record { attempt = refl; end = refl; out = λ h. refl }) (record { attempt = refl; end = refl; out = λ h. h })) j
+    each_kept Sends (record { attempt = refl; end = refl; grant = refl; out = λ h. h }) (sent_in s.clocks.at rs) s.tracks
+    (λ k x. if_both (λ y. Sends y x) (list_any (λ (r : Request). r.entry == k) rs) (sent_track s.clocks.at x) x (record { attempt = refl; end = refl; grant = refl; out = λ h. refl })
+    (record { attempt = refl; end = refl; grant = refl; out = λ h. h })) j
 
--- what a turn leaves of an entry that is pressed: it stays pressed, and has no first try that is its own but where it had one, with the
--- same end, and where its request is out still if it was
+-- a try that is the entry's own is so when its time has come, too
+own_more : (b c : Bool) (o : Option Try) → (b ≡ true → c ≡ true) → is_own_try b o ≡ true → is_own_try c o ≡ true
+own_more b c None more h = absurd cc
+own_more b c (Some t) more h = by b c (is_first t) (is_same t.operation Renew) more h where
+  by : (b c f r : Bool) → (b ≡ true → c ≡ true) → f && not (r && not b) ≡ true → f && not (r && not c) ≡ true
+  by b true true true more h = refl
+  by true false f r more h = absurd (let bad = more refl in cc)
+  by false false f r more h = h
+  by b true true false more h = refl
+  by b true false r more h = absurd cc
+
+-- a first try of j, if it has one, does not go along with others
+abbrev NotAlong : WatchState → ℕ → Type 0
+NotAlong s j = is_own_try true (attempt_at s j) ≡ true → is_own_try (is_come s j) (attempt_at s j) ≡ true
+
+-- what a turn leaves of an entry that is pressed: it stays pressed. One whose first try goes along with no others still does not, and has no
+-- first try that is its own but where it had one; with the same end, and where its request is out still if it was
 record Stays (old new : WatchState) (j : ℕ) : Type 0 where
   pressed' : is_pressed (track_at new j) ≡ true
+  own_still : NotAlong old j → NotAlong new j
   end : is_own_first new j ≡ true → (track_at new j).end ≡ (track_at old j).end
-  own : is_own_first new j ≡ true → is_own_first old j ≡ true
+  own : is_own_first new j ≡ true → NotAlong old j → is_own_first old j ≡ true
   out : is_own_first new j ≡ true → (track_at old j).out ≡ true → (track_at new j).out ≡ true
 
 later_alive : (a b : ℕ) (e : End) → a ≤ b → nat_lt (sec b) (believed e) ≡ true → nat_lt (sec a) (believed e) ≡ true
 later_alive a b e up h = let less = sec_rises a b up in grind (arith, nat_tests)
+
+-- a time that has come has come later, too
+same_come : (margin : ℕ) (e : Entry) (y x : Track) (now : ℕ) → y.end ≡ x.end → y.grant ≡ x.grant → has_come margin e y now ≡ has_come margin e x now
+unfolding has_come time own_margin
+same_come margin e y x now ends grants =
+    ap (λ d. nat_le (time_before d (own_by margin (lead e.step y.grant))) now) ends ∙ ap (λ k. nat_le (time_before x.end (own_by margin (lead e.step k))) now) grants
+
+later_come : (margin : ℕ) (e : Entry) (x : Track) (a b : ℕ) → a ≤ b → has_come margin e x a ≡ true → has_come margin e x b ≡ true
+unfolding has_come
+later_come margin e x a b up h = grind (arith, nat_tests)
 
 clock_stays :
     (old new : WatchState) (wall elapsed : ℕ) (output : Output) (j : ℕ) → StepClock old wall elapsed output new → IsPast old → is_pressed (track_at old j) ≡ true → is_wanted new j ≡ true → Stays old new j
@@ -254,26 +287,55 @@ clock_stays old new wall elapsed output j step past is wanted =
     let up = rises old wall elapsed past.start in
     let clock : end'.clocks.at ≡ (timed old wall elapsed).clocks.at = ap (λ x. x.at) (readied_clocks old wall elapsed) in
     let end_same : (track_at end' j).end ≡ (track_at old j).end = sends.end ∙ alike.end in
+    let tries : (b : Bool) → is_own_try b (attempt_at end' j) ≡ is_own_try b (attempt_at old j) = λ b. ap (is_own_try b) sends.attempt ∙ alike.own b in
+    let m = old.forest.margin in
+    let before = old.clocks.at in
+    let now = end'.clocks.at in
+    let come : is_come old j ≡ true → is_come end' j ≡ true =
+    λ h. ap (λ (f : Forest). has_come f.margin (entry_at f.entries j) (track_at end' j) (sec now)) (readied_forest old wall elapsed)
+    ∙ same_come m (entry_of old j) (track_at end' j) (track_at old j) (sec now) end_same (sends.grant ∙ alike.grant)
+    ∙ later_come m (entry_of old j) (track_at old j) (sec before) (sec now) (sec_rises before now (omega (arith, up, clock))) h in
     subst (λ (x : WatchState). Stays old x j) (sym made.1)
     (record {
       pressed' = ap is_pressed_try sends.attempt ∙ alike.pressed' ∙ is;
+      own_still = λ h first. own_more (is_come old j) (is_come end' j) (attempt_at end' j) come (tries (is_come old j) ∙ h (sym (tries true) ∙ first));
       end = λ own. end_same;
-      own = λ own.
-          let both = and_parts (is_own_try (track_at end' j).attempt) (is_alive (sec end'.clocks.at) (track_at end' j)) own in
-          and_from (is_own_try (track_at old j).attempt) (is_alive (sec old.clocks.at) (track_at old j)) (sym alike.own ∙ sym (ap is_own_try sends.attempt) ∙ both.0)
+      own = λ own h.
+          let both = and_parts (is_own_try (is_come end' j) (attempt_at end' j)) (is_alive (sec end'.clocks.at) (track_at end' j)) own in
+          let first : is_own_try true (attempt_at old j) ≡ true = sym (tries true) ∙ own_more (is_come end' j) true (attempt_at end' j) (λ _. refl) both.0 in
+          and_from (is_own_try (is_come old j) (attempt_at old j)) (is_alive (sec old.clocks.at) (track_at old j)) (h first)
           (later_alive old.clocks.at end'.clocks.at (track_at old j).end (omega (arith, up, clock)) (sym (ap (λ e. nat_lt (sec end'.clocks.at) (believed e)) end_same) ∙ both.1));
       out = λ own out. sends.out (alike.out ∙ out);
     })
 
--- a track that is as it was, at the same clock
-same_stays : (old new : WatchState) (j : ℕ) → track_at new j ≡ track_at old j → new.clocks.at ≡ old.clocks.at → is_pressed (track_at old j) ≡ true → Stays old new j
-same_stays old new j same clock is =
-    let own : is_own_first new j ≡ is_own_first old j =
-    ap (λ (x : Track). is_own_try x.attempt && nat_lt (sec new.clocks.at) (believed x.end)) same ∙ ap (λ n. is_own_try (track_at old j).attempt && nat_lt (sec n) (believed (track_at old j).end)) clock in
+-- what is as it was, at the same clock: the track of an entry, and what else tells when its time comes
+record IsLeft (new old : WatchState) (j : ℕ) : Type 0 where
+  track : track_at new j ≡ track_at old j
+  margin : new.forest.margin ≡ old.forest.margin
+  step : (entry_of new j).step ≡ (entry_of old j).step
+
+come_parts :
+    (m n s t now then' : ℕ) (x y : Track) → m ≡ n → s ≡ t → x ≡ y → now ≡ then' → nat_le (time_before x.end (own_by m (lead s x.grant))) now ≡ nat_le (time_before y.end (own_by n (lead t y.grant))) then'
+come_parts m n s t now then' x y margins steps tracks clock = cc
+
+come_left : (new old : WatchState) (j : ℕ) → IsLeft new old j → new.clocks.at ≡ old.clocks.at → is_come new j ≡ is_come old j
+unfolding has_come time own_margin
+come_left new old j left clock =
+    come_parts new.forest.margin old.forest.margin (entry_of new j).step (entry_of old j).step (second new) (second old) (track_at new j) (track_at old j) left.margin left.step left.track (ap sec clock)
+
+same_stays : (old new : WatchState) (j : ℕ) → IsLeft new old j → new.clocks.at ≡ old.clocks.at → is_pressed (track_at old j) ≡ true → Stays old new j
+same_stays old new j left clock is =
+    let same = left.track in
+    let come = come_left new old j left clock in
+    let tries : (b : Bool) → is_own_try b (attempt_at new j) ≡ is_own_try b (attempt_at old j) = λ b. ap (λ (x : Track). is_own_try b x.attempt) same in
+    let mine : is_own_try (is_come new j) (attempt_at new j) ≡ is_own_try (is_come old j) (attempt_at old j) = ap (λ b. is_own_try b (attempt_at new j)) come ∙ tries (is_come old j) in
+    let alive : is_alive (second new) (track_at new j) ≡ is_alive (second old) (track_at old j) =
+    ap (λ (x : Track). nat_lt (second new) (believed x.end)) same ∙ ap (λ n. nat_lt (sec n) (believed (track_at old j).end)) clock in
     record {
       pressed' = ap is_pressed same ∙ is;
+      own_still = λ h first. mine ∙ h (sym (tries true) ∙ first);
       end = λ h. ap (λ (x : Track). x.end) same;
-      own = λ h. sym own ∙ h;
+      own = λ h _. sym (ap₂ (λ a b. a && b) mine alive) ∙ h;
       out = λ h out. ap (λ (x : Track). x.out) same ∙ out;
     }
 
@@ -290,10 +352,11 @@ never_first : (n : ℕ) → (min 20 (n + 1) == 0) ≡ false
 never_first n = grind (arith, nat_tests)
 
 abbrev IsLater : Option Try → Type 0
-IsLater o = (is_pressed_try o ≡ true) × (is_own_try o ≡ false)
+IsLater o = (is_pressed_try o ≡ true) × ((come : Bool) → is_own_try come o ≡ false)
 
 failing_later : (t : Try) (next : Operation) (lost alone : Bool) → t.pressed ≡ true → IsLater (Some (failing t next lost alone))
-failing_later t next lost alone is = (is, ap (λ b. (b && (min 20 (t.fails + 1) == 0)) && not t.along) is ∙ ap (λ b. b && not t.along) (never_first t.fails))
+failing_later t next lost alone is =
+    (is, λ come. ap (λ b. (b && (min 20 (t.fails + 1) == 0)) && not (is_same next Renew && not come)) is ∙ ap (λ b. b && not (is_same next Renew && not come)) (never_first t.fails))
 
 refused_later : (at : ℕ) (x : Track) (t : Try) → t.pressed ≡ true → IsLater (Some (refused_try at x t))
 refused_later at x t is =
@@ -357,21 +420,38 @@ tracks_left s q reply there =
 
 answer_stays :
     (old mid new : WatchState) (q : Out) (reply : Reply) (j : ℕ) → new ≡ replied mid q reply → mid.presence.away ≡ false → new.clocks ≡ old.clocks → is_pressed (track_at old j) ≡ true →
-    (track_at mid j ≡ track_at old j) ⊎ IsLater (track_at mid j).attempt → Stays old new j
+    IsLeft mid old j ⊎ IsLater (track_at mid j).attempt → Stays old new j
 answer_stays old mid new q reply j made there clocks is what =
     let left : track_at new j ≡ track_at mid j = ap (λ (x : WatchState). track_at x j) made ∙ ap (λ xs. track_in xs j) (tracks_left mid q reply there) in
+    let forest : new.forest ≡ mid.forest = ap (λ (x : WatchState). x.forest) made ∙ replied_forest mid q reply in
     elim what as (λ _. Stays old new j) [
-      | inl same ↦ same_stays old new j (left ∙ same) (ap (λ c. c.at) clocks) is
+      | inl same ↦
+          same_stays old new j (record { track = left ∙ same.track; margin = ap (λ (f : Forest). f.margin) forest ∙ same.margin; step = ap (λ (f : Forest). (entry_at f.entries j).step) forest ∙ same.step })
+          (ap (λ c. c.at) clocks) is
       | inr later ↦
-          let none : is_own_first new j ≡ false =
-          ap (λ (x : Track). is_own_try x.attempt && nat_lt (second new) (believed x.end)) left ∙ ap (λ b. b && nat_lt (second new) (believed (track_at mid j).end)) later.1 in
+          let never : (come : Bool) → is_own_try come (attempt_at new j) ≡ false = λ come. ap (λ (x : Track). is_own_try come x.attempt) left ∙ later.1 come in
+          let none : is_own_first new j ≡ false = ap (λ b. b && is_alive (second new) (track_at new j)) (never (is_come new j)) in
           record {
             pressed' = ap is_pressed left ∙ later.0;
+            own_still = λ h first. absurd (not_both first (never true));
             end = λ own. absurd (not_both own none);
             own = λ own. absurd (not_both own none);
             out = λ own. absurd (not_both own none);
           }
     ]
+
+-- an answer to a lookup leaves what tells when the time of another entry comes
+looked_margin : (s : WatchState) (q : Out) (reply : Reply) (terms : Terms) → (looked s q reply terms).forest.margin ≡ s.forest.margin
+looked_margin s q (Told seconds renewable date) terms = refl
+looked_margin s q (Refused status date) terms = refl
+looked_margin s q Busy terms = refl
+looked_margin s q Lost terms = refl
+
+looked_entry : (s : WatchState) (q : Out) (reply : Reply) (terms : Terms) (j : ℕ) → (j ≡ q.entry → ⊥) → entry_of (looked s q reply terms) j ≡ entry_of s j
+looked_entry s q (Told seconds renewable date) terms j apart = entry_at_set_other s.forest.entries q.entry j (by_terms s.forest.margin terms (entry_of s q.entry)) apart
+looked_entry s q (Refused status date) terms j apart = refl
+looked_entry s q Busy terms j apart = refl
+looked_entry s q Lost terms j apart = refl
 
 looked_stays :
     (old new : WatchState) (k j : ℕ) (found : Option Out) (reply : Reply) (terms : Terms) (output : Output) → request_out old.out k Look ≡ found → StepLooked old found reply terms output new → (k ≡ j → is_told reply ≡ false) →
@@ -382,12 +462,17 @@ looked_stays old new k j (Some q) reply terms output is_found step untold' there
     let mid = looked s q reply terms in
     let entry = out_entry old.out k Look q is_found in
     answer_stays old mid new q reply j step.1 (ap (λ p. p.away) (looked_presence s q reply terms) ∙ there) (ap (λ (x : WatchState). x.clocks) (ap rest_of step.1 ∙ looked_leaves old q reply terms)) is
-    (elim (cases_Bool (q.entry == j)) as (λ _. (track_at mid j ≡ track_at old j) ⊎ IsLater (track_at mid j).attempt) [
+    (elim (cases_Bool (q.entry == j)) as (λ _. IsLeft mid old j ⊎ IsLater (track_at mid j).attempt) [
       | inl same ↦
           let e = eqb-true q.entry j same in
           let none = untold' (sym entry ∙ e) in
           inr (subst (λ m. IsLater (track_at mid m).attempt) e (looked_later s q reply terms none (ap (λ m. is_pressed (track_at old m)) e ∙ is)))
-      | inr other ↦ inl (looked_other s q reply terms j (λ e. not_both (same_index q.entry j e) other))
+      | inr other ↦
+          inl (record {
+            track = looked_other s q reply terms j (λ e. not_both (same_index q.entry j e) other);
+            margin = looked_margin s q reply terms;
+            step = ap (λ (e : Entry). e.step) (looked_entry s q reply terms j (λ e. not_both (same_index q.entry j (sym e)) other));
+          })
     ]) where
       same_index : (a b : ℕ) → a ≡ b → (a == b) ≡ true
       same_index a b e = grind (arith, nat_tests)
@@ -401,15 +486,29 @@ renewed_stays old new k j (Some q) reply output is_found step untold' there is =
     let mid = state_renewed s q reply in
     let entry = out_entry old.out k Renew q is_found in
     answer_stays old mid new q reply j step.1 there (ap (λ (x : WatchState). x.clocks) (ap rest_of step.1 ∙ renewed_leaves old q reply)) is
-    (elim (cases_Bool (q.entry == j)) as (λ _. (track_at mid j ≡ track_at old j) ⊎ IsLater (track_at mid j).attempt) [
+    (elim (cases_Bool (q.entry == j)) as (λ _. IsLeft mid old j ⊎ IsLater (track_at mid j).attempt) [
       | inl same ↦
           let e = eqb-true q.entry j same in
           let none = untold' (sym entry ∙ e) in
           inr (subst (λ m. IsLater (track_at mid m).attempt) e (renewed_later s q reply none (ap (λ m. is_pressed (track_at old m)) e ∙ is)))
-      | inr other ↦ inl (get_or-set_other s.tracks q.entry j _ no_track (λ e. not_both (same_index q.entry j (sym e)) other))
+      | inr other ↦ inl (record { track = get_or-set_other s.tracks q.entry j _ no_track (λ e. not_both (same_index q.entry j (sym e)) other); margin = refl; step = refl })
     ]) where
       same_index : (a b : ℕ) → a ≡ b → (a == b) ≡ true
       same_index a b e = grind (arith, nat_tests)
+
+-- and so does a new need
+need_step : (s : WatchState) (k until j : ℕ) → (entry_of (with_need_until s k until) j).step ≡ (entry_of s j).step
+need_step s k until j =
+    let es = s.forest.entries in
+    let e : Entry = record (entry_of s k) { need = min LAST until } in
+    elim (cases_lt k (length es)) as (λ _. (entry_at (set es k e) j).step ≡ (entry_at es j).step) [
+      | inl within ↦
+          elim (cases_eq j k) as (λ _. (entry_at (set es k e) j).step ≡ (entry_at es j).step) [
+            | inl same ↦ subst (λ i. (entry_at (set es k e) i).step ≡ (entry_at es i).step) (sym same) (ap (λ (f : Entry). f.step) (entry_at_set_same es k e within))
+            | inr other ↦ ap (λ (f : Entry). f.step) (entry_at_set_other es k j e other)
+          ]
+      | inr past ↦ ap (λ fs. (entry_at fs j).step) (set_past es k e past)
+    ]
 
 step_stays :
     (old new : WatchState) (event : Event) (output : Output) (j : ℕ) → Step old event output new → IsUntoldOf j event → IsPast old → old.presence.away ≡ false → is_pressed (track_at old j) ≡ true → is_wanted new j ≡ true →
@@ -417,21 +516,21 @@ step_stays :
 step_stays old new (Clock wall elapsed) output j step quiet past there is wanted = clock_stays old new wall elapsed output j step past is wanted
 step_stays old new (Looked k reply terms) output j step quiet past there is wanted = looked_stays old new k j (request_out old.out k Look) reply terms output refl step quiet there is
 step_stays old new (Renewed k reply) output j step quiet past there is wanted = renewed_stays old new k j (request_out old.out k Renew) reply output refl step quiet there is
-step_stays old new (Need k until) output j step quiet past there is wanted = subst (λ (x : WatchState). Stays old x j) (sym step.1) (same_stays old (with_need_until old k until) j refl refl is)
-step_stays old new Begin output j step quiet past there is wanted = subst (λ (x : WatchState). Stays old x j) (sym step.1) (same_stays old (record old { asked = true }) j refl refl is)
+step_stays old new (Need k until) output j step quiet past there is wanted = subst (λ (x : WatchState). Stays old x j) (sym step.1) (same_stays old (with_need_until old k until) j (record { track = refl; margin = refl; step = need_step old k until j }) refl is)
+step_stays old new Begin output j step quiet past there is wanted = subst (λ (x : WatchState). Stays old x j) (sym step.1) (same_stays old (record old { asked = true }) j (record { track = refl; margin = refl; step = refl }) refl is)
 step_stays old new (Known k told renewable) output j step quiet past there is wanted =
-    subst (λ (x : WatchState). Stays old x j) (sym step.1) (same_stays old (known old k told renewable) j (get_or-set_other old.tracks k j _ no_track (λ e. quiet (sym e))) refl is)
+    subst (λ (x : WatchState). Stays old x j) (sym step.1) (same_stays old (known old k told renewable) j (record { track = get_or-set_other old.tracks k j _ no_track (λ e. quiet (sym e)); margin = refl; step = refl }) refl is)
 
 turn_stays :
     (old new : WatchState) (event : Event) (result : Result Output WatchFault) (j : ℕ) → Turn old event result new → (is_event_taken result ≡ true → IsUntoldOf j event) → IsPast old → old.presence.away ≡ false →
     is_pressed (track_at old j) ≡ true → is_wanted new j ≡ true → Stays old new j
 turn_stays old new event (Ok output) j turn quiet past there is wanted = step_stays old new event output j turn.1 (quiet refl) past there is wanted
 turn_stays old new event (Err fault) j turn quiet past there is wanted =
-    subst (λ (x : WatchState). Stays old x j) (sym (refused_stays old new event fault turn)) (same_stays old old j refl refl is)
+    subst (λ (x : WatchState). Stays old x j) (sym (refused_stays old new event fault turn)) (same_stays old old j (record { track = refl; margin = refl; step = refl }) refl is)
 
 -- so it does not come to stand before another
-no_coming : (i j : ℕ) (old new : WatchState) → Stays old new j → (track_at new i).end ≡ (track_at old i).end → comes_before i old new j ≡ false
-no_coming i j old new stays same =
+no_coming : (i j : ℕ) (old new : WatchState) → Stays old new j → NotAlong old j → (track_at new i).end ≡ (track_at old i).end → comes_before i old new j ≡ false
+no_coming i j old new stays apart same =
     elim (cases_Bool (comes_before i old new j)) as (λ _. comes_before i old new j ≡ false) [
       | inl comes ↦
           let earlier : End → End → Bool = λ x y. nat_lt (believed x) (believed y) || (believed x == believed y && nat_lt j i) in
@@ -441,40 +540,43 @@ no_coming i j old new stays same =
           let own = parts.0 in
           let before : earlier (track_at old j).end (track_at old i).end ≡ true =
           sym (ap (λ e. earlier e (track_at new i).end) (stays.end own) ∙ ap (λ e. earlier (track_at old j).end e) same) ∙ parts.1 in
-          let stood' : stood ≡ true = and_from (is_own_first old j) (earlier (track_at old j).end (track_at old i).end) (stays.own own) before in
+          let stood' : stood ≡ true = and_from (is_own_first old j) (earlier (track_at old j).end (track_at old i).end) (stays.own own apart) before in
           let answered = sym (ap (λ b. not b || ((track_at old j).out && not (track_at new j).out)) stood') ∙ both.1 in
           let outs = and_parts (track_at old j).out (not (track_at new j).out) answered in
           absurd (not_both outs.1 (ap not (stays.out own outs.0)))
       | inr none ↦ none
     ]
 
-own_pressed : (o : Option Try) → is_own_try o ≡ true → is_pressed_try o ≡ true
-own_pressed None h = absurd cc
-own_pressed (Some t) h = (and_parts t.pressed (t.fails == 0) (and_parts (is_first t) (not t.along) h).0).0
+own_pressed : (come : Bool) (o : Option Try) → is_own_try come o ≡ true → is_pressed_try o ≡ true
+own_pressed come None h = absurd cc
+own_pressed come (Some t) h = (and_parts t.pressed (t.fails == 0) (and_parts (is_first t) (not (is_same t.operation Renew && not come)) h).0).0
+
+stands_own : (i j : ℕ) (s : WatchState) → stands_before i s j ≡ true → is_own_try (is_come s j) (attempt_at s j) ≡ true
+stands_own i j s h = (and_parts (is_own_try (is_come s j) (attempt_at s j)) (is_alive (second s) (track_at s j)) (and_parts (is_own_first s j) _ h).0).0
 
 stands_pressed : (i j : ℕ) (s : WatchState) → stands_before i s j ≡ true → is_pressed (track_at s j) ≡ true
-stands_pressed i j s h =
-    own_pressed (track_at s j).attempt (and_parts (is_own_try (track_at s j).attempt) (is_alive (second s) (track_at s j)) (and_parts (is_own_first s j) _ h).0).0
+stands_pressed i j s h = own_pressed (is_come s j) (attempt_at s j) (stands_own i j s h)
 
 counts_once :
     (width n i j : ℕ) (turns : List Turned) (s : WatchState) → History s turns → AreHung i j s turns → IsBase width n s → s.presence.away ≡ false →
-    (is_pressed (track_at s j) ≡ true → often_before i j s turns ≡ 0) × (often_before i j s turns ≤ 1)
-counts_once width n i j [] s history hung base there = ((λ is. refl), omega arith)
+    (is_pressed (track_at s j) ≡ true → NotAlong s j → often_before i j s turns ≡ 0) × (often_before i j s turns ≤ 1)
+counts_once width n i j [] s history hung base there = ((λ is apart. refl), omega arith)
 counts_once width n i j (turn ∷ turns) s history hung base there =
     let new = turn.state in
     let here = hung.0 in
     let rest = counts_once width n i j turns new history.1 hung.1 (turn_base width n s new turn.event turn.result history.0 base) here.there in
     let later = rest.0 in
     let few = rest.1 in (
-      (λ is.
+      (λ is apart.
           let stays = turn_stays s new turn.event turn.result j history.0 here.untold base.past there is here.wanted in
-          let none = ap one_where (no_coming i j s new stays here.same) in
-          let after = later stays.pressed' in
+          let none = ap one_where (no_coming i j s new stays apart here.same) in
+          let after = later stays.pressed' (stays.own_still apart) in
           omega (arith, none, after)),
       elim (cases_Bool (comes_before i s new j)) as (λ _. one_where (comes_before i s new j) + often_before i j new turns ≤ 1) [
         | inl comes ↦
             let one = ap one_where comes in
-            let after = later (stands_pressed i j new (and_parts (stands_before i new j) _ comes).0) in
+            let stands = (and_parts (stands_before i new j) _ comes).0 in
+            let after = later (stands_pressed i j new stands) (λ _. stands_own i j new stands) in
             omega (arith, one, after)
         | inr none ↦ (let no' = ap one_where none in omega (arith, no', few))
       ],
@@ -489,7 +591,8 @@ waits_once width n i j turns s history hung base there =
     elim (cases_Bool (waits_before i s j)) as (λ _. one_where (waits_before i s j) + often_before i j s turns ≤ 1) [
       | inl waits ↦
           let one = ap one_where waits in
-          let none = pressed' (stands_pressed i j s (and_parts (stands_before i s j) (not (track_at s j).out) waits).0) in
+          let stands = (and_parts (stands_before i s j) (not (track_at s j).out) waits).0 in
+          let none = pressed' (stands_pressed i j s stands) (λ _. stands_own i j s stands) in
           omega (arith, one, none)
       | inr no' ↦ (let none = ap one_where no' in omega (arith, none, few))
     ]

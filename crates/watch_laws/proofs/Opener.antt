@@ -40,14 +40,14 @@ Bears y x = bearing y ≡ bearing x
 pub pressed_bears : (margin : ℕ) (e : Entry) (need at : ℕ) (x : Track) → Bears (pressed_track margin e need at x) x
 unfolding pressed_track
 pressed_bears margin e need at x =
-    if_both (λ y. Bears y x) (is_fresh margin e x need (sec at)) (record x { attempt = Some (press at false x) }) (if wants x need || x.out then x else record x { attempt = dropped x x.attempt }) refl
+    if_both (λ y. Bears y x) (is_fresh margin e x need (sec at)) (record x { attempt = Some (press at x) }) (if wants x need || x.out then x else record x { attempt = dropped x x.attempt }) refl
     (if_both (λ y. Bears y x) (wants x need || x.out) x (record x { attempt = dropped x x.attempt }) refl refl)
 
-asked_bears : (margin : ℕ) (e : Entry) (at : ℕ) (round : List ℕ) (i : ℕ) (x : Track) → Bears (track_asked_in margin e at round i x) x
+asked_bears : (at : ℕ) (round : List ℕ) (i : ℕ) (x : Track) → Bears (track_asked_in at round i x) x
 unfolding asked_track
-asked_bears margin e at round i x =
-    if_both (λ y. Bears y x) (list_any (λ j. j == i) round) (asked_track margin e at x) x
-    (if_both (λ y. Bears y x) x.out x (record x { attempt = Some (press at (not (has_come margin e x (sec at))) x) }) refl refl) refl
+asked_bears at round i x =
+    if_both (λ y. Bears y x) (list_any (λ j. j == i) round) (asked_track at x) x
+    (if_both (λ y. Bears y x) x.out x (record x { attempt = Some (press at x) }) refl refl) refl
 
 -- pressing and sending leave it
 pub mid_bears : (s : WatchState) (round : List ℕ) (requests : List Request) (i : ℕ) → bearing (track_at (sent (pressed s round) requests) i) ≡ bearing (track_at s i)
@@ -57,7 +57,7 @@ mid_bears s round requests i =
     let alone = pressed_alone g c s.tracks in
     let mid = pressed s round in
     each_kept Bears refl (sent_in c.at requests) mid.tracks (λ j x. if_both (λ y. Bears y x) (list_any (λ (r : Request). r.entry == j) requests) (sent_track c.at x) x refl refl) i
-    ∙ each_kept Bears refl (λ j. track_asked_in g.margin (entry_at g.entries j) c.at round j) alone (λ j x. asked_bears g.margin (entry_at g.entries j) c.at round j x) i
+    ∙ each_kept Bears refl (track_asked_in c.at round) alone (asked_bears c.at round) i
     ∙ each_kept Bears refl (λ j. pressed_track g.margin (entry_at g.entries j) (need_of g.entries s.tracks c j) c.at) s.tracks
     (λ j x. pressed_bears g.margin (entry_at g.entries j) (need_of g.entries s.tracks c j) c.at x) i
 

@@ -80,16 +80,16 @@ dropped_some x (Some t) owes h =
 pressed_tries : (margin : ℕ) (e : Entry) (need at : ℕ) (x : Track) → Still (pressed_track margin e need at x) x
 unfolding pressed_track
 pressed_tries margin e need at x h =
-    if_both Tries (is_fresh margin e x need (sec at)) (record x { attempt = Some (press at false x) }) (if wants x need || x.out then x else record x { attempt = dropped x x.attempt })
+    if_both Tries (is_fresh margin e x need (sec at)) (record x { attempt = Some (press at x) }) (if wants x need || x.out then x else record x { attempt = dropped x x.attempt })
     (record { owed = λ o. refl; out = λ o. refl })
     (if_cases Tries (wants x need || x.out) x (record x { attempt = dropped x x.attempt }) (λ e'. h)
     (λ let_go'. record { owed = λ o. dropped_some x x.attempt o (h.owed o); out = λ o. absurd (not_both o (or_parts (wants x need) x.out let_go').1) }))
 
-asked_tries : (margin : ℕ) (e : Entry) (at : ℕ) (round : List ℕ) (i : ℕ) (x : Track) → Still (track_asked_in margin e at round i x) x
+asked_tries : (at : ℕ) (round : List ℕ) (i : ℕ) (x : Track) → Still (track_asked_in at round i x) x
 unfolding asked_track
-asked_tries margin e at round i x h =
-    if_both Tries (list_any (λ j. j == i) round) (asked_track margin e at x) x
-    (if_both Tries x.out x (record x { attempt = Some (press at (not (has_come margin e x (sec at))) x) }) h (record { owed = λ o. refl; out = λ o. refl })) h
+asked_tries at round i x h =
+    if_both Tries (list_any (λ j. j == i) round) (asked_track at x) x
+    (if_both Tries x.out x (record x { attempt = Some (press at x) }) h (record { owed = λ o. refl; out = λ o. refl })) h
 
 begun_tries : (s : WatchState) (w : Option Why) (i : ℕ) → Still (track_at (begun s w) i) (track_at s i)
 begun_tries s None i h = h
@@ -110,7 +110,7 @@ mid_tries s round i h =
     let c = s.clocks in
     let g = s.forest in
     let alone = pressed_alone g c s.tracks in
-    each_kept Still (λ k. k) (λ j. track_asked_in g.margin (entry_at g.entries j) c.at round j) alone (λ j x. asked_tries g.margin (entry_at g.entries j) c.at round j x) i
+    each_kept Still (λ k. k) (track_asked_in c.at round) alone (asked_tries c.at round) i
     (each_kept Still (λ k. k) (λ j. pressed_track g.margin (entry_at g.entries j) (need_of g.entries s.tracks c j) c.at) s.tracks
     (λ j x. pressed_tries g.margin (entry_at g.entries j) (need_of g.entries s.tracks c j) c.at x) i h)
 
@@ -125,7 +125,7 @@ due_some p at x due = by x.attempt (and_parts (not x.out) (is_due_try p at x x.a
 none_tries : Tries no_track
 none_tries = record { owed = λ o. absurd cc; out = λ o. absurd cc }
 
-sent_tries : (s : WatchState) (requests : List Request) (lanes i : ℕ) → Goes s.presence s.clocks.at s.tracks lanes requests → Still (track_at (sent s requests) i) (track_at s i)
+sent_tries : (s : WatchState) (requests : List Request) (lanes i : ℕ) → Goes s.forest s.presence s.clocks.at s.tracks lanes requests → Still (track_at (sent s requests) i) (track_at s i)
 sent_tries s requests lanes i h k =
     let p = s.presence in
     let at = s.clocks.at in
@@ -228,7 +228,7 @@ some_try (Some t) h = (t, refl)
 commanded : (s new : WatchState) (round : List ℕ) (command : Command) → AllTry (pressed s round) → StepCommand (pressed s round) command new → Outcome command new
 commanded s new round (Go requests until) all h =
     let mid = pressed s round in
-    let going = goes s.presence s.clocks.at mid.tracks (s.width - length s.out) requests h.0.0 in
+    let going = goes s.forest s.presence s.clocks.at mid.tracks (s.width - length s.out) requests h.0.0 in
     subst (λ n. Outcome (Go requests n) new) (sym h.1)
     (subst (λ (x : WatchState). Outcome (Go requests (wait x)) x) (sym h.0.1)
     (let tries : AllTry (sent mid requests) = λ i. sent_tries mid requests (s.width - length s.out) i going (all i) in (

@@ -107,7 +107,7 @@ each_once o (suc n) i turns s once =
     ]
 
 pub passes_hung : HungLaw
-passes_hung o g width before first turns next i run clock taken' held out holding hung clock' taken'' in_time =
+passes_hung o g width before first turns next i run clock taken' may there out holding hung clock' taken'' in_time =
     let n = length g.entries in
     let rest = turns ++ next ∷ [] in
     let old = after_all (opened g width) before in
@@ -116,8 +116,8 @@ passes_hung o g width before first turns next i run clock taken' held out holdin
     let s = first.state in
     let base = turn_base width n old s first.event first.result history.0 (ran_base width n before (opened g width) earlier (opened_base g width)) in
     let turns' = first_turns turns (next ∷ []) s history.1 in
-    let by = held_up o g width before first turns next i run clock taken' held.may out holding clock' taken'' in_time in
-    let once = each_once o n i turns s (λ j low is. waits_once width n i j turns s turns' (hung j low is) base held.there) in
+    let by = held_up o g width before first turns next i run clock taken' may out holding clock' taken'' in_time in
+    let once = each_once o n i turns s (λ j low is. waits_once width n i j turns s turns' (hung j low is) base there) in
     let waiting' = kept_is o n (waits_before i s) in
     let coming = coming_is o n i turns s in
     let p = o.patience + o.late in

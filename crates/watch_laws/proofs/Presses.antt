@@ -110,13 +110,12 @@ pub again_is : (last : Option ℕ) → rested last ≡ asked_again_at last
 again_is None = refl
 again_is (Some last) = refl
 
-press_is : (old new : WatchState) (i : ℕ) (along : Bool) (y : Track) → y.last ≡ (track_at old i).last → (track_at new i).end ≡ y.end → IsPressedNow old new i along (press new.clocks.at along y)
+press_is : (old new : WatchState) (i : ℕ) (y : Track) → y.last ≡ (track_at old i).last → (track_at new i).end ≡ y.end → IsPressedNow old new i (press new.clocks.at y)
 unfolding press
-press_is old new i along y last end = record {
+press_is old new i y last end = record {
   at = ap (λ l. max new.clocks.at (rested l)) last ∙ ap (max new.clocks.at) (again_is (track_at old i).last);
   operation = ap (λ (e : End). if nat_lt (second new) (believed e) then Renew else Look) (sym end);
   pressed = refl;
-  asked_along = refl;
   base = refl;
   fails = refl;
 }
@@ -124,49 +123,49 @@ press_is old new i along y last end = record {
 pub pressed_last : (margin : ℕ) (e : Entry) (need at : ℕ) (x : Track) → (pressed_track margin e need at x).last ≡ x.last
 unfolding pressed_track
 pressed_last margin e need at x =
-    if_both (λ (y : Track). y.last ≡ x.last) (is_fresh margin e x need (sec at)) (record x { attempt = Some (press at false x) }) (if wants x need || x.out then x else record x { attempt = dropped x x.attempt }) refl
+    if_both (λ (y : Track). y.last ≡ x.last) (is_fresh margin e x need (sec at)) (record x { attempt = Some (press at x) }) (if wants x need || x.out then x else record x { attempt = dropped x x.attempt }) refl
     (if_both (λ (y : Track). y.last ≡ x.last) (wants x need || x.out) x (record x { attempt = dropped x x.attempt }) refl refl)
 
 -- one whose time has come
-module _ (margin : ℕ) (e : Entry) (at : ℕ) (round : List ℕ) (i : ℕ) where
-  named_try : (y : Track) → y.out ≡ false → list_any (λ j. j == i) round ≡ true → (track_asked_in margin e at round i y).attempt ≡ Some (press at (not (has_come margin e y (sec at))) y)
+module _ (at : ℕ) (round : List ℕ) (i : ℕ) where
+  named_try : (y : Track) → y.out ≡ false → list_any (λ j. j == i) round ≡ true → (track_asked_in at round i y).attempt ≡ Some (press at y)
   unfolding asked_track
   named_try y free named =
-      ap (λ (z : Track). z.attempt) (cond-true (list_any (λ j. j == i) round) (asked_track margin e at y) y named)
-      ∙ ap (λ (z : Track). z.attempt) (cond-false y.out y (record y { attempt = Some (press at (not (has_come margin e y (sec at))) y) }) free)
+      ap (λ (z : Track). z.attempt) (cond-true (list_any (λ j. j == i) round) (asked_track at y) y named)
+      ∙ ap (λ (z : Track). z.attempt) (cond-false y.out y (record y { attempt = Some (press at y) }) free)
 
-  other_track : (y : Track) → list_any (λ j. j == i) round ≡ false → track_asked_in margin e at round i y ≡ y
-  other_track y other = cond-false (list_any (λ j. j == i) round) (asked_track margin e at y) y other
+  other_track : (y : Track) → list_any (λ j. j == i) round ≡ false → track_asked_in at round i y ≡ y
+  other_track y other = cond-false (list_any (λ j. j == i) round) (asked_track at y) y other
 
-  fresh_track : (x : Track) (need : ℕ) → wants x need ≡ true → has_come margin e x (sec at) ≡ true → is_pressed x ≡ false → x.out ≡ false → pressed_track margin e need at x ≡ record x { attempt = Some (press at false x) }
+  fresh_track : (margin : ℕ) (e : Entry) (x : Track) (need : ℕ) → wants x need ≡ true → has_come margin e x (sec at) ≡ true → is_pressed x ≡ false → x.out ≡ false → pressed_track margin e need at x ≡ record x { attempt = Some (press at x) }
   unfolding pressed_track is_fresh
-  fresh_track x need wanted come loose free =
-      cond-true (wants x need && (has_come margin e x (sec at) && (not (is_pressed x) && not x.out))) (record x { attempt = Some (press at false x) })
+  fresh_track margin e x need wanted come loose free =
+      cond-true (wants x need && (has_come margin e x (sec at) && (not (is_pressed x) && not x.out))) (record x { attempt = Some (press at x) })
       (if wants x need || x.out then x else record x { attempt = dropped x x.attempt })
       (and_from (wants x need) (has_come margin e x (sec at) && (not (is_pressed x) && not x.out)) wanted
       (and_from (has_come margin e x (sec at)) (not (is_pressed x) && not x.out) come (and_from (not (is_pressed x)) (not x.out) (ap not loose) (ap not free))))
 
-  again_same : (x : Track) (o : Option Try) (along : Bool) → press at along (record x { attempt = o }) ≡ press at along x
+  again_same : (x : Track) (o : Option Try) → press at (record x { attempt = o }) ≡ press at x
   unfolding press
-  again_same x o along = refl
+  again_same x o = refl
 
-  come_try : (x : Track) (need : ℕ) → wants x need ≡ true → has_come margin e x (sec at) ≡ true → is_pressed x ≡ false → x.out ≡ false →
-      (track_asked_in margin e at round i (pressed_track margin e need at x)).attempt ≡ Some (press at false x)
-  come_try x need wanted come loose free =
-      let y : Track = record x { attempt = Some (press at false x) } in
-      ap (λ (z : Track). (track_asked_in margin e at round i z).attempt) (fresh_track x need wanted come loose free)
-      ∙ if_cases (λ (z : Track). z.attempt ≡ Some (press at false x)) (list_any (λ j. j == i) round) (asked_track margin e at y) y
+  come_try : (margin : ℕ) (e : Entry) (x : Track) (need : ℕ) → wants x need ≡ true → has_come margin e x (sec at) ≡ true → is_pressed x ≡ false → x.out ≡ false →
+      (track_asked_in at round i (pressed_track margin e need at x)).attempt ≡ Some (press at x)
+  come_try margin e x need wanted come loose free =
+      let y : Track = record x { attempt = Some (press at x) } in
+      ap (λ (z : Track). (track_asked_in at round i z).attempt) (fresh_track margin e x need wanted come loose free)
+      ∙ if_cases (λ (z : Track). z.attempt ≡ Some (press at x)) (list_any (λ j. j == i) round) (asked_track at y) y
       (λ named.
-      ap (λ (z : Track). z.attempt) (sym (cond-true (list_any (λ j. j == i) round) (asked_track margin e at y) y named)) ∙ named_try y free named
-      ∙ ap (λ b. Some (press at (not b) y)) (come_same margin e y x (sec at) refl ∙ come) ∙ ap (λ t. Some t) (again_same x (Some (press at false x)) false)) (λ _. refl)
+      ap (λ (z : Track). z.attempt) (sym (cond-true (list_any (λ j. j == i) round) (asked_track at y) y named)) ∙ named_try y free named
+      ∙ ap (λ t. Some t) (again_same x (Some (press at x)))) (λ _. refl)
 
   -- one that is wanted no more
-  gone_track : (x : Track) (need : ℕ) → wants x need ≡ false → x.out ≡ false → pressed_track margin e need at x ≡ record x { attempt = dropped x x.attempt }
+  gone_track : (margin : ℕ) (e : Entry) (x : Track) (need : ℕ) → wants x need ≡ false → x.out ≡ false → pressed_track margin e need at x ≡ record x { attempt = dropped x x.attempt }
   unfolding pressed_track is_fresh
-  gone_track x need unwanted free =
+  gone_track margin e x need unwanted free =
       let rest = has_come margin e x (sec at) && (not (is_pressed x) && not x.out) in
       let keep = if wants x need || x.out then x else record x { attempt = dropped x x.attempt } in
-      cond-false (wants x need && rest) (record x { attempt = Some (press at false x) }) keep (ap (λ b. b && rest) unwanted)
+      cond-false (wants x need && rest) (record x { attempt = Some (press at x) }) keep (ap (λ b. b && rest) unwanted)
       ∙ cond-false (wants x need || x.out) x (record x { attempt = dropped x x.attempt }) (ap (λ b. b || x.out) unwanted ∙ free)
 
 left_over : (x : Track) (o : Option Try) (u : Try) → dropped x o ≡ Some u → (u.pressed ≡ false) × (x.owes ≡ true)
@@ -187,15 +186,15 @@ left_loose x (Some t) loose = by t.pressed x.owes loose where
   by false true p = loose
   by false false p = refl
 
-out_asked_same : (margin : ℕ) (e : Entry) (at : ℕ) (round : List ℕ) (i : ℕ) (y : Track) → y.out ≡ true → track_asked_in margin e at round i y ≡ y
+out_asked_same : (at : ℕ) (round : List ℕ) (i : ℕ) (y : Track) → y.out ≡ true → track_asked_in at round i y ≡ y
 unfolding asked_track
-out_asked_same margin e at round i y out =
-    if_both (λ z. z ≡ y) (list_any (λ j. j == i) round) (asked_track margin e at y) y (cond-true y.out y (record y { attempt = Some (press at (not (has_come margin e y (sec at))) y) }) out) refl
+out_asked_same at round i y out =
+    if_both (λ z. z ≡ y) (list_any (λ j. j == i) round) (asked_track at y) y (cond-true y.out y (record y { attempt = Some (press at y) }) out) refl
 
 loose_pressed : (margin : ℕ) (e : Entry) (need at : ℕ) (x : Track) → is_pressed x ≡ false → is_fresh margin e x need (sec at) ≡ false → is_pressed (pressed_track margin e need at x) ≡ false
 unfolding pressed_track
 loose_pressed margin e need at x loose stale =
-    ap is_pressed (cond-false (is_fresh margin e x need (sec at)) (record x { attempt = Some (press at false x) }) (if wants x need || x.out then x else record x { attempt = dropped x x.attempt }) stale)
+    ap is_pressed (cond-false (is_fresh margin e x need (sec at)) (record x { attempt = Some (press at x) }) (if wants x need || x.out then x else record x { attempt = dropped x x.attempt }) stale)
     ∙ if_both (λ y. is_pressed y ≡ false) (wants x need || x.out) x (record x { attempt = dropped x x.attempt }) loose (left_loose x x.attempt loose)
 
 fresh_parts : (margin : ℕ) (e : Entry) (x : Track) (need now : ℕ) → is_fresh margin e x need now ≡ true → (wants x need ≡ true) × (has_come margin e x now ≡ true)
@@ -225,7 +224,6 @@ at_try (Some u) t same =
         record {
           operation = ap (λ (v : Try). v.operation) is;
           pressed = ap (λ (v : Try). v.pressed) is;
-          along = ap (λ (v : Try). v.along) is;
           base = ap (λ (v : Try). v.base) is;
           fails = ap (λ (v : Try). v.fails) is;
           lost = ap (λ (v : Try). v.lost) is;
@@ -270,31 +268,29 @@ module _ (old : WatchState) (wall elapsed : ℕ) (round : List ℕ) (requests : 
   within_r : i < length old.tracks → i < length r.tracks
   within_r within = let count = readied_count old wall elapsed in omega (arith, within, count)
 
-  try_is : i < length r.tracks → attempt_at n i ≡ (track_asked_in r.forest.margin (entry_of r i) r.clocks.at round i y).attempt
+  try_is : i < length r.tracks → attempt_at n i ≡ (track_asked_in r.clocks.at round i y).attempt
   try_is within = attempt_sent r round requests i ∙ ap (λ (z : Track). z.attempt) (mid_read r round requests i within)
 
-  come_pressed : i < length old.tracks → (track_at old i).out ≡ false → is_pressed (track_at old i) ≡ false → is_wanted n i ≡ true → is_come n i ≡ true → HasPressed old n i false
+  come_pressed : i < length old.tracks → (track_at old i).out ≡ false → is_pressed (track_at old i) ≡ false → is_wanted n i ≡ true → is_come n i ≡ true → HasPressed old n i
   come_pressed within free loose wanted come = (
-    press r.clocks.at false x,
+    press r.clocks.at x,
     (
       try_is (within_r within)
-          ∙ come_try r.forest.margin (entry_of r i) r.clocks.at round i x (wanted_need r i) (sym wanted_is ∙ wanted) (sym come_is ∙ come) (keeps.pressed ∙ loose) (keeps.out ∙ free),
-      press_is old n i false x keeps.last end_is,
+          ∙ come_try r.clocks.at round i r.forest.margin (entry_of r i) x (wanted_need r i) (sym wanted_is ∙ wanted) (sym come_is ∙ come) (keeps.pressed ∙ loose) (keeps.out ∙ free),
+      press_is old n i x keeps.last end_is,
     ),
   )
 
-  named_pressed : i < length old.tracks → (track_at old i).out ≡ false → list_any (λ j. j == i) round ≡ true → HasPressed old n i (not (is_come n i))
+  named_pressed : i < length old.tracks → (track_at old i).out ≡ false → list_any (λ j. j == i) round ≡ true → HasPressed old n i
   named_pressed within free named =
       let m = r.forest.margin in
       let e = entry_of r i in
       let need = wanted_need r i in
-      let at = r.clocks.at in
-      let come : has_come m e y (sec at) ≡ is_come n i = come_same m e y x (sec at) (pressed_bears m e need at x) ∙ sym come_is in
-      let along = not (is_come n i) in (
-        press at along y,
+      let at = r.clocks.at in (
+        press at y,
         (
-          try_is (within_r within) ∙ named_try m e at round i y (out_pressed m e need at x ∙ keeps.out ∙ free) named ∙ ap (λ b. Some (press at (not b) y)) come,
-          press_is old n i along y (pressed_last m e need at x ∙ keeps.last) (end_is ∙ sym (end_pressed m e need at x)),
+          try_is (within_r within) ∙ named_try at round i y (out_pressed m e need at x ∙ keeps.out ∙ free) named,
+          press_is old n i y (pressed_last m e need at x ∙ keeps.last) (end_is ∙ sym (end_pressed m e need at x)),
         ),
       )
 
@@ -305,8 +301,8 @@ module _ (old : WatchState) (wall elapsed : ℕ) (round : List ℕ) (requests : 
       let need = wanted_need r i in
       let at = r.clocks.at in
       let within : i < length r.tracks = (let low = some_within n.tracks i u is in let count = new_count r round requests in omega (arith, low, count)) in
-      let gone = gone_track m e at round i x need (sym wanted_is ∙ unwanted) (keeps.out ∙ free) in
-      let there : dropped x x.attempt ≡ Some u = ap (λ (z : Track). z.attempt) (sym gone) ∙ ap (λ (z : Track). z.attempt) (sym (other_track m e at round i y other)) ∙ sym (try_is within) ∙ is in
+      let gone = gone_track at round i m e x need (sym wanted_is ∙ unwanted) (keeps.out ∙ free) in
+      let there : dropped x x.attempt ≡ Some u = ap (λ (z : Track). z.attempt) (sym gone) ∙ ap (λ (z : Track). z.attempt) (sym (other_track at round i y other)) ∙ sym (try_is within) ∙ is in
       let left = left_over x x.attempt u there in
       (left.0, owes_kept r round requests i ∙ left.1)
 
@@ -321,15 +317,15 @@ module _ (old : WatchState) (wall elapsed : ℕ) (round : List ℕ) (requests : 
       elim (cases_lt i (length r.tracks)) [
         | inr past ↦ absurd (true≢false (sym now ∙ ap is_pressed_try (attempt_sent r round requests i ∙ past_kept r round requests i past) ∙ unpressed))
         | inl within ↦
-            let is : is_pressed (track_asked_in m e at round i y) ≡ true = sym (ap is_pressed_try (try_is within)) ∙ now in
+            let is : is_pressed (track_asked_in at round i y) ≡ true = sym (ap is_pressed_try (try_is within)) ∙ now in
             elim (cases_Bool x.out) [
-              | inl out ↦ absurd (true≢false (sym is ∙ ap is_pressed (out_asked_same m e at round i y (out_pressed m e need at x ∙ out)) ∙ loose_pressed m e need at x unpressed (stale_asked m e x need (sec at) (or_right (is_pressed x) x.out out))))
+              | inl out ↦ absurd (true≢false (sym is ∙ ap is_pressed (out_asked_same at round i y (out_pressed m e need at x ∙ out)) ∙ loose_pressed m e need at x unpressed (stale_asked m e x need (sec at) (or_right (is_pressed x) x.out out))))
               | inr free ↦ (
                 sym keeps.out ∙ free,
                 elim (cases_Bool (list_any (λ j. j == i) round)) [
                   | inl named ↦ inr named
                   | inr other ↦
-                      let own : is_pressed y ≡ true = sym (ap is_pressed (other_track m e at round i y other)) ∙ is in
+                      let own : is_pressed y ≡ true = sym (ap is_pressed (other_track at round i y other)) ∙ is in
                       elim (cases_Bool (is_fresh m e x need (sec at))) [
                         | inl fresh ↦ (let parts = fresh_parts m e x need (sec at) fresh in inl (wanted_is ∙ parts.0, come_is ∙ parts.1))
                         | inr stale ↦ absurd (true≢false (sym own ∙ loose_pressed m e need at x unpressed stale))
@@ -359,10 +355,10 @@ clock_of P old new event (Ok output) wall elapsed turn is taken' all =
 pub presses_so : PressLaw
 presses_so = record {
   come = λ old turn wall elapsed i h clock within free loose.
-      clock_of (λ n round. is_wanted n i ≡ true → is_come n i ≡ true → HasPressed old n i false) old turn.state turn.event turn.result wall elapsed h.0 clock.0 clock.1
+      clock_of (λ n round. is_wanted n i ≡ true → is_come n i ≡ true → HasPressed old n i) old turn.state turn.event turn.result wall elapsed h.0 clock.0 clock.1
       (λ round requests _. come_pressed old wall elapsed (asked_by_round round) requests i within free loose);
   named = λ old turn wall elapsed i h clock within free.
-      clock_of (λ n round. is_named_in_round round i ≡ true → HasPressed old n i (not (is_come n i))) old turn.state turn.event turn.result wall elapsed h.0 clock.0 clock.1
+      clock_of (λ n round. is_named_in_round round i ≡ true → HasPressed old n i) old turn.state turn.event turn.result wall elapsed h.0 clock.0 clock.1
       (λ round requests _ named. named_pressed old wall elapsed (asked_by_round round) requests i within free (named_is round i ∙ named));
   only = λ old turn wall elapsed i h clock loose.
       clock_of (λ n round. is_pressed (track_at n i) ≡ true → HasToBeAsked old n round i) old turn.state turn.event turn.result wall elapsed h.0 clock.0 clock.1

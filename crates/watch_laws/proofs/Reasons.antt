@@ -103,16 +103,16 @@ pressed_reasoned :
 unfolding pressed_track is_fresh
 pressed_reasoned b more margin e need at x before come h =
     let fresh = wants x need && (has_come margin e x (sec at) && (not (is_pressed x) && not x.out)) in
-    if_cases (λ (y : Track). Reasoned more y.attempt) fresh (record x { attempt = Some (press at false x) }) (if wants x need || x.out then x else record x { attempt = dropped x x.attempt })
+    if_cases (λ (y : Track). Reasoned more y.attempt) fresh (record x { attempt = Some (press at x) }) (if wants x need || x.out then x else record x { attempt = dropped x x.attempt })
     (λ yes' renew. come (and_parts (has_come margin e x (sec at)) (not (is_pressed x) && not x.out) ((and_parts (wants x need) (has_come margin e x (sec at) && (not (is_pressed x) && not x.out)) yes').1)).0)
     (λ no'. if_both (λ (y : Track). Reasoned more y.attempt) (wants x need || x.out) x (record x { attempt = dropped x x.attempt }) (λ renew. before (h renew))
     (dropped_reasoned more x x.attempt (λ renew. before (h renew))))
 
 asked_reasoned :
     (more : Bool) (margin : ℕ) (e : Entry) (at : ℕ) (round : List ℕ) (i : ℕ) (x : Track) → (list_any (λ j. j == i) round ≡ true → more ≡ true) → Reasoned more x.attempt →
-    Reasoned more (track_asked_in margin e at round i x).attempt
+    Reasoned more (track_asked_in at round i x).attempt
 asked_reasoned more margin e at round i x named h =
-    if_cases (λ (y : Track). Reasoned more y.attempt) (list_any (λ j. j == i) round) (asked_track margin e at x) x (λ yes' renew. named yes') (λ no'. h)
+    if_cases (λ (y : Track). Reasoned more y.attempt) (list_any (λ j. j == i) round) (asked_track at x) x (λ yes' renew. named yes') (λ no'. h)
 
 begun_still : (b : Bool) (s : WatchState) (w : Option Why) (i : ℕ) → Still b (track_at (begun s w) i) (track_at s i)
 begun_still b s None i h = h
@@ -135,7 +135,7 @@ mid_reasoned b more s round i before come named h =
     let c = s.clocks in
     let g = s.forest in
     let alone = pressed_alone g c s.tracks in
-    each_holds (λ (y : Track). Reasoned more y.attempt) (none_reasoned more) (λ j. track_asked_in g.margin (entry_at g.entries j) c.at round j) alone i
+    each_holds (λ (y : Track). Reasoned more y.attempt) (none_reasoned more) (track_asked_in c.at round) alone i
     (asked_reasoned more g.margin (entry_at g.entries i) c.at round i (track_in alone i) named
     (each_holds (λ (y : Track). Reasoned more y.attempt) (none_reasoned more) (λ j. pressed_track g.margin (entry_at g.entries j) (need_of g.entries s.tracks c j) c.at) s.tracks i
     (pressed_reasoned b more g.margin (entry_at g.entries i) (need_of g.entries s.tracks c i) c.at (track_at s i) before come h)))
@@ -159,7 +159,7 @@ renews_by p now xs i (j ∷ js) h =
 
 goes_reasoned : (b : Bool) (s new : WatchState) (command : Command) (i : ℕ) → StepCommand s command new → Reasoned b (track_at s i).attempt → renewal_goes_out i (requests_asked_by command) ≡ true → b ≡ true
 goes_reasoned b s new (Go requests until) i h reasoned renew =
-    let going = goes s.presence s.clocks.at s.tracks (s.width - length s.out) requests h.0.0 in
+    let going = goes s.forest s.presence s.clocks.at s.tracks (s.width - length s.out) requests h.0.0 in
     reasoned (renews_by s.presence (sec s.clocks.at) s.tracks i going.entries (sym (ap (renewal_goes_out i) going.requests_are) ∙ renew))
 goes_reasoned b s new Taken i h reasoned renew = absurd h
 

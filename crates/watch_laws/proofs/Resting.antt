@@ -69,7 +69,7 @@ renews : (at : ℕ) (t : Try) → (at_once at t).operation ≡ Renew
 unfolding at_once
 renews at t =
     if_cases (λ (u : Try). u.operation ≡ Renew) t.pressed (record t { at = at; operation = Renew; failed = false })
-    (record { at = at; operation = Renew; pressed = true; along = false; base = Some at; fails = 0; lost = false; alone = false; failed = false }) (λ e. refl) (λ e. refl)
+    (record { at = at; operation = Renew; pressed = true; base = Some at; fails = 0; lost = false; alone = false; failed = false }) (λ e. refl) (λ e. refl)
 
 -- a reply that tells nothing
 abbrev pub IsUntold : Reply → Type 0
@@ -123,24 +123,24 @@ module _ (r : Sent) where
   dropped_follows x None last h = tt
   dropped_follows x (Some t) last h = if_cases (λ o. IfSome o (Follows r)) (t.pressed || not x.owes) (let_go x t) (Some t) (λ e. let_go_follows x t last) (λ e. h)
 
-  press_follows : (at : ℕ) (along : Bool) (x : Track) → x.last ≡ Some r.at → Follows r (press at along x)
+  press_follows : (at : ℕ) (x : Track) → x.last ≡ Some r.at → Follows r (press at x)
   unfolding press
-  press_follows at along x last = inl (soon_rests at x last)
+  press_follows at x last = inl (soon_rests at x last)
 
   pub pressed_ready : (margin : ℕ) (e : Entry) (need at : ℕ) (x : Track) → IsReady r x → IsReady r (pressed_track margin e need at x)
   unfolding pressed_track
   pressed_ready margin e need at x h =
-      if_cases (IsReady r) (is_fresh margin e x need (sec at)) (record x { attempt = Some (press at false x) }) (if wants x need || x.out then x else record x { attempt = dropped x x.attempt })
-      (λ fresh. record { last = h.last; attempt = λ free. press_follows at false x h.last })
+      if_cases (IsReady r) (is_fresh margin e x need (sec at)) (record x { attempt = Some (press at x) }) (if wants x need || x.out then x else record x { attempt = dropped x x.attempt })
+      (λ fresh. record { last = h.last; attempt = λ free. press_follows at x h.last })
       (λ other. if_cases (IsReady r) (wants x need || x.out) x (record x { attempt = dropped x x.attempt }) (λ e. h)
       (λ e. record { last = h.last; attempt = λ free. dropped_follows x x.attempt h.last (h.attempt free) }))
 
-  pub asked_ready : (margin : ℕ) (e : Entry) (at : ℕ) (round : List ℕ) (i : ℕ) (x : Track) → IsReady r x → IsReady r (track_asked_in margin e at round i x)
+  pub asked_ready : (at : ℕ) (round : List ℕ) (i : ℕ) (x : Track) → IsReady r x → IsReady r (track_asked_in at round i x)
   unfolding asked_track
-  asked_ready margin e at round i x h =
-      if_cases (IsReady r) (list_any (λ j. j == i) round) (asked_track margin e at x) x
-      (λ named. if_cases (IsReady r) x.out x (record x { attempt = Some (press at (not (has_come margin e x (sec at))) x) }) (λ out. h)
-      (λ free. record { last = h.last; attempt = λ f. press_follows at (not (has_come margin e x (sec at))) x h.last }))
+  asked_ready at round i x h =
+      if_cases (IsReady r) (list_any (λ j. j == i) round) (asked_track at x) x
+      (λ named. if_cases (IsReady r) x.out x (record x { attempt = Some (press at x) }) (λ out. h)
+      (λ free. record { last = h.last; attempt = λ f. press_follows at x h.last }))
       (λ e. h)
 
   -- the broker is back: a try that was lost goes out a second after r, also one that has no pause yet

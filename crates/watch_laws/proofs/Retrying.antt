@@ -119,12 +119,12 @@ module _ (at pause' : ℕ) (t : Try) where
   same_try : (u v : Try) → Some u ≡ Some v → u ≡ v
   same_try u v is = ap (λ (o : Option Try). elim o [ None ↦ u | Some w ↦ w ]) is
 
-  soon_comes : (along : Bool) (x : Track) → rested x.last ≤ at + 1000 → Comes (press at along x)
+  soon_comes : (x : Track) → rested x.last ≤ at + 1000 → Comes (press at x)
   unfolding press
-  soon_comes along x last = inl (omega (arith, last), refl)
+  soon_comes x last = inl (omega (arith, last), refl)
 
-  pressed_now : (along : Bool) (x : Track) → Retried x → Retried (record x { attempt = Some (press at along x) })
-  pressed_now along x h = record { last = h.last; comes = λ u is pressed'. subst Comes (same_try (press at along x) u is) (soon_comes along x h.last) }
+  pressed_now : (x : Track) → Retried x → Retried (record x { attempt = Some (press at x) })
+  pressed_now x h = record { last = h.last; comes = λ u is pressed'. subst Comes (same_try (press at x) u is) (soon_comes x h.last) }
 
   sooner_comes : (from : ℕ) (o : Option Try) → ((u : Try) → o ≡ Some u → u.pressed ≡ true → Comes u) → (u : Try) → Some (sooner_try from o) ≡ Some u → u.pressed ≡ true → Comes u
   sooner_comes from None h u is pressed' = absurd (true≢false (sym pressed' ∙ ap (λ (v : Try). v.pressed) (sym (same_try (owed from) u is))))
@@ -157,14 +157,14 @@ module _ (at pause' : ℕ) (t : Try) where
   pressed_retried : (margin : ℕ) (e : Entry) (need : ℕ) (x : Track) → Still (pressed_track margin e need at x) x
   unfolding pressed_track
   pressed_retried margin e need x h =
-      if_both Retried (is_fresh margin e x need (sec at)) (record x { attempt = Some (press at false x) }) (if wants x need || x.out then x else record x { attempt = dropped x x.attempt }) (pressed_now false x h)
+      if_both Retried (is_fresh margin e x need (sec at)) (record x { attempt = Some (press at x) }) (if wants x need || x.out then x else record x { attempt = dropped x x.attempt }) (pressed_now x h)
       (if_both Retried (wants x need || x.out) x (record x { attempt = dropped x x.attempt }) h (record { last = h.last; comes = dropped_comes x x.attempt h.comes }))
 
-  asked_retried : (margin : ℕ) (e : Entry) (round : List ℕ) (i : ℕ) (x : Track) → Still (track_asked_in margin e at round i x) x
+  asked_retried : (round : List ℕ) (i : ℕ) (x : Track) → Still (track_asked_in at round i x) x
   unfolding asked_track
-  asked_retried margin e round i x h =
-      if_both Retried (list_any (λ j. j == i) round) (asked_track margin e at x) x
-      (if_both Retried x.out x (record x { attempt = Some (press at (not (has_come margin e x (sec at))) x) }) h (pressed_now (not (has_come margin e x (sec at))) x h)) h
+  asked_retried round i x h =
+      if_both Retried (list_any (λ j. j == i) round) (asked_track at x) x
+      (if_both Retried x.out x (record x { attempt = Some (press at x) }) h (pressed_now x h)) h
 
   sent_retried : (requests : List Request) (i : ℕ) (x : Track) → Still (sent_in at requests i x) x
   sent_retried requests i x h = if_both Retried (list_any (λ (r : Request). r.entry == i) requests) (sent_track at x) x (record { last = omega arith; comes = h.comes }) h
@@ -180,8 +180,8 @@ module _ (at pause' : ℕ) (t : Try) where
         let two = each_holds Retried none_retried (λ j. pressed_track g.margin (entry_at g.entries j) (need_of g.entries b.tracks c j) c.at) b.tracks i
         (subst (λ n. Retried (pressed_track g.margin (entry_at g.entries i) (need_of g.entries b.tracks c i) n (track_at b i))) (sym same)
         (pressed_retried g.margin (entry_at g.entries i) (need_of g.entries b.tracks c i) (track_at b i) k)) in
-        let three = each_holds Retried none_retried (λ j. track_asked_in g.margin (entry_at g.entries j) c.at round j) alone i
-        (subst (λ n. Retried (track_asked_in g.margin (entry_at g.entries i) n round i (track_in alone i))) (sym same) (asked_retried g.margin (entry_at g.entries i) round i (track_in alone i) two)) in
+        let three = each_holds Retried none_retried (track_asked_in c.at round) alone i
+        (subst (λ n. Retried (track_asked_in n round i (track_in alone i))) (sym same) (asked_retried round i (track_in alone i) two)) in
         each_holds Retried none_retried (sent_in c.at requests) mid.tracks i
         (subst (λ n. Retried (sent_in n requests i (track_at mid i))) (sym same) (sent_retried requests i (track_at mid i) three))
 
@@ -221,14 +221,14 @@ owing_ends at called x =
 pressed_ends : (margin : ℕ) (e : Entry) (need at : ℕ) (x : Track) → Ends (pressed_track margin e need at x) x
 unfolding pressed_track
 pressed_ends margin e need at x =
-    if_both (λ y. Ends y x) (is_fresh margin e x need (sec at)) (record x { attempt = Some (press at false x) }) (if wants x need || x.out then x else record x { attempt = dropped x x.attempt }) refl
+    if_both (λ y. Ends y x) (is_fresh margin e x need (sec at)) (record x { attempt = Some (press at x) }) (if wants x need || x.out then x else record x { attempt = dropped x x.attempt }) refl
     (if_both (λ y. Ends y x) (wants x need || x.out) x (record x { attempt = dropped x x.attempt }) refl refl)
 
-asked_ends : (margin : ℕ) (e : Entry) (at : ℕ) (round : List ℕ) (i : ℕ) (x : Track) → Ends (track_asked_in margin e at round i x) x
+asked_ends : (at : ℕ) (round : List ℕ) (i : ℕ) (x : Track) → Ends (track_asked_in at round i x) x
 unfolding asked_track
-asked_ends margin e at round i x =
-    if_both (λ y. Ends y x) (list_any (λ j. j == i) round) (asked_track margin e at x) x
-    (if_both (λ y. Ends y x) x.out x (record x { attempt = Some (press at (not (has_come margin e x (sec at))) x) }) refl refl) refl
+asked_ends at round i x =
+    if_both (λ y. Ends y x) (list_any (λ j. j == i) round) (asked_track at x) x
+    (if_both (λ y. Ends y x) x.out x (record x { attempt = Some (press at x) }) refl refl) refl
 
 settled_ends : (margin at : ℕ) (x : Track) → Ends (settled_track margin at x) x
 unfolding settled_track
@@ -249,7 +249,7 @@ end_ends s w round requests i =
     let alone = pressed_alone g c b.tracks in
     let mid = pressed b round in
     each_kept Ends refl (sent_in c.at requests) mid.tracks (λ j x. if_both (λ y. Ends y x) (list_any (λ (r : Request). r.entry == j) requests) (sent_track c.at x) x refl refl) i
-    ∙ each_kept Ends refl (λ j. track_asked_in g.margin (entry_at g.entries j) c.at round j) alone (λ j x. asked_ends g.margin (entry_at g.entries j) c.at round j x) i
+    ∙ each_kept Ends refl (track_asked_in c.at round) alone (asked_ends c.at round) i
     ∙ each_kept Ends refl (λ j. pressed_track g.margin (entry_at g.entries j) (need_of g.entries b.tracks c j) c.at) b.tracks
     (λ j x. pressed_ends g.margin (entry_at g.entries j) (need_of g.entries b.tracks c j) c.at x) i ∙ begun_ends s w i
 
@@ -382,14 +382,14 @@ module _ (most : ℕ) where
   pressed_asked : (margin : ℕ) (e : Entry) (need at : ℕ) (x : Track) → Asked (pressed_track margin e need at x) x
   unfolding pressed_track
   pressed_asked margin e need at x h =
-      if_both (λ (y : Track). rested y.last ≤ most) (is_fresh margin e x need (sec at)) (record x { attempt = Some (press at false x) }) (if wants x need || x.out then x else record x { attempt = dropped x x.attempt }) h
+      if_both (λ (y : Track). rested y.last ≤ most) (is_fresh margin e x need (sec at)) (record x { attempt = Some (press at x) }) (if wants x need || x.out then x else record x { attempt = dropped x x.attempt }) h
       (if_both (λ (y : Track). rested y.last ≤ most) (wants x need || x.out) x (record x { attempt = dropped x x.attempt }) h h)
 
-  asked_asked : (margin : ℕ) (e : Entry) (at : ℕ) (round : List ℕ) (i : ℕ) (x : Track) → Asked (track_asked_in margin e at round i x) x
+  asked_asked : (at : ℕ) (round : List ℕ) (i : ℕ) (x : Track) → Asked (track_asked_in at round i x) x
   unfolding asked_track
-  asked_asked margin e at round i x h =
-      if_both (λ (y : Track). rested y.last ≤ most) (list_any (λ j. j == i) round) (asked_track margin e at x) x
-      (if_both (λ (y : Track). rested y.last ≤ most) x.out x (record x { attempt = Some (press at (not (has_come margin e x (sec at))) x) }) h h) h
+  asked_asked at round i x h =
+      if_both (λ (y : Track). rested y.last ≤ most) (list_any (λ j. j == i) round) (asked_track at x) x
+      (if_both (λ (y : Track). rested y.last ≤ most) x.out x (record x { attempt = Some (press at x) }) h h) h
 
   settled_asked : (margin at : ℕ) (x : Track) → Asked (settled_track margin at x) x
   unfolding settled_track
@@ -416,7 +416,7 @@ module _ (most : ℕ) where
       let mid = pressed s round in
       each_kept Asked (λ k. k) (sent_in c.at requests) mid.tracks
       (λ j x k. if_both (λ (y : Track). rested y.last ≤ most) (list_any (λ (r : Request). r.entry == j) requests) (sent_track c.at x) x now k) i
-      (each_kept Asked (λ k. k) (λ j. track_asked_in g.margin (entry_at g.entries j) c.at round j) alone (λ j x. asked_asked g.margin (entry_at g.entries j) c.at round j x) i
+      (each_kept Asked (λ k. k) (track_asked_in c.at round) alone (asked_asked c.at round) i
       (each_kept Asked (λ k. k) (λ j. pressed_track g.margin (entry_at g.entries j) (need_of g.entries s.tracks c j) c.at) s.tracks
       (λ j x. pressed_asked g.margin (entry_at g.entries j) (need_of g.entries s.tracks c j) c.at x) i h))
 

@@ -159,7 +159,7 @@ module _ (r : Sent) where
       let c = s.clocks in
       let g = s.forest in
       let alone = pressed_alone g c s.tracks in
-      each_kept StillReady (λ k. k) (λ j. track_asked_in g.margin (entry_at g.entries j) c.at round j) alone (λ j x. asked_ready r g.margin (entry_at g.entries j) c.at round j x) i
+      each_kept StillReady (λ k. k) (track_asked_in c.at round) alone (asked_ready r c.at round) i
       (each_kept StillReady (λ k. k) (λ j. pressed_track g.margin (entry_at g.entries j) (need_of g.entries s.tracks c j) c.at) s.tracks
       (λ j x. pressed_ready r g.margin (entry_at g.entries j) (need_of g.entries s.tracks c j) c.at x) i h)
 
@@ -172,14 +172,14 @@ owing_flag at called x =
 pressed_flag : (margin : ℕ) (e : Entry) (need at : ℕ) (x : Track) → Flag (pressed_track margin e need at x) x
 unfolding pressed_track
 pressed_flag margin e need at x =
-    if_both (λ y. Flag y x) (is_fresh margin e x need (sec at)) (record x { attempt = Some (press at false x) }) (if wants x need || x.out then x else record x { attempt = dropped x x.attempt }) refl
+    if_both (λ y. Flag y x) (is_fresh margin e x need (sec at)) (record x { attempt = Some (press at x) }) (if wants x need || x.out then x else record x { attempt = dropped x x.attempt }) refl
     (if_both (λ y. Flag y x) (wants x need || x.out) x (record x { attempt = dropped x x.attempt }) refl refl)
 
-asked_flag : (margin : ℕ) (e : Entry) (at : ℕ) (round : List ℕ) (i : ℕ) (x : Track) → Flag (track_asked_in margin e at round i x) x
+asked_flag : (at : ℕ) (round : List ℕ) (i : ℕ) (x : Track) → Flag (track_asked_in at round i x) x
 unfolding asked_track
-asked_flag margin e at round i x =
-    if_both (λ y. Flag y x) (list_any (λ j. j == i) round) (asked_track margin e at x) x
-    (if_both (λ y. Flag y x) x.out x (record x { attempt = Some (press at (not (has_come margin e x (sec at))) x) }) refl refl) refl
+asked_flag at round i x =
+    if_both (λ y. Flag y x) (list_any (λ j. j == i) round) (asked_track at x) x
+    (if_both (λ y. Flag y x) x.out x (record x { attempt = Some (press at x) }) refl refl) refl
 
 settled_flag : (margin at : ℕ) (x : Track) → Flag (settled_track margin at x) x
 unfolding settled_track
@@ -200,7 +200,7 @@ mid_flag s wall elapsed round i =
     let c = u.clocks in
     let g = u.forest in
     let alone = pressed_alone g c u.tracks in
-    each_kept Flag refl (λ j. track_asked_in g.margin (entry_at g.entries j) c.at round j) alone (λ j x. asked_flag g.margin (entry_at g.entries j) c.at round j x) i
+    each_kept Flag refl (track_asked_in c.at round) alone (asked_flag c.at round) i
     ∙ each_kept Flag refl (λ j. pressed_track g.margin (entry_at g.entries j) (need_of g.entries u.tracks c j) c.at) u.tracks
     (λ j x. pressed_flag g.margin (entry_at g.entries j) (need_of g.entries u.tracks c j) c.at x) i
     ∙ begun_flag (settled t) (why s wall elapsed) i ∙ each_kept Flag refl (λ j. settled_track t.forest.margin t.clocks.at) s.tracks (λ j x. settled_flag t.forest.margin t.clocks.at x) i
@@ -274,7 +274,7 @@ kept_over s requests i (Some r) begun' mid none =
       may (Some t) h = inr h
 
 goes_out :
-    (s : WatchState) (requests : List Request) (i : ℕ) (o : Option Sent) (lanes : ℕ) → is_none s.begun ≡ false → IsMid s i o → Goes s.presence s.clocks.at s.tracks lanes requests →
+    (s : WatchState) (requests : List Request) (i : ℕ) (o : Option Sent) (lanes : ℕ) → is_none s.begun ≡ false → IsMid s i o → Goes s.forest s.presence s.clocks.at s.tracks lanes requests →
     Outcome (sent_state s requests) i o (sent_at i s.clocks.at requests)
 unfolding Outcome
 goes_out s requests i o lanes begun' mid h =
@@ -348,7 +348,7 @@ mid_of old wall elapsed round i (Some r) h =
 commanded : (s new : WatchState) (command : Command) (i : ℕ) (o : Option Sent) → is_none s.begun ≡ false → IsMid s i o → StepCommand s command new → Outcome new i o (sent_at i new.clocks.at (requests_asked_by command))
 commanded s new (Go requests until) i o begun' mid h =
     subst (λ (x : WatchState). Outcome x i o (sent_at i x.clocks.at requests)) (sym h.0.1)
-    (goes_out s requests i o (s.width - length s.out) begun' mid (goes s.presence s.clocks.at s.tracks (s.width - length s.out) requests h.0.0))
+    (goes_out s requests i o (s.width - length s.out) begun' mid (goes s.forest s.presence s.clocks.at s.tracks (s.width - length s.out) requests h.0.0))
 commanded s new Taken i o begun' mid h = absurd h
 
 clocked : (old new : WatchState) (wall elapsed : ℕ) (output : Output) (i : ℕ) (o : Option Sent) → StepClock old wall elapsed output new → Keeps old i o → Outcome new i o (sent_at i new.clocks.at (requests_asked_by output.command))

@@ -172,7 +172,7 @@ some_later p at xs s (j ∷ js) same all =
 -- the requests that go out at a clock
 goes_spares :
     (width n : ℕ) (s : WatchState) (requests : List Request) (lanes : ℕ) → is_none s.begun ≡ false → s.answers ≡ [] → s.width ≡ width → lanes ≡ s.width - length s.out → length s.out ≤ width →
-    ((n ≡ 0) ⊎ ((s.presence.hold ≤ s.clocks.at) × (n ≤ unheard s.out))) → Goes s.presence s.clocks.at s.tracks lanes requests →
+    ((n ≡ 0) ⊎ ((s.presence.hold ≤ s.clocks.at) × (n ≤ unheard s.out))) → Goes s.forest s.presence s.clocks.at s.tracks lanes requests →
     Spares width (length (filter (is_later (sent s requests)) requests) + n) (sent s requests)
 goes_spares width n s requests lanes begun' answers wide free fits so h =
     let new = sent s requests in
@@ -231,7 +231,7 @@ commanded :
     ((n ≡ 0) ⊎ ((s.presence.hold ≤ s.clocks.at) × (n ≤ unheard s.out))) → StepCommand s command new →
     Spares width (length (filter (is_later new) (requests_asked_by command)) + n) new
 commanded width n s new (Go requests until) begun' answers fits so h =
-    let going = goes s.presence s.clocks.at s.tracks (s.width - length s.out) requests h.0.0 in
+    let going = goes s.forest s.presence s.clocks.at s.tracks (s.width - length s.out) requests h.0.0 in
     subst (λ (x : WatchState). Spares width (length (filter (is_later x) requests) + n) x) (sym h.0.1)
     (goes_spares width n s requests (s.width - length s.out) begun' answers fits.0 refl fits.1 so going)
 commanded width n s new Taken begun' answers fits so h = absurd h

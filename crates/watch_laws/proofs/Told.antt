@@ -103,7 +103,7 @@ past_again t u from lost h = absurd (not_both lost h.lost)
 once_goes : (now : ℕ) (t : Try) → GoesOnAsRenewal now t (at_once now t)
 unfolding at_once
 once_goes now t = by t.pressed refl where
-  by : (b : Bool) → t.pressed ≡ b → GoesOnAsRenewal now t (if b then record t { at = now; operation = Renew; failed = false } else record { at = now; operation = Renew; pressed = true; along = false; base = Some now; fails = 0; lost = false; alone = false; failed = false })
+  by : (b : Bool) → t.pressed ≡ b → GoesOnAsRenewal now t (if b then record t { at = now; operation = Renew; failed = false } else record { at = now; operation = Renew; pressed = true; base = Some now; fails = 0; lost = false; alone = false; failed = false })
   by true is = record { at = omega arith; operation = refl; pressed = is; failed = refl; same = λ yes'. (refl, refl); anew = λ no'. absurd (true≢false (sym is ∙ no')) }
   by false is = record { at = omega arith; operation = refl; pressed = refl; failed = refl; same = λ yes'. absurd (true≢false (sym yes' ∙ is)); anew = λ no'. (refl, refl) }
 

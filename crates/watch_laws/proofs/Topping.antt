@@ -70,14 +70,14 @@ owing_lower at called x =
 pressed_lower : (margin : ℕ) (e : Entry) (need at : ℕ) (x : Track) → Lower (pressed_track margin e need at x) x
 unfolding pressed_track
 pressed_lower margin e need at x =
-    if_both (λ y. Lower y x) (is_fresh margin e x need (sec at)) (record x { attempt = Some (press at false x) }) (if wants x need || x.out then x else record x { attempt = dropped x x.attempt })
+    if_both (λ y. Lower y x) (is_fresh margin e x need (sec at)) (record x { attempt = Some (press at x) }) (if wants x need || x.out then x else record x { attempt = dropped x x.attempt })
     (refl, λ top. top) (if_both (λ y. Lower y x) (wants x need || x.out) x (record x { attempt = dropped x x.attempt }) (lower_same x) (refl, λ top. top))
 
-asked_lower : (margin : ℕ) (e : Entry) (at : ℕ) (round : List ℕ) (i : ℕ) (x : Track) → Lower (track_asked_in margin e at round i x) x
+asked_lower : (at : ℕ) (round : List ℕ) (i : ℕ) (x : Track) → Lower (track_asked_in at round i x) x
 unfolding asked_track
-asked_lower margin e at round i x =
-    if_both (λ y. Lower y x) (list_any (λ j. j == i) round) (asked_track margin e at x) x
-    (if_both (λ y. Lower y x) x.out x (record x { attempt = Some (press at (not (has_come margin e x (sec at))) x) }) (lower_same x) (refl, λ top. top)) (lower_same x)
+asked_lower at round i x =
+    if_both (λ y. Lower y x) (list_any (λ j. j == i) round) (asked_track at x) x
+    (if_both (λ y. Lower y x) x.out x (record x { attempt = Some (press at x) }) (lower_same x) (refl, λ top. top)) (lower_same x)
 
 sent_lower : (at : ℕ) (requests : List Request) (i : ℕ) (x : Track) → Lower (sent_in at requests i x) x
 sent_lower at requests i x = if_both (λ y. Lower y x) (list_any (λ (r : Request). r.entry == i) requests) (sent_track at x) x (refl, λ top. top) (lower_same x)
@@ -105,7 +105,7 @@ mid_lower s round requests i =
     let mid = pressed s round in
     lower_both (track_at (sent mid requests) i) (track_at mid i) (track_at s i) (each_kept Lower (lower_same no_track) (sent_in c.at requests) mid.tracks (λ j x. sent_lower c.at requests j x) i)
     (lower_both (track_at mid i) (track_in alone i) (track_at s i)
-    (each_kept Lower (lower_same no_track) (λ j. track_asked_in g.margin (entry_at g.entries j) c.at round j) alone (λ j x. asked_lower g.margin (entry_at g.entries j) c.at round j x) i)
+    (each_kept Lower (lower_same no_track) (track_asked_in c.at round) alone (asked_lower c.at round) i)
     (each_kept Lower (lower_same no_track) (λ j. pressed_track g.margin (entry_at g.entries j) (need_of g.entries s.tracks c j) c.at) s.tracks (λ j x. pressed_lower g.margin (entry_at g.entries j) (need_of g.entries s.tracks c j) c.at x) i))
 
 clock_lower : (old new : WatchState) (wall elapsed : ℕ) (output : Output) (i : ℕ) → StepClock old wall elapsed output new → Lower (track_at new i) (track_at old i)

@@ -35,9 +35,9 @@ module _ (P : Try → Type 0) where
   loose_passes : (t u : Try) → t.pressed ≡ false → Some t ≡ Some u → u.pressed ≡ true → 0 < u.fails → P u
   loose_passes t u none is pressed' failed = absurd (true≢false (sym pressed' ∙ ap (λ (v : Try). v.pressed) (sym (value_is t u is)) ∙ none))
 
-  press_passes : (at : ℕ) (along : Bool) (x : Track) → Passes (record x { attempt = Some (press at along x) })
+  press_passes : (at : ℕ) (x : Track) → Passes (record x { attempt = Some (press at x) })
   unfolding press
-  press_passes at along x = fresh_passes x (press at along x) refl
+  press_passes at x = fresh_passes x (press at x) refl
 
   let_go_passes : (x : Track) (v u : Try) → let_go x v ≡ Some u → u.pressed ≡ true → 0 < u.fails → P u
   let_go_passes x v u =
@@ -52,14 +52,14 @@ module _ (P : Try → Type 0) where
   pressed_passes : (margin : ℕ) (e : Entry) (need at : ℕ) (x : Track) → Passes x → Passes (pressed_track margin e need at x)
   unfolding pressed_track
   pressed_passes margin e need at x h =
-      if_both Passes (is_fresh margin e x need (sec at)) (record x { attempt = Some (press at false x) }) (if wants x need || x.out then x else record x { attempt = dropped x x.attempt }) (press_passes at false x)
+      if_both Passes (is_fresh margin e x need (sec at)) (record x { attempt = Some (press at x) }) (if wants x need || x.out then x else record x { attempt = dropped x x.attempt }) (press_passes at x)
       (if_both Passes (wants x need || x.out) x (record x { attempt = dropped x x.attempt }) h (dropped_passes x x.attempt h))
 
-  asked_passes : (margin : ℕ) (e : Entry) (at : ℕ) (round : List ℕ) (i : ℕ) (x : Track) → Passes x → Passes (track_asked_in margin e at round i x)
+  asked_passes : (at : ℕ) (round : List ℕ) (i : ℕ) (x : Track) → Passes x → Passes (track_asked_in at round i x)
   unfolding asked_track
-  asked_passes margin e at round i x h =
-      if_both Passes (list_any (λ j. j == i) round) (asked_track margin e at x) x
-      (if_both Passes x.out x (record x { attempt = Some (press at (not (has_come margin e x (sec at))) x) }) h (press_passes at (not (has_come margin e x (sec at))) x)) h
+  asked_passes at round i x h =
+      if_both Passes (list_any (λ j. j == i) round) (asked_track at x) x
+      (if_both Passes x.out x (record x { attempt = Some (press at x) }) h (press_passes at x)) h
 
   -- from the beginning on
   pub sent_passes : (s : WatchState) (round : List ℕ) (requests : List Request) (i : ℕ) → Passes (track_at s i) → Passes (track_at (sent (pressed s round) requests) i)
@@ -70,8 +70,8 @@ module _ (P : Try → Type 0) where
       let mid = pressed s round in
       let two = each_holds Passes none_passes (λ j. pressed_track g.margin (entry_at g.entries j) (need_of g.entries s.tracks c j) c.at) s.tracks i
       (pressed_passes g.margin (entry_at g.entries i) (need_of g.entries s.tracks c i) c.at (track_at s i) h) in
-      let three = each_holds Passes none_passes (λ j. track_asked_in g.margin (entry_at g.entries j) c.at round j) alone i
-      (asked_passes g.margin (entry_at g.entries i) c.at round i (track_in alone i) two) in
+      let three = each_holds Passes none_passes (track_asked_in c.at round) alone i
+      (asked_passes c.at round i (track_in alone i) two) in
       each_holds Passes none_passes (sent_in c.at requests) mid.tracks i
       (if_both Passes (list_any (λ (r : Request). r.entry == i) requests) (sent_track c.at (track_at mid i)) (track_at mid i) three three)
 

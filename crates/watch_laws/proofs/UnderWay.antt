@@ -122,7 +122,7 @@ once : (at : ℕ) (t : Try) → is_first t ≡ true → t.failed ≡ false → (
 unfolding at_once
 once at t first settled'' =
     if_both (λ (u : Try). (is_first u ≡ true) × ((u.failed ≡ false) × (u.at ≤ at))) t.pressed (record t { at = at; operation = Renew; failed = false })
-    (record { at = at; operation = Renew; pressed = true; along = false; base = Some at; fails = 0; lost = false; alone = false; failed = false }) (first, (refl, omega arith)) (refl, (refl, omega arith))
+    (record { at = at; operation = Renew; pressed = true; base = Some at; fails = 0; lost = false; alone = false; failed = false }) (first, (refl, omega arith)) (refl, (refl, omega arith))
 
 told_runs : (at : ℕ) (due : Bool) (x : Track) (t : Try) → is_first t ≡ true → t.failed ≡ false → is_first_try (told_try at due x (Some t)) ≡ true → Runs at (told_try at due x (Some t))
 told_runs at due x t first settled'' =

@@ -65,17 +65,17 @@ unfolding pressed_track is_fresh
 pressed_undisturbed margin e need at x =
     let P : Track → Type 0 = λ y. Undisturbed y x in
     let fresh = wants x need && (has_come margin e x (sec at) && (not (is_pressed x) && not x.out)) in
-    if_cases P fresh (record x { attempt = Some (press at false x) }) (if wants x need || x.out then x else record x { attempt = dropped x x.attempt })
+    if_cases P fresh (record x { attempt = Some (press at x) }) (if wants x need || x.out then x else record x { attempt = dropped x x.attempt })
     (λ yes'. ((λ o. o), (λ out pressed'. absurd (not_both out (fresh_free (wants x need) (has_come margin e x (sec at)) (not (is_pressed x)) x.out yes')))))
     (λ no'. if_cases P (wants x need || x.out) x (record x { attempt = dropped x x.attempt }) (λ kept. same_undisturbed x)
     (λ gone. ((λ o. o), (λ out pressed'. absurd (not_both out (or_parts (wants x need) x.out gone).1)))))
 
-asked_undisturbed : (margin : ℕ) (e : Entry) (at : ℕ) (round : List ℕ) (i : ℕ) (x : Track) → Undisturbed (track_asked_in margin e at round i x) x
+asked_undisturbed : (at : ℕ) (round : List ℕ) (i : ℕ) (x : Track) → Undisturbed (track_asked_in at round i x) x
 unfolding asked_track
-asked_undisturbed margin e at round i x =
+asked_undisturbed at round i x =
     let P : Track → Type 0 = λ y. Undisturbed y x in
-    if_both P (list_any (λ j. j == i) round) (asked_track margin e at x) x
-    (if_cases P x.out x (record x { attempt = Some (press at (not (has_come margin e x (sec at))) x) }) (λ out. same_undisturbed x)
+    if_both P (list_any (λ j. j == i) round) (asked_track at x) x
+    (if_cases P x.out x (record x { attempt = Some (press at x) }) (λ out. same_undisturbed x)
     (λ free. ((λ o. o), (λ out pressed'. absurd (not_both out free))))) (same_undisturbed x)
 
 sent_undisturbed : (at : ℕ) (requests : List Request) (i : ℕ) (x : Track) → Undisturbed (sent_in at requests i x) x
@@ -96,7 +96,7 @@ mid_undisturbed s round i =
     let g = s.forest in
     let alone = pressed_alone g c s.tracks in
     both_undisturbed (track_at (pressed s round) i) (track_in alone i) (track_at s i)
-    (each_kept Undisturbed none_undisturbed (λ j. track_asked_in g.margin (entry_at g.entries j) c.at round j) alone (λ j x. asked_undisturbed g.margin (entry_at g.entries j) c.at round j x) i)
+    (each_kept Undisturbed none_undisturbed (track_asked_in c.at round) alone (asked_undisturbed c.at round) i)
     (each_kept Undisturbed none_undisturbed (λ j. pressed_track g.margin (entry_at g.entries j) (need_of g.entries s.tracks c j) c.at) s.tracks
     (λ j x. pressed_undisturbed g.margin (entry_at g.entries j) (need_of g.entries s.tracks c j) c.at x) i)
 

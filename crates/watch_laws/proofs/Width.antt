@@ -56,7 +56,7 @@ answer_fits n old mid new q reply is out rest h =
 
 commanded : (n : ℕ) (s new : WatchState) (command : Command) → Fits n s → StepCommand s command new → Fits n new
 commanded n s new (Go requests until) h step =
-    let going = goes s.presence s.clocks.at s.tracks (s.width - length s.out) requests step.0.0 in
+    let going = goes s.forest s.presence s.clocks.at s.tracks (s.width - length s.out) requests step.0.0 in
     let few = going.few in
     let many = ap length going.requests_are ∙ length-map going.entries _ in
     let sent = length-map requests (out_at s.clocks.at) in

@@ -2,15 +2,18 @@
 -- Source: this project's own.
 use Rattle.std.specs.Prelude.{◌≡◌, ◌⊎◌, ◌==◌, ℕ, ◌+◌, ◌<◌, Bool, ◌&&◌, if◌then◌else◌, [], ◌∷◌, Option, Some, None, All, max, min}
 use Rattle.watch_machine.specs.declared.command.Request.{Request}
+use Rattle.watch_machine.specs.declared.event.Operation.TheVariants.{Renew}
 use Rattle.watch_machine.specs.declared.track.End.{End}
 use Rattle.watch_machine.specs.declared.track.Try.{Try}
 use Rattle.watch_machine.specs.History.{History, Turned}
 use Rattle.watch_machine.specs.Lines.{ready}
+use Rattle.watch_machine.specs.Refusal.{is_same}
 use Rattle.watch_machine.specs.State.{WatchState, attempt_at, second, track_at}
 use Rattle.watch_machine.specs.Wanted.{believed, is_alive}
 use Rattle.watch_laws.specs.Load.{requests_at_turn}
 use Rattle.watch_laws.specs.Presses.{asked_again_at}
 use Rattle.watch_laws.specs.Recovery.{MayGo}
+use Rattle.watch_laws.specs.Time.{is_come}
 
 -- the moment from which on a try may go out. A first try goes out from its own moment on, whatever the broker answered to others. Any other
 -- waits until the hold is over, and for its own moment; or, if it was lost and the broker is away, until a second after its entry was last asked,
@@ -24,12 +27,12 @@ abbrev pub ReadyLaw : Type 0
 ReadyLaw = (s : WatchState) (i : ℕ) (t : Try) → ready s.presence (track_at s i) t ≡ may_go_from s i t
 
 -- the parts of the line, as they go out: while the broker is there first tries of ends that are ahead, other first tries, later tries, and lookups
--- that are only owed; while it is away the later tries and those lookups, and then the first tries; and last, in either case, first tries that a
--- round asked along
-abbrev pub part_in_line : Bool → Bool → Try → ℕ
-part_in_line away ahead t =
+-- that are only owed; while it is away the later tries and those lookups, and then the first tries; and last, in either case, first tries that
+-- renew an entry whose time has not come, and go along with others
+abbrev pub part_in_line : Bool → Bool → Bool → Try → ℕ
+part_in_line away come ahead t =
     if t.pressed && t.fails == 0
-    then (if t.along then 5 else (if ahead then (if away then 3 else 1) else (if away then 4 else 2)))
+    then (if is_same t.operation Renew && not come then 5 else (if ahead then (if away then 3 else 1) else (if away then 4 else 2)))
     else (if t.pressed then (if away then 1 else 3) else (if away then 2 else 4))
 
 -- where a try stands in its part: a first try by the end of its entry, in front where that is unknown; any other by when the entry was last asked,
@@ -52,8 +55,8 @@ pub record StandsInFront (old new : WatchState) (i j : ℕ) : Type 0 where
   pub other : Try
   pub other_is : attempt_at new j ≡ Some other
   pub in_front :
-      IsInFront (part_in_line new.presence.away (is_alive (second new) (track_at new i)) first) (place_in_part (track_at old i).last (track_at new i).end first) i
-      (part_in_line new.presence.away (is_alive (second new) (track_at new j)) other) (place_in_part (track_at old j).last (track_at new j).end other) j
+      IsInFront (part_in_line new.presence.away (is_come new i) (is_alive (second new) (track_at new i)) first) (place_in_part (track_at old i).last (track_at new i).end first) i
+      (part_in_line new.presence.away (is_come new j) (is_alive (second new) (track_at new j)) other) (place_in_part (track_at old j).last (track_at new j).end other) j
 
 -- whatever goes out at a clock stands in front of each entry that may go out and does not
 abbrev pub LineLaw : Type 0

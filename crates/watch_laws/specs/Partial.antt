@@ -11,11 +11,13 @@ use Rattle.watch_machine.specs.declared.command.Patience.TheVariants.{Full, AtMo
 use Rattle.watch_machine.specs.declared.command.Request.{Request}
 use Rattle.watch_machine.specs.declared.event.Event.{Event}
 use Rattle.watch_machine.specs.declared.event.Event.TheVariants.{Clock, Looked, Renewed, Need, Begin, Known}
+use Rattle.watch_machine.specs.declared.event.Operation.TheVariants.{Renew}
 use Rattle.watch_machine.specs.declared.fault.WatchFault.{WatchFault}
 use Rattle.watch_machine.specs.declared.lanes.Out.{Out}
 use Rattle.watch_machine.specs.declared.track.Try.{Try}
 use Rattle.watch_machine.specs.History.{IsWatchRun, Turned, after_all}
 use Rattle.watch_machine.specs.Lines.{is_first}
+use Rattle.watch_machine.specs.Refusal.{is_same}
 use Rattle.watch_machine.specs.Sending.{is_partial}
 use Rattle.watch_machine.specs.Settling.{timed}
 use Rattle.watch_machine.specs.State.{WatchState, attempt_at, opened, second, track_at}
@@ -24,6 +26,7 @@ use Rattle.watch_laws.specs.Absence.{is_clock, is_event_taken}
 use Rattle.watch_laws.specs.Outage.{how_many, one_where}
 use Rattle.watch_laws.specs.Presence.{is_told}
 use Rattle.watch_laws.specs.Recovery.{MayGo}
+use Rattle.watch_laws.specs.Time.{is_come}
 
 -- a partial outage, in milliseconds of the watch's clock: which entries are hung, so that each of their requests may be silent until
 -- its patience is over; how long the request of an entry takes that goes out at a moment; within what those of the others are answered; the
@@ -67,14 +70,15 @@ abbrev pub partial_next_after : Partial → Result Output WatchFault → WatchSt
 partial_next_after o (Ok output) s due = partial_next_after_command o output.command s due
 partial_next_after o (Err fault) s due = due
 
--- a first try that no round asked along
-abbrev pub is_own_try : Option Try → Bool
-is_own_try None = false
-is_own_try (Some t) = is_first t && not t.along
+-- a first try that does not go along with others: the time of its entry has come, whether a round asked it along before that or not, or
+-- it asks for a lookup
+abbrev pub is_own_try : Bool → Option Try → Bool
+is_own_try come None = false
+is_own_try come (Some t) = is_first t && not (is_same t.operation Renew && not come)
 
--- j has one, and its end is ahead
+-- j has one now, and its end is ahead
 abbrev pub is_own_first : WatchState → ℕ → Bool
-is_own_first s j = is_own_try (attempt_at s j) && is_alive (second s) (track_at s j)
+is_own_first s j = is_own_try (is_come s j) (attempt_at s j) && is_alive (second s) (track_at s j)
 
 -- i is held up after a clock: it has such a try, which may go out and does not. The broker is there, and somebody is alone
 pub record IsHeldUp (o : Partial) (s : WatchState) (i : ℕ) : Type 0 where
@@ -108,7 +112,7 @@ abbrev pub due_after : Partial → ℕ → List Turned → ℕ
 due_after o due [] = due
 due_after o due (turn ∷ turns) = due_after o (partial_next_after o turn.result turn.state due) turns
 
--- j stands before i: its first try is its own, and its end is ahead and earlier, or the same where its index is lower
+-- j stands before i: it has such a try, and its end is ahead and earlier, or the same where its index is lower
 abbrev pub stands_before : ℕ → WatchState → ℕ → Bool
 stands_before i s j =
     let end = believed (track_at s j).end in
@@ -141,7 +145,8 @@ coming_before o n i old [] = 0
 coming_before o n i old (turn ∷ turns) = total n (keeps_lane o) (comes_before i old turn.state) + coming_before o n i turn.state turns
 
 -- while somebody is alone and the broker is there, an entry that comes to its first try goes out no later than the lanes have served what
--- was out by then, for the time-out at most, and whoever stands before it: each that is hung for the patience, each other for its answer
+-- was out by then, for the time-out at most, and whoever stands before it: each that is hung for the patience, each other for its answer.
+-- By then: at the clock that finds that its time has come; or, of one that a round asked along, at the last clock before that, if it waited
 abbrev pub PartialLaw : Type 0
 PartialLaw =
     (o : Partial) (g : Forest) (width : ℕ) (before : List Turned) (first : Turned) (turns : List Turned) (next : Turned) (i : ℕ) →
@@ -195,12 +200,12 @@ abbrev pub answered_coming : Partial → ℕ → ℕ → WatchState → List Tur
 answered_coming o n i old [] = 0
 answered_coming o n i old (turn ∷ turns) = how_many n (λ j. not (o.hung j) && comes_before i old turn.state j) + answered_coming o n i turn.state turns
 
--- so, however long some entries are hung: an entry that comes to its first try is out as soon as the lanes have served what was out by
+-- so, however long some entries are hung: an entry that comes to its first try, and was asked along before that or not, is out as soon as the lanes have served what was out by
 -- then, each hung entry once for its patience, and the others that stand before it
 abbrev pub HungLaw : Type 0
 HungLaw =
     (o : Partial) (g : Forest) (width : ℕ) (before : List Turned) (first : Turned) (turns : List Turned) (next : Turned) (i : ℕ) →
-    IsWatchRun g width (before ++ first ∷ (turns ++ next ∷ [])) → is_clock first.event ≡ true → is_event_taken first.result ≡ true → IsHeldUp o first.state i →
+    IsWatchRun g width (before ++ first ∷ (turns ++ next ∷ [])) → is_clock first.event ≡ true → is_event_taken first.result ≡ true → MayGo first.state i → first.state.presence.away ≡ false →
     All (λ q. partial_settled_by o q ≤ first.state.clocks.at + o.slow) first.state.out → AreHolding o i (partial_next_after o first.result first.state 0) first.state turns →
     AllHung o (length g.entries) i first.state turns →
     is_clock next.event ≡ true → is_event_taken next.result ≡ true → ClockIsInTime (due_after o (partial_next_after o first.result first.state 0) turns) (after_all first.state turns) next.event →

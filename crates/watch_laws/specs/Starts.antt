@@ -116,14 +116,13 @@ SoonLaw =
     how_many (length g.entries) (is_tried last.state) + coming (without_outage quick late) (length g.entries) last.state turns ≤ width * rounds →
     AllSoon i (quick + late) (last.state.clocks.at + (quick + late) * rounds) turns
 
--- an entry of known end that is to be renewed now: it is wanted, its end is ahead and its own time has come, no round asked it along, it has
--- not failed since, and it may go out by now
+-- an entry of known end that is to be renewed now, whether a round asked it along before or not: it is wanted, its end is ahead and its own
+-- time has come, it has not failed since, and it may go out by now
 pub record IsToRenew (s : WatchState) (i : ℕ) : Type 0 where
   pub may : MayGo s i
   pub wanted : is_wanted s i ≡ true
   pub alive : is_alive (second s) (track_at s i) ≡ true
   pub come : is_come s i ≡ true
-  pub own : may.attempt.along ≡ false
   pub first : may.attempt.fails ≡ 0
 
 -- what goes out at a turn stands before i: first tries whose ends are ahead and earlier, or the same where the index is lower
@@ -135,6 +134,6 @@ AllKnownFirst [] = Unit {0}
 AllKnownFirst (turn ∷ turns) = (turn.state.presence.away ≡ false → (i : ℕ) → IsToRenew turn.state i → GoesBefore turn i) × AllKnownFirst turns
 
 -- while the broker is there, entries of known end whose time has come are renewed first, by their ends: as long as one of them waits, nothing
--- else goes out, no lookup of an entry whose end is unknown or that only owes it, and nothing that a round asks along
+-- else goes out, no lookup of an entry whose end is unknown or that only owes it, and no renewal of one whose time has not come
 abbrev pub KnownFirstLaw : Type 0
 KnownFirstLaw = (g : Forest) (width : ℕ) (turns : List Turned) → IsWatchRun g width turns → AllKnownFirst turns

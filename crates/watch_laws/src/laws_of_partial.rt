@@ -2,8 +2,9 @@ ghost use Rattle.watch_laws.specs.Partial.{HungLaw, OnceInFrontLaw, PartialLaw};
 ghost use Rattle.watch_laws.specs.Patience.{AloneLaw, PatienceLaw};
 
 /// The law of partial outages: while the broker is there and a request of somebody had no answer while others were answered, an entry
-/// whose own time has come goes out no later than the lanes have served what was out by then, for the time-out at most, and those that
-/// stand before it or come to: each that never answers for the patience of its request, each other until its answer.
+/// whose own time has come, asked along before or not, goes out no later than the lanes have served what was out by then, for the time-out
+/// at most, and those that stand before it or come to: each that never answers for the patience of its request, each other until its
+/// answer.
 pub fn partial_law()
     ensures { PartialLaw }
 {}

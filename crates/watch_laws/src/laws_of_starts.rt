@@ -24,9 +24,9 @@ pub fn known_first_law()
 
 /// The law of the line: whatever goes out at a clock stands in front of each entry that may go out and does not. First tries whose ends are
 /// ahead come before the other first tries, these before later tries, and these before lookups that are only owed; while the broker is away
-/// the later tries and the owed lookups come before the first. First tries that a round asked along come last. First tries stand by the
-/// ends of their entries, any others by when they were last asked. A first try may go out from its own moment on, any other not before the
-/// hold is over either; an answer that the broker is busy keeps nobody else back.
+/// the later tries and the owed lookups come before the first. First tries that renew an entry whose time has not come are last. First
+/// tries stand by the ends of their entries, any others by when they were last asked. A first try may go out from its own moment on, any
+/// other not before the hold is over either; an answer that the broker is busy keeps nobody else back.
 pub fn line_law()
     ensures line { LineLaw }
     ensures ready { ReadyLaw }
