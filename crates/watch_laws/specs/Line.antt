@@ -1,6 +1,6 @@
 -- Line: from when on a try may go out, and who goes out before whom. The laws are the contract of a public function without a body.
 -- Source: this project's own.
-use Rattle.std.specs.Prelude.{◌≡◌, ◌⊎◌, ◌==◌, ℕ, ◌+◌, ◌<◌, Bool, ◌&&◌, if◌then◌else◌, [], ◌∷◌, Option, Some, None, All, max, min}
+use Rattle.std.specs.Prelude.{◌≡◌, ◌⊎◌, ◌==◌, ℕ, ◌+◌, ◌<◌, Bool, not, ◌&&◌, if◌then◌else◌, [], ◌∷◌, Option, Some, None, All, max, min}
 use Rattle.watch_machine.specs.declared.command.Request.{Request}
 use Rattle.watch_machine.specs.declared.event.Operation.TheVariants.{Renew}
 use Rattle.watch_machine.specs.declared.track.End.{End}
