@@ -21,7 +21,6 @@ use Rattle.watch_machine.specs.Beginning.{begun, hastened, is_called, is_pressed
 use Rattle.watch_machine.specs.Clocks.{ms, sec}
 use Rattle.watch_machine.specs.Lines.{is_first, rested}
 use Rattle.watch_machine.specs.Looked.{untold, untold_track, untold_try}
-use Rattle.watch_machine.specs.Margins.{has_come}
 use Rattle.watch_machine.specs.Pauses.{cap, cap_of, left_to, pause}
 use Rattle.watch_machine.specs.Press.{asked_track, dropped, is_fresh, let_go, press, pressed, pressed_alone, pressed_track, track_asked_in}
 use Rattle.watch_machine.specs.Renewed.{ungranted, ungranted_track, ungranted_try}

@@ -1,5 +1,5 @@
 -- Lasting: what stays of an entry while its requests are lost. For the law of outages.
-use Rattle.std.proofs.Common.{◌≡◌, ◌≢◌, ◌∙◌, ℕ, zero, suc, Bool, true, false, min, not, ◌&&◌, ◌||◌, ◌==◌, if◌then◌else◌, List, [], ◌∷◌, Option, Some, None, IfSome, Result, Ok, Err, length, refl, sym, ap, subst, inl, inr, true≢false}
+use Rattle.std.proofs.Common.{◌≡◌, ◌≢◌, ◌∙◌, ℕ, zero, suc, Bool, true, false, min, ◌&&◌, ◌||◌, ◌==◌, if◌then◌else◌, List, [], ◌∷◌, Option, Some, None, IfSome, Result, Ok, Err, length, refl, sym, ap, subst, inl, inr, true≢false}
 use Rattle.std.proofs.lemmas.Bool.{cases_Bool, eqb-true}
 use Rattle.std.proofs.lemmas.List.{get_or-set_other, length-set}
 use Rattle.std.specs.List.{list_any}
@@ -24,7 +24,7 @@ use Rattle.watch_machine.specs.Beginning.{begun, is_called, owing, owing_lookup,
 use Rattle.watch_machine.specs.Clocks.{sec}
 use Rattle.watch_machine.specs.History.{Turn}
 use Rattle.watch_machine.specs.Looked.{by_terms, looked, untold_track}
-use Rattle.watch_machine.specs.Margins.{has_come, own_by, own_margin, lead, time, time_before}
+use Rattle.watch_machine.specs.Margins.{own_by, own_margin, lead, time, time_before}
 use Rattle.watch_machine.specs.Press.{asked_track, dropped, is_fresh, press, pressed, pressed_alone, pressed_track, track_asked_in}
 use Rattle.watch_machine.specs.Outlook.{time_of}
 use Rattle.watch_machine.specs.Refusal.{request_out}

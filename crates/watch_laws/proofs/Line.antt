@@ -19,7 +19,6 @@ use Rattle.watch_machine.specs.declared.lanes.Out.{Out}
 use Rattle.watch_machine.specs.declared.track.End.{End}
 use Rattle.watch_machine.specs.declared.track.Track.{Track}
 use Rattle.watch_machine.specs.declared.track.Try.{Try}
-use Rattle.watch_machine.specs.Clocks.{sec}
 use Rattle.watch_machine.specs.History.{Turn}
 use Rattle.watch_machine.specs.Lines.{asked_rank, is_along, is_first, part, rank, ready}
 use Rattle.watch_machine.specs.Margins.{has_come}

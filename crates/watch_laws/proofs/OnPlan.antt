@@ -31,7 +31,6 @@ use Rattle.watch_machine.specs.Beginning.{begun}
 use Rattle.watch_machine.specs.Clocks.{sec}
 use Rattle.watch_machine.specs.Lines.{is_due, is_due_try}
 use Rattle.watch_machine.specs.Press.{asked_track, dropped, is_fresh, press, pressed, pressed_alone, pressed_track, track_asked_in}
-use Rattle.watch_machine.specs.Margins.{has_come}
 use Rattle.watch_machine.specs.Sending.{RequestsAreSent as IsSending, out_at, sent, sent_in, sent_track}
 use Rattle.watch_machine.specs.Settling.{held_back, presence_after, settled, settled_track, settled_try, timed}
 use Rattle.watch_machine.specs.State.{WatchState, attempt_at, each, entry_of, no_track, second, track_at, track_in}

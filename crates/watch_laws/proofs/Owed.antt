@@ -26,7 +26,6 @@ use Rattle.watch_machine.specs.Clocks.{sec}
 use Rattle.watch_machine.specs.History.{History, Turn, Turned}
 use Rattle.watch_machine.specs.Lines.{is_due, is_due_try, rested}
 use Rattle.watch_machine.specs.Looked.{looked, status_of, told_state, told_track, untold, untold_track}
-use Rattle.watch_machine.specs.Margins.{has_come}
 use Rattle.watch_machine.specs.Pauses.{pause}
 use Rattle.watch_machine.specs.Press.{asked_track, dropped, is_fresh, let_go, press, pressed, pressed_alone, pressed_track, track_asked_in}
 use Rattle.watch_machine.specs.Refusal.{request_out}

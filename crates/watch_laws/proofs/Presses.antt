@@ -37,7 +37,7 @@ use Rattle.watch_laws.proofs.Clocking.{sent_by}
 use Rattle.watch_laws.proofs.Minding.{some_within}
 use Rattle.watch_laws.proofs.Once.{names_none}
 use Rattle.watch_laws.proofs.OnPlan.{attempt_sent, end_pressed, mid_read, new_count, out_pressed, owes_kept, past_kept, stays}
-use Rattle.watch_laws.proofs.Opener.{come_same, mid_bears, pressed_bears, wants_same}
+use Rattle.watch_laws.proofs.Opener.{come_same, mid_bears, wants_same}
 use Rattle.watch_laws.proofs.Topping.{readied_count}
 use Rattle.watch_laws.proofs.Tracking.{each_kept}
 

@@ -16,7 +16,6 @@ use Rattle.watch_machine.specs.Beginning.{hastened, owed, owing, owing_lookup, s
 use Rattle.watch_machine.specs.Clocks.{ms, sec}
 use Rattle.watch_machine.specs.Lines.{rested}
 use Rattle.watch_machine.specs.Looked.{at_once, refused_try, told_try, untold, untold_track, untold_try}
-use Rattle.watch_machine.specs.Margins.{has_come}
 use Rattle.watch_machine.specs.Pauses.{cap, cap_of, doubled, left_to, pause}
 use Rattle.watch_machine.specs.Press.{asked_track, dropped, is_fresh, let_go, press, pressed_track, track_asked_in}
 use Rattle.watch_machine.specs.Renewed.{granted_from, granted_try, ungranted, ungranted_track}
