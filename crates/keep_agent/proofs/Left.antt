@@ -33,7 +33,6 @@ use Rattle.watch_machine.specs.Beginning.{begun, is_called, owing, owing_lookup,
 use Rattle.watch_machine.specs.Clocks.{dated_by, first_clocks, is_ahead, is_behind, is_stepped, phase_of, reading, sec, walled}
 use Rattle.watch_machine.specs.History.{Turn}
 use Rattle.watch_machine.specs.Looked.{looked, told_state, untold_track}
-use Rattle.watch_machine.specs.Margins.{has_come}
 use Rattle.watch_machine.specs.Press.{asked_track, dropped, is_fresh, press, pressed, pressed_alone, pressed_track, track_asked_in}
 use Rattle.watch_machine.specs.Refusal.{refusal, request_out, unless_within}
 use Rattle.watch_machine.specs.Renewed.{renewed_track, state_renewed, ungranted_track}
@@ -84,14 +83,14 @@ owing_word at called x =
 pressed_word : (margin : ℕ) (e : Entry) (need at : ℕ) (x : Track) → Word (pressed_track margin e need at x) x
 unfolding pressed_track
 pressed_word margin e need at x =
-    if_both (λ y. Word y x) (is_fresh margin e x need (sec at)) (record x { attempt = Some (press at false x) }) (if wants x need || x.out then x else record x { attempt = dropped x x.attempt }) refl
+    if_both (λ y. Word y x) (is_fresh margin e x need (sec at)) (record x { attempt = Some (press at x) }) (if wants x need || x.out then x else record x { attempt = dropped x x.attempt }) refl
     (if_both (λ y. Word y x) (wants x need || x.out) x (record x { attempt = dropped x x.attempt }) refl refl)
 
-asked_word : (margin : ℕ) (e : Entry) (at : ℕ) (round : List ℕ) (i : ℕ) (x : Track) → Word (track_asked_in margin e at round i x) x
+asked_word : (at : ℕ) (round : List ℕ) (i : ℕ) (x : Track) → Word (track_asked_in at round i x) x
 unfolding asked_track
-asked_word margin e at round i x =
-    if_both (λ y. Word y x) (list_any (λ j. j == i) round) (asked_track margin e at x) x
-    (if_both (λ y. Word y x) x.out x (record x { attempt = Some (press at (not (has_come margin e x (sec at))) x) }) refl refl) refl
+asked_word at round i x =
+    if_both (λ y. Word y x) (list_any (λ j. j == i) round) (asked_track at x) x
+    (if_both (λ y. Word y x) x.out x (record x { attempt = Some (press at x) }) refl refl) refl
 
 sent_word : (at : ℕ) (requests : List Request) (i : ℕ) (x : Track) → Word (sent_in at requests i x) x
 sent_word at requests i x = if_both (λ y. Word y x) (list_any (λ (r : Request). r.entry == i) requests) (sent_track at x) x refl refl
@@ -116,7 +115,7 @@ gone_word s round requests i =
     let alone = pressed_alone g c s.tracks in
     let mid = pressed s round in
     each_word (sent_in c.at requests) mid.tracks (λ j x. sent_word c.at requests j x) i
-    ∙ each_word (λ j. track_asked_in g.margin (entry_at g.entries j) c.at round j) alone (λ j x. asked_word g.margin (entry_at g.entries j) c.at round j x) i
+    ∙ each_word (track_asked_in c.at round) alone (asked_word c.at round) i
     ∙ each_word (λ j. pressed_track g.margin (entry_at g.entries j) (need_of g.entries s.tracks c j) c.at) s.tracks (λ j x. pressed_word g.margin (entry_at g.entries j) (need_of g.entries s.tracks c j) c.at x) i
 
 -- what goes out at a clock
@@ -264,7 +263,7 @@ left_clock old new wall elapsed output step =
       entries = ap (λ (s : WatchState). length s.forest.entries) is.1 ∙ ap (λ (g : Forest). length g.entries) h.1.0;
       tracks =
           ap (λ (s : WatchState). length s.tracks) is.1 ∙ each_length (sent_in mid.clocks.at is.0) mid.tracks
-          ∙ each_length (λ j. track_asked_in ready.forest.margin (entry_at ready.forest.entries j) ready.clocks.at round j) (pressed_alone ready.forest ready.clocks ready.tracks)
+          ∙ each_length (track_asked_in ready.clocks.at round) (pressed_alone ready.forest ready.clocks ready.tracks)
           ∙ each_length (λ j. pressed_track ready.forest.margin (entry_at ready.forest.entries j) (need_of ready.forest.entries ready.tracks ready.clocks j) ready.clocks.at) ready.tracks
           ∙ h.0;
       phase = λ below. subst (λ (c : Clocks). c.phase < 1000) (sym (ap (λ (s : WatchState). s.clocks) is.1 ∙ h.1.1)) (timed_phase old wall elapsed below);

@@ -174,15 +174,15 @@ order_once (x ∷ xs) (y ∷ ys) up up' same =
     let rest = order_once xs ys (rest_in_order x xs up) (rest_in_order y ys up') (λ p. same_rest x p xs ys (sym (ap (λ z. often p (z ∷ ys)) e) ∙ same p)) in
     ap₂ (λ z zs. z ∷ zs) e rest
 
-line_once : (p : Presence) (at : ℕ) (xs : List Track) (a b : List Place) → IsSendingOrder p at xs a → IsSendingOrder p at xs b → b ≡ a
+line_once : (g : Forest) (p : Presence) (at : ℕ) (xs : List Track) (a b : List Place) → IsSendingOrder g p at xs a → IsSendingOrder g p at xs b → b ≡ a
 unfolding often
-line_once p at xs a b one two =
+line_once g p at xs a b one two =
     order_once a b one.in_order two.in_order
-    (λ q. sum_by-IsPermutation (λ k. cond (same_place q k) 1 0) (due p at xs) b two.all ∙ sym (sum_by-IsPermutation (λ k. cond (same_place q k) 1 0) (due p at xs) a one.all))
+    (λ q. sum_by-IsPermutation (λ k. cond (same_place q k) 1 0) (due g p at xs) b two.all ∙ sym (sum_by-IsPermutation (λ k. cond (same_place q k) 1 0) (due g p at xs) a one.all))
 
-going_once : (p : Presence) (at : ℕ) (xs : List Track) (lanes : ℕ) (a b : List Request) → IsGoing p at xs lanes a → IsGoing p at xs lanes b → b ≡ a
-going_once p at xs lanes a b one two =
-    let line = line_once p at xs one.is_picked.0 two.is_picked.0 one.is_picked.1.0 two.is_picked.1.0 in
+going_once : (g : Forest) (p : Presence) (at : ℕ) (xs : List Track) (lanes : ℕ) (a b : List Request) → IsGoing g p at xs lanes a → IsGoing g p at xs lanes b → b ≡ a
+going_once g p at xs lanes a b one two =
+    let line = line_once g p at xs one.is_picked.0 two.is_picked.0 one.is_picked.1.0 two.is_picked.1.0 in
     let picked : two.picked ≡ one.picked = two.is_picked.1.1 ∙ ap (take lanes) line ∙ sym one.is_picked.1.1 in
     two.requests_are ∙ ap (map (request p (sec at) xs)) picked ∙ sym one.requests_are
 
@@ -190,7 +190,7 @@ going_once p at xs lanes a b one two =
 
 command_once : (mid x y : WatchState) (c d : Command) → StepCommand mid c x → StepCommand mid d y → (d ≡ c) × (y ≡ x)
 command_once mid x y (Go rs until) (Go qs other) a b =
-    let requests : qs ≡ rs = going_once mid.presence mid.clocks.at mid.tracks (mid.width - length mid.out) rs qs a.0.0 b.0.0 in
+    let requests : qs ≡ rs = going_once mid.forest mid.presence mid.clocks.at mid.tracks (mid.width - length mid.out) rs qs a.0.0 b.0.0 in
     let state : y ≡ x = b.0.1 ∙ ap (sent mid) requests ∙ sym a.0.1 in
     (ap₂ Go requests (b.1 ∙ ap wait state ∙ sym a.1), state)
 command_once mid x y (Go rs until) Taken a b = absurd b

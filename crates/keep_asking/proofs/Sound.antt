@@ -36,7 +36,6 @@ use Rattle.watch_machine.specs.Clocks.{sec}
 use Rattle.watch_machine.specs.History.{Turn}
 use Rattle.watch_machine.specs.Lines.{is_due, is_due_try}
 use Rattle.watch_machine.specs.Looked.{looked, told_state}
-use Rattle.watch_machine.specs.Margins.{has_come}
 use Rattle.watch_machine.specs.Press.{asked_track, dropped, is_fresh, press, pressed, pressed_alone, pressed_track, track_asked_in}
 use Rattle.watch_machine.specs.Refusal.{request_out}
 use Rattle.watch_machine.specs.Renewed.{state_renewed}
@@ -105,14 +104,17 @@ range_below : (n a m : ℕ) → a + n ≤ m → All (λ i. i < m) (range_with_le
 range_below zero a m h = All-nil (λ i. i < m)
 range_below (suc n) a m h = All-cons (λ i. i < m) a (range_with_len (a + 1) n) (omega arith) (range_below n (a + 1) m (omega arith))
 
-placed : (away : Bool) (now i : ℕ) (x : Track) (o : Option Try) → (place_of away now i x o).entry ≡ i
-placed away now i x None = refl
-placed away now i x (Some t) = refl
+placed_by : (margin : ℕ) (e : Entry) (away : Bool) (now i : ℕ) (x : Track) (o : Option Try) → (place_of margin e away now i x o).entry ≡ i
+placed_by margin e away now i x None = refl
+placed_by margin e away now i x (Some t) = refl
 
-placed_all : (away : Bool) (now : ℕ) (xs : List Track) (is : List ℕ) → map (λ (q : Place). q.entry) (map (place away now xs) is) ≡ is
-placed_all away now xs [] = refl
-placed_all away now xs (i ∷ is) =
-    ap (λ n. n ∷ map (λ (q : Place). q.entry) (map (place away now xs) is)) (placed away now i (track_in xs i) (track_in xs i).attempt) ∙ ap (λ js. i ∷ js) (placed_all away now xs is)
+placed : (g : Forest) (away : Bool) (now : ℕ) (xs : List Track) (i : ℕ) → (place g away now xs i).entry ≡ i
+placed g away now xs i = placed_by g.margin (entry_at g.entries i) away now i (track_in xs i) (track_in xs i).attempt
+
+placed_all : (g : Forest) (away : Bool) (now : ℕ) (xs : List Track) (is : List ℕ) → map (λ (q : Place). q.entry) (map (place g away now xs) is) ≡ is
+placed_all g away now xs [] = refl
+placed_all g away now xs (i ∷ is) =
+    ap (λ n. n ∷ map (λ (q : Place). q.entry) (map (place g away now xs) is)) (placed g away now xs i) ∙ ap (λ js. i ∷ js) (placed_all g away now xs is)
 
 entry_by : (p : Presence) (now : ℕ) (xs : List Track) (i : ℕ) (o : Option Try) → (request_of p.away (is_partial now xs) p.pace i o).entry ≡ i
 entry_by p now xs i None = refl
@@ -132,15 +134,15 @@ pub record Goes (p : Presence) (at : ℕ) (xs : List Track) (lanes : ℕ) (reque
   pub once : (i : ℕ) → times i (entries_asked requests) ≤ 1
   pub few : length requests ≤ lanes
 
-goes : (p : Presence) (at : ℕ) (xs : List Track) (lanes : ℕ) (requests : List Request) → IsGoing p at xs lanes requests → Goes p at xs lanes requests
-goes p at xs lanes requests h =
+goes : (g : Forest) (p : Presence) (at : ℕ) (xs : List Track) (lanes : ℕ) (requests : List Request) → IsGoing g p at xs lanes requests → Goes p at xs lanes requests
+goes g p at xs lanes requests h =
     let test : ℕ → Bool = λ i. is_due p at (track_in xs i) in
     let n = length xs in
     let these = filter test (range_with_len 0 n) in
     let line = h.is_picked.0 in
     let named = map (λ (q : Place). q.entry) line in
     let all : IsPermutation these named =
-    subst (λ is. IsPermutation is named) (placed_all p.away (sec at) xs these) (IsPermutation-map (λ (q : Place). q.entry) (due p at xs) line h.is_picked.1.0.all) in
+    subst (λ is. IsPermutation is named) (placed_all g p.away (sec at) xs these) (IsPermutation-map (λ (q : Place). q.entry) (due g p at xs) line h.is_picked.1.0.all) in
     let front : entries_asked requests ≡ take lanes named =
     ap entries_asked h.requests_are ∙ entries_by p (sec at) xs h.picked ∙ ap (map (λ (q : Place). q.entry)) h.is_picked.1.1 ∙ sym (take-map (λ (q : Place). q.entry) lanes line) in
     let P : ℕ → Type 0 = λ i. (i < n) × (test i ≡ true) in
@@ -192,14 +194,14 @@ owing_flag at called x =
 pressed_flag : (margin : ℕ) (e : Entry) (need at : ℕ) (x : Track) → Flag (pressed_track margin e need at x) x
 unfolding pressed_track
 pressed_flag margin e need at x =
-    if_both (λ y. Flag y x) (is_fresh margin e x need (sec at)) (record x { attempt = Some (press at false x) }) (if wants x need || x.out then x else record x { attempt = dropped x x.attempt }) refl
+    if_both (λ y. Flag y x) (is_fresh margin e x need (sec at)) (record x { attempt = Some (press at x) }) (if wants x need || x.out then x else record x { attempt = dropped x x.attempt }) refl
     (if_both (λ y. Flag y x) (wants x need || x.out) x (record x { attempt = dropped x x.attempt }) refl refl)
 
-asked_flag : (margin : ℕ) (e : Entry) (at : ℕ) (round : List ℕ) (i : ℕ) (x : Track) → Flag (track_asked_in margin e at round i x) x
+asked_flag : (at : ℕ) (round : List ℕ) (i : ℕ) (x : Track) → Flag (track_asked_in at round i x) x
 unfolding asked_track
-asked_flag margin e at round i x =
-    if_both (λ y. Flag y x) (list_any (λ j. j == i) round) (asked_track margin e at x) x
-    (if_both (λ y. Flag y x) x.out x (record x { attempt = Some (press at (not (has_come margin e x (sec at))) x) }) refl refl) refl
+asked_flag at round i x =
+    if_both (λ y. Flag y x) (list_any (λ j. j == i) round) (asked_track at x) x
+    (if_both (λ y. Flag y x) x.out x (record x { attempt = Some (press at x) }) refl refl) refl
 
 settled_flag : (margin at : ℕ) (x : Track) → Flag (settled_track margin at x) x
 unfolding settled_track
@@ -224,7 +226,7 @@ mid_flag s wall elapsed round i =
     let c = u.clocks in
     let g = u.forest in
     let alone = pressed_alone g c u.tracks in
-    each_kept Flag refl (λ j. track_asked_in g.margin (entry_at g.entries j) c.at round j) alone (λ j x. asked_flag g.margin (entry_at g.entries j) c.at round j x) i
+    each_kept Flag refl (track_asked_in c.at round) alone (asked_flag c.at round) i
     ∙ each_kept Flag refl (λ j. pressed_track g.margin (entry_at g.entries j) (need_of g.entries u.tracks c j) c.at) u.tracks
     (λ j x. pressed_flag g.margin (entry_at g.entries j) (need_of g.entries u.tracks c j) c.at x) i
     ∙ begun_flag (settled t) (why s wall elapsed) i ∙ each_kept Flag refl (λ j. settled_track t.forest.margin t.clocks.at) s.tracks (λ j x. settled_flag t.forest.margin t.clocks.at x) i
@@ -244,7 +246,7 @@ mid_count s wall elapsed round =
     let u = begun (settled t) (why s wall elapsed) in
     let c = u.clocks in
     let g = u.forest in
-    each_length (λ j. track_asked_in g.margin (entry_at g.entries j) c.at round j) (pressed_alone g c u.tracks)
+    each_length (track_asked_in c.at round) (pressed_alone g c u.tracks)
     ∙ each_length (λ j. pressed_track g.margin (entry_at g.entries j) (need_of g.entries u.tracks c j) c.at) u.tracks
     ∙ begun_count (settled t) (why s wall elapsed) ∙ each_length (λ j. settled_track t.forest.margin t.clocks.at) s.tracks
 
@@ -381,7 +383,7 @@ clock_gone old new wall elapsed output requests until step is sound =
           subst (λ (b : Bool). times i (entries_out mid) ≤ (if b then 1 else 0)) (sym (mid_flag old wall elapsed round i))
           (subst (λ es. times i es ≤ (if (track_at old i).out then 1 else 0)) (sym same) (sound.once i));
     } in
-    let gone = sent_gone mid requests mid_sound (goes mid.presence mid.clocks.at mid.tracks (mid.width - length mid.out) requests command.0.0) in
+    let gone = sent_gone mid requests mid_sound (goes mid.forest mid.presence mid.clocks.at mid.tracks (mid.width - length mid.out) requests command.0.0) in
     let at : Gone mid requests new = subst (Gone mid requests) (sym command.0.1) gone in
     record {
       entries = at.entries ∙ ap (λ es. es ++ entries_asked requests) same;

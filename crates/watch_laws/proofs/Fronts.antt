@@ -109,7 +109,7 @@ sent_front s rs now i k =
     let h = sent_stays s rs k in
     let e = sent_stays s rs i in
     let test : Bool → End → End → Bool = λ b y x. b && (nat_lt (believed y) (believed x) || (believed y == believed x && nat_lt k i)) in
-    ap (λ b. test b (track_at (sent s rs) k).end (track_at (sent s rs) i).end) (sent_own s rs now k) 
+    ap (λ b. test b (track_at (sent s rs) k).end (track_at (sent s rs) i).end) (sent_own s rs now k)
     ∙ ap (λ y. test (own_at s.forest now s.tracks k) y (track_at (sent s rs) i).end) h.1 ∙ ap (λ x. test (own_at s.forest now s.tracks k) (track_at s k).end x) e.1
 
 -- somebody is alone before the requests go out, if so after it
