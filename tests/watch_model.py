@@ -1,5 +1,5 @@
-"""The machine of `watch_machine`, written in Python from its rules and not from its code, to be compared with it. It knows no dates of
-replies, and of a lookup no terms. A rule of NEW can be switched on by itself."""
+"""The machine of `watch_machine` in Python, for trials: its rules were read in the crate's code, so it is no second opinion on what they
+should be. It knows no dates of replies, and of a lookup no terms. A rule of NEW can be switched on by itself."""
 
 from __future__ import annotations
 
