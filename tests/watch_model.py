@@ -10,7 +10,7 @@ from dataclasses import dataclass, field, replace
 
 from watch_plays import SILENT, START, TOGETHER, Judge, Row, true_reply
 
-NEW: tuple[str, ...] = ("along", "busy", "owed", "never", "last-try", "back", "changed")
+NEW: tuple[str, ...] = ("never", "last-try", "changed")
 """The rules that the program does not have yet."""
 SECOND = 1000
 DAY = 86_400_000
@@ -35,7 +35,6 @@ class Try:
     at: int
     renews: bool
     pressed: bool
-    along: bool = False
     base: int | None = None
     fails: int = 0
     lost: bool = False
@@ -147,7 +146,7 @@ class Machine:
         self._wall = (0, 0)
         self._begun: int | None = None
         self._asked = self.away = False
-        self._count = self._hold = self._free = self._pace = 0
+        self._count = self._hold = self._pace = 0
 
     def _chain(self, index: int) -> list[int]:
         parent = self.entries[index].parent
@@ -236,7 +235,7 @@ class Machine:
             out.entry = kept.get(out.entry, -1)
         new.at, new.phase, new.away = self.at, self.phase, self.away
         new._answers, new._wall, new._begun, new._asked = self._answers, self._wall, self._begun, self._asked
-        new._count, new._hold, new._free, new._pace = self._count, self._hold, self._free, self._pace
+        new._count, new._hold, new._pace = self._count, self._hold, self._pace
         return new
 
     def need(self, index: int, until: int) -> None:
@@ -266,11 +265,8 @@ class Machine:
             if track.attempt and track.out:
                 track.attempt = replace(track.attempt, fails=0)
             elif track.attempt and track.attempt.lost:
-                soon = min(track.attempt.at, track.rested)
-                if "back" in self.rules and track.attempt.failed:
-                    track.attempt = replace(track.attempt, at=track.rested, failed=False)
-                else:
-                    track.attempt = replace(track.attempt, at=soon)
+                soon = track.rested if track.attempt.failed else min(track.attempt.at, track.rested)
+                track.attempt = replace(track.attempt, at=soon, failed=False)
 
     def _failing(self, index: int, renews: bool, lost: bool = False, alone: bool = False) -> None:
         track = self.tracks[index]
@@ -281,9 +277,6 @@ class Machine:
     def _unheard(self, index: int, request: Out, reply: Reply, renews: bool) -> None:
         """A loss, or the broker was too busy."""
         self._failing(index, renews, True, not reply.busy and request.heard)
-        track = self.tracks[index]
-        if reply.busy and "busy" not in self.rules and track.attempt:
-            track.attempt = replace(track.attempt, fails=1)
 
     def _looked(self, index: int, request: Out, reply: Reply) -> None:
         track = self.tracks[index]
@@ -323,8 +316,7 @@ class Machine:
         elif reply.status is not None:
             self._failing(index, False)
         else:
-            looks = not track.is_alive(self.now) or (track.owes and "owed" not in self.rules)
-            self._unheard(index, request, reply, not looks)
+            self._unheard(index, request, reply, track.is_alive(self.now))
 
     def _granted(self, index: int, request: Out, seconds: int, renewable: bool) -> None:
         track, step = self.tracks[index], self.entries[index].step
@@ -384,8 +376,6 @@ class Machine:
     def _settle(self) -> None:
         unheard = any(not reply.is_real and not request.heard for request, reply in self._answers)
         caps = [self._cap(track, track.attempt) for track in self.tracks if track.attempt and track.attempt.pressed]
-        if any(reply.busy for _, reply in self._answers) and "busy" not in self.rules:
-            self._free = self.at + SECOND
         if self.away and unheard:
             is_over = self._hold <= self.at
             self._count = min(20, self._count + 1) if is_over else self._count
@@ -430,8 +420,8 @@ class Machine:
         track = self.tracks[index]
         return self._wants(index, need) and self._has_come(index) and not track.is_pressed and not track.out
 
-    def _pressed(self, track: Track, along: bool) -> Try:
-        return Try(max(self.at, track.rested), track.is_alive(self.now), True, along, self.at)
+    def _pressed(self, track: Track) -> Try:
+        return Try(max(self.at, track.rested), track.is_alive(self.now), True, self.at)
 
     def _press(self, needs: list[float]) -> None:
         fresh = [index for index, need in enumerate(needs) if self._is_fresh(index, need)]
@@ -441,12 +431,12 @@ class Machine:
             self.notes.append(["wake", str(self.broker_moment(self.now)), *(self.entries[index].name for index in asked)])
         for index, track in enumerate(self.tracks):
             if index in fresh:
-                track.attempt = self._pressed(track, False)
+                track.attempt = self._pressed(track)
             elif track.attempt and not track.out and not self._wants(index, needs[index]):
                 self._let_go(track)
         for index in asked:
             if not self.tracks[index].out:
-                self.tracks[index].attempt = self._pressed(self.tracks[index], not self._has_come(index))
+                self.tracks[index].attempt = self._pressed(self.tracks[index])
 
     def _let_go(self, track: Track) -> None:
         attempt = track.attempt
@@ -476,9 +466,9 @@ class Machine:
 
     def _ready(self, track: Track, attempt: Try) -> int:
         if attempt.is_first:
-            return max(self._free, attempt.at)
+            return attempt.at
         later = min(attempt.at, track.rested) if self.away and attempt.lost else attempt.at
-        return max(self._free, self._hold, later)
+        return max(self._hold, later)
 
     def _place(self, index: int) -> tuple[int, float, int]:
         track = self.tracks[index]
@@ -487,7 +477,7 @@ class Machine:
         if not attempt.is_first:
             part = (0 if self.away else 2) + (0 if attempt.pressed else 1)
             return part, 0 if track.last is None else track.last + 1, index
-        along = attempt.renews and not self._has_come(index) if "along" in self.rules else attempt.along
+        along = attempt.renews and not self._has_come(index)
         part = 4 if along else (2 if self.away else 0) + (0 if track.is_alive(self.now) else 1)
         return part, track.believed, index
 
