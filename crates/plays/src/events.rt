@@ -18,23 +18,47 @@ impl<'a> Play<'a> {
         setting: &mut Setting,
         step: &Step<'_>,
     ) -> Result<Option<Vec<u8>>, Fault> {
-        let unread = step.unread();
-        match step.words.as_slice() {
-            ["turns", count] => self.turns(number(count, unread)?)?,
-            ["client", name, words @ ..] => self.comes(step, name, words, true)?,
-            ["onlooker", name, words @ ..] => self.comes(step, name, words, false)?,
-            ["request", request, fault @ ..] => {
-                let request = number(request, unread)?;
-                let fault = lane_fault(fault, unread)?;
-                self.running.set_fault(request, fault)?;
+        let words = step.words.as_slice();
+        match self.happens(setting, step, words) {
+            None => {
+                let told = self.outcome(words, step.unread())?;
+                Ok(Some(told))
             }
-            ["file", path, words @ ..] => self.put(step, path, words)?,
-            ["restart"] => self.restart(setting, step.refused())?,
-            // (See sweeps.)
-            ["sweep", ..] => {}
-            words => return Ok(Some(self.outcome(words, unread)?)),
+            Some(Ok(())) => Ok(None),
+            Some(Err(fault)) => Err(fault),
         }
-        Ok(None)
+    }
+
+    // What these words of a step say happens; `None` where they do not say what happens.
+    fn happens(
+        &mut self,
+        setting: &mut Setting,
+        step: &Step<'_>,
+        words: &[&str],
+    ) -> Option<Result<(), Fault>> {
+        match words {
+            ["turns", count] => Some(self.turns(count, step.unread())),
+            ["client", name, words @ ..] => Some(self.client_comes(step, name, words)),
+            ["onlooker", name, words @ ..] => Some(self.onlooker_comes(step, name, words)),
+            ["request", request, fault @ ..] => Some(self.goes_wrong(
+                request,
+                fault,
+                step.unread(),
+            )),
+            ["file", path, words @ ..] => Some(self.put(step, path, words)),
+            ["restart"] => Some(self.restart(setting, step.refused())),
+            // (See sweeps.)
+            ["sweep", ..] => Some(Ok(())),
+            _ => None,
+        }
+    }
+
+    // A request to come goes wrong.
+    fn goes_wrong(&mut self, request: &str, fault: &[&str], unread: Fault) -> Result<(), Fault> {
+        let request = number(request, unread)?;
+        let fault = lane_fault(fault, unread)?;
+        self.running.set_fault(request, fault)?;
+        Ok(())
     }
 
     fn put(&mut self, step: &Step<'_>, path: &str, words: &[&str]) -> Result<(), Fault> {
@@ -44,27 +68,31 @@ impl<'a> Play<'a> {
         }
     }
 
-    // A guest comes in: a client, or an onlooker.
-    fn comes(
-        &mut self,
-        step: &Step<'_>,
-        name: &str,
-        words: &[&str],
-        is_client: bool,
-    ) -> Result<(), Fault> {
-        let guest = guest_named(self.guests, name, step.unread())?;
-        let peer = Peer::new(guest, step.bytes(self.alloc)?, words, step.unread())?;
-        let house = &mut self.house.others;
-        match (is_client, &mut house.control, &mut house.onlookers) {
-            (true, Some(control), _) => control.door.bring(peer)?,
-            (false, _, Some(onlookers)) => onlookers.door.bring(peer)?,
-            _ => return Err(step.refused()),
+    fn client_comes(&mut self, step: &Step<'_>, name: &str, words: &[&str]) -> Result<(), Fault> {
+        let peer = self.peer(step, name, words)?;
+        match &mut self.house.others.control {
+            None => Err(step.refused()),
+            Some(control) => control.door.bring(peer),
         }
-        Ok(())
     }
 
-    fn turns(&mut self, count: u64) -> Result<(), AllocError> {
-        for _ in 0..count {
+    fn onlooker_comes(&mut self, step: &Step<'_>, name: &str, words: &[&str]) -> Result<(), Fault> {
+        let peer = self.peer(step, name, words)?;
+        match &mut self.house.others.onlookers {
+            None => Err(step.refused()),
+            Some(onlookers) => onlookers.door.bring(peer),
+        }
+    }
+
+    // The connection of a guest who comes.
+    fn peer(&self, step: &Step<'_>, name: &str, words: &[&str]) -> Result<Peer<'a>, Fault> {
+        let guest = guest_named(self.guests, name, step.unread())?;
+        let text = step.bytes(self.alloc)?;
+        Peer::new(guest, text, words, step.unread())
+    }
+
+    fn turns(&mut self, count: &str, unread: Fault) -> Result<(), Fault> {
+        for _ in 0..number(count, unread)? {
             self.running
                 .turn(self.alloc, &mut self.clock, &mut self.house);
             keep_asked(self.alloc, &self.running, &mut self.told)?;

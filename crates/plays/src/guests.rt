@@ -177,7 +177,7 @@ impl<'a> PeerDoor<'a> {
     }
 
     /// One more comes to it.
-    pub fn bring(&mut self, peer: Peer<'a>) -> Result<(), AllocError> {
+    pub fn bring(&mut self, peer: Peer<'a>) -> Result<(), Fault> {
         self.peers.push_back(peer)?;
         Ok(())
     }

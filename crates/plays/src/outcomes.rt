@@ -11,46 +11,96 @@ use std::alloc::{AllocError, Global};
 use std::mem;
 use watch_machine::End;
 
+/// What is asked for.
+#[derive(Clone, Copy)]
+enum Asked {
+    Log,
+    Waiting,
+    Dropped,
+    Requests,
+    Pauses,
+    Entries,
+    Looked,
+    Read,
+}
+
+// What a word asks for.
+fn read_asked(word: &str, unread: Fault) -> Result<Asked, Fault> {
+    match word {
+        "log" => Ok(Asked::Log),
+        "waiting" => Ok(Asked::Waiting),
+        "dropped" => Ok(Asked::Dropped),
+        "requests" => Ok(Asked::Requests),
+        "pauses" => Ok(Asked::Pauses),
+        "entries" => Ok(Asked::Entries),
+        "looked" => Ok(Asked::Looked),
+        "read" => Ok(Asked::Read),
+        _ => Err(unread),
+    }
+}
+
 impl<'a> Play<'a> {
     /// What these words ask for.
     pub fn outcome(&mut self, words: &[&str], unread: Fault) -> Result<Vec<u8>, Fault> {
+        match words {
+            [word] => {
+                let asked = read_asked(word, unread)?;
+                self.told_of(asked)
+            }
+            ["disk", path] => file_of(self.alloc, &self.house.others, path),
+            ["sent", name] => {
+                let guest = guest_named(self.guests, name, unread)?;
+                Ok(guest.take_sent())
+            }
+            ["calls", name] => {
+                let guest = guest_named(self.guests, name, unread)?;
+                line_of(self.alloc, guest.calls())
+            }
+            _ => Err(unread),
+        }
+    }
+
+    fn told_of(&mut self, asked: Asked) -> Result<Vec<u8>, Fault> {
         let alloc = self.alloc;
         let house = &self.house.others;
-        let told = match words {
-            ["log"] => part_after(alloc, house.sink.written(), &mut self.told.log)?,
-            ["waiting"] => Vec::from_slice(alloc, house.desk.room().waiting())?,
-            ["dropped"] => line_of(alloc, house.desk.room().dropped())?,
-            ["requests"] => mem::replace(&mut self.told.requests, Vec::new(alloc)),
-            ["pauses"] => pauses_after(alloc, self.clock.calls(), &mut self.told.clock)?,
-            ["entries"] => entries_of(alloc, &self.running)?,
-            ["looked"] => line_of(alloc, counts_of(house).0)?,
-            ["read"] => line_of(alloc, counts_of(house).1)?,
-            ["disk", path] => file_of(alloc, house, path)?,
-            ["sent", name] => guest_named(self.guests, name, unread)?.take_sent(),
-            ["calls", name] => line_of(alloc, guest_named(self.guests, name, unread)?.calls())?,
-            _ => return Err(unread),
-        };
-        Ok(told)
+        match asked {
+            Asked::Log => part_after(alloc, house.sink.written(), &mut self.told.log),
+            Asked::Waiting => copy_of(alloc, house.desk.room().waiting()),
+            Asked::Dropped => line_of(alloc, house.desk.room().dropped()),
+            Asked::Requests => Ok(mem::replace(&mut self.told.requests, Vec::new(alloc))),
+            Asked::Pauses => pauses_after(alloc, self.clock.calls(), &mut self.told.clock),
+            Asked::Entries => entries_of(alloc, &self.running),
+            Asked::Looked => line_of(alloc, counts_of(house).0),
+            Asked::Read => line_of(alloc, counts_of(house).1),
+        }
     }
 }
 
 // A number, in a line.
-fn line_of(alloc: Global, number: u64) -> Result<Vec<u8>, AllocError> {
+fn line_of(alloc: Global, number: u64) -> Result<Vec<u8>, Fault> {
     let mut line = Vec::new(alloc);
     push_number(alloc, number, &mut line)?;
     line.push(b'\n')?;
     Ok(line)
 }
 
+// These bytes.
+fn copy_of(alloc: Global, bytes: &[u8]) -> Result<Vec<u8>, Fault> {
+    match Vec::from_slice(alloc, bytes) {
+        Ok(bytes) => Ok(bytes),
+        Err(_) => Err(Fault::Memory),
+    }
+}
+
 // The bytes after so many, which are told with that.
-fn part_after(alloc: Global, bytes: &[u8], before: &mut usize) -> Result<Vec<u8>, AllocError> {
-    let part = Vec::from_slice(alloc, bytes.get(*before..).unwrap_or(&[]))?;
+fn part_after(alloc: Global, bytes: &[u8], before: &mut usize) -> Result<Vec<u8>, Fault> {
+    let part = bytes.get(*before..).unwrap_or(&[]);
     *before = bytes.len();
-    Ok(part)
+    copy_of(alloc, part)
 }
 
 // How long each wait after so many calls of the clock took, in milliseconds, in one line; they are told with that.
-fn pauses_after(alloc: Global, calls: &[Call], before: &mut usize) -> Result<Vec<u8>, AllocError> {
+fn pauses_after(alloc: Global, calls: &[Call], before: &mut usize) -> Result<Vec<u8>, Fault> {
     let mut line = Vec::new(alloc);
     for call in calls.get(*before..).unwrap_or(&[]) {
         if let Call::Wait { millis } = call {
@@ -74,7 +124,7 @@ fn counts_of(house: &MemoryHouse<'_>) -> (u64, u64) {
 }
 
 // The bytes of a file of the state, or of the ends.
-fn file_of(alloc: Global, house: &MemoryHouse<'_>, path: &str) -> Result<Vec<u8>, AllocError> {
+fn file_of(alloc: Global, house: &MemoryHouse<'_>, path: &str) -> Result<Vec<u8>, Fault> {
     if let Some(ledger) = &house.state {
         if let Some(held) = ledger.state.disk().file(alloc, path)? {
             return Ok(held.bytes);
@@ -85,11 +135,11 @@ fn file_of(alloc: Global, house: &MemoryHouse<'_>, path: &str) -> Result<Vec<u8>
             return Ok(held.bytes);
         }
     }
-    Vec::from_slice(alloc, b"(no file)\n")
+    copy_of(alloc, b"(no file)\n")
 }
 
 // Of each entry that is served, the second at which it is believed to end, and that at which it ends at the broker.
-fn entries_of(alloc: Global, running: &Running) -> Result<Vec<u8>, AllocError> {
+fn entries_of(alloc: Global, running: &Running) -> Result<Vec<u8>, Fault> {
     let mut lines = Vec::new(alloc);
     if let Some(agent) = running.agent() {
         for index in 0..agent.inventory().forest().len() {

@@ -1,7 +1,7 @@
 //! A play, from its start on.
 use crate::fault::Fault;
 use crate::guests::{Guest, guests_of};
-use crate::running::Running;
+use crate::running::{MemoryLanes, Running};
 use crate::settings::{FILE, Setting};
 use crate::starts::{MemoryHouse, Said, lanes_of};
 use crate::steps::Step;
@@ -97,33 +97,69 @@ fn played_among(
     };
     let readings = mem::replace(&mut setting.readings, Vec::new(alloc));
     let clock = MemoryClock::new(alloc, readings, CLOCK_CALLS)?;
-    let desk = Desk::new(alloc, setting.form, 0)?;
     let lanes = lanes_of(alloc, setting, setting.width, refused)?;
+    let desk = Desk::new(alloc, setting.form, 0)?;
+    let house = house_of(alloc, setting, desk);
+    let play = Play::new(alloc, paths, guests, clock, lanes, house);
+    play.over(setting, steps, first, refused)
+}
+
+/// A house in which there is the log alone.
+fn house_of<'a>(alloc: Global, setting: &mut Setting, desk: Desk) -> EarlyDay<MemoryHouse<'a>> {
     let answers = mem::replace(&mut setting.answers, Vec::new(alloc));
     let house = House::new(desk, MemorySink::new(alloc, answers), UNREAD);
-    let mut play = Play {
-        alloc,
-        paths,
-        guests,
-        clock,
-        running: Running::new(lanes),
-        house: EarlyDay::new(house, u64::from(setting.part).saturating_mul(1000)),
-        said: Said {
-            changes: Vec::new(alloc),
-            files: Vec::new(alloc),
-        },
-        told: Told {
+    EarlyDay::new(house, u64::from(setting.part).saturating_mul(1000))
+}
+
+impl Told {
+    /// Nothing.
+    fn new(alloc: Global) -> Told {
+        Told {
             log: 0,
             clock: 0,
             out: Vec::new(alloc),
             requests: Vec::new(alloc),
-        },
-    };
-    play.outcomes(setting, steps, first, refused)
+        }
+    }
 }
 
 impl<'a> Play<'a> {
-    // What came of each step, of which so many only say what the play begins with.
+    // One of which no agent is started.
+    fn new(
+        alloc: Global,
+        paths: &'a Paths,
+        guests: &'a [Guest<'a>],
+        clock: MemoryClock,
+        lanes: MemoryLanes,
+        house: EarlyDay<MemoryHouse<'a>>,
+    ) -> Play<'a> {
+        Play {
+            alloc,
+            paths,
+            guests,
+            clock,
+            running: Running::new(lanes),
+            house,
+            said: Said::new(alloc),
+            told: Told::new(alloc),
+        }
+    }
+
+    // It is played, and over then; what came of each step, of which so many only say what the play begins with.
+    fn over(
+        self,
+        setting: &mut Setting,
+        steps: &[Step<'_>],
+        first: usize,
+        refused: Fault,
+    ) -> Result<Vec<Option<Vec<u8>>>, Fault> {
+        let mut play = self;
+        let outcomes = play.outcomes(setting, steps, first, refused);
+        drop(play);
+        outcomes
+    }
+
+    // What came of each step.
     fn outcomes(
         &mut self,
         setting: &mut Setting,

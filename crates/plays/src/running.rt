@@ -1,5 +1,6 @@
 //! An agent beside its lanes to the broker, in step with them between two turns.
 use crate::fault::Fault;
+use crate::places::put;
 pub use broker_lanes::MemoryLanes;
 use keep_agent::Agent;
 use keep_clock::Clock;
@@ -45,11 +46,11 @@ impl Running {
         inventory: Inventory,
         known: &[Event],
     ) -> Result<(), Fault> {
-        self.serving = None;
+        put(&mut self.serving, None);
         self.lanes.forget();
         match Serving::resume(alloc, inventory, &self.lanes, known) {
             Ok(serving) => {
-                self.serving = Some(serving);
+                put(&mut self.serving, Some(serving));
                 Ok(())
             }
             Err(_) => Err(Fault::Memory),

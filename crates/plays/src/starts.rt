@@ -4,6 +4,7 @@ ghost use Rattle.std.specs.Prelude.{◌≡◌, [], IfOk, max, min};
 use crate::drawers::Drawer;
 use crate::fault::Fault;
 use crate::guests::{Peer, PeerDoor};
+use crate::places::put;
 use crate::play::Play;
 use crate::running::MemoryLanes;
 use crate::settings::{ENDS, FILE, Setting, Store};
@@ -41,6 +42,16 @@ pub struct Said {
     pub files: Vec<Text>,
 }
 
+impl Said {
+    /// Nothing.
+    pub fn new(alloc: Global) -> Said {
+        Said {
+            changes: Vec::new(alloc),
+            files: Vec::new(alloc),
+        }
+    }
+}
+
 /// So many lanes to the broker.
 pub fn lanes_of(
     alloc: Global,
@@ -51,11 +62,20 @@ pub fn lanes_of(
     ensures none { IfOk result (λ lanes. lanes.out ≡ []) }
     ensures wide { IfOk result (λ lanes. lanes.width ≡ max 1 (min width 32)) }
 {
-    match read(alloc, &setting.broker) {
-        Ok(known) => {
-            let table = Table::load(alloc, &known)?;
-            Ok(MemoryLanes::new(alloc, table, setting.timeout, width))
-        }
+    let table = table_of(alloc, &setting.broker, refused)?;
+    Ok(MemoryLanes::new(alloc, table, setting.timeout, width))
+}
+
+/// The table of a broker that knows the inventory of this text.
+fn table_of(alloc: Global, text: &[u8], refused: Fault) -> Result<Table, Fault> {
+    let known = read_or(alloc, text, refused)?;
+    Ok(Table::load(alloc, &known)?)
+}
+
+/// The inventory of this text.
+fn read_or(alloc: Global, text: &[u8], refused: Fault) -> Result<Inventory, Fault> {
+    match read(alloc, text) {
+        Ok(inventory) => Ok(inventory),
         Err(_) => Err(refused),
     }
 }
@@ -87,16 +107,15 @@ impl<'a> Play<'a> {
         self.start(setting, refused)
     }
 
-    // Changes are kept, where they are; what files of credentials hold is taken, which waits for no rebuilding at a start.
+    // Changes are kept, where they are.
     fn keep_changes(&mut self, setting: &mut Setting, refused: Fault) -> Result<(), Fault> {
         let alloc = self.alloc;
         let state = &mut self.house.others.state;
         let notes = open(alloc, self.paths, setting, state, refused)?;
         if let Some(ledger) = state {
-            ledger.proving = proving(alloc, setting, refused)?;
-            self.said.changes = ledger.note_lines(alloc, &notes)?;
-            self.said.files = ledger.fill(alloc, 0)?;
-            ledger.state.rebuilt();
+            let proving = proving(alloc, setting, refused)?;
+            put(&mut ledger.proving, proving);
+            fill(alloc, ledger, &notes, &mut self.said)?;
         }
         Ok(())
     }
@@ -110,7 +129,8 @@ impl<'a> Play<'a> {
     ) -> Result<Vec<Event>, AllocError> {
         let alloc = self.alloc;
         let house = &mut self.house.others;
-        house.desk = Desk::new(alloc, setting.form, inventory.forest().len())?;
+        let desk = Desk::new(alloc, setting.form, inventory.forest().len())?;
+        put(&mut house.desk, desk);
         say(alloc, now, &self.said, &mut house.desk);
         let_in(alloc, now, house);
         let told = open_ends(alloc, &mut setting.ends, &mut house.ends);
@@ -134,14 +154,36 @@ fn open<'a>(
     let files = mem::replace(&mut setting.state.files, Vec::new(alloc));
     let disk = MemoryDisk::new(alloc, files, failing, Why::Full);
     match State::open(alloc, disk, paths, Some(&setting.file), None) {
-        Ok(opened) => {
-            let Opened { state, notes, .. } = opened;
-            let drawer = mem::replace(&mut setting.drawer, Drawer::new(alloc));
-            *place = Some(ledger_of(alloc, state, drawer, setting.timeout));
-            Ok(notes)
-        }
+        Ok(opened) => Ok(keep(alloc, opened, setting, place)),
         Err(_) => Err(refused),
     }
+}
+
+/// What is opened is kept there; and what is to be noted of it.
+fn keep<'a>(
+    alloc: Global,
+    opened: Opened<'a, MemoryDisk>,
+    setting: &mut Setting,
+    place: &mut Option<MemoryLedger<'a>>,
+) -> Vec<Note> {
+    let Opened { state, notes, .. } = opened;
+    let drawer = mem::replace(&mut setting.drawer, Drawer::new(alloc));
+    let ledger = ledger_of(alloc, state, drawer, setting.timeout);
+    put(place, Some(ledger));
+    notes
+}
+
+/// What files of credentials hold is taken, which waits for no rebuilding at a start; and what is to be said then.
+fn fill(
+    alloc: Global,
+    ledger: &mut MemoryLedger<'_>,
+    notes: &[Note],
+    said: &mut Said,
+) -> Result<(), Fault> {
+    said.changes = ledger.note_lines(alloc, notes)?;
+    said.files = ledger.fill(alloc, 0)?;
+    ledger.state.rebuilt();
+    Ok(())
 }
 
 /// A ledger of a state, which looks nothing up.
@@ -190,10 +232,7 @@ fn inventory_of(
     refused: Fault,
 ) -> Result<Inventory, Fault> {
     match ledger {
-        None => match read(alloc, file) {
-            Ok(inventory) => Ok(inventory),
-            Err(_) => Err(refused),
-        },
+        None => read_or(alloc, file, refused),
         Some(ledger) => Ok(ledger.inventory(alloc)?),
     }
 }
@@ -223,7 +262,7 @@ fn open_ends(
     let disk = MemoryDisk::new(alloc, files, failing, Why::Full);
     let mut file = EndsFile::new(path, boot, disk);
     let told = load_ends(alloc, &mut file.disk, ENDS, BOOT);
-    *place = Some(file);
+    put(place, Some(file));
     told
 }
 
@@ -248,16 +287,18 @@ fn known_of(
 /// Nobody asks or looks on, and nothing was given or said yet.
 fn let_in(alloc: Global, now: Reading, house: &mut MemoryHouse<'_>) {
     let seconds = Some(now.wall / 1000);
-    house.control = Some(Control::new(alloc, PeerDoor::new(alloc)));
-    house.onlookers = Some(Onlookers::new(alloc, PeerDoor::new(alloc)));
+    let control = Control::new(alloc, PeerDoor::new(alloc));
+    let onlookers = Onlookers::new(alloc, PeerDoor::new(alloc));
+    put(&mut house.control, Some(control));
+    put(&mut house.onlookers, Some(onlookers));
     house.file = FileReading {
         is_good: true,
         at: seconds,
         good_at: seconds,
     };
-    house.given = None;
-    house.awaited = None;
-    house.next = None;
+    put(&mut house.given, None);
+    put(&mut house.awaited, None);
+    put(&mut house.next, None);
 }
 
 /// What a ledger leaves for the next start.
