@@ -208,7 +208,7 @@ class Agent:
             *whole, self._unread = (self._unread + piece).split(b"\n")
             for text in whole:
                 told = json.loads(text)
-                words = tuple(str(word) for word in told["words"])
+                words = tuple(part for word in told["words"] for part in word.split())
                 self.lines.append(Line(self.world.now, self.run, told["level"], told["event"], words))
 
     def said(self, event: str, *words: str, level: str | None = None) -> list[Line]:

@@ -71,19 +71,14 @@ class Judge:
 
     def _judge_end(self, name: str, end: int, clocks: Clocks, where: str) -> None:
         """That end, in seconds of the boot clock, is no later than the broker's."""
-        try:
-            row = self._broker.vault.named(name)
-        except StopIteration:
-            return
-        real = clocks.elapsed(row.latest_end())
+        real = clocks.elapsed(self._broker.vault.latest_end(name))
         if ns(end) > real:
-            self._tell(f"{where} {name} end at {end}, and the broker {real / NANOSECONDS:.3f}")
+            self._tell(f"{where} {name} end at {end}, and the broker at {real / NANOSECONDS:.3f}")
 
-    def judge_status(self, ends: dict[str, int], slack: float) -> None:
+    def judge_status(self, ends: dict[str, float], slack: float) -> None:
         """Ends that the agent shows, in seconds since 1970, are no later than the broker's. `slack`: by how much its clock may be wrong."""
         for name, end in ends.items():
-            row = self._broker.vault.named(name)
-            real = second_of(row.latest_end())
+            real = second_of(self._broker.vault.latest_end(name))
             if end > real + slack:
                 self._tell(f"status shows the end of {name} at {end}, and the broker {real}")
 

@@ -37,7 +37,7 @@ class Connection:
         was_whole = whole_request(self._heard)
         self._heard += piece
         if not was_whole and whole_request(self._heard):
-            self._broker.serve(self, request_of(self._heard))
+            self._broker.serve(self, self._heard)
 
     def answer(self, text: bytes) -> None:
         """Sends that and closes, where nobody has closed it."""
@@ -70,6 +70,10 @@ class Broker:
         self.latency = 0.0
         self.latency_of: Callable[[], float] | None = None
         """In its place, one for each request."""
+        self.text_of: Callable[[bytes], bytes] | None = None
+        """The whole reply to a whole request, in place of what the rules say."""
+        self.texts: list[bytes] = []
+        """Each request as it came."""
         self.tells_date = False
         self.nodes_ahead: tuple[float, ...] = (0.0,)
         """By how many seconds the clocks of its nodes are ahead, of which one after the other tells the date."""
@@ -120,13 +124,17 @@ class Broker:
     def closed(self, connection: Connection) -> None:
         self._out.discard(connection)
 
-    def serve(self, connection: Connection, request: Request) -> None:
+    def serve(self, connection: Connection, text: bytes) -> None:
         """A request has come."""
-        now = self.world.now
+        now, request = self.world.now, request_of(text)
+        self.texts.append(text)
         name = self.vault.hear(request, now, self._run_at())
         latency = ns(self.latency if self.latency_of is None else self.latency_of())
         amiss = next((one for one in self.faults if one.holds(now, request, name)), None)
-        if amiss is None or amiss.act is Act.SLOW:
+        if self.text_of is not None:
+            reply = self.text_of(text)
+            self.world.later(latency, lambda: connection.answer(reply))
+        elif amiss is None or amiss.act is Act.SLOW:
             self._answer(connection, request, latency + (ns(amiss.seconds) if amiss else 0))
         else:
             self._go_wrong(connection, request, amiss, latency)

@@ -5,7 +5,6 @@ from __future__ import annotations
 
 import math
 import random
-from collections.abc import Callable
 from dataclasses import dataclass, replace
 from pathlib import Path
 
@@ -16,7 +15,6 @@ from .ledger import Ledger
 from .stage import Stage
 from .vault import Kind, Row
 
-Tell = Callable[[str], None]
 SLACK = 1.5
 """Seconds by which an outage is shorter than the bound."""
 SPARE = 60
@@ -119,8 +117,8 @@ def real_terms(chance: random.Random, fleet: Fleet) -> dict[str, dict[str, objec
 class Actor:
     """Lets one thing after another happen in a world."""
 
-    def __init__(self, stage: Stage, plotted: Plot, chance: random.Random, tell: Tell) -> None:
-        self._stage, self._plot, self._chance, self._tell = stage, plotted, chance, tell
+    def __init__(self, stage: Stage, plotted: Plot, chance: random.Random) -> None:
+        self._stage, self._plot, self._chance = stage, plotted, chance
         self._ledger = Ledger(stage)
         self._made = 0
         self.sick: set[str] = set()
@@ -131,7 +129,7 @@ class Actor:
         stage.world.watchers.append(self._watch_files)
 
     def say(self, text: str) -> None:
-        self._tell(f"{self._stage.now:12.3f} ** {text}")
+        self._stage.tell(text)
 
     # ---- one thing
 
@@ -394,8 +392,8 @@ class Actor:
         return [f"a warning: {line}" for line in self._stage.agent.said("short", level="warning") if line.words[0] not in limited | self.sick]
 
 
-def play(program: Path, seed: int, tell: Tell = lambda text: None, log: bool = False) -> list[str]:
-    """Plays the world of that seed; what went wrong, a line each. `tell` hears what happens, and `log` lets it hear the agent's log."""
+def play(program: Path, seed: int) -> list[str]:
+    """Plays the world of that seed; what went wrong, a line each."""
     chance = random.Random(seed)
     plotted = plot(chance)
     stage = Stage(program, plotted.fleet, width=plotted.width, timeout=plotted.timeout, latency=plotted.latency, late=plotted.late,
@@ -403,16 +401,12 @@ def play(program: Path, seed: int, tell: Tell = lambda text: None, log: bool = F
     stage.broker.tells_date = plotted.tells_date
     for name in plotted.files:
         stage.write(f"{name}.token", plotted.fleet.get(name).secret)
-    tell(f"seed {seed}: {len(plotted.fleet.entries)} entries, margin {plotted.margin:.0f}, width {plotted.width}, time-out {plotted.timeout}, "
+    stage.tell(f"seed {seed}: {len(plotted.fleet.entries)} entries, margin {plotted.margin:.0f}, width {plotted.width}, time-out {plotted.timeout}, "
          f"replies of {plotted.latency}, {plotted.late} late, {plotted.hours:.1f} hours")
     with stage:
-        actor = Actor(stage, plotted, chance, tell)
+        actor = Actor(stage, plotted, chance)
         until = plotted.hours * 3600
         while stage.now < until and not actor.faults and not stage.judge.faults:
             stage.on(stage.now + actor.gap())
             actor.happen()
-        found = actor.finish()
-        if log:
-            for line in stage.agent.lines:
-                tell(str(line))
-        return found
+        return actor.finish()

@@ -4,7 +4,7 @@ from __future__ import annotations
 
 import os
 import tempfile
-from collections.abc import Iterable
+from collections.abc import Callable, Iterable
 from pathlib import Path
 from types import TracebackType
 from typing import Any
@@ -17,6 +17,8 @@ from .listening import Broker
 from .world import World
 
 SOCKET, INVENTORY = "vault.sock", "fleet.toml"
+TOLD: list[Callable[[str], None]] = []
+"""Who is told what happens in each world, and what its agent logs."""
 
 
 class Stage:
@@ -43,6 +45,9 @@ class Stage:
         self.agent = Agent(self.world, program, self.room, [*options, *words], self.clocks, late)
         self.judge = Judge(self.broker, self.agent, self.room / ENDS, width)
         self._wrong: list[str] = []
+        self._told = 0
+        """Lines of the log that were told."""
+        self.world.watchers.append(self._tell_log)
 
     def __enter__(self) -> Stage:
         self.start()
@@ -66,6 +71,17 @@ class Stage:
         """The file was written now. (The disk's own clock is that of the test: two writes of hours apart may have one date.)"""
         wall = self.clocks.wall(self.world.now)
         os.utime(path, ns=(wall, wall))
+
+    def tell(self, text: str) -> None:
+        """Says something that happens, to whoever is told."""
+        for told in TOLD:
+            told(f"{self.now:12.3f} ** {text}")
+
+    def _tell_log(self) -> None:
+        for line in self.agent.lines[self._told:]:
+            for told in TOLD:
+                told(str(line))
+        self._told = len(self.agent.lines)
 
     # ---- what happens
 

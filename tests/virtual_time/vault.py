@@ -122,6 +122,10 @@ class Vault:
         """The row of that name that was added last, and of which the agent has the credential."""
         return next(row for row in reversed(self.rows.values()) if row.name == name and not row.is_spare)
 
+    def latest_end(self, name: str) -> int:
+        """The latest end that any row of that name ever had."""
+        return max((row.latest_end() for row in self.rows.values() if row.name == name), default=-NEVER)
+
     def count(self, name: str | None = None, renews: bool | None = None, since: int = -NEVER) -> int:
         """How many requests came, of one entry or of one kind."""
         return sum((name is None or one.name == name) and (renews is None or one.renews == renews) and one.moment >= since for one in self.asked)
