@@ -119,8 +119,8 @@ class Agent:
         self._error_path = self._room / f"error.{self.run}"
         with self._log_path.open("wb") as log, self._error_path.open("wb") as errors:
             self._process = subprocess.Popen(
-                [str(self._program), "serve", *self._words, "--log", "json"], cwd=self._room, stdin=subprocess.DEVNULL, stdout=log, stderr=errors,
-                pass_fds=self._turns.handles, env={**os.environ, **self._turns.environment(self._boot_file)})
+                [str(self._program), "serve", *self._words, "--log", "json"], cwd=self._room, pass_fds=self._turns.handles,
+                stdin=subprocess.DEVNULL, stdout=log, stderr=errors, env={**os.environ, **self._turns.environment(self._boot_file)})
         self._turns.begun()
         self._log, self._unread = os.open(self._log_path, os.O_RDONLY), b""
         self.world.living.append(self)
@@ -128,11 +128,9 @@ class Agent:
 
     def _await(self) -> None:
         """Waits until it waits, and reads what it has logged meanwhile. Time has passed where waits of it were over by themselves."""
-        shown = self._turns.get(Cell.NOW)
         self._heard = NEVER
         is_up = self._turns.take()
-        if (now := self._turns.get(Cell.NOW)) > shown:
-            self.world.now = max(self.world.now, self.clocks.moment_of(now))
+        self.world.now = max(self.world.now, self.clocks.moment_of(self._turns.get(Cell.NOW)))
         if is_up:
             self._read_log()
         else:
@@ -213,7 +211,7 @@ class Agent:
 
     def said(self, event: str, *words: str, level: str | None = None) -> list[Line]:
         """The lines of that event that begin with these words."""
-        return [line for line in self.lines if line.event == event and line.words[:len(words)] == words and (level is None or line.level == level)]
+        return [line for line in self.lines if line.event == event and line.words[:len(words)] == words and level in (None, line.level)]
 
     def client(self, *words: str) -> Client:
         """A client that has just asked for that."""

@@ -104,7 +104,7 @@ class Ledger:
                 return []
         wanted = standing(self.fleet)
         differs = sorted(name for name in wanted | shown if wanted.get(name) != shown.get(name))
-        return [f"at {self._stage.now:.3f}: after a restart of {name} there is the need {shown.get(name)}, and {wanted.get(name)} was acknowledged"
+        return [f"at {self._stage.now:.3f}: after a restart {name} has the need {shown.get(name)}, and {wanted.get(name)} was acknowledged"
                 for name in differs]
 
 

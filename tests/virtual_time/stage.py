@@ -25,10 +25,10 @@ class Stage:
     """A broker, an agent that serves a fleet, and a judge. Moments are seconds of the world."""
 
     def __init__(self, program: Path, fleet: Fleet, *, width: int = 8, timeout: int = 5, latency: float = 0.0, late: float = 0.0,
-                 wall_ahead: float = 0.0, slow: float = 0.0, began: float = 0.0, words: Iterable[str] = (), state: bool = True, ends: bool = True,
+                 wall_ahead: float = 0.0, slow: float = 0.0, began: float = 0.0, words: Iterable[str] = (),
                  real: dict[str, dict[str, Any]] | None = None) -> None:
-        """`real`: what of some entries is otherwise at the broker; `began`: a fraction of a second by which everything happens later;
-        `state`, `ends`: whether it keeps changes, and ends."""
+        """`real`: what of some entries is otherwise at the broker; `began`: a fraction of a second at which it is started; `words`: more
+        options of the agent."""
         self._folder = tempfile.TemporaryDirectory(prefix="vt.")
         self.room = Path(self._folder.name)
         self.world = World()
@@ -39,9 +39,8 @@ class Stage:
         self.broker.latency = latency
         fleet.load(self.broker.vault, **(real or {}))
         self.write(INVENTORY, fleet.text())
-        options = [INVENTORY, f"./{SOCKET}", "--timeout", str(timeout), "--width", str(width), "--control", f"./{CONTROL}", "--listen", f"./{PAGES}"]
-        options += ["--state", f"./{STATE}"] if state else []
-        options += [] if ends else ["--runtime", "./nowhere"]
+        options = [INVENTORY, f"./{SOCKET}", "--timeout", str(timeout), "--width", str(width)]
+        options += ["--control", f"./{CONTROL}", "--listen", f"./{PAGES}", "--state", f"./{STATE}"]
         self.agent = Agent(self.world, program, self.room, [*options, *words], self.clocks, late)
         self.judge = Judge(self.broker, self.agent, self.room / ENDS, width)
         self._wrong: list[str] = []

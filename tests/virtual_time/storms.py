@@ -66,7 +66,8 @@ def play_chaos(program: Path, seed: int) -> list[str]:
 
     def picked(_request: Request, _name: str) -> bool:
         return chance.random() < rate / len(kinds)
-    kinds = (*((act, 0) for act in (Act.SILENT, Act.CLOSED, Act.GARBLED, Act.DROPPED, Act.DRIPS)), *((Act.STATUS, status) for status in (400, 403, 429, 503)))
+    acts = (Act.SILENT, Act.CLOSED, Act.GARBLED, Act.DROPPED, Act.DRIPS)
+    kinds = [*((act, 0) for act in acts), *((Act.STATUS, status) for status in (400, 403, 429, 503))]
     with Stage(program, fleet, width=chance.randint(1, 8), timeout=1) as stage:
         stage.broker.latency_of = lambda: chance.uniform(0, slow)
         stage.broker.tells_date = chance.random() < 0.5

@@ -126,13 +126,13 @@ class Vault:
         """The latest end that any row of that name ever had."""
         return max((row.latest_end() for row in self.rows.values() if row.name == name), default=-NEVER)
 
-    def count(self, name: str | None = None, renews: bool | None = None, since: int = -NEVER) -> int:
+    def count(self, name: str | None = None, renews: bool | None = None) -> int:
         """How many requests came, of one entry or of one kind."""
-        return sum((name is None or one.name == name) and (renews is None or one.renews == renews) and one.moment >= since for one in self.asked)
+        return sum(name in (None, one.name) and renews in (None, one.renews) for one in self.asked)
 
     def moments(self, name: str, renews: bool | None = None) -> list[float]:
         """When it was asked about an entry, in seconds of the world."""
-        return [one.moment / NANOSECONDS for one in self.asked if one.name == name and (renews is None or one.renews == renews)]
+        return [one.moment / NANOSECONDS for one in self.asked if one.name == name and renews in (None, one.renews)]
 
     def hear(self, request: Request, now: int, run: int) -> str:
         """A request has come; the name of the entry that it is about."""
@@ -196,9 +196,9 @@ def renewed_lease(row: Row, request: Request, now: int) -> Reply:
 
 def facts_of_token(row: Row, now: int) -> dict[str, Any]:
     return {
-        "creation_time": second_of(row.issued), "expire_time": None if row.is_endless else date_of(row.end), "explicit_max_ttl": row.explicit_max,
-        "orphan": row.parent is None, "period": row.period, "renewable": row.is_renewable and not row.is_endless,
-        "ttl": 0 if row.is_endless else left(row, now),
+        "creation_time": second_of(row.issued), "expire_time": None if row.is_endless else date_of(row.end),
+        "explicit_max_ttl": row.explicit_max, "orphan": row.parent is None, "period": row.period,
+        "renewable": row.is_renewable and not row.is_endless, "ttl": 0 if row.is_endless else left(row, now),
     }
 
 

@@ -126,7 +126,8 @@ def pauses_of_what_is_lost(program: Path) -> list[str]:
         moments = stage.broker.vault.moments("e1", True)
         stage.must(400 <= moments[0] < 401.1, f"it is first renewed at {moments[0]}")
         for moment, later in zip(moments, moments[1:]):
-            stage.must(0.998 <= later - moment <= min(max((1000 - moment) / 16, 1), 30) + 1, f"it is renewed at {moment}, and then at {later}")
+            most = min(max((1000 - moment) / 16, 1), 30) + 1
+            stage.must(0.998 <= later - moment <= most, f"it is renewed at {moment}, and then at {later}")
         stage.must(moments[-1] >= 999, f"it is last renewed at {moments[-1]}")
         return stage.faults()
 

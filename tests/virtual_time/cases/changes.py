@@ -97,7 +97,7 @@ def file_wins(program: Path) -> list[str]:
 
 
 def a_file_that_rotates(program: Path) -> list[str]:
-    """Every ten minutes a file holds a new token, and the old one is revoked a minute later: by a rename, in place, and half of it first."""
+    """Every ten minutes a file holds a new token, by a rename, in place, or half of it first; the old one is revoked a minute later."""
     entry = Entry("web", left=600, step=900, file="web.token")
     beside = Entry("own", left=600, step=900)
     stage = Stage(program, Fleet((entry, beside), 60))
@@ -131,7 +131,8 @@ def a_secret_that_the_broker_refuses(program: Path) -> list[str]:
     stage.write("web.token", "s.web\n")
     with stage:
         stage.on(5)
-        stage.equal("replace", ["error: the broker answers 403 to its lookup: own keeps the old one"], stage.ask("replace", "own", "s.none"))
+        refused = ["error: the broker answers 403 to its lookup: own keeps the old one"]
+        stage.equal("replace", refused, stage.ask("replace", "own", "s.none"))
         stage.write("web.token", "s.none")
         stage.on(10)
         stage.equal("a file", 1, len(stage.agent.said("secret-file", level="warning")))

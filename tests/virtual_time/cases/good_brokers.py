@@ -65,7 +65,7 @@ def along_behind_revoked(program: Path) -> list[str]:
 
 
 def along_behind_lookups(program: Path) -> list[str]:
-    """No fault at all: FILE is read anew right behind the opening of a round, so that 70 others are to be looked up too, one each second."""
+    """No fault at all: FILE is read anew right behind the opening of a round, so that 70 others are to be looked up, one each second."""
     fleet = of(60, tokens("a", 1, FIRST + PART), tokens("h", 20, FIRST + 2 + PART), tokens("o", 70, FIRST + 7200 + PART))
     with Stage(program, fleet, width=1) as stage:
         slow_from(stage, FIRST - 70, 1.0)
@@ -188,7 +188,11 @@ def last_try_after_a_ceiling(program: Path) -> list[str]:
 ADDED = Entry("x", left=8000, step=3600)
 
 
-def served(program: Path, count: int, width: int, margin: int, reply: float, left: int, change: Callable[[int], Iterable[str]]) -> list[str]:
+Change = Callable[[int], Iterable[str]]
+"""What a client asks for in that second, if anything."""
+
+
+def served(program: Path, count: int, width: int, margin: int, reply: float, left: int, change: Change) -> list[str]:
     """Tokens that end after so many seconds, at a broker whose replies take so many; the time-out is ten. Each second a client asks for
     a change, if any."""
     fleet = of(margin, tokens("e", count, left, 3600))

@@ -43,7 +43,7 @@ def each_status(program: Path) -> list[str]:
     wanted = {code: [("lost", "e0", code), ("away", code)] for code in LOST} | {code: [("refused", "e0", code)] for code in REFUSED}
     for code, said in {**wanted, "429": [("lost", "e0", "429")]}.items():
         told = first_trouble(program, lambda request: framed(b'{"errors":[]}', code.encode() + b" x"), True)
-        found += [] if told[:len(said)] == said and (code not in REFUSED or told[1:2] in ([], [("gone", "e0", code)])) else [f"{code}: {told}"]
+        found += [] if told[:len(said)] == said else [f"{code}: {told}"]
     for body in EMPTY:
         for renews in (False, True):
             told = first_trouble(program, lambda request: framed(body), renews)
@@ -87,7 +87,8 @@ def whole_replies(program: Path) -> list[str]:
 
 def requests_byte_for_byte(program: Path) -> list[str]:
     """As docs/http.md has them."""
-    entries = (Entry("T", left=100, step=100, credential="s.web1"), Entry("L", Kind.LEASE, "T", left=100, step=60, credential="db/creds/app/1"))
+    entries = (Entry("T", left=100, step=100, credential="s.web1"),
+               Entry("L", Kind.LEASE, "T", left=100, step=60, credential="db/creds/app/1"))
 
     def request(method: bytes, path: bytes, body: bytes = b"") -> bytes:
         more = b"Content-Type: application/json\r\nContent-Length: %d\r\n" % len(body) if body else b""

@@ -146,7 +146,8 @@ def killed_at_any_call(program: Path) -> list[str]:
             shown = {each: row["need"] for each, row in stage.shown().items()}
             for each, given in needs.items():
                 unsure = need if each == name else given
-                stage.must(shown.get(each) in (given, unsure), f"kill {number}: {each} is needed until {given}, and shows {shown.get(each)}")
+                seen = shown.get(each)
+                stage.must(seen in (given, unsure), f"kill {number}: the need of {each} is {given}, and shown as {seen}")
                 needs[each] = shown.get(each, given)
         return stage.faults()
 
