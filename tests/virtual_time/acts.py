@@ -33,6 +33,8 @@ class Actor:
         self.faults: list[str] = []
         self._waiting: list[tuple[Row, int, int]] = []
         """Credentials that stand in files and are not taken yet; in which run of the agent each was written, and behind how many lines."""
+        self._replaced: list[tuple[Entry, int]] = []
+        """Entries as they were before another credential was acknowledged, and in which run."""
         stage.world.watchers.append(self._watch_files)
 
     def say(self, text: str) -> None:
@@ -231,6 +233,7 @@ class Actor:
 
         def change(fleet: Fleet) -> Fleet:
             given.is_spare = False
+            self._replaced.append((fleet.get(name), self._stage.agent.run))
             return fleet.changed(name, credential=secret)
         self._ledger.ask(change, "replace", name, secret, unsure=lambda: self.sick.add(name))
 
@@ -293,7 +296,13 @@ class Actor:
         self._start()
         self._go(3 * self._plot.fleet.margin)
         self.looked_at()
-        return self.faults + self._false_warnings() + self._stage.faults(sick=self.sick)
+        return self.faults + self._false_warnings() + self._old_credentials() + self._stage.faults(sick=self.sick)
+
+    def _old_credentials(self) -> list[str]:
+        """After a restart no credential is sent in whose place another one was acknowledged."""
+        old = {entry.secret: run for entry, run in self._replaced if entry.name not in self.sick}
+        return [f"at {one.moment / NANOSECONDS:.3f}: {one.name} is asked with {one.credential}, which was replaced before a restart"
+                for one in self._stage.broker.vault.asked if one.run > old.get(one.credential, one.run)]
 
     def _false_warnings(self) -> list[str]:
         """That an entry is short is said of none that could be kept."""

@@ -50,10 +50,8 @@ class Entry:
 
     def row(self, above: Row | None, **real: Any) -> Row:
         """Its row at the broker; `real`: what is otherwise there."""
-        row = Row(self.name, self.kind, self.secret, ns(self.left), above, ceiling=ns(ISSUED - BEGAN + self.max_ttl))
-        for key, value in real.items():
-            setattr(row, key, value)
-        return row
+        plain = {"end": ns(self.left), "parent": above, "ceiling": ns(ISSUED - BEGAN + self.max_ttl)}
+        return Row(self.name, self.kind, self.secret, **{**plain, **real})
 
 
 @dataclass(frozen=True)

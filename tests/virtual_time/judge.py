@@ -5,7 +5,7 @@ from __future__ import annotations
 from pathlib import Path
 
 from .agent import Agent
-from .clock import NANOSECONDS, Clocks, ns
+from .clock import NANOSECONDS, ns
 from .fleet import Fleet
 from .listening import Broker
 from .vault import Asked, second_of
@@ -64,21 +64,18 @@ class Judge:
         if stamp == self._stamp:
             return
         self._stamp = stamp
-        clocks = self._agent.clocks
+        clocks, latest = self._agent.clocks, self._broker.vault.latest_ends()
         for line in self._ends.read_text().splitlines():
             name, end, *_ = line.split()
-            self._judge_end(name, int(end), clocks, "the file of the ends has")
-
-    def _judge_end(self, name: str, end: int, clocks: Clocks, where: str) -> None:
-        """That end, in seconds of the boot clock, is no later than the broker's."""
-        real = clocks.elapsed(self._broker.vault.latest_end(name))
-        if ns(end) > real:
-            self._tell(f"{where} {name} end at {end}, and the broker at {real / NANOSECONDS:.3f}")
+            real = clocks.elapsed(latest[name])
+            if ns(int(end)) > real:
+                self._tell(f"the file of the ends has {name} end at {end}, and the broker at {real / NANOSECONDS:.3f}")
 
     def judge_status(self, ends: dict[str, float], slack: float) -> None:
         """Ends that the agent shows, in seconds since 1970, are no later than the broker's. `slack`: by how much its clock may be wrong."""
+        latest = self._broker.vault.latest_ends()
         for name, end in ends.items():
-            real = second_of(self._broker.vault.latest_end(name))
+            real = second_of(latest[name])
             if end > real + slack:
                 self._tell(f"status shows the end of {name} at {end}, and the broker {real}")
 
@@ -87,9 +84,9 @@ class Judge:
     def lost(self, fleet: Fleet) -> list[str]:
         """The entries that are needed and have ended, although renewals could have led them on: neither revoked, nor at a ceiling, nor
         not to be renewed, they or one over them."""
-        now, lost = self._broker.world.now, []
+        now, rows, lost = self._broker.world.now, self._broker.vault.by_name(), []
         for name, need in fleet.needed().items():
-            row = self._broker.vault.named(name)
+            row = rows[name]
             ended = row.ended(now)
             if ended is not None and second_of(ended) < need and ended < min(row.reach(), now):
                 lost.append(name)

@@ -41,11 +41,8 @@ class Row:
     """When it was renewed, and until when."""
 
     def __post_init__(self) -> None:
-        self.first_end = self.end
-
-    def latest_end(self) -> int:
+        self.latest_end = NEVER if self.is_endless else self.end
         """The latest end that it ever had. (A renewal may lead less far than the one before.)"""
-        return NEVER if self.is_endless else max(self.end, self.first_end, *(end for _, end in self.renewals))
 
     def ended(self, now: int) -> int | None:
         """When its life was over, if it was by now."""
@@ -118,13 +115,20 @@ class Vault:
         self.rows[row.credential] = row
         return row
 
+    def by_name(self) -> dict[str, Row]:
+        """The rows of which the agent has the credentials, by their names; the one of a name that was added last."""
+        return {row.name: row for row in self.rows.values() if not row.is_spare}
+
     def named(self, name: str) -> Row:
-        """The row of that name that was added last, and of which the agent has the credential."""
+        """That of this name."""
         return next(row for row in reversed(self.rows.values()) if row.name == name and not row.is_spare)
 
-    def latest_end(self, name: str) -> int:
-        """The latest end that any row of that name ever had."""
-        return max((row.latest_end() for row in self.rows.values() if row.name == name), default=-NEVER)
+    def latest_ends(self) -> dict[str, int]:
+        """The latest end that any row of a name ever had."""
+        ends: dict[str, int] = {}
+        for row in self.rows.values():
+            ends[row.name] = max(row.latest_end, ends.get(row.name, row.latest_end))
+        return ends
 
     def count(self, name: str | None = None, renews: bool | None = None) -> int:
         """How many requests came, of one entry or of one kind."""
@@ -174,6 +178,7 @@ def renew(row: Row, asked: int, now: int) -> int:
         step = min(step, row.grants)
     row.end = now + ns(step) if row.ceiling is None else min(now + ns(step), row.ceiling)
     row.renewals.append((now, row.end))
+    row.latest_end = max(row.latest_end, row.end)
     return left(row, now)
 
 

@@ -126,16 +126,20 @@ def a_file_that_rotates(program: Path) -> list[str]:
 
 
 def a_secret_that_the_broker_refuses(program: Path) -> list[str]:
-    """It is not taken, from a client or from a file, and the old one is kept."""
+    """It is not taken, from a client or from a file, and the old one is kept. So it is with a token that never ends."""
     stage = Stage(program, Fleet((Entry("web", left=600, step=900, file="web.token"), Entry("own", left=600, step=900)), 60))
     stage.write("web.token", "s.web\n")
     with stage:
         stage.on(5)
         refused = ["error: the broker answers 403 to its lookup: own keeps the old one"]
         stage.equal("replace", refused, stage.ask("replace", "own", "s.none"))
-        stage.write("web.token", "s.none")
-        stage.on(10)
-        stage.equal("a file", 1, len(stage.agent.said("secret-file", level="warning")))
+        stage.broker.vault.add(Entry("endless", credential="s.endless").row(None, is_endless=True))
+        endless = ["error: it never ends (ttl 0) and needs no keeping: own keeps the old one"]
+        stage.equal("one that never ends", endless, stage.ask("replace", "own", "s.endless"))
+        for secret, count in (("s.none", 1), ("s.endless", 2)):
+            stage.write("web.token", secret)
+            stage.on(stage.now + 10)
+            stage.equal(f"a file with {secret}", count, len(stage.agent.said("secret-file", level="warning")))
         stage.on(2 * HOUR)
         return stage.faults()
 

@@ -186,8 +186,26 @@ def leases_that_went_with_a_revoked_token(program: Path) -> list[str]:
         return stage.faults(sick=["mq"])
 
 
+def leases_that_live_on(program: Path) -> list[str]:
+    """A new secret in the file of a token whose leases the broker keeps: nothing is said to be gone, and the old one is asked no more."""
+    entries = (Entry("app", left=800, step=900, file="app.token"), Entry("db", Kind.LEASE, "app", left=800, step=900))
+    stage = Stage(program, Fleet(entries, 60))
+    stage.write("app.token", "s.app\n")
+    with stage:
+        vault = stage.broker.vault
+        stage.on(20)
+        old, other = vault.named("app"), vault.add(Entry("app", left=2000, step=900, credential="s.two").row(None))
+        vault.named("db").parent = other
+        stage.write("app.token", "s.two\n")
+        stage.on(2 * HOUR)
+        stage.equal("gone", [], [str(line) for line in stage.agent.said("gone")])
+        stage.equal("renewals with the old one", [], old.renewals)
+        return stage.faults()
+
+
 KEPT: tuple[Case, ...] = (
     each_status, dates, whole_replies, requests_byte_for_byte, secrets_change_nothing, a_silent_broker_costs_one_time_out,
     an_end_that_is_known_is_renewed, a_need_that_ends, short_is_said_in_time, leases_that_went_with_a_revoked_token,
+    leases_that_live_on,
 )
 NOT_YET: tuple[Case, ...] = ()

@@ -2,6 +2,7 @@
 
 from __future__ import annotations
 
+import hashlib
 from pathlib import Path
 
 from ..agent import ENDS
@@ -152,9 +153,34 @@ def killed_at_any_call(program: Path) -> list[str]:
         return stage.faults()
 
 
+def part_of(name: str, spread: int) -> int:
+    """The part of a spread that falls to an agent's name, in seconds."""
+    return int.from_bytes(hashlib.sha256(name.encode()).digest()[:8], "big") * (spread + 1) >> 64
+
+
+def a_start_waits_for_its_part(program: Path) -> list[str]:
+    """Of a spread of 60 seconds, where each end is known and far: nothing is asked meanwhile. A need ends the wait at once."""
+    part = part_of("a", 60)
+    with Stage(program, fleet(5, 3600, 60, 3000), words=("--spread", "60", "--name", "a")) as stage:
+        stage.on(10)
+        stage.restart()
+        stage.equal("it waits", ("waits", "for", str(part)), stage.agent.said("start")[-1].words[:3])
+        before = len(stage.broker.vault.asked)
+        stage.on(10 + part - 0.5)
+        stage.equal("asked in the wait", before, len(stage.broker.vault.asked))
+        stage.on(10 + part + 1)
+        stage.equal("asked behind it", before + 5, len(stage.broker.vault.asked))
+        stage.restart()
+        stage.equal("need", "ok", stage.ask("need", "e1", str(stage.fleet.get("e1").need + 1))[0])
+        stage.on(stage.now + 0.5)
+        stage.equal("asked behind a need", before + 10, len(stage.broker.vault.asked))
+        stage.on(2 * HOUR)
+        return stage.faults()
+
+
 KEPT: tuple[Case, ...] = (
     killed_inside_the_margin, later_ones_end_sooner, a_step_little_over_the_margin, killed_early_in_an_outage,
     killed_in_an_outage_with_no_ends_known, not_there_for_a_while, another_boot, ended_by_systemd, a_disk_that_stalls,
-    ends_that_cannot_be_kept, killed_at_any_call,
+    ends_that_cannot_be_kept, killed_at_any_call, a_start_waits_for_its_part,
 )
 NOT_YET: tuple[Case, ...] = ()
