@@ -222,7 +222,7 @@ int close(int fd) {
     return (int)syscall(SYS_close, fd);
 }
 
-ssize_t write(int fd, const void *bytes, size_t count) {
+ssize_t __write(int fd, const void *bytes, size_t count) {
     if (is_file(fd)) {
         if (disk_fails()) return -1;
     } else if (fd != 1) {
@@ -230,6 +230,8 @@ ssize_t write(int fd, const void *bytes, size_t count) {
     }
     return syscall(SYS_write, fd, bytes, count);
 }
+
+ssize_t write(int fd, const void *bytes, size_t count) { return __write(fd, bytes, count); }
 
 ssize_t pwrite(int fd, const void *bytes, size_t count, off_t at) {
     return disk_fails() ? -1 : syscall(SYS_pwrite64, fd, bytes, count, at);

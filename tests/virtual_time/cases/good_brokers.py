@@ -163,8 +163,8 @@ def never_over_children(program: Path) -> list[str]:
 
 def last_try_after_a_short_period(program: Path) -> list[str]:
     """An operator shortens the period of four tokens, of which a longer one was asked for all along, to about the margin."""
-    fleet = of(60, tokens("p", 4, FIRST + PART, 600))
-    with Stage(program, fleet) as stage:
+    fleet = of(60, tokens("p", 4, FIRST + PART))
+    with Stage(program, fleet, real={name: {"grants": 600} for name in fleet.names}) as stage:
         stage.on(FIRST + 300)
         for row in stage.broker.vault.rows.values():
             row.grants = 60
@@ -175,8 +175,8 @@ def last_try_after_a_short_period(program: Path) -> list[str]:
 def last_try_after_a_ceiling(program: Path) -> list[str]:
     """A token and its three children. It comes to its ceiling, and an operator lifts that while 45 seconds are left."""
     ceiling = FIRST + 900 + PART
-    fleet = of(60, (Entry("top", left=FIRST + PART, step=600),), tokens("c", 3, FIRST + 3000 + PART, 3600, parent="top"))
-    with Stage(program, fleet, real={"top": {"ceiling": ns(ceiling)}}) as stage:
+    fleet = of(60, (Entry("top", left=FIRST + PART, step=3600),), tokens("c", 3, FIRST + 3000 + PART, 3600, parent="top"))
+    with Stage(program, fleet, real={"top": {"ceiling": ns(ceiling), "grants": 600}}) as stage:
         stage.on(ceiling - 45)
         stage.broker.vault.named("top").ceiling = None
         stage.on(FIRST + 3600)
@@ -196,7 +196,8 @@ def served(program: Path, count: int, width: int, margin: int, reply: float, lef
     """Tokens that end after so many seconds, at a broker whose replies take so many; the time-out is ten. Each second a client asks for
     a change, if any."""
     fleet = of(margin, tokens("e", count, left, 3600))
-    with Stage(program, fleet, width=width, timeout=10, latency=reply) as stage:
+    with Stage(program, fleet, width=width, timeout=10) as stage:
+        stage.broker.faults = [Fault(0, NEVER, Act.SLOW, picks=beginning_with("e"), seconds=reply)]
         stage.broker.vault.add(ADDED.row(None))
         for second in range(left + 2):
             stage.on(second)
@@ -219,15 +220,15 @@ def changed_by_add_and_drop(program: Path) -> list[str]:
 
 
 def changed_amid_a_round(program: Path) -> list[str]:
-    """26 tokens over two lanes, at three seconds a reply, and FILE is read anew every three seconds while they are renewed."""
-    return served(program, 26, 2, 60, 3, 110, lambda second: ["reload"] if second >= 48 and second % 3 == 1 else [])
+    """26 tokens over two lanes, at a little over three seconds a reply, and FILE is read anew every three seconds while they are renewed."""
+    return served(program, 26, 2, 60, 3.1, 110, lambda second: ["reload"] if second >= 48 and second % 3 == 1 else [])
 
 
 KEPT: tuple[Case, ...] = (
     along_behind_busy, along_behind_revoked, along_behind_lookups, along_behind_a_jump, busy_for_one, busy_for_many, owed_nothing,
-    owed_after_a_kill, owed_after_reload,
+    owed_after_a_kill, owed_after_reload, never_over_children,
 )
 NOT_YET: tuple[Case, ...] = (
-    never_over_children, last_try_after_a_short_period, last_try_after_a_ceiling, changed_by_reload, changed_by_add_and_drop,
+    last_try_after_a_short_period, last_try_after_a_ceiling, changed_by_reload, changed_by_add_and_drop,
     changed_amid_a_round,
 )
