@@ -51,7 +51,7 @@ class Actor:
 
     def gap(self) -> float:
         """How long nothing happens then."""
-        return self._chance.uniform(3, 8) * self._plot.fleet.margin
+        return min(self._chance.uniform(1.5, 6) * self._plot.fleet.margin, 600)
 
     def _length(self, is_twice: bool, drips: bool = False) -> float:
         """How long something lasts that is to be survived; often as long as may be."""

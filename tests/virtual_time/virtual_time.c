@@ -48,6 +48,7 @@ enum cell {
 static volatile int64_t *shared;
 static int report, go, has_said;
 static char boot[256];
+static struct stat log_file; /* standard output, which a program may open once more */
 
 __attribute__((constructor)) static void begin(void) {
     const char *words = getenv("VIRTUAL_TIME"), *file_of_boot = getenv("BOOT");
@@ -57,6 +58,7 @@ __attribute__((constructor)) static void begin(void) {
     void *page = file < 0 ? MAP_FAILED : mmap(NULL, 4096, PROT_READ | PROT_WRITE, MAP_SHARED, file, 0);
     if (page == MAP_FAILED) abort();
     syscall(SYS_close, file);
+    fstat(1, &log_file);
     if (file_of_boot) snprintf(boot, sizeof boot, "%s", file_of_boot);
     shared = page;
 }
@@ -186,10 +188,14 @@ static int disk_fails(void) {
     return shared[DISK_FAILS] != 0;
 }
 
-/* Whether it is a file, but for the log and standard error. */
-static int is_file(int fd) {
+/* What is written to: a file that is kept; the log or standard error, of which nobody waits for a word; or anything else. */
+enum kind { SOCKET, KEPT, LOG };
+
+static enum kind kind_of(int fd) {
     struct stat seen;
-    return shared && fd > 2 && fstat(fd, &seen) == 0 && S_ISREG(seen.st_mode);
+    if (!shared || fstat(fd, &seen) != 0) return SOCKET;
+    if (fd == 2 || (seen.st_ino == log_file.st_ino && seen.st_dev == log_file.st_dev)) return LOG;
+    return S_ISREG(seen.st_mode) ? KEPT : SOCKET;
 }
 
 int connect(int stream, const struct sockaddr *place, socklen_t size) {
@@ -223,11 +229,9 @@ int close(int fd) {
 }
 
 ssize_t __write(int fd, const void *bytes, size_t count) {
-    if (is_file(fd)) {
-        if (disk_fails()) return -1;
-    } else if (fd != 1) {
-        say();
-    }
+    enum kind kind = kind_of(fd);
+    if (kind == KEPT && disk_fails()) return -1;
+    if (kind == SOCKET) say();
     return syscall(SYS_write, fd, bytes, count);
 }
 
