@@ -90,14 +90,6 @@ class Fleet:
         """Those whose parent it is."""
         return [entry.name for entry in self.entries if entry.parent == name]
 
-    def needed(self) -> dict[str, int]:
-        """Until when each is needed, by itself or by one under it; those alone that are."""
-        needs = {entry.name: entry.need for entry in self.entries}
-        for entry in reversed(self.entries):
-            if entry.parent is not None:
-                needs[entry.parent] = max(needs[entry.parent], needs[entry.name])
-        return {name: need for name, need in needs.items() if need}
-
     def load(self, vault: Vault, **real: dict[str, Any]) -> None:
         """Lets the broker have them. `real` says of some, by name, what is otherwise there."""
         for entry in self.entries:

@@ -8,7 +8,7 @@ from .agent import Agent
 from .clock import NANOSECONDS, ns
 from .fleet import Fleet
 from .listening import Broker
-from .vault import Asked, second_of
+from .vault import Asked, Row, second_of
 
 APART = NANOSECONDS - 2_000_000
 """Two requests of an entry are a second apart; its clock shows whole milliseconds."""
@@ -85,10 +85,19 @@ class Judge:
         """The entries that are needed and have ended, although renewals could have led them on: neither revoked, nor at a ceiling, nor
         not to be renewed, they or one over them."""
         now, rows, lost = self._broker.world.now, self._broker.vault.by_name(), []
-        for name, need in fleet.needed().items():
+        for name, need in needed(fleet, rows).items():
             row = rows[name]
             ended = row.ended(now)
             if ended is not None and second_of(ended) < need and ended < min(row.reach(), now):
                 lost.append(name)
         return lost
 
+
+def needed(fleet: Fleet, rows: dict[str, Row]) -> dict[str, int]:
+    """Until when each is needed, in seconds since 1970: by itself, or by one that the broker has under it, for as long as that can live."""
+    needs = {entry.name: entry.need for entry in fleet.entries}
+    for entry in reversed(fleet.entries):
+        row = rows[entry.name]
+        if row.parent is not None and row.parent.name in needs:
+            needs[row.parent.name] = max(needs[row.parent.name], min(needs[entry.name], second_of(row.own_reach())))
+    return needs

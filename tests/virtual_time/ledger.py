@@ -92,12 +92,11 @@ class Ledger:
 
     def restarted(self) -> list[str]:
         """It has been started again: what of the acknowledged is not there. A change that was under way is there whole, or not at all."""
-        self._watch()
+        shown = {name: row["need"] for name, row in self._stage.shown().items()}
         for change in self._edits:
             self._take(change)
         self._edits = []
         unsure, self._unsure = self._unsure, []
-        shown = {name: row["need"] for name, row in self._stage.shown().items()}
         for fleet in possible(self.fleet, unsure):
             if standing(fleet) == shown:
                 self._stage.fleet = fleet
