@@ -102,9 +102,9 @@ def the_wall_an_hour_ahead_all_the_time(program: Path) -> list[str]:
 
 
 def a_slow_clock_for_weeks(program: Path) -> list[str]:
-    """30 millionths slow, leases of 14 days: 4 days without the broker's date, and 39 with it."""
+    """30 millionths slow, leases of 14 days: 4 days without the broker's date, and 15 with it."""
     found = []
-    for tells, days in ((False, 4), (True, 39)):
+    for tells, days in ((False, 4), (True, 15)):
         with Stage(program, fleet(3, 14 * DAY, 120, 10 * DAY, need=at(40 * DAY)), slow=30e-6) as stage:
             stage.broker.tells_date = tells
             stage.on(days * DAY)

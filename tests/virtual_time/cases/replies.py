@@ -8,7 +8,7 @@ from collections.abc import Callable
 from pathlib import Path
 
 from trying import framed
-from vault_replies import Replies, samples, variants, versions
+from vault_replies import LEASE_ID, Replies, samples, variants, versions
 
 from ..clock import BEGAN, NANOSECONDS, ns
 from ..faults import Act, fault
@@ -23,6 +23,8 @@ LOST = ("204", "307", "401", "412", "472", "473", "500", "501", "502", "503", "5
 EMPTY = (b"", b"{", b"{}", b"[]", b'{"errors":[]}')
 """Bodies that say nothing of what was asked."""
 CLOSE = b"Connection: close\r\n\r\n"
+TOLD = {("entry", "app", "1100"), ("entry", "db", "1060"), ("told", "app", "100"), ("told", "db", "60")}
+"""What tests/vault_replies.py tells."""
 
 
 def first_trouble(program: Path, text_of: Callable[[bytes], bytes], renews: bool) -> list[tuple[str, ...]]:
@@ -67,8 +69,9 @@ def dates(program: Path) -> list[str]:
 
 
 def staged_replies(program: Path, replies: Replies) -> list[str]:
-    """A token T and its lease L at a Vault that answers so: it is 1000 seconds after 1970 there, T ends at 1100 and L at 1060."""
-    entries = (Entry("T", left=100, step=100, max_ttl=9000), Entry("L", Kind.LEASE, "T", left=60, step=60, max_ttl=9000, credential="L"))
+    """A token and its lease at a Vault that answers so: it is 1000 seconds after 1970 there, the token ends at 1100 and the lease at 1060."""
+    entries = (Entry("app", left=100, step=100, max_ttl=9000),
+               Entry("db", Kind.LEASE, "app", left=60, step=60, max_ttl=9000, credential=LEASE_ID))
     with Stage(program, Fleet(entries, 4), timeout=1, wall_ahead=1000 - BEGAN) as stage:
         def text_of(request: bytes) -> bytes:
             second = stage.clocks.wall(stage.world.now) // NANOSECONDS
@@ -76,8 +79,8 @@ def staged_replies(program: Path, replies: Replies) -> list[str]:
         stage.broker.text_of = text_of
         stage.on(100)
         said = {(line.event, *line.words) for line in stage.agent.lines if line.event in ("entry", "told", "refused", "lost")}
-        stage.equal(replies.name, {("entry", "T", "1100"), ("entry", "L", "1060"), ("told", "T", "100"), ("told", "L", "60")}, said)
-        return [fault for fault in stage.faults(sick=("T", "L")) if replies.name in fault]
+        stage.equal(replies.name, TOLD, said)
+        return [fault for fault in stage.faults(sick=("app", "db")) if replies.name in fault]
 
 
 def whole_replies(program: Path) -> list[str]:
