@@ -17,6 +17,8 @@ from .listening import Broker
 from .world import World
 
 SOCKET, INVENTORY = "vault.sock", "fleet.toml"
+MEMORY = "/dev/shm"
+"""Folders are made there, where it is: a sync takes no real time on it."""
 TOLD: list[Callable[[str], None]] = []
 """Who is told what happens in each world, and what its agent logs."""
 
@@ -29,7 +31,7 @@ class Stage:
                  real: dict[str, dict[str, Any]] | None = None) -> None:
         """`real`: what of some entries is otherwise at the broker; `began`: a fraction of a second at which it is started; `words`: more
         options of the agent."""
-        self._folder = tempfile.TemporaryDirectory(prefix="vt.")
+        self._folder = tempfile.TemporaryDirectory(prefix="vt.", dir=MEMORY if os.access(MEMORY, os.W_OK) else None)
         self.room = Path(self._folder.name)
         self.world = World()
         self.world.now = ns(began)

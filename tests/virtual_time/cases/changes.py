@@ -31,9 +31,9 @@ def needs_in_a_loop(program: Path) -> list[str]:
     found = []
     for clients, entries, margin in ((2, 12, 20), (8, 40, 60)):
         with Stage(program, fleet(entries, 400, margin, 300), latency=0.05) as stage:
-            stage.on(200)
+            stage.on(295 - margin)
             need, number = stage.fleet.get("e0").need, 0
-            while stage.now < 450:
+            while stage.now < 320 - margin:
                 for client in range(clients):
                     number += 1
                     stage.client("need", f"e{(client + number) % entries}", str(need + number))

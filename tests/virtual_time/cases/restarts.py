@@ -138,11 +138,10 @@ def killed_at_any_call(program: Path) -> list[str]:
             stage.agent.kill_at_call(number)
             name, need = f"e{number % 6}", stage.fleet.get("e0").need + number
             client = stage.client("need", name, str(need))
-            stage.on(stage.now + 40)
+            stage.world.run(stage.world.now + ns(40), lambda: not stage.agent.is_up)
             if client.is_ok:
                 needs[name] = need
-            if not stage.agent.is_up:
-                stage.start()
+            stage.restart()
             stage.on(stage.now + 2)
             shown = {each: row["need"] for each, row in stage.shown().items()}
             for each, given in needs.items():
