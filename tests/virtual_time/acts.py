@@ -296,7 +296,7 @@ class Actor:
         self._start()
         self._go(3 * self._plot.fleet.margin)
         self.looked_at()
-        return self.faults + self._false_warnings() + self._old_credentials() + self._stage.faults(sick=self.sick)
+        return self.faults + self._stage.faults(sick=self.sick) + self._old_credentials() + self._false_warnings()
 
     def _old_credentials(self) -> list[str]:
         """After a restart no credential is sent in whose place another one was acknowledged."""
