@@ -8,7 +8,8 @@ from pathlib import Path
 from ..agent import ENDS
 from ..clock import ns
 
-from ..fleet import fleet
+from ..faults import fault
+from ..fleet import Entry, Fleet, fleet
 from ..stage import Stage
 from . import Case
 
@@ -177,9 +178,22 @@ def a_start_waits_for_its_part(program: Path) -> list[str]:
         return stage.faults()
 
 
+def an_orphan_whose_parent_in_the_file_has_ended(program: Path) -> list[str]:
+    """FILE has it under a token that has ended; the broker says that it is an orphan. Killed while everything gets 403 for 30 seconds, the
+    agent asks it once, and then no more. (The world of seed 101.)"""
+    entries = (Entry("base", left=100, step=600, need=0), Entry("job", parent="base", left=600, step=600))
+    with Stage(program, Fleet(entries, 60), real={"base": {"is_renewable": False}, "job": {"parent": None}}) as stage:
+        stage.on(300)
+        stage.broker.faults = [fault(300, 330, status=403)]
+        stage.on(310)
+        stage.restart()
+        stage.on(HOUR)
+        return stage.faults(sick=["base"])
+
+
 KEPT: tuple[Case, ...] = (
     killed_inside_the_margin, later_ones_end_sooner, a_step_little_over_the_margin, killed_early_in_an_outage,
     killed_in_an_outage_with_no_ends_known, not_there_for_a_while, another_boot, ended_by_systemd, a_disk_that_stalls,
     ends_that_cannot_be_kept, killed_at_any_call, a_start_waits_for_its_part,
 )
-NOT_YET: tuple[Case, ...] = ()
+NOT_YET: tuple[Case, ...] = (an_orphan_whose_parent_in_the_file_has_ended,)
