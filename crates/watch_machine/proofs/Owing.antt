@@ -1,6 +1,6 @@
 -- Owing: by the loads that the entries carry, those are called who are called by the definition; and so with who is pressed. For the steps 3
 -- and 4 of a clock.
-use Rattle.std.proofs.Common.{◌≡◌, ◌∙◌, ◌<◌, List, [], length, refl, sym, ap, ap₂, subst}
+use Rattle.std.proofs.Common.{◌≡◌, ◌∙◌, ◌<◌, Bool, List, [], length, refl, sym, ap, ap₂, subst}
 use Rattle.keep_needs.specs.Carried.{CarriedNeed, IsCarried, load_at}
 use Rattle.keep_tree.specs.Forest.{Forest, entry_at}
 use Rattle.watch_machine.specs.declared.clocks.Clocks.{Clocks}
@@ -16,22 +16,22 @@ use Rattle.watch_machine.proofs.Written.{each_same}
 
 module _ (g : Forest) (xs : List Track) (c : Clocks) (needs : List CarriedNeed) (beside : length xs ≡ length g.entries) where
   owes_same :
-      (written : List CarriedNeed) → HasNeeds g.entries xs c needs → IsCarried g 0 written →
-      each (λ i. owing c.at (called_by c.dated (load_at needs i).need (load_at written i).need)) xs ≡ owing_all g c xs
-  owes_same written has wrote =
-      each_same (λ i. owing c.at (called_by c.dated (load_at needs i).need (load_at written i).need)) (λ i. owing c.at (is_called g xs c i)) xs
+      (first : Bool) (written : List CarriedNeed) → HasNeeds g.entries xs c needs → IsCarried g 0 written →
+      each (λ i. owing c.at first (called_by c.dated (load_at needs i).need (load_at written i).need)) xs ≡ owing_all g c first xs
+  owes_same first written has wrote =
+      each_same (λ i. owing c.at first (called_by c.dated (load_at needs i).need (load_at written i).need)) (λ i. owing c.at first (is_called g xs c i)) xs
       (λ i below.
       let within : i < length g.entries = subst (λ n. i < n) beside below in
-      ap₂ (λ n w. owing c.at (called_by c.dated n w) (track_in xs i)) (has i within) (wrote.need i within))
+      ap₂ (λ n w. owing c.at first (called_by c.dated n w) (track_in xs i)) (has i within) (wrote.need i within))
 
   -- the tracks of a beginning, and what is carried after it
   pub owed_are :
-      (v : Forest) (written : List CarriedNeed) (new : List Track) → Sees v g xs c needs → IsCarried g 0 written →
-      new ≡ each (λ i. owing c.at (called_by c.dated (load_at needs i).need (load_at written i).need)) xs → new ≡ owing_all g c xs
-  owed_are v written new sees wrote is = is ∙ owes_same written (has_needs v g xs c needs sees) wrote
+      (first : Bool) (v : Forest) (written : List CarriedNeed) (new : List Track) → Sees v g xs c needs → IsCarried g 0 written →
+      new ≡ each (λ i. owing c.at first (called_by c.dated (load_at needs i).need (load_at written i).need)) xs → new ≡ owing_all g c first xs
+  owed_are first v written new sees wrote is = is ∙ owes_same first written (has_needs v g xs c needs sees) wrote
 
-  pub owed_sees : (v : Forest) (new : List Track) → Sees v g xs c needs → new ≡ owing_all g c xs → Sees v g new c needs
-  owed_sees v new sees is = subst (λ ys. Sees v g ys c needs) (sym is) (sees_same (owing_all g c xs) xs (owing_seen g c xs) g.entries c v g needs refl sees)
+  pub owed_sees : (first : Bool) (v : Forest) (new : List Track) → Sees v g xs c needs → new ≡ owing_all g c first xs → Sees v g new c needs
+  owed_sees first v new sees is = subst (λ ys. Sees v g ys c needs) (sym is) (sees_same (owing_all g c first xs) xs (owing_seen g c first xs) g.entries c v g needs refl sees)
 
   -- those who are pressed by the loads
   pub pressed_are :

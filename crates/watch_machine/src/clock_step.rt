@@ -12,7 +12,7 @@ ghost use Rattle.watch_machine.specs.code.View.{IsView};
 ghost use Rattle.watch_machine.specs.declared.command.Command.TheVariants.{Go};
 ghost use Rattle.watch_machine.specs.declared.fault.WatchFault.TheVariants.{OutOfMemory};
 
-use crate::beginning::{clear_tops, is_any_urgent, is_past, owe_all};
+use crate::beginning::{clear_tops, is_any_urgent, is_past, is_start, owe_all};
 use crate::clocks::{Clocks, goes_on};
 use crate::command::{Command, Output, Requests};
 use crate::fault::WatchFault;
@@ -256,23 +256,24 @@ fn begin(
 {
     match why {
         None => needs_of(alloc, view, forest, tracks, clocks),
-        Some(_) => begin_anew(alloc, view, forest, tracks, clocks),
+        Some(why) => begin_anew(alloc, view, forest, tracks, clocks, is_start(why)),
     }
 }
 
-/// Looks everything up anew, and gives what the entries carry. The only error is lack of memory.
+/// Looks everything up anew, for the `first` time or a later one, and gives what the entries carry. The only error is lack of memory.
 fn begin_anew(
     alloc: Global,
     view: &mut Forest,
     forest: &Forest,
     tracks: &mut [Track],
     clocks: Clocks,
+    first: bool,
 ) -> Result<Carried, WatchFault>
     requires count { length tracks.old ≡ length forest.now.entries }
     requires view { IsView view.old forest.now }
     requires bounds { All IsTrack tracks.old }
     requires clocks { IsClocks clocks }
-    ensures tracks { IfOk result (λ needs. tracks.new ≡ owing_all forest.now clocks (untopped tracks.old)) }
+    ensures tracks { IfOk result (λ needs. tracks.new ≡ owing_all forest.now clocks first (untopped tracks.old)) }
     ensures needs { IfOk result (λ needs. Sees view.new forest.now tracks.new clocks needs) }
     ensures count { length tracks.new ≡ length forest.now.entries }
     ensures view { IsView view.new forest.now }
@@ -285,6 +286,7 @@ fn begin_anew(
     owe_all(
         tracks,
         forest.len(),
+        first,
         clocks.at,
         clocks.dated,
         &needs,

@@ -15,7 +15,7 @@ returns-clause-tracks c =
     let written = c.in_ok-written.written in
     let wrote : IsCarried g 0 written = subst (λ t. IsCarried g t written) c.moment_at.ensures c.in_ok-written.ensures in
     let beside : length mid ≡ length g.entries = ap length c.clear_tops.ensures.value ∙ each_length _ old ∙ c.requires.count in
-    owed_are g mid k c.in_ok-needs.needs beside c.needs_of.new.view written c.owe_all.new.tracks c.in_ok-needs.ensures.needs wrote c.owe_all.ensures.value ∙ ap (owing_all g k) c.clear_tops.ensures.value
+    owed_are g mid k c.in_ok-needs.needs beside c.args.first c.needs_of.new.view written c.owe_all.new.tracks c.in_ok-needs.ensures.needs wrote c.owe_all.ensures.value ∙ ap (owing_all g k c.args.first) c.clear_tops.ensures.value
 
 pub returns-clause-needs : goal.returns-clause-needs
 returns-clause-needs c =
@@ -29,4 +29,4 @@ returns-clause-needs c =
     let new = c.owe_all.new.tracks in
     let wrote : IsCarried g 0 written = subst (λ t. IsCarried g t written) c.moment_at.ensures c.in_ok-written.ensures in
     let beside : length mid ≡ length g.entries = ap length c.clear_tops.ensures.value ∙ each_length _ old ∙ c.requires.count in
-    owed_sees g mid k needs beside view new c.in_ok-needs.ensures.needs (owed_are g mid k needs beside view written new c.in_ok-needs.ensures.needs wrote c.owe_all.ensures.value)
+    owed_sees g mid k needs beside c.args.first view new c.in_ok-needs.ensures.needs (owed_are g mid k needs beside c.args.first view written new c.in_ok-needs.ensures.needs wrote c.owe_all.ensures.value)
