@@ -12,8 +12,8 @@ use Rattle.watch_machine.specs.declared.track.Track.{Track}
 use Rattle.watch_machine.specs.declared.track.Try.{Try}
 use Rattle.watch_machine.specs.Clocks.{sec}
 use Rattle.watch_machine.specs.Lines.{rested}
-use Rattle.watch_machine.specs.State.{WatchState, each}
-use Rattle.watch_machine.specs.Wanted.{is_alive, is_open, need_of}
+use Rattle.watch_machine.specs.State.{WatchState, each, keeps_last_try}
+use Rattle.watch_machine.specs.Wanted.{cut_need, is_alive, is_open}
 
 -- a try of an entry that is to be kept alive
 abbrev pub is_pressed_try : Option Try → Bool
@@ -76,11 +76,11 @@ abbrev pub called_by : Bool → ℕ → ℕ → Bool
 called_by dated need written = nat_lt 0 need || (not dated && nat_lt 0 written)
 
 abbrev pub is_called : Forest → List Track → Clocks → ℕ → Bool
-is_called g xs c i = called_by c.dated (need_of g.entries xs c i) (carried g.entries 0 i)
+is_called g xs c i = called_by c.dated (cut_need g.entries xs c i) (carried g.entries 0 i)
 
--- nobody is at the top
+-- nobody is at the top, or has its last try: that of one that was at its top is over
 abbrev pub untopped_track : Track → Track
-untopped_track x = record x { top = false }
+untopped_track x = record x { top = false; last_try = keeps_last_try x }
 
 abbrev pub untopped : List Track → List Track
 untopped xs = each (λ i. untopped_track) xs

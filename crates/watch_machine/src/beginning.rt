@@ -10,7 +10,7 @@ use crate::event::Operation;
 use crate::lines::rested;
 use crate::notes::Why;
 use crate::reading::{Millis, second};
-use crate::track::{Track, Try};
+use crate::track::{Track, Try, keeps_last_try};
 use crate::wanted::{is_alive, is_open};
 use keep_needs::Carried;
 
@@ -156,7 +156,7 @@ fn is_called(dated: bool, need: u64, written: u64) -> bool
     need > 0 || (!dated && written > 0)
 }
 
-/// A track that is not at the top.
+/// A track that is not at the top, and has no last try: that of one that was at its top is over.
 fn untopped(track: Track) -> Track
     requires { IsTrack track }
     ensures value { result ≡ untopped_track track }
@@ -164,11 +164,12 @@ fn untopped(track: Track) -> Track
 {
     Track {
         top: false,
+        last_try: keeps_last_try(track),
         ..track
     }
 }
 
-/// Nobody is at the top any more.
+/// Nobody is at the top any more, or has its last try.
 pub(crate) fn clear_tops(tracks: &mut [Track])
     requires { All IsTrack tracks.old }
     ensures value { tracks.new ≡ each (λ i. untopped_track) tracks.old }

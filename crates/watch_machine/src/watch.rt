@@ -69,6 +69,7 @@ fn fresh_track(entry: &Entry) -> Track
         end: End::Unknown,
         renewable: entry.renewable,
         top: false,
+        last_try: true,
         grant: None,
         owes: false,
         attempt: None,
