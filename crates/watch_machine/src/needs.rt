@@ -56,7 +56,7 @@ impl Needs {
 
     /// By what these `count` entries carry, and what they would with no limit at all, if one has its last try. The only error is lack
     /// of memory.
-    fn by(
+    fn of(
         alloc: Global,
         tracks: &[Track],
         count: u32,
@@ -68,11 +68,16 @@ impl Needs {
         requires free { IfSome free (λ loads. count ≡ length loads) }
         ensures { IfOk result (λ needs. needs ≡ record { cut = cut; last = last_by tracks.now cut free }) }
     {
-        let last = match free {
-            None => Vec::new(alloc),
-            Some(free) => last_needs(alloc, tracks, count, &cut, &free)?,
-        };
-        Ok(Needs { cut, last })
+        match free {
+            None => Ok(Needs {
+                cut,
+                last: Vec::new(alloc),
+            }),
+            Some(free) => {
+                let last = last_needs(alloc, tracks, count, &cut, &free)?;
+                Ok(Needs { cut, last })
+            }
+        }
     }
 }
 
@@ -152,5 +157,6 @@ pub(crate) fn needs_of(
     let free = free_needs(alloc, view, forest, tracks, clocks)?;
     write_view(view, forest, tracks, clocks);
     let cut = carry(alloc, view, moment_at(second(clocks.at)))?;
-    Ok(Needs::by(alloc, tracks, forest.len(), cut, free)?)
+    let needs = Needs::of(alloc, tracks, forest.len(), cut, free)?;
+    Ok(needs)
 }

@@ -211,6 +211,7 @@ pub(crate) fn round(
     }
     write_plan_view(view, forest, tracks, needs, clocks);
     let now = moment_at(second(clocks.at));
-    let next = second_round(view, needs.cut(), now);
-    Ok(Some(asks_before(alloc, view, needs.cut(), now, next)?))
+    let cut = needs.cut();
+    let next = second_round(view, cut, now);
+    Ok(Some(asks_before(alloc, view, cut, now, next)?))
 }
