@@ -639,10 +639,9 @@ class ModelPlay:
         if said[0] == "entry":
             said[2] = str(self.machine.broker_moment(self.machine.now) + int(said[2]))
         lines = [said]
-        if reply.told is not None and not reply.endless:
-            end = self.machine.tracks[request.entry].end
-            told = self.machine.now + reply.told[0] if end in (None, NEVER) else end
-            lines.append(["end", name, f"{int(told or 0) * SECOND - self.machine.phase}", "yes" if reply.told[1] else "no"])
+        end = self.machine.tracks[request.entry].end
+        if reply.told is not None and end is not None and end != NEVER:
+            lines.append(["end", name, f"{int(end) * SECOND - self.machine.phase}", "yes" if reply.told[1] else "no"])
         return lines + self._noted()
 
 
