@@ -70,7 +70,7 @@ module _ (v g : Forest) (c : Clocks) (is : IsView v g) (written : (k : ℕ) → 
   pub is_free : (xs : List Track) (loads : List CarriedNeed) → IsCarried v (sec c.at) loads → IsFree g.entries xs c (Some loads)
   is_free xs loads carries = (
     carries.count ∙ is.count,
-    λ i within. let count = is.count in carries.need i (omega (arith, within, count)) ∙ free_carried i,
+    (λ i within. let count = is.count in carries.need i (omega (arith, within, count)) ∙ free_carried i),
   )
 
 -- where nobody has its last try, none has
