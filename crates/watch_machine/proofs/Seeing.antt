@@ -52,7 +52,7 @@ module _ (new old : List Track) (h : SameSeen new old) (es : List Entry) (c : Cl
   pub view_same : view es new c ≡ view es old c
   view_same = ap (λ (f : ℕ → Entry). map f (range_with_len 0 (length es))) (fun_ext seen_same)
 
-  cut_same : (i : ℕ) → cut_need es new c i ≡ cut_need es old c i
+  pub cut_same : (i : ℕ) → cut_need es new c i ≡ cut_need es old c i
   unfolding cut_need
   cut_same i = ap (λ vs. carried vs (sec c.at) i) view_same
 
