@@ -4,6 +4,7 @@
 use Rattle.std.specs.Prelude.{◌≡◌, ◌⊎◌, ◌==◌, ℕ, ◌+◌, ◌<◌, ◌≤◌, Bool, true, false, ◌&&◌, List, [], ◌∷◌, ◌++◌, Option, None, Result, Ok, Err, filter, is_some, length, min}
 use Rattle.std.specs.List.{list_any}
 use Rattle.keep_tree.specs.Forest.{Forest}
+use Rattle.keep_tree.specs.declared.forest.TheConstants.{END_MAX}
 use Rattle.watch_machine.specs.declared.clocks.WallOffset.{WallOffset}
 use Rattle.watch_machine.specs.declared.command.Output.{Output}
 use Rattle.watch_machine.specs.declared.command.Request.{Request}
@@ -81,14 +82,14 @@ TellsAhead s i Busy = ⊥
 TellsAhead s i Lost = ⊥
 
 -- all goes well with i: a clock does not begin anew, and finds i with an end that is ahead or unknown if it is to be asked; and an answer
--- of i tells an end that is ahead. What others are answered is no matter
+-- of i tells an end that is ahead, and so does one that is handed in. What others are answered is no matter
 abbrev pub GoesWell : ℕ → WatchState → Event → Output → Type 0
 GoesWell i s (Clock wall elapsed) output = (output.notes.began ≡ None) × (is_tried s i ≡ true → is_open (second s) (track_at s i) ≡ true)
 GoesWell i s (Looked j reply terms) output = j ≡ i → TellsAhead s i reply
 GoesWell i s (Renewed j reply) output = j ≡ i → TellsAhead s i reply
 GoesWell i s (Need j until) output = Unit {0}
 GoesWell i s Begin output = Unit {0}
-GoesWell i s (Known j end renewable) output = Unit {0}
+GoesWell i s (Known j end renewable) output = j ≡ i → second s < min END_MAX end
 
 abbrev pub GoesWellAt : ℕ → WatchState → Event → Result Output WatchFault → Type 0
 GoesWellAt i s event (Ok output) = GoesWell i s event output
