@@ -21,6 +21,7 @@ use Rattle.watch_machine.specs.declared.fault.WatchFault.{WatchFault}
 use Rattle.watch_machine.specs.declared.lanes.Out.{Out}
 use Rattle.watch_machine.specs.declared.notes.Notes.{Notes}
 use Rattle.watch_machine.specs.declared.notes.Why.{Why}
+use Rattle.watch_machine.specs.declared.notes.Why.TheVariants.{Start}
 use Rattle.watch_machine.specs.declared.track.End.{End}
 use Rattle.watch_machine.specs.declared.track.End.TheVariants.{Unknown, At, Never}
 use Rattle.watch_machine.specs.declared.track.Track.{Track}
@@ -39,12 +40,12 @@ use Rattle.watch_machine.specs.Settling.{settled, settled_track, timed}
 use Rattle.watch_machine.specs.State.{WatchState, attempt_at, entry_of, no_track, opened, second, track_at, track_in}
 use Rattle.watch_machine.specs.Step.{Step, StepClock, StepLooked, StepRenewed, known, readied, told_earlier, why}
 use Rattle.watch_machine.specs.Wanted.{believed, is_alive, is_never, is_open, is_unknown, is_wanted, wanted_need, wants}
-use Rattle.watch_machine.proofs.Cases.{if_both, not_both}
+use Rattle.watch_machine.proofs.Cases.{if_both, not_both, value_is}
 use Rattle.watch_machine.proofs.Seeing.{SameSeen, both_seen, cut_same, each_read}
 use Rattle.watch_machine.proofs.Unseen.{owing_seen, pressed_seen, sent_seen}
 use Rattle.watch_machine.proofs.Within.{out_entry}
 use Rattle.watch_machine.proofs.Written.{each_length}
-use Rattle.watch_laws.specs.Beginnings.{GoWell, GoesWell, GoesWellAt, OneLookupLaw, TellsAhead, is_lookup, is_needed, lookups, looks, why_begun}
+use Rattle.watch_laws.specs.Beginnings.{GoWell, GoesWell, GoesWellAt, IsForLookup, OneLookupLaw, TellsAhead, is_lookup, is_needed, looks, lookups, why_begun}
 use Rattle.watch_laws.specs.Load.{requests_asked_by, requests_at_turn}
 use Rattle.watch_laws.specs.Outage.{is_tried}
 use Rattle.watch_laws.proofs.Alone.{IsAlone, flag, turn_alone}
@@ -316,11 +317,10 @@ owing_same : (at : ℕ) (first called : Bool) (x : Track) → called ≡ false �
 unfolding owing
 owing_same at first called x none = ap (λ b. if b && (first || is_open (sec at) x) then owing_lookup at x else x) none
 
-owing_owes : (at : ℕ) (first called : Bool) (x : Track) → called ≡ true → is_open (sec at) x ≡ true → (owing at first called x).owes ≡ true
+owing_owes : (at : ℕ) (first called : Bool) (x : Track) → called ≡ true → first || is_open (sec at) x ≡ true → (owing at first called x).owes ≡ true
 unfolding owing
 owing_owes at first called x needed' ahead =
-    ap (λ (y : Track). y.owes)
-    (cond-true (called && (first || is_open (sec at) x)) (owing_lookup at x) x (and_from called (first || is_open (sec at) x) needed' (or_right first (is_open (sec at) x) ahead)))
+    ap (λ (y : Track). y.owes) (cond-true (called && (first || is_open (sec at) x)) (owing_lookup at x) x (and_from called (first || is_open (sec at) x) needed' ahead))
     ∙ if_both (λ (y : Track). y.owes ≡ true) x.out (record x { owes = true }) (record x { owes = true; attempt = Some (sooner_try (soon at x) x.attempt) }) refl refl
 
 owing_end : (at : ℕ) (first called : Bool) (x : Track) → (owing at first called x).end ≡ x.end
@@ -368,15 +368,15 @@ module _ (old : WatchState) (wall elapsed i : ℕ) (w : Why) (is : why old wall 
       ∙ each_kept (λ (y x : Track). y.owes ≡ x.owes) refl (λ j. settled_track t.forest.margin t.clocks.at) t.tracks (λ j x. refl) i
 
   ready_owes : i < length old.tracks → is_called (readied old wall elapsed).forest (readied old wall elapsed).tracks (readied old wall elapsed).clocks i ≡ true →
-      is_open (second (readied old wall elapsed)) (track_at (readied old wall elapsed) i) ≡ true → (track_at (readied old wall elapsed) i).owes ≡ true
+      is_start w || is_open (second (readied old wall elapsed)) (track_at (readied old wall elapsed) i) ≡ true → (track_at (readied old wall elapsed) i).owes ≡ true
   ready_owes within called ahead =
       let y = ready_is within in
       let x = track_in fresh i in
       let c = is_called t.forest fresh t.clocks i in
       let at : second (readied old wall elapsed) ≡ sec t.clocks.at = ap second begins_so in
       let end : (track_at (readied old wall elapsed) i).end ≡ x.end = ap (λ (z : Track). z.end) y ∙ owing_end t.clocks.at (is_start w) c x in
-      let there : is_open (sec t.clocks.at) x ≡ true =
-      sym (ap (λ e. is_unknown e || nat_lt (second (readied old wall elapsed)) (believed e)) end ∙ ap (λ n. is_unknown x.end || nat_lt n (believed x.end)) at) ∙ ahead in
+      let there : is_start w || is_open (sec t.clocks.at) x ≡ true =
+      sym (ap (λ e. is_start w || (is_unknown e || nat_lt (second (readied old wall elapsed)) (believed e))) end ∙ ap (λ n. is_start w || (is_unknown x.end || nat_lt n (believed x.end))) at) ∙ ahead in
       ap (λ (z : Track). z.owes) y ∙ owing_owes t.clocks.at (is_start w) c x (sym called_so ∙ called) there
 
   ready_free : i < length old.tracks → is_called (readied old wall elapsed).forest (readied old wall elapsed).tracks (readied old wall elapsed).clocks i ≡ false → (track_at old i).owes ≡ false →
@@ -596,7 +596,7 @@ ran (turn ∷ turns) old i n due history well alone within holds =
 record Started (old new : WatchState) (result : Result Output WatchFault) (i : ℕ) : Type 0 where
   holds : Holds new i (track_at new i).owes (looks i old.out + length (filter (is_lookup i) (requests_at_turn result)))
   led : (track_at new i).top ≡ false
-  owes : is_needed new i ≡ true → is_open (second new) (track_at new i) ≡ true → (track_at new i).owes ≡ true
+  owes : is_needed new i ≡ true → IsForLookup (why_begun result) new i → (track_at new i).owes ≡ true
   free : is_needed new i ≡ false → is_alive (second new) (track_at new i) ≡ true → (track_at old i).owes ≡ false → Holds new i false 1 × (length (filter (is_lookup i) (requests_at_turn result)) ≡ 0)
 
 clock_started : (old new : WatchState) (wall elapsed : ℕ) (output : Output) (i : ℕ) → StepClock old wall elapsed output new → is_some output.notes.began ≡ true → IsAlone old → i < length old.tracks → Started old new (Ok output) i
@@ -611,9 +611,16 @@ clock_started old new wall elapsed output i step begins alone within =
     record {
       holds = subst (λ k. Holds new i (track_at new i).owes (looks i old.out + k)) (sym go) (clock_starts old new wall elapsed output i h alone);
       led = ap (λ (x : Track). x.top) ((seen old new wall elapsed output i h).tracks i) ∙ ready_led old wall elapsed i w.0 w.1 within;
-      owes = λ called ahead.
-          let there : is_open (second ready') (track_at ready' i) ≡ true =
-          sym (ap (λ e. is_unknown e || nat_lt (second new) (believed e)) bear.0 ∙ ap (λ n. is_unknown (track_at ready' i).end || nat_lt n (believed (track_at ready' i).end)) at) ∙ ahead in
+      owes = λ called how.
+          let there : is_start w.0 || is_open (second ready') (track_at ready' i) ≡ true =
+          elim how as (λ _. is_start w.0 || is_open (second ready') (track_at ready' i) ≡ true) [
+            | inl start ↦
+                let same_why : Some w.0 ≡ Some Start = sym w.1 ∙ sym (ap (λ (x : Notes). x.began) step.notes) ∙ start in
+                or_left (is_start w.0) (is_open (second ready') (track_at ready' i)) (ap is_start (value_is w.0 Start same_why))
+            | inr ahead ↦
+                or_right (is_start w.0) (is_open (second ready') (track_at ready' i))
+                (sym (ap (λ e. is_unknown e || nat_lt (second new) (believed e)) bear.0 ∙ ap (λ n. is_unknown (track_at ready' i).end || nat_lt n (believed (track_at ready' i).end)) at) ∙ ahead)
+          ] in
           bear.1.1.0 ∙ ready_owes old wall elapsed i w.0 w.1 within (sym same ∙ called) there;
       free = λ none alive owes.
           let free' = ready_free old wall elapsed i w.0 w.1 within (sym same ∙ none) owes in
@@ -676,6 +683,7 @@ looked_once g width before turn after i run within begins well =
     record {
       at_most = omega (arith, most);
       wanted = λ wanted. wanted_needed turn.state i start.led wanted;
+      owes = start.owes;
       once = λ called ahead free. (let is = ends.1 (start.owes called ahead) free in let e : looks i old.out + (k + lookups i after) ≡ 1 = omega (arith, is) in e);
       never = λ called alive free.
           let so = start.free called alive free in
