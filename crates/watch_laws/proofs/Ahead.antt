@@ -46,11 +46,11 @@ from_far margin step seconds at since (Some t) le far = by t.base where
       (λ yes'. let late : at / 1000 + 1 < time_from margin step seconds (base / 1000) = grind (arith, nat_tests) in omega (arith, late, le)) (λ no'. omega (arith, far))
 
 -- the own margin of a track after it, and its end
-granted_time :
+granted_own :
     (margin : ℕ) (e : Entry) (at seconds : ℕ) (renewable : Bool) (from' : ℕ) (x : Track) →
     ((granted_from e.step at seconds renewable from' x).end ≡ At (sec from' + seconds)) × (own_margin margin e (granted_from e.step at seconds renewable from' x) ≡ own_by margin (min e.step seconds))
 unfolding own_margin granted_from
-granted_time margin e at seconds renewable from' x = (refl, refl)
+granted_own margin e at seconds renewable from' x = (refl, refl)
 
 -- a time comes no sooner than the own margin before the end
 time_least : (margin : ℕ) (e : Entry) (x : Track) (end : ℕ) → x.end ≡ At end → end - own_margin margin e x ≤ time margin e x
@@ -86,7 +86,7 @@ renewed_far s new q seconds renewable date i is own within before far =
     subst (λ (y : Track). Bears (track_at new i) y) there (subst (λ (y : WatchState). Bears (track_at y i) (track_at mid i)) (sym is) (back_kept Bears same_bears back_bears mid q reply i)) in
     let forest : new.forest ≡ g = ap (λ (y : WatchState). y.forest) is ∙ replied_forest mid q reply in
     let same = bears_own g.margin e (track_at new i) made bears in
-    let is_time = granted_time g.margin e s.clocks.at seconds renewable from' x in
+    let is_time = granted_own g.margin e s.clocks.at seconds renewable from' x in
     let t : time_of new i ≡ time g.margin e (track_at new i) = ap (λ (h : Forest). time h.margin (entry_at h.entries i) (track_at new i)) forest in
     let o : own_margin new.forest.margin (entry_of new i) (track_at new i) ≡ own_margin g.margin e (track_at new i) = ap (λ (h : Forest). own_margin h.margin (entry_at h.entries i) (track_at new i)) forest in
     let own0 = is_time.1 in

@@ -116,10 +116,13 @@ need_kept new old forest forest' a later i ahead =
     let kept = carried_same (believed_forest old).entries (second old) (second new) i later (omega arith) in
     omega arith
 
--- nor would more be carried with no limit at all
+-- nor would more be with no limit at all
+abbrev free_entries : List Entry → BrokerOffset → WallOffset → List Entry
+free_entries es broker wall =
+    map (λ k. record (entry_at es k) { need = if (entry_at es k).need == 0 then 0 else min LAST (max (to_here broker (entry_at es k).need) (to_here (of_wall wall) (entry_at es k).need)) }) (range_with_len 0 (length es))
+
 unfoldable pub free_by : List Entry → BrokerOffset → WallOffset → ℕ → ℕ → ℕ
-free_by es broker wall now i =
-    carried (map (λ k. record (entry_at es k) { need = if (entry_at es k).need == 0 then 0 else min LAST (max (to_here broker (entry_at es k).need) (to_here (of_wall wall) (entry_at es k).need)) }) (range_with_len 0 (length es))) now i
+free_by es broker wall now i = carried (free_entries es broker wall) now i
 
 pub free_is : (s : WatchState) (i : ℕ) → free_need s.forest.entries s.clocks i ≡ free_by s.forest.entries s.clocks.broker s.clocks.wall (second s) i
 unfolding free_need need_here free_by
@@ -129,15 +132,17 @@ pub free_alike :
     (new old : WatchState) → new.forest ≡ old.forest → new.clocks.broker ≡ old.clocks.broker → new.clocks.wall ≡ old.clocks.wall → (i : ℕ) →
     free_need new.forest.entries new.clocks i ≡ free_by old.forest.entries old.clocks.broker old.clocks.wall (second new) i
 free_alike new old forest broker wall i =
-    free_is new i ∙ ap (λ (g : Forest). free_by g.entries new.clocks.broker new.clocks.wall (second new) i) forest
-    ∙ ap₂ (λ b w. free_by old.forest.entries b w (second new) i) broker wall
+    free_is new i ∙ ap (λ (g : Forest). free_by g.entries new.clocks.broker new.clocks.wall (second new) i) forest ∙ ap₂ (λ b w. free_by old.forest.entries b w (second new) i) broker wall
+
+later_less : (es : List Entry) (broker : BrokerOffset) (wall : WallOffset) (now then' i : ℕ) → now ≤ then' → free_by es broker wall then' i ≤ free_by es broker wall now i
+unfolding free_by
+later_less es broker wall now then' i later = carried_less (free_entries es broker wall) now then' i later
 
 free_less : (new old : WatchState) → AreAlike new old → second old ≤ second new → (i : ℕ) → free_need new.forest.entries new.clocks i ≤ free_need old.forest.entries old.clocks i
-unfolding free_by
 free_less new old a later i =
     let n = free_alike new old a.forest a.broker a.wall i in
     let o = free_is old i in
-    let less = carried_less _ (second old) (second new) i later in
+    let less = later_less old.forest.entries old.clocks.broker old.clocks.wall (second old) (second new) i later in
     omega (arith, n, o, less)
 
 -- so whoever is at its top is wanted only where it was before
