@@ -46,8 +46,8 @@ impl Needs {
         requires { index < length self.now.cut }
         ensures { result ≡ need_at self.now index }
     {
-        let at = index as usize;
-        if at < self.last.len() {
+        let (at, many) = (index as usize, self.last.len());
+        if at < many {
             self.last[at]
         } else {
             self.cut.need(index)
