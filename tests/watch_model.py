@@ -10,7 +10,7 @@ from dataclasses import dataclass, field, replace
 
 from watch_plays import SILENT, START, TOGETHER, Judge, Row, true_reply
 
-NEW: tuple[str, ...] = ("never", "last-try", "changed")
+NEW: tuple[str, ...] = ("changed",)
 """The rules that the program does not have yet."""
 SECOND = 1000
 DAY = 86_400_000
@@ -48,15 +48,15 @@ class Try:
 
 @dataclass
 class Track:
-    """What is known of an entry: `end` in seconds, None where it is unknown; `grant` are its seconds and the clock that they count from."""
+    """What is known of an entry: `end` in seconds, None where it is unknown; `grant` are its seconds and the clock that they count from.
+    `last_try`: at its top it may be asked once more."""
 
     end: float | None = None
     renewable: bool = True
     top: bool = False
-    last_try: bool = False
+    last_try: bool = True
     grant: tuple[int, int] | None = None
     owes: bool = False
-    known: bool = False
     attempt: Try | None = None
     last: int | None = None
     out: bool = False
@@ -78,6 +78,15 @@ class Track:
 
     def is_open(self, now: int) -> bool:
         return self.end is None or self.is_alive(now)
+
+    @property
+    def has_last_try(self) -> bool:
+        return self.top and self.last_try
+
+    def leave_top(self) -> None:
+        """It is at its top no more, and the last try of one that was is over."""
+        self.last_try = self.last_try and not self.top
+        self.top = False
 
     @property
     def is_fixed(self) -> bool:
@@ -179,9 +188,8 @@ class Machine:
 
     def _wants(self, index: int, need: float) -> bool:
         track = self.tracks[index]
-        if track.last_try and track.renewable and track.believed < self._carried_unlimited(index):
-            return True
-        return (track.renewable or track.end is None) and not track.top and track.end != NEVER and track.believed < need
+        may_be_led = (track.renewable or track.end is None) and (not track.top or track.last_try) and track.end != NEVER
+        return may_be_led and track.believed < (self._carried_unlimited(index) if track.has_last_try else need)
 
     def _lead(self, index: int) -> int:
         grant = self.tracks[index].grant
@@ -199,7 +207,7 @@ class Machine:
     def _time(self, index: int) -> float:
         track = self.tracks[index]
         own = self._own_margin(index)
-        return 0 if track.end is None else max(0, track.end - (own // 2 if track.last_try else own))
+        return 0 if track.end is None else max(0, track.end - (own // 2 if track.has_last_try else own))
 
     def _has_come(self, index: int) -> bool:
         return self._time(index) <= self.now
@@ -211,7 +219,9 @@ class Machine:
 
     def know(self, index: int, end: int, renewable: bool) -> None:
         track = self.tracks[index]
-        track.end, track.renewable, track.known = end, renewable, True
+        track.end, track.renewable = end, renewable
+        if not track.is_alive(self.now):
+            self._owe_at(track, self.at)
 
     def changed(self, entries: list[Entry]) -> Machine:
         """The watch after a change of the inventory. Known ends are handed on, and all else is as at a start; or, by the new rule, what was
@@ -227,7 +237,7 @@ class Machine:
         for index, old in enumerate(before):
             new.tracks[index] = Track() if old is None else self.tracks[old]
             if old is None or self.entries[old].step != entries[index].step:
-                new.tracks[index].top = new.tracks[index].last_try = False
+                new.tracks[index].leave_top()
                 new._owe_at(new.tracks[index], self.at)
         kept = {old: index for index, old in enumerate(before) if old is not None}
         new.out = self.out
@@ -330,7 +340,7 @@ class Machine:
             before, since = track.grant
             most = min(track.end, since // SECOND + before)
             is_no_further = since // SECOND + 2 <= counts // SECOND and before < step and seconds < step and end <= most + 1
-        track.last_try = "last-try" in self.rules and is_no_further and not track.top
+        track.last_try = not is_no_further or (track.last_try and not track.top)
         track.top, track.end, track.renewable, track.grant = is_no_further, end, renewable, (seconds, counts)
         if is_no_further:
             self.notes.append(["top", self.entries[index].name, str(self.broker_moment(end))])
@@ -403,11 +413,10 @@ class Machine:
         is_first, self._begun, self._asked = self._begun is None, self.at, False
         self.notes.append(["begin", why])
         for track in self.tracks:
-            track.top = track.last_try = False
+            track.leave_top()
         for index, track in enumerate(self.tracks):
             called = self._carried(index) > 0 or any(self.entries[below].need for below in self._below[index])
-            ended = is_first and track.known and "never" in self.rules
-            if called and (track.is_open(self.now) or ended):
+            if called and (is_first or track.is_open(self.now)):
                 self._owe_at(track, self.at)
 
     def _owe_at(self, track: Track, at: int) -> None:
@@ -630,10 +639,9 @@ class ModelPlay:
         if said[0] == "entry":
             said[2] = str(self.machine.broker_moment(self.machine.now) + int(said[2]))
         lines = [said]
-        if reply.told is not None and not (reply.endless and "never" in self.machine.rules):
-            end = self.machine.tracks[request.entry].end
-            told = self.machine.now + reply.told[0] if end in (None, NEVER) else end
-            lines.append(["end", name, f"{int(told or 0) * SECOND - self.machine.phase}", "yes" if reply.told[1] else "no"])
+        end = self.machine.tracks[request.entry].end
+        if reply.told is not None and end is not None and end != NEVER:
+            lines.append(["end", name, f"{int(end) * SECOND - self.machine.phase}", "yes" if reply.told[1] else "no"])
         return lines + self._noted()
 
 

@@ -14,26 +14,37 @@ use Rattle.watch_machine.specs.declared.track.End.TheVariants.{Unknown, At, Neve
 use Rattle.watch_machine.specs.declared.track.Track.{Track}
 use Rattle.watch_machine.specs.History.{Turn}
 use Rattle.watch_machine.specs.State.{WatchState, fresh_track, no_track, opened, track_at}
+use Rattle.watch_machine.specs.Step.{told_earlier}
 use Rattle.keep_agent.specs.declared.standing.Standing.{Standing}
 use Rattle.keep_agent.specs.declared.standing.Told.{Told}
 use Rattle.keep_agent.specs.Agent.{Agent, Believes, IsAgent, IsStanding, standing_at}
 use Rattle.keep_agent.specs.Laws.{FreshLaw, IsBelievedAgain, RememberedLaw}
 use Rattle.keep_agent.specs.Rebuilding.{AgentIsRebuilt, AreHanded, IsHanded, carried_standing, carried_told, former, standing_of}
 use Rattle.keep_agent.specs.Standings.{fresh_standing, standing_in}
+use Rattle.keep_agent.proofs.Believing.{still_believed}
 use Rattle.keep_agent.proofs.Fresh.{opened_unknown, unknown_believed}
-use Rattle.keep_agent.proofs.Left.{IsLeft, known_other, known_track, left_turn}
+use Rattle.keep_agent.proofs.Left.{IsLeft, Word, known_other, known_word, left_turn, word}
 
 -- a track, once the end that was told is handed in
 abbrev pub told_track : Option Told → Track → Track
 told_track None x = x
-told_track (Some t) x = record x { end = At (min END_MAX t.end); renewable = t.renewable }
+told_track (Some t) x = told_earlier t.end t.renewable x
+
+-- y is what is known of an entry of which x was: an end that was told is believed, and where it is past a lookup is owed
+abbrev pub IsTold : Option Told → Track → Track → Type 0
+IsTold None y x = y ≡ x
+IsTold (Some t) y x = Word y (told_track (Some t) x)
+
+told_word : (told : Option Told) (y x : Track) → IsTold told y x → Word y (told_track told x)
+told_word None y x is = ap word is
+told_word (Some t) y x is = is
 
 -- the Watch after the ends of the first n entries
 pub record IsSoFar (told : ℕ → Option Told) (s : WatchState) (n : ℕ) (m : WatchState) : Type 0 where
   pub entries : length m.forest.entries ≡ length s.forest.entries
   pub tracks : length m.tracks ≡ length s.tracks
   pub phase : s.clocks.phase < 1000 → m.clocks.phase < 1000
-  pub before : (i : ℕ) → i < n → track_at m i ≡ told_track (told i) (track_at s i)
+  pub before : (i : ℕ) → i < n → IsTold (told i) (track_at m i) (track_at s i)
   pub after : (i : ℕ) → n ≤ i → track_at m i ≡ track_at s i
 
 one_more : (told : ℕ → Option Told) (s mid m : WatchState) (n : ℕ) (o : Option Told) → told n ≡ o → n < length s.tracks → IsSoFar told s n mid → IsHanded n o mid m → IsSoFar told s (suc n) m
@@ -44,7 +55,8 @@ one_more told s mid m n None is within h handed =
       tracks = h.tracks;
       phase = h.phase;
       before = λ i below. elim (cases_eq i n) [
-        | inl same ↦ subst (λ k. track_at mid k ≡ told_track (told k) (track_at s k)) (sym same) (h.after n (omega arith) ∙ ap (λ t. told_track t (track_at s n)) (sym is))
+        | inl same ↦
+            subst (λ k. IsTold (told k) (track_at mid k) (track_at s k)) (sym same) (subst (λ o. IsTold o (track_at mid n) (track_at s n)) (sym is) (h.after n (omega arith)))
         | inr other ↦ h.before i (omega arith)
       ];
       after = λ i past. h.after i (omega arith);
@@ -58,9 +70,10 @@ one_more told s mid m n (Some t) is within h handed =
       phase = λ below. left.phase (h.phase below);
       before = λ i below. elim (cases_eq i n) [
         | inl same ↦
-            subst (λ k. track_at m k ≡ told_track (told k) (track_at s k)) (sym same)
-            (known_track mid m n t.end t.renewable handed.0 handed.1 (omega (arith, within, count)) ∙ ap (told_track (Some t)) (h.after n (omega arith)) ∙ ap (λ o. told_track o (track_at s n)) (sym is))
-        | inr other ↦ known_other mid m n t.end t.renewable handed.0 handed.1 i other ∙ h.before i (omega arith)
+            subst (λ k. IsTold (told k) (track_at m k) (track_at s k)) (sym same)
+            (subst (λ o. IsTold o (track_at m n) (track_at s n)) (sym is)
+            (known_word mid m n t.end t.renewable handed.0 handed.1 (omega (arith, within, count)) ∙ ap (λ (x : Track). word (told_track (Some t) x)) (h.after n (omega arith))))
+        | inr other ↦ subst (λ (y : Track). IsTold (told i) y (track_at s i)) (sym (known_other mid m n t.end t.renewable handed.0 handed.1 i other)) (h.before i (omega arith))
       ];
       after = λ i past. known_other mid m n t.end t.renewable handed.0 handed.1 i (λ same. omega (arith, same, past)) ∙ h.after i (omega arith);
     }
@@ -87,6 +100,9 @@ standing_bound xs all i =
 told_believed : (told : Option Told) (x : Track) → x.end ≡ Unknown → IfSome told (λ t. t.end ≤ END_MAX) → Believes (told_track told x).end (told_track told x).renewable told
 told_believed None x is bound = unknown_believed x is
 told_believed (Some t) x is bound = (omega (arith, bound), (omega arith, refl))
+
+is_believed : (told : Option Told) (y x : Track) → IsTold told y x → x.end ≡ Unknown → IfSome told (λ t. t.end ≤ END_MAX) → Believes y.end y.renewable told
+is_believed told y x is unknown bound = still_believed y (told_track told x) told (told_word told y x is) (told_believed told x unknown bound)
 
 -- ---- an agent that is rebuilt
 
@@ -123,8 +139,7 @@ module _ (old : Agent) (s : Inventory) (width : ℕ) (m : WatchState) (xs : List
         bounded = bounded;
         believed = λ i. elim (cases_lt i (length xs)) [
           | inl within ↦
-              subst (λ (x : Track). Believes x.end x.renewable (standing_in xs i).told) (sym (h.before i within))
-              (told_believed (standing_in xs i).told (track_at (opened s.forest width) i) (opened_unknown s.forest width i) (standing_bound xs bounded i))
+              is_believed (standing_in xs i).told (track_at m i) (track_at (opened s.forest width) i) (h.before i within) (opened_unknown s.forest width i) (standing_bound xs bounded i)
           | inr past ↦
               subst (λ (x : Track). Believes x.end x.renewable (standing_in xs i).told) (sym (h.after i past))
               (subst (λ (x : Standing). Believes (track_at (opened s.forest width) i).end (track_at (opened s.forest width) i).renewable x.told) (sym (get_or_past xs i fresh_standing past))
@@ -140,13 +155,13 @@ module _ (old new : Agent) (s : Inventory) (width : ℕ) (h : AgentIsRebuilt old
   its_standing from is =
       ap (λ xs. standing_in xs j) h.standings ∙ get_or-map-range_with_len (carried_standing old s) 0 (length s.forest.entries) j j fresh_standing within (omega arith) ∙ ap (standing_of old) is
 
-  its_track : (from : Option ℕ) → former old.inventory s j ≡ from → track_at new.machine j ≡ told_track (standing_of old from).told (fresh_track (entry_at s.forest.entries j))
+  its_track : (from : Option ℕ) → former old.inventory s j ≡ from → IsTold (standing_of old from).told (track_at new.machine j) (fresh_track (entry_at s.forest.entries j))
   unfolding carried_standing entry_at
   its_track from is =
       let all = length-map s.forest.entries fresh_track in
       let so = so_far (carried_told old s) (opened s.forest width) new.machine (length s.forest.entries) (omega (arith, all)) h.machine in
-      so.before j within ∙ ap (λ o. told_track (standing_of old o).told (track_at (opened s.forest width) j)) is
-      ∙ ap (told_track (standing_of old from).told) (get_or-map fresh_track s.forest.entries j no_entry no_track within)
+      subst (IsTold (standing_of old from).told (track_at new.machine j)) (get_or-map fresh_track s.forest.entries j no_entry no_track within)
+      (subst (λ o. IsTold (standing_of old o).told (track_at new.machine j) (track_at (opened s.forest width) j)) is (so.before j within))
 
 again : (end : End) (renewable : Bool) (told : Option Told) (x : Track) → x.end ≡ Unknown → IfSome told (λ t. t.end ≤ END_MAX) → Believes end renewable told →
     IsBelievedAgain end (told_track told x).end × ((e : ℕ) → end ≡ At e → (told_track told x).renewable ≡ renewable)
@@ -160,8 +175,8 @@ again Never renewable told x is bound believes = (subst (λ t. (told_track t x).
 
 pub remembered : RememberedLaw
 remembered old new s width agent h i j within is =
-    let track = its_track old new s width h j within (Some i) is in
     let told = (standing_at old i).told in
+    let track = told_word told (track_at new.machine j) (fresh_track (entry_at s.forest.entries j)) (its_track old new s width h j within (Some i) is) in
     let fact = again (track_at old.machine i).end (track_at old.machine i).renewable told (fresh_track (entry_at s.forest.entries j)) refl (standing_bound old.standings agent.bounded i) (agent.believed i) in (
       its_standing old new s width h j within (Some i) is,
       (

@@ -8,7 +8,6 @@ use Rattle.std.specs.List.{list_any}
 use Rattle.std.specs.Prelude.{slice_set}
 use Rattle.keep_moment.specs.declared.moment.TheConstants.{LAST}
 use Rattle.keep_tree.specs.declared.entry.Entry.{Entry}
-use Rattle.keep_tree.specs.declared.forest.TheConstants.{END_MAX}
 use Rattle.keep_tree.specs.Forest.{Forest, entry_at}
 use Rattle.watch_machine.specs.declared.clocks.Clocks.{Clocks}
 use Rattle.watch_machine.specs.declared.command.Command.{Command}
@@ -26,10 +25,9 @@ use Rattle.watch_machine.specs.declared.fault.WatchFault.TheVariants.{NotAsked, 
 use Rattle.watch_machine.specs.declared.lanes.Answer.{Answer}
 use Rattle.watch_machine.specs.declared.lanes.Out.{Out}
 use Rattle.watch_machine.specs.declared.notes.Why.{Why}
-use Rattle.watch_machine.specs.declared.track.End.TheVariants.{At}
 use Rattle.watch_machine.specs.declared.track.Track.{Track}
 use Rattle.watch_machine.specs.Answers.{answers_all, back_track, lane_freed, noted, replied, silent}
-use Rattle.watch_machine.specs.Beginning.{begun, is_called, owing, owing_lookup, soon, sooner_try, untopped, untopped_track}
+use Rattle.watch_machine.specs.Beginning.{begun, is_called, is_start, owing, owing_lookup, owing_past, soon, sooner_try, untopped, untopped_track}
 use Rattle.watch_machine.specs.Clocks.{dated_by, first_clocks, is_ahead, is_behind, is_stepped, phase_of, reading, sec, walled}
 use Rattle.watch_machine.specs.History.{Turn}
 use Rattle.watch_machine.specs.Looked.{looked, told_state, untold_track}
@@ -40,8 +38,8 @@ use Rattle.watch_machine.specs.Round.{asked_by_round}
 use Rattle.watch_machine.specs.Sending.{sent, sent_in, sent_track}
 use Rattle.watch_machine.specs.Settling.{at_reading, clocks_after, date_of, dated, dated_by_all, dated_on, is_real, read, settled, settled_track, timed}
 use Rattle.watch_machine.specs.State.{WatchState, each, entry_of, no_track, track_at, track_in}
-use Rattle.watch_machine.specs.Step.{Step, StepClock, StepCommand, StepLooked, StepRenewed, known, readied, why}
-use Rattle.watch_machine.specs.Wanted.{is_open, need_of, wants}
+use Rattle.watch_machine.specs.Step.{Step, StepClock, StepCommand, StepLooked, StepRenewed, known, readied, told_earlier, why}
+use Rattle.watch_machine.specs.Wanted.{is_alive, is_open, need_of, wants}
 use Rattle.watch_machine.proofs.Cases.{if_both}
 use Rattle.watch_machine.proofs.Seeing.{each_past, each_read}
 use Rattle.watch_machine.proofs.Within.{out_entry}
@@ -74,11 +72,16 @@ settled_word : (margin at : ℕ) (x : Track) → Word (settled_track margin at x
 unfolding settled_track
 settled_word margin at x = refl
 
-owing_word : (at : ℕ) (called : Bool) (x : Track) → Word (owing at called x) x
+lookup_word : (at : ℕ) (x : Track) → Word (owing_lookup at x) x
+lookup_word at x = if_both (λ y. Word y x) x.out (record x { owes = true }) (record x { owes = true; attempt = Some (sooner_try (soon at x) x.attempt) }) refl refl
+
+owing_word : (at : ℕ) (first called : Bool) (x : Track) → Word (owing at first called x) x
 unfolding owing
-owing_word at called x =
-    if_both (λ y. Word y x) (called && is_open (sec at) x) (owing_lookup at x) x
-    (if_both (λ y. Word y x) x.out (record x { owes = true }) (record x { owes = true; attempt = Some (sooner_try (soon at x) x.attempt) }) refl refl) refl
+owing_word at first called x = if_both (λ y. Word y x) (called && (first || is_open (sec at) x)) (owing_lookup at x) x (lookup_word at x) refl
+
+past_word : (at : ℕ) (x : Track) → Word (owing_past at x) x
+unfolding owing_past
+past_word at x = if_both (λ y. Word y x) (is_alive (sec at) x) x (owing_lookup at x) refl (lookup_word at x)
 
 pressed_word : (margin : ℕ) (e : Entry) (need at : ℕ) (x : Track) → Word (pressed_track margin e need at x) x
 unfolding pressed_track
@@ -99,7 +102,7 @@ begun_word : (s : WatchState) (w : Option Why) (i : ℕ) → Word (track_at (beg
 begun_word s None i = refl
 begun_word s (Some w) i =
     let xs = untopped s.tracks in
-    each_word (λ j. owing s.clocks.at (is_called s.forest xs s.clocks j)) xs (λ j x. owing_word s.clocks.at (is_called s.forest xs s.clocks j) x) i
+    each_word (λ j. owing s.clocks.at (is_start w) (is_called s.forest xs s.clocks j)) xs (λ j x. owing_word s.clocks.at (is_start w) (is_called s.forest xs s.clocks j) x) i
     ∙ each_word (λ j. untopped_track) s.tracks (λ j x. refl) i
 
 readied_word : (s : WatchState) (wall elapsed i : ℕ) → Word (track_at (readied s wall elapsed) i) (track_at s i)
@@ -134,7 +137,7 @@ begun_count : (s : WatchState) (w : Option Why) → (length (begun s w).tracks �
 begun_count s None = (refl, (refl, refl))
 begun_count s (Some w) =
     let xs = untopped s.tracks in
-    (each_length (λ j. owing s.clocks.at (is_called s.forest xs s.clocks j)) xs ∙ each_length (λ j. untopped_track) s.tracks, (refl, refl))
+    (each_length (λ j. owing s.clocks.at (is_start w) (is_called s.forest xs s.clocks j)) xs ∙ each_length (λ j. untopped_track) s.tracks, (refl, refl))
 
 readied_count : (s : WatchState) (wall elapsed : ℕ) →
     (length (readied s wall elapsed).tracks ≡ length s.tracks) × (((readied s wall elapsed).forest ≡ s.forest) × ((readied s wall elapsed).clocks ≡ (timed s wall elapsed).clocks))
@@ -336,9 +339,10 @@ by_index s i other free = by (nat_le (length s.forest.entries) i) refl free wher
   by false is free = grind (arith, nat_tests)
 
 -- an end that is handed in is believed
-pub known_track : (s new : WatchState) (i end : ℕ) (renewable : Bool) (output : Output) → Turn s (Known i end renewable) (Ok output) new → i < length s.tracks →
-    track_at new i ≡ record (track_at s i) { end = At (min END_MAX end); renewable = renewable }
-known_track s new i end renewable output turn within = ap (λ (t : WatchState). track_at t i) turn.1.1 ∙ get_or-set_same s.tracks i _ no_track within
+pub known_word : (s new : WatchState) (i end : ℕ) (renewable : Bool) (output : Output) → Turn s (Known i end renewable) (Ok output) new → i < length s.tracks →
+    Word (track_at new i) (told_earlier end renewable (track_at s i))
+known_word s new i end renewable output turn within =
+    ap (λ (t : WatchState). word (track_at t i)) turn.1.1 ∙ ap word (get_or-set_same s.tracks i _ no_track within) ∙ past_word s.clocks.at (told_earlier end renewable (track_at s i))
 
 pub known_other : (s new : WatchState) (i end : ℕ) (renewable : Bool) (output : Output) → Turn s (Known i end renewable) (Ok output) new → (k : ℕ) → (k ≡ i → ⊥) → track_at new k ≡ track_at s k
 known_other s new i end renewable output turn k other = ap (λ (t : WatchState). track_at t k) turn.1.1 ∙ get_or-set_other s.tracks i k _ no_track other

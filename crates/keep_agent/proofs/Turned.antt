@@ -19,7 +19,7 @@ use Rattle.keep_agent.specs.declared.standing.Standing.{Standing}
 use Rattle.keep_agent.specs.Agent.{Agent, Believes, IsAgent, IsStanding}
 use Rattle.keep_agent.specs.Standings.{fresh_standing, known_standing, standing_in, standings_after, told_of}
 use Rattle.keep_agent.specs.Turns.{EventIsTaken, inventory_after}
-use Rattle.keep_agent.proofs.Left.{IsLeft, TellsOf, known_track, left_turn}
+use Rattle.keep_agent.proofs.Left.{IsLeft, TellsOf, known_word, left_turn}
 use Rattle.keep_agent.proofs.Believing.{still_believed, told_believed}
 use Rattle.keep_agent.proofs.Within.{taken_within}
 
@@ -100,7 +100,7 @@ turn_believed old new (Known j end renewable) output xs few tracked below turn i
     let event = Known j end renewable in
     let left = left_turn old new event output turn in
     let within : j < length old.forest.entries = taken_within old event turn.0 in
-    let track = known_track old new j end renewable output turn (omega (arith, within, tracked)) in
+    let track = known_word old new j end renewable output turn (omega (arith, within, tracked)) in
     let standing = get_or-set_same xs j (known_standing end renewable (standing_in xs j)) fresh_standing (omega (arith, within, few)) in
     one_or_other old new event xs j i left (λ other. other)
     (subst (λ t. Believes (track_at new j).end (track_at new j).renewable t) (sym (ap (λ (x : Standing). x.told) standing))

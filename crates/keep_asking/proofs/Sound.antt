@@ -10,7 +10,6 @@ use Rattle.std.proofs.lemmas.List.Sums.{sum_by-cons, sum_by-take-le}
 use Rattle.std.specs.List.{list_any, range_with_len}
 use Rattle.std.specs.Prelude.{slice_set}
 use Rattle.keep_tree.specs.declared.entry.Entry.{Entry}
-use Rattle.keep_tree.specs.declared.forest.TheConstants.{END_MAX}
 use Rattle.keep_tree.specs.Forest.{Forest, entry_at}
 use Rattle.watch_machine.specs.declared.command.Command.{Command}
 use Rattle.watch_machine.specs.declared.command.Command.TheVariants.{Go, Taken}
@@ -27,11 +26,10 @@ use Rattle.watch_machine.specs.declared.fault.WatchFault.TheVariants.{NotAsked, 
 use Rattle.watch_machine.specs.declared.lanes.Out.{Out}
 use Rattle.watch_machine.specs.declared.lanes.Presence.{Presence}
 use Rattle.watch_machine.specs.declared.notes.Why.{Why}
-use Rattle.watch_machine.specs.declared.track.End.TheVariants.{At}
 use Rattle.watch_machine.specs.declared.track.Track.{Track}
 use Rattle.watch_machine.specs.declared.track.Try.{Try}
 use Rattle.watch_machine.specs.Answers.{answers_all, back_track, heard, lane_freed, noted, replied, silent, without_request}
-use Rattle.watch_machine.specs.Beginning.{begun, is_called, owing, owing_lookup, soon, sooner_try, untopped, untopped_track}
+use Rattle.watch_machine.specs.Beginning.{begun, is_called, is_start, owing, owing_lookup, owing_past, soon, sooner_try, untopped, untopped_track}
 use Rattle.watch_machine.specs.Clocks.{sec}
 use Rattle.watch_machine.specs.History.{Turn}
 use Rattle.watch_machine.specs.Lines.{is_due, is_due_try}
@@ -43,8 +41,8 @@ use Rattle.watch_machine.specs.Round.{asked_by_round as round_of}
 use Rattle.watch_machine.specs.Sending.{IsGoing, Place, due, is_partial, out_at, place, place_of, request, request_of, sent, sent_in, sent_track}
 use Rattle.watch_machine.specs.Settling.{is_real, settled, settled_track, timed}
 use Rattle.watch_machine.specs.State.{WatchState, each, no_track, track_at, track_in}
-use Rattle.watch_machine.specs.Step.{Step, StepClock, StepCommand, StepLooked, StepRenewed, known, readied, why}
-use Rattle.watch_machine.specs.Wanted.{is_open, need_of, wants}
+use Rattle.watch_machine.specs.Step.{Step, StepClock, StepCommand, StepLooked, StepRenewed, known, readied, told_earlier, why}
+use Rattle.watch_machine.specs.Wanted.{is_alive, is_open, need_of, wants}
 use Rattle.watch_machine.proofs.Cases.{if_both, if_cases}
 use Rattle.watch_machine.proofs.Seeing.{each_past, each_read}
 use Rattle.watch_machine.proofs.Within.{out_entry}
@@ -185,11 +183,16 @@ set_kept R same (x ∷ xs) zero y made (suc i) = same (track_in xs i)
 set_kept R same (x ∷ xs) (suc j) y made zero = same x
 set_kept R same (x ∷ xs) (suc j) y made (suc i) = set_kept R same xs j y made i
 
-owing_flag : (at : ℕ) (called : Bool) (x : Track) → Flag (owing at called x) x
+lookup_flag : (at : ℕ) (x : Track) → Flag (owing_lookup at x) x
+lookup_flag at x = if_both (λ y. Flag y x) x.out (record x { owes = true }) (record x { owes = true; attempt = Some (sooner_try (soon at x) x.attempt) }) refl refl
+
+owing_flag : (at : ℕ) (first called : Bool) (x : Track) → Flag (owing at first called x) x
 unfolding owing
-owing_flag at called x =
-    if_both (λ y. Flag y x) (called && is_open (sec at) x) (owing_lookup at x) x
-    (if_both (λ y. Flag y x) x.out (record x { owes = true }) (record x { owes = true; attempt = Some (sooner_try (soon at x) x.attempt) }) refl refl) refl
+owing_flag at first called x = if_both (λ y. Flag y x) (called && (first || is_open (sec at) x)) (owing_lookup at x) x (lookup_flag at x) refl
+
+past_flag : (at : ℕ) (x : Track) → Flag (owing_past at x) x
+unfolding owing_past
+past_flag at x = if_both (λ y. Flag y x) (is_alive (sec at) x) x (owing_lookup at x) refl (lookup_flag at x)
 
 pressed_flag : (margin : ℕ) (e : Entry) (need at : ℕ) (x : Track) → Flag (pressed_track margin e need at x) x
 unfolding pressed_track
@@ -215,7 +218,7 @@ begun_flag : (s : WatchState) (w : Option Why) (i : ℕ) → Flag (track_at (beg
 begun_flag s None i = refl
 begun_flag s (Some w) i =
     let xs = untopped s.tracks in
-    each_kept Flag refl (λ j. owing s.clocks.at (is_called s.forest xs s.clocks j)) xs (λ j x. owing_flag s.clocks.at (is_called s.forest xs s.clocks j) x) i
+    each_kept Flag refl (λ j. owing s.clocks.at (is_start w) (is_called s.forest xs s.clocks j)) xs (λ j x. owing_flag s.clocks.at (is_start w) (is_called s.forest xs s.clocks j) x) i
     ∙ each_kept Flag refl (λ j. untopped_track) s.tracks (λ j x. refl) i
 
 mid_flag : (s : WatchState) (wall elapsed : ℕ) (round : List ℕ) (i : ℕ) → Flag (track_at (pressed (readied s wall elapsed) round) i) (track_at s i)
@@ -237,7 +240,7 @@ begun_count : (s : WatchState) (w : Option Why) → length (begun s w).tracks �
 begun_count s None = refl
 begun_count s (Some w) =
     let xs = untopped s.tracks in
-    each_length (λ j. owing s.clocks.at (is_called s.forest xs s.clocks j)) xs ∙ each_length (λ j. untopped_track) s.tracks
+    each_length (λ j. owing s.clocks.at (is_start w) (is_called s.forest xs s.clocks j)) xs ∙ each_length (λ j. untopped_track) s.tracks
 
 mid_count : (s : WatchState) (wall elapsed : ℕ) (round : List ℕ) → length (pressed (readied s wall elapsed) round).tracks ≡ length s.tracks
 unfolding readied
@@ -566,7 +569,9 @@ pub turn_begin : (old new : WatchState) (output : Output) → Turn old Begin (Ok
 turn_begin old new output turn sound = subst (IsQuiet old) (sym turn.1.1) (record { out = refl; width = refl; sound = record { count = sound.count; once = sound.once } })
 
 known_flag : (old : WatchState) (i end : ℕ) (renewable : Bool) (k : ℕ) → Flag (track_at (known old i end renewable) k) (track_at old k)
-known_flag old i end renewable k = set_kept Flag (λ x. refl) old.tracks i (record (track_at old i) { end = At (min END_MAX end); renewable = renewable }) refl k
+known_flag old i end renewable k =
+    let x = told_earlier end renewable (track_at old i) in
+    set_kept Flag (λ y. refl) old.tracks i (owing_past old.clocks.at x) (past_flag old.clocks.at x) k
 
 pub turn_known : (old new : WatchState) (i end : ℕ) (renewable : Bool) (output : Output) → Turn old (Known i end renewable) (Ok output) new → MachineIsSound old → IsQuiet old new
 turn_known old new i end renewable output turn sound =

@@ -11,12 +11,13 @@ use Rattle.watch_machine.specs.declared.event.Operation.TheVariants.{Renew}
 use Rattle.watch_machine.specs.declared.event.Reply.TheVariants.{Told}
 use Rattle.watch_machine.specs.declared.fault.WatchFault.{WatchFault}
 use Rattle.watch_machine.specs.declared.lanes.Out.{Out}
+use Rattle.watch_machine.specs.declared.track.End.TheVariants.{At}
 use Rattle.watch_machine.specs.declared.track.Track.{Track}
 use Rattle.watch_machine.specs.declared.track.Try.{Try}
 use Rattle.watch_machine.specs.Answers.{noted, replied}
 use Rattle.watch_machine.specs.Clocks.{sec}
 use Rattle.watch_machine.specs.History.{Turn, after_all}
-use Rattle.watch_machine.specs.Margins.{lead, own_by, own_margin, time, time_before}
+use Rattle.watch_machine.specs.Margins.{asking_margin, own_by, own_margin, time, time_before}
 use Rattle.watch_machine.specs.Outlook.{time_of}
 use Rattle.watch_machine.specs.Refusal.{request_out}
 use Rattle.watch_machine.specs.Renewed.{from_base, from_try, granted_from, renewed_track, state_renewed, time_from}
@@ -29,6 +30,7 @@ use Rattle.watch_laws.specs.Time.{AheadLaw}
 use Rattle.watch_laws.proofs.Grounds.{first_turns, last_turns, opened_base, ran_base}
 use Rattle.watch_laws.proofs.Lasting.{Bears, back_bears, same_bears}
 use Rattle.watch_laws.proofs.Tracking.{back_kept, replied_forest}
+use Rattle.watch_laws.proofs.Trying.{asking_least, own_same}
 
 -- the second from which a grant counts leaves the time two seconds after that of the request
 from_far :
@@ -43,20 +45,26 @@ from_far margin step seconds at since (Some t) le far = by t.base where
       if_cases (λ n. since / 1000 + 2 ≤ (n / 1000 + seconds) - own_by margin (min step seconds)) (nat_lt (at / 1000 + 1) (time_from margin step seconds (base / 1000))) base since
       (λ yes'. let late : at / 1000 + 1 < time_from margin step seconds (base / 1000) = grind (arith, nat_tests) in omega (arith, late, le)) (λ no'. omega (arith, far))
 
--- the time of a track after it
-granted_time :
+-- the own margin of a track after it, and its end
+granted_own :
     (margin : ℕ) (e : Entry) (at seconds : ℕ) (renewable : Bool) (from' : ℕ) (x : Track) →
-    (time margin e (granted_from e.step at seconds renewable from' x) ≡ (sec from' + seconds) - own_by margin (min e.step seconds))
-    × (own_margin margin e (granted_from e.step at seconds renewable from' x) ≡ own_by margin (min e.step seconds))
-unfolding time own_margin granted_from
-granted_time margin e at seconds renewable from' x = (refl, refl)
+    ((granted_from e.step at seconds renewable from' x).end ≡ At (sec from' + seconds)) × (own_margin margin e (granted_from e.step at seconds renewable from' x) ≡ own_by margin (min e.step seconds))
+unfolding own_margin granted_from
+granted_own margin e at seconds renewable from' x = (refl, refl)
 
--- time and own margin are by what a track bears
-bears_time : (margin : ℕ) (e : Entry) (y x : Track) → Bears y x → (time margin e y ≡ time margin e x) × (own_margin margin e y ≡ own_margin margin e x)
-unfolding time own_margin
-bears_time margin e y x h =
-    let g = ap (λ v. own_by margin (lead e.step v)) h.1.0 in
-    (ap (λ n. time_before y.end n) g ∙ ap (λ v. time_before v (own_by margin (lead e.step x.grant))) h.0, g)
+-- a time comes no sooner than the own margin before the end
+time_least : (margin : ℕ) (e : Entry) (x : Track) (end : ℕ) → x.end ≡ At end → end - own_margin margin e x ≤ time margin e x
+unfolding time
+time_least margin e x end is =
+    let asking = asking_margin margin e x in
+    let own = own_margin margin e x in
+    let less = asking_least margin e x in
+    let at : time_before x.end asking ≡ end - asking = ap (λ it. time_before it asking) is in
+    omega (arith, less, at)
+
+-- an own margin is by what a track bears
+bears_own : (margin : ℕ) (e : Entry) (y x : Track) → Bears y x → own_margin margin e y ≡ own_margin margin e x
+bears_own margin e y x h = own_same margin margin e e y x refl refl h.1.0
 
 renewed_far :
     (s new : WatchState) (q : Out) (seconds : ℕ) (renewable : Bool) (date : Option ℕ) (i : ℕ) → new ≡ replied (state_renewed s q (Told seconds renewable date)) q (Told seconds renewable date) → q.entry ≡ i → i < length s.tracks →
@@ -77,16 +85,14 @@ renewed_far s new q seconds renewable date i is own within before far =
     let bears : Bears (track_at new i) made =
     subst (λ (y : Track). Bears (track_at new i) y) there (subst (λ (y : WatchState). Bears (track_at y i) (track_at mid i)) (sym is) (back_kept Bears same_bears back_bears mid q reply i)) in
     let forest : new.forest ≡ g = ap (λ (y : WatchState). y.forest) is ∙ replied_forest mid q reply in
-    let same = bears_time g.margin e (track_at new i) made bears in
-    let is_time = granted_time g.margin e s.clocks.at seconds renewable from' x in
+    let same = bears_own g.margin e (track_at new i) made bears in
+    let is_time = granted_own g.margin e s.clocks.at seconds renewable from' x in
     let t : time_of new i ≡ time g.margin e (track_at new i) = ap (λ (h : Forest). time h.margin (entry_at h.entries i) (track_at new i)) forest in
     let o : own_margin new.forest.margin (entry_of new i) (track_at new i) ≡ own_margin g.margin e (track_at new i) = ap (λ (h : Forest). own_margin h.margin (entry_at h.entries i) (track_at new i)) forest in
-    let same0 = same.0 in
-    let same1 = same.1 in
-    let time0 = is_time.0 in
     let own0 = is_time.1 in
-    let late = from_far g.margin e.step seconds s.clocks.at q.since x.attempt before (omega (arith, far, o, same1, own0)) in
-    omega (arith, late, t, same0, time0)
+    let least = time_least g.margin e (track_at new i) (sec from' + seconds) (bears.0 ∙ is_time.0) in
+    let late = from_far g.margin e.step seconds s.clocks.at q.since x.attempt before (omega (arith, far, o, same, own0)) in
+    omega (arith, late, t, same, own0, least)
 
 turn_far :
     (width n : ℕ) (old new : WatchState) (event : Event) (result : Result Output WatchFault) (i seconds : ℕ) (renewable : Bool) (date : Option ℕ) → Turn old event result new → is_event_taken result ≡ true →

@@ -35,7 +35,7 @@ use Rattle.watch_machine.proofs.Cases.{if_both, if_cases, not_both}
 use Rattle.watch_laws.proofs.Clocking.{refused_stays}
 use Rattle.watch_laws.proofs.Going.{Goes, counts, entry_by, goes, named_of, one_sent, request_at, skips, some_named, times}
 use Rattle.watch_laws.proofs.Spacing.{after_flag, free_of, looked_other, looked_out, mid_flag, passed_over, readied_out, went}
-use Rattle.watch_laws.proofs.Tracking.{set_kept}
+use Rattle.watch_laws.proofs.Tracking.{known_out, set_kept}
 
 -- how many requests of an entry are out
 abbrev pub lanes_of : ℕ → List Out → ℕ
@@ -186,7 +186,7 @@ renewed_alone old new (Some q) reply output step alone =
     answered old (state_renewed s q reply) new q reply step.1 refl (λ i apart. get_or-set_other s.tracks q.entry i _ no_track (λ e. apart (sym e))) alone
 
 known_flag : (s : WatchState) (j end : ℕ) (renewable : Bool) (i : ℕ) → (track_at (known s j end renewable) i).out ≡ (track_at s i).out
-known_flag s j end renewable i = set_kept (λ (y x : Track). y.out ≡ x.out) (λ x. refl) s.tracks j _ refl i
+known_flag s j end renewable i = set_kept (λ (y x : Track). y.out ≡ x.out) (λ x. refl) s.tracks j _ (known_out s.clocks.at end renewable (track_at s j)) i
 
 step_alone : (old new : WatchState) (event : Event) (output : Output) → Step old event output new → IsAlone old → IsAlone new
 step_alone old new (Clock wall elapsed) output step alone =

@@ -12,7 +12,7 @@ use Rattle.watch_machine.specs.declared.notes.Why.{Why}
 use Rattle.watch_machine.specs.declared.track.Track.{Track}
 use Rattle.watch_machine.specs.declared.track.Try.{Try}
 use Rattle.watch_machine.specs.Answers.{back_track, back_try, failing}
-use Rattle.watch_machine.specs.Beginning.{begun, is_called, is_pressed, owed, owing, owing_lookup, soon, sooner_try, untopped, untopped_track}
+use Rattle.watch_machine.specs.Beginning.{begun, is_called, is_pressed, is_start, owed, owing, owing_lookup, owing_past, soon, sooner_try, untopped, untopped_track}
 use Rattle.watch_machine.specs.Clocks.{sec}
 use Rattle.watch_machine.specs.Looked.{at_once, refused_try, told_try, untold}
 use Rattle.watch_machine.specs.Margins.{has_come}
@@ -20,10 +20,10 @@ use Rattle.watch_machine.specs.Press.{asked_track, dropped, is_fresh, let_go, pr
 use Rattle.watch_machine.specs.Renewed.{from_base, from_try, granted_try, time_from, ungranted}
 use Rattle.watch_machine.specs.Settling.{settled, settled_track, settled_try, timed}
 use Rattle.watch_machine.specs.State.{WatchState, no_track, track_at, track_in}
-use Rattle.watch_machine.specs.Step.{readied, why}
+use Rattle.watch_machine.specs.Step.{readied, told_earlier, why}
 use Rattle.watch_machine.specs.Wanted.{is_alive, is_open, need_of, wants}
 use Rattle.watch_machine.proofs.Cases.{if_both, if_cases, not_both}
-use Rattle.watch_laws.proofs.Tracking.{each_kept}
+use Rattle.watch_laws.proofs.Tracking.{each_kept, known_is}
 
 -- the clock at which a try began, if it counts from one, is no later than n
 abbrev SetBy : ℕ → Option ℕ → Type 0
@@ -82,14 +82,20 @@ sooner_base : (n from : ℕ) (o : Option Try) → BaseBy n o → BaseBy n (Some 
 sooner_base n from None h = tt
 sooner_base n from (Some t) h = h
 
-owing_passes : (now asked at : ℕ) (called : Bool) (x : Track) → Passes now asked (owing at called x) x
+owing_passes : (now asked at : ℕ) (first called : Bool) (x : Track) → Passes now asked (owing at first called x) x
 unfolding owing
-owing_passes now asked at called x =
-    if_both (λ y. Passes now asked y x) (called && is_open (sec at) x) (owing_lookup at x) x
+owing_passes now asked at first called x =
+    if_both (λ y. Passes now asked y x) (called && (first || is_open (sec at) x)) (owing_lookup at x) x
     (if_both (λ y. Passes now asked y x) x.out (record x { owes = true }) (record x { owes = true; attempt = Some (sooner_try (soon at x) x.attempt) })
     (refl, λ h. record { base = h.base; out = h.out })
     (refl, λ h. record { base = sooner_base now (soon at x) x.attempt h.base; out = λ o. sooner_base asked (soon at x) x.attempt (h.out o) }))
     (same_passes now asked x)
+
+-- an end that is handed in
+pub known_timely : (now asked at end : ℕ) (renewable : Bool) (x : Track) → Timely now asked x → Timely now asked (owing_past at (told_earlier end renewable x))
+known_timely now asked at end renewable x h =
+    known_is (Timely now asked) at end renewable x (record { base = h.base; out = h.out }) (λ out. record { base = h.base; out = h.out })
+    (λ free. record { base = sooner_base now (soon at x) x.attempt h.base; out = λ o. sooner_base asked (soon at x) x.attempt (h.out o) })
 
 dropped_base : (n : ℕ) (x : Track) (o : Option Try) → BaseBy n o → BaseBy n (dropped x o)
 dropped_base n x None h = tt
@@ -129,7 +135,7 @@ begun_passes now asked s (Some w) i =
     let R : Track → Track → Type 0 = Passes now asked in
     let xs = untopped s.tracks in
     both_pass now asked (track_at (begun s (Some w)) i) (track_in xs i) (track_at s i)
-    (each_kept R (same_passes now asked no_track) (λ j. owing s.clocks.at (is_called s.forest xs s.clocks j)) xs (λ j x. owing_passes now asked s.clocks.at (is_called s.forest xs s.clocks j) x) i)
+    (each_kept R (same_passes now asked no_track) (λ j. owing s.clocks.at (is_start w) (is_called s.forest xs s.clocks j)) xs (λ j x. owing_passes now asked s.clocks.at (is_start w) (is_called s.forest xs s.clocks j) x) i)
     (each_kept R (same_passes now asked no_track) (λ j. untopped_track) s.tracks (λ j x. untopped_passes now asked x) i)
 
 pub readied_passes : (now asked : ℕ) (s : WatchState) (wall elapsed i : ℕ) → Passes now asked (track_at (readied s wall elapsed) i) (track_at s i)

@@ -1,5 +1,5 @@
 -- Begins: when a clock begins anew, and what a beginning leaves. For the law of when everything is looked up anew.
-use Rattle.std.proofs.Common.{◌≡◌, ◌⊎◌, ◌∙◌, ℕ, ◌+◌, ◌<◌, ◌≤◌, Bool, true, false, not, ◌&&◌, if◌then◌else◌, List, [], ◌∷◌, Option, Some, None, Result, Ok, Err, is_none, is_some, length, min, nat_le, nat_lt, refl, sym, ap, subst, arith, inl, inr, true≢false}
+use Rattle.std.proofs.Common.{◌≡◌, ◌⊎◌, ◌∙◌, ℕ, ◌+◌, ◌<◌, ◌≤◌, Bool, true, false, not, ◌&&◌, ◌||◌, if◌then◌else◌, List, [], ◌∷◌, Option, Some, None, Result, Ok, Err, is_none, is_some, length, min, nat_le, nat_lt, refl, sym, ap, subst, arith, inl, inr, true≢false}
 use Rattle.std.proofs.lemmas.Bool.{and_from, and_parts, cases_Bool, cases_lt, cond-false, cond-true}
 use Rattle.std.proofs.lemmas.Bool.Decides.{nat_tests}
 use Rattle.std.proofs.lemmas.List.{get_or_past}
@@ -15,7 +15,7 @@ use Rattle.watch_machine.specs.declared.notes.Why.{Why}
 use Rattle.watch_machine.specs.declared.notes.Why.TheVariants.{Asked, Jump, Day}
 use Rattle.watch_machine.specs.declared.reading.TheConstants.{READING_MAX}
 use Rattle.watch_machine.specs.declared.track.Track.{Track}
-use Rattle.watch_machine.specs.Beginning.{beginning, begun, is_called, is_past, is_pressed, is_urgent, owing, owing_lookup, soon, sooner_try, untopped, untopped_track}
+use Rattle.watch_machine.specs.Beginning.{beginning, begun, is_called, is_past, is_pressed, is_start, is_urgent, owing, owing_lookup, soon, sooner_try, untopped, untopped_track}
 use Rattle.watch_machine.specs.Clocks.{reading, sec}
 use Rattle.watch_machine.specs.History.{Turn, after_all}
 use Rattle.watch_machine.specs.Press.{pressed}
@@ -175,17 +175,17 @@ begun_anew : (s : WatchState) (w : Option Why) → is_some w ≡ true → ((begu
 begun_anew s None is = absurd cc
 begun_anew s (Some w) is = (refl, (refl, refl))
 
-owing_top : (at : ℕ) (called : Bool) (x : Track) → (owing at called x).top ≡ x.top
+owing_top : (at : ℕ) (first called : Bool) (x : Track) → (owing at first called x).top ≡ x.top
 unfolding owing
-owing_top at called x =
-    if_both (λ (y : Track). y.top ≡ x.top) (called && is_open (sec at) x) (owing_lookup at x) x
+owing_top at first called x =
+    if_both (λ (y : Track). y.top ≡ x.top) (called && (first || is_open (sec at) x)) (owing_lookup at x) x
     (if_both (λ (y : Track). y.top ≡ x.top) x.out (record x { owes = true }) (record x { owes = true; attempt = Some (sooner_try (soon at x) x.attempt) }) refl refl) refl
 
-begun_top : (s : WatchState) (w : Option Why) (i : ℕ) → is_some w ≡ true → i < length s.tracks → (track_at (begun s w) i).top ≡ false
+pub begun_top : (s : WatchState) (w : Option Why) (i : ℕ) → is_some w ≡ true → i < length s.tracks → (track_at (begun s w) i).top ≡ false
 begun_top s None i is within = absurd cc
 begun_top s (Some w) i is within =
     let xs = untopped s.tracks in
-    each_kept (λ y x. y.top ≡ x.top) refl (λ j. owing s.clocks.at (is_called s.forest xs s.clocks j)) xs (λ j x. owing_top s.clocks.at (is_called s.forest xs s.clocks j) x) i
+    each_kept (λ y x. y.top ≡ x.top) refl (λ j. owing s.clocks.at (is_start w) (is_called s.forest xs s.clocks j)) xs (λ j x. owing_top s.clocks.at (is_start w) (is_called s.forest xs s.clocks j) x) i
     ∙ ap (λ (x : Track). x.top) (each_read (λ j. untopped_track) s.tracks i within)
 
 module _ (old new : WatchState) (wall elapsed : ℕ) (output : Output) (step : StepClock old wall elapsed output new) where

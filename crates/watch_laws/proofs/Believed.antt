@@ -19,9 +19,9 @@ use Rattle.keep_tree.proofs.Placed.{Replaces, parents_first, range_from_parts, r
 use Rattle.watch_machine.specs.declared.clocks.Clocks.{Clocks}
 use Rattle.watch_machine.specs.Clocks.{of_wall, to_here}
 use Rattle.watch_machine.specs.State.{WatchState, second}
-use Rattle.watch_machine.specs.Wanted.{ceiling_here, need_here, need_of, seen_entry, view, wanted_need}
+use Rattle.watch_machine.specs.Wanted.{ceiling_here, cut_need, need_here, seen_entry, view}
 use Rattle.watch_machine.proofs.Cases.{if_cases}
-use Rattle.watch_laws.specs.Calm.{believed_forest, terms}
+use Rattle.watch_laws.specs.Calm.{believed_forest, planned_need, terms}
 
 -- entries that are written by their index
 pub written_at : (f : ℕ → Entry) (n i : ℕ) → i < n → entry_at (map f (range_with_len 0 n)) i ≡ f i
@@ -167,8 +167,8 @@ written_same f h n first each =
     }
 
 -- what an entry carries
-pub carried_believed : (s : WatchState) → IsForest s.forest → (i : ℕ) → carried (believed_forest s).entries (second s) i ≡ wanted_need s i
-unfolding believed_forest need_of terms
+pub carried_believed : (s : WatchState) → IsForest s.forest → (i : ℕ) → carried (believed_forest s).entries (second s) i ≡ planned_need s i
+unfolding believed_forest cut_need terms
 carried_believed s forest i =
     let n = length s.forest.entries in
     let first = parents_first (believed_forest s) (believed_is_forest s forest) in

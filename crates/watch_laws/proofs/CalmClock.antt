@@ -41,8 +41,8 @@ use Rattle.watch_machine.specs.Wanted.{believed, is_alive, is_wanted, wanted_nee
 use Rattle.watch_machine.proofs.Cases.{value_is}
 use Rattle.watch_laws.specs.Calm.{IsCalm, IsCalmSecond, IsKeepable, IsPlanNow, NonePassed, asks_now, believed_forest, ends, in_plan_at, leads_to, terms}
 use Rattle.watch_laws.proofs.Believed.{believed_at, believed_count, believed_is_forest, believed_margin, carried_believed}
-use Rattle.watch_laws.proofs.Calming.{AreAlike, IsIdle, IsKept, ends_alike, forest_alike, idle_on, kept_same, lead_alike, led_parts, need_kept, need_less, plan_alike, terms_alike, unpressed}
-use Rattle.watch_laws.proofs.Foreseen.{led_by, short_led, time_is, wanted_short}
+use Rattle.watch_laws.proofs.Calming.{AreAlike, IsIdle, IsKept, ends_alike, forest_alike, idle_on, kept_same, lead_alike, need_kept, need_less, plan_alike, terms_alike, unpressed, untopped_on}
+use Rattle.watch_laws.proofs.Foreseen.{led_by, led_parts, short_led, time_is, wanted_short}
 use Rattle.watch_laws.proofs.OfPlan.{come_asked, come_at, none_opens, of_plan, opens_at, opens_now, some_opens}
 use Rattle.watch_laws.proofs.OnPlan.{Goes, IsOn, IsTimed, IsTried, attempt_sent, bears_alike, end_pressed, mid_read, need_alike, new_count, none_passed, out_idle, out_pressed, owes_kept, past_kept, plan_keepable, plan_schedule, rise_behind, rise_later, sends, some_not_none, stays, timed_alike, tried_on, waits_new, wanted_alike}
 use Rattle.watch_laws.proofs.Opener.{bearing, mid_bears}
@@ -102,9 +102,9 @@ quiet_on s r g e last wakes ts s0 requests goes step to_come from not_fresh plan
     let own : (i : ℕ) → (attempt_at r i ≡ None) ⊎ (is_wanted r i ≡ true) = λ i. elim (goes.each i) as (λ _. (attempt_at r i ≡ None) ⊎ (is_wanted r i ≡ true)) [
       | inl idle ↦ inl (ap (λ (x : Track). x.attempt) (step.timed.tracks i) ∙ idle.none)
       | inr tried ↦
-          let short = wanted_short s i tried.wanted in
+          let short = wanted_short s i tried.wanted tried.top in
           let ahead = alive i tried in
-          inr (wanted_alike r s i (timed_bears r s step.timed i) (need_kept r s forest_r goes.forest alike_r later i (omega arith)) ∙ tried.wanted)
+          inr (wanted_alike r s i (timed_bears r s step.timed i) tried.top (need_kept r s forest_r goes.forest alike_r later i (omega arith)) ∙ tried.wanted)
     ] in
     let kept : (i : ℕ) → attempt_at (pressed r []) i ≡ attempt_at r i = λ i. elim (cases_lt i (length r.forest.entries)) as (λ _. attempt_at (pressed r []) i ≡ attempt_at r i) [
       | inl within ↦ stays r [] requests i (not_fresh i within) refl (own i)
@@ -184,7 +184,7 @@ none_fresh s r g e last ts goes timed' between i =
             | inr tried ↦ (let p = is_pressed_so r i tried.try (at ∙ tried.is) tried.pressed in let q = parts.1.1 in absurd cc)
             | inl idle ↦
                 let less = need_less r s forest_r goes.forest (timed_alike r s timed') timed'.later i in
-                let short = wanted_short r i parts.0 in
+                let short = wanted_short r i parts.0 (untopped_on r s (timed_alike r s timed') timed'.later i (ap bearing same) idle.untopped parts.0) in
                 let end = ends_alike r s i (ap bearing same) in
                 let led = led_by s goes.forest e (keepable_of s g e last ts goes) i (sym idle.end) (omega arith) in
                 let l = between.others i led.within led.wanted (unpressed s i idle.none) in
@@ -289,7 +289,7 @@ unfolding ends
 opened_tried r asked requests now e us i forest calm count wanted named is_named at gains grows owes =
     let new = after_clock r asked requests in
     let alike = pressed_alike r asked requests in
-    let led = short_led r forest calm.keepable i (wanted_short r i wanted) in
+    let led = short_led r forest calm.keepable i (wanted_short r i wanted (calm.untopped i wanted)) in
     let parts = led_parts (track_at r i).renewable (track_at r i).top led.led in
     let room = led.room in
     let above = forest.margin_above in
@@ -317,7 +317,7 @@ opened_tried r asked requests now e us i forest calm count wanted named is_named
       gains = gains ∙ ap (λ n. renewal (terms r i) n) at ∙ sym (ap (λ (x : Entry). renewal x now.at) t);
       grows = omega arith;
       ahead = omega arith;
-      wanted = wanted_alike new r i bears need ∙ wanted;
+      wanted = wanted_alike new r i bears parts.1 need ∙ wanted;
       in_plan = plan_alike new r refl i lead ∙ calm.in_plan i w wanted;
       led = lead ∙ calm.led i w wanted;
       renewable = ap (λ (x : Track). x.renewable) bears ∙ parts.0;
@@ -327,7 +327,7 @@ opened_tried r asked requests now e us i forest calm count wanted named is_named
     }
 
 with_end : (s : WatchState) (e d : ℕ → ℕ) (i : ℕ) → e i ≡ d i → IsIdle s e i → IsIdle s d i
-with_end s e d i same idle = record { none = idle.none; end = idle.end ∙ same; owes = idle.owes; out = idle.out; in_plan = idle.in_plan; led = idle.led }
+with_end s e d i same idle = record { none = idle.none; end = idle.end ∙ same; owes = idle.owes; out = idle.out; in_plan = idle.in_plan; led = idle.led; untopped = idle.untopped }
 
 -- a round opens
 opening_on :
@@ -441,6 +441,7 @@ resting_on s r g e last wakes ts s0 requests round goes step to_come from is_rou
     let calm : IsCalm r = record {
       keepable = keepable;
       in_plan = λ i within wanted. (idle_r i).in_plan wanted;
+      untopped = λ i wanted. (idle_r i).untopped wanted;
       led = λ i within wanted. (idle_r i).led wanted;
       unpressed = λ i within. unpressed r i (idle_r i).none;
       unasked = λ i within. (idle_r i).out;

@@ -187,14 +187,15 @@ idle_at_rest s rest i = record {
   end = refl;
   owes = rest.owes i;
   out = rest.unmarked i;
-  in_plan = λ wanted. rest.calm.in_plan i (short_led s rest.forest rest.calm.keepable i (wanted_short s i wanted)).within wanted;
-  led = λ wanted. rest.calm.led i (short_led s rest.forest rest.calm.keepable i (wanted_short s i wanted)).within wanted;
+  in_plan = λ wanted. rest.calm.in_plan i (short_led s rest.forest rest.calm.keepable i (wanted_short s i wanted (rest.calm.untopped i wanted))).within wanted;
+  untopped = λ wanted. rest.calm.untopped i wanted;
+  led = λ wanted. rest.calm.led i (short_led s rest.forest rest.calm.keepable i (wanted_short s i wanted (rest.calm.untopped i wanted))).within wanted;
 }
 
 pub calm_days : CalmLaw
 unfolding believed_forest
 calm_days s turns rest h calm =
-    let some = there_is_plan s rest.forest rest.calm.keepable rest.calm.in_plan in
+    let some = there_is_plan s rest.forest rest.calm.keepable rest.calm.in_plan rest.calm.untopped in
     let ts = some.0 in
     let last : Wake = record { at = second s; asked = [] } in
     let goes : Goes s (believed_forest s) (ends s) last ts = record {

@@ -229,6 +229,7 @@ module _ (s : WatchState) (g : Forest) (e : ℕ → ℕ) (last : Wake) (ts : Lis
       let end : e j ≡ now + seconds = tried.gains ∙ sym to ∙ from in
       let end' = new_end in
       let led = new_lead in
+      let top = ap (λ (y : Track). y.top) own ∙ granted_is.top in
       elim (by_rule (terms s j).ceiling now (entry_of s j).step seconds is) as (λ _. IsIdle new e j) [
         | inl whole ↦
             let same_lead : lead_at new j ≡ (entry_of s j).step = omega arith in
@@ -240,12 +241,13 @@ module _ (s : WatchState) (g : Forest) (e : ℕ → ℕ) (last : Wake) (ts : Lis
               out = out;
               in_plan = λ wanted. planned';
               led = λ wanted. same_lead ∙ sym (entry_step new s refl j);
+              untopped = λ wanted. top;
             }
         | inr short ↦
             let c = now + seconds in
             let high = tried.more c short.1 in
             let less = short.0 in
-            let never : is_wanted new j ≡ true → ⊥ = λ wanted. (let w = wanted_short new j wanted in omega arith) in
+            let never : is_wanted new j ≡ true → ⊥ = λ wanted. (let w = wanted_short new j wanted top in omega arith) in
             record {
               none = none;
               end = new_end;
@@ -253,6 +255,7 @@ module _ (s : WatchState) (g : Forest) (e : ℕ → ℕ) (last : Wake) (ts : Lis
               out = out;
               in_plan = λ wanted. absurd (never wanted);
               led = λ wanted. absurd (never wanted);
+              untopped = λ wanted. top;
             }
       ]
 

@@ -19,13 +19,15 @@ use Rattle.watch_machine.specs.declared.track.Track.{Track}
 use Rattle.watch_machine.specs.Beginning.{is_pressed, is_pressed_try}
 use Rattle.watch_machine.specs.Clocks.{of_wall, to_here}
 use Rattle.watch_machine.specs.Margins.{is_in_plan, lead, own_margin}
-use Rattle.watch_machine.specs.State.{WatchState, attempt_at, entry_of, second, track_at}
-use Rattle.watch_machine.specs.Wanted.{believed, is_fixed, is_wanted, least, least_over, limit, need_here, seen_entry, wanted_need}
+use Rattle.watch_machine.specs.State.{WatchState, attempt_at, entry_of, has_last_try, second, track_at}
+use Rattle.watch_machine.specs.Wanted.{believed, free_need, is_fixed, is_wanted, least, least_over, limit, need_here, seen_entry, wanted_need, wants}
 use Rattle.watch_machine.proofs.Carries.{carried_less, carried_same}
-use Rattle.watch_laws.specs.Calm.{believed_forest, ends, in_plan_at, lead_at, terms}
+use Rattle.watch_laws.specs.Calm.{believed_forest, ends, in_plan_at, lead_at, planned_need, terms}
 use Rattle.watch_laws.proofs.Believed.{carried_believed}
 use Rattle.watch_laws.proofs.Foreseen.{IsLed, led_by, wanted_short}
-use Rattle.watch_laws.proofs.Opener.{bearing}
+use Rattle.watch_laws.proofs.Needing.{tries_last, wants_by, wants_parts}
+use Rattle.watch_laws.proofs.Opener.{bearing, wants_same}
+use Rattle.watch_laws.proofs.Trying.{need_free}
 
 -- two states in which as much is believed of each entry, but for the ends of those that may be led further
 pub record AreAlike (new old : WatchState) : Type 0 where
@@ -95,7 +97,7 @@ forest_alike new old a =
     ∙ ap (λ (g : Forest). record { entries = map (terms old) (range_with_len 0 (length g.entries)); margin = g.margin }) a.forest
 
 -- while time passes, no more is carried
-pub need_less : (new old : WatchState) → IsForest new.forest → IsForest old.forest → AreAlike new old → second old ≤ second new → (i : ℕ) → wanted_need new i ≤ wanted_need old i
+pub need_less : (new old : WatchState) → IsForest new.forest → IsForest old.forest → AreAlike new old → second old ≤ second new → (i : ℕ) → planned_need new i ≤ planned_need old i
 need_less new old forest forest' a later i =
     let n = carried_believed new forest i in
     let o = carried_believed old forest' i in
@@ -105,14 +107,64 @@ need_less new old forest forest' a later i =
 
 -- and as much, as long as the need is ahead
 pub need_kept :
-    (new old : WatchState) → IsForest new.forest → IsForest old.forest → AreAlike new old → second old ≤ second new → (i : ℕ) → second new < wanted_need old i →
-    wanted_need new i ≡ wanted_need old i
+    (new old : WatchState) → IsForest new.forest → IsForest old.forest → AreAlike new old → second old ≤ second new → (i : ℕ) → second new < planned_need old i →
+    planned_need new i ≡ planned_need old i
 need_kept new old forest forest' a later i ahead =
     let n = carried_believed new forest i in
     let o = carried_believed old forest' i in
     let same = ap (λ (g : Forest). carried g.entries (second new) i) (forest_alike new old a) in
     let kept = carried_same (believed_forest old).entries (second old) (second new) i later (omega arith) in
     omega arith
+
+-- nor would more be with no limit at all
+abbrev free_entries : List Entry → BrokerOffset → WallOffset → List Entry
+free_entries es broker wall =
+    map (λ k. record (entry_at es k) { need = if (entry_at es k).need == 0 then 0 else min LAST (max (to_here broker (entry_at es k).need) (to_here (of_wall wall) (entry_at es k).need)) }) (range_with_len 0 (length es))
+
+unfoldable pub free_by : List Entry → BrokerOffset → WallOffset → ℕ → ℕ → ℕ
+free_by es broker wall now i = carried (free_entries es broker wall) now i
+
+pub free_is : (s : WatchState) (i : ℕ) → free_need s.forest.entries s.clocks i ≡ free_by s.forest.entries s.clocks.broker s.clocks.wall (second s) i
+unfolding free_need need_here free_by
+free_is s i = refl
+
+pub free_alike :
+    (new old : WatchState) → new.forest ≡ old.forest → new.clocks.broker ≡ old.clocks.broker → new.clocks.wall ≡ old.clocks.wall → (i : ℕ) →
+    free_need new.forest.entries new.clocks i ≡ free_by old.forest.entries old.clocks.broker old.clocks.wall (second new) i
+free_alike new old forest broker wall i =
+    free_is new i ∙ ap (λ (g : Forest). free_by g.entries new.clocks.broker new.clocks.wall (second new) i) forest ∙ ap₂ (λ b w. free_by old.forest.entries b w (second new) i) broker wall
+
+later_less : (es : List Entry) (broker : BrokerOffset) (wall : WallOffset) (now then' i : ℕ) → now ≤ then' → free_by es broker wall then' i ≤ free_by es broker wall now i
+unfolding free_by
+later_less es broker wall now then' i later = carried_less (free_entries es broker wall) now then' i later
+
+free_less : (new old : WatchState) → AreAlike new old → second old ≤ second new → (i : ℕ) → free_need new.forest.entries new.clocks i ≤ free_need old.forest.entries old.clocks i
+free_less new old a later i =
+    let n = free_alike new old a.forest a.broker a.wall i in
+    let o = free_is old i in
+    let less = later_less old.forest.entries old.clocks.broker old.clocks.wall (second old) (second new) i later in
+    omega (arith, n, o, less)
+
+-- so whoever is at its top is wanted only where it was before
+wants_more : (x : Track) (m n : ℕ) → m ≤ n → wants x m ≡ true → wants x n ≡ true
+wants_more x m n more h = wants_by x m n h (let last = (wants_parts x m h).1.1.1 in omega (arith, more, last))
+
+pub untopped_on :
+    (new old : WatchState) → AreAlike new old → second old ≤ second new → (i : ℕ) → bearing (track_at new i) ≡ bearing (track_at old i) → (is_wanted old i ≡ true → (track_at old i).top ≡ false) →
+    is_wanted new i ≡ true → (track_at new i).top ≡ false
+untopped_on new old a later i same untopped wanted =
+    let y = track_at new i in
+    let x = track_at old i in
+    elim (cases_Bool y.top) as (λ _. y.top ≡ false) [
+      | inr led ↦ led
+      | inl topped ↦
+          let tries : has_last_try y ≡ true = tries_last y (wanted_need new i) topped wanted in
+          let n = need_free new.forest.entries new.tracks new.clocks i tries in
+          let o = need_free old.forest.entries old.tracks old.clocks i (sym (ap has_last_try same) ∙ tries) in
+          let less = free_less new old a later i in
+          let before : is_wanted old i ≡ true = sym (wants_same y x (wanted_need old i) same) ∙ wants_more y (wanted_need new i) (wanted_need old i) (omega (arith, n, o, less)) wanted in
+          ap (λ (z : Track). z.top) same ∙ untopped before
+    ]
 
 pub lead_alike : (new old : WatchState) → new.forest ≡ old.forest → (i : ℕ) → (track_at new i).grant ≡ (track_at old i).grant → lead_at new i ≡ lead_at old i
 lead_alike new old forest i same = ap₂ (λ (g : Forest) (o : Option Grant). lead (entry_at g.entries i).step o) forest same
@@ -128,7 +180,7 @@ pub ends_alike : (new old : WatchState) (i : ℕ) → bearing (track_at new i) �
 unfolding ends
 ends_alike new old i same = ap (λ (x : Track). believed x.end) same
 
--- an entry of which nothing is asked: it ends as it should, and a renewal leads it as far as its step
+-- an entry of which nothing is asked: it ends as it should, and if it is wanted it is not at its top, and a renewal leads it as far as its step
 pub record IsIdle (s : WatchState) (e : ℕ → ℕ) (i : ℕ) : Type 0 where
   pub none : attempt_at s i ≡ None
   pub end : ends s i ≡ e i
@@ -136,11 +188,7 @@ pub record IsIdle (s : WatchState) (e : ℕ → ℕ) (i : ℕ) : Type 0 where
   pub out : (track_at s i).out ≡ false
   pub in_plan : is_wanted s i ≡ true → in_plan_at s i ≡ true
   pub led : is_wanted s i ≡ true → lead_at s i ≡ (entry_of s i).step
-
-pub led_parts : (renewable top : Bool) → renewable && not top ≡ true → (renewable ≡ true) × (top ≡ false)
-led_parts true false h = (refl, refl)
-led_parts true true h = absurd cc
-led_parts false top h = absurd cc
+  pub untopped : is_wanted s i ≡ true → (track_at s i).top ≡ false
 
 pub unpressed : (s : WatchState) (i : ℕ) → attempt_at s i ≡ None → is_pressed (track_at s i) ≡ false
 unpressed s i none = ap is_pressed_try none
@@ -164,7 +212,8 @@ idle_on new old e forest forest' a later keepable i same out idle =
     let l = lead_alike new old a.forest i (ap (λ (x : Track). x.grant) same.bears) in
     let plan = plan_alike new old a.forest i l in
     let step : (entry_of new i).step ≡ (entry_of old i).step = entry_step new old a.forest i in
-    let was : is_wanted new i ≡ true → IsLed old i = λ wanted. led_by old forest' e keepable i (sym idle.end) (let h = wanted_short new i wanted in omega arith) in
+    let untopped : is_wanted new i ≡ true → (track_at new i).top ≡ false = untopped_on new old a later i same.bears idle.untopped in
+    let was : is_wanted new i ≡ true → IsLed old i = λ wanted. led_by old forest' e keepable i (sym idle.end) (let h = wanted_short new i wanted (untopped wanted) in omega arith) in
     record {
       none = same.attempt ∙ idle.none;
       end = end ∙ idle.end;
@@ -172,4 +221,5 @@ idle_on new old e forest forest' a later keepable i same out idle =
       out = out;
       in_plan = λ wanted. plan ∙ idle.in_plan (was wanted).wanted;
       led = λ wanted. l ∙ idle.led (was wanted).wanted ∙ sym step;
+      untopped = untopped;
     }

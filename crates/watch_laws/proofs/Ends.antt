@@ -28,6 +28,7 @@ use Rattle.watch_machine.specs.declared.track.End.{End}
 use Rattle.watch_machine.specs.declared.track.End.TheVariants.{Unknown, At, Never}
 use Rattle.watch_machine.specs.declared.track.Track.{Track}
 use Rattle.watch_machine.specs.Answers.{noted, replied, with_track, without_request}
+use Rattle.watch_machine.specs.Beginning.{owing_past}
 use Rattle.watch_machine.specs.Clocks.{dated_by, first_clocks, is_ahead, is_behind, is_stepped, moment_at_reading, ms, reading, sec, walled}
 use Rattle.watch_machine.specs.History.{Turn}
 use Rattle.watch_machine.specs.Looked.{is_called_for, looked, told_state, told_track, told_try, untold_track}
@@ -38,7 +39,7 @@ use Rattle.watch_machine.specs.Round.{asked_by_round as round_of}
 use Rattle.watch_machine.specs.Sending.{out_at, sent, sent_in, sent_track}
 use Rattle.watch_machine.specs.Settling.{at_reading, clocks_after, date_of, dated, dated_by_all, dated_on, read}
 use Rattle.watch_machine.specs.State.{WatchState, entry_of, fresh_track, no_track, opened, track_at, track_in}
-use Rattle.watch_machine.specs.Step.{Step, StepClock, StepCommand, StepLooked, StepRenewed, known, readied}
+use Rattle.watch_machine.specs.Step.{Step, StepClock, StepCommand, StepLooked, StepRenewed, known, readied, told_earlier}
 use Rattle.watch_machine.proofs.Cases.{if_both, not_both, of_value}
 use Rattle.watch_machine.proofs.Within.{out_all, out_entry}
 use Rattle.watch_laws.specs.Ends.{AllNoLater, AreLivedFrom, IsHonest, IsNoLater, IsTrueEvent, IsTrueReply, Lived, NeverPastLaw, Origin, TimedWorld, asked_after, no_origin, tells, told_after}
@@ -47,11 +48,11 @@ use Rattle.watch_laws.specs.Load.{requests_asked_by, requests_at_turn}
 use Rattle.watch_laws.specs.Presence.{is_told}
 use Rattle.watch_laws.proofs.Alone.{IsAlone, flag, turn_alone}
 use Rattle.watch_laws.proofs.Answering.{looked_leaves, renewed_leaves, rest_of}
-use Rattle.watch_laws.proofs.Basing.{BaseBy, Passes, Timely, back_passes, base_later, from_try_by, granted_base, later_timely, mid_passes, none_timely, readied_passes, same_passes, told_base, ungranted_base, untold_base}
+use Rattle.watch_laws.proofs.Basing.{BaseBy, Passes, Timely, back_passes, base_later, from_try_by, granted_base, known_timely, later_timely, mid_passes, none_timely, readied_passes, same_passes, told_base, ungranted_base, untold_base}
 use Rattle.watch_laws.proofs.Clocking.{begun_some, readied_clocks, refused_stays}
 use Rattle.watch_laws.proofs.Sparing.{found_lane}
 use Rattle.watch_laws.proofs.Spacing.{looked_other, looked_out, not_of, passed_over, readied_out, replied_out, same_index}
-use Rattle.watch_laws.proofs.Tracking.{back_kept, each_holds, set_holds, set_kept}
+use Rattle.watch_laws.proofs.Tracking.{back_kept, each_holds, known_is, set_holds, set_kept}
 
 -- an end, if it is one, comes no later than the real one
 abbrev EndBy : TimedWorld → ℕ → ℕ → Origin → End → Type 0
@@ -500,9 +501,9 @@ known_stands w i now asked j told o real old new end renewable is alone so h =
     let there = known old j end renewable in
     let c = old.clocks in
     let n = w.reading asked + c.phase in
-    let y = record (track_at old j) { end = At (min END_MAX end); renewable = renewable } in
+    let y = owing_past c.at (told_earlier end renewable (track_at old j)) in
     let timely : Timely c.at n (track_at there i) =
-    set_kept (λ (z x : Track). Timely c.at n x → Timely c.at n z) (λ x k. k) old.tracks j y (λ k. record { base = k.base; out = k.out }) i h.timely in
+    set_kept (λ (z x : Track). Timely c.at n x → Timely c.at n z) (λ x k. k) old.tracks j y (known_timely c.at n c.at end renewable (track_at old j)) i h.timely in
     let stands : (after : Origin) → EndBy w c.phase real after (track_at there i).end → Stands w i now asked after real new =
     λ after e. subst (λ (x : WatchState). Stands w i now asked after real x) (sym is)
     (record { alone = subst IsAlone is alone; past = h.past; at = h.at; unbegun = h.unbegun; out = h.out; end = e; timely = timely }) in
@@ -510,7 +511,8 @@ known_stands w i now asked j told o real old new end renewable is alone so h =
       | inl same ↦
           let mine = eqb-true j i same in
           subst (λ x. Stands w i now asked x real new) (sym (cond-true (j == i) o told same))
-          (stands o (subst (λ k. EndBy w c.phase real o (track_at there k).end) mine (set_holds (λ x. EndBy w c.phase real o x.end) tt old.tracks j y (known_end w c.phase end real o (so mine)))))
+          (stands o (subst (λ k. EndBy w c.phase real o (track_at there k).end) mine (set_holds (λ x. EndBy w c.phase real o x.end) tt old.tracks j y
+          (let k = known_end w c.phase end real o (so mine) in known_is (λ x. EndBy w c.phase real o x.end) c.at end renewable (track_at old j) k (λ out. k) (λ free. k)))))
       | inr other ↦
           let apart : i ≢ j = λ e. not_both (subst (λ k. (k == i) ≡ true) e (same_index i)) other in
           subst (λ x. Stands w i now asked x real new) (sym (cond-false (j == i) o told other))

@@ -17,7 +17,7 @@ use Rattle.watch_machine.specs.declared.track.End.TheVariants.{At}
 use Rattle.watch_machine.specs.declared.track.Track.{Track}
 use Rattle.watch_machine.specs.declared.track.Try.{Try}
 use Rattle.watch_machine.specs.Answers.{answers_all, back_track, back_try, due_again, failing, is_back, lane_freed, presence_gone, replied, silent, without_request}
-use Rattle.watch_machine.specs.Beginning.{begun, hastened, is_called, is_pressed, is_pressed_try, owed, owing, owing_lookup, soon, sooner_try, untopped, untopped_track}
+use Rattle.watch_machine.specs.Beginning.{begun, hastened, is_called, is_pressed, is_pressed_try, is_start, owed, owing, owing_lookup, soon, sooner_try, untopped, untopped_track}
 use Rattle.watch_machine.specs.Clocks.{ms, sec}
 use Rattle.watch_machine.specs.Lines.{is_first, rested}
 use Rattle.watch_machine.specs.Looked.{untold, untold_track, untold_try}
@@ -85,10 +85,10 @@ module _ (at bound : ℕ) (S : Type 0) where
       let soon' = k.soon in
       subst (IsKept at bound S) same (record { settled = k.settled; soon = omega (arith, soon'); first = k.first })
 
-  owing_stands : (called : Bool) (x : Track) → Stands x → Stands (owing at called x)
+  owing_stands : (first called : Bool) (x : Track) → Stands x → Stands (owing at first called x)
   unfolding owing
-  owing_stands called x h =
-      if_both Stands (called && is_open (sec at) x) (owing_lookup at x) x
+  owing_stands first called x h =
+      if_both Stands (called && (first || is_open (sec at) x)) (owing_lookup at x) x
       (if_both Stands x.out (record x { owes = true }) (record x { owes = true; attempt = Some (sooner_try (soon at x) x.attempt) }) (record { last = h.last; tries = h.tries })
       (record { last = h.last; tries = sooner_kept (soon at x) x.attempt h.tries })) h
 
@@ -137,8 +137,8 @@ begun_steady s (Some w) round i bound S h =
     let P : Track → Type 0 = Steady at bound S in
     let none' : P no_track = none_stands at bound S in
     mid_steady (begun s (Some w)) round i bound S
-    (each_holds P none' (λ j. owing at (is_called s.forest xs s.clocks j)) xs i
-    (owing_stands at bound S (is_called s.forest xs s.clocks i) (track_in xs i)
+    (each_holds P none' (λ j. owing at (is_start w) (is_called s.forest xs s.clocks j)) xs i
+    (owing_stands at bound S (is_start w) (is_called s.forest xs s.clocks i) (track_in xs i)
     (each_holds P none' (λ j. untopped_track) s.tracks i (record { last = h.last; tries = h.tries }))))
 
 -- the longest pause while the end is ahead

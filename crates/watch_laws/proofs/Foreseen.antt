@@ -19,22 +19,35 @@ use Rattle.keep_rule.proofs.Schedule.{schedule_is_best}
 use Rattle.watch_machine.specs.declared.track.End.{End}
 use Rattle.watch_machine.specs.declared.track.End.TheVariants.{Unknown, At, Never}
 use Rattle.watch_machine.specs.History.{History, Turned}
-use Rattle.watch_machine.specs.Margins.{is_in_plan, own_margin, time, time_before}
+use Rattle.watch_machine.specs.Margins.{asking_margin, is_in_plan, own_margin, time, time_before}
 use Rattle.watch_machine.specs.Outlook.{time_of}
 use Rattle.watch_machine.specs.State.{WatchState, entry_of, opened, second, track_at}
 use Rattle.watch_machine.specs.Wanted.{believed, is_never, is_unknown, is_wanted, wanted_need, wants}
-use Rattle.watch_laws.specs.Calm.{AllForeseen, AllInPlan, IsForeseen, IsKeepable, IsLeastTime, IsPlanNow, NextMomentLaw, believed_forest, ends, in_plan_at, terms}
+use Rattle.watch_laws.specs.Calm.{AllForeseen, AllInPlan, IsForeseen, IsKeepable, IsLeastTime, IsPlanNow, NextMomentLaw, NobodyTriesLast, believed_forest, ends, in_plan_at, planned_need, terms}
 use Rattle.watch_laws.proofs.Believed.{believed_at, believed_count, believed_is_forest, believed_margin, carried_believed}
 use Rattle.watch_laws.proofs.Forested.{turned_forest}
+use Rattle.watch_laws.proofs.Trying.{asking_own, need_cut}
 
--- an entry that is wanted ends before it is needed no more
-pub wanted_short : (s : WatchState) (i : ℕ) → is_wanted s i ≡ true → ends s i < wanted_need s i
+-- the need that counts for an entry which is not at its top is that of the plan
+pub need_planned : (s : WatchState) (i : ℕ) → (track_at s i).top ≡ false → wanted_need s i ≡ planned_need s i
+need_planned s i led = need_cut s.forest.entries s.tracks s.clocks i led
+
+-- an entry that is wanted, and not at its top, ends before it is needed no more
+pub wanted_short : (s : WatchState) (i : ℕ) → is_wanted s i ≡ true → (track_at s i).top ≡ false → ends s i < planned_need s i
 unfolding wants ends
-wanted_short s i wanted =
+wanted_short s i wanted led =
     let x = track_at s i in
+    let same = need_planned s i led in
     let short = nat_lt (believed x.end) (wanted_need s i) in
-    let low : short ≡ true = and_right (not (is_never x.end)) short (and_right (not x.top) (not (is_never x.end) && short) (and_right (x.renewable || is_unknown x.end) (not x.top && (not (is_never x.end) && short)) wanted)) in
-    grind (arith, nat_tests)
+    let more = not x.top || x.last_try in
+    let low : short ≡ true = and_right (not (is_never x.end)) short (and_right more (not (is_never x.end) && short) (and_right (x.renewable || is_unknown x.end) (more && (not (is_never x.end) && short)) wanted)) in
+    let before : believed x.end < wanted_need s i = grind (arith, nat_tests, low) in
+    omega (arith, before, same)
+
+pub led_parts : (renewable top : Bool) → renewable && not top ≡ true → (renewable ≡ true) × (top ≡ false)
+led_parts true false h = (refl, refl)
+led_parts true true h = absurd cc
+led_parts false top h = absurd cc
 
 pub never_ends : (e : End) → believed e ≤ LAST → is_never e ≡ false
 never_ends Unknown low = refl
@@ -46,12 +59,13 @@ known_end Unknown h some = absurd (omega arith)
 known_end (At end) h some = refl
 known_end Never h some = absurd cc
 
-all_wanted : (renewable unknown top endless short : Bool) → renewable && not top ≡ true → endless ≡ false → short ≡ true → (renewable || unknown) && (not top && (not endless && short)) ≡ true
-all_wanted true unknown false false true r e s = refl
-all_wanted true unknown false false false r e s = absurd cc
-all_wanted true unknown false true short r e s = absurd cc
-all_wanted true unknown true endless short r e s = absurd cc
-all_wanted false unknown top endless short r e s = absurd cc
+all_wanted :
+    (renewable unknown top last endless short : Bool) → renewable && not top ≡ true → endless ≡ false → short ≡ true → (renewable || unknown) && ((not top || last) && (not endless && short)) ≡ true
+all_wanted true unknown false last false true r e s = refl
+all_wanted true unknown false last false false r e s = absurd cc
+all_wanted true unknown false last true short r e s = absurd cc
+all_wanted true unknown true last endless short r e s = absurd cc
+all_wanted false unknown top last endless short r e s = absurd cc
 
 -- what is known of an entry that has to be led further, where no pair is Unkeepable
 pub record IsLed (s : WatchState) (i : ℕ) : Type 0 where
@@ -61,9 +75,9 @@ pub record IsLed (s : WatchState) (i : ℕ) : Type 0 where
   pub endless : is_never (track_at s i).end ≡ false
   pub led : (track_at s i).renewable && not (track_at s i).top ≡ true
   pub known : (track_at s i).end ≡ At (ends s i)
-  pub more : (c : ℕ) → (terms s i).ceiling ≡ Some c → wanted_need s i ≤ c
+  pub more : (c : ℕ) → (terms s i).ceiling ≡ Some c → planned_need s i ≤ c
 
-pub led_by : (s : WatchState) → IsForest s.forest → (e : ℕ → ℕ) → AllKeepable (believed_forest s) (second s) e → (i : ℕ) → e i ≡ ends s i → ends s i < wanted_need s i → IsLed s i
+pub led_by : (s : WatchState) → IsForest s.forest → (e : ℕ → ℕ) → AllKeepable (believed_forest s) (second s) e → (i : ℕ) → e i ≡ ends s i → ends s i < planned_need s i → IsLed s i
 unfolding wants ends terms
 led_by s forest e keepable i own short =
     let g = believed_forest s in
@@ -85,10 +99,12 @@ led_by s forest e keepable i own short =
     let end_low : believed x.end ≤ LAST = (let l = needed.3 in omega arith) in
     let endless = never_ends x.end end_low in
     let renewable : x.renewable && not x.top ≡ true = sym (ap (λ (e : Entry). e.renewable) is) ∙ led.renewable in
-    let after : nat_lt (believed x.end) (wanted_need s i) ≡ true = grind (arith, nat_tests) in
+    let same = need_planned s i (led_parts x.renewable x.top renewable).1 in
+    let before : believed x.end < wanted_need s i = omega arith in
+    let after : nat_lt (believed x.end) (wanted_need s i) ≡ true = grind (arith, nat_tests, before) in
     record {
       within = within;
-      wanted = all_wanted x.renewable (is_unknown x.end) x.top (is_never x.end) (nat_lt (believed x.end) (wanted_need s i)) renewable endless after;
+      wanted = all_wanted x.renewable (is_unknown x.end) x.top x.last_try (is_never x.end) (nat_lt (believed x.end) (wanted_need s i)) renewable endless after;
       room = room;
       endless = endless;
       led = renewable;
@@ -96,33 +112,35 @@ led_by s forest e keepable i own short =
       more = λ c e. (let l = led.ceiling c (ap (λ (y : Entry). y.ceiling) is ∙ e) in omega arith);
     }
 
-pub short_led : (s : WatchState) → IsForest s.forest → IsKeepable s → (i : ℕ) → ends s i < wanted_need s i → IsLed s i
+pub short_led : (s : WatchState) → IsForest s.forest → IsKeepable s → (i : ℕ) → ends s i < planned_need s i → IsLed s i
 short_led s forest keepable i short = led_by s forest (ends s) keepable i refl short
 
 -- its time comes a margin before its end
 pub time_is : (s : WatchState) (i : ℕ) → IsLed s i → in_plan_at s i ≡ true → time_of s i ≡ ends s i - s.forest.margin
 unfolding time is_in_plan
 time_is s i led planned =
-    let mine = own_margin s.forest.margin (entry_of s i) (track_at s i) in
+    let x = track_at s i in
+    let mine = own_margin s.forest.margin (entry_of s i) x in
     let own : mine ≡ s.forest.margin = grind (arith, nat_tests) in
-    ap (λ o. time_before o mine) led.known ∙ ap (λ m. ends s i - m) own
+    let asking = asking_own s.forest.margin (entry_of s i) x (led_parts x.renewable x.top led.led).1 in
+    ap (λ o. time_before o (asking_margin s.forest.margin (entry_of s i) x)) led.known ∙ ap (λ m. ends s i - m) (asking ∙ own)
 
 bound_none : (es : List Entry) (e : ℕ → ℕ) (i : ℕ) → bound es e None i ≡ e i
 unfolding bound latest_end
 bound_none es e i = refl
 
-least_time : (s : WatchState) → IsForest s.forest → IsKeepable s → AllInPlan s → (ts : List ℕ) → IsSchedule (believed_forest s).entries (believed_forest s).margin (second s) (ends s) None ts → IsLeastTime s (first_of ts)
-least_time s forest keepable in_plan [] schedule = λ i within.
+least_time : (s : WatchState) → IsForest s.forest → IsKeepable s → AllInPlan s → NobodyTriesLast s → (ts : List ℕ) → IsSchedule (believed_forest s).entries (believed_forest s).margin (second s) (ends s) None ts → IsLeastTime s (first_of ts)
+least_time s forest keepable in_plan untopped [] schedule = λ i within.
     elim (cases_Bool (is_wanted s i)) as (λ _. is_wanted s i ≡ false) [
       | inr no' ↦ no'
       | inl wanted ↦ absurd (
-          let short = wanted_short s i wanted in
+          let short = wanted_short s i wanted (untopped i wanted) in
           let b = bound_none (believed_forest s).entries (ends s) i in
           let c = carried_believed s forest i in
           let l = schedule i in
           omega arith)
     ]
-least_time s forest keepable in_plan (t ∷ ts) schedule =
+least_time s forest keepable in_plan untopped (t ∷ ts) schedule =
     let es = (believed_forest s).entries in
     let next : IsNextMoment es (believed_forest s).margin (second s) (ends s) None t = schedule.0 in
     let e = next.entry in
@@ -135,7 +153,7 @@ least_time s forest keepable in_plan (t ∷ ts) schedule =
     let is = next.moment in (
       (e, (led.within, (led.wanted, omega arith))),
       λ i within wanted.
-          let short = wanted_short s i wanted in
+          let short = wanted_short s i wanted (untopped i wanted) in
           let bi = bound_none es (ends s) i in
           let ci = carried_believed s forest i in
           let early = next.earliest i (omega arith) in
@@ -150,18 +168,18 @@ pub record IsScheduled (s : WatchState) (ts : List ℕ) : Type 0 where
   pub best : IsPlanNow s ts
   pub least : IsLeastTime s (first_of ts)
 
-pub there_is_plan : (s : WatchState) → IsForest s.forest → IsKeepable s → AllInPlan s → (ts : List ℕ) × IsScheduled s ts
+pub there_is_plan : (s : WatchState) → IsForest s.forest → IsKeepable s → AllInPlan s → NobodyTriesLast s → (ts : List ℕ) × IsScheduled s ts
 unfolding believed_forest
-there_is_plan s forest keepable in_plan =
+there_is_plan s forest keepable in_plan untopped =
     let g = believed_forest s in
     let forest' = believed_is_forest s forest in
     let some = there_is_one g (second s) (ends s) forest' keepable in
     let all = schedule_is_best g (second s) (ends s) forest' keepable some.0 some.1 in
-    (some.0, record { schedule = some.1; best = all.1.1.1; least = least_time s forest keepable in_plan some.0 some.1 })
+    (some.0, record { schedule = some.1; best = all.1.1.1; least = least_time s forest keepable in_plan untopped some.0 some.1 })
 
 pub foreseen : (s : WatchState) → IsForest s.forest → IsForeseen s
-foreseen s forest keepable in_plan =
-    let some = there_is_plan s forest keepable in_plan in
+foreseen s forest keepable in_plan untopped =
+    let some = there_is_plan s forest keepable in_plan untopped in
     (some.0, (some.1.best, some.1.least))
 
 ran : (turns : List Turned) (old : WatchState) → History old turns → IsForest old.forest → AllForeseen turns

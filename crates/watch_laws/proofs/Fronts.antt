@@ -15,7 +15,7 @@ use Rattle.watch_machine.specs.declared.track.Track.{Track}
 use Rattle.watch_machine.specs.declared.track.Try.{Try}
 use Rattle.watch_machine.specs.Clocks.{sec}
 use Rattle.watch_machine.specs.Lines.{asked_rank, is_along, is_due, is_first, rank}
-use Rattle.watch_machine.specs.Margins.{has_come, own_margin, time}
+use Rattle.watch_machine.specs.Margins.{asking_margin, has_come, own_margin, time}
 use Rattle.watch_machine.specs.Refusal.{is_same}
 use Rattle.watch_machine.specs.Sending.{is_alone, is_alone_try, is_before, is_partial, patience, place, place_of, request_of, sent, sent_in, sent_track}
 use Rattle.watch_machine.specs.State.{WatchState, entry_of, track_at, track_in}
@@ -89,7 +89,7 @@ sent_stays s rs j =
 
 -- and whether a time has come
 pub sent_come : (s : WatchState) (rs : List Request) (margin : ℕ) (e : Entry) (now j : ℕ) → has_come margin e (track_at (sent s rs) j) now ≡ has_come margin e (track_at s j) now
-unfolding has_come time own_margin
+unfolding has_come time asking_margin own_margin
 sent_come s rs margin e now j =
     let R : Track → Track → Type 0 = λ y x. has_come margin e y now ≡ has_come margin e x now in
     each_kept R refl (sent_in s.clocks.at rs) s.tracks (λ k x. if_both (λ y. R y x) (list_any (λ (r : Request). r.entry == k) rs) (sent_track s.clocks.at x) x refl refl) j

@@ -1,6 +1,6 @@
 -- Handed: at a clock before which an entry was not pressed it is on its first try, if any; so at the first clock of a watch that was told ends.
 -- For the law of kills.
-use Rattle.std.proofs.Common.{◌≡◌, ◌∙◌, Bool, ℕ, zero, suc, ◌<◌, ◌≤◌, true, false, ◌==◌, List, [], ◌∷◌, Some, All, Result, Ok, Err, length, map, refl, sym, ap, subst, arith, inl, inr}
+use Rattle.std.proofs.Common.{◌≡◌, ◌∙◌, Bool, ℕ, zero, suc, ◌<◌, ◌≤◌, true, false, ◌==◌, List, [], ◌∷◌, Some, All, Result, Ok, Err, length, map, refl, sym, ap, subst, arith, inl, inr, Option, None}
 use Rattle.std.proofs.lemmas.Bool.{cases_Bool, cond-false}
 use Rattle.std.proofs.lemmas.List.Elements.{All-weaker}
 use Rattle.std.specs.List.{list_any}
@@ -13,14 +13,14 @@ use Rattle.watch_machine.specs.declared.fault.WatchFault.{WatchFault}
 use Rattle.watch_machine.specs.declared.lanes.Out.{Out}
 use Rattle.watch_machine.specs.declared.track.Track.{Track}
 use Rattle.watch_machine.specs.declared.track.Try.{Try}
-use Rattle.watch_machine.specs.Beginning.{is_pressed, is_pressed_try}
+use Rattle.watch_machine.specs.Beginning.{is_pressed, is_pressed_try, owing_past, soon, sooner_try}
 use Rattle.watch_machine.specs.History.{History, Turn, Turned, after_all}
 use Rattle.watch_machine.specs.Lines.{is_first, rested}
 use Rattle.watch_machine.specs.Press.{pressed}
 use Rattle.watch_machine.specs.Sending.{sent_in, sent_track}
 use Rattle.watch_machine.specs.Settling.{settled, settled_track, timed}
 use Rattle.watch_machine.specs.State.{WatchState, attempt_at, fresh_track, opened, track_at, track_in}
-use Rattle.watch_machine.specs.Step.{Step, readied, why}
+use Rattle.watch_machine.specs.Step.{Step, readied, told_earlier, why}
 use Rattle.watch_machine.specs.Wanted.{is_known, is_wanted}
 use Rattle.watch_machine.proofs.Cases.{if_both, not_both}
 use Rattle.watch_laws.specs.Outage.{AreHanded, KillLaw, MayBeAsked, is_handed, left_from}
@@ -30,7 +30,7 @@ use Rattle.watch_laws.proofs.Grounds.{IsBase, first_turns, last_turns, opened_ba
 use Rattle.watch_laws.proofs.Lanes.{Ticks, all_sent, stays_free}
 use Rattle.watch_laws.proofs.Marked.{free_lanes, none_of}
 use Rattle.watch_laws.proofs.Outliving.{left_from_clock, ran_shape, turn_shape}
-use Rattle.watch_laws.proofs.Tracking.{each_holds, each_kept, set_kept}
+use Rattle.watch_laws.proofs.Tracking.{each_holds, each_kept, known_is, set_kept}
 use Rattle.watch_laws.proofs.Undisturbed.{Undisturbed, clock_undisturbed, settled_pressed}
 
 -- who was not pressed has no pressed try when all that failed have settled
@@ -122,6 +122,12 @@ module _ (width n : ℕ) (old new : WatchState) (wall elapsed : ℕ) (output : O
 abbrev Untouched : Track → Type 0
 Untouched x = (is_pressed x ≡ false) × (rested x.last ≤ 0)
 
+known_untouched : (at end : ℕ) (renewable : Bool) (x : Track) → Untouched x → Untouched (owing_past at (told_earlier end renewable x))
+known_untouched at end renewable x h = known_is Untouched at end renewable x h (λ out. h) (λ free. (sooner_loose x.attempt h.0, h.1)) where
+  sooner_loose : (o : Option Try) → is_pressed_try o ≡ false → (sooner_try (soon at x) o).pressed ≡ false
+  sooner_loose None loose = refl
+  sooner_loose (Some t) loose = loose
+
 step_untouched : (i : ℕ) (old new : WatchState) (event : Event) (output : Output) → is_handed event ≡ true → Step old event output new → Untouched (track_at old i) → Untouched (track_at new i)
 step_untouched i old new (Clock wall elapsed) output handed step h = absurd cc
 step_untouched i old new (Looked j reply terms) output handed step h = absurd cc
@@ -129,7 +135,8 @@ step_untouched i old new (Renewed j reply) output handed step h = absurd cc
 step_untouched i old new (Need j until) output handed step h = subst (λ (x : WatchState). Untouched (track_at x i)) (sym step.1) h
 step_untouched i old new Begin output handed step h = subst (λ (x : WatchState). Untouched (track_at x i)) (sym step.1) h
 step_untouched i old new (Known j end renewable) output handed step h =
-    subst (λ (x : WatchState). Untouched (track_at x i)) (sym step.1) (set_kept (λ (y x : Track). Untouched x → Untouched y) (λ x k. k) old.tracks j _ (λ k. k) i h)
+    subst (λ (x : WatchState). Untouched (track_at x i)) (sym step.1)
+    (set_kept (λ (y x : Track). Untouched x → Untouched y) (λ x k. k) old.tracks j _ (known_untouched old.clocks.at end renewable (track_at old j)) i h)
 
 turn_untouched : (i : ℕ) (old new : WatchState) (event : Event) (result : Result Output WatchFault) → is_handed event ≡ true → Turn old event result new → Untouched (track_at old i) → Untouched (track_at new i)
 turn_untouched i old new event (Ok output) handed turn h = step_untouched i old new event output handed turn.1 h

@@ -23,10 +23,10 @@ use Rattle.watch_machine.specs.Beginning.{is_pressed}
 use Rattle.watch_machine.specs.Round.{IsSecond, RoundAsks, is_hoped, plan_view}
 use Rattle.watch_machine.specs.State.{WatchState, second, track_at}
 use Rattle.watch_machine.specs.Wanted.{believed, is_never, is_unknown, is_wanted, seen_entry, wanted_need, wants}
-use Rattle.watch_laws.specs.Calm.{believed_forest, ends, in_plan_at, lead_at, terms}
+use Rattle.watch_laws.specs.Calm.{believed_forest, ends, in_plan_at, lead_at, planned_need, terms}
 use Rattle.watch_laws.specs.Rounds.{AreAsks, IsRoundAfter, granted_forest, granted_terms}
 use Rattle.watch_laws.proofs.Believed.{AreSameNeeds, believed_count, believed_is_forest, carried_believed, carried_within, over_before, same_carried, same_chain, written_at, written_count, written_same}
-use Rattle.watch_laws.proofs.Foreseen.{never_ends}
+use Rattle.watch_laws.proofs.Foreseen.{need_planned, never_ends}
 use Rattle.watch_laws.proofs.OfPlan.{hoped_at, hoped_entry, one, own_entry, planned_at, planned_is, planned_same, seen_at, three}
 
 -- an entry that is wanted and not hoped for is in the plan
@@ -36,12 +36,19 @@ planned_fit true false rest h e = absurd cc
 planned_fit false p rest h e = absurd cc
 
 -- one that is not wanted, though it ends before its need, may not be led
-not_led : (renewable unknown top endless short : Bool) → (renewable || unknown) && (not top && (not endless && short)) ≡ false → endless ≡ false → short ≡ true → renewable && not top ≡ false
-not_led true unknown false false true h e s = absurd cc
-not_led true unknown false false false h e s = absurd cc
-not_led true unknown false true short h e s = absurd cc
-not_led true unknown true endless short h e s = refl
-not_led false unknown top endless short h e s = refl
+not_led :
+    (renewable unknown top last endless short : Bool) → (renewable || unknown) && ((not top || last) && (not endless && short)) ≡ false → endless ≡ false → short ≡ true → renewable && not top ≡ false
+not_led true unknown false last false true h e s = absurd cc
+not_led true unknown false last false false h e s = absurd cc
+not_led true unknown false last true short h e s = absurd cc
+not_led true unknown true last endless short h e s = refl
+not_led false unknown top last endless short h e s = refl
+
+-- nor may one at its top
+at_top : (renewable top : Bool) → top ≡ true → renewable && not top ≡ false
+at_top true true h = refl
+at_top true false h = absurd cc
+at_top false top h = refl
 
 -- tests that agree on the members of a list
 all_agree : (p q : ℕ → Bool) (xs : List ℕ) → ((a : ℕ) → list_any (λ b. b == a) xs ≡ true → p a ≡ q a) → list_all p xs ≡ list_all q xs
@@ -129,13 +136,13 @@ module _ (s : WatchState) (forest : IsForest s.forest) where
   unfolding believed_forest granted_forest granted_terms
   same_granted = written_same (terms s) (granted_terms s) (length s.forest.entries) first (λ i h. (refl, refl))
 
-  pub needs_view : (i : ℕ) → carried fs now i ≡ wanted_need s i
+  pub needs_view : (i : ℕ) → carried fs now i ≡ planned_need s i
   needs_view i = same_carried bs fs same_view now i ∙ carried_believed s forest i
 
-  needs_granted : (i : ℕ) → carried es now i ≡ wanted_need s i
+  needs_granted : (i : ℕ) → carried es now i ≡ planned_need s i
   needs_granted i = same_carried bs es same_granted now i ∙ carried_believed s forest i
 
-  needed_within : (i : ℕ) → 0 < wanted_need s i → i < length s.forest.entries
+  needed_within : (i : ℕ) → 0 < planned_need s i → i < length s.forest.entries
   needed_within i some =
       let c = carried_believed s forest i in
       let n = believed_count s in
@@ -175,7 +182,7 @@ module _ (s : WatchState) (forest : IsForest s.forest) where
       }
 
   -- whoever is not wanted, and ends before its need, may not be led
-  fixed_short : (i : ℕ) → is_wanted s i ≡ false → ends s i < wanted_need s i → (track_at s i).renewable && not (track_at s i).top ≡ false
+  fixed_short : (i : ℕ) → is_wanted s i ≡ false → ends s i < planned_need s i → (track_at s i).renewable && not (track_at s i).top ≡ false
   unfolding wants ends
   fixed_short i unwanted short =
       let x = track_at s i in
@@ -186,17 +193,23 @@ module _ (s : WatchState) (forest : IsForest s.forest) where
       let l = needed.3 in
       let own : believed x.end ≡ ends s i = refl in
       let end_low : believed x.end ≤ LAST = omega arith in
-      let after : nat_lt (believed x.end) (wanted_need s i) ≡ true = grind (arith, nat_tests) in
-      not_led x.renewable (is_unknown x.end) x.top (is_never x.end) (nat_lt (believed x.end) (wanted_need s i)) unwanted (never_ends x.end end_low) after
+      elim (cases_Bool x.top) as (λ _. x.renewable && not x.top ≡ false) [
+        | inl topped ↦ at_top x.renewable x.top topped
+        | inr led ↦
+            let same = need_planned s i led in
+            let before : believed x.end < wanted_need s i = omega arith in
+            let after : nat_lt (believed x.end) (wanted_need s i) ≡ true = grind (arith, nat_tests, before) in
+            not_led x.renewable (is_unknown x.end) x.top x.last_try (is_never x.end) (nat_lt (believed x.end) (wanted_need s i)) unwanted (never_ends x.end end_low) after
+      ]
 
   -- the bounds after this wake-up: the same, or none falls short
-  bounds : (i : ℕ) → i < length s.forest.entries → ((wanted_need s i ≤ end_of fs i) × (wanted_need s i ≤ to i)) ⊎ (bound fs (end_of fs) (Some now) i ≡ bound es to (Some now) i)
+  bounds : (i : ℕ) → i < length s.forest.entries → ((planned_need s i ≤ end_of fs i) × (planned_need s i ≤ to i)) ⊎ (bound fs (end_of fs) (Some now) i ≡ bound es to (Some now) i)
   unfolding renewal
   bounds i within =
       let f = bound_at fs (end_of fs) now i in
       let g = bound_at es to now i in
       let end = end_is i within in
-      elim (cases_Bool (hoped_at s i)) as (λ _. ((wanted_need s i ≤ end_of fs i) × (wanted_need s i ≤ to i)) ⊎ (bound fs (end_of fs) (Some now) i ≡ bound es to (Some now) i)) [
+      elim (cases_Bool (hoped_at s i)) as (λ _. ((planned_need s i ≤ end_of fs i) × (planned_need s i ≤ to i)) ⊎ (bound fs (end_of fs) (Some now) i ≡ bound es to (Some now) i)) [
         | inl hoped ↦
             let renews : renewal (entry_at es i) now ≡ to i = ap (λ (x : Entry). renewal x now) (granted_at i within) ∙ sym (hoped_end i hoped) in
             inr (
@@ -205,14 +218,14 @@ module _ (s : WatchState) (forest : IsForest s.forest) where
             )
         | inr other ↦
             let own = own_is i within other in
-            elim (cases_Bool (is_wanted s i)) as (λ _. ((wanted_need s i ≤ end_of fs i) × (wanted_need s i ≤ to i)) ⊎ (bound fs (end_of fs) (Some now) i ≡ bound es to (Some now) i)) [
+            elim (cases_Bool (is_wanted s i)) as (λ _. ((planned_need s i ≤ end_of fs i) × (planned_need s i ≤ to i)) ⊎ (bound fs (end_of fs) (Some now) i ≡ bound es to (Some now) i)) [
               | inl wanted ↦
                   inr (
                   f ∙ ap (λ b. cond b (max (end_of fs i) (renewal (entry_at fs i) now)) (end_of fs i)) own.renewable
                   ∙ ap (λ n. cond (entry_at es i).renewable (max n (renewal (entry_at fs i) now)) n) end
                   ∙ ap₂ (λ o n. cond (entry_at es i).renewable (max (to i) (capped o (now + n))) (to i)) own.ceiling (own.step wanted) ∙ sym g
                   )
-              | inr unwanted ↦ elim (cases_lt (ends s i) (wanted_need s i)) as (λ _. ((wanted_need s i ≤ end_of fs i) × (wanted_need s i ≤ to i)) ⊎ (bound fs (end_of fs) (Some now) i ≡ bound es to (Some now) i)) [
+              | inr unwanted ↦ elim (cases_lt (ends s i) (planned_need s i)) as (λ _. ((planned_need s i ≤ end_of fs i) × (planned_need s i ≤ to i)) ⊎ (bound fs (end_of fs) (Some now) i ≡ bound es to (Some now) i)) [
                 | inl short ↦
                     let fixed = own.led ∙ fixed_short i unwanted short in
                     inr (
@@ -306,7 +319,7 @@ module _ (s : WatchState) (forest : IsForest s.forest) where
                         let B = lasts_same (now + margin) i within in
                         let C : carried fs now i ≡ carried es now i = c ∙ sym d in
                         cc
-                    | inr unwanted ↦ elim (cases_lt (ends s i) (wanted_need s i)) as (λ _. is_asked_now fs margin now (end_of fs) now next i ≡ is_asked_now es margin now to now next i) [
+                    | inr unwanted ↦ elim (cases_lt (ends s i) (planned_need s i)) as (λ _. is_asked_now fs margin now (end_of fs) now next i ≡ is_asked_now es margin now to now next i) [
                       | inl short ↦
                           let fixed = own.led ∙ fixed_short i unwanted short in
                           one (entry_at fs i).renewable _ (own.renewable ∙ fixed) ∙ sym (one (entry_at es i).renewable _ fixed)

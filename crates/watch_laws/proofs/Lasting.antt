@@ -1,5 +1,5 @@
 -- Lasting: what stays of an entry while its requests are lost. For the law of outages.
-use Rattle.std.proofs.Common.{◌≡◌, ◌≢◌, ◌∙◌, ℕ, zero, suc, Bool, true, false, min, ◌&&◌, ◌||◌, ◌==◌, if◌then◌else◌, List, [], ◌∷◌, Option, Some, None, IfSome, Result, Ok, Err, length, refl, sym, ap, subst, inl, inr, true≢false}
+use Rattle.std.proofs.Common.{◌≡◌, ◌≢◌, ◌∙◌, ℕ, zero, suc, Bool, true, false, min, ◌&&◌, ◌||◌, ◌==◌, if◌then◌else◌, List, [], ◌∷◌, Option, Some, None, IfSome, Result, Ok, Err, length, refl, sym, ap, subst, inl, inr, true≢false, ◌≤◌}
 use Rattle.std.proofs.lemmas.Bool.{cases_Bool, eqb-true}
 use Rattle.std.proofs.lemmas.List.{get_or-set_other, length-set}
 use Rattle.std.specs.List.{list_any}
@@ -20,18 +20,17 @@ use Rattle.watch_machine.specs.declared.lanes.Out.{Out}
 use Rattle.watch_machine.specs.declared.notes.Why.{Why}
 use Rattle.watch_machine.specs.declared.track.Track.{Track}
 use Rattle.watch_machine.specs.Answers.{back_track, noted, replied}
-use Rattle.watch_machine.specs.Beginning.{begun, is_called, owing, owing_lookup, soon, sooner_try, untopped, untopped_track}
+use Rattle.watch_machine.specs.Beginning.{begun, is_called, is_start, owing, owing_lookup, soon, sooner_try, untopped, untopped_track}
 use Rattle.watch_machine.specs.Clocks.{sec}
 use Rattle.watch_machine.specs.History.{Turn}
 use Rattle.watch_machine.specs.Looked.{by_terms, looked, untold_track}
-use Rattle.watch_machine.specs.Margins.{own_by, own_margin, lead, time, time_before}
 use Rattle.watch_machine.specs.Press.{asked_track, dropped, is_fresh, press, pressed, pressed_alone, pressed_track, track_asked_in}
 use Rattle.watch_machine.specs.Outlook.{time_of}
 use Rattle.watch_machine.specs.Refusal.{request_out}
 use Rattle.watch_machine.specs.Renewed.{renewed_track, state_renewed, ungranted_track}
 use Rattle.watch_machine.specs.Sending.{sent, sent_in, sent_track}
 use Rattle.watch_machine.specs.Settling.{settled, settled_track, timed}
-use Rattle.watch_machine.specs.State.{WatchState, entry_of, no_track, track_at, track_in}
+use Rattle.watch_machine.specs.State.{WatchState, entry_of, has_last_try, no_track, track_at, track_in}
 use Rattle.watch_machine.specs.Step.{Step, StepLooked, StepRenewed, known, readied, why, with_need_until}
 use Rattle.watch_machine.specs.Wanted.{is_open, need_of, wants}
 use Rattle.watch_machine.proofs.Cases.{if_both, not_both}
@@ -42,75 +41,76 @@ use Rattle.watch_laws.proofs.Clocking.{refused_stays}
 use Rattle.watch_laws.proofs.Lanes.{Ticks, ticks}
 use Rattle.watch_laws.proofs.Spacing.{looked_other, same_index}
 use Rattle.watch_laws.proofs.Tracking.{back_kept, each_kept, replied_forest, set_kept}
+use Rattle.watch_laws.proofs.Trying.{time_sooner}
 
--- the end, the last grant and what is owed
+-- the end, the last grant, what is owed, and whether there is a last try
 abbrev pub Bears : Track → Track → Type 0
-Bears y x = (y.end ≡ x.end) × ((y.grant ≡ x.grant) × (y.owes ≡ x.owes))
+Bears y x = (y.end ≡ x.end) × ((y.grant ≡ x.grant) × ((y.owes ≡ x.owes) × (has_last_try y ≡ has_last_try x)))
 
 pub same_bears : (x : Track) → Bears x x
-same_bears x = (refl, (refl, refl))
+same_bears x = (refl, (refl, (refl, refl)))
 
--- the end and the last grant
+-- the end and the last grant; and there is a last try only where there was one
 abbrev pub Ends : Track → Track → Type 0
-Ends y x = (y.end ≡ x.end) × (y.grant ≡ x.grant)
+Ends y x = (y.end ≡ x.end) × ((y.grant ≡ x.grant) × (has_last_try y ≡ true → has_last_try x ≡ true))
 
 pub same_ends : (x : Track) → Ends x x
-same_ends x = (refl, refl)
+same_ends x = (refl, (refl, λ tries. tries))
 
 both_end : (z y x : Track) → Ends z y → Ends y x → Ends z x
-both_end z y x h k = (h.0 ∙ k.0, h.1 ∙ k.1)
+both_end z y x h k = (h.0 ∙ k.0, (h.1.0 ∙ k.1.0, λ tries. k.1.1 (h.1.1 tries)))
 
 bears_end : (y x : Track) → Bears y x → Ends y x
-bears_end y x h = (h.0, h.1.0)
+bears_end y x h = (h.0, (h.1.0, λ tries. sym h.1.1.1 ∙ tries))
 
 pub both_bear : (z y x : Track) → Bears z y → Bears y x → Bears z x
-both_bear z y x h k = (h.0 ∙ k.0, (h.1.0 ∙ k.1.0, h.1.1 ∙ k.1.1))
+both_bear z y x h k = (h.0 ∙ k.0, (h.1.0 ∙ k.1.0, (h.1.1.0 ∙ k.1.1.0, h.1.1.1 ∙ k.1.1.1)))
 
 settled_bears : (margin at : ℕ) (x : Track) → Bears (settled_track margin at x) x
 unfolding settled_track
-settled_bears margin at x = (refl, (refl, refl))
+settled_bears margin at x = (refl, (refl, (refl, refl)))
 
 pressed_bears : (margin : ℕ) (e : Entry) (need at : ℕ) (x : Track) → Bears (pressed_track margin e need at x) x
 unfolding pressed_track
 pressed_bears margin e need at x =
     if_both (λ y. Bears y x) (is_fresh margin e x need (sec at)) (record x { attempt = Some (press at x) }) (if wants x need || x.out then x else record x { attempt = dropped x x.attempt })
-    (refl, (refl, refl)) (if_both (λ y. Bears y x) (wants x need || x.out) x (record x { attempt = dropped x x.attempt }) (refl, (refl, refl)) (refl, (refl, refl)))
+    (refl, (refl, (refl, refl))) (if_both (λ y. Bears y x) (wants x need || x.out) x (record x { attempt = dropped x x.attempt }) (refl, (refl, (refl, refl))) (refl, (refl, (refl, refl))))
 
 asked_bears : (at : ℕ) (round : List ℕ) (i : ℕ) (x : Track) → Bears (track_asked_in at round i x) x
 unfolding asked_track
 asked_bears at round i x =
     if_both (λ y. Bears y x) (list_any (λ j. j == i) round) (asked_track at x) x
-    (if_both (λ y. Bears y x) x.out x (record x { attempt = Some (press at x) }) (refl, (refl, refl)) (refl, (refl, refl))) (refl, (refl, refl))
+    (if_both (λ y. Bears y x) x.out x (record x { attempt = Some (press at x) }) (refl, (refl, (refl, refl))) (refl, (refl, (refl, refl)))) (refl, (refl, (refl, refl)))
 
 pub sent_bears : (at : ℕ) (requests : List Request) (i : ℕ) (x : Track) → Bears (sent_in at requests i x) x
-sent_bears at requests i x = if_both (λ y. Bears y x) (list_any (λ (r : Request). r.entry == i) requests) (sent_track at x) x (refl, (refl, refl)) (refl, (refl, refl))
+sent_bears at requests i x = if_both (λ y. Bears y x) (list_any (λ (r : Request). r.entry == i) requests) (sent_track at x) x (refl, (refl, (refl, refl))) (refl, (refl, (refl, refl)))
 
 pub back_bears : (x : Track) → Bears (back_track x) x
 unfolding back_track
-back_bears x = (refl, (refl, refl))
+back_bears x = (refl, (refl, (refl, refl)))
 
 ungranted_ends : (at : ℕ) (heard : Bool) (reply : Reply) (x : Track) → Ends (ungranted_track at heard reply x) x
 unfolding ungranted_track
-ungranted_ends at heard reply x = (refl, refl)
+ungranted_ends at heard reply x = (refl, (refl, λ tries. tries))
 
 untold_ends : (at : ℕ) (heard : Bool) (reply : Reply) (x : Track) → Ends (untold_track at heard reply x) x
 unfolding untold_track
-untold_ends at heard reply x = (refl, refl)
+untold_ends at heard reply x = (refl, (refl, λ tries. tries))
 
 -- a beginning
-owing_ends : (at : ℕ) (called : Bool) (x : Track) → Ends (owing at called x) x
+owing_ends : (at : ℕ) (first called : Bool) (x : Track) → Ends (owing at first called x) x
 unfolding owing
-owing_ends at called x =
-    if_both (λ y. Ends y x) (called && is_open (sec at) x) (owing_lookup at x) x
-    (if_both (λ y. Ends y x) x.out (record x { owes = true }) (record x { owes = true; attempt = Some (sooner_try (soon at x) x.attempt) }) (refl, refl) (refl, refl)) (refl, refl)
+owing_ends at first called x =
+    if_both (λ y. Ends y x) (called && (first || is_open (sec at) x)) (owing_lookup at x) x
+    (if_both (λ y. Ends y x) x.out (record x { owes = true }) (record x { owes = true; attempt = Some (sooner_try (soon at x) x.attempt) }) (same_ends x) (same_ends x)) (same_ends x)
 
 begun_ends : (s : WatchState) (w : Option Why) (i : ℕ) → Ends (track_at (begun s w) i) (track_at s i)
 begun_ends s None i = same_ends (track_at s i)
 begun_ends s (Some w) i =
     let xs = untopped s.tracks in
     both_end (track_at (begun s (Some w)) i) (track_in xs i) (track_at s i)
-    (each_kept Ends (same_ends no_track) (λ j. owing s.clocks.at (is_called s.forest xs s.clocks j)) xs (λ j x. owing_ends s.clocks.at (is_called s.forest xs s.clocks j) x) i)
-    (each_kept Ends (same_ends no_track) (λ j. untopped_track) s.tracks (λ j x. (refl, refl)) i)
+    (each_kept Ends (same_ends no_track) (λ j. owing s.clocks.at (is_start w) (is_called s.forest xs s.clocks j)) xs (λ j x. owing_ends s.clocks.at (is_start w) (is_called s.forest xs s.clocks j) x) i)
+    (each_kept Ends (same_ends no_track) (λ j. untopped_track) s.tracks (λ j x. (refl, (refl, λ tries. absurd cc))) i)
 
 -- a clock at which nothing begins anew
 pub calm_ready : (s : WatchState) (wall elapsed : ℕ) → why s wall elapsed ≡ None → readied s wall elapsed ≡ settled (timed s wall elapsed)
@@ -172,18 +172,9 @@ pub record Same (i : ℕ) (old new : WatchState) : Type 0 where
 pub same_first : (i : ℕ) (s : WatchState) → Same i s s
 same_first i s = record { count = refl; margin = refl; step = refl; ends = same_ends (track_at s i) }
 
--- so its time does
-pub same_time : (i : ℕ) (old new : WatchState) → Same i old new → time_of new i ≡ time_of old i
-unfolding time own_margin
-same_time i old new h =
-    let m = h.margin in
-    let s = h.step in
-    let e = h.ends.0 in
-    let g = h.ends.1 in
-    ap (λ n. time_before (track_at new i).end (own_by n (lead (entry_of new i).step (track_at new i).grant))) m
-    ∙ ap (λ n. time_before (track_at new i).end (own_by old.forest.margin (lead n (track_at new i).grant))) s
-    ∙ ap (λ x. time_before (track_at new i).end (own_by old.forest.margin (lead (entry_of old i).step x))) g
-    ∙ ap (λ x. time_before x (own_by old.forest.margin (lead (entry_of old i).step (track_at old i).grant))) e
+-- so its time comes no later
+pub same_time : (i : ℕ) (old new : WatchState) → Same i old new → time_of new i ≤ time_of old i
+same_time i old new h = time_sooner new.forest.margin old.forest.margin (entry_of new i) (entry_of old i) (track_at new i) (track_at old i) h.margin h.step h.ends.0 h.ends.1.0 h.ends.1.1
 
 -- an entry that is written anew with the same step
 entry_kept : (es : List Entry) (j : ℕ) (e : Entry) (i : ℕ) → e.step ≡ (entry_at es j).step → (entry_at (slice_set es j e) i).step ≡ (entry_at es i).step

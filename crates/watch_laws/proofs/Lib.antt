@@ -1,5 +1,6 @@
 pub mod Answering
 pub mod Clocking
+pub mod Trying
 pub mod Tracking
 pub mod Beginning
 pub mod Needing
@@ -78,3 +79,4 @@ pub mod LookedOnce
 pub mod Working
 pub mod Starting
 pub mod UnderWay
+pub mod LastTries

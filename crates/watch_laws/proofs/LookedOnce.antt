@@ -1,6 +1,6 @@
 -- LookedOnce: from a beginning on an entry that is needed is looked up once. For the law of lookups.
 use Rattle.std.proofs.Common.{◌≡◌, ◌≢◌, ◌⊎◌, ◌∙◌, ℕ, zero, suc, ◌+◌, ◌<◌, ◌≤◌, Bool, true, false, not, ◌&&◌, ◌||◌, ◌==◌, if◌then◌else◌, List, [], ◌∷◌, Option, Some, None, Result, Ok, Err, filter, is_some, length, map, min, nat_lt, refl, sym, ap, subst, arith, inl, inr}
-use Rattle.std.proofs.lemmas.Bool.{and_from, and_parts, cases_Bool, cases_eq, cond-true, or_left}
+use Rattle.std.proofs.lemmas.Bool.{and_from, and_parts, cases_Bool, cases_eq, cond-true, or_left, or_right}
 use Rattle.std.proofs.lemmas.Bool.Decides.{nat_tests}
 use Rattle.std.proofs.lemmas.List.{get_or-set_other, get_or-set_same, length-append, length-set}
 use Rattle.std.proofs.lemmas.List.Elements.{filter-append}
@@ -21,12 +21,13 @@ use Rattle.watch_machine.specs.declared.fault.WatchFault.{WatchFault}
 use Rattle.watch_machine.specs.declared.lanes.Out.{Out}
 use Rattle.watch_machine.specs.declared.notes.Notes.{Notes}
 use Rattle.watch_machine.specs.declared.notes.Why.{Why}
+use Rattle.watch_machine.specs.declared.notes.Why.TheVariants.{Start}
 use Rattle.watch_machine.specs.declared.track.End.{End}
 use Rattle.watch_machine.specs.declared.track.End.TheVariants.{Unknown, At, Never}
 use Rattle.watch_machine.specs.declared.track.Track.{Track}
 use Rattle.watch_machine.specs.declared.track.Try.{Try}
 use Rattle.watch_machine.specs.Answers.{back_track, noted, replied}
-use Rattle.watch_machine.specs.Beginning.{begun, called_by, is_called, owing, owing_all, owing_lookup, soon, sooner_try, untopped, untopped_track}
+use Rattle.watch_machine.specs.Beginning.{begun, called_by, is_called, is_start, owing, owing_all, owing_lookup, owing_past, soon, sooner_try, untopped, untopped_track}
 use Rattle.watch_machine.specs.Clocks.{sec}
 use Rattle.watch_machine.specs.History.{History, Turn, Turned, after_all}
 use Rattle.watch_machine.specs.Lines.{is_due}
@@ -37,18 +38,19 @@ use Rattle.watch_machine.specs.Renewed.{from_try, granted_from, renewed_track, s
 use Rattle.watch_machine.specs.Sending.{out_at, sent, sent_in, sent_track}
 use Rattle.watch_machine.specs.Settling.{settled, settled_track, timed}
 use Rattle.watch_machine.specs.State.{WatchState, attempt_at, entry_of, no_track, opened, second, track_at, track_in}
-use Rattle.watch_machine.specs.Step.{Step, StepClock, StepLooked, StepRenewed, known, readied, why}
-use Rattle.watch_machine.specs.Wanted.{believed, is_alive, is_open, is_never, is_unknown, wanted_need, wants}
-use Rattle.watch_machine.proofs.Cases.{if_both, not_both}
-use Rattle.watch_machine.proofs.Seeing.{SameSeen, both_seen, each_read, need_same}
+use Rattle.watch_machine.specs.Step.{Step, StepClock, StepLooked, StepRenewed, known, readied, told_earlier, why}
+use Rattle.watch_machine.specs.Wanted.{believed, is_alive, is_never, is_open, is_unknown, is_wanted, wanted_need, wants}
+use Rattle.watch_machine.proofs.Cases.{if_both, not_both, value_is}
+use Rattle.watch_machine.proofs.Seeing.{SameSeen, both_seen, cut_same, each_read}
 use Rattle.watch_machine.proofs.Unseen.{owing_seen, pressed_seen, sent_seen}
 use Rattle.watch_machine.proofs.Within.{out_entry}
 use Rattle.watch_machine.proofs.Written.{each_length}
-use Rattle.watch_laws.specs.Beginnings.{GoWell, GoesWell, GoesWellAt, OneLookupLaw, TellsAhead, is_lookup, is_needed, lookups, looks, why_begun}
+use Rattle.watch_laws.specs.Beginnings.{GoWell, GoesWell, GoesWellAt, IsForLookup, OneLookupLaw, TellsAhead, is_lookup, is_needed, looks, lookups, why_begun}
 use Rattle.watch_laws.specs.Load.{requests_asked_by, requests_at_turn}
 use Rattle.watch_laws.specs.Outage.{is_tried}
 use Rattle.watch_laws.proofs.Alone.{IsAlone, flag, turn_alone}
 use Rattle.watch_laws.proofs.Answering.{looked_begins, replied_rest}
+use Rattle.watch_laws.proofs.Begins.{begun_top}
 use Rattle.watch_laws.proofs.Clocking.{refused_stays}
 use Rattle.watch_laws.proofs.Going.{named_of, operation_of, times}
 use Rattle.watch_laws.proofs.Grounds.{first_turns, last_turns, opened_base, ran_base}
@@ -59,6 +61,7 @@ use Rattle.watch_laws.proofs.Owed.{due_some}
 use Rattle.watch_laws.proofs.Spacing.{free_of, looked_other, looked_out, mid_flag, readied_out}
 use Rattle.watch_laws.proofs.Topping.{readied_count, turn_count}
 use Rattle.watch_laws.proofs.Tracking.{back_kept, each_kept, set_kept}
+use Rattle.watch_laws.proofs.Trying.{need_cut}
 
 -- since a beginning i was not looked up yet, and owes a lookup if it did; or it was once, and its lookup is out or told
 abbrev Holds : WatchState → ℕ → Bool → ℕ → Type 0
@@ -89,24 +92,29 @@ none_asks None idle = tt
 none_asks (Some t) idle = absurd cc
 
 called_same : (new old : List Track) → SameSeen new old → (g : Forest) (c : Clocks) (i : ℕ) → is_called g new c i ≡ is_called g old c i
-called_same new old seen g c i = ap (λ n. called_by c.dated n (carried g.entries 0 i)) (need_same new old seen g.entries c i)
+called_same new old seen g c i = ap (λ n. called_by c.dated n (carried g.entries 0 i)) (cut_same new old seen g.entries c i)
 
 past_need : (n need : ℕ) → nat_lt n need ≡ true → nat_lt 0 need ≡ true
 past_need n need h = grind (arith, nat_tests)
 
--- whoever is wanted is needed
+-- whoever is wanted is needed, where it is not at its top
 wants_needs : (x : Track) (need written : ℕ) (dated : Bool) → wants x need ≡ true → called_by dated need written ≡ true
 unfolding wants
 wants_needs x need written dated h =
     let far = nat_lt (believed x.end) need in
-    let one = (and_parts (x.renewable || is_unknown x.end) (not x.top && (not (is_never x.end) && far)) h).1 in
-    let two = (and_parts (not x.top) (not (is_never x.end) && far) one).1 in
+    let one = (and_parts (x.renewable || is_unknown x.end) ((not x.top || x.last_try) && (not (is_never x.end) && far)) h).1 in
+    let two = (and_parts (not x.top || x.last_try) (not (is_never x.end) && far) one).1 in
     or_left (nat_lt 0 need) (not dated && nat_lt 0 written) (past_need (believed x.end) need (and_parts (not (is_never x.end)) far two).1)
 
-not_wanted : (s : WatchState) (i : ℕ) → is_called s.forest s.tracks s.clocks i ≡ false → wants (track_at s i) (wanted_need s i) ≡ false
-not_wanted s i none =
-    elim (cases_Bool (wants (track_at s i) (wanted_need s i))) [
-      | inl yes' ↦ absurd (not_both (wants_needs (track_at s i) (wanted_need s i) (carried s.forest.entries 0 i) s.clocks.dated yes') none)
+wanted_needed : (s : WatchState) (i : ℕ) → (track_at s i).top ≡ false → is_wanted s i ≡ true → is_needed s i ≡ true
+wanted_needed s i led wanted =
+    subst (λ n. called_by s.clocks.dated n (carried s.forest.entries 0 i) ≡ true) (need_cut s.forest.entries s.tracks s.clocks i led)
+    (wants_needs (track_at s i) (wanted_need s i) (carried s.forest.entries 0 i) s.clocks.dated wanted)
+
+not_wanted : (s : WatchState) (i : ℕ) → (track_at s i).top ≡ false → is_needed s i ≡ false → is_wanted s i ≡ false
+not_wanted s i led none =
+    elim (cases_Bool (is_wanted s i)) [
+      | inl yes' ↦ absurd (not_both (wanted_needed s i led yes') none)
       | inr no' ↦ no'
     ]
 
@@ -232,7 +240,7 @@ module _ (old new : WatchState) (wall elapsed : ℕ) (output : Output) (i : ℕ)
             mid_told ready h.round i (omega (arith, many, within))
             (pressed_told ready.forest.margin (entry_of ready i) (wanted_need ready i) ready.clocks.at (track_at ready i) there.owes there.known alive (λ e free. there.asks free)) in
             (subst (λ (x : WatchState). IsTold (track_at x i)) (sym h.new_is) (sent_told mid h.requests i told.0), none_told told.0)
-        | inr idle ↦ (record { owes = bears.1.1 ∙ there.owes; known = known; asks = λ free. none_asks (attempt_at new i) idle }, none_idle idle)
+        | inr idle ↦ (record { owes = bears.1.1.0 ∙ there.owes; known = known; asks = λ free. none_asks (attempt_at new i) idle }, none_idle idle)
       ]
 
   calm_told : why old wall elapsed ≡ None → IsTold (track_at old i) → IsTold (track_at ready i)
@@ -242,7 +250,7 @@ module _ (old new : WatchState) (wall elapsed : ℕ) (output : Output) (i : ℕ)
       (each_kept (λ y x. IsTold x → IsTold y) (λ k. k) (λ j. settled_track t.forest.margin t.clocks.at) t.tracks (λ j x. settled_told t.forest.margin t.clocks.at x) i told)
 
   calm_owes : why old wall elapsed ≡ None → (track_at old i).owes ≡ true → (track_at new i).owes ≡ true
-  calm_owes none owes = (clock_bears old new wall elapsed output i h none).1.1 ∙ owes
+  calm_owes none owes = (clock_bears old new wall elapsed output i h none).1.1.0 ∙ owes
 
   clock_holds :
       (n : ℕ) (due : Bool) → why old wall elapsed ≡ None → IsAlone old → i < length old.tracks → (is_tried new i ≡ true → is_open (second new) (track_at new i) ≡ true) → Holds old i due n → Holds new i due (n + go)
@@ -291,12 +299,12 @@ module _ (old new : WatchState) (wall elapsed : ℕ) (output : Output) (i : ℕ)
       ∙ called_same (sent mid h.requests).tracks ready.tracks (subst (λ (x : WatchState). SameSeen x.tracks ready.tracks) h.new_is seen) ready.forest ready.clocks i
 
   -- where nobody needs it, its end is ahead and it owes no lookup, it is told
-  unneeded_told : i < length old.tracks → is_needed new i ≡ false → is_alive (second new) (track_at new i) ≡ true → (track_at ready i).owes ≡ false → IsTold (track_at new i) × (go ≡ 0)
-  unneeded_told within unneeded alive owes =
+  unneeded_told : i < length old.tracks → is_needed new i ≡ false → is_alive (second new) (track_at new i) ≡ true → (track_at ready i).top ≡ false → (track_at ready i).owes ≡ false → IsTold (track_at new i) × (go ≡ 0)
+  unneeded_told within unneeded alive led owes =
       let many = readied_count old wall elapsed in
       let x = track_at ready i in
       let here : is_alive (second ready) x ≡ true = sym alive_same ∙ alive in
-      let unwanted : wants x (wanted_need ready i) ≡ false = not_wanted ready i (sym needed_same ∙ unneeded) in
+      let unwanted : wants x (wanted_need ready i) ≡ false = not_wanted ready i led (sym needed_same ∙ unneeded) in
       let told =
       mid_told ready h.round i (omega (arith, many, within))
       (pressed_told ready.forest.margin (entry_of ready i) (wanted_need ready i) ready.clocks.at x owes (known_end (second ready) x.end here) here
@@ -305,20 +313,20 @@ module _ (old new : WatchState) (wall elapsed : ℕ) (output : Output) (i : ℕ)
 
 -- ---- a beginning
 
-owing_same : (at : ℕ) (called : Bool) (x : Track) → called ≡ false → owing at called x ≡ x
+owing_same : (at : ℕ) (first called : Bool) (x : Track) → called ≡ false → owing at first called x ≡ x
 unfolding owing
-owing_same at called x none = ap (λ b. if b && is_open (sec at) x then owing_lookup at x else x) none
+owing_same at first called x none = ap (λ b. if b && (first || is_open (sec at) x) then owing_lookup at x else x) none
 
-owing_owes : (at : ℕ) (called : Bool) (x : Track) → called ≡ true → is_open (sec at) x ≡ true → (owing at called x).owes ≡ true
+owing_owes : (at : ℕ) (first called : Bool) (x : Track) → called ≡ true → first || is_open (sec at) x ≡ true → (owing at first called x).owes ≡ true
 unfolding owing
-owing_owes at called x needed' ahead =
-    ap (λ (y : Track). y.owes) (cond-true (called && is_open (sec at) x) (owing_lookup at x) x (and_from called (is_open (sec at) x) needed' ahead))
+owing_owes at first called x needed' ahead =
+    ap (λ (y : Track). y.owes) (cond-true (called && (first || is_open (sec at) x)) (owing_lookup at x) x (and_from called (first || is_open (sec at) x) needed' ahead))
     ∙ if_both (λ (y : Track). y.owes ≡ true) x.out (record x { owes = true }) (record x { owes = true; attempt = Some (sooner_try (soon at x) x.attempt) }) refl refl
 
-owing_end : (at : ℕ) (called : Bool) (x : Track) → (owing at called x).end ≡ x.end
+owing_end : (at : ℕ) (first called : Bool) (x : Track) → (owing at first called x).end ≡ x.end
 unfolding owing
-owing_end at called x =
-    if_both (λ (y : Track). y.end ≡ x.end) (called && is_open (sec at) x) (owing_lookup at x) x
+owing_end at first called x =
+    if_both (λ (y : Track). y.end ≡ x.end) (called && (first || is_open (sec at) x)) (owing_lookup at x) x
     (if_both (λ (y : Track). y.end ≡ x.end) x.out (record x { owes = true }) (record x { owes = true; attempt = Some (sooner_try (soon at x) x.attempt) }) refl refl) refl
 
 some_why : (o : Option Why) → is_some o ≡ true → (w : Why) × (o ≡ Some w)
@@ -337,16 +345,21 @@ module _ (old : WatchState) (wall elapsed i : ℕ) (w : Why) (is : why old wall 
   unfolding readied
   begins_so = ap (begun (settled t)) is
 
-  ready_is : i < length old.tracks → track_at (readied old wall elapsed) i ≡ owing t.clocks.at (is_called t.forest fresh t.clocks i) (track_in fresh i)
+  ready_is : i < length old.tracks → track_at (readied old wall elapsed) i ≡ owing t.clocks.at (is_start w) (is_called t.forest fresh t.clocks i) (track_in fresh i)
   ready_is within =
       let one = each_length (λ j. settled_track t.forest.margin t.clocks.at) t.tracks in
       let two = each_length (λ j. untopped_track) (settled t).tracks in
-      ap (λ (x : WatchState). track_at x i) begins_so ∙ each_read (λ j. owing t.clocks.at (is_called t.forest fresh t.clocks j)) fresh i (omega (arith, one, two, within))
+      ap (λ (x : WatchState). track_at x i) begins_so ∙ each_read (λ j. owing t.clocks.at (is_start w) (is_called t.forest fresh t.clocks j)) fresh i (omega (arith, one, two, within))
 
   called_so : is_called (readied old wall elapsed).forest (readied old wall elapsed).tracks (readied old wall elapsed).clocks i ≡ is_called t.forest fresh t.clocks i
   called_so =
       ap (λ (x : WatchState). is_called x.forest x.tracks x.clocks i) begins_so
-      ∙ called_same (owing_all t.forest t.clocks fresh) fresh (owing_seen t.forest t.clocks fresh) t.forest t.clocks i
+      ∙ called_same (owing_all t.forest t.clocks (is_start w) fresh) fresh (owing_seen t.forest t.clocks (is_start w) fresh) t.forest t.clocks i
+
+  ready_led : i < length old.tracks → (track_at (readied old wall elapsed) i).top ≡ false
+  ready_led within =
+      let count = each_length (λ j. settled_track t.forest.margin t.clocks.at) t.tracks in
+      ap (λ (x : WatchState). (track_at x i).top) begins_so ∙ begun_top (settled t) (Some w) i refl (omega (arith, count, within))
 
   owes_fresh : (track_in fresh i).owes ≡ (track_at old i).owes
   unfolding settled_track
@@ -355,21 +368,21 @@ module _ (old : WatchState) (wall elapsed i : ℕ) (w : Why) (is : why old wall 
       ∙ each_kept (λ (y x : Track). y.owes ≡ x.owes) refl (λ j. settled_track t.forest.margin t.clocks.at) t.tracks (λ j x. refl) i
 
   ready_owes : i < length old.tracks → is_called (readied old wall elapsed).forest (readied old wall elapsed).tracks (readied old wall elapsed).clocks i ≡ true →
-      is_open (second (readied old wall elapsed)) (track_at (readied old wall elapsed) i) ≡ true → (track_at (readied old wall elapsed) i).owes ≡ true
+      is_start w || is_open (second (readied old wall elapsed)) (track_at (readied old wall elapsed) i) ≡ true → (track_at (readied old wall elapsed) i).owes ≡ true
   ready_owes within called ahead =
       let y = ready_is within in
       let x = track_in fresh i in
       let c = is_called t.forest fresh t.clocks i in
       let at : second (readied old wall elapsed) ≡ sec t.clocks.at = ap second begins_so in
-      let end : (track_at (readied old wall elapsed) i).end ≡ x.end = ap (λ (z : Track). z.end) y ∙ owing_end t.clocks.at c x in
-      let there : is_open (sec t.clocks.at) x ≡ true =
-      sym (ap (λ e. is_unknown e || nat_lt (second (readied old wall elapsed)) (believed e)) end ∙ ap (λ n. is_unknown x.end || nat_lt n (believed x.end)) at) ∙ ahead in
-      ap (λ (z : Track). z.owes) y ∙ owing_owes t.clocks.at c x (sym called_so ∙ called) there
+      let end : (track_at (readied old wall elapsed) i).end ≡ x.end = ap (λ (z : Track). z.end) y ∙ owing_end t.clocks.at (is_start w) c x in
+      let there : is_start w || is_open (sec t.clocks.at) x ≡ true =
+      sym (ap (λ e. is_start w || (is_unknown e || nat_lt (second (readied old wall elapsed)) (believed e))) end ∙ ap (λ n. is_start w || (is_unknown x.end || nat_lt n (believed x.end))) at) ∙ ahead in
+      ap (λ (z : Track). z.owes) y ∙ owing_owes t.clocks.at (is_start w) c x (sym called_so ∙ called) there
 
   ready_free : i < length old.tracks → is_called (readied old wall elapsed).forest (readied old wall elapsed).tracks (readied old wall elapsed).clocks i ≡ false → (track_at old i).owes ≡ false →
       (track_at (readied old wall elapsed) i).owes ≡ false
   ready_free within none free =
-      ap (λ (z : Track). z.owes) (ready_is within ∙ owing_same t.clocks.at (is_called t.forest fresh t.clocks i) (track_in fresh i) (sym called_so ∙ none)) ∙ owes_fresh ∙ free
+      ap (λ (z : Track). z.owes) (ready_is within ∙ owing_same t.clocks.at (is_start w) (is_called t.forest fresh t.clocks i) (track_in fresh i) (sym called_so ∙ none)) ∙ owes_fresh ∙ free
 
 -- ---- other events
 
@@ -504,13 +517,30 @@ renewed_holds old new (Some q) j i n reply output due is step alone within well 
       | inr apart ↦ other_holds old (state_renewed s q reply) new q reply step.1 refl i n due apart (get_or-set_other s.tracks q.entry i _ no_track (λ e. apart (sym e))) holds
     ]
 
-known_told : (x : Track) (end : ℕ) (renewable : Bool) → IsTold x → IsTold (record x { end = At (min END_MAX end); renewable = renewable })
+known_told : (x : Track) (end : ℕ) (renewable : Bool) → IsTold x → IsTold (told_earlier end renewable x)
 known_told x end renewable told = record { owes = told.owes; known = refl; asks = told.asks }
 
-known_holds : (old : WatchState) (j end i n : ℕ) (renewable due : Bool) → Holds old i due n → Holds (known old j end renewable) i due n
-known_holds old j end i n renewable due holds =
-    stays (known old j end renewable) old i n due refl (set_kept Owes (λ x k. k) old.tracks j _ (λ k. k) i)
-    (set_kept (λ y x. IsTold x → IsTold y) (λ x k. k) old.tracks j _ (known_told (track_at old j) end renewable) i) holds
+-- an end that is handed in leaves the others; and one that is ahead leaves what is asked of its own
+known_kept :
+    (R : Track → Track → Type 0) → ((x : Track) → R x x) → (old : WatchState) (j end i : ℕ) (renewable : Bool) → (j ≡ i → second old < min END_MAX end) → ((x : Track) → R (told_earlier end renewable x) x) →
+    R (track_at (known old j end renewable) i) (track_at old i)
+unfolding owing_past
+known_kept R same old j end i renewable ahead told =
+    let x = track_at old j in
+    let y = told_earlier end renewable x in
+    let z = owing_past old.clocks.at y in
+    let own' : second old < min END_MAX end → R z x = λ low.
+    let alive : is_alive (second old) y ≡ true = grind (arith, nat_tests, low) in
+    subst (λ w. R w x) (sym (cond-true (is_alive (second old) y) y (owing_lookup old.clocks.at y) alive)) (told x) in
+    elim (cases_eq j i) as (λ _. R (track_at (known old j end renewable) i) (track_at old i)) [
+      | inl own ↦ set_kept R same old.tracks j z (own' (ahead own)) i
+      | inr apart ↦ subst (λ w. R w (track_at old i)) (sym (get_or-set_other old.tracks j i z no_track (λ e. apart (sym e)))) (same (track_at old i))
+    ]
+
+known_holds : (old : WatchState) (j end i n : ℕ) (renewable due : Bool) → (j ≡ i → second old < min END_MAX end) → Holds old i due n → Holds (known old j end renewable) i due n
+known_holds old j end i n renewable due ahead holds =
+    stays (known old j end renewable) old i n due refl (known_kept Owes (λ x k. k) old j end i renewable ahead (λ x k. k))
+    (known_kept (λ y x. IsTold x → IsTold y) (λ x k. k) old j end i renewable ahead (λ x. known_told x end renewable)) holds
 
 -- nothing goes out at an event that is taken and no more
 quiet : (new : WatchState) (i n : ℕ) (due : Bool) (output out : Output) → output ≡ out → requests_asked_by out.command ≡ [] → Holds new i due n → Holds new i due (n + length (filter (is_lookup i) (requests_asked_by output.command)))
@@ -541,7 +571,8 @@ step_holds old new (Renewed j reply) output i n due step well alone within holds
 step_holds old new (Need j until) output i n due step well alone within holds = quiet new i n due output _ step.0 refl (subst (λ (x : WatchState). Holds x i due n) (sym step.1) holds)
 step_holds old new Begin output i n due step well alone within holds = quiet new i n due output _ step.0 refl (subst (λ (x : WatchState). Holds x i due n) (sym step.1) holds)
 step_holds old new (Known j end renewable) output i n due step well alone within holds =
-    quiet new i n due output _ step.0 refl (subst (λ (x : WatchState). Holds x i due n) (sym step.1) (known_holds old j end i n renewable due holds))
+    quiet new i n due output _ step.0 refl (subst (λ (x : WatchState). Holds x i due n) (sym step.1)
+    (known_holds old j end i n renewable due (λ own. subst (λ k. k < min END_MAX end) (ap second step.1) (well own)) holds))
 
 turn_holds :
     (old new : WatchState) (event : Event) (result : Result Output WatchFault) (i n : ℕ) (due : Bool) → Turn old event result new → GoesWellAt i new event result → IsAlone old → i < length old.tracks →
@@ -564,7 +595,8 @@ ran (turn ∷ turns) old i n due history well alone within holds =
 -- what holds after a beginning
 record Started (old new : WatchState) (result : Result Output WatchFault) (i : ℕ) : Type 0 where
   holds : Holds new i (track_at new i).owes (looks i old.out + length (filter (is_lookup i) (requests_at_turn result)))
-  owes : is_needed new i ≡ true → is_open (second new) (track_at new i) ≡ true → (track_at new i).owes ≡ true
+  led : (track_at new i).top ≡ false
+  owes : is_needed new i ≡ true → IsForLookup (why_begun result) new i → (track_at new i).owes ≡ true
   free : is_needed new i ≡ false → is_alive (second new) (track_at new i) ≡ true → (track_at old i).owes ≡ false → Holds new i false 1 × (length (filter (is_lookup i) (requests_at_turn result)) ≡ 0)
 
 clock_started : (old new : WatchState) (wall elapsed : ℕ) (output : Output) (i : ℕ) → StepClock old wall elapsed output new → is_some output.notes.began ≡ true → IsAlone old → i < length old.tracks → Started old new (Ok output) i
@@ -578,13 +610,21 @@ clock_started old new wall elapsed output i step begins alone within =
     let at = now old new wall elapsed output i h in
     record {
       holds = subst (λ k. Holds new i (track_at new i).owes (looks i old.out + k)) (sym go) (clock_starts old new wall elapsed output i h alone);
-      owes = λ called ahead.
-          let there : is_open (second ready') (track_at ready' i) ≡ true =
-          sym (ap (λ e. is_unknown e || nat_lt (second new) (believed e)) bear.0 ∙ ap (λ n. is_unknown (track_at ready' i).end || nat_lt n (believed (track_at ready' i).end)) at) ∙ ahead in
-          bear.1.1 ∙ ready_owes old wall elapsed i w.0 w.1 within (sym same ∙ called) there;
+      led = ap (λ (x : Track). x.top) ((seen old new wall elapsed output i h).tracks i) ∙ ready_led old wall elapsed i w.0 w.1 within;
+      owes = λ called how.
+          let there : is_start w.0 || is_open (second ready') (track_at ready' i) ≡ true =
+          elim how as (λ _. is_start w.0 || is_open (second ready') (track_at ready' i) ≡ true) [
+            | inl start ↦
+                let same_why : Some w.0 ≡ Some Start = sym w.1 ∙ sym (ap (λ (x : Notes). x.began) step.notes) ∙ start in
+                or_left (is_start w.0) (is_open (second ready') (track_at ready' i)) (ap is_start (value_is w.0 Start same_why))
+            | inr ahead ↦
+                or_right (is_start w.0) (is_open (second ready') (track_at ready' i))
+                (sym (ap (λ e. is_unknown e || nat_lt (second new) (believed e)) bear.0 ∙ ap (λ n. is_unknown (track_at ready' i).end || nat_lt n (believed (track_at ready' i).end)) at) ∙ ahead)
+          ] in
+          bear.1.1.0 ∙ ready_owes old wall elapsed i w.0 w.1 within (sym same ∙ called) there;
       free = λ none alive owes.
           let free' = ready_free old wall elapsed i w.0 w.1 within (sym same ∙ none) owes in
-          let told = unneeded_told old new wall elapsed output i h within none alive free' in
+          let told = unneeded_told old new wall elapsed output i h within none alive (ready_led old wall elapsed i w.0 w.1 within) free' in
           let after = looks_after old new wall elapsed output i h in
           let z = told.1 in
           let once = alone.once i in
@@ -642,7 +682,8 @@ looked_once g width before turn after i run within begins well =
     let most = ends.0 in
     record {
       at_most = omega (arith, most);
-      wanted = λ wanted. wants_needs (track_at turn.state i) (wanted_need turn.state i) (carried turn.state.forest.entries 0 i) turn.state.clocks.dated wanted;
+      wanted = λ wanted. wanted_needed turn.state i start.led wanted;
+      owes = start.owes;
       once = λ called ahead free. (let is = ends.1 (start.owes called ahead) free in let e : looks i old.out + (k + lookups i after) ≡ 1 = omega (arith, is) in e);
       never = λ called alive free.
           let so = start.free called alive free in

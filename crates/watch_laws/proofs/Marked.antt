@@ -30,7 +30,7 @@ use Rattle.watch_laws.proofs.Counting.{no_lane}
 use Rattle.watch_laws.proofs.Lanes.{Ticks, goes_out_now, is_of, replied_lane, still_out, ticks}
 use Rattle.watch_laws.proofs.Requests.{none_passes, one_lane}
 use Rattle.watch_laws.proofs.Spacing.{after_flag, looked_other, looked_out, same_index}
-use Rattle.watch_laws.proofs.Tracking.{back_kept, set_holds, set_kept}
+use Rattle.watch_laws.proofs.Tracking.{back_kept, known_out, set_holds, set_kept}
 
 -- whenever it went out
 abbrev pub any_time : ℕ → Bool
@@ -111,7 +111,8 @@ step_marked old new (Renewed j reply) output step all = renewed_marked old new (
 step_marked old new (Need j until) output step all = subst AllMarked (sym step.1) all
 step_marked old new Begin output step all = subst AllMarked (sym step.1) all
 step_marked old new (Known j end renewable) output step all =
-    subst AllMarked (sym step.1) (λ i out. all i (sym (set_kept (λ (y x : Track). y.out ≡ x.out) (λ x. refl) old.tracks j _ refl i) ∙ out))
+    subst AllMarked (sym step.1)
+    (λ i out. all i (sym (set_kept (λ (y x : Track). y.out ≡ x.out) (λ x. refl) old.tracks j _ (known_out old.clocks.at end renewable (track_at old j)) i) ∙ out))
 
 pub turn_marked : (old new : WatchState) (event : Event) (result : Result Output WatchFault) → Turn old event result new → AllMarked old → AllMarked new
 turn_marked old new event (Ok output) turn all = step_marked old new event output turn.1 all

@@ -19,12 +19,14 @@ use Rattle.watch_machine.specs.declared.track.End.TheVariants.{Unknown, At, Neve
 use Rattle.watch_machine.specs.declared.track.Track.{Track}
 use Rattle.watch_machine.specs.Beginning.{is_called}
 use Rattle.watch_machine.specs.Clocks.{sec, to_here}
-use Rattle.watch_machine.specs.State.{WatchState, entry_of, opened, second, track_at, track_in}
-use Rattle.watch_machine.specs.Wanted.{believed, fixed_ends, is_fixed, is_known, is_never, is_unknown, is_wanted, least, least_over, limit, need_here, need_of, seen_entry, view, wanted_need, wants}
+use Rattle.watch_machine.specs.State.{WatchState, entry_of, has_last_try, opened, second, track_at, track_in}
+use Rattle.watch_machine.specs.Wanted.{believed, cut_need, fixed_ends, free_entry, free_need, is_fixed, is_known, is_never, is_unknown, is_wanted, least, least_over, limit, need_here, need_of, seen_entry, view, wanted_need, wants}
 use Rattle.watch_machine.proofs.Cases.{if_cases, not_both}
 use Rattle.watch_machine.proofs.Leasts.{least_start}
 use Rattle.watch_machine.proofs.Opening.{seen_at}
+use Rattle.watch_laws.specs.Calm.{planned_need}
 use Rattle.watch_laws.specs.Needs.{CalledLaw, HasToBeLed, IsEndToBeLed, IsNeedUntil, IsNeeded, IsNeededBy, IsOpenUntil, MayBeNeeded, NeededBy, NeededLaw, NoneAddedLaw, NoneDroppedLaw, WantedLaw, is_wanted_by, seen_by}
+use Rattle.watch_laws.proofs.Trying.{need_cut, need_free}
 
 -- the chain above an entry, by its parent
 abbrev up : ℕ → List Entry → Option ℕ → List ℕ
@@ -135,8 +137,8 @@ seen_need es xs c j = refl
 -- so much is carried
 carries :
     (es : List Entry) (xs : List Track) (c : Clocks) (i j until : ℕ) → j < length es → Over es i j → until ≤ need_here c (entry_at es j).need → until ≤ limit es xs j → sec c.at < until →
-    until ≤ need_of es xs c i
-unfolding need_of
+    until ≤ cut_need es xs c i
+unfolding cut_need
 carries es xs c i j until within over needed limited ahead =
     let v = view es xs c in
     let is = ap (λ (e : Entry). e.need) (seen_at es xs c j within) ∙ seen_need es xs c j in
@@ -144,18 +146,44 @@ carries es xs c i j until within over needed limited ahead =
     let least = carried_at_least v (sec c.at) i j (over_same es v (view_parent es xs c) i j ∙ over) (omega (arith, high, ahead)) in
     omega (arith, least, high)
 
+-- and with no limit at all
+abbrev frees : List Entry → Clocks → List Entry
+frees es c = map (free_entry es c) (range_with_len 0 (length es))
+
+free_at : (es : List Entry) (c : Clocks) (k : ℕ) → k < length es → entry_at (frees es c) k ≡ free_entry es c k
+unfolding entry_at
+free_at es c k within = get_or-map-range_with_len (free_entry es c) 0 (length es) k k no_entry within (omega arith)
+
+free_parent : (es : List Entry) (c : Clocks) (i : ℕ) → (entry_at (frees es c) i).parent ≡ (entry_at es i).parent
+free_parent es c i =
+    elim (cases_lt i (length es)) [
+      | inl within ↦ ap (λ (e : Entry). e.parent) (free_at es c i within)
+      | inr past ↦
+          let count = length-map-range_with_len (free_entry es c) 0 (length es) in
+          ap (λ (e : Entry). e.parent) (entry_at_past (frees es c) i (omega (arith, count, past)) ∙ sym (entry_at_past es i past))
+    ]
+
+free_carries : (es : List Entry) (c : Clocks) (i j until : ℕ) → j < length es → Over es i j → until ≤ need_here c (entry_at es j).need → sec c.at < until → until ≤ free_need es c i
+unfolding free_need
+free_carries es c i j until within over needed ahead =
+    let v = frees es c in
+    let is = ap (λ (e : Entry). e.need) (free_at es c j within) in
+    let high : until ≤ (entry_at v j).need = omega (arith, is, needed) in
+    let least = carried_at_least v (sec c.at) i j (over_same es v (free_parent es c) i j ∙ over) (omega (arith, high, ahead)) in
+    omega (arith, least, high)
+
 -- who has to be led on to a need is wanted
-wanted_by : (x : Track) (need until : ℕ) → IsEndToBeLed until x.renewable x.end → x.top ≡ false → 0 < until → until ≤ need → wants x need ≡ true
+wanted_by : (x : Track) (need until : ℕ) → IsEndToBeLed until x.renewable x.end → (not x.top || x.last_try) ≡ true → 0 < until → until ≤ need → wants x need ≡ true
 unfolding wants
 wanted_by x need until ends led some carried' = of x.end refl ends where
   by :
       (x.renewable || is_unknown x.end) ≡ true → not (is_never x.end) ≡ true → believed x.end < need →
-      ((x.renewable || is_unknown x.end) && (not x.top && (not (is_never x.end) && nat_lt (believed x.end) need))) ≡ true
+      ((x.renewable || is_unknown x.end) && ((not x.top || x.last_try) && (not (is_never x.end) && nat_lt (believed x.end) need))) ≡ true
   by leads ended after =
-      and_from (x.renewable || is_unknown x.end) (not x.top && (not (is_never x.end) && nat_lt (believed x.end) need)) leads
-      (and_from (not x.top) (not (is_never x.end) && nat_lt (believed x.end) need) (ap not led) (and_from (not (is_never x.end)) (nat_lt (believed x.end) need) ended (grind (arith, nat_tests))))
+      and_from (x.renewable || is_unknown x.end) ((not x.top || x.last_try) && (not (is_never x.end) && nat_lt (believed x.end) need)) leads
+      (and_from (not x.top || x.last_try) (not (is_never x.end) && nat_lt (believed x.end) need) led (and_from (not (is_never x.end)) (nat_lt (believed x.end) need) ended (grind (arith, nat_tests))))
 
-  of : (it : End) → x.end ≡ it → IsEndToBeLed until x.renewable it → ((x.renewable || is_unknown x.end) && (not x.top && (not (is_never x.end) && nat_lt (believed x.end) need))) ≡ true
+  of : (it : End) → x.end ≡ it → IsEndToBeLed until x.renewable it → ((x.renewable || is_unknown x.end) && ((not x.top || x.last_try) && (not (is_never x.end) && nat_lt (believed x.end) need))) ≡ true
   of Unknown is h =
       let here : believed x.end ≡ 0 = ap believed is in
       by (or_right x.renewable (is_unknown x.end) (ap is_unknown is)) (ap (λ e. not (is_never e)) is) (omega (arith, here, some, carried'))
@@ -165,17 +193,32 @@ wanted_by x need until ends led some carried' = of x.end refl ends where
       by (or_left x.renewable (is_unknown x.end) h.0) (ap (λ e. not (is_never e)) is) (omega (arith, here, before, carried'))
   of Never is h = absurd h
 
+tried : (top last : Bool) → top && last ≡ true → (not top || last) ≡ true
+tried true last h = h
+tried false last h = absurd cc
+
 pub needed : NeededLaw
 needed s i j until h =
     let es = s.forest.entries in
+    let x = track_at s i in
     let ahead = h.ahead in
     let shown = h.needed.shown in
-    let limited = limit_at_least es s.tracks until j (omega (arith, shown)) (open_here s j until shown h.open_until) in
-    wanted_by (track_at s i) (need_of es s.tracks s.clocks i) until h.ends h.not_topped (omega (arith, ahead))
-    (carries es s.tracks s.clocks i j until (need_inside es j h.needed.some) h.over (need_ahead s.clocks ((entry_of s j).need) until h.needed) limited ahead)
+    let within = need_inside es j h.needed.some in
+    let here = need_ahead s.clocks ((entry_of s j).need) until h.needed in
+    elim h.may as (λ _. is_wanted s i ≡ true) [
+      | inl may ↦
+          let limited = limit_at_least es s.tracks until j (omega (arith, shown)) (open_here s j until shown may.1) in
+          let n = need_cut es s.tracks s.clocks i may.0 in
+          let c = carries es s.tracks s.clocks i j until within h.over here limited ahead in
+          wanted_by x (wanted_need s i) until h.ends (or_left (not x.top) x.last_try (ap not may.0)) (omega (arith, ahead)) (omega (arith, n, c))
+      | inr tries ↦
+          let n = need_free es s.tracks s.clocks i tries in
+          let c = free_carries es s.clocks i j until within h.over here ahead in
+          wanted_by x (wanted_need s i) until h.ends (tried x.top x.last_try tries) (omega (arith, ahead)) (omega (arith, n, c))
+    ]
 
 ours : (s : WatchState) (i : ℕ) → is_wanted_by need_here s i ≡ is_wanted s i
-unfolding need_of seen_entry
+unfolding need_of cut_need free_need seen_entry
 ours s i = refl
 
 -- one entry alone, renewable, with that need and that end
@@ -183,7 +226,7 @@ abbrev lone_entry : ℕ → Entry
 lone_entry need = record { name = []; kind = Token; parent = None; end = 0; renewable = true; step = 0; ceiling = None; need = need }
 
 abbrev lone_track : ℕ → Track
-lone_track end = record { end = At end; renewable = true; top = false; grant = None; owes = false; attempt = None; last = None; out = false }
+lone_track end = record { end = At end; renewable = true; top = false; last_try = false; grant = None; owes = false; attempt = None; last = None; out = false }
 
 abbrev alone : Clocks → ℕ → ℕ → WatchState
 alone c need end = record (opened (record { entries = lone_entry need ∷ []; margin = 0 }) 1) { tracks = lone_track end ∷ []; clocks = c }
@@ -197,11 +240,10 @@ alone_led : (c : Clocks) (need until : ℕ) → IsNeedUntil c need until → sec
 unfolding is_over chain chain_of entry_at
 alone_led c need until h ahead = record {
   ends = (refl, omega arith);
-  not_topped = refl;
+  may = inl (refl, λ a end over is before. alone_open c need (until - 1) a end is);
   over = refl;
   needed = h;
   ahead = ahead;
-  open_until = λ a end over is before. alone_open c need (until - 1) a end is;
 }
 
 -- and carries no more than what its need is brought to
@@ -219,8 +261,8 @@ alone_need here c need end (suc k) =
 after_end : (x : Track) (need end : ℕ) → x.end ≡ At end → wants x need ≡ true → end < need
 unfolding wants
 after_end x need end is wanted =
-    let rest = and_right (x.renewable || is_unknown x.end) (not x.top && (not (is_never x.end) && nat_lt (believed x.end) need)) wanted in
-    let last = and_right (not (is_never x.end)) (nat_lt (believed x.end) need) (and_right (not x.top) (not (is_never x.end) && nat_lt (believed x.end) need) rest) in
+    let rest = and_right (x.renewable || is_unknown x.end) ((not x.top || x.last_try) && (not (is_never x.end) && nat_lt (believed x.end) need)) wanted in
+    let last = and_right (not (is_never x.end)) (nat_lt (believed x.end) need) (and_right (not x.top || x.last_try) (not (is_never x.end) && nat_lt (believed x.end) need) rest) in
     let here : believed x.end ≡ end = ap believed is in
     let after : believed x.end < need = grind (arith, nat_tests) in
     omega (arith, here, after)
@@ -290,7 +332,7 @@ open_before s j until low a end over is before =
       | inr open' ↦ not_fixed (track_at s a) end is open'
     ]
 
--- an entry that is wanted has an end that has to be led on, is not at its top, and its end is before what it carries
+-- an entry that is wanted has an end that has to be led on, is not at its top or has its last try, and its end is before what it carries
 end_led : (until : ℕ) (renewable : Bool) (it : End) → (renewable || is_unknown it) ≡ true → not (is_never it) ≡ true → believed it < until → IsEndToBeLed until renewable it
 end_led until renewable Unknown leads ended before = tt
 end_led until true (At end) leads ended before = (refl, before)
@@ -301,21 +343,36 @@ pub is_not : (b : Bool) → not b ≡ true → b ≡ false
 is_not true h = absurd cc
 is_not false h = refl
 
-pub wants_parts : (x : Track) (need : ℕ) → wants x need ≡ true → ((x.renewable || is_unknown x.end) ≡ true) × ((x.top ≡ false) × ((not (is_never x.end) ≡ true) × (believed x.end < need)))
+pub wants_parts : (x : Track) (need : ℕ) → wants x need ≡ true → ((x.renewable || is_unknown x.end) ≡ true) × (((not x.top || x.last_try) ≡ true) × ((not (is_never x.end) ≡ true) × (believed x.end < need)))
 unfolding wants
 wants_parts x need wanted =
-    let leads = and_left (x.renewable || is_unknown x.end) (not x.top && (not (is_never x.end) && nat_lt (believed x.end) need)) wanted in
-    let rest = and_right (x.renewable || is_unknown x.end) (not x.top && (not (is_never x.end) && nat_lt (believed x.end) need)) wanted in
-    let led = and_left (not x.top) (not (is_never x.end) && nat_lt (believed x.end) need) rest in
-    let last = and_right (not x.top) (not (is_never x.end) && nat_lt (believed x.end) need) rest in
+    let leads = and_left (x.renewable || is_unknown x.end) ((not x.top || x.last_try) && (not (is_never x.end) && nat_lt (believed x.end) need)) wanted in
+    let rest = and_right (x.renewable || is_unknown x.end) ((not x.top || x.last_try) && (not (is_never x.end) && nat_lt (believed x.end) need)) wanted in
+    let led = and_left (not x.top || x.last_try) (not (is_never x.end) && nat_lt (believed x.end) need) rest in
+    let last = and_right (not x.top || x.last_try) (not (is_never x.end) && nat_lt (believed x.end) need) rest in
     let ended = and_left (not (is_never x.end)) (nat_lt (believed x.end) need) last in
     let test = and_right (not (is_never x.end)) (nat_lt (believed x.end) need) last in
     let after : believed x.end < need = grind (arith, nat_tests, test) in
-    (leads, (is_not x.top led, (ended, after)))
+    (leads, (led, (ended, after)))
+
+-- so is one with another need after its end
+pub wants_by : (x : Track) (m n : ℕ) → wants x m ≡ true → believed x.end < n → wants x n ≡ true
+unfolding wants
+wants_by x m n wanted before =
+    let parts = wants_parts x m wanted in
+    and_from (x.renewable || is_unknown x.end) ((not x.top || x.last_try) && (not (is_never x.end) && nat_lt (believed x.end) n)) parts.0
+    (and_from (not x.top || x.last_try) (not (is_never x.end) && nat_lt (believed x.end) n) parts.1.0 (and_from (not (is_never x.end)) (nat_lt (believed x.end) n) parts.1.1.0 (grind (arith, nat_tests, before))))
+
+-- and whoever is at its top then has its last try
+pub tries_last : (x : Track) (need : ℕ) → x.top ≡ true → wants x need ≡ true → has_last_try x ≡ true
+tries_last x need topped wanted = by x.top x.last_try topped (wants_parts x need wanted).1.0 where
+  by : (top last : Bool) → top ≡ true → (not top || last) ≡ true → top && last ≡ true
+  by true last is more = more
+  by false last is more = absurd cc
 
 -- and what it carries is the need of one that it is over
-needed_past : (s : WatchState) (i b : ℕ) → b < wanted_need s i → (j : ℕ) × ((until : ℕ) × ((b < until) × IsNeededBy s i j until))
-unfolding need_of
+needed_past : (s : WatchState) (i b : ℕ) → b < planned_need s i → (j : ℕ) × ((until : ℕ) × ((b < until) × IsNeededBy s i j until))
+unfolding cut_need
 needed_past s i b more =
     let es = s.forest.entries in
     let v = view es s.tracks s.clocks in
@@ -342,28 +399,67 @@ needed_past s i b more =
       ),
     )
 
-pub only_needed : WantedLaw
-only_needed s i wanted =
-    let parts = wants_parts (track_at s i) (wanted_need s i) wanted in
-    let f = needed_past s i (believed (track_at s i).end) parts.1.1.1 in
-    let until = f.1.0 in
-    let h = f.1.1.1 in (
-      f.0,
+-- that of one with its last try with no limit
+record IsCarriedFreely (s : WatchState) (i j until : ℕ) : Type 0 where
+  over : Over s.forest.entries i j
+  needed : IsNeedUntil s.clocks (entry_of s j).need until
+  ahead : second s < until
+
+freely_past : (s : WatchState) (i b : ℕ) → b < free_need s.forest.entries s.clocks i → (j : ℕ) × ((until : ℕ) × ((b < until) × IsCarriedFreely s i j until))
+unfolding free_need
+freely_past s i b more =
+    let es = s.forest.entries in
+    let v = frees es s.clocks in
+    let f = carried_is_of v (second s) i b more in
+    let j = f.0 in
+    let until = (entry_at v j).need in
+    let ahead : second s < until = f.2 in
+    let count = length-map-range_with_len (free_entry es s.clocks) 0 (length es) in
+    let some : 0 < until = omega (arith, ahead) in
+    let within : j < length es = let inside = need_inside v j some in omega (arith, count, inside) in
+    let is = ap (λ (e : Entry). e.need) (free_at es s.clocks j within) in (
+      j,
       (
         until,
-        record {
-          ends = end_led until (track_at s i).renewable (track_at s i).end parts.0 parts.1.1.0 f.1.1.0;
-          not_topped = parts.1.0;
-          over = h.over;
-          needed = h.needed;
-          ahead = h.ahead;
-          open_until = h.open_until;
-        },
+        (
+          f.3,
+          record {
+            over = sym (over_same es v (free_parent es s.clocks) i j) ∙ f.1;
+            needed = need_is s.clocks (entry_of s j).need until some (omega (arith, is));
+            ahead = ahead;
+          },
+        ),
       ),
     )
 
+not_at_top : (top last : Bool) → top && last ≡ false → (not top || last) ≡ true → top ≡ false
+not_at_top true last none more = absurd (not_both more none)
+not_at_top false last none more = refl
+
+pub only_needed : WantedLaw
+only_needed s i wanted =
+    let es = s.forest.entries in
+    let x = track_at s i in
+    let parts = wants_parts x (wanted_need s i) wanted in
+    let after = parts.1.1.1 in
+    elim (cases_Bool (has_last_try x)) as (λ _. (j : ℕ) × ((until : ℕ) × HasToBeLed s i j until)) [
+      | inl tries ↦
+          let n = need_free es s.tracks s.clocks i tries in
+          let f = freely_past s i (believed x.end) (omega (arith, n, after)) in
+          let until = f.1.0 in
+          let h = f.1.1.1 in
+          (f.0, (until, record { ends = end_led until x.renewable x.end parts.0 parts.1.1.0 f.1.1.0; may = inr tries; over = h.over; needed = h.needed; ahead = h.ahead }))
+      | inr none ↦
+          let led = not_at_top x.top x.last_try none parts.1.0 in
+          let n = need_cut es s.tracks s.clocks i led in
+          let f = needed_past s i (believed x.end) (omega (arith, n, after)) in
+          let until = f.1.0 in
+          let h = f.1.1.1 in
+          (f.0, (until, record { ends = end_led until x.renewable x.end parts.0 parts.1.1.0 f.1.1.0; may = inl (led, h.open_until); over = h.over; needed = h.needed; ahead = h.ahead }))
+    ]
+
 -- who is looked up at a beginning
-called_by_need : (s : WatchState) (i j until : ℕ) → IsNeededBy s i j until → 0 < wanted_need s i
+called_by_need : (s : WatchState) (i j until : ℕ) → IsNeededBy s i j until → 0 < planned_need s i
 called_by_need s i j until h =
     let es = s.forest.entries in
     let ahead = h.ahead in
@@ -375,12 +471,12 @@ called_by_need s i j until h =
 is_called_by : (s : WatchState) (i : ℕ) → IsNeeded s i ⊎ MayBeNeeded s i → is_called s.forest s.tracks s.clocks i ≡ true
 is_called_by s i (inl h) =
     let some = called_by_need s i h.0 h.1.0 h.1.1 in
-    or_left (nat_lt 0 (wanted_need s i)) (not s.clocks.dated && nat_lt 0 (carried s.forest.entries 0 i)) (grind (arith, nat_tests, some))
+    or_left (nat_lt 0 (planned_need s i)) (not s.clocks.dated && nat_lt 0 (carried s.forest.entries 0 i)) (grind (arith, nat_tests, some))
 is_called_by s i (inr h) =
     let needed' = h.1.1.1 in
     let least = carried_at_least s.forest.entries 0 i h.1.0 h.1.1.0 needed' in
     let some : 0 < carried s.forest.entries 0 i = omega (arith, least, needed') in
-    or_right (nat_lt 0 (wanted_need s i)) (not s.clocks.dated && nat_lt 0 (carried s.forest.entries 0 i))
+    or_right (nat_lt 0 (planned_need s i)) (not s.clocks.dated && nat_lt 0 (carried s.forest.entries 0 i))
     (and_from (not s.clocks.dated) (nat_lt 0 (carried s.forest.entries 0 i)) (ap not h.0) (grind (arith, nat_tests, some)))
 
 may_be_needed : (s : WatchState) (i : ℕ) → not s.clocks.dated && nat_lt 0 (carried s.forest.entries 0 i) ≡ true → MayBeNeeded s i
@@ -391,15 +487,15 @@ may_be_needed s i test =
     let f = carried_is_of s.forest.entries 0 i 0 some in
     (undated, (f.0, (f.1, f.3)))
 
-needed_so : (s : WatchState) (i : ℕ) → nat_lt 0 (wanted_need s i) ≡ true → IsNeeded s i
+needed_so : (s : WatchState) (i : ℕ) → nat_lt 0 (planned_need s i) ≡ true → IsNeeded s i
 needed_so s i test =
-    let some : 0 < wanted_need s i = grind (arith, nat_tests, test) in
+    let some : 0 < planned_need s i = grind (arith, nat_tests, test) in
     let f = needed_past s i 0 some in
     (f.0, (f.1.0, f.1.1.1))
 
 pub called_so : CalledLaw
 called_so s i = (
-  (λ called. or_parts (nat_lt 0 (wanted_need s i)) (not s.clocks.dated && nat_lt 0 (carried s.forest.entries 0 i)) (IsNeeded s i ⊎ MayBeNeeded s i) called
+  (λ called. or_parts (nat_lt 0 (planned_need s i)) (not s.clocks.dated && nat_lt 0 (carried s.forest.entries 0 i)) (IsNeeded s i ⊎ MayBeNeeded s i) called
       (λ test. inl (needed_so s i test)) (λ test. inr (may_be_needed s i test))),
   (λ h. is_called_by s i h),
 )

@@ -35,7 +35,7 @@ use Rattle.watch_machine.specs.State.{WatchState, entry_of, opened, second, trac
 use Rattle.watch_machine.specs.Step.{StepClock, readied}
 use Rattle.watch_machine.specs.Wanted.{believed, is_alive, is_unknown, is_wanted, seen_entry, wanted_need}
 use Rattle.watch_machine.proofs.Cases.{if_cases}
-use Rattle.watch_laws.specs.Calm.{AllRight, IsCalm, IsOfPlan, IsPlanNow, RoundOfPlanLaw, RoundsRight, asks_now, believed_forest, ends, in_plan_at, lead_at, terms}
+use Rattle.watch_laws.specs.Calm.{AllRight, IsCalm, IsOfPlan, IsPlanNow, RoundOfPlanLaw, RoundsRight, asks_now, believed_forest, ends, in_plan_at, lead_at, planned_need, terms}
 use Rattle.watch_laws.proofs.Believed.{AreSameNeeds, believed_at, believed_count, believed_is_forest, believed_margin, carried_believed, carried_within, same_carried, same_chain, written_at, written_count, written_same}
 use Rattle.watch_laws.proofs.Foreseen.{IsScheduled, short_led, there_is_plan, time_is, wanted_short}
 use Rattle.watch_laws.proofs.Forested.{readied_forest, turned_forest}
@@ -97,7 +97,7 @@ record IsTaken (s : WatchState) (i : ℕ) : Type 0 where
 wanted_taken : (s : WatchState) → IsForest s.forest → IsCalm s → (i : ℕ) → i < length s.forest.entries → is_wanted s i ≡ true → IsTaken s i
 unfolding terms seen_entry ends is_hoped
 wanted_taken s forest calm i within wanted =
-    let led = short_led s forest calm.keepable i (wanted_short s i wanted) in
+    let led = short_led s forest calm.keepable i (wanted_short s i wanted (calm.untopped i wanted)) in
     let x = track_at s i in
     let in_plan = calm.in_plan i within wanted in
     let hoped : hoped_at s i ≡ false =
@@ -179,7 +179,7 @@ module _ (s : WatchState) (forest : IsForest s.forest) (calm : IsCalm s) where
   unfolding believed_forest
   same = written_same (terms s) (planned_at s) (length s.forest.entries) first (λ i h. planned_same s i)
 
-  carried_view : (i : ℕ) → carried fs now i ≡ wanted_need s i
+  carried_view : (i : ℕ) → carried fs now i ≡ planned_need s i
   carried_view i = same_carried es fs same now i ∙ carried_believed s forest i
 
   -- the ends for the Asks
@@ -188,17 +188,17 @@ module _ (s : WatchState) (forest : IsForest s.forest) (calm : IsCalm s) where
   end_taken i within wanted = ap (λ (e : Entry). e.end) (view_at i within) ∙ (wanted_taken s forest calm i within wanted).end
 
   -- an entry that is not wanted lasts, for the Asks too
-  lasts : (i : ℕ) → is_wanted s i ≡ false → (wanted_need s i ≤ ends s i) × (wanted_need s i ≤ end_of fs i)
+  lasts : (i : ℕ) → is_wanted s i ≡ false → (planned_need s i ≤ ends s i) × (planned_need s i ≤ end_of fs i)
   unfolding end_of
   lasts i not_wanted =
-      let own : wanted_need s i ≤ ends s i = elim (cases_lt (ends s i) (wanted_need s i)) [
+      let own : planned_need s i ≤ ends s i = elim (cases_lt (ends s i) (planned_need s i)) [
         | inl short ↦ absurd (let led = short_led s forest calm.keepable i short in let w = led.wanted in cc)
         | inr so ↦ so
       ] in (
         own,
-        elim (cases_lt i (length s.forest.entries)) as (λ _. wanted_need s i ≤ (entry_at fs i).end) [
+        elim (cases_lt i (length s.forest.entries)) as (λ _. planned_need s i ≤ (entry_at fs i).end) [
           | inl within ↦ (let is = ap (λ (e : Entry). e.end) (view_at i within) ∙ unwanted_end s i not_wanted in omega arith)
-          | inr past ↦ elim (cases_lt 0 (wanted_need s i)) as (λ _. wanted_need s i ≤ (entry_at fs i).end) [
+          | inr past ↦ elim (cases_lt 0 (planned_need s i)) as (λ _. planned_need s i ≤ (entry_at fs i).end) [
             | inl some ↦ absurd (let c = carried_believed s forest i in let b = believed_count s in let inside = carried_within es first now i (omega arith) in omega arith)
             | inr none ↦ omega arith
           ]
@@ -233,7 +233,7 @@ module _ (s : WatchState) (forest : IsForest s.forest) (calm : IsCalm s) where
       let c = carried_view i in
       let low = end_below_bound fs (end_of fs) (Some t) i in
       elim (cases_Bool (is_wanted s i)) as (λ _. (i < length s.forest.entries) × (is_wanted s i ≡ true)) [
-        | inl wanted ↦ (let led = short_led s forest calm.keepable i (wanted_short s i wanted) in (led.within, wanted))
+        | inl wanted ↦ (let led = short_led s forest calm.keepable i (wanted_short s i wanted (calm.untopped i wanted)) in (led.within, wanted))
         | inr not_wanted ↦ absurd (let l = (lasts i not_wanted).1 in omega arith)
       ]
 
@@ -284,7 +284,7 @@ module _ (s : WatchState) (forest : IsForest s.forest) (calm : IsCalm s) where
   -- all that are over one that is wanted last until a margin from now
   room_over : (i a : ℕ) → is_wanted s i ≡ true → Over es a i → (now + s.forest.margin ≤ ends s a) × (now + s.forest.margin ≤ end_of fs a)
   room_over i a wanted over =
-      let short = wanted_short s i wanted in
+      let short = wanted_short s i wanted (calm.untopped i wanted) in
       let led = short_led s forest calm.keepable i short in
       let r = led.room in
       let up = carried_up es first now a i over in
@@ -292,7 +292,7 @@ module _ (s : WatchState) (forest : IsForest s.forest) (calm : IsCalm s) where
       let ci = carried_believed s forest i in
       elim (cases_Bool (is_wanted s a)) as (λ _. (now + s.forest.margin ≤ ends s a) × (now + s.forest.margin ≤ end_of fs a)) [
         | inl wanted' ↦
-            let led' = short_led s forest calm.keepable a (wanted_short s a wanted') in
+            let led' = short_led s forest calm.keepable a (wanted_short s a wanted' (calm.untopped a wanted')) in
             let r' = led'.room in
             let e = end_taken a led'.within wanted' in
             (r', omega arith)
@@ -326,7 +326,7 @@ module _ (s : WatchState) (forest : IsForest s.forest) (calm : IsCalm s) where
   asked_wanted next i within wanted =
       let margin = s.forest.margin in
       let above = forest.margin_above in
-      let led = short_led s forest calm.keepable i (wanted_short s i wanted) in
+      let led = short_led s forest calm.keepable i (wanted_short s i wanted (calm.untopped i wanted)) in
       let taken = wanted_taken s forest calm i within wanted in
       let f = view_at i within in
       let e = believed_at s i within in
@@ -379,7 +379,7 @@ module _ (s : WatchState) (forest : IsForest s.forest) (calm : IsCalm s) where
   -- whose time has come, it is now
   pub come_now : (i : ℕ) → i < length s.forest.entries → is_wanted s i ≡ true → now ≤ time_of s i
   come_now i within wanted =
-      let led = short_led s forest calm.keepable i (wanted_short s i wanted) in
+      let led = short_led s forest calm.keepable i (wanted_short s i wanted (calm.untopped i wanted)) in
       let at = time_is s i led (calm.in_plan i within wanted) in
       let r = led.room in
       omega arith
@@ -398,7 +398,7 @@ module _ (s : WatchState) (forest : IsForest s.forest) (calm : IsCalm s) where
   unfolding opens is_fresh has_come ends
   opens_now i within wanted come =
       let x = track_at s i in
-      let led = short_led s forest calm.keepable i (wanted_short s i wanted) in
+      let led = short_led s forest calm.keepable i (wanted_short s i wanted (calm.untopped i wanted)) in
       let r = led.room in
       let above = forest.margin_above in
       let now' : nat_le (time_of s i) now ≡ true = grind (arith, nat_tests) in
@@ -420,7 +420,7 @@ module _ (s : WatchState) (forest : IsForest s.forest) (calm : IsCalm s) where
   come_asked next later i within wanted come =
       let margin = s.forest.margin in
       let above = forest.margin_above in
-      let short = wanted_short s i wanted in
+      let short = wanted_short s i wanted (calm.untopped i wanted) in
       let led = short_led s forest calm.keepable i short in
       let room = led.room in
       let at = time_is s i led (calm.in_plan i within wanted) in
@@ -435,8 +435,8 @@ module _ (s : WatchState) (forest : IsForest s.forest) (calm : IsCalm s) where
       let m = believed_margin s in
       let above_margin = placed.step_past_margin in
       let step : margin < (entry_at es i).step = omega arith in
-      let high : (c : ℕ) → (entry_at es i).ceiling ≡ Some c → wanted_need s i ≤ c = λ c is. led.more c (sym (ap (λ (x : Entry). x.ceiling) e) ∙ is) in
-      let gain = gains_over (entry_at es i).ceiling (entry_at es i).step (wanted_need s i) step (omega arith) high in
+      let high : (c : ℕ) → (entry_at es i).ceiling ≡ Some c → planned_need s i ≤ c = λ c is. led.more c (sym (ap (λ (x : Entry). x.ceiling) e) ∙ is) in
+      let gain = gains_over (entry_at es i).ceiling (entry_at es i).step (planned_need s i) step (omega arith) high in
       let A : nat_lt (ends s i) (carried es now i) ≡ true = (let l : ends s i < carried es now i = omega arith in grind (arith, nat_tests)) in
       let B : nat_lt (ends s i) (renewed es margin (ends s) now i) ≡ true = (let l : ends s i < renewed es margin (ends s) now i = omega arith in grind (arith, nat_tests)) in
       let C : is_end_due margin next (ends s i) ≡ true = ap (is_end_due margin next) end ∙ later_due next later in
@@ -444,7 +444,7 @@ module _ (s : WatchState) (forest : IsForest s.forest) (calm : IsCalm s) where
 
   pub of_plan : (round : Option (List ℕ)) → IsRound s.forest s.tracks s.clocks round → IsOfPlan s round
   of_plan (Some asked) round =
-      let some = there_is_plan s forest calm.keepable calm.in_plan in
+      let some = there_is_plan s forest calm.keepable calm.in_plan calm.untopped in
       let opener = some_opens s round.0 in
       let who = opened_now opener.0 (let w = opener.1.0 in omega arith) opener.1.1 in
       by_plan some.0 some.1 opener.0 (let w = opener.1.0 in omega arith) who.0 who.1 where
@@ -462,7 +462,7 @@ module _ (s : WatchState) (forest : IsForest s.forest) (calm : IsCalm s) where
             let same_next : next ≡ first_of us = second_is s.forest.margin next round.1.1.0 us (subst (λ m. IsSchedule es m now (ends s) (Some now) us) (believed_margin s) behind) in
             (us, (subst (λ n. IsPlanNow s (n ∷ us)) here plan.best, round.1.1.1 ∙ asks_same next ∙ ap (asks_now s) same_next))
   of_plan None round =
-      let some = there_is_plan s forest calm.keepable calm.in_plan in
+      let some = there_is_plan s forest calm.keepable calm.in_plan calm.untopped in
       (some.0, (some.1.best, λ t is. later some.0 some.1 t is)) where
         later : (ts : List ℕ) → IsScheduled s ts → (t : ℕ) → first_of ts ≡ Some t → now < t
         later [] plan t is = absurd cc

@@ -1,5 +1,5 @@
 -- OnPlan: what a watch holds that goes by its plan, and what a clock leaves of it. For the law of calm.
-use Rattle.std.proofs.Common.{◌≡◌, ◌⊎◌, ◌∙◌, ℕ, ◌+◌, ◌-◌, ◌<◌, ◌≤◌, Bool, true, false, not, ◌||◌, ◌==◌, if◌then◌else◌, List, [], ◌∷◌, Option, Some, None, IfSome, get_or, is_none, length, map, refl, sym, ap, ap₂, subst, arith, inl, inr}
+use Rattle.std.proofs.Common.{◌≡◌, ◌⊎◌, ◌∙◌, ℕ, ◌+◌, ◌-◌, ◌<◌, ◌≤◌, Bool, true, false, ◌||◌, ◌==◌, if◌then◌else◌, List, [], ◌∷◌, Option, Some, None, IfSome, get_or, is_none, length, map, refl, sym, ap, ap₂, subst, arith, inl, inr}
 use Rattle.std.proofs.lemmas.Bool.{cases_Bool, cases_lt, cond-false, cond-true, eqb-true, or_left, or_right}
 use Rattle.std.proofs.lemmas.List.{get_or_past}
 use Rattle.std.proofs.lemmas.List.Elements.{All-cons, All-head, All-map, All-nil, All-tail}
@@ -39,13 +39,13 @@ use Rattle.watch_machine.specs.Wanted.{believed, is_fixed, is_wanted, need_of, w
 use Rattle.watch_machine.proofs.Cases.{if_both, value_is}
 use Rattle.watch_machine.proofs.Seeing.{each_past, each_read}
 use Rattle.watch_machine.proofs.Written.{each_length}
-use Rattle.watch_laws.specs.Calm.{IsCalmClock, NonePassed, OpensNextWakeUp, believed_forest, ends, ends_left_by, in_plan_at, lead_at, terms}
+use Rattle.watch_laws.specs.Calm.{IsCalmClock, NonePassed, OpensNextWakeUp, believed_forest, ends, ends_left_by, in_plan_at, lead_at, planned_need, terms}
 use Rattle.watch_laws.proofs.Believed.{carried_believed}
 use Rattle.watch_laws.proofs.Calming.{AreAlike, IsIdle, IsKept, ends_alike, entry_step, forest_alike, lead_alike, need_kept, plan_alike, terms_alike}
 use Rattle.watch_laws.proofs.Clocking.{clock_rises}
-use Rattle.watch_laws.proofs.Foreseen.{wanted_short}
+use Rattle.watch_laws.proofs.Foreseen.{need_planned, wanted_short}
 use Rattle.watch_laws.proofs.Going.{asks_by, entry_by, goes as going, operation_of, request_at}
-use Rattle.watch_laws.proofs.Opener.{bearing}
+use Rattle.watch_laws.proofs.Opener.{bearing, wants_same}
 use Rattle.watch_laws.proofs.Spacing.{free_of}
 use Rattle.watch_laws.proofs.Tracking.{each_at, each_kept}
 
@@ -173,26 +173,24 @@ pub record IsTried (s : WatchState) (e : ℕ → ℕ) (last : Wake) (ts : List �
   pub led : lead_at s i ≡ (entry_of s i).step
   pub renewable : (track_at s i).renewable ≡ true
   pub top : (track_at s i).top ≡ false
-  pub more : (c : ℕ) → (terms s i).ceiling ≡ Some c → wanted_need s i ≤ c
+  pub more : (c : ℕ) → (terms s i).ceiling ≡ Some c → planned_need s i ≤ c
   pub owes : (track_at s i).owes ≡ false
 
-pub need_alike : (new old : WatchState) → IsForest new.forest → IsForest old.forest → AreAlike new old → second new ≡ second old → (i : ℕ) → wanted_need new i ≡ wanted_need old i
+pub need_alike : (new old : WatchState) → IsForest new.forest → IsForest old.forest → AreAlike new old → second new ≡ second old → (i : ℕ) → planned_need new i ≡ planned_need old i
 need_alike new old forest forest' a now i =
     sym (carried_believed new forest i) ∙ ap₂ (λ (g : Forest) (t : ℕ). carried g.entries t i) (forest_alike new old a) now ∙ carried_believed old forest' i
 
-bears_wants : (x : Track) (n : ℕ) → wants (bearing x) n ≡ wants x n
-unfolding wants
-bears_wants x n = refl
-
-pub wanted_alike : (new old : WatchState) (i : ℕ) → bearing (track_at new i) ≡ bearing (track_at old i) → wanted_need new i ≡ wanted_need old i → is_wanted new i ≡ is_wanted old i
-wanted_alike new old i same need =
-    sym (bears_wants (track_at new i) (wanted_need new i)) ∙ ap₂ (λ (x : Track) (n : ℕ). wants x n) same need ∙ bears_wants (track_at old i) (wanted_need old i)
+pub wanted_alike :
+    (new old : WatchState) (i : ℕ) → bearing (track_at new i) ≡ bearing (track_at old i) → (track_at old i).top ≡ false → planned_need new i ≡ planned_need old i → is_wanted new i ≡ is_wanted old i
+wanted_alike new old i same led need =
+    let n = need_planned new i (ap (λ (x : Track). x.top) same ∙ led) in
+    wants_same (track_at new i) (track_at old i) (wanted_need new i) same ∙ ap (wants (track_at old i)) (n ∙ need ∙ sym (need_planned old i led))
 
 pub tried_on :
     (new old : WatchState) (e : ℕ → ℕ) (last : Wake) (ts : List ℕ) → IsForest new.forest → IsForest old.forest → AreAlike new old → second old ≤ second new →
     (i : ℕ) → IsKept (track_at new i) (track_at old i) → second new < ends old i → IsTried old e last ts i → IsTried new e last ts i
 tried_on new old e last ts forest forest' a later i same alive h =
-    let short = wanted_short old i h.wanted in
+    let short = wanted_short old i h.wanted h.top in
     let need = need_kept new old forest forest' a later i (omega arith) in
     let l = lead_alike new old a.forest i (ap (λ (x : Track). x.grant) same.bears) in
     let t = terms_alike new old a i in
@@ -214,7 +212,7 @@ tried_on new old e last ts forest forest' a later i same alive h =
       gains = h.gains ∙ sym (ap (λ (x : Entry). renewal x last.at) t);
       grows = (let k = h.grows in omega arith);
       ahead = omega arith;
-      wanted = wanted_alike new old i same.bears need ∙ h.wanted;
+      wanted = wanted_alike new old i same.bears h.top need ∙ h.wanted;
       in_plan = plan_alike new old a.forest i l ∙ h.in_plan;
       led = l ∙ h.led ∙ sym (entry_step new old a.forest i);
       renewable = ap (λ (x : Track). x.renewable) same.bears ∙ h.renewable;

@@ -30,19 +30,19 @@ use Rattle.watch_machine.specs.declared.track.End.{End}
 use Rattle.watch_machine.specs.declared.track.Track.{Track}
 use Rattle.watch_machine.specs.declared.track.Try.{Try}
 use Rattle.watch_machine.specs.Answers.{answers_all, failing, lane_freed, noted, replied, silent, with_track}
-use Rattle.watch_machine.specs.Beginning.{begun, is_called, is_pressed, is_pressed_try, owing, owing_lookup, soon, sooner_try, untopped, untopped_track}
+use Rattle.watch_machine.specs.Beginning.{begun, is_called, is_pressed, is_pressed_try, is_start, owing, owing_lookup, soon, sooner_try, untopped, untopped_track}
 use Rattle.watch_machine.specs.Clocks.{sec}
 use Rattle.watch_machine.specs.History.{History, Turn, Turned, after_all}
 use Rattle.watch_machine.specs.Lines.{is_first}
 use Rattle.watch_machine.specs.Looked.{after_look, by_terms, looked, refused_try, untold, untold_track}
-use Rattle.watch_machine.specs.Margins.{has_come, is_in_plan, lead, own_by, own_margin, time, time_before}
+use Rattle.watch_machine.specs.Margins.{has_come, is_in_plan, lead}
 use Rattle.watch_machine.specs.Press.{asked_track, dropped, is_fresh, press, pressed, pressed_alone, pressed_track, track_asked_in}
 use Rattle.watch_machine.specs.Refusal.{is_same, request_out}
 use Rattle.watch_machine.specs.Renewed.{after_renewal, renewed_track, state_renewed, ungranted, ungranted_track}
 use Rattle.watch_machine.specs.Round.{IsRound, asked_by_round as round_of, entry_planned, is_hoped, plan_view, planned_by, step_in_plan}
 use Rattle.watch_machine.specs.Sending.{sent, sent_in, sent_track}
 use Rattle.watch_machine.specs.Settling.{is_real, settled, settled_track, settled_try, timed}
-use Rattle.watch_machine.specs.State.{WatchState, attempt_at, each, entry_of, no_track, opened, second, track_at, track_in}
+use Rattle.watch_machine.specs.State.{WatchState, attempt_at, each, entry_of, has_last_try, no_track, opened, second, track_at, track_in}
 use Rattle.watch_machine.specs.Step.{Step, StepClock, StepCommand, StepLooked, StepRenewed, known, readied, why, with_need_until}
 use Rattle.watch_machine.specs.Wanted.{believed, is_alive, is_open, is_unknown, is_wanted, need_of, seen_entry, wants}
 use Rattle.watch_machine.proofs.Cases.{if_both, if_cases, not_both}
@@ -65,25 +65,27 @@ use Rattle.watch_laws.proofs.Opener.{mid_bears}
 use Rattle.watch_laws.proofs.Retrying.{IsPast, rises}
 use Rattle.watch_laws.proofs.Spacing.{looked_other}
 use Rattle.watch_laws.proofs.Tracking.{each_at, each_kept, replied_forest}
+use Rattle.watch_laws.proofs.Trying.{time_same, time_sooner}
 
--- what of a track says whether its try is a first one, whether it is pressed and out, and when it ends
+-- what of a track says whether its try is a first one, whether it is pressed and out, when it ends, and how long before that it is asked
 record Alike (y x : Track) : Type 0 where
   own : (come : Bool) → is_own_try come y.attempt ≡ is_own_try come x.attempt
   pressed' : is_pressed y ≡ is_pressed x
   out : y.out ≡ x.out
   end : y.end ≡ x.end
   grant : y.grant ≡ x.grant
+  fewer : has_last_try y ≡ true → has_last_try x ≡ true
 
 same_alike : (x : Track) → Alike x x
-same_alike x = record { own = λ come. refl; pressed' = refl; out = refl; end = refl; grant = refl }
+same_alike x = record { own = λ come. refl; pressed' = refl; out = refl; end = refl; grant = refl; fewer = λ tries. tries }
 
 both_alike : (z y x : Track) → Alike z y → Alike y x → Alike z x
-both_alike z y x h k = record { own = λ come. h.own come ∙ k.own come; pressed' = h.pressed' ∙ k.pressed'; out = h.out ∙ k.out; end = h.end ∙ k.end; grant = h.grant ∙ k.grant }
+both_alike z y x h k = record { own = λ come. h.own come ∙ k.own come; pressed' = h.pressed' ∙ k.pressed'; out = h.out ∙ k.out; end = h.end ∙ k.end; grant = h.grant ∙ k.grant; fewer = λ tries. k.fewer (h.fewer tries) }
 
 -- before who has to be asked is pressed, all stay so
 settled_alike : (margin at : ℕ) (x : Track) → Alike (settled_track margin at x) x
 unfolding settled_track
-settled_alike margin at x = record { own = λ come. own' come x.attempt; pressed' = pressed'' x.attempt; out = refl; end = refl; grant = refl } where
+settled_alike margin at x = record { own = λ come. own' come x.attempt; pressed' = pressed'' x.attempt; out = refl; end = refl; grant = refl; fewer = λ tries. tries } where
   own' : (come : Bool) (o : Option Try) → is_own_try come (settled_try margin at x o) ≡ is_own_try come o
   own' come None = refl
   own' come (Some t) = if_both (λ u. is_own_try come u ≡ is_own_try come (Some t)) t.failed _ (Some t) refl refl
@@ -92,12 +94,12 @@ settled_alike margin at x = record { own = λ come. own' come x.attempt; pressed
   pressed'' None = refl
   pressed'' (Some t) = if_both (λ u. is_pressed_try u ≡ is_pressed_try (Some t)) t.failed _ (Some t) refl refl
 
-owing_alike : (at : ℕ) (called : Bool) (x : Track) → Alike (owing at called x) x
+owing_alike : (at : ℕ) (first called : Bool) (x : Track) → Alike (owing at first called x) x
 unfolding owing
-owing_alike at called x =
-    if_both (λ y. Alike y x) (called && is_open (sec at) x) (owing_lookup at x) x
-    (if_both (λ y. Alike y x) x.out (record x { owes = true }) (record x { owes = true; attempt = Some (sooner_try (soon at x) x.attempt) }) (record { own = λ come. refl; pressed' = refl; out = refl; end = refl; grant = refl })
-    (record { own = λ come. own' come x.attempt; pressed' = pressed'' x.attempt; out = refl; end = refl; grant = refl })) (same_alike x) where
+owing_alike at first called x =
+    if_both (λ y. Alike y x) (called && (first || is_open (sec at) x)) (owing_lookup at x) x
+    (if_both (λ y. Alike y x) x.out (record x { owes = true }) (record x { owes = true; attempt = Some (sooner_try (soon at x) x.attempt) }) (record { own = λ come. refl; pressed' = refl; out = refl; end = refl; grant = refl; fewer = λ tries. tries })
+    (record { own = λ come. own' come x.attempt; pressed' = pressed'' x.attempt; out = refl; end = refl; grant = refl; fewer = λ tries. tries })) (same_alike x) where
       own' : (come : Bool) (o : Option Try) → is_own_try come (Some (sooner_try (soon at x) o)) ≡ is_own_try come o
       own' come None = refl
       own' come (Some t) = refl
@@ -111,8 +113,8 @@ begun_alike s None j = same_alike (track_at s j)
 begun_alike s (Some w) j =
     let xs = untopped s.tracks in
     both_alike (track_at (begun s (Some w)) j) (track_in xs j) (track_at s j)
-    (each_kept Alike (same_alike no_track) (λ k. owing s.clocks.at (is_called s.forest xs s.clocks k)) xs (λ k x. owing_alike s.clocks.at (is_called s.forest xs s.clocks k) x) j)
-    (each_kept Alike (same_alike no_track) (λ k. untopped_track) s.tracks (λ k x. record { own = λ come. refl; pressed' = refl; out = refl; end = refl; grant = refl }) j)
+    (each_kept Alike (same_alike no_track) (λ k. owing s.clocks.at (is_start w) (is_called s.forest xs s.clocks k)) xs (λ k x. owing_alike s.clocks.at (is_start w) (is_called s.forest xs s.clocks k) x) j)
+    (each_kept Alike (same_alike no_track) (λ k. untopped_track) s.tracks (λ k x. record { own = λ come. refl; pressed' = refl; out = refl; end = refl; grant = refl; fewer = λ tries. absurd cc }) j)
 
 readied_alike : (s : WatchState) (wall elapsed j : ℕ) → Alike (track_at (readied s wall elapsed) j) (track_at s j)
 unfolding readied
@@ -149,7 +151,7 @@ any_filter p (suc n) a j h =
       | inr no' ↦ up (any_filter p n (a + 1) j (sym (ap (list_any (λ k. k == j)) (cond-false (p a) (a ∷ rest) rest no')) ∙ h))
     ]
 
-renewable_of : (es : List Entry) (margin s : ℕ) (ends : ℕ → ℕ) (t : ℕ) (next : Option ℕ) (j : ℕ) → list_any (λ k. k == j) (asks es margin s ends t next) ≡ true → (j < length es) × ((entry_at es j).renewable ≡ true)
+pub renewable_of : (es : List Entry) (margin s : ℕ) (ends : ℕ → ℕ) (t : ℕ) (next : Option ℕ) (j : ℕ) → list_any (λ k. k == j) (asks es margin s ends t next) ≡ true → (j < length es) × ((entry_at es j).renewable ≡ true)
 unfolding asks is_asked_for
 renewable_of es margin s ends t next j h =
     let both = any_filter (is_asked_for es margin s ends t next) (length es) 0 j h in
@@ -218,13 +220,14 @@ record Sends (y x : Track) : Type 0 where
   attempt : y.attempt ≡ x.attempt
   end : y.end ≡ x.end
   grant : y.grant ≡ x.grant
+  fewer : has_last_try y ≡ true → has_last_try x ≡ true
   out : x.out ≡ true → y.out ≡ true
 
 sent_sends : (s : WatchState) (rs : List Request) (j : ℕ) → Sends (track_at (sent s rs) j) (track_at s j)
 sent_sends s rs j =
-    each_kept Sends (record { attempt = refl; end = refl; grant = refl; out = λ h. h }) (sent_in s.clocks.at rs) s.tracks
-    (λ k x. if_both (λ y. Sends y x) (list_any (λ (r : Request). r.entry == k) rs) (sent_track s.clocks.at x) x (record { attempt = refl; end = refl; grant = refl; out = λ h. refl })
-    (record { attempt = refl; end = refl; grant = refl; out = λ h. h })) j
+    each_kept Sends (record { attempt = refl; end = refl; grant = refl; fewer = λ tries. tries; out = λ h. h }) (sent_in s.clocks.at rs) s.tracks
+    (λ k x. if_both (λ y. Sends y x) (list_any (λ (r : Request). r.entry == k) rs) (sent_track s.clocks.at x) x (record { attempt = refl; end = refl; grant = refl; fewer = λ tries. tries; out = λ h. refl })
+    (record { attempt = refl; end = refl; grant = refl; fewer = λ tries. tries; out = λ h. h })) j
 
 -- a try that is the entry's own is so when its time has come, too
 own_more : (b c : Bool) (o : Option Try) → (b ≡ true → c ≡ true) → is_own_try b o ≡ true → is_own_try c o ≡ true
@@ -254,10 +257,10 @@ later_alive : (a b : ℕ) (e : End) → a ≤ b → nat_lt (sec b) (believed e) 
 later_alive a b e up h = let less = sec_rises a b up in grind (arith, nat_tests)
 
 -- a time that has come has come later, too
-same_come : (margin : ℕ) (e : Entry) (y x : Track) (now : ℕ) → y.end ≡ x.end → y.grant ≡ x.grant → has_come margin e y now ≡ has_come margin e x now
-unfolding has_come time own_margin
-same_come margin e y x now ends grants =
-    ap (λ d. nat_le (time_before d (own_by margin (lead e.step y.grant))) now) ends ∙ ap (λ k. nat_le (time_before x.end (own_by margin (lead e.step k))) now) grants
+sooner_come :
+    (margin : ℕ) (e : Entry) (y x : Track) (now : ℕ) → y.end ≡ x.end → y.grant ≡ x.grant → (has_last_try y ≡ true → has_last_try x ≡ true) → has_come margin e x now ≡ true → has_come margin e y now ≡ true
+unfolding has_come
+sooner_come margin e y x now ends grants fewer h = let l = time_sooner margin margin e e y x refl refl ends grants fewer in grind (arith, nat_tests, l, h)
 
 later_come : (margin : ℕ) (e : Entry) (x : Track) (a b : ℕ) → a ≤ b → has_come margin e x a ≡ true → has_come margin e x b ≡ true
 unfolding has_come
@@ -293,8 +296,8 @@ clock_stays old new wall elapsed output j step past is wanted =
     let now = end'.clocks.at in
     let come : is_come old j ≡ true → is_come end' j ≡ true =
     λ h. ap (λ (f : Forest). has_come f.margin (entry_at f.entries j) (track_at end' j) (sec now)) (readied_forest old wall elapsed)
-    ∙ same_come m (entry_of old j) (track_at end' j) (track_at old j) (sec now) end_same (sends.grant ∙ alike.grant)
-    ∙ later_come m (entry_of old j) (track_at old j) (sec before) (sec now) (sec_rises before now (omega (arith, up, clock))) h in
+    ∙ sooner_come m (entry_of old j) (track_at end' j) (track_at old j) (sec now) end_same (sends.grant ∙ alike.grant) (λ tries. alike.fewer (sends.fewer tries))
+    (later_come m (entry_of old j) (track_at old j) (sec before) (sec now) (sec_rises before now (omega (arith, up, clock))) h) in
     subst (λ (x : WatchState). Stays old x j) (sym made.1)
     (record {
       pressed' = ap is_pressed_try sends.attempt ∙ alike.pressed' ∙ is;
@@ -314,14 +317,13 @@ record IsLeft (new old : WatchState) (j : ℕ) : Type 0 where
   margin : new.forest.margin ≡ old.forest.margin
   step : (entry_of new j).step ≡ (entry_of old j).step
 
-come_parts :
-    (m n s t now then' : ℕ) (x y : Track) → m ≡ n → s ≡ t → x ≡ y → now ≡ then' → nat_le (time_before x.end (own_by m (lead s x.grant))) now ≡ nat_le (time_before y.end (own_by n (lead t y.grant))) then'
-come_parts m n s t now then' x y margins steps tracks clock = cc
-
 come_left : (new old : WatchState) (j : ℕ) → IsLeft new old j → new.clocks.at ≡ old.clocks.at → is_come new j ≡ is_come old j
-unfolding has_come time own_margin
+unfolding has_come
 come_left new old j left clock =
-    come_parts new.forest.margin old.forest.margin (entry_of new j).step (entry_of old j).step (second new) (second old) (track_at new j) (track_at old j) left.margin left.step left.track (ap sec clock)
+    ap₂ (λ t n. nat_le t n)
+    (time_same new.forest.margin old.forest.margin (entry_of new j) (entry_of old j) (track_at new j) (track_at old j) left.margin left.step (ap (λ (x : Track). x.end) left.track)
+    (ap (λ (x : Track). x.grant) left.track) (ap has_last_try left.track))
+    (ap sec clock)
 
 same_stays : (old new : WatchState) (j : ℕ) → IsLeft new old j → new.clocks.at ≡ old.clocks.at → is_pressed (track_at old j) ≡ true → Stays old new j
 same_stays old new j left clock is =

@@ -18,7 +18,7 @@ use Rattle.watch_machine.specs.declared.track.Track.{Track}
 use Rattle.watch_machine.specs.Answers.{noted}
 use Rattle.watch_machine.specs.Clocks.{sec}
 use Rattle.watch_machine.specs.History.{Turn}
-use Rattle.watch_machine.specs.Margins.{has_come, own_margin, time}
+use Rattle.watch_machine.specs.Margins.{asking_margin, has_come, own_margin, time}
 use Rattle.watch_machine.specs.Press.{asked_track, dropped, is_fresh, press, pressed, pressed_alone, pressed_track, track_asked_in}
 use Rattle.watch_machine.specs.Refusal.{request_out}
 use Rattle.watch_machine.specs.Sending.{sent, sent_in, sent_track}
@@ -32,7 +32,7 @@ use Rattle.watch_laws.proofs.Tracking.{each_kept}
 
 -- what of a track says whether it is wanted and when its time comes
 abbrev pub bearing : Track → Track
-bearing x = record no_track { end = x.end; renewable = x.renewable; top = x.top; grant = x.grant }
+bearing x = record no_track { end = x.end; renewable = x.renewable; top = x.top; last_try = x.last_try; grant = x.grant }
 
 abbrev Bears : Track → Track → Type 0
 Bears y x = bearing y ≡ bearing x
@@ -63,7 +63,7 @@ mid_bears s round requests i =
 
 -- and so when a time comes, and who is wanted
 come_bears : (margin : ℕ) (e : Entry) (x : Track) (now : ℕ) → has_come margin e (bearing x) now ≡ has_come margin e x now
-unfolding has_come time own_margin
+unfolding has_come time asking_margin own_margin
 come_bears margin e x now = refl
 
 wants_bears : (x : Track) (need : ℕ) → wants (bearing x) need ≡ wants x need

@@ -55,6 +55,7 @@ use Rattle.watch_laws.proofs.Sparing.{readied_answers}
 use Rattle.watch_laws.proofs.Stages.{Facts, IsGoing, IsPlanned, IsServed, IsThrough, due_ahead, free_from, margin_holds, turn_of}
 use Rattle.watch_laws.proofs.Ticking.{IsTick, before_second, goes_on, not_so, not_whole, so_whole, ticks_through}
 use Rattle.watch_laws.proofs.Tracking.{replied_forest}
+use Rattle.watch_laws.proofs.Trying.{asking_own}
 
 -- what holds after a turn
 pub record Stays (f : Facts) (due k : ℕ) (s : WatchState) : Type 0 where
@@ -315,8 +316,8 @@ unfolding wants
 end_known Unknown margin n x need is wanted h = absurd (omega (arith, h))
 end_known (At k) margin n x need is wanted h = (k, (refl, omega (arith, h)))
 end_known Never margin n x need is wanted h =
-    let led = (and_parts (x.renewable || is_unknown x.end) (not x.top && (not (is_never x.end) && nat_lt (believed x.end) need)) wanted).1 in
-    let ends = (and_parts (not x.top) (not (is_never x.end) && nat_lt (believed x.end) need) led).1 in
+    let led = (and_parts (x.renewable || is_unknown x.end) ((not x.top || x.last_try) && (not (is_never x.end) && nat_lt (believed x.end) need)) wanted).1 in
+    let ends = (and_parts (not x.top || x.last_try) (not (is_never x.end) && nat_lt (believed x.end) need) led).1 in
     let lasts = (and_parts (not (is_never x.end)) (nat_lt (believed x.end) need) ends).0 in
     absurd (not_both lasts (ap (λ e. not (is_never e)) is))
 
@@ -324,9 +325,9 @@ plan_margin : (s : WatchState) (i : ℕ) → is_in_plan s.forest.margin (entry_o
 unfolding is_in_plan
 plan_margin s i h = eqb-true (own_margin s.forest.margin (entry_of s i) (track_at s i)) s.forest.margin h
 
-time_is : (s : WatchState) (i : ℕ) → is_in_plan s.forest.margin (entry_of s i) (track_at s i) ≡ true → time_of s i ≡ time_before (track_at s i).end s.forest.margin
+time_is : (s : WatchState) (i : ℕ) → is_in_plan s.forest.margin (entry_of s i) (track_at s i) ≡ true → (track_at s i).top ≡ false → time_of s i ≡ time_before (track_at s i).end s.forest.margin
 unfolding time
-time_is s i h = ap (time_before (track_at s i).end) (plan_margin s i h)
+time_is s i h led = ap (time_before (track_at s i).end) (asking_own s.forest.margin (entry_of s i) (track_at s i) led ∙ plan_margin s i h)
 
 record First (s : WatchState) (i : ℕ) : Type 0 where
   end : ℕ
@@ -335,7 +336,7 @@ record First (s : WatchState) (i : ℕ) : Type 0 where
 
 first_end : (s : WatchState) (i : ℕ) → IsBefore s i → First s i
 first_end s i b =
-    let t = time_is s i b.in_plan in
+    let t = time_is s i b.in_plan b.not_topped in
     let ahead = b.ahead in
     let k = end_known (track_at s i).end s.forest.margin (second s) (track_at s i) (wanted_need s i) refl b.wanted (omega (arith, t, ahead)) in
     let sum = k.1.1 in

@@ -21,7 +21,7 @@ use Rattle.watch_machine.specs.declared.notes.Why.{Why}
 use Rattle.watch_machine.specs.declared.track.Track.{Track}
 use Rattle.watch_machine.specs.declared.track.Try.{Try}
 use Rattle.watch_machine.specs.Answers.{back_track, back_try, due_again, failing, noted}
-use Rattle.watch_machine.specs.Beginning.{begun, is_called, owed, owing, owing_lookup, soon, sooner_try, untopped, untopped_track}
+use Rattle.watch_machine.specs.Beginning.{begun, is_called, is_start, owed, owing, owing_lookup, owing_past, soon, sooner_try, untopped, untopped_track}
 use Rattle.watch_machine.specs.Clocks.{sec}
 use Rattle.watch_machine.specs.History.{History, Turn, Turned}
 use Rattle.watch_machine.specs.Lines.{is_due, is_due_try, rested}
@@ -34,7 +34,7 @@ use Rattle.watch_machine.specs.Round.{asked_by_round as round_of}
 use Rattle.watch_machine.specs.Sending.{sent, sent_in, sent_track}
 use Rattle.watch_machine.specs.Settling.{settled, settled_track, settled_try, timed}
 use Rattle.watch_machine.specs.State.{WatchState, attempt_at, entry_of, fresh_track, no_track, opened, track_at, track_in}
-use Rattle.watch_machine.specs.Step.{Step, StepClock, StepCommand, StepLooked, StepRenewed, readied, why}
+use Rattle.watch_machine.specs.Step.{Step, StepClock, StepCommand, StepLooked, StepRenewed, readied, told_earlier, why}
 use Rattle.watch_machine.specs.Wait.{wait}
 use Rattle.watch_machine.specs.Wanted.{is_open, need_of, wants}
 use Rattle.watch_machine.proofs.Cases.{if_both, if_cases, not_both}
@@ -42,7 +42,7 @@ use Rattle.watch_laws.specs.Waiting.{AllOwed, HasTry, OwedLaw, OwedRight, OwesRi
 use Rattle.watch_laws.proofs.Clocking.{refused_stays}
 use Rattle.watch_laws.proofs.Going.{Goes, goes, named_of, one_sent}
 use Rattle.watch_laws.proofs.Minding.{has_try}
-use Rattle.watch_laws.proofs.Tracking.{back_kept, each_holds, each_kept, set_holds, set_kept}
+use Rattle.watch_laws.proofs.Tracking.{back_kept, each_holds, each_kept, known_is, set_holds, set_kept}
 
 -- there is a try where a lookup is owed, and where the request is out
 pub record Tries (x : Track) : Type 0 where
@@ -62,10 +62,10 @@ settled_tries : (margin at : ℕ) (x : Track) → Still (settled_track margin at
 unfolding settled_track
 settled_tries margin at x h = record { owed = λ o. settled_some margin at x x.attempt (h.owed o); out = λ o. settled_some margin at x x.attempt (h.out o) }
 
-owing_tries : (at : ℕ) (called : Bool) (x : Track) → Still (owing at called x) x
+owing_tries : (at : ℕ) (first called : Bool) (x : Track) → Still (owing at first called x) x
 unfolding owing
-owing_tries at called x h =
-    if_both Tries (called && is_open (sec at) x) (owing_lookup at x) x
+owing_tries at first called x h =
+    if_both Tries (called && (first || is_open (sec at) x)) (owing_lookup at x) x
     (if_cases Tries x.out (record x { owes = true }) (record x { owes = true; attempt = Some (sooner_try (soon at x) x.attempt) })
     (λ out. record { owed = λ o. h.out out; out = h.out }) (λ free. record { owed = λ o. refl; out = λ o. refl })) h
 
@@ -94,7 +94,7 @@ begun_tries : (s : WatchState) (w : Option Why) (i : ℕ) → Still (track_at (b
 begun_tries s None i h = h
 begun_tries s (Some w) i h =
     let xs = untopped s.tracks in
-    each_kept Still (λ k. k) (λ j. owing s.clocks.at (is_called s.forest xs s.clocks j)) xs (λ j x. owing_tries s.clocks.at (is_called s.forest xs s.clocks j) x) i
+    each_kept Still (λ k. k) (λ j. owing s.clocks.at (is_start w) (is_called s.forest xs s.clocks j)) xs (λ j x. owing_tries s.clocks.at (is_start w) (is_called s.forest xs s.clocks j) x) i
     (each_kept Still (λ k. k) (λ j. untopped_track) s.tracks (λ j x k. record { owed = k.owed; out = k.out }) i h)
 
 readied_tries : (s : WatchState) (wall elapsed i : ℕ) → Still (track_at (readied s wall elapsed) i) (track_at s i)
@@ -263,6 +263,10 @@ renewed_outcome old new (Some q) reply output step all =
     taken_right output _ new step.0 refl
     (subst AllTry (sym step.1) (λ i. back_kept Still (λ x k. k) (λ x. back_tries x) (state_renewed s q reply) q reply i (renewed_tries s q reply i (all i))))
 
+known_tries : (at end : ℕ) (renewable : Bool) (x : Track) → Still (owing_past at (told_earlier end renewable x)) x
+known_tries at end renewable x h =
+    known_is Tries at end renewable x (record { owed = h.owed; out = h.out }) (λ out. record { owed = λ o. h.out out; out = h.out }) (λ free. record { owed = λ o. refl; out = λ o. refl })
+
 step_outcome : (old new : WatchState) (event : Event) (output : Output) → Step old event output new → AllTry old → Outcome output.command new
 step_outcome old new (Clock wall elapsed) output step all = clock_outcome old new wall elapsed output step all
 step_outcome old new (Looked j reply terms) output step all = looked_outcome old new (request_out old.out j Look) reply terms output step all
@@ -270,7 +274,7 @@ step_outcome old new (Renewed j reply) output step all = renewed_outcome old new
 step_outcome old new (Need j until) output step all = taken_right output _ new step.0 refl (subst AllTry (sym step.1) all)
 step_outcome old new Begin output step all = taken_right output _ new step.0 refl (subst AllTry (sym step.1) all)
 step_outcome old new (Known j end renewable) output step all =
-    taken_right output _ new step.0 refl (subst AllTry (sym step.1) (λ i. set_kept Still (λ x k. k) old.tracks j _ (λ k. record { owed = k.owed; out = k.out }) i (all i)))
+    taken_right output _ new step.0 refl (subst AllTry (sym step.1) (λ i. set_kept Still (λ x k. k) old.tracks j _ (known_tries old.clocks.at end renewable (track_at old j)) i (all i)))
 
 pub turn_outcome : (old new : WatchState) (event : Event) (result : Result Output WatchFault) → Turn old event result new → AllTry old → AllTry new × OwedRight result new
 turn_outcome old new event (Ok output) turn all = step_outcome old new event output turn.1 all

@@ -14,7 +14,7 @@ use Rattle.watch_machine.specs.declared.notes.Why.{Why}
 use Rattle.watch_machine.specs.declared.track.End.{End}
 use Rattle.watch_machine.specs.declared.track.Track.{Track}
 use Rattle.watch_machine.specs.declared.track.Try.{Try}
-use Rattle.watch_machine.specs.Beginning.{begun, is_called, is_pressed, is_pressed_try, owing, owing_lookup, soon, sooner_try, untopped, untopped_track}
+use Rattle.watch_machine.specs.Beginning.{begun, is_called, is_pressed, is_pressed_try, is_start, owing, owing_lookup, soon, sooner_try, untopped, untopped_track}
 use Rattle.watch_machine.specs.Clocks.{sec}
 use Rattle.watch_machine.specs.History.{Turn}
 use Rattle.watch_machine.specs.Lines.{rested}
@@ -83,10 +83,10 @@ sooner_kept : (from : ℕ) (o : Option Try) → is_pressed_try o ≡ true → ke
 sooner_kept from None is = absurd cc
 sooner_kept from (Some t) is = refl
 
-owing_keeps : (at : ℕ) (called : Bool) (x : Track) → Keeps (owing at called x) x
+owing_keeps : (at : ℕ) (first called : Bool) (x : Track) → Keeps (owing at first called x) x
 unfolding owing
-owing_keeps at called x =
-    if_both (λ y. Keeps y x) (called && is_open (sec at) x) (owing_lookup at x) x
+owing_keeps at first called x =
+    if_both (λ y. Keeps y x) (called && (first || is_open (sec at) x)) (owing_lookup at x) x
     (if_both (λ y. Keeps y x) x.out (record x { owes = true }) (record x { owes = true; attempt = Some (sooner_try (soon at x) x.attempt) }) (record { last = refl; end = refl; out = refl; pressed = refl; try = λ _. refl })
     (record { last = refl; end = refl; out = refl; pressed = sooner_is (soon at x) x.attempt; try = λ p. sooner_kept (soon at x) x.attempt p })) (keeps_same x)
 
@@ -95,7 +95,7 @@ begun_keeps s None i = keeps_same (track_at s i)
 begun_keeps s (Some w) i =
     let xs = untopped s.tracks in
     keeps_both (track_at (begun s (Some w)) i) (track_in xs i) (track_at s i)
-    (each_kept Keeps (keeps_same no_track) (λ j. owing s.clocks.at (is_called s.forest xs s.clocks j)) xs (λ j x. owing_keeps s.clocks.at (is_called s.forest xs s.clocks j) x) i)
+    (each_kept Keeps (keeps_same no_track) (λ j. owing s.clocks.at (is_start w) (is_called s.forest xs s.clocks j)) xs (λ j x. owing_keeps s.clocks.at (is_start w) (is_called s.forest xs s.clocks j) x) i)
     (each_kept Keeps (keeps_same no_track) (λ j. untopped_track) s.tracks (λ j x. record { last = refl; end = refl; out = refl; pressed = refl; try = λ _. refl }) i)
 
 pub readied_keeps : (s : WatchState) (wall elapsed i : ℕ) → Keeps (track_at (readied s wall elapsed) i) (track_at s i)

@@ -24,7 +24,7 @@ use Rattle.watch_machine.specs.declared.notes.Why.{Why}
 use Rattle.watch_machine.specs.declared.track.Track.{Track}
 use Rattle.watch_machine.specs.declared.track.Try.{Try}
 use Rattle.watch_machine.specs.Answers.{back_track, back_try, due_again, failing, noted, replied}
-use Rattle.watch_machine.specs.Beginning.{begun, is_called, is_pressed, owed, owing, owing_lookup, soon, sooner_try, untopped, untopped_track}
+use Rattle.watch_machine.specs.Beginning.{begun, is_called, is_pressed, is_start, owed, owing, owing_lookup, owing_past, soon, sooner_try, untopped, untopped_track}
 use Rattle.watch_machine.specs.Clocks.{sec}
 use Rattle.watch_machine.specs.History.{History, Turn, Turned}
 use Rattle.watch_machine.specs.Lines.{rested}
@@ -38,7 +38,7 @@ use Rattle.watch_machine.specs.Round.{asked_by_round as round_asked}
 use Rattle.watch_machine.specs.Sending.{sent, sent_in, sent_track}
 use Rattle.watch_machine.specs.Settling.{settled, settled_track, settled_try, timed}
 use Rattle.watch_machine.specs.State.{WatchState, entry_of, fresh_track, no_track, opened, second, track_at, track_in}
-use Rattle.watch_machine.specs.Step.{Step, StepClock, StepCommand, StepLooked, StepRenewed, readied, why}
+use Rattle.watch_machine.specs.Step.{Step, StepClock, StepCommand, StepLooked, StepRenewed, readied, told_earlier, why}
 use Rattle.watch_machine.specs.Wanted.{is_alive, is_open, is_wanted, need_of, wants}
 use Rattle.watch_machine.proofs.Cases.{if_both, if_cases, not_both}
 use Rattle.watch_machine.proofs.Within.{out_entry}
@@ -49,7 +49,7 @@ use Rattle.watch_laws.proofs.Clocking.{refused_stays}
 use Rattle.watch_laws.proofs.Going.{asks_by, entry_by, goes, operation_of, request_at}
 use Rattle.watch_laws.proofs.Opener.{bearing, come_same, mid_bears}
 use Rattle.watch_laws.proofs.Spacing.{looked_other, same_index, same_is}
-use Rattle.watch_laws.proofs.Tracking.{back_kept, each_holds, each_kept, replied_forest, set_holds, set_kept}
+use Rattle.watch_laws.proofs.Tracking.{back_kept, each_holds, each_kept, known_is, replied_forest, set_holds, set_kept}
 
 -- a try that is to go out, or none, asks for a renewal only where b says so
 abbrev Reasoned : Bool → Option Try → Type 0
@@ -81,10 +81,10 @@ sooner_reasoned : (b : Bool) (at : ℕ) (o : Option Try) → Reasoned b o → Re
 sooner_reasoned b at None h = look_reasoned b (owed at) refl
 sooner_reasoned b at (Some t) h = h
 
-owing_still : (b : Bool) (at : ℕ) (called : Bool) (x : Track) → Still b (owing at called x) x
+owing_still : (b : Bool) (at : ℕ) (first called : Bool) (x : Track) → Still b (owing at first called x) x
 unfolding owing
-owing_still b at called x h =
-    if_both (λ (y : Track). Reasoned b y.attempt) (called && is_open (sec at) x) (owing_lookup at x) x
+owing_still b at first called x h =
+    if_both (λ (y : Track). Reasoned b y.attempt) (called && (first || is_open (sec at) x)) (owing_lookup at x) x
     (if_both (λ (y : Track). Reasoned b y.attempt) x.out (record x { owes = true }) (record x { owes = true; attempt = Some (sooner_try (soon at x) x.attempt) }) h (sooner_reasoned b (soon at x) x.attempt h)) h
 
 let_go_reasoned : (b : Bool) (x : Track) (t : Try) → Reasoned b (let_go x t)
@@ -118,7 +118,7 @@ begun_still : (b : Bool) (s : WatchState) (w : Option Why) (i : ℕ) → Still b
 begun_still b s None i h = h
 begun_still b s (Some w) i h =
     let xs = untopped s.tracks in
-    each_kept (Still b) (λ k. k) (λ j. owing s.clocks.at (is_called s.forest xs s.clocks j)) xs (λ j x. owing_still b s.clocks.at (is_called s.forest xs s.clocks j) x) i
+    each_kept (Still b) (λ k. k) (λ j. owing s.clocks.at (is_start w) (is_called s.forest xs s.clocks j)) xs (λ j x. owing_still b s.clocks.at (is_start w) (is_called s.forest xs s.clocks j) x) i
     (each_kept (Still b) (λ k. k) (λ j. untopped_track) s.tracks (λ j x k. k) i h)
 
 readied_still : (b : Bool) (s : WatchState) (wall elapsed i : ℕ) → Still b (track_at (readied s wall elapsed) i) (track_at s i)
@@ -312,6 +312,10 @@ renewed_outcome old new (Some q) j i reply output b is step h =
           (renewed_own s (replied mid q reply) q reply) h,
     )
 
+-- an end that is handed in
+known_still : (b : Bool) (at end : ℕ) (renewable : Bool) (x : Track) → Still b (owing_past at (told_earlier end renewable x)) x
+known_still b at end renewable x h = known_is (λ (y : Track). Reasoned b y.attempt) at end renewable x h (λ out. h) (λ free. sooner_reasoned b (soon at x) x.attempt h)
+
 -- a step, and a turn
 step_outcome :
     (old new : WatchState) (event : Event) (output : Output) (i : ℕ) (b : Bool) → Step old event output new → Reasoned b (track_at old i).attempt → Outcome i (reason_taken i b event output new) output.command new
@@ -321,7 +325,7 @@ step_outcome old new (Renewed j reply) output i b step h = renewed_outcome old n
 step_outcome old new (Need j until) output i b step h = (quiet i output _ b step.0 refl, subst (λ (x : WatchState). Reasoned b (track_at x i).attempt) (sym step.1) h)
 step_outcome old new Begin output i b step h = (quiet i output _ b step.0 refl, subst (λ (x : WatchState). Reasoned b (track_at x i).attempt) (sym step.1) h)
 step_outcome old new (Known j end renewable) output i b step h =
-    (quiet i output _ b step.0 refl, subst (λ (x : WatchState). Reasoned b (track_at x i).attempt) (sym step.1) (set_kept (Still b) (λ x k. k) old.tracks j _ (λ k. k) i h))
+    (quiet i output _ b step.0 refl, subst (λ (x : WatchState). Reasoned b (track_at x i).attempt) (sym step.1) (set_kept (Still b) (λ x k. k) old.tracks j _ (known_still b old.clocks.at end renewable (track_at old j)) i h))
 
 turn_outcome :
     (old new : WatchState) (event : Event) (result : Result Output WatchFault) (i : ℕ) (b : Bool) → Turn old event result new → Reasoned b (track_at old i).attempt →

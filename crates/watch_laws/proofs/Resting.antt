@@ -12,7 +12,7 @@ use Rattle.watch_machine.specs.declared.event.Reply.TheVariants.{Told, Refused, 
 use Rattle.watch_machine.specs.declared.track.Track.{Track}
 use Rattle.watch_machine.specs.declared.track.Try.{Try}
 use Rattle.watch_machine.specs.Answers.{back_track, back_try, due_again, failing}
-use Rattle.watch_machine.specs.Beginning.{hastened, owed, owing, owing_lookup, soon, sooner_try, untopped_track}
+use Rattle.watch_machine.specs.Beginning.{hastened, owed, owing, owing_lookup, owing_past, soon, sooner_try, untopped_track}
 use Rattle.watch_machine.specs.Clocks.{ms, sec}
 use Rattle.watch_machine.specs.Lines.{rested}
 use Rattle.watch_machine.specs.Looked.{at_once, refused_try, told_try, untold, untold_track, untold_try}
@@ -20,9 +20,11 @@ use Rattle.watch_machine.specs.Pauses.{cap, cap_of, doubled, left_to, pause}
 use Rattle.watch_machine.specs.Press.{asked_track, dropped, is_fresh, let_go, press, pressed_track, track_asked_in}
 use Rattle.watch_machine.specs.Renewed.{granted_from, granted_try, ungranted, ungranted_track}
 use Rattle.watch_machine.specs.Settling.{settled_track, settled_try}
+use Rattle.watch_machine.specs.Step.{told_earlier}
 use Rattle.watch_machine.specs.Wanted.{is_alive, is_open, wants}
 use Rattle.watch_machine.proofs.Cases.{if_both, if_cases}
 use Rattle.watch_laws.specs.Load.{Sent}
+use Rattle.watch_laws.proofs.Tracking.{known_is}
 
 -- a try that may go out after the request r
 abbrev pub Follows : Sent → Try → Type 0
@@ -102,14 +104,24 @@ module _ (r : Sent) where
   pub untopped_ready : (x : Track) → IsReady r x → IsReady r (untopped_track x)
   untopped_ready x h = record { last = h.last; attempt = h.attempt }
 
-  pub owing_ready : (at : ℕ) (called : Bool) (x : Track) → IsReady r x → IsReady r (owing at called x)
+  pub owing_ready : (at : ℕ) (first called : Bool) (x : Track) → IsReady r x → IsReady r (owing at first called x)
   unfolding owing
-  owing_ready at called x h =
-      if_cases (IsReady r) (called && is_open (sec at) x) (owing_lookup at x) x
+  owing_ready at first called x h =
+      if_cases (IsReady r) (called && (first || is_open (sec at) x)) (owing_lookup at x) x
       (λ e. if_cases (IsReady r) x.out (record x { owes = true }) (record x { owes = true; attempt = Some (sooner_try (soon at x) x.attempt) })
       (λ out. record { last = h.last; attempt = h.attempt })
       (λ free. record { last = h.last; attempt = λ f. sooner_follows (soon at x) x.attempt (soon_rests at x h.last) (h.attempt free) }))
       (λ e. h)
+
+  -- and an end that is handed in, which is past
+  sooner_may : (at : ℕ) (o : Option Try) → r.at + 1000 ≤ at → IfSome o (MayFollow r) → MayFollow r (sooner_try at o)
+  sooner_may at None later h = inr (inl later)
+  sooner_may at (Some t) later h = elim h as (λ _. MayFollow r (hastened t at)) [ inl failed ↦ inl failed | inr follows ↦ inr (sooner_follows at (Some t) later follows) ]
+
+  pub known_rests : (at end : ℕ) (renewable : Bool) (x : Track) → Rests r x → Rests r (owing_past at (told_earlier end renewable x))
+  known_rests at end renewable x h =
+      known_is (Rests r) at end renewable x (record { last = h.last; attempt = h.attempt }) (λ out. record { last = h.last; attempt = h.attempt })
+      (λ free. record { last = h.last; attempt = λ f. sooner_may (soon at x) x.attempt (soon_rests at x h.last) (h.attempt free) })
 
   -- pressing: a new try is no sooner, and what is let go neither
   let_go_follows : (x : Track) (t : Try) → x.last ≡ Some r.at → IfSome (let_go x t) (Follows r)

@@ -20,7 +20,7 @@ use Rattle.watch_machine.specs.declared.notes.Why.{Why}
 use Rattle.watch_machine.specs.declared.track.Track.{Track}
 use Rattle.watch_machine.specs.declared.track.Try.{Try}
 use Rattle.watch_machine.specs.Answers.{answers_all, back_track, lane_freed, noted, replied, silent}
-use Rattle.watch_machine.specs.Beginning.{begun, hastened, is_called, owed, owing, owing_lookup, soon, sooner_try, untopped, untopped_track}
+use Rattle.watch_machine.specs.Beginning.{begun, hastened, is_called, is_start, owed, owing, owing_lookup, soon, sooner_try, untopped, untopped_track}
 use Rattle.watch_machine.specs.Clocks.{ms, sec}
 use Rattle.watch_machine.specs.History.{History, Turn, Turned}
 use Rattle.watch_machine.specs.Lines.{is_first, later_at, ready, rested}
@@ -44,7 +44,7 @@ use Rattle.watch_laws.proofs.Clocking.{begun_some, clock_rises, readied_clocks, 
 use Rattle.watch_laws.proofs.Holding.{looked_presence, ready_presence}
 use Rattle.watch_laws.proofs.Minding.{some_within}
 use Rattle.watch_laws.proofs.Resting.{cap_above}
-use Rattle.watch_laws.proofs.Tracking.{back_kept, each_holds, each_kept, set_kept}
+use Rattle.watch_laws.proofs.Tracking.{back_kept, each_holds, each_kept, known_is, set_kept}
 
 -- the bounds that every turn keeps: nothing was asked later than now, and nothing is held back while the broker is there
 pub record IsPast (s : WatchState) : Type 0 where
@@ -135,10 +135,10 @@ module _ (at pause' : ℕ) (t : Try) where
         | inr kept ↦ (let l = kept.1.1 in inr (kept.0, (kept.1.0, omega (arith, l))))
       ])
 
-  owing_retried : (called : Bool) (x : Track) → Still (owing at called x) x
+  owing_retried : (first called : Bool) (x : Track) → Still (owing at first called x) x
   unfolding owing
-  owing_retried called x h =
-      if_both Retried (called && is_open (sec at) x) (owing_lookup at x) x
+  owing_retried first called x h =
+      if_both Retried (called && (first || is_open (sec at) x)) (owing_lookup at x) x
       (if_both Retried x.out (record x { owes = true }) (record x { owes = true; attempt = Some (sooner_try (soon at x) x.attempt) }) (record { last = h.last; comes = h.comes })
       (record { last = h.last; comes = sooner_comes (soon at x) x.attempt h.comes })) h
 
@@ -189,9 +189,9 @@ module _ (at pause' : ℕ) (t : Try) where
     all (Some v) =
         let xs = untopped s.tracks in
         later (begun s (Some v)) is
-        (each_holds Retried none_retried (λ j. owing s.clocks.at (is_called s.forest xs s.clocks j)) xs i
-        (subst (λ n. Retried (owing n (is_called s.forest xs s.clocks i) (track_in xs i))) (sym is)
-        (owing_retried (is_called s.forest xs s.clocks i) (track_in xs i)
+        (each_holds Retried none_retried (λ j. owing s.clocks.at (is_start v) (is_called s.forest xs s.clocks j)) xs i
+        (subst (λ n. Retried (owing n (is_start v) (is_called s.forest xs s.clocks i) (track_in xs i))) (sym is)
+        (owing_retried (is_start v) (is_called s.forest xs s.clocks i) (track_in xs i)
         (each_kept Still (λ k. k) (λ j. untopped_track) s.tracks (λ j x k. record { last = k.last; comes = k.comes }) i h))))
 
 -- the clock sets the pause
@@ -211,10 +211,10 @@ settled_retried margin at x t is failed last =
 abbrev Ends : Track → Track → Type 0
 Ends y x = y.end ≡ x.end
 
-owing_ends : (at : ℕ) (called : Bool) (x : Track) → Ends (owing at called x) x
+owing_ends : (at : ℕ) (first called : Bool) (x : Track) → Ends (owing at first called x) x
 unfolding owing
-owing_ends at called x =
-    if_both (λ y. Ends y x) (called && is_open (sec at) x) (owing_lookup at x) x
+owing_ends at first called x =
+    if_both (λ y. Ends y x) (called && (first || is_open (sec at) x)) (owing_lookup at x) x
     (if_both (λ y. Ends y x) x.out (record x { owes = true }) (record x { owes = true; attempt = Some (sooner_try (soon at x) x.attempt) }) refl refl) refl
 
 pressed_ends : (margin : ℕ) (e : Entry) (need at : ℕ) (x : Track) → Ends (pressed_track margin e need at x) x
@@ -237,7 +237,7 @@ begun_ends : (s : WatchState) (w : Option Why) (i : ℕ) → Ends (track_at (beg
 begun_ends s None i = refl
 begun_ends s (Some w) i =
     let xs = untopped s.tracks in
-    each_kept Ends refl (λ j. owing s.clocks.at (is_called s.forest xs s.clocks j)) xs (λ j x. owing_ends s.clocks.at (is_called s.forest xs s.clocks j) x) i
+    each_kept Ends refl (λ j. owing s.clocks.at (is_start w) (is_called s.forest xs s.clocks j)) xs (λ j x. owing_ends s.clocks.at (is_start w) (is_called s.forest xs s.clocks j) x) i
     ∙ each_kept Ends refl (λ j. untopped_track) s.tracks (λ j x. refl) i
 
 end_ends : (s : WatchState) (w : Option Why) (round : List ℕ) (requests : List Request) (i : ℕ) → Ends (track_at (sent (pressed (begun s w) round) requests) i) (track_at s i)
@@ -372,10 +372,10 @@ module _ (most : ℕ) where
   abbrev Asked : Track → Track → Type 0
   Asked y x = rested x.last ≤ most → rested y.last ≤ most
 
-  owing_asked : (at : ℕ) (called : Bool) (x : Track) → Asked (owing at called x) x
+  owing_asked : (at : ℕ) (first called : Bool) (x : Track) → Asked (owing at first called x) x
   unfolding owing
-  owing_asked at called x h =
-      if_both (λ (y : Track). rested y.last ≤ most) (called && is_open (sec at) x) (owing_lookup at x) x
+  owing_asked at first called x h =
+      if_both (λ (y : Track). rested y.last ≤ most) (called && (first || is_open (sec at) x)) (owing_lookup at x) x
       (if_both (λ (y : Track). rested y.last ≤ most) x.out (record x { owes = true }) (record x { owes = true; attempt = Some (sooner_try (soon at x) x.attempt) }) h h) h
 
   pressed_asked : (margin : ℕ) (e : Entry) (need at : ℕ) (x : Track) → Asked (pressed_track margin e need at x) x
@@ -398,7 +398,7 @@ module _ (most : ℕ) where
   begun_asked s None i h = h
   begun_asked s (Some w) i h =
       let xs = untopped s.tracks in
-      each_kept Asked (λ k. k) (λ j. owing s.clocks.at (is_called s.forest xs s.clocks j)) xs (λ j x. owing_asked s.clocks.at (is_called s.forest xs s.clocks j) x) i
+      each_kept Asked (λ k. k) (λ j. owing s.clocks.at (is_start w) (is_called s.forest xs s.clocks j)) xs (λ j x. owing_asked s.clocks.at (is_start w) (is_called s.forest xs s.clocks j) x) i
       (each_kept Asked (λ k. k) (λ j. untopped_track) s.tracks (λ j x k. k) i h)
 
   readied_asked : (s : WatchState) (wall elapsed i : ℕ) → Asked (track_at (readied s wall elapsed) i) (track_at s i)
@@ -519,7 +519,9 @@ renewed_past old new (Some q) reply output step past =
     answer_past old (state_renewed s q reply) new q reply step.1 (ap rest_of step.1 ∙ renewed_leaves old q reply) refl (λ i. renewed_last s q reply i) past
 
 known_last : (s : WatchState) (j end : ℕ) (renewable : Bool) (i : ℕ) → SameLast (track_at (known s j end renewable) i) (track_at s i)
-known_last s j end renewable i = set_kept SameLast (λ x. refl) s.tracks j _ refl i
+known_last s j end renewable i =
+    let x = track_at s j in
+    set_kept SameLast (λ y. refl) s.tracks j _ (known_is (λ y. SameLast y x) s.clocks.at end renewable x refl (λ out. refl) (λ free. refl)) i
 
 step_past : (old new : WatchState) (event : Event) (output : Output) → Step old event output new → IsPast old → IsPast new
 step_past old new (Clock wall elapsed) output step past = clock_past old new wall elapsed output step past

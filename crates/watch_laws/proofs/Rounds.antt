@@ -1,5 +1,5 @@
 -- Rounds: when a round opens and whom it names. For the laws of rounds, of Asks and of hope.
-use Rattle.std.proofs.Common.{◌≡◌, ◌∙◌, ℕ, ◌+◌, ◌*◌, ◌/◌, ◌<◌, Bool, true, false, cond, not, ◌&&◌, ◌||◌, List, [], Option, Some, None, Result, is_some, length, map, min, nat_le, nat_lt, refl, sym, ap, ap₂, subst, arith, inl, inr}
+use Rattle.std.proofs.Common.{◌≡◌, ◌∙◌, ℕ, ◌+◌, ◌*◌, ◌/◌, ◌<◌, Bool, true, false, cond, not, ◌&&◌, ◌||◌, List, [], Option, Some, None, Result, is_some, length, map, min, nat_le, nat_lt, refl, sym, ap, ap₂, subst, arith, inl, inr, if◌then◌else◌}
 use Rattle.std.proofs.lemmas.Bool.{and_parts, cases_Bool, cond-false, cond-true}
 use Rattle.std.proofs.lemmas.Bool.Decides.{nat_tests}
 use Rattle.std.proofs.Math.Path.{fun_ext}
@@ -21,17 +21,17 @@ use Rattle.watch_machine.specs.declared.track.End.TheVariants.{Unknown, At, Neve
 use Rattle.watch_machine.specs.declared.track.Track.{Track}
 use Rattle.watch_machine.specs.Beginning.{is_pressed}
 use Rattle.watch_machine.specs.History.{Turn}
-use Rattle.watch_machine.specs.Margins.{has_come, own_margin, time, time_before}
+use Rattle.watch_machine.specs.Margins.{asking_margin, has_come, own_margin, time, time_before}
 use Rattle.watch_machine.specs.Press.{is_fresh, pressed}
 use Rattle.watch_machine.specs.Round.{IsRound, IsSecond, RoundAsks, asked_by_round, is_hoped, opens, opens_some, plan_view}
 use Rattle.watch_machine.specs.Sending.{sent}
-use Rattle.watch_machine.specs.State.{WatchState, entry_of, second, track_at}
+use Rattle.watch_machine.specs.State.{WatchState, entry_of, has_last_try, second, track_at}
 use Rattle.watch_machine.specs.Step.{readied}
-use Rattle.watch_machine.specs.Wanted.{believed, is_alive, is_fixed, is_known, is_unknown, is_wanted, least_over, limit, need_here, seen_entry, wanted_need, wants}
-use Rattle.watch_laws.specs.Calm.{ends, in_plan_at, lead_at}
-use Rattle.watch_laws.specs.Rounds.{AreAsks, AsksLaw, FindAllSame, HopeLaw, IsOpener, RoundLaw, granted_forest, granted_terms, hoped_ends, is_hoped_for}
+use Rattle.watch_machine.specs.Wanted.{believed, free_need, is_alive, is_fixed, is_known, is_unknown, is_wanted, least_over, limit, need_here, need_of, seen_entry, wanted_need, wants}
+use Rattle.watch_laws.specs.Calm.{ends, in_plan_at, lead_at, planned_need}
+use Rattle.watch_laws.specs.Rounds.{AreAsks, AsksLaw, FindAllSame, HopeLaw, IsOpener, RoundLaw, granted_forest, granted_terms, hoped_ends, is_hidden, is_hoped_for}
 use Rattle.watch_laws.specs.Time.{round_of}
-use Rattle.watch_laws.proofs.Calming.{AreAlike, ends_alike, lead_alike, least_same, limit_at, plan_alike, term_of, terms_alike}
+use Rattle.watch_laws.proofs.Calming.{AreAlike, ends_alike, free_alike, free_by, free_is, lead_alike, least_same, limit_at, plan_alike, term_of, terms_alike}
 use Rattle.watch_laws.proofs.Forested.{readied_forest}
 use Rattle.watch_laws.proofs.Hoping.{asks_hoped, hopes, needs_view}
 use Rattle.watch_laws.proofs.Needing.{is_not, wants_parts}
@@ -101,6 +101,9 @@ module _ (old : WatchState) (wall elapsed : ℕ) (round : List ℕ) (requests : 
       ap₂ (λ c d. c && (not d || (is_unknown (track_at after i).end || (is_pressed (track_at old i) || (track_at old i).out)))) w p
       ∙ ap (λ c. is_wanted ready i && (not (in_plan_at ready i) || (c || (is_pressed (track_at old i) || (track_at old i).out)))) u
       ∙ ap₂ (λ c d. is_wanted ready i && (not (in_plan_at ready i) || (is_unknown (track_at ready i).end || (c || d)))) (sym b) (sym o)
+
+  hidden_is : (i : ℕ) → is_hidden old after i ≡ (hoped_at ready i && not (track_at ready i).top)
+  hidden_is i = ap₂ (λ b t. b && not t) (hoped_is i) (ap (λ (x : Track). x.top) (mid_bears ready round requests i))
 
   granted_is : (i : ℕ) → granted_terms after i ≡ granted_terms ready i
   unfolding granted_terms
@@ -213,7 +216,7 @@ second_once es margin now (Some t) (Some u) h k =
 asks_once : (es : List Entry) (margin now : ℕ) (asked asked' : List ℕ) → RoundAsks es margin now asked → RoundAsks es margin now asked' → asked ≡ asked'
 asks_once es margin now asked asked' h k = h.1.1 ∙ ap (asks es margin now (end_of es) now) (second_once es margin now h.0 k.0 h.1.0 k.1.0) ∙ sym k.1.1
 
--- nobody who is wanted is led no further
+-- nobody who is wanted is led no further, but at its top
 unfixed : (e : End) (renewable top : Bool) → renewable || is_unknown e ≡ true → top ≡ false → is_known e && (not renewable || top) ≡ false
 unfixed Unknown renewable top led low = refl
 unfixed (At end) true false led low = refl
@@ -221,12 +224,20 @@ unfixed (At end) true true led low = absurd cc
 unfixed (At end) false top led low = absurd cc
 unfixed Never renewable top led low = refl
 
-hoped_unfixed : (s : WatchState) (i : ℕ) → hoped_at s i ≡ true → is_fixed (track_at s i) ≡ false
+-- an entry that is hoped for and not at its top
+abbrev hidden_at : WatchState → ℕ → Bool
+hidden_at s i = hoped_at s i && not (track_at s i).top
+
+hidden_unfixed : (s : WatchState) (i : ℕ) → hidden_at s i ≡ true → is_fixed (track_at s i) ≡ false
 unfolding is_hoped
-hoped_unfixed s i hoped =
+hidden_unfixed s i hidden =
     let x = track_at s i in
-    let wanted = wants_parts x (wanted_need s i) (and_parts (is_wanted s i) (not (in_plan_at s i) || (is_unknown x.end || (is_pressed x || x.out))) hoped).0 in
-    unfixed x.end x.renewable x.top wanted.0 wanted.1.0
+    let both = and_parts (hoped_at s i) (not x.top) hidden in
+    let wanted = wants_parts x (wanted_need s i) (and_parts (is_wanted s i) (not (in_plan_at s i) || (is_unknown x.end || (is_pressed x || x.out))) both.0).0 in
+    unfixed x.end x.renewable x.top wanted.0 (is_not x.top both.1)
+
+not_hidden : (s : WatchState) (i : ℕ) → hoped_at s i ≡ false → hidden_at s i ≡ false
+not_hidden s i other = ap (λ b. b && not (track_at s i).top) other
 
 -- what the Asks take an entry for, by its parts
 abbrev hoped_from : Entry → ℕ → Entry
@@ -266,12 +277,15 @@ free_of_hope true true true b o h e = absurd cc
 free_of_hope true false u b o h e = absurd cc
 free_of_hope false p u b o h e = absurd cc
 
-wants_of : (x y : Track) (m n : ℕ) → x.end ≡ y.end → x.renewable ≡ y.renewable → x.top ≡ y.top → m ≡ n → wants x m ≡ wants y n
+wants_of : (x y : Track) (m n : ℕ) → x.end ≡ y.end → x.renewable ≡ y.renewable → x.top ≡ y.top → x.last_try ≡ y.last_try → m ≡ n → wants x m ≡ wants y n
 unfolding wants
-wants_of x y m n end renewable top same = cc
+wants_of x y m n end renewable top last same = cc
 
-come_are : (s : WatchState) (i : ℕ) → come_at s i ≡ nat_le (time_before (track_at s i).end (min s.forest.margin (3 * lead_at s i / 4))) (second s)
-unfolding has_come time own_margin
+abbrev halved : Bool → ℕ → ℕ
+halved b n = if b then n / 2 else n
+
+come_are : (s : WatchState) (i : ℕ) → come_at s i ≡ nat_le (time_before (track_at s i).end (halved (has_last_try (track_at s i)) (min s.forest.margin (3 * lead_at s i / 4)))) (second s)
+unfolding has_come time asking_margin own_margin
 come_are s i = refl
 
 -- two states that a clock has readied, of which the same is found
@@ -281,16 +295,18 @@ record AreReadiedSame (r q : WatchState) : Type 0 where
   pub wall : r.clocks.wall ≡ q.clocks.wall
   pub now : second r ≡ second q
   pub hoped : (i : ℕ) → hoped_at r i ≡ hoped_at q i
+  pub hidden : (i : ℕ) → hidden_at r i ≡ hidden_at q i
   pub lead : (i : ℕ) → lead_at r i ≡ lead_at q i
-  pub end : (i : ℕ) → hoped_at r i ≡ false → (track_at r i).end ≡ (track_at q i).end
-  pub renewable : (i : ℕ) → hoped_at r i ≡ false → (track_at r i).renewable ≡ (track_at q i).renewable
-  pub top : (i : ℕ) → hoped_at r i ≡ false → (track_at r i).top ≡ (track_at q i).top
+  pub end : (i : ℕ) → hidden_at r i ≡ false → (track_at r i).end ≡ (track_at q i).end
+  pub renewable : (i : ℕ) → hidden_at r i ≡ false → (track_at r i).renewable ≡ (track_at q i).renewable
+  pub top : (i : ℕ) → hidden_at r i ≡ false → (track_at r i).top ≡ (track_at q i).top
+  pub last_try : (i : ℕ) → hidden_at r i ≡ false → (track_at r i).last_try ≡ (track_at q i).last_try
 
 module _ (r q : WatchState) (h : AreReadiedSame r q) where
   fixed_same : (i : ℕ) → is_fixed (track_at r i) ≡ is_fixed (track_at q i)
   fixed_same i =
-      elim (cases_Bool (hoped_at r i)) as (λ _. is_fixed (track_at r i) ≡ is_fixed (track_at q i)) [
-        | inl hoped ↦ hoped_unfixed r i hoped ∙ sym (hoped_unfixed q i (sym (h.hoped i) ∙ hoped))
+      elim (cases_Bool (hidden_at r i)) as (λ _. is_fixed (track_at r i) ≡ is_fixed (track_at q i)) [
+        | inl hidden ↦ hidden_unfixed r i hidden ∙ sym (hidden_unfixed q i (sym (h.hidden i) ∙ hidden))
         | inr other ↦
             ap₂ (λ (e : End) b. is_known e && (not b || (track_at r i).top)) (h.end i other) (h.renewable i other)
             ∙ ap (λ t. is_known (track_at q i).end && (not (track_at q i).renewable || t)) (h.top i other)
@@ -298,8 +314,8 @@ module _ (r q : WatchState) (h : AreReadiedSame r q) where
 
   held_same : (i : ℕ) → is_fixed (track_at q i) ≡ true → believed (track_at r i).end ≡ believed (track_at q i).end
   held_same i fixed =
-      elim (cases_Bool (hoped_at r i)) as (λ _. believed (track_at r i).end ≡ believed (track_at q i).end) [
-        | inl hoped ↦ absurd (let no = hoped_unfixed q i (sym (h.hoped i) ∙ hoped) in cc)
+      elim (cases_Bool (hidden_at r i)) as (λ _. believed (track_at r i).end ≡ believed (track_at q i).end) [
+        | inl hidden ↦ absurd (let no = hidden_unfixed q i (sym (h.hidden i) ∙ hidden) in cc)
         | inr other ↦ ap believed (h.end i other)
       ]
 
@@ -327,7 +343,8 @@ module _ (r q : WatchState) (h : AreReadiedSame r q) where
   hoped_same i = hoped_are r i ∙ ap₂ hoped_from (term_same i false false refl) (ap₂ (λ m n. m + n) h.now (h.lead i)) ∙ sym (hoped_are q i)
 
   own_same : (i : ℕ) → hoped_at r i ≡ false → own_entry r i ≡ own_entry q i
-  own_same i other =
+  own_same i unhoped' =
+      let other = not_hidden r i unhoped' in
       let led : (track_at r i).renewable && not (track_at r i).top ≡ (track_at q i).renewable && not (track_at q i).top = ap₂ (λ b t. b && not t) (h.renewable i other) (h.top i other) in
       let step : cond (in_plan_at r i) (lead_at r i) (entry_of r i).step ≡ cond (in_plan_at q i) (lead_at q i) (entry_of q i).step =
       ap₂ (λ b n. cond b n (entry_of r i).step) (plans_same i) (h.lead i) ∙ ap (λ (e : Entry). cond (in_plan_at q i) (lead_at q i) e.step) (entries_same i) in
@@ -355,23 +372,38 @@ module _ (r q : WatchState) (h : AreReadiedSame r q) where
       those
 
   -- and whether a round opens
-  needs_same : IsForest r.forest → (i : ℕ) → wanted_need r i ≡ wanted_need q i
-  needs_same forest i =
+  cuts_same : IsForest r.forest → (i : ℕ) → planned_need r i ≡ planned_need q i
+  cuts_same forest i =
       sym (needs_view r forest i) ∙ ap₂ (λ es n. carried es n i) views_same h.now ∙ needs_view q (subst IsForest h.forest forest) i
 
-  comes_same : (i : ℕ) → hoped_at r i ≡ false → come_at r i ≡ come_at q i
+  frees_same : (i : ℕ) → free_need r.forest.entries r.clocks i ≡ free_need q.forest.entries q.clocks i
+  frees_same i = free_alike r q h.forest h.broker h.wall i ∙ ap (λ n. free_by q.forest.entries q.clocks.broker q.clocks.wall n i) h.now ∙ sym (free_is q i)
+
+  tries_same : (i : ℕ) → hidden_at r i ≡ false → has_last_try (track_at r i) ≡ has_last_try (track_at q i)
+  tries_same i other = ap₂ (λ t l. t && l) (h.top i other) (h.last_try i other)
+
+  needs_same : IsForest r.forest → (i : ℕ) → hidden_at r i ≡ false → wanted_need r i ≡ wanted_need q i
+  unfolding need_of
+  needs_same forest i other =
+      ap (λ b. if b then free_need r.forest.entries r.clocks i else planned_need r i) (tries_same i other)
+      ∙ ap₂ (λ m n. if has_last_try (track_at q i) then m else n) (frees_same i) (cuts_same forest i)
+
+  comes_same : (i : ℕ) → hidden_at r i ≡ false → come_at r i ≡ come_at q i
   comes_same i other =
-      come_are r i ∙ ap₂ (λ (e : End) n. nat_le (time_before e (min r.forest.margin (3 * n / 4))) (second r)) (h.end i other) (h.lead i)
-      ∙ ap₂ (λ (g : Forest) t. nat_le (time_before (track_at q i).end (min g.margin (3 * lead_at q i / 4))) t) h.forest h.now ∙ sym (come_are q i)
+      come_are r i ∙ ap₂ (λ (e : End) n. nat_le (time_before e (halved (has_last_try (track_at r i)) (min r.forest.margin (3 * n / 4)))) (second r)) (h.end i other) (h.lead i)
+      ∙ ap (λ b. nat_le (time_before (track_at q i).end (halved b (min r.forest.margin (3 * lead_at q i / 4)))) (second r)) (tries_same i other)
+      ∙ ap₂ (λ (g : Forest) t. nat_le (time_before (track_at q i).end (halved (has_last_try (track_at q i)) (min g.margin (3 * lead_at q i / 4)))) t) h.forest h.now ∙ sym (come_are q i)
 
   opens_on : IsForest r.forest → (i : ℕ) → opens_at r i ≡ true → opens_at q i ≡ true
   unfolding is_hoped
   opens_on forest i opens' =
       let x = track_at q i in
       let o = open_parts r i opens' in
-      let other = unhoped r i o in
-      let wanted : is_wanted q i ≡ true = sym (wants_of (track_at r i) x (wanted_need r i) (wanted_need q i) (h.end i other) (h.renewable i other) (h.top i other) (needs_same forest i)) ∙ o.wanted in
-      let free = free_of_hope (is_wanted q i) (in_plan_at q i) (is_unknown x.end) (is_pressed x) x.out wanted (sym (h.hoped i) ∙ other) in
+      let none = unhoped r i o in
+      let other = not_hidden r i none in
+      let wanted : is_wanted q i ≡ true =
+      sym (wants_of (track_at r i) x (wanted_need r i) (wanted_need q i) (h.end i other) (h.renewable i other) (h.top i other) (h.last_try i other) (needs_same forest i other)) ∙ o.wanted in
+      let free = free_of_hope (is_wanted q i) (in_plan_at q i) (is_unknown x.end) (is_pressed x) x.out wanted (sym (h.hoped i) ∙ none) in
       opens_by q i (
       record {
         wanted = wanted;
@@ -390,10 +422,12 @@ same_back r q h = record {
   wall = sym h.wall;
   now = sym h.now;
   hoped = λ i. sym (h.hoped i);
+  hidden = λ i. sym (h.hidden i);
   lead = λ i. sym (h.lead i);
-  end = λ i other. sym (h.end i (h.hoped i ∙ other));
-  renewable = λ i other. sym (h.renewable i (h.hoped i ∙ other));
-  top = λ i other. sym (h.top i (h.hoped i ∙ other));
+  end = λ i other. sym (h.end i (h.hidden i ∙ other));
+  renewable = λ i other. sym (h.renewable i (h.hidden i ∙ other));
+  top = λ i other. sym (h.top i (h.hidden i ∙ other));
+  last_try = λ i other. sym (h.last_try i (h.hidden i ∙ other));
 }
 
 none_opens_on : (r q : WatchState) → AreReadiedSame r q → IsForest r.forest → opens_some r.forest r.tracks r.clocks ≡ true → opens_some q.forest q.tracks q.clocks ≡ false → ⊥
@@ -418,18 +452,20 @@ readied_same old wall elapsed asked requests old' wall' elapsed' asked' requests
     let q = readied old' wall' elapsed' in
     let a = mid_bears r asked requests in
     let b = mid_bears q asked' requests' in
-    let w = hoped_is old wall elapsed asked requests in
-    let v = hoped_is old' wall' elapsed' asked' requests' in
+    let w = hidden_is old wall elapsed asked requests in
+    let v = hidden_is old' wall' elapsed' asked' requests' in
     record {
       forest = h.forest;
       broker = h.broker;
       wall = h.wall;
       now = h.now;
-      hoped = λ i. sym (w i) ∙ (h.each i).hoped ∙ v i;
+      hoped = λ i. sym (hoped_is old wall elapsed asked requests i) ∙ (h.each i).hoped ∙ hoped_is old' wall' elapsed' asked' requests' i;
+      hidden = λ i. sym (w i) ∙ (h.each i).hidden ∙ v i;
       lead = λ i. sym (lead_is old wall elapsed asked requests i) ∙ (h.each i).lead ∙ lead_is old' wall' elapsed' asked' requests' i;
       end = λ i other. sym (ap (λ (x : Track). x.end) (a i)) ∙ (h.each i).end (w i ∙ other) ∙ ap (λ (x : Track). x.end) (b i);
       renewable = λ i other. sym (ap (λ (x : Track). x.renewable) (a i)) ∙ (h.each i).renewable (w i ∙ other) ∙ ap (λ (x : Track). x.renewable) (b i);
       top = λ i other. sym (ap (λ (x : Track). x.top) (a i)) ∙ (h.each i).top (w i ∙ other) ∙ ap (λ (x : Track). x.top) (b i);
+      last_try = λ i other. sym (ap (λ (x : Track). x.last_try) (a i)) ∙ (h.each i).last_try (w i ∙ other) ∙ ap (λ (x : Track). x.last_try) (b i);
     }
 
 pub hope_hides : HopeLaw

@@ -27,7 +27,7 @@ use Rattle.watch_machine.specs.declared.notes.Why.{Why}
 use Rattle.watch_machine.specs.declared.track.Track.{Track}
 use Rattle.watch_machine.specs.declared.track.Try.{Try}
 use Rattle.watch_machine.specs.Answers.{answers_all, back_track, heard, lane_freed, noted, replied, silent, without_request}
-use Rattle.watch_machine.specs.Beginning.{begun, is_called, owing, owing_lookup, soon, sooner_try, untopped, untopped_track}
+use Rattle.watch_machine.specs.Beginning.{begun, is_called, is_start, owing, owing_lookup, soon, sooner_try, untopped, untopped_track}
 use Rattle.watch_machine.specs.Clocks.{sec}
 use Rattle.watch_machine.specs.History.{History, Turn, Turned}
 use Rattle.watch_machine.specs.Lines.{is_due, is_due_try, is_first, later_at, ready, rested}
@@ -48,8 +48,8 @@ use Rattle.watch_laws.specs.Load.{AreApartFrom, IsApart, Sent, SentAreApart, Spa
 use Rattle.watch_laws.proofs.Answering.{looked_leaves, renewed_leaves, rest_of}
 use Rattle.watch_laws.proofs.Clocking.{begun_some, clock_rises, readied_clocks, refused_stays}
 use Rattle.watch_laws.proofs.Going.{Goes, asks_by, entry_by, goes, named_of, one_sent, operation_of, request_at, sent_of}
-use Rattle.watch_laws.proofs.Resting.{Follows, IsReady, MayFollow, Rests, asked_ready, back_rests, granted_rests, owing_ready, pressed_ready, rested_is, settled_ready, told_rests, ungranted_rests, untold_rests, untopped_ready}
-use Rattle.watch_laws.proofs.Tracking.{back_kept, each_at, each_kept, set_kept}
+use Rattle.watch_laws.proofs.Resting.{Follows, IsReady, MayFollow, Rests, asked_ready, back_rests, granted_rests, known_rests, owing_ready, pressed_ready, rested_is, settled_ready, told_rests, ungranted_rests, untold_rests, untopped_ready}
+use Rattle.watch_laws.proofs.Tracking.{back_kept, each_at, each_kept, known_out, set_kept}
 
 -- a due try goes out a second after r, or is the renewal right after it
 ready_apart :
@@ -142,7 +142,7 @@ module _ (r : Sent) where
   begun_ready s None i h = h
   begun_ready s (Some w) i h =
       let xs = untopped s.tracks in
-      each_kept StillReady (λ k. k) (λ j. owing s.clocks.at (is_called s.forest xs s.clocks j)) xs (λ j x. owing_ready r s.clocks.at (is_called s.forest xs s.clocks j) x) i
+      each_kept StillReady (λ k. k) (λ j. owing s.clocks.at (is_start w) (is_called s.forest xs s.clocks j)) xs (λ j x. owing_ready r s.clocks.at (is_start w) (is_called s.forest xs s.clocks j) x) i
       (each_kept StillReady (λ k. k) (λ j. untopped_track) s.tracks (λ j x. untopped_ready r x) i h)
 
   pub readied_ready : (s : WatchState) (wall elapsed i : ℕ) → is_none s.begun ≡ false → r.at ≤ s.clocks.at → Rests r (track_at s i) → IsReady r (track_at (readied s wall elapsed) i)
@@ -162,10 +162,10 @@ module _ (r : Sent) where
       (each_kept StillReady (λ k. k) (λ j. pressed_track g.margin (entry_at g.entries j) (need_of g.entries s.tracks c j) c.at) s.tracks
       (λ j x. pressed_ready r g.margin (entry_at g.entries j) (need_of g.entries s.tracks c j) c.at x) i h)
 
-owing_flag : (at : ℕ) (called : Bool) (x : Track) → Flag (owing at called x) x
+owing_flag : (at : ℕ) (first called : Bool) (x : Track) → Flag (owing at first called x) x
 unfolding owing
-owing_flag at called x =
-    if_both (λ y. Flag y x) (called && is_open (sec at) x) (owing_lookup at x) x
+owing_flag at first called x =
+    if_both (λ y. Flag y x) (called && (first || is_open (sec at) x)) (owing_lookup at x) x
     (if_both (λ y. Flag y x) x.out (record x { owes = true }) (record x { owes = true; attempt = Some (sooner_try (soon at x) x.attempt) }) refl refl) refl
 
 pressed_flag : (margin : ℕ) (e : Entry) (need at : ℕ) (x : Track) → Flag (pressed_track margin e need at x) x
@@ -188,7 +188,7 @@ begun_flag : (s : WatchState) (w : Option Why) (i : ℕ) → Flag (track_at (beg
 begun_flag s None i = refl
 begun_flag s (Some w) i =
     let xs = untopped s.tracks in
-    each_kept Flag refl (λ j. owing s.clocks.at (is_called s.forest xs s.clocks j)) xs (λ j x. owing_flag s.clocks.at (is_called s.forest xs s.clocks j) x) i
+    each_kept Flag refl (λ j. owing s.clocks.at (is_start w) (is_called s.forest xs s.clocks j)) xs (λ j x. owing_flag s.clocks.at (is_start w) (is_called s.forest xs s.clocks j) x) i
     ∙ each_kept Flag refl (λ j. untopped_track) s.tracks (λ j x. refl) i
 
 pub mid_flag : (s : WatchState) (wall elapsed : ℕ) (round : List ℕ) (i : ℕ) → Flag (track_at (pressed (readied s wall elapsed) round) i) (track_at s i)
@@ -559,8 +559,8 @@ stepped old new (Known j end renewable) output i o step kept =
     inl (
       none_goes i new.clocks.at output _ step.0 refl,
       moved old new there i o step.1
-          (left_keeps old there i o refl refl (set_kept Flag (λ x. refl) old.tracks j _ refl i)
-          (λ r. set_kept (λ y x. Rests r x → Rests r y) (λ x k. k) old.tracks j _ (λ h. record { last = h.last; attempt = h.attempt }) i)) kept,
+          (left_keeps old there i o refl refl (set_kept Flag (λ x. refl) old.tracks j _ (known_out old.clocks.at end renewable (track_at old j)) i)
+          (λ r. set_kept (λ y x. Rests r x → Rests r y) (λ x k. k) old.tracks j _ (known_rests r old.clocks.at end renewable (track_at old j)) i)) kept,
     )
 
 turned : (old new : WatchState) (event : Event) (result : Result Output WatchFault) (i : ℕ) (o : Option Sent) → Turn old event result new → Keeps old i o → Outcome new i o (sent_at i new.clocks.at (requests_at_turn result))

@@ -1,22 +1,26 @@
 -- Timing: when the time of an entry comes, and which entries are in the plan. For the laws of margins.
-use Rattle.std.proofs.Common.{◌≡◌, ◌↔◌, ℕ, ◌-◌, ◌*◌, ◌≤◌, true, Option, Some, None, IfSome, nat_le, refl, ap, arith}
+use Rattle.std.proofs.Common.{◌≡◌, ◌↔◌, ℕ, ◌-◌, ◌*◌, ◌≤◌, true, Option, Some, None, IfSome, nat_le, refl, ap, arith, ◌/◌, if◌then◌else◌}
 use Rattle.std.proofs.lemmas.Bool.{eqb-true}
 use Rattle.std.proofs.lemmas.Bool.Decides.{nat_tests}
 use Rattle.watch_machine.specs.declared.track.End.{End}
 use Rattle.watch_machine.specs.declared.track.End.TheVariants.{Unknown, At, Never}
 use Rattle.watch_machine.specs.declared.track.Grant.{Grant}
-use Rattle.watch_machine.specs.Margins.{has_come, is_in_plan, lead, own_by, own_margin, time, time_before}
+use Rattle.watch_machine.specs.Margins.{asking_margin, has_come, is_in_plan, lead, own_by, own_margin, time, time_before}
 use Rattle.watch_machine.specs.Outlook.{time_of}
-use Rattle.watch_machine.specs.State.{WatchState, entry_of, second, track_at}
-use Rattle.watch_laws.specs.Margins.{InPlanLaw, IsTimeBefore, TimeLaw, asked_before, least_granted}
+use Rattle.watch_machine.specs.State.{WatchState, entry_of, has_last_try, second, track_at}
+use Rattle.watch_laws.specs.Margins.{InPlanLaw, IsTimeBefore, TimeLaw, asked_before, least_granted, own_before}
 
 least_is : (step : ℕ) (o : Option Grant) → lead step o ≡ least_granted step o
 least_is step None = refl
 least_is step (Some last) = refl
 
-own_is : (s : WatchState) (i : ℕ) → own_margin s.forest.margin (entry_of s i) (track_at s i) ≡ asked_before s i
+own_is : (s : WatchState) (i : ℕ) → own_margin s.forest.margin (entry_of s i) (track_at s i) ≡ own_before s i
 unfolding own_margin
 own_is s i = ap (own_by s.forest.margin) (least_is (entry_of s i).step (track_at s i).grant)
+
+asked_is : (s : WatchState) (i : ℕ) → asking_margin s.forest.margin (entry_of s i) (track_at s i) ≡ asked_before s i
+unfolding asking_margin
+asked_is s i = ap (λ n. if has_last_try (track_at s i) then n / 2 else n) (own_is s i)
 
 before_is : (own long : ℕ) → own ≡ long → (it : End) → IsTimeBefore long it (time_before it own)
 before_is own long same Unknown = refl
@@ -25,7 +29,7 @@ before_is own long same Never = omega arith
 
 time_is : (s : WatchState) (i : ℕ) → IsTimeBefore (asked_before s i) (track_at s i).end (time_of s i)
 unfolding time
-time_is s i = before_is (own_margin s.forest.margin (entry_of s i) (track_at s i)) (asked_before s i) (own_is s i) (track_at s i).end
+time_is s i = before_is (asking_margin s.forest.margin (entry_of s i) (track_at s i)) (asked_before s i) (asked_is s i) (track_at s i).end
 
 le_is : (m n : ℕ) → (nat_le m n ≡ true) ↔ (m ≤ n)
 le_is m n = (λ test. grind (arith, nat_tests, test), λ low. grind (arith, nat_tests, low))

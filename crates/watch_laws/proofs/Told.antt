@@ -23,7 +23,7 @@ use Rattle.watch_machine.specs.declared.track.Track.{Track}
 use Rattle.watch_machine.specs.declared.track.Try.{Try}
 use Rattle.watch_machine.specs.declared.track.End.TheVariants.{At, Never}
 use Rattle.watch_machine.specs.Answers.{back_track, back_try, due_again, failing, noted, replied}
-use Rattle.watch_machine.specs.Beginning.{begun, owed}
+use Rattle.watch_machine.specs.Beginning.{begun, owed, owing_lookup, owing_past, soon, sooner_try}
 use Rattle.watch_machine.specs.Clocks.{sec}
 use Rattle.watch_machine.specs.History.{Turn}
 use Rattle.watch_machine.specs.Lines.{rested}
@@ -34,22 +34,23 @@ use Rattle.watch_machine.specs.Renewed.{granted_from, granted_try, state_renewed
 use Rattle.watch_machine.specs.Round.{asked_by_round}
 use Rattle.watch_machine.specs.Settling.{settled, timed}
 use Rattle.watch_machine.specs.State.{WatchState, attempt_at, entry_of, no_track, second, track_at}
-use Rattle.watch_machine.specs.Step.{Step, StepClock, StepLooked, StepRenewed, readied, why}
+use Rattle.watch_machine.specs.Step.{Step, StepClock, StepLooked, StepRenewed, readied, told_earlier, why}
 use Rattle.watch_machine.specs.Wanted.{believed, is_alive, is_wanted, need_of, wanted_need, wants}
 use Rattle.watch_machine.proofs.Cases.{if_both, not_both, value_is}
 use Rattle.watch_machine.proofs.Seeing.{SameSeen, need_same, sight}
 use Rattle.watch_machine.proofs.Within.{out_entry}
 use Rattle.watch_laws.specs.Absence.{is_event_taken}
 use Rattle.watch_laws.specs.Time.{is_come}
-use Rattle.watch_laws.specs.Told.{DoneLaw, EndsTooSoon, ForestWrittenLaw, GoesOnAsRenewal, IsToldByLookup, OneIs, OwesLater, ToldLaw, ceiling_by, entry_by, step_by, writes}
+use Rattle.watch_laws.specs.Told.{DoneLaw, EndsTooSoon, ForestWrittenLaw, GoesOnAsRenewal, IsHandedIn, IsToldByLookup, OneIs, OwesLater, ToldLaw, ceiling_by, entry_by, step_by, writes}
 use Rattle.watch_laws.proofs.Answering.{replied_rest}
 use Rattle.watch_laws.proofs.CalmGrant.{no_try}
 use Rattle.watch_laws.proofs.Clocking.{refused_stays, sent_by}
 use Rattle.watch_laws.proofs.Failures.{Free, back_free, set_free}
 use Rattle.watch_laws.proofs.GrantedFrom.{back_end, counts_from, made, turn_holds}
 use Rattle.watch_laws.proofs.Opener.{bearing, wants_same}
+use Rattle.watch_laws.proofs.Presses.{again_is}
 use Rattle.watch_laws.proofs.Reasons.{told_come}
-use Rattle.watch_laws.proofs.Tracking.{back_kept, replied_forest, set_kept}
+use Rattle.watch_laws.proofs.Tracking.{back_kept, known_is, replied_forest, set_kept}
 
 -- what is wanted and whose time has come is so with or without a try
 back_sight : (x : Track) → sight (back_track x) ≡ sight x
@@ -389,15 +390,49 @@ turn_forest : (old new : WatchState) (event : Event) (result : Result Output Wat
 turn_forest old new event (Ok output) turn none = step_forest old new event output turn.1 none
 turn_forest old new event (Err fault) turn none = ap (λ (x : WatchState). x.forest) (refused_stays old new event fault turn)
 
+-- an end that is handed in
+sooner_at : (from : ℕ) (o : Option Try) → (sooner_try from o).at ≤ from
+sooner_at from None = omega arith
+sooner_at from (Some t) = omega arith
+
 known_turn :
     (old new : WatchState) (event : Event) (result : Result Output WatchFault) (i end : ℕ) (renewable : Bool) → Turn old event result new → i < length old.tracks → event ≡ Known i end renewable → is_event_taken result ≡ true →
-    ((track_at new i).end ≡ At (min END_MAX end)) × ((track_at new i).renewable ≡ renewable)
+    IsHandedIn old new i end renewable
+unfolding owing_past
 known_turn old new event (Err fault) i end renewable turn within is taken' = absurd (true≢false (sym taken'))
 known_turn old new event (Ok output) i end renewable turn within is taken' =
     let step = subst (λ e. Step old e output new) is turn.1 in
-    let made : Track = record (track_at old i) { end = At (min END_MAX end); renewable = renewable } in
-    let there : track_at new i ≡ made = ap (λ (x : WatchState). track_at x i) step.1 ∙ get_or-set_same old.tracks i made no_track within in
-    (ap (λ (x : Track). x.end) there, ap (λ (x : Track). x.renewable) there)
+    let x = track_at old i in
+    let at = old.clocks.at in
+    let y = told_earlier end renewable x in
+    let z = owing_past at y in
+    let there : track_at new i ≡ z = ap (λ (s : WatchState). track_at s i) step.1 ∙ get_or-set_same old.tracks i z no_track within in
+    let clock : new.clocks.at ≡ at = ap (λ (s : WatchState). s.clocks.at) step.1 in
+    let now : second new ≡ sec at = ap sec clock in
+    let owed = owing_lookup at y in
+    let tried : Track = record y { owes = true; attempt = Some (sooner_try (soon at x) x.attempt) } in
+    record {
+      end_is = ap (λ (t : Track). t.end) there ∙ known_is (λ t. t.end ≡ At (min END_MAX end)) at end renewable x refl (λ out. refl) (λ free. refl);
+      goes_on = ap (λ (t : Track). t.renewable) there ∙ known_is (λ t. t.renewable ≡ renewable) at end renewable x refl (λ out. refl) (λ free. refl);
+      ahead = λ low.
+          let before : sec at < min END_MAX end = omega (arith, low, now) in
+          let alive : is_alive (sec at) y ≡ true = grind (arith, nat_tests, before) in
+          let kept = there ∙ cond-true (is_alive (sec at) y) y owed alive in
+          (ap (λ (t : Track). t.attempt) kept, ap (λ (t : Track). t.owes) kept);
+      past = λ high.
+          let after : min END_MAX end ≤ sec at = omega (arith, high, now) in
+          let dead : is_alive (sec at) y ≡ false = grind (arith, nat_tests, after) in
+          let made = there ∙ cond-false (is_alive (sec at) y) y owed dead in (
+            ap (λ (t : Track). t.owes) made ∙ if_both (λ (t : Track). t.owes ≡ true) x.out (record y { owes = true }) tried refl refl,
+            λ free. (
+              sooner_try (soon at x) x.attempt,
+              (
+                ap (λ (t : Track). t.attempt) (made ∙ cond-false x.out (record y { owes = true }) tried free),
+                (let low = sooner_at (soon at x) x.attempt in let again = again_is x.last in omega (arith, low, again, clock)),
+              ),
+            ),
+          );
+    }
 
 pub written_so : ForestWrittenLaw
 written_so = record {

@@ -1,5 +1,5 @@
 -- Topping: what every turn keeps of the last grants of an entry. For the law of the top.
-use Rattle.std.proofs.Common.{◌≡◌, ◌≢◌, ◌∙◌, ℕ, ◌+◌, ◌-◌, ◌<◌, ◌≤◌, Bool, true, ◌&&◌, ◌||◌, ◌==◌, if◌then◌else◌, List, [], ◌∷◌, ◌++◌, Option, Some, None, Result, Ok, Err, length, map, min, nat_le, nat_lt, refl, sym, ap, subst, arith, inl, inr}
+use Rattle.std.proofs.Common.{◌≡◌, ◌≢◌, ◌∙◌, ℕ, ◌+◌, ◌-◌, ◌<◌, ◌≤◌, Bool, true, ◌&&◌, ◌||◌, ◌==◌, if◌then◌else◌, List, [], ◌∷◌, ◌++◌, Option, Some, None, Result, Ok, Err, length, map, min, nat_le, nat_lt, refl, sym, ap, subst, arith, inl, inr, ◌⊎◌, not, ap₂, false}
 use Rattle.std.proofs.lemmas.Bool.{and_parts, cases_Bool, cond-true, cond-false, eqb-true}
 use Rattle.std.proofs.lemmas.Bool.Decides.{nat_tests}
 use Rattle.std.proofs.lemmas.List.{append-nil, get_or-map, get_or-set_other, get_or-set_same, length-map}
@@ -22,7 +22,7 @@ use Rattle.watch_machine.specs.declared.track.End.TheVariants.{Unknown, At, Neve
 use Rattle.watch_machine.specs.declared.track.Grant.{Grant}
 use Rattle.watch_machine.specs.declared.track.Track.{Track}
 use Rattle.watch_machine.specs.Answers.{back_track, noted, replied}
-use Rattle.watch_machine.specs.Beginning.{begun, is_called, owing, owing_lookup, soon, sooner_try, untopped, untopped_track}
+use Rattle.watch_machine.specs.Beginning.{begun, is_called, is_start, owing, owing_lookup, owing_past, soon, sooner_try, untopped, untopped_track}
 use Rattle.watch_machine.specs.Clocks.{sec}
 use Rattle.watch_machine.specs.History.{History, Turn, Turned, after_all}
 use Rattle.watch_machine.specs.Looked.{looked, told_state, told_track, untold_track}
@@ -32,61 +32,77 @@ use Rattle.watch_machine.specs.Renewed.{from_try, granted_from, is_no_further, r
 use Rattle.watch_machine.specs.Round.{asked_by_round}
 use Rattle.watch_machine.specs.Sending.{sent, sent_in, sent_track}
 use Rattle.watch_machine.specs.Settling.{settled, settled_track, timed}
-use Rattle.watch_machine.specs.State.{WatchState, entry_of, fresh_track, no_track, opened, track_at, track_in}
-use Rattle.watch_machine.specs.Step.{Step, StepClock, StepLooked, StepRenewed, readied, why}
+use Rattle.watch_machine.specs.State.{WatchState, entry_of, fresh_track, keeps_last_try, no_track, opened, track_at, track_in}
+use Rattle.watch_machine.specs.Step.{Step, StepClock, StepLooked, StepRenewed, readied, told_earlier, why}
 use Rattle.watch_machine.specs.Wanted.{believed, is_open, need_of, wants}
 use Rattle.watch_machine.proofs.Cases.{if_both, not_both}
 use Rattle.watch_machine.proofs.Within.{out_entry}
 use Rattle.watch_machine.proofs.Written.{each_length}
-use Rattle.watch_laws.specs.Tops.{EndNoFurther, Granted, ToppedLaw, grant_by, grant_of, grant_told, grants}
+use Rattle.watch_laws.specs.Absence.{is_event_taken}
+use Rattle.watch_laws.specs.Presence.{is_told}
+use Rattle.watch_laws.specs.Tops.{EndNoFurther, Granted, ToppedLaw, grant_by, grant_of, grant_told, grants, is_grant_of}
 use Rattle.watch_laws.proofs.Clocking.{refused_stays, sent_by}
-use Rattle.watch_laws.proofs.Tracking.{back_kept, each_kept, looked_count, renewed_count, set_count, set_kept}
+use Rattle.watch_laws.proofs.Tracking.{back_kept, each_kept, known_is, looked_count, renewed_count, set_count, set_kept}
+
+-- an entry is at its top as it was, and has its last try as it had; or it is at its top no more, and what it had there is over
+abbrev pub Tops : Track → Track → Type 0
+Tops y x = ((y.top ≡ x.top) × (y.last_try ≡ x.last_try)) ⊎ ((y.top ≡ false) × (y.last_try ≡ keeps_last_try x))
+
+tops_both : (z y x : Track) → Tops z y → Tops y x → Tops z x
+tops_both z y x (inl h) (inl k) = inl (h.0 ∙ k.0, h.1 ∙ k.1)
+tops_both z y x (inl h) (inr k) = inr (h.0 ∙ k.0, h.1 ∙ k.1)
+tops_both z y x (inr h) (inl k) = inr (h.0, h.1 ∙ ap₂ (λ t l. not t && l) k.0 k.1)
+tops_both z y x (inr h) (inr k) = inr (h.0, h.1 ∙ ap₂ (λ t l. not t && l) k.0 k.1)
+
+no_new_top : (y x : Track) → Tops y x → y.top ≡ true → x.top ≡ true
+no_new_top y x (inl h) top = sym h.0 ∙ top
+no_new_top y x (inr h) top = absurd (not_both top h.0)
 
 -- the grant is the same, and no top is new
-abbrev Lower : Track → Track → Type 0
-Lower y x = (y.grant ≡ x.grant) × (y.top ≡ true → x.top ≡ true)
+abbrev pub Lower : Track → Track → Type 0
+Lower y x = (y.grant ≡ x.grant) × Tops y x
 
 lower_same : (x : Track) → Lower x x
-lower_same x = (refl, λ top. top)
+lower_same x = (refl, inl (refl, refl))
 
 lower_both : (z y x : Track) → Lower z y → Lower y x → Lower z x
-lower_both z y x h k = (h.0 ∙ k.0, λ top. k.1 (h.1 top))
+lower_both z y x h k = (h.0 ∙ k.0, tops_both z y x h.1 k.1)
 
 -- the parts of a clock
 settled_lower : (margin at : ℕ) (x : Track) → Lower (settled_track margin at x) x
 unfolding settled_track
-settled_lower margin at x = (refl, λ top. top)
+settled_lower margin at x = (refl, inl (refl, refl))
 
 untopped_lower : (x : Track) → Lower (untopped_track x) x
-untopped_lower x = (refl, λ top. absurd cc)
+untopped_lower x = (refl, inr (refl, refl))
 
-owing_lower : (at : ℕ) (called : Bool) (x : Track) → Lower (owing at called x) x
+owing_lower : (at : ℕ) (first called : Bool) (x : Track) → Lower (owing at first called x) x
 unfolding owing
-owing_lower at called x =
-    if_both (λ y. Lower y x) (called && is_open (sec at) x) (owing_lookup at x) x
-    (if_both (λ y. Lower y x) x.out (record x { owes = true }) (record x { owes = true; attempt = Some (sooner_try (soon at x) x.attempt) }) (refl, λ top. top) (refl, λ top. top)) (lower_same x)
+owing_lower at first called x =
+    if_both (λ y. Lower y x) (called && (first || is_open (sec at) x)) (owing_lookup at x) x
+    (if_both (λ y. Lower y x) x.out (record x { owes = true }) (record x { owes = true; attempt = Some (sooner_try (soon at x) x.attempt) }) (refl, inl (refl, refl)) (refl, inl (refl, refl))) (lower_same x)
 
 pressed_lower : (margin : ℕ) (e : Entry) (need at : ℕ) (x : Track) → Lower (pressed_track margin e need at x) x
 unfolding pressed_track
 pressed_lower margin e need at x =
     if_both (λ y. Lower y x) (is_fresh margin e x need (sec at)) (record x { attempt = Some (press at x) }) (if wants x need || x.out then x else record x { attempt = dropped x x.attempt })
-    (refl, λ top. top) (if_both (λ y. Lower y x) (wants x need || x.out) x (record x { attempt = dropped x x.attempt }) (lower_same x) (refl, λ top. top))
+    (refl, inl (refl, refl)) (if_both (λ y. Lower y x) (wants x need || x.out) x (record x { attempt = dropped x x.attempt }) (lower_same x) (refl, inl (refl, refl)))
 
 asked_lower : (at : ℕ) (round : List ℕ) (i : ℕ) (x : Track) → Lower (track_asked_in at round i x) x
 unfolding asked_track
 asked_lower at round i x =
     if_both (λ y. Lower y x) (list_any (λ j. j == i) round) (asked_track at x) x
-    (if_both (λ y. Lower y x) x.out x (record x { attempt = Some (press at x) }) (lower_same x) (refl, λ top. top)) (lower_same x)
+    (if_both (λ y. Lower y x) x.out x (record x { attempt = Some (press at x) }) (lower_same x) (refl, inl (refl, refl))) (lower_same x)
 
 sent_lower : (at : ℕ) (requests : List Request) (i : ℕ) (x : Track) → Lower (sent_in at requests i x) x
-sent_lower at requests i x = if_both (λ y. Lower y x) (list_any (λ (r : Request). r.entry == i) requests) (sent_track at x) x (refl, λ top. top) (lower_same x)
+sent_lower at requests i x = if_both (λ y. Lower y x) (list_any (λ (r : Request). r.entry == i) requests) (sent_track at x) x (refl, inl (refl, refl)) (lower_same x)
 
 begun_lower : (s : WatchState) (w : Option Why) (i : ℕ) → Lower (track_at (begun s w) i) (track_at s i)
 begun_lower s None i = lower_same (track_at s i)
 begun_lower s (Some w) i =
     let xs = untopped s.tracks in
     lower_both (track_at (begun s (Some w)) i) (track_in xs i) (track_at s i)
-    (each_kept Lower (lower_same no_track) (λ j. owing s.clocks.at (is_called s.forest xs s.clocks j)) xs (λ j x. owing_lower s.clocks.at (is_called s.forest xs s.clocks j) x) i)
+    (each_kept Lower (lower_same no_track) (λ j. owing s.clocks.at (is_start w) (is_called s.forest xs s.clocks j)) xs (λ j x. owing_lower s.clocks.at (is_start w) (is_called s.forest xs s.clocks j) x) i)
     (each_kept Lower (lower_same no_track) (λ j. untopped_track) s.tracks (λ j x. untopped_lower x) i)
 
 readied_lower : (s : WatchState) (wall elapsed i : ℕ) → Lower (track_at (readied s wall elapsed) i) (track_at s i)
@@ -134,16 +150,16 @@ clock_count old new wall elapsed output step =
 -- the answer to a lookup
 told_lower : (since seconds : ℕ) (renewable endless : Bool) (x : Track) → Lower (told_track since seconds renewable endless x) x
 unfolding told_track
-told_lower since seconds renewable endless x = (refl, λ top. top)
+told_lower since seconds renewable endless x = (refl, inl (refl, refl))
 
 untold_lower : (at : ℕ) (heard : Bool) (reply : Reply) (x : Track) → Lower (untold_track at heard reply x) x
 unfolding untold_track
-untold_lower at heard reply x = (refl, λ top. top)
+untold_lower at heard reply x = (refl, inl (refl, refl))
 
 looked_lower : (s : WatchState) (r : Out) (reply : Reply) (terms : Terms) (i : ℕ) → Lower (track_at (looked s r reply terms) i) (track_at s i)
 looked_lower s r (Told seconds renewable date) terms i =
     let mid = told_state s r.entry r.since seconds renewable terms in
-    lower_both (track_at (looked s r (Told seconds renewable date) terms) i) (track_at mid i) (track_at s i) (set_kept Lower lower_same mid.tracks r.entry _ (refl, λ top. top) i)
+    lower_both (track_at (looked s r (Told seconds renewable date) terms) i) (track_at mid i) (track_at s i) (set_kept Lower lower_same mid.tracks r.entry _ (refl, inl (refl, refl)) i)
     (set_kept Lower lower_same s.tracks r.entry (told_track r.since seconds renewable terms.endless (track_at s r.entry)) (told_lower r.since seconds renewable terms.endless (track_at s r.entry)) i)
 looked_lower s r (Refused status date) terms i = set_kept Lower lower_same s.tracks r.entry _ (untold_lower s.clocks.at r.heard (Refused status date) (track_at s r.entry)) i
 looked_lower s r Busy terms i = set_kept Lower lower_same s.tracks r.entry _ (untold_lower s.clocks.at r.heard Busy (track_at s r.entry)) i
@@ -155,7 +171,7 @@ Alike y x = Lower y x × (y.end ≡ x.end)
 
 after_alike : (s : WatchState) (r : Out) (reply : Reply) (i : ℕ) → Alike (track_at (replied s r reply) i) (track_at s i)
 unfolding back_track
-after_alike s r reply i = back_kept Alike (λ x. (lower_same x, refl)) (λ x. ((refl, λ top. top), refl)) s r reply i
+after_alike s r reply i = back_kept Alike (λ x. (lower_same x, refl)) (λ x. ((refl, inl (refl, refl)), refl)) s r reply i
 
 -- the last of some grants is the one that is kept
 abbrev told_grant : Grant → Granted
@@ -170,7 +186,7 @@ record Kept (gs : List Granted) (x : Track) : Type 0 where
   topped : x.top ≡ true → EndNoFurther gs
 
 lower_kept : (gs : List Granted) (y x : Track) → Lower y x → Kept gs x → Kept gs y
-lower_kept gs y x h k = record { last = subst (EndIn gs) (sym h.0) k.last; topped = λ top. k.topped (h.1 top) }
+lower_kept gs y x h k = record { last = subst (EndIn gs) (sym h.0) k.last; topped = λ top. k.topped (no_new_top y x h.1 top) }
 
 -- a grant
 append_two : (xs : List Granted) (y z : Granted) → (xs ++ y ∷ []) ++ z ∷ [] ≡ xs ++ y ∷ z ∷ []
@@ -212,7 +228,7 @@ granted_end step at seconds renewable from' x = refl
 -- the answer to a renewal: of the entry itself
 ungranted_lower : (at : ℕ) (heard : Bool) (reply : Reply) (x : Track) → Lower (ungranted_track at heard reply x) x
 unfolding ungranted_track
-ungranted_lower at heard reply x = (refl, λ top. top)
+ungranted_lower at heard reply x = (refl, inl (refl, refl))
 
 none_more : (gs : List Granted) (x : Track) → Kept gs x → Kept (gs ++ []) x
 none_more gs x k = subst (λ ys. Kept ys x) (sym (append-nil gs)) k
@@ -282,6 +298,47 @@ looked_kept old new (Some r) i reply terms output step =
 quiet_kept : (old new : WatchState) (i : ℕ) (gs : List Granted) → Lower (track_at new i) (track_at old i) → Kept gs (track_at old i) → Kept (gs ++ []) (track_at new i)
 quiet_kept old new i gs low k = none_more gs (track_at new i) (lower_kept gs (track_at new i) (track_at old i) low k)
 
+known_lower : (at end : ℕ) (renewable : Bool) (x : Track) → Lower (owing_past at (told_earlier end renewable x)) x
+known_lower at end renewable x = known_is (λ y. Lower y x) at end renewable x (refl, inl (refl, refl)) (λ out. (refl, inl (refl, refl))) (λ free. (refl, inl (refl, refl)))
+
+-- whatever is no grant of an entry leaves it so
+renewed_untold : (s : WatchState) (r : Out) (reply : Reply) (i : ℕ) → is_told reply ≡ false → Lower (track_at (state_renewed s r reply) i) (track_at s i)
+unfolding renewed_track
+renewed_untold s r (Told seconds renewable date) i none = absurd cc
+renewed_untold s r (Refused status date) i none = set_kept Lower lower_same s.tracks r.entry _ (ungranted_lower s.clocks.at r.heard (Refused status date) (track_at s r.entry)) i
+renewed_untold s r Busy i none = set_kept Lower lower_same s.tracks r.entry _ (ungranted_lower s.clocks.at r.heard Busy (track_at s r.entry)) i
+renewed_untold s r Lost i none = set_kept Lower lower_same s.tracks r.entry _ (ungranted_lower s.clocks.at r.heard Lost (track_at s r.entry)) i
+
+renewed_lower :
+    (old new : WatchState) (o : Option Out) (j i : ℕ) (reply : Reply) (output : Output) → request_out old.out j Renew ≡ o → StepRenewed old o reply output new → j == i && is_told reply ≡ false →
+    Lower (track_at new i) (track_at old i)
+renewed_lower old new None j i reply output is step none = absurd step
+renewed_lower old new (Some r) j i reply output is step none =
+    let s = noted old r reply in
+    let mid = state_renewed s r reply in
+    let entry = out_entry old.out j Renew r is in
+    let alike = subst (λ (x : WatchState). Alike (track_at x i) (track_at mid i)) (sym step.1) (after_alike mid r reply i) in
+    elim (cases_Bool (j == i)) as (λ _. Lower (track_at new i) (track_at old i)) [
+      | inl same ↦ lower_both (track_at new i) (track_at mid i) (track_at old i) alike.0 (renewed_untold s r reply i (sym (ap (λ b. b && is_told reply) same) ∙ none))
+      | inr other ↦
+          let apart : i ≢ r.entry = λ e. not_both (subst (λ n. (n == i) ≡ true) (e ∙ entry) (same_index i)) other in
+          subst (λ y. Lower (track_at new i) y) (get_or-set_other s.tracks r.entry i (track_renewed s r reply) no_track apart) alike.0
+    ]
+
+step_lower : (old new : WatchState) (event : Event) (output : Output) (i : ℕ) → Step old event output new → is_grant_of i event ≡ false → Lower (track_at new i) (track_at old i)
+step_lower old new (Clock wall elapsed) output i step none = clock_lower old new wall elapsed output i step
+step_lower old new (Looked j reply terms) output i step none = looked_kept old new (request_out old.out j Look) i reply terms output step
+step_lower old new (Renewed j reply) output i step none = renewed_lower old new (request_out old.out j Renew) j i reply output refl step none
+step_lower old new (Need j until) output i step none = subst (λ (x : WatchState). Lower (track_at x i) (track_at old i)) (sym step.1) (lower_same (track_at old i))
+step_lower old new Begin output i step none = subst (λ (x : WatchState). Lower (track_at x i) (track_at old i)) (sym step.1) (lower_same (track_at old i))
+step_lower old new (Known j end renewable) output i step none =
+    subst (λ (x : WatchState). Lower (track_at x i) (track_at old i)) (sym step.1) (set_kept Lower lower_same old.tracks j _ (known_lower old.clocks.at end renewable (track_at old j)) i)
+
+pub turn_lower :
+    (old new : WatchState) (event : Event) (result : Result Output WatchFault) (i : ℕ) → Turn old event result new → is_event_taken result && is_grant_of i event ≡ false → Lower (track_at new i) (track_at old i)
+turn_lower old new event (Ok output) i turn none = step_lower old new event output i turn.1 none
+turn_lower old new event (Err fault) i turn none = subst (λ (x : WatchState). Lower (track_at x i) (track_at old i)) (sym (refused_stays old new event fault turn)) (lower_same (track_at old i))
+
 step_kept :
     (old new : WatchState) (event : Event) (output : Output) (i : ℕ) (gs : List Granted) → Step old event output new → i < length old.tracks → Kept gs (track_at old i) →
     Kept (gs ++ grant_by i new event) (track_at new i)
@@ -292,7 +349,7 @@ step_kept old new (Need j until) output i gs step within k =
     quiet_kept old new i gs (subst (λ (x : WatchState). Lower (track_at x i) (track_at old i)) (sym step.1) (lower_same (track_at old i))) k
 step_kept old new Begin output i gs step within k = quiet_kept old new i gs (subst (λ (x : WatchState). Lower (track_at x i) (track_at old i)) (sym step.1) (lower_same (track_at old i))) k
 step_kept old new (Known j end renewable) output i gs step within k =
-    quiet_kept old new i gs (subst (λ (x : WatchState). Lower (track_at x i) (track_at old i)) (sym step.1) (set_kept Lower lower_same old.tracks j _ (refl, λ top. top) i)) k
+    quiet_kept old new i gs (subst (λ (x : WatchState). Lower (track_at x i) (track_at old i)) (sym step.1) (set_kept Lower lower_same old.tracks j _ (known_lower old.clocks.at end renewable (track_at old j)) i)) k
 
 looked_many : (old new : WatchState) (o : Option Out) (reply : Reply) (terms : Terms) (output : Output) → StepLooked old o reply terms output new → length new.tracks ≡ length old.tracks
 looked_many old new None reply terms output step = absurd step
@@ -335,7 +392,7 @@ ran (turn ∷ turns) old i gs h within k =
     let rest = ran turns turn.state i (gs ++ grant_of i turn.state turn.event turn.result) h.1 (omega (arith, count, within)) here in
     subst (λ ys. Kept ys (track_at (after_all turn.state turns) i)) (append_three gs (grant_of i turn.state turn.event turn.result) (grants i turns)) rest
 
-first_track : (es : List Entry) (i : ℕ) → i < length es → track_in (map fresh_track es) i ≡ fresh_track (entry_at es i)
+pub first_track : (es : List Entry) (i : ℕ) → i < length es → track_in (map fresh_track es) i ≡ fresh_track (entry_at es i)
 unfolding entry_at
 first_track es i within = get_or-map fresh_track es i no_entry no_track within
 

@@ -1,5 +1,5 @@
 -- Tracking: what holds between each track and what a step makes of it. For laws that speak of one entry.
-use Rattle.std.proofs.Common.{◌≡◌, ◌∙◌, ℕ, zero, suc, if◌then◌else◌, List, [], ◌∷◌, length, refl, sym, subst, inl, inr}
+use Rattle.std.proofs.Common.{◌≡◌, ◌∙◌, ℕ, zero, suc, if◌then◌else◌, List, [], ◌∷◌, length, refl, sym, subst, inl, inr, Bool, true, false, Some}
 use Rattle.std.proofs.lemmas.Bool.{cases_lt}
 use Rattle.std.proofs.lemmas.List.{get_or_past, length-set}
 use Rattle.std.specs.Prelude.{slice_set}
@@ -9,11 +9,15 @@ use Rattle.watch_machine.specs.declared.event.Terms.{Terms}
 use Rattle.watch_machine.specs.declared.lanes.Out.{Out}
 use Rattle.watch_machine.specs.declared.track.Track.{Track}
 use Rattle.watch_machine.specs.Answers.{answers_all, back_track, lane_freed, noted, replied, silent, with_track}
+use Rattle.watch_machine.specs.Beginning.{owing_lookup, owing_past, soon, sooner_try}
+use Rattle.watch_machine.specs.Clocks.{sec}
 use Rattle.watch_machine.specs.Looked.{looked}
 use Rattle.watch_machine.specs.Renewed.{state_renewed}
 use Rattle.watch_machine.specs.Settling.{is_real}
 use Rattle.watch_machine.specs.State.{WatchState, each, no_track, track_at, track_in}
-use Rattle.watch_machine.proofs.Cases.{if_both}
+use Rattle.watch_machine.specs.Step.{told_earlier}
+use Rattle.watch_machine.specs.Wanted.{is_alive}
+use Rattle.watch_machine.proofs.Cases.{if_both, if_cases}
 use Rattle.watch_machine.proofs.Seeing.{each_past, each_read}
 use Rattle.watch_machine.proofs.Written.{each_length}
 
@@ -47,6 +51,18 @@ pub set_holds : (P : Track → Type 0) → P no_track → (xs : List Track) (i :
 set_holds P none [] i y made = none
 set_holds P none (x ∷ xs) zero y made = made
 set_holds P none (x ∷ xs) (suc i) y made = set_holds P none xs i y made
+
+-- an end that is handed in: its entry is as told; and where that is past it owes a lookup besides, and has a try, if it is not out
+pub known_is :
+    (P : Track → Type 0) (at end : ℕ) (renewable : Bool) (x : Track) → P (told_earlier end renewable x) → (x.out ≡ true → P (record (told_earlier end renewable x) { owes = true })) →
+    (x.out ≡ false → P (record (told_earlier end renewable x) { owes = true; attempt = Some (sooner_try (soon at x) x.attempt) })) → P (owing_past at (told_earlier end renewable x))
+unfolding owing_past
+known_is P at end renewable x told out free =
+    let y = told_earlier end renewable x in
+    if_both P (is_alive (sec at) y) y (owing_lookup at y) told (if_cases P x.out (record y { owes = true }) (record y { owes = true; attempt = Some (sooner_try (soon at x) x.attempt) }) out free)
+
+pub known_out : (at end : ℕ) (renewable : Bool) (x : Track) → (owing_past at (told_earlier end renewable x)).out ≡ x.out
+known_out at end renewable x = known_is (λ (y : Track). y.out ≡ x.out) at end renewable x refl (λ out. refl) (λ free. refl)
 
 -- and where one is set, if it holds between each track and itself
 pub set_kept :

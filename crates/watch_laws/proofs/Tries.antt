@@ -9,7 +9,7 @@ use Rattle.watch_machine.specs.declared.event.Operation.TheVariants.{Look}
 use Rattle.watch_machine.specs.declared.notes.Why.{Why}
 use Rattle.watch_machine.specs.declared.track.Track.{Track}
 use Rattle.watch_machine.specs.declared.track.Try.{Try}
-use Rattle.watch_machine.specs.Beginning.{begun, hastened, is_called, owed, owing, owing_lookup, soon, sooner_try, untopped, untopped_track}
+use Rattle.watch_machine.specs.Beginning.{begun, hastened, is_called, is_start, owed, owing, owing_lookup, soon, sooner_try, untopped, untopped_track}
 use Rattle.watch_machine.specs.Clocks.{sec}
 use Rattle.watch_machine.specs.Lines.{rested}
 use Rattle.watch_machine.specs.Press.{asked_track, dropped, is_fresh, let_go, press, pressed, pressed_alone, pressed_track, track_asked_in}
@@ -82,16 +82,16 @@ module _ (P : Try → Type 0) where
         let same = value_is (hastened v from) u is in
         subst P same (hasten v from (h v refl (ap (λ (w : Try). w.pressed) same ∙ pressed') (let e = ap (λ (w : Try). w.fails) same in omega (arith, e, failed))))
 
-    owing_passes : (at : ℕ) (called : Bool) (x : Track) → Passes x → Passes (owing at called x)
+    owing_passes : (at : ℕ) (first called : Bool) (x : Track) → Passes x → Passes (owing at first called x)
     unfolding owing
-    owing_passes at called x h =
-        if_both Passes (called && is_open (sec at) x) (owing_lookup at x) x
+    owing_passes at first called x h =
+        if_both Passes (called && (first || is_open (sec at) x)) (owing_lookup at x) x
         (if_both Passes x.out (record x { owes = true }) (record x { owes = true; attempt = Some (sooner_try (soon at x) x.attempt) }) h (sooner_passes (soon at x) x.attempt h)) h
 
     pub begun_passes : (s : WatchState) (w : Option Why) (i : ℕ) → Passes (track_at s i) → Passes (track_at (begun s w) i)
     begun_passes s None i h = h
     begun_passes s (Some w) i h =
         let xs = untopped s.tracks in
-        each_holds Passes none_passes (λ j. owing s.clocks.at (is_called s.forest xs s.clocks j)) xs i
-        (owing_passes s.clocks.at (is_called s.forest xs s.clocks i) (track_in xs i)
+        each_holds Passes none_passes (λ j. owing s.clocks.at (is_start w) (is_called s.forest xs s.clocks j)) xs i
+        (owing_passes s.clocks.at (is_start w) (is_called s.forest xs s.clocks i) (track_in xs i)
         (each_kept (λ y x. Passes x → Passes y) (λ k. k) (λ j. untopped_track) s.tracks (λ j x k. k) i h))

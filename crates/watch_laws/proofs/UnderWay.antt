@@ -1,13 +1,12 @@
 -- UnderWay: while the broker is there, an entry that is wanted and on its first try is being asked or may go out after each clock. For the
 -- law of a wanted entry's start.
-use Rattle.std.proofs.Common.{◌≡◌, ◌≢◌, ◌∙◌, ℕ, ◌+◌, ◌<◌, ◌≤◌, Bool, true, false, max, min, not, ◌&&◌, ◌==◌, if◌then◌else◌, List, [], ◌∷◌, Option, Some, None, IfSome, Result, Ok, Err, length, map, nat_lt, refl, sym, ap, subst, arith, inl, inr}
+use Rattle.std.proofs.Common.{◌≡◌, ◌≢◌, ◌∙◌, ℕ, ◌+◌, ◌<◌, ◌≤◌, Bool, true, false, max, min, not, ◌&&◌, ◌||◌, ◌==◌, if◌then◌else◌, List, [], ◌∷◌, Option, Some, None, IfSome, Result, Ok, Err, length, map, nat_lt, refl, sym, ap, subst, arith, inl, inr}
 use Rattle.std.proofs.lemmas.Bool.{and_parts, cases_Bool, cond-false, cond-true, eqb-true}
 use Rattle.std.proofs.lemmas.Bool.Decides.{nat_tests}
 use Rattle.std.proofs.lemmas.List.{get_or-set_other, get_or-set_same, length-set}
 use Rattle.std.specs.List.{list_any}
 use Rattle.keep_tree.specs.declared.entry.Entry.{Entry}
 use Rattle.keep_moment.specs.declared.moment.TheConstants.{LAST}
-use Rattle.keep_tree.specs.declared.forest.TheConstants.{END_MAX}
 use Rattle.keep_tree.specs.Forest.{Forest}
 use Rattle.watch_machine.specs.declared.command.Output.{Output}
 use Rattle.watch_machine.specs.declared.event.Event.{Event}
@@ -21,11 +20,10 @@ use Rattle.watch_machine.specs.declared.fault.WatchFault.{WatchFault}
 use Rattle.watch_machine.specs.declared.lanes.Out.{Out}
 use Rattle.watch_machine.specs.declared.lanes.Presence.{Presence}
 use Rattle.watch_machine.specs.declared.notes.Why.{Why}
-use Rattle.watch_machine.specs.declared.track.End.TheVariants.{At}
 use Rattle.watch_machine.specs.declared.track.Track.{Track}
 use Rattle.watch_machine.specs.declared.track.Try.{Try}
 use Rattle.watch_machine.specs.Answers.{failing, heard, lane_freed, noted, replied, with_track, without_request}
-use Rattle.watch_machine.specs.Beginning.{begun, hastened, is_called, is_pressed, is_pressed_try, owed, owing, owing_lookup, soon, sooner_try, untopped, untopped_track}
+use Rattle.watch_machine.specs.Beginning.{begun, hastened, is_called, is_pressed, is_pressed_try, is_start, owed, owing, owing_lookup, owing_past, soon, sooner_try, untopped, untopped_track}
 use Rattle.watch_machine.specs.Clocks.{sec}
 use Rattle.watch_machine.specs.History.{History, Turn, Turned, after_all}
 use Rattle.watch_machine.specs.Lines.{is_first, later_at, ready}
@@ -38,7 +36,7 @@ use Rattle.watch_machine.specs.Round.{asked_by_round as round_of}
 use Rattle.watch_machine.specs.Sending.{sent}
 use Rattle.watch_machine.specs.Settling.{is_real, settled, settled_track, settled_try, timed}
 use Rattle.watch_machine.specs.State.{WatchState, attempt_at, entry_of, no_track, opened, second, track_at}
-use Rattle.watch_machine.specs.Step.{Step, StepClock, StepLooked, StepRenewed, known, readied, why, with_need_until}
+use Rattle.watch_machine.specs.Step.{Step, StepClock, StepLooked, StepRenewed, known, readied, told_earlier, why, with_need_until}
 use Rattle.watch_machine.specs.Wanted.{is_alive, is_open, is_wanted, need_of, wanted_need, wants}
 use Rattle.watch_machine.proofs.Cases.{if_both, not_both}
 use Rattle.watch_machine.proofs.Seeing.{SameSeen, both_seen, need_same}
@@ -61,7 +59,7 @@ use Rattle.watch_laws.proofs.Resting.{IsUntold}
 use Rattle.watch_laws.proofs.Retrying.{rises}
 use Rattle.watch_laws.proofs.Spacing.{looked_other, looked_out, same_index}
 use Rattle.watch_laws.proofs.Starting.{starts_soon}
-use Rattle.watch_laws.proofs.Tracking.{each_kept, replied_forest, set_kept}
+use Rattle.watch_laws.proofs.Tracking.{each_kept, known_is, known_out, replied_forest, set_kept}
 
 -- ---- a first try
 
@@ -331,18 +329,18 @@ settled_runs margin at b x r = record {
 sooner_runs : (from b : ℕ) (o : Option Try) → Runs b o → Runs b (Some (sooner_try from o))
 sooner_runs from b o r = let s = r.soon' in record { try = hastened r.try from; is = ap (λ p. Some (sooner_try from p)) r.is; first = r.first; settled' = r.settled'; soon' = omega (arith, s) }
 
-owing_runs : (at b : ℕ) (called : Bool) (x : Track) → Runs b x.attempt → Runs b (owing at called x).attempt
+owing_runs : (at b : ℕ) (first called : Bool) (x : Track) → Runs b x.attempt → Runs b (owing at first called x).attempt
 unfolding owing
-owing_runs at b called x r =
+owing_runs at b first called x r =
     let P : Track → Type 0 = λ y. Runs b y.attempt in
-    if_both P (called && is_open (sec at) x) (owing_lookup at x) x (if_both P x.out (record x { owes = true }) (record x { owes = true; attempt = Some (sooner_try (soon at x) x.attempt) }) r (sooner_runs (soon at x) b x.attempt r)) r
+    if_both P (called && (first || is_open (sec at) x)) (owing_lookup at x) x (if_both P x.out (record x { owes = true }) (record x { owes = true; attempt = Some (sooner_try (soon at x) x.attempt) }) r (sooner_runs (soon at x) b x.attempt r)) r
 
 begun_runs : (s : WatchState) (w : Option Why) (b i : ℕ) → Runs b (attempt_at s i) → Runs b (attempt_at (begun s w) i)
 begun_runs s None b i r = r
 begun_runs s (Some w) b i r =
     let R : Track → Track → Type 0 = λ y x. Runs b x.attempt → Runs b y.attempt in
     let xs = untopped s.tracks in
-    each_kept R (λ k. k) (λ k. owing s.clocks.at (is_called s.forest xs s.clocks k)) xs (λ k x. owing_runs s.clocks.at b (is_called s.forest xs s.clocks k) x) i (each_kept R (λ k. k) (λ k. untopped_track) s.tracks (λ k x h. h) i r)
+    each_kept R (λ k. k) (λ k. owing s.clocks.at (is_start w) (is_called s.forest xs s.clocks k)) xs (λ k x. owing_runs s.clocks.at b (is_start w) (is_called s.forest xs s.clocks k) x) i (each_kept R (λ k. k) (λ k. untopped_track) s.tracks (λ k x h. h) i r)
 
 ready_runs : (s : WatchState) (wall elapsed b i : ℕ) → Runs b (attempt_at s i) → Runs b (attempt_at (readied s wall elapsed) i)
 unfolding readied
@@ -398,6 +396,10 @@ clock_way quick late width n i old new wall elapsed output step base wanted way 
     ])
     away
 
+-- an end that is handed in
+known_runs : (at b end : ℕ) (renewable : Bool) (x : Track) → Runs b x.attempt → Runs b (owing_past at (told_earlier end renewable x)).attempt
+known_runs at b end renewable x r = known_is (λ (y : Track). Runs b y.attempt) at end renewable x r (λ out. r) (λ free. sooner_runs (soon at x) b x.attempt r)
+
 -- ---- a step, a turn
 
 step_way :
@@ -411,9 +413,11 @@ step_way quick late width n i due old new (Need j until) output step there base 
 step_way quick late width n i due old new Begin output step there base wanted first way =
     subst (λ (x : WatchState). FirstTryIsUnderWay (without_outage quick late) x i) (sym step.1) (same_way (without_outage quick late) i old (record old { asked = true }) refl refl refl refl refl way)
 step_way quick late width n i due old new (Known j end renewable) output step there base wanted first way =
-    let R : Track → Track → Type 0 = λ y x. (y.attempt ≡ x.attempt) × (y.out ≡ x.out) in
-    let kept = set_kept R (λ x. (refl, refl)) old.tracks j (record (track_at old j) { end = At (min END_MAX end); renewable = renewable }) (refl, refl) i in
-    subst (λ (x : WatchState). FirstTryIsUnderWay (without_outage quick late) x i) (sym step.1) (same_way (without_outage quick late) i old (known old j end renewable) kept.0 kept.1 refl refl refl way)
+    let o = without_outage quick late in
+    let b = old.clocks.at in
+    let runs = set_kept (λ y x. Runs b x.attempt → Runs b y.attempt) (λ x k. k) old.tracks j _ (known_runs b b end renewable (track_at old j)) i (of_way o old i way) in
+    let out = set_kept (λ (y x : Track). y.out ≡ x.out) (λ x. refl) old.tracks j _ (known_out b end renewable (track_at old j)) i in
+    subst (λ (x : WatchState). FirstTryIsUnderWay o x i) (sym step.1) (to_way o (known old j end renewable) i runs (λ now. way.lane (sym out ∙ now)) way.there)
 
 turn_way :
     (quick late width n i due : ℕ) (old new : WatchState) (event : Event) (result : Result Output WatchFault) → Turn old event result new → IsThereAt (without_outage quick late) due old event result → IsBase width n old →

@@ -8,7 +8,7 @@ use Rattle.watch_machine.specs.declared.command.Request.{Request}
 use Rattle.watch_machine.specs.declared.notes.Why.{Why}
 use Rattle.watch_machine.specs.declared.track.Track.{Track}
 use Rattle.watch_machine.specs.declared.track.Try.{Try}
-use Rattle.watch_machine.specs.Beginning.{begun, is_called, is_pressed, is_pressed_try, owing, owing_lookup, soon, sooner_try, untopped, untopped_track}
+use Rattle.watch_machine.specs.Beginning.{begun, is_called, is_pressed, is_pressed_try, is_start, owing, owing_lookup, soon, sooner_try, untopped, untopped_track}
 use Rattle.watch_machine.specs.Clocks.{sec}
 use Rattle.watch_machine.specs.Lines.{rested}
 use Rattle.watch_machine.specs.Margins.{has_come}
@@ -45,11 +45,11 @@ settled_undisturbed : (margin at : ℕ) (x : Track) → Undisturbed (settled_tra
 unfolding settled_track
 settled_undisturbed margin at x = ((λ out. out), (λ out. settled_pressed margin at x x.attempt))
 
-owing_undisturbed : (at : ℕ) (called : Bool) (x : Track) → Undisturbed (owing at called x) x
+owing_undisturbed : (at : ℕ) (first called : Bool) (x : Track) → Undisturbed (owing at first called x) x
 unfolding owing
-owing_undisturbed at called x =
+owing_undisturbed at first called x =
     let P : Track → Type 0 = λ y. Undisturbed y x in
-    if_both P (called && is_open (sec at) x) (owing_lookup at x) x
+    if_both P (called && (first || is_open (sec at) x)) (owing_lookup at x) x
     (if_cases P x.out (record x { owes = true }) (record x { owes = true; attempt = Some (sooner_try (soon at x) x.attempt) }) (λ out. ((λ o. o), (λ o pressed'. pressed')))
     (λ free. ((λ o. o), (λ out pressed'. absurd (not_both out free))))) (same_undisturbed x)
 
@@ -87,7 +87,7 @@ begun_undisturbed s None i = same_undisturbed (track_at s i)
 begun_undisturbed s (Some w) i =
     let xs = untopped s.tracks in
     both_undisturbed (track_at (begun s (Some w)) i) (track_in xs i) (track_at s i)
-    (each_kept Undisturbed none_undisturbed (λ j. owing s.clocks.at (is_called s.forest xs s.clocks j)) xs (λ j x. owing_undisturbed s.clocks.at (is_called s.forest xs s.clocks j) x) i)
+    (each_kept Undisturbed none_undisturbed (λ j. owing s.clocks.at (is_start w) (is_called s.forest xs s.clocks j)) xs (λ j x. owing_undisturbed s.clocks.at (is_start w) (is_called s.forest xs s.clocks j) x) i)
     (each_kept Undisturbed none_undisturbed (λ j. untopped_track) s.tracks (λ j x. ((λ out. out), (λ out pressed'. pressed'))) i)
 
 mid_undisturbed : (s : WatchState) (round : List ℕ) (i : ℕ) → Undisturbed (track_at (pressed s round) i) (track_at s i)

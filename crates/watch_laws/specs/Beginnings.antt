@@ -1,9 +1,10 @@
 -- Beginnings: how often everything is looked up anew, and how often an entry is after that. Each law is the contract of a public function
 -- without a body.
 -- Source: this project's own.
-use Rattle.std.specs.Prelude.{◌≡◌, ◌⊎◌, ◌==◌, ℕ, ◌+◌, ◌<◌, ◌≤◌, Bool, true, false, ◌&&◌, List, [], ◌∷◌, ◌++◌, Option, None, Result, Ok, Err, filter, is_some, length, min}
+use Rattle.std.specs.Prelude.{◌≡◌, ◌⊎◌, ◌==◌, ℕ, ◌+◌, ◌<◌, ◌≤◌, Bool, true, false, ◌&&◌, List, [], ◌∷◌, ◌++◌, Option, Some, None, Result, Ok, Err, filter, is_some, length, min}
 use Rattle.std.specs.List.{list_any}
 use Rattle.keep_tree.specs.Forest.{Forest}
+use Rattle.keep_tree.specs.declared.forest.TheConstants.{END_MAX}
 use Rattle.watch_machine.specs.declared.clocks.WallOffset.{WallOffset}
 use Rattle.watch_machine.specs.declared.command.Output.{Output}
 use Rattle.watch_machine.specs.declared.command.Request.{Request}
@@ -15,6 +16,7 @@ use Rattle.watch_machine.specs.declared.event.Reply.TheVariants.{Told, Refused, 
 use Rattle.watch_machine.specs.declared.fault.WatchFault.{WatchFault}
 use Rattle.watch_machine.specs.declared.lanes.Out.{Out}
 use Rattle.watch_machine.specs.declared.notes.Why.{Why}
+use Rattle.watch_machine.specs.declared.notes.Why.TheVariants.{Start}
 use Rattle.watch_machine.specs.declared.reading.TheConstants.{READING_MAX}
 use Rattle.watch_machine.specs.Beginning.{is_called}
 use Rattle.watch_machine.specs.History.{History, IsWatchRun, Turned, after_all}
@@ -81,14 +83,14 @@ TellsAhead s i Busy = ⊥
 TellsAhead s i Lost = ⊥
 
 -- all goes well with i: a clock does not begin anew, and finds i with an end that is ahead or unknown if it is to be asked; and an answer
--- of i tells an end that is ahead. What others are answered is no matter
+-- of i tells an end that is ahead, and so does one that is handed in. What others are answered is no matter
 abbrev pub GoesWell : ℕ → WatchState → Event → Output → Type 0
 GoesWell i s (Clock wall elapsed) output = (output.notes.began ≡ None) × (is_tried s i ≡ true → is_open (second s) (track_at s i) ≡ true)
 GoesWell i s (Looked j reply terms) output = j ≡ i → TellsAhead s i reply
 GoesWell i s (Renewed j reply) output = j ≡ i → TellsAhead s i reply
 GoesWell i s (Need j until) output = Unit {0}
 GoesWell i s Begin output = Unit {0}
-GoesWell i s (Known j end renewable) output = Unit {0}
+GoesWell i s (Known j end renewable) output = j ≡ i → second s < min END_MAX end
 
 abbrev pub GoesWellAt : ℕ → WatchState → Event → Result Output WatchFault → Type 0
 GoesWellAt i s event (Ok output) = GoesWell i s event output
@@ -102,17 +104,24 @@ GoWell i (turn ∷ turns) = GoesWellAt i turn.state turn.event turn.result × Go
 abbrev pub is_needed : WatchState → ℕ → Bool
 is_needed s i = is_called s.forest s.tracks s.clocks i
 
--- how often i is looked up from a beginning on: before and begun are the states before and after its clock, last is that after all, and n
--- is how many lookups go out. With one that was out before it is never two; and one where i is needed, as whoever is wanted is, and its end
--- is unknown or ahead, by the time that no lookup is owed. None goes out where it is not needed, its end is ahead, and it owed none before
-pub record IsLookedUpOnce (before begun last : WatchState) (i n : ℕ) : Type 0 where
+-- a beginning is for the lookup of an entry that is needed: the first whatever its end, since that was handed in; any other where it is ahead or
+-- unknown
+abbrev pub IsForLookup : Option Why → WatchState → ℕ → Type 0
+IsForLookup why s i = (why ≡ Some Start) ⊎ (is_open (second s) (track_at s i) ≡ true)
+
+-- how often i is looked up from a beginning on, and why that is one: before and begun are the states before and after its clock, last is that after
+-- all, and n is how many lookups go out. With one that was out before it is never two. Where i is needed, as whoever is wanted is, and the
+-- beginning is for its lookup, it owes one from then on, and it is one by the time that none is owed. None goes out where it is not needed, its
+-- end is ahead, and it owed none before
+pub record IsLookedUpOnce (before begun last : WatchState) (why : Option Why) (i n : ℕ) : Type 0 where
   pub at_most : looks i before.out + n ≤ 1
   pub wanted : is_wanted begun i ≡ true → is_needed begun i ≡ true
-  pub once : is_needed begun i ≡ true → is_open (second begun) (track_at begun i) ≡ true → (track_at last i).owes ≡ false → looks i before.out + n ≡ 1
+  pub owes : is_needed begun i ≡ true → IsForLookup why begun i → (track_at begun i).owes ≡ true
+  pub once : is_needed begun i ≡ true → IsForLookup why begun i → (track_at last i).owes ≡ false → looks i before.out + n ≡ 1
   pub never : is_needed begun i ≡ false → is_alive (second begun) (track_at begun i) ≡ true → (track_at before i).owes ≡ false → n ≡ 0
 
 -- from a beginning on, while all goes well with it, an entry that is needed is looked up once, and no other is
 abbrev pub OneLookupLaw : Type 0
 OneLookupLaw =
     (g : Forest) (width : ℕ) (before : List Turned) (turn : Turned) (after : List Turned) (i : ℕ) → IsWatchRun g width (before ++ turn ∷ after) → i < length g.entries → IsBeginning turn →
-    GoWell i after → IsLookedUpOnce (after_all (opened g width) before) turn.state (after_all turn.state after) i (lookups i (turn ∷ after))
+    GoWell i after → IsLookedUpOnce (after_all (opened g width) before) turn.state (after_all turn.state after) (why_begun turn.result) i (lookups i (turn ∷ after))

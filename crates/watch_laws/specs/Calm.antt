@@ -27,7 +27,7 @@ use Rattle.watch_machine.specs.Refusal.{request_out}
 use Rattle.watch_machine.specs.Settling.{timed}
 use Rattle.watch_machine.specs.State.{WatchState, attempt_at, entry_of, opened, second, track_at}
 use Rattle.watch_machine.specs.Step.{readied, why}
-use Rattle.watch_machine.specs.Wanted.{believed, is_wanted, seen_entry, wanted_need}
+use Rattle.watch_machine.specs.Wanted.{believed, cut_need, is_wanted, seen_entry}
 use Rattle.watch_laws.specs.Grants.{time_left}
 use Rattle.watch_laws.specs.Load.{requests_at_turn}
 use Rattle.watch_laws.specs.Time.{round_of}
@@ -59,6 +59,14 @@ in_plan_at s i = is_in_plan s.forest.margin (entry_of s i) (track_at s i)
 abbrev pub lead_at : WatchState → ℕ → ℕ
 lead_at s i = lead (entry_of s i).step (track_at s i).grant
 
+-- until when the plan has to lead an entry: its need, cut to its limit
+abbrev pub planned_need : WatchState → ℕ → ℕ
+planned_need s i = cut_need s.forest.entries s.tracks s.clocks i
+
+-- nobody who is wanted is at its top. A last try is none of the plan's: it is for an end that the plan takes for the last
+abbrev pub NobodyTriesLast : WatchState → Type 0
+NobodyTriesLast s = (i : ℕ) → is_wanted s i ≡ true → (track_at s i).top ≡ false
+
 -- each entry that is wanted is in the plan
 abbrev pub AllInPlan : WatchState → Type 0
 AllInPlan s = (i : ℕ) → i < length s.forest.entries → is_wanted s i ≡ true → in_plan_at s i ≡ true
@@ -71,21 +79,22 @@ IsLeastTime s (Some t) =
 
 -- the least time is the first moment of the least and latest plan
 abbrev pub IsForeseen : WatchState → Type 0
-IsForeseen s = IsKeepable s → AllInPlan s → (ts : List ℕ) × (IsPlanNow s ts × IsLeastTime s (first_of ts))
+IsForeseen s = IsKeepable s → AllInPlan s → NobodyTriesLast s → (ts : List ℕ) × (IsPlanNow s ts × IsLeastTime s (first_of ts))
 
 abbrev pub AllForeseen : List Turned → Type 0
 AllForeseen [] = Unit {0}
 AllForeseen (turn ∷ turns) = IsForeseen turn.state × AllForeseen turns
 
--- in every state of every history, where no pair is Unkeepable and each entry that is wanted is in the plan, the least time of
+-- in every state of every history, where no pair is Unkeepable and each entry that is wanted is in the plan and not at its top, the least time of
 -- these is the first moment of the least and latest plan by what is believed; and where nobody is wanted that plan is empty
 abbrev pub NextMomentLaw : Type 0
 NextMomentLaw = (g : Forest) (width : ℕ) (turns : List Turned) → IsForest g → IsWatchRun g width turns → AllForeseen turns
 
--- a state in which nobody is being asked, and a renewal leads each entry that is wanted as far as its step
+-- a state in which nobody is being asked, nobody who is wanted is at its top, and a renewal leads each of them as far as its step
 pub record IsCalm (s : WatchState) : Type 0 where
   pub keepable : IsKeepable s
   pub in_plan : AllInPlan s
+  pub untopped : NobodyTriesLast s
   pub led : (i : ℕ) → i < length s.forest.entries → is_wanted s i ≡ true → lead_at s i ≡ (entry_of s i).step
   pub unpressed : (i : ℕ) → i < length s.forest.entries → is_pressed (track_at s i) ≡ false
   pub unasked : (i : ℕ) → i < length s.forest.entries → (track_at s i).out ≡ false
@@ -136,7 +145,7 @@ leads_to s began i = renewal (terms s i) began
 pub record IsCalmSecond (s : WatchState) (began now : ℕ) : Type 0 where
   pub others : (i : ℕ) → i < length s.forest.entries → is_wanted s i ≡ true → is_pressed (track_at s i) ≡ false → now < time_of s i
   pub alive : (i : ℕ) → i < length s.forest.entries → is_none (attempt_at s i) ≡ false → now < ends s i
-  pub own : (i : ℕ) → i < length s.forest.entries → is_none (attempt_at s i) ≡ false → leads_to s began i < wanted_need s i → now < leads_to s began i - s.forest.margin
+  pub own : (i : ℕ) → i < length s.forest.entries → is_none (attempt_at s i) ≡ false → leads_to s began i < planned_need s i → now < leads_to s began i - s.forest.margin
 
 -- a clock at which nothing begins anew and no clock is set: it comes in the second of the least time of an entry that is not pressed
 -- yet, or before; and before any round could open while anybody has a try

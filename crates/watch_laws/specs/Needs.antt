@@ -1,6 +1,6 @@
 -- Needs: who is wanted. The laws are the contract of a public function without a body.
 -- Source: this project's own, over Vault, "Tokens" (a token's end ends its children and its leases).
-use Rattle.std.specs.Prelude.{◌≡◌, ◌⊎◌, ◌↔◌, ℕ, ◌+◌, ◌<◌, ◌≤◌, Bool, true, false, map, min, length}
+use Rattle.std.specs.Prelude.{◌≡◌, ◌⊎◌, ◌↔◌, ℕ, ◌+◌, ◌<◌, ◌≤◌, Bool, true, false, if◌then◌else◌, map, min, length}
 use Rattle.std.specs.List.{range_with_len}
 use Rattle.keep_moment.specs.declared.moment.TheConstants.{LAST}
 use Rattle.keep_tree.specs.declared.entry.Entry.{Entry}
@@ -11,7 +11,7 @@ use Rattle.watch_machine.specs.declared.track.End.{End}
 use Rattle.watch_machine.specs.declared.track.End.TheVariants.{Unknown, At, Never}
 use Rattle.watch_machine.specs.Beginning.{is_called}
 use Rattle.watch_machine.specs.Clocks.{sec}
-use Rattle.watch_machine.specs.State.{WatchState, entry_of, second, track_at}
+use Rattle.watch_machine.specs.State.{WatchState, entry_of, has_last_try, second, track_at}
 use Rattle.watch_machine.specs.Wanted.{is_wanted, limit, need_here, seen_entry, wants}
 
 -- by another clock, which showed `there` in the second `here` of this one, a second of this one comes no later than a moment: what
@@ -38,15 +38,19 @@ abbrev pub IsOpenUntil : WatchState → ℕ → ℕ → Type 0
 IsOpenUntil s j until =
     (a end : ℕ) → Over s.forest.entries a j → (track_at s a).end ≡ At end → end < until → ((track_at s a).renewable ≡ true) × ((track_at s a).top ≡ false)
 
--- i has to be led on to a second that is ahead: it may be, and is over j (itself too), which is needed until then, with nothing over
--- that fixed before. This is said by the inventory, what was told of each entry and how the clocks were set, and by no rule of the machine
+-- i may be led on to a second for j: it is not at its top, and nothing over j is fixed before that second. Or it has its last try, which is
+-- made whatever is fixed
+abbrev pub MayBeLed : WatchState → ℕ → ℕ → ℕ → Type 0
+MayBeLed s i j until = (((track_at s i).top ≡ false) × IsOpenUntil s j until) ⊎ (has_last_try (track_at s i) ≡ true)
+
+-- i has to be led on to a second that is ahead: it may be, and is over j (itself too), which is needed until then. This is said by the
+-- inventory, what was told of each entry and how the clocks were set, and by no rule of the machine
 pub record HasToBeLed (s : WatchState) (i j until : ℕ) : Type 0 where
   pub ends : IsEndToBeLed until (track_at s i).renewable (track_at s i).end
-  pub not_topped : (track_at s i).top ≡ false
+  pub may : MayBeLed s i j until
   pub over : Over s.forest.entries i j
   pub needed : IsNeedUntil s.clocks (entry_of s j).need until
   pub ahead : second s < until
-  pub open_until : IsOpenUntil s j until
 
 -- in every state, an entry that has to be led on is wanted
 abbrev pub NeededLaw : Type 0
@@ -74,12 +78,19 @@ MayBeNeeded s i = (s.clocks.dated ≡ false) × ((j : ℕ) × (Over s.forest.ent
 abbrev pub CalledLaw : Type 0
 CalledLaw = (s : WatchState) (i : ℕ) → (is_called s.forest s.tracks s.clocks i ≡ true) ↔ (IsNeeded s i ⊎ MayBeNeeded s i)
 
--- an entry as it is seen, and whether it is wanted, if needs were brought to this clock by a function, and all else were as it is
+-- an entry as it is seen, its need cut to its limit or not, and whether it is wanted, if needs were brought to this clock by a function, and all
+-- else were as it is
 abbrev pub seen_by : (Clocks → ℕ → ℕ) → WatchState → ℕ → Entry
 seen_by here s i = record (seen_entry s.forest.entries s.tracks s.clocks i) { need = min (here s.clocks (entry_of s i).need) (limit s.forest.entries s.tracks i) }
 
+abbrev pub freely_seen_by : (Clocks → ℕ → ℕ) → WatchState → ℕ → Entry
+freely_seen_by here s i = record (entry_of s i) { need = here s.clocks (entry_of s i).need }
+
+abbrev pub carried_by : (ℕ → Entry) → WatchState → ℕ → ℕ
+carried_by seen s i = carried (map seen (range_with_len 0 (length s.forest.entries))) (second s) i
+
 abbrev pub is_wanted_by : (Clocks → ℕ → ℕ) → WatchState → ℕ → Bool
-is_wanted_by here s i = wants (track_at s i) (carried (map (seen_by here s) (range_with_len 0 (length s.forest.entries))) (second s) i)
+is_wanted_by here s i = wants (track_at s i) (if has_last_try (track_at s i) then carried_by (freely_seen_by here s) s i else carried_by (seen_by here s) s i)
 
 -- the law of needs, of a machine that brings needs to its clock so
 abbrev pub NeededBy : (Clocks → ℕ → ℕ) → Type 0

@@ -147,11 +147,12 @@ abbrev pub IsShortOutage : Outage → ℕ → Type 0
 IsShortOutage o margin = IsShortFor o (ms margin)
 
 -- a state in which the time of i is ahead: i is wanted, in the plan, and not pressed, and may be asked when its time comes. A lookup of it may
--- be owed, and out
+-- be owed, and out. It is not at its top: of a last try, whose time comes later, speaks the law of what is left
 pub record IsBefore (s : WatchState) (i : ℕ) : Type 0 where
   pub within : i < length s.forest.entries
   pub wanted : is_wanted s i ≡ true
   pub in_plan : is_in_plan s.forest.margin (entry_of s i) (track_at s i) ≡ true
+  pub not_topped : (track_at s i).top ≡ false
   pub loose : is_pressed (track_at s i) ≡ false
   pub ahead : second s < time_of s i
   pub rested : rested (track_at s i).last ≤ ms (time_of s i)

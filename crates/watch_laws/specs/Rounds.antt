@@ -66,14 +66,20 @@ AsksLaw =
     (old : WatchState) (turn : Turned) (asked : List ℕ) → IsForest old.forest → History old (turn ∷ []) → round_of turn.result ≡ Some asked →
     AreAsks (granted_forest turn.state) (second turn.state) (hoped_ends old turn.state) asked
 
--- two clocks find the same of an entry: it is hoped for at both, or at neither; a renewal leads it as far; and where it is not hoped for, as
--- much is believed of it
+-- what is believed of an entry that is hoped for is no matter, if it is not at its top. The end of one at its top limits whoever it is over
+abbrev pub is_hidden : WatchState → WatchState → ℕ → Bool
+is_hidden old new i = is_hoped_for old new i && not (track_at new i).top
+
+-- two clocks find the same of an entry: it is hoped for at both, or at neither, and so is its being at its top then; a renewal leads it as far;
+-- and where that is a matter, as much is believed of it
 pub record FindSame (old new old' new' : WatchState) (i : ℕ) : Type 0 where
   pub hoped : is_hoped_for old new i ≡ is_hoped_for old' new' i
+  pub hidden : is_hidden old new i ≡ is_hidden old' new' i
   pub lead : lead_at new i ≡ lead_at new' i
-  pub end : is_hoped_for old new i ≡ false → (track_at new i).end ≡ (track_at new' i).end
-  pub renewable : is_hoped_for old new i ≡ false → (track_at new i).renewable ≡ (track_at new' i).renewable
-  pub top : is_hoped_for old new i ≡ false → (track_at new i).top ≡ (track_at new' i).top
+  pub end : is_hidden old new i ≡ false → (track_at new i).end ≡ (track_at new' i).end
+  pub renewable : is_hidden old new i ≡ false → (track_at new i).renewable ≡ (track_at new' i).renewable
+  pub top : is_hidden old new i ≡ false → (track_at new i).top ≡ (track_at new' i).top
+  pub last_try : is_hidden old new i ≡ false → (track_at new i).last_try ≡ (track_at new' i).last_try
 
 -- and of all entries, in the same second of clocks that are set the same
 pub record FindAllSame (old new old' new' : WatchState) : Type 0 where
@@ -83,7 +89,7 @@ pub record FindAllSame (old new old' new' : WatchState) : Type 0 where
   pub now : second new ≡ second new'
   pub each : (i : ℕ) → FindSame old new old' new' i
 
--- what is believed of whoever is hoped for, and why it is, changes no round: neither whether one opens nor whom it names
+-- what is believed of whoever is hoped for and not at its top, and why it is, changes no round: neither whether one opens nor whom it names
 abbrev pub HopeLaw : Type 0
 HopeLaw =
     (old old' : WatchState) (turn turn' : Turned) (wall elapsed wall' elapsed' : ℕ) → IsForest old.forest → History old (turn ∷ []) → History old' (turn' ∷ []) → IsClock wall elapsed turn → IsClock wall' elapsed' turn' →

@@ -1,7 +1,7 @@
 -- Told: what a lookup that tells makes of its entry, and what else changes what is known of it: a need and an end that are handed in. The laws are
 -- the contract of public functions without a body.
 -- Source: this project's own, over Vault, HTTP API: `auth/token`, "Lookup a token (self)"; `sys/leases`, "Read lease".
-use Rattle.std.specs.Prelude.{◌≡◌, ◌≢◌, ℕ, ◌+◌, ◌<◌, ◌≤◌, Bool, true, false, not, ◌&&◌, if◌then◌else◌, [], ◌∷◌, Option, Some, None, is_some, length, min, nat_lt}
+use Rattle.std.specs.Prelude.{◌≡◌, ◌≢◌, ℕ, ◌+◌, ◌<◌, ◌≤◌, Bool, true, false, not, ◌&&◌, if◌then◌else◌, [], ◌∷◌, Option, Some, None, is_some, length, max, min, nat_lt}
 use Rattle.keep_moment.specs.declared.moment.TheConstants.{LAST}
 use Rattle.keep_tree.specs.declared.entry.Entry.{Entry}
 use Rattle.keep_tree.specs.declared.forest.TheConstants.{END_MAX}
@@ -20,6 +20,7 @@ use Rattle.watch_machine.specs.Refusal.{request_out}
 use Rattle.watch_machine.specs.State.{WatchState, attempt_at, entry_of, second, track_at}
 use Rattle.watch_machine.specs.Wanted.{believed, is_alive, is_wanted}
 use Rattle.watch_laws.specs.Absence.{is_event_taken}
+use Rattle.watch_laws.specs.Presses.{asked_again_at}
 use Rattle.watch_laws.specs.Time.{is_come}
 
 -- the try u that goes on as a renewal from the lookup of the try t: at once, as one that has not failed. It is the same try where that was
@@ -108,7 +109,20 @@ writes (Need i until) = true
 writes Begin = false
 writes (Known i end renewable) = false
 
--- a lookup that tells writes its entry so, a need is set, and nothing else writes the forest. An end that is handed in is believed
+-- a lookup of i is owed, and where its request is not out there is a try, which may go out now, or a second after the entry was last asked
+abbrev pub OwesNow : WatchState → WatchState → ℕ → Type 0
+OwesNow old new i =
+    ((track_at new i).owes ≡ true)
+    × ((track_at old i).out ≡ false → (u : Try) × ((attempt_at new i ≡ Some u) × (u.at ≤ max new.clocks.at (asked_again_at (track_at old i).last))))
+
+-- an end that is handed in is believed, and whether the entry is renewable. Where that end is past, a lookup is owed; else what is to be asked stays
+pub record IsHandedIn (old new : WatchState) (i end : ℕ) (renewable : Bool) : Type 0 where
+  pub end_is : (track_at new i).end ≡ At (min END_MAX end)
+  pub goes_on : (track_at new i).renewable ≡ renewable
+  pub ahead : second new < min END_MAX end → (attempt_at new i ≡ attempt_at old i) × ((track_at new i).owes ≡ (track_at old i).owes)
+  pub past : min END_MAX end ≤ second new → OwesNow old new i
+
+-- a lookup that tells writes its entry so, a need is set, and nothing else writes the forest. An end that is handed in is taken so
 pub record ForestWrittenLaw : Type 0 where
   pub terms :
       (old : WatchState) (turn : Turned) (i seconds : ℕ) (renewable : Bool) (date : Option ℕ) (terms : Terms) → History old (turn ∷ []) → i < length old.forest.entries →
@@ -119,4 +133,4 @@ pub record ForestWrittenLaw : Type 0 where
   pub others : (old : WatchState) (turn : Turned) → History old (turn ∷ []) → is_event_taken turn.result && writes turn.event ≡ false → turn.state.forest ≡ old.forest
   pub known :
       (old : WatchState) (turn : Turned) (i end : ℕ) (renewable : Bool) → History old (turn ∷ []) → i < length old.tracks → turn.event ≡ Known i end renewable → is_event_taken turn.result ≡ true →
-      ((track_at turn.state i).end ≡ At (min END_MAX end)) × ((track_at turn.state i).renewable ≡ renewable)
+      IsHandedIn old turn.state i end renewable

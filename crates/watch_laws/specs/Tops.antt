@@ -1,16 +1,26 @@
--- Tops: when an entry is called topped. Each law is the contract of a public function without a body.
+-- Tops: when an entry is called topped, and how it is asked once more then. Each law is the contract of a public function without a body.
 -- Source: this project's own, over Vault, "Lease, renew, and revoke" (a renewal counts from its own moment; maximum TTL).
-use Rattle.std.specs.Prelude.{◌≡◌, ℕ, ◌+◌, ◌-◌, ◌<◌, ◌≤◌, true, ◌==◌, if◌then◌else◌, List, [], ◌∷◌, ◌++◌, Result, Ok, Err, All, length, min}
+use Rattle.std.specs.Prelude.{◌≡◌, ℕ, ◌+◌, ◌-◌, ◌/◌, ◌<◌, ◌≤◌, Bool, true, false, not, ◌&&◌, ◌==◌, if◌then◌else◌, List, [], ◌∷◌, ◌++◌, Result, Ok, Err, All, length, min}
 use Rattle.keep_tree.specs.Forest.{Forest}
+use Rattle.keep_tree.specs.Over.{Over}
 use Rattle.watch_machine.specs.declared.command.Output.{Output}
 use Rattle.watch_machine.specs.declared.event.Event.{Event}
 use Rattle.watch_machine.specs.declared.event.Event.TheVariants.{Clock, Looked, Renewed, Need, Begin, Known}
 use Rattle.watch_machine.specs.declared.event.Reply.{Reply}
 use Rattle.watch_machine.specs.declared.event.Reply.TheVariants.{Told, Refused, Busy, Lost}
 use Rattle.watch_machine.specs.declared.fault.WatchFault.{WatchFault}
+use Rattle.watch_machine.specs.declared.track.End.TheVariants.{At}
+use Rattle.watch_machine.specs.Beginning.{is_pressed}
 use Rattle.watch_machine.specs.History.{IsWatchRun, Turned, after_all}
-use Rattle.watch_machine.specs.State.{WatchState, opened, track_at}
-use Rattle.watch_machine.specs.Wanted.{believed}
+use Rattle.watch_machine.specs.State.{WatchState, entry_of, opened, second, track_at}
+use Rattle.watch_machine.specs.Wanted.{believed, is_wanted}
+use Rattle.watch_laws.specs.Absence.{is_event_taken}
+use Rattle.watch_laws.specs.Clocks.{IsClock}
+use Rattle.watch_laws.specs.Margins.{own_before}
+use Rattle.watch_laws.specs.Needs.{IsNeedUntil}
+use Rattle.watch_laws.specs.Presence.{is_told}
+use Rattle.watch_laws.specs.Presses.{HasPressed}
+use Rattle.watch_laws.specs.Time.{is_come}
 
 -- a grant: the seconds that the broker told, and the second from which they count
 pub record Granted : Type 0 where
@@ -79,3 +89,54 @@ abbrev pub CeilingLaw : Type 0
 CeilingLaw =
     (g : Forest) (width : ℕ) (turns : List Turned) → IsWatchRun g width turns → (i most ceiling within : ℕ) → i < length g.entries → All (IsRuled most ceiling within) (grants i turns) →
     (track_at (after_all (opened g width) turns) i).top ≡ true → EndAtCeiling ceiling within (grants i turns)
+
+-- a grant of i
+abbrev pub is_grant_of : ℕ → Event → Bool
+is_grant_of i (Clock wall elapsed) = false
+is_grant_of i (Looked j reply terms) = false
+is_grant_of i (Renewed j reply) = j == i && is_told reply
+is_grant_of i (Need j until) = false
+is_grant_of i Begin = false
+is_grant_of i (Known j end renewable) = false
+
+abbrev pub is_granted_at : ℕ → Turned → Bool
+is_granted_at i turn = is_event_taken turn.result && is_grant_of i turn.event
+
+-- whether the last grant of i left it at its top, after a turn, where it did before or not; and whether it was the first to do so since one that
+-- led further
+abbrev pub topped_after : ℕ → Bool → Turned → Bool
+topped_after i before turn = if is_granted_at i turn then (track_at turn.state i).top else before
+
+abbrev pub first_topped_after : ℕ → Bool → Bool → Turned → Bool
+first_topped_after i before first turn = if is_granted_at i turn then (track_at turn.state i).top && not before else first
+
+abbrev pub is_first_topped_from : ℕ → Bool → Bool → List Turned → Bool
+is_first_topped_from i before first [] = first
+is_first_topped_from i before first (turn ∷ turns) = is_first_topped_from i (topped_after i before turn) (first_topped_after i before first turn) turns
+
+-- of some turns of a new watch, the last grant of i left it at its top, and the one before had led it further
+abbrev pub is_first_topped : ℕ → List Turned → Bool
+is_first_topped i turns = is_first_topped_from i false false turns
+
+-- an entry may be led past that end, and has to be, whatever is fixed: it is renewable, and over j (itself too), which is needed until a second
+-- that is ahead, and after the end
+pub record IsNeededBeyond (s : WatchState) (i end j until : ℕ) : Type 0 where
+  pub ends : (track_at s i).end ≡ At end
+  pub renewable : (track_at s i).renewable ≡ true
+  pub over : Over s.forest.entries i j
+  pub needed : IsNeedUntil s.clocks (entry_of s j).need until
+  pub ahead : second s < until
+  pub beyond : end < until
+
+-- an entry at its top for the first time since a grant led it further, that has to be led past its end, is asked once more: from half its own
+-- margin before that end on, the first clock that finds it neither out nor pressed presses it. None presses one at its top but where that is so;
+-- so no more after one grant more, until one leads it further or everything is looked up anew
+pub record LastTryLaw : Type 0 where
+  pub asked :
+      (g : Forest) (width : ℕ) (before : List Turned) (turn : Turned) (wall elapsed i end j until : ℕ) → IsWatchRun g width (before ++ turn ∷ []) → i < length g.entries → IsClock wall elapsed turn →
+      (track_at (after_all (opened g width) before) i).out ≡ false → is_pressed (track_at (after_all (opened g width) before) i) ≡ false → (track_at turn.state i).top ≡ true → is_first_topped i before ≡ true →
+      IsNeededBeyond turn.state i end j until → end - own_before turn.state i / 2 ≤ second turn.state → HasPressed (after_all (opened g width) before) turn.state i
+  pub only :
+      (g : Forest) (width : ℕ) (before : List Turned) (turn : Turned) (wall elapsed i : ℕ) → IsWatchRun g width (before ++ turn ∷ []) → i < length g.entries → IsClock wall elapsed turn →
+      is_pressed (track_at (after_all (opened g width) before) i) ≡ false → is_pressed (track_at turn.state i) ≡ true → (track_at turn.state i).top ≡ true →
+      (is_first_topped i before ≡ true) × ((is_wanted turn.state i ≡ true) × (is_come turn.state i ≡ true))

@@ -44,5 +44,5 @@ pub use laws_of_rounds::{asks_law, hope_law, round_law};
 pub use laws_of_starts::{known_first_law, line_law, soon_law, start_law};
 pub use laws_of_time::{ahead_law, early_law, press_law};
 pub use laws_of_told::{told_law, written_law};
-pub use laws_of_tops::{ceiling_law, top_law, topped_law};
+pub use laws_of_tops::{ceiling_law, last_try_law, top_law, topped_law};
 pub use laws_of_waiting::{minded_law, owed_law, retry_law, wait_law};

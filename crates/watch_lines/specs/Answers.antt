@@ -13,7 +13,7 @@ use Rattle.watch_machine.specs.declared.track.End.{End}
 use Rattle.watch_machine.specs.declared.track.End.TheVariants.{Unknown, At, Never}
 use Rattle.watch_machine.specs.declared.notes.Notes.{Notes}
 use Rattle.watch_machine.specs.Outlook.{broker_moment, broker_now}
-use Rattle.watch_machine.specs.State.{WatchState, second, track_at}
+use Rattle.watch_machine.specs.State.{WatchState, track_at}
 use Rattle.watch_lines.specs.Texts.{end_line, gone_line, link_line, lost_line, never_line, orphan_line, refused_line, told_line, top_line}
 use Rattle.keep_asking.specs.Handing.{IsHandedIn}
 use Rattle.keep_asking.specs.declared.handing.HandedIn.{HandedIn}
@@ -29,15 +29,15 @@ number_to_write n = min n 18446744073709551615
 abbrev pub told_at : WatchState → Option ℕ → ℕ
 told_at m date = unwrap_or date (broker_now m)
 
--- an end in whole seconds of the machine's clock; where it has none, so many seconds from now
-abbrev pub end_or : WatchState → ℕ → End → ℕ
-end_or m seconds Unknown = number_to_write (second m + seconds)
-end_or m seconds (At end) = end
-end_or m seconds Never = number_to_write (second m + seconds)
+-- a second of the machine's clock in milliseconds of the clock that is handed in
+abbrev pub end_here : WatchState → ℕ → ℕ
+end_here m end = number_to_write (end * 1000) - m.clocks.phase
 
--- the believed end in milliseconds of the clock that is handed in
-abbrev pub end_here : WatchState → ℕ → ℕ → ℕ
-end_here m i seconds = number_to_write (end_or m seconds (track_at m i).end * 1000) - m.clocks.phase
+-- the line that keeps a believed end: none of an entry that never ends
+abbrev pub end_lines : List ℕ → WatchState → Bool → End → List ℕ
+end_lines name m renewable Unknown = []
+end_lines name m renewable (At end) = end_line name (end_here m end) renewable
+end_lines name m renewable Never = []
 
 -- what was told, in the state after it
 abbrev pub told_lines : Operation → List ℕ → WatchState → ℕ → Option ℕ → List ℕ
@@ -46,7 +46,7 @@ told_lines Renew name m seconds date = told_line name seconds
 
 -- what came of a request of an entry of that name, in the state after it
 abbrev pub lines_of_reply : List ℕ → WatchState → Operation → ℕ → Loss → Reply → List ℕ
-lines_of_reply name m operation i why (Told seconds renewable date) = told_lines operation name m seconds date ++ end_line name (end_here m i seconds) renewable
+lines_of_reply name m operation i why (Told seconds renewable date) = told_lines operation name m seconds date ++ end_lines name m renewable (track_at m i).end
 lines_of_reply name m operation i why (Refused status date) = refused_line name status
 lines_of_reply name m operation i why Busy = lost_line name why
 lines_of_reply name m operation i why Lost = lost_line name why

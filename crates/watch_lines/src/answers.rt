@@ -2,8 +2,9 @@
 ghost use Rattle.std.specs.Prelude.{◌≡◌, ◌≢◌, ◌++◌, ◌<◌, IfOk, None, OnOk, length};
 ghost use Rattle.keep_lines.specs.Text.{name_of};
 ghost use Rattle.keep_asking.specs.Handing.{IsHandedIn, out_of};
-ghost use Rattle.watch_lines.specs.Answers.{AnswerIsTakenAndTold, AnswersAreTakenAndTold, Appended, end_here, noted_lines, said_lines, told_at, told_lines};
+ghost use Rattle.watch_lines.specs.Answers.{AnswerIsTakenAndTold, AnswersAreTakenAndTold, Appended, end_here, end_lines, noted_lines, said_lines, told_at, told_lines};
 ghost use Rattle.keep_asking.specs.InStep.{AreOut, MachineIsSound};
+ghost use Rattle.watch_machine.specs.State.{track_at};
 
 use crate::texts::{
     push_end, push_entry, push_gone, push_link, push_lost, push_never, push_orphan, push_refused,
@@ -65,7 +66,7 @@ impl Watching {
         keep_asking::hand_in(alloc, &self.inventory, &mut self.watch, answered)
     }
 
-    /// Appends what came of a request, and after an end that was told the line that keeps it.
+    /// Appends what came of a request, and after an end that was told the line that keeps it, unless the entry never ends.
     #[tactic(auto, unfolding(crate::specs::Answers::said_lines))]
     fn push_reply(
         &self,
@@ -87,8 +88,7 @@ impl Watching {
             } => {
                 let seconds = u64::from(seconds);
                 self.push_told(alloc, operation, entry, seconds, date, text)?;
-                let end = self.end_here(entry, seconds);
-                push_end(alloc, name, end, renewable, text)
+                self.push_believed(alloc, entry, renewable, text)
             }
             Reply::Refused { status, .. } => push_refused(alloc, name, status, text),
             Reply::Busy | Reply::Lost => push_lost(alloc, name, said.loss, text),
@@ -126,19 +126,32 @@ impl Watching {
         date.unwrap_or(self.watch.broker_moment(self.watch.clocks().at / 1000))
     }
 
-    /// The believed end in milliseconds of the clock that is handed in; where there is none, so many seconds from now.
-    #[tactic(auto, unfolding(watch_machine::specs::Clocks::sec))]
-    fn end_here(&self, entry: u32, seconds: u64) -> u64
+    /// Appends the line that keeps a believed end: none of an entry that never ends.
+    fn push_believed(
+        &self,
+        alloc: Global,
+        entry: u32,
+        renewable: bool,
+        text: &mut Vec<u8>,
+    ) -> Result<(), AllocError>
         requires { entry < length self.now.inventory.forest.entries }
-        ensures { result ≡ end_here self.now.machine entry seconds }
+        ensures { OnOk result (text.new.items ≡ text.old.items ++ end_lines (name_of self.now.inventory.forest entry) self.now.machine renewable (track_at self.now.machine entry).end) }
     {
-        let clocks = self.watch.clocks();
-        let end = match self.watch.end_of(entry) {
-            End::At(end) => end,
-            End::Unknown | End::Never => (clocks.at / 1000).saturating_add(seconds),
-        };
+        match self.watch.end_of(entry) {
+            End::At(end) => {
+                let name = name_of(self.names(), entry);
+                push_end(alloc, name, self.end_here(end), renewable, text)
+            }
+            End::Unknown | End::Never => Ok(()),
+        }
+    }
+
+    /// A second of the machine's clock in milliseconds of the clock that is handed in.
+    fn end_here(&self, end: u64) -> u64
+        ensures { result ≡ end_here self.now.machine end }
+    {
         end.saturating_mul(1000)
-            .saturating_sub(u64::from(clocks.phase))
+            .saturating_sub(u64::from(self.watch.clocks().phase))
     }
 
     /// Appends what is to be noted of an answer of the entry of that name.

@@ -19,6 +19,7 @@ pub mod Opening
 pub mod Rewritten
 pub mod Leasts
 pub mod Carries
+pub mod Needed
 pub mod Quiet
 pub mod Lulls
 pub mod QuietClock

@@ -1,16 +1,13 @@
 -- LineAnswer: an answer after which nothing is to be asked of its entry, and that leaves what the others carry, keeps the line. For
 -- `line_renewed`.
-use Rattle.std.proofs.Common.{◌≡◌, ◌∙◌, ℕ, zero, suc, ◌<◌, ◌≤◌, ◌==◌, Bool, true, false, not, ◌&&◌, if◌then◌else◌, List, [], ◌∷◌, Option, Some, None, filter, length, map, max, min, nat_lt, get_or, set, refl, sym, ap, ap₂, subst, arith, inl, inr}
-use Rattle.std.proofs.Math.Path.{fun_ext}
+use Rattle.std.proofs.Common.{◌≡◌, ◌∙◌, ℕ, ◌<◌, ◌≤◌, Bool, true, false, not, ◌&&◌, if◌then◌else◌, List, [], ◌∷◌, None, filter, length, map, min, get_or, set, refl, sym, ap, ap₂, subst, arith, inl, inr}
 use Rattle.std.proofs.lemmas.Bool.{cases_Bool, cases_eq, cases_lt, cond-false, cond-true}
 use Rattle.std.proofs.lemmas.List.{get_or-set_other, get_or-set_same, length-set}
 use Rattle.std.proofs.lemmas.List.FromFn.{length-map-range_with_len}
-use Rattle.std.specs.List.{list_any}
 use Rattle.keep_tree.specs.declared.entry.Entry.{Entry}
 use Rattle.keep_tree.specs.declared.forest.TheConstants.{END_MAX}
-use Rattle.keep_tree.specs.Carried.{carried, carried_of}
 use Rattle.keep_tree.specs.Forest.{Forest, entry_at}
-use Rattle.keep_tree.specs.Over.{chain, chain_of, is_over}
+use Rattle.keep_tree.specs.Over.{chain}
 use Rattle.keep_tree.proofs.Entries.{entry_at_past}
 use Rattle.watch_machine.specs.declared.clocks.Clocks.{Clocks}
 use Rattle.watch_machine.specs.declared.lanes.Presence.{Presence}
@@ -22,10 +19,11 @@ use Rattle.watch_machine.specs.Clocks.{ms, sec}
 use Rattle.watch_machine.specs.Lines.{is_due, is_due_try}
 use Rattle.watch_machine.specs.Margins.{time}
 use Rattle.watch_machine.specs.Sending.{is_alone_try, place_of}
-use Rattle.watch_machine.specs.State.{no_track, track_in}
-use Rattle.watch_machine.specs.Wanted.{believed, fixed_ends, is_fixed, least, least_over, limit, need_here, need_of, seen_entry, view, wants}
+use Rattle.watch_machine.specs.State.{has_last_try, no_track, track_in}
+use Rattle.watch_machine.specs.Wanted.{believed, cut_need, fixed_ends, free_need, is_fixed, least, least_over, limit, need_here, need_of, seen_entry, view, wants}
 use Rattle.watch_machine.specs.code.Line.{IsInLine, IsLine, IsPlain, entries_of, has, left_at, left_of, rest_of, time_in}
 use Rattle.watch_machine.specs.code.Lull.{is_failed_try}
+use Rattle.watch_machine.proofs.Carries.{carries_alike}
 use Rattle.watch_machine.proofs.Cases.{if_cases, not_both}
 use Rattle.watch_machine.proofs.Leasts.{least_capped}
 use Rattle.watch_machine.proofs.LineSent.{any_kept, each_has}
@@ -49,32 +47,6 @@ ends_same ys xs (a ∷ as') fixed same =
       | inr off ↦
           ap (map u) (cond-false (f a) (a ∷ filter f as') (filter f as') (fixed a ∙ off)) ∙ more ∙ sym (ap (map v) (cond-false (h a) (a ∷ filter h as') (filter h as') off))
     ]
-
--- entries of the same parents and needs carry the same
-abbrev next_over : ℕ → (ℕ → List ℕ) → Option ℕ → List ℕ
-next_over i f o = i ∷ elim o [ None ↦ [] | Some p ↦ f p ]
-
-module _ (es fs : List Entry) (count : length fs ≡ length es) (parents : (i : ℕ) → (entry_at fs i).parent ≡ (entry_at es i).parent) (needs : (i : ℕ) → (entry_at fs i).need ≡ (entry_at es i).need) where
-  chain_alike : (n i : ℕ) → chain_of n fs i ≡ chain_of n es i
-  unfolding chain_of
-  chain_alike zero i = refl
-  chain_alike (suc n) i = ap₂ (next_over i) (fun_ext (chain_alike n)) (parents i)
-
-  over_alike : (a f : ℕ) → is_over fs a f ≡ is_over es a f
-  unfolding is_over chain
-  over_alike a f = ap (list_any (λ b. b == a)) (chain_alike (suc f) f)
-
-  carried_alike : (s i n : ℕ) → carried_of fs s i n ≡ carried_of es s i n
-  unfolding carried_of
-  carried_alike s i zero = refl
-  carried_alike s i (suc n) =
-      ap (λ m. if is_over fs i n && nat_lt s (entry_at fs n).need then max m (entry_at fs n).need else m) (carried_alike s i n)
-      ∙ ap (λ b. if b && nat_lt s (entry_at fs n).need then max (carried_of es s i n) (entry_at fs n).need else carried_of es s i n) (over_alike i n)
-      ∙ ap (λ need. if is_over es i n && nat_lt s need then max (carried_of es s i n) need else carried_of es s i n) (needs n)
-
-  carries_alike : (s i : ℕ) → carried fs s i ≡ carried es s i
-  unfolding carried
-  carries_alike s i = ap (carried_of fs s i) count ∙ carried_alike s i (length es)
 
 -- so other tracks of which the same are led no further, to the same ends, carry the same
 module _ (es : List Entry) (c : Clocks) (ys xs : List Track) (fixed : (a : ℕ) → is_fixed (track_in ys a) ≡ is_fixed (track_in xs a)) (same : (a : ℕ) → is_fixed (track_in xs a) ≡ true → believed (track_in ys a).end ≡ believed (track_in xs a).end) where
@@ -112,9 +84,13 @@ module _ (es : List Entry) (c : Clocks) (ys xs : List Track) (fixed : (a : ℕ) 
     | inr past ↦ ap (λ (e : Entry). e.need) (past_same i past)
   ]
 
-  pub need_kept : (i : ℕ) → need_of es ys c i ≡ need_of es xs c i
+  cut_kept : (i : ℕ) → cut_need es ys c i ≡ cut_need es xs c i
+  unfolding cut_need
+  cut_kept i = carries_alike (view es xs c) (view es ys c) (view_count ys ∙ sym (view_count xs)) view_parents view_needs (sec c.at) i
+
+  need_kept : (i : ℕ) → has_last_try (track_in ys i) ≡ has_last_try (track_in xs i) → need_of es ys c i ≡ need_of es xs c i
   unfolding need_of
-  need_kept i = carries_alike (view es xs c) (view es ys c) (view_count ys ∙ sym (view_count xs)) view_parents view_needs (sec c.at) i
+  need_kept i last = ap₂ (λ b n. if b then free_need es c i else n) last (cut_kept i)
 
 -- one that is out is not due, and nothing is to be done of it; of one of which nothing is asked, nothing before its time
 module _ (p : Presence) (since : ℕ) (x : Track) where
@@ -171,8 +147,14 @@ module _ (g : Forest) (xs : List Track) (p : Presence) (line : Line) (is : IsLin
     | inr there ↦ ap (λ (z : Track). believed z.end) (other j there)
   ]
 
+  last_kept : (j : ℕ) → has_last_try (track_in ys j) ≡ has_last_try (track_in xs j)
+  last_kept j = elim (cases_eq j i) [
+    | inl here ↦ subst (λ k. has_last_try (track_in ys k) ≡ has_last_try (track_in xs k)) (sym here) (ap has_last_try own ∙ plain.untried ∙ sym plain.tried)
+    | inr there ↦ ap has_last_try (other j there)
+  ]
+
   need_same : (j : ℕ) → need_of g.entries ys line.clocks j ≡ need_of g.entries xs line.clocks j
-  need_same j = need_kept g.entries line.clocks ys xs fixed_kept fixed_ends_kept j
+  need_same j = need_kept g.entries line.clocks ys xs fixed_kept fixed_ends_kept j (last_kept j)
 
   -- those are due who were
   due_kept : (j : ℕ) → is_due p since (track_in ys j) ≡ is_due p since (track_in xs j)

@@ -7,7 +7,6 @@ use Rattle.std.proofs.lemmas.List.Folds.{list_any_at}
 use Rattle.std.proofs.lemmas.List.Sorted.{All-permutation, IsPermutation-map, list_any-IsPermutation}
 use Rattle.std.proofs.lemmas.Map.Keys.{IsDistinct-IsPermutation}
 use Rattle.std.specs.List.{All, list_any, range_with_len}
-use Rattle.keep_needs.specs.Carried.{CarriedNeed, load_at}
 use Rattle.keep_tree.specs.declared.entry.Entry.{Entry}
 use Rattle.keep_tree.specs.Forest.{Forest, entry_at}
 use Rattle.watch_machine.specs.declared.clocks.Clocks.{Clocks}
@@ -22,9 +21,10 @@ use Rattle.watch_machine.specs.Lines.{is_due}
 use Rattle.watch_machine.specs.Sending as Sending
 use Rattle.watch_machine.specs.Sending.{IsSendingOrder, due, is_alone_try, place, place_of}
 use Rattle.watch_machine.specs.State.{track_in}
-use Rattle.watch_machine.specs.Wanted.{HasNeeds, believed, least, need_of}
+use Rattle.watch_machine.specs.Wanted.{believed, least, need_of}
 use Rattle.watch_machine.specs.code.Line.{IsInLine, IsLine, calm, entries_of, first_left, has, left_at, left_by, rest_of, time_in}
 use Rattle.watch_machine.specs.code.Places.{place_is}
+use Rattle.watch_machine.specs.code.View.{HasNeeds, Loads, need_at}
 use Rattle.watch_machine.proofs.Cases.{not_both}
 use Rattle.watch_machine.proofs.InRound.{is_due_paced}
 use Rattle.watch_machine.proofs.Leasts.{least_min}
@@ -32,9 +32,9 @@ use Rattle.watch_machine.proofs.Members.{flips, passing_distinct, passing_past, 
 use Rattle.watch_machine.proofs.Written.{range_same}
 
 -- a line, by what the entries are found to carry
-module _ (g : Forest) (xs : List Track) (c : Clocks) (p : Presence) (needs : List CarriedNeed) (line : Line) (clocks_are : line.clocks ≡ c) (now : ℕ) (now_is : now ≡ sec c.at) (has' : HasNeeds g.entries xs c needs) where
+module _ (g : Forest) (xs : List Track) (c : Clocks) (p : Presence) (needs : Loads) (line : Line) (clocks_are : line.clocks ≡ c) (now : ℕ) (now_is : now ≡ sec c.at) (has' : HasNeeds g.entries xs c needs) where
   abbrev found : ℕ → ℕ
-  found i = (load_at needs i).need
+  found i = (need_at needs i)
 
   left_found : (i : ℕ) → i < length g.entries → left_by g xs (need_of g.entries xs c) p c.at i ≡ left_by g xs found p c.at i
   left_found i within = ap (λ n. left_at g.margin (entry_at g.entries i) n p c.at (track_in xs i)) (sym (has' i within))

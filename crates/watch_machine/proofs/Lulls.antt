@@ -3,7 +3,6 @@ use Rattle.std.proofs.Common.{◌≡◌, ◌∙◌, ℕ, zero, suc, ◌+◌, ◌
 use Rattle.std.proofs.lemmas.Bool.{cases_lt, cond-false}
 use Rattle.std.proofs.lemmas.Bool.Decides.{nat_tests}
 use Rattle.std.specs.List.{list_any, range_with_len}
-use Rattle.keep_needs.specs.Carried.{CarriedNeed, load_at}
 use Rattle.keep_tree.specs.Forest.{Forest, entry_at}
 use Rattle.watch_machine.specs.declared.clocks.Clocks.{Clocks}
 use Rattle.watch_machine.specs.declared.lanes.Answer.{Answer}
@@ -23,8 +22,9 @@ use Rattle.watch_machine.specs.Sending.{due, place}
 use Rattle.watch_machine.specs.Settling.{count_after, held_back, hold_after, is_silent, pace_after, presence_after, settled_track}
 use Rattle.watch_machine.specs.State.{WatchState, each, track_in}
 use Rattle.watch_machine.specs.Wait.{latest, next_of}
-use Rattle.watch_machine.specs.Wanted.{HasNeeds, believed, is_alive, least, need_of, wants}
+use Rattle.watch_machine.specs.Wanted.{believed, is_alive, least, need_of, wants}
 use Rattle.watch_machine.specs.code.Lull.{GoesOn, IsLull, IsQuiet, due_at, next_due, paced_by, shown_by, wait_by}
+use Rattle.watch_machine.specs.code.View.{HasNeeds, Loads, need_at}
 use Rattle.watch_machine.proofs.Carries.{need_on}
 use Rattle.watch_machine.proofs.Leasts.{least_capped, least_each, least_min}
 use Rattle.watch_machine.proofs.Opening.{none_opens}
@@ -60,12 +60,12 @@ next_paced g xs need p pace =
 
 -- a lull, by what the entries are found to carry
 pub lull_of :
-    (g : Forest) (xs : List Track) (c : Clocks) (p : Presence) (needs : List CarriedNeed) (lull : Lull) (now : ℕ) → now ≡ sec c.at → lull.next ≡ next_due g xs (λ i. (load_at needs i).need) p →
-    ((i : ℕ) → i < length g.entries → 0 < (load_at needs i).need → lull.lasting ≤ (load_at needs i).need) →
+    (g : Forest) (xs : List Track) (c : Clocks) (p : Presence) (needs : Loads) (lull : Lull) (now : ℕ) → now ≡ sec c.at → lull.next ≡ next_due g xs (need_at needs) p →
+    ((i : ℕ) → i < length g.entries → 0 < need_at needs i → lull.lasting ≤ need_at needs i) →
     ((i : ℕ) → i < length g.entries → now < believed (track_in xs i).end → lull.lasting ≤ believed (track_in xs i).end) → IsNextTime (shown_by g xs c) lull.ahead →
     HasNeeds g.entries xs c needs → IsLull g xs c p lull
 lull_of g xs c p needs lull now now_is next needed ended told has = record {
-  next = next ∙ next_as g xs (λ i. (load_at needs i).need) (need_of g.entries xs c) p has;
+  next = next ∙ next_as g xs (need_at needs) (need_of g.entries xs c) p has;
   ended = λ i within living. ended i within (omega (arith, now_is, living));
   told = told;
   needed = λ i within some. let e = has i within in let n = needed i within (omega (arith, e, some)) in omega (arith, e, n);

@@ -5,7 +5,6 @@ use Rattle.std.proofs.lemmas.Bool.Decides.{nat_tests}
 use Rattle.std.proofs.lemmas.List.{ext_get_or}
 use Rattle.std.proofs.lemmas.List.FromFn.{get_or-map-range_with_len, length-map-range_with_len}
 use Rattle.std.specs.List.{list_any, range_with_len}
-use Rattle.keep_needs.specs.Carried.{CarriedNeed, load_at}
 use Rattle.keep_tree.specs.declared.entry.Entry.{Entry}
 use Rattle.keep_tree.specs.Forest.{Forest, entry_at, no_entry}
 use Rattle.keep_tree.specs.Push.{IsForest}
@@ -18,8 +17,8 @@ use Rattle.watch_machine.specs.Clocks.{sec}
 use Rattle.watch_machine.specs.Margins.{is_in_plan, lead, own_margin}
 use Rattle.watch_machine.specs.Round.{entry_planned, is_hoped, opens, opens_some, plan_view, planned_by, step_in_plan}
 use Rattle.watch_machine.specs.State.{no_track}
-use Rattle.watch_machine.specs.Wanted.{HasNeeds, need_of, seen_entry, view}
-use Rattle.watch_machine.specs.code.View.{IsView, shape}
+use Rattle.watch_machine.specs.Wanted.{need_of, seen_entry, view}
+use Rattle.watch_machine.specs.code.View.{HasNeeds, IsView, Loads, need_at, shape}
 use Rattle.watch_machine.proofs.Cases.{if_both}
 use Rattle.watch_machine.proofs.Shorting.{IsAlike}
 use Rattle.watch_machine.proofs.View.{at_shape}
@@ -54,15 +53,15 @@ same_opens p q n same = same_from p q n 0 (λ i from below. same i (omega arith)
 
 -- whether one opens a round, by what was read of the entries
 pub opens_any :
-    (g : Forest) (xs : List Track) (c : Clocks) (loads : List CarriedNeed) (m now : ℕ) → m ≡ g.margin → now ≡ sec c.at → HasNeeds g.entries xs c loads →
-    list_any (λ i. opens m (entry_at g.entries i) (get_or xs i no_track) (load_at loads i).need now) (range_with_len 0 (length g.entries)) ≡ opens_some g xs c
+    (g : Forest) (xs : List Track) (c : Clocks) (loads : Loads) (m now : ℕ) → m ≡ g.margin → now ≡ sec c.at → HasNeeds g.entries xs c loads →
+    list_any (λ i. opens m (entry_at g.entries i) (get_or xs i no_track) (need_at loads i) now) (range_with_len 0 (length g.entries)) ≡ opens_some g xs c
 unfolding opens_some
 opens_any g xs c loads m now margins at has =
     let es = g.entries in
-    same_opens (λ i. opens m (entry_at es i) (get_or xs i no_track) (load_at loads i).need now) (λ i. opens g.margin (entry_at es i) (get_or xs i no_track) (need_of es xs c i) (sec c.at)) (length es)
+    same_opens (λ i. opens m (entry_at es i) (get_or xs i no_track) (need_at loads i) now) (λ i. opens g.margin (entry_at es i) (get_or xs i no_track) (need_of es xs c i) (sec c.at)) (length es)
     (λ i within.
-    ap (λ k. opens k (entry_at es i) (get_or xs i no_track) (load_at loads i).need now) margins
-    ∙ ap (λ t. opens g.margin (entry_at es i) (get_or xs i no_track) (load_at loads i).need t) at
+    ap (λ k. opens k (entry_at es i) (get_or xs i no_track) (need_at loads i) now) margins
+    ∙ ap (λ t. opens g.margin (entry_at es i) (get_or xs i no_track) (need_at loads i) t) at
     ∙ ap (λ n. opens g.margin (entry_at es i) (get_or xs i no_track) n (sec c.at)) (has i within))
 
 -- an entry in the plan leads past the margin

@@ -1,12 +1,12 @@
--- Seeing: what is seen of entries, and what they carry, depends on their believed ends, on which of them are renewable, and on which are at their
--- top. For the steps of a clock that write none of these.
-use Rattle.std.proofs.Common.{◌≡◌, ◌∙◌, ℕ, ◌<◌, ◌≤◌, List, filter, length, map, sym, ap, arith, inl, inr}
+-- Seeing: what is seen of entries, and what counts for them, depends on their believed ends, on which of them are renewable, and on which are at
+-- their top and have their last try. For the steps of a clock that write none of these.
+use Rattle.std.proofs.Common.{◌≡◌, ◌∙◌, ℕ, ◌<◌, ◌≤◌, if◌then◌else◌, List, filter, length, map, sym, ap, ap₂, arith, inl, inr}
 use Rattle.std.proofs.Math.Path.{fun_ext}
 use Rattle.std.proofs.lemmas.Bool.{cases_lt}
 use Rattle.std.proofs.lemmas.List.{ext_get_or, get_or_past}
 use Rattle.std.proofs.lemmas.List.FromFn.{get_or-map-range_with_len, length-map-range_with_len}
 use Rattle.std.specs.List.{range_with_len}
-use Rattle.keep_needs.specs.Carried.{CarriedNeed}
+use Rattle.keep_needs.specs.Carried.{CarriedNeed, IsCarried, load_at}
 use Rattle.keep_tree.specs.declared.entry.Entry.{Entry}
 use Rattle.keep_tree.specs.declared.forest.TheConstants.{END_MAX}
 use Rattle.keep_tree.specs.Carried.{carried}
@@ -15,14 +15,14 @@ use Rattle.keep_tree.specs.Over.{chain}
 use Rattle.watch_machine.specs.declared.clocks.Clocks.{Clocks}
 use Rattle.watch_machine.specs.declared.track.Track.{Track}
 use Rattle.watch_machine.specs.Clocks.{sec}
-use Rattle.watch_machine.specs.State.{each, no_track, track_in}
-use Rattle.watch_machine.specs.Wanted.{HasNeeds, believed, is_fixed, least, least_over, limit, need_of, seen_entry, view}
-use Rattle.watch_machine.specs.code.View.{Sees}
+use Rattle.watch_machine.specs.State.{each, has_last_try, no_track, track_in}
+use Rattle.watch_machine.specs.Wanted.{believed, cut_need, free_need, is_fixed, least, least_over, limit, need_of, seen_entry, view}
+use Rattle.watch_machine.specs.code.View.{Loads, Sees}
 use Rattle.watch_machine.proofs.Written.{each_length}
 
 -- what of a track is seen
 abbrev pub sight : Track → Track
-sight x = record no_track { end = x.end; renewable = x.renewable; top = x.top }
+sight x = record no_track { end = x.end; renewable = x.renewable; top = x.top; last_try = x.last_try }
 
 -- tracks of which the same is seen
 pub record SameSeen (new old : List Track) : Type 0 where
@@ -52,12 +52,20 @@ module _ (new old : List Track) (h : SameSeen new old) (es : List Entry) (c : Cl
   pub view_same : view es new c ≡ view es old c
   view_same = ap (λ (f : ℕ → Entry). map f (range_with_len 0 (length es))) (fun_ext seen_same)
 
+  pub cut_same : (i : ℕ) → cut_need es new c i ≡ cut_need es old c i
+  unfolding cut_need
+  cut_same i = ap (λ vs. carried vs (sec c.at) i) view_same
+
   pub need_same : (i : ℕ) → need_of es new c i ≡ need_of es old c i
   unfolding need_of
-  need_same i = ap (λ vs. carried vs (sec c.at) i) view_same
+  need_same i = ap₂ (λ b n. if b then free_need es c i else n) (ap has_last_try (h.tracks i)) (cut_same i)
 
-  pub sees_same : (v g : Forest) (needs : List CarriedNeed) → g.entries ≡ es → Sees v g old c needs → Sees v g new c needs
-  sees_same v g needs = λ entries sees. (sees.0 ∙ ap (λ fs. view fs old c) entries ∙ sym view_same ∙ ap (λ fs. view fs new c) (sym entries), sees.1)
+  pub sees_same : (v g : Forest) (loads : Loads) → g.entries ≡ es → Sees v g old c loads → Sees v g new c loads
+  sees_same v g loads = λ entries sees. record {
+    seen = sees.seen ∙ ap (λ fs. view fs old c) entries ∙ sym view_same ∙ ap (λ fs. view fs new c) (sym entries);
+    cut = sees.cut;
+    needs = λ i within. sees.needs i within ∙ ap (λ fs. need_of fs old c i) entries ∙ sym (need_same i) ∙ ap (λ fs. need_of fs new c i) (sym entries);
+  }
 
 -- what is read of tracks that are made anew
 pub each_read : (f : ℕ → Track → Track) (xs : List Track) (i : ℕ) → i < length xs → track_in (each f xs) i ≡ f i (track_in xs i)
@@ -83,9 +91,11 @@ both_seen new mid old h k = record { tracks = λ i. h.tracks i ∙ k.tracks i }
 pub each_id : (f : ℕ → Track → Track) (xs : List Track) → ((i : ℕ) (x : Track) → f i x ≡ x) → each f xs ≡ xs
 each_id f xs same = ext_get_or no_track (each f xs) xs (each_length f xs) (λ i below. let count = each_length f xs in each_read f xs i (omega (arith, count, below)) ∙ same i (track_in xs i))
 
--- what a view of tracks carries are the needs
-pub has_needs : (v g : Forest) (xs : List Track) (c : Clocks) (needs : List CarriedNeed) → Sees v g xs c needs → HasNeeds g.entries xs c needs
-unfolding need_of
-has_needs v g xs c needs sees i below =
-    let count : length v.entries ≡ length g.entries = ap length sees.0 ∙ length-map-range_with_len (seen_entry g.entries xs c) 0 (length g.entries) in
-    sees.1.need i (omega (arith, count, below)) ∙ ap (λ es. carried es (sec c.at) i) sees.0
+-- what a view of tracks carries are the needs that are cut to limits
+pub has_cut :
+    (v g : Forest) (xs : List Track) (c : Clocks) (cut : List CarriedNeed) → v.entries ≡ view g.entries xs c → IsCarried v (sec c.at) cut →
+    (i : ℕ) → i < length g.entries → (load_at cut i).need ≡ cut_need g.entries xs c i
+unfolding cut_need
+has_cut v g xs c cut seen carries i below =
+    let count : length v.entries ≡ length g.entries = ap length seen ∙ length-map-range_with_len (seen_entry g.entries xs c) 0 (length g.entries) in
+    carries.need i (omega (arith, count, below)) ∙ ap (λ es. carried es (sec c.at) i) seen

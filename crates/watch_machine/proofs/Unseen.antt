@@ -15,14 +15,14 @@ use Rattle.watch_machine.specs.Wanted.{is_open, need_of, wants}
 use Rattle.watch_machine.proofs.Cases.{if_both}
 use Rattle.watch_machine.proofs.Seeing.{SameSeen, both_seen, each_seen, sight}
 
-owing_unseen : (at : ℕ) (called : Bool) (x : Track) → sight (owing at called x) ≡ sight x
+owing_unseen : (at : ℕ) (first called : Bool) (x : Track) → sight (owing at first called x) ≡ sight x
 unfolding owing
-owing_unseen at called x =
-    if_both (λ y. sight y ≡ sight x) (called && is_open (sec at) x) (owing_lookup at x) x
+owing_unseen at first called x =
+    if_both (λ y. sight y ≡ sight x) (called && (first || is_open (sec at) x)) (owing_lookup at x) x
     (if_both (λ y. sight y ≡ sight x) x.out (record x { owes = true }) (record x { owes = true; attempt = Some (sooner_try (soon at x) x.attempt) }) refl refl) refl
 
-pub owing_seen : (g : Forest) (c : Clocks) (xs : List Track) → SameSeen (owing_all g c xs) xs
-owing_seen g c xs = each_seen (λ i. owing c.at (is_called g xs c i)) xs (λ i x. owing_unseen c.at (is_called g xs c i) x)
+pub owing_seen : (g : Forest) (c : Clocks) (first : Bool) (xs : List Track) → SameSeen (owing_all g c first xs) xs
+owing_seen g c first xs = each_seen (λ i. owing c.at first (is_called g xs c i)) xs (λ i x. owing_unseen c.at first (is_called g xs c i) x)
 
 pressed_unseen : (margin : ℕ) (e : Entry) (need at : ℕ) (x : Track) → sight (pressed_track margin e need at x) ≡ sight x
 unfolding pressed_track

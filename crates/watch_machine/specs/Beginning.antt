@@ -12,8 +12,8 @@ use Rattle.watch_machine.specs.declared.track.Track.{Track}
 use Rattle.watch_machine.specs.declared.track.Try.{Try}
 use Rattle.watch_machine.specs.Clocks.{sec}
 use Rattle.watch_machine.specs.Lines.{rested}
-use Rattle.watch_machine.specs.State.{WatchState, each}
-use Rattle.watch_machine.specs.Wanted.{is_alive, is_open, need_of}
+use Rattle.watch_machine.specs.State.{WatchState, each, keeps_last_try}
+use Rattle.watch_machine.specs.Wanted.{cut_need, is_alive, is_open}
 
 -- a try of an entry that is to be kept alive
 abbrev pub is_pressed_try : Option Try → Bool
@@ -61,9 +61,14 @@ sooner_try from (Some t) = hastened t from
 abbrev pub owing_lookup : ℕ → Track → Track
 owing_lookup at x = if x.out then record x { owes = true } else record x { owes = true; attempt = Some (sooner_try (soon at x) x.attempt) }
 
--- an entry at a beginning, called or not: a lookup is owed of one that is called and has not ended
-unfoldable pub owing : ℕ → Bool → Track → Track
-owing at called x = if called && is_open (sec at) x then owing_lookup at x else x
+-- an entry at a beginning, the first or a later one, called or not: a lookup is owed of one that is called and has not ended, and at the
+-- first also where it has: such an end was handed in as known, before any clock could tell that it is past
+unfoldable pub owing : ℕ → Bool → Bool → Track → Track
+owing at first called x = if called && (first || is_open (sec at) x) then owing_lookup at x else x
+
+-- an entry whose end is handed in as known: where that is past a lookup is owed
+unfoldable pub owing_past : ℕ → Track → Track
+owing_past at x = if is_alive (sec at) x then x else owing_lookup at x
 
 -- it is needed by what it carries, or may be by what it carries as the needs are written: until a reply has told the broker's
 -- clock, no need counts as past
@@ -71,22 +76,28 @@ abbrev pub called_by : Bool → ℕ → ℕ → Bool
 called_by dated need written = nat_lt 0 need || (not dated && nat_lt 0 written)
 
 abbrev pub is_called : Forest → List Track → Clocks → ℕ → Bool
-is_called g xs c i = called_by c.dated (need_of g.entries xs c i) (carried g.entries 0 i)
+is_called g xs c i = called_by c.dated (cut_need g.entries xs c i) (carried g.entries 0 i)
 
--- nobody is at the top
+-- nobody is at the top, or has its last try: that of one that was at its top is over
 abbrev pub untopped_track : Track → Track
-untopped_track x = record x { top = false }
+untopped_track x = record x { top = false; last_try = keeps_last_try x }
 
 abbrev pub untopped : List Track → List Track
 untopped xs = each (λ i. untopped_track) xs
 
--- the tracks at a beginning
-abbrev pub owing_all : Forest → Clocks → List Track → List Track
-owing_all g c xs = each (λ i. owing c.at (is_called g xs c i)) xs
+-- the tracks at a beginning, the first or a later one
+abbrev pub owing_all : Forest → Clocks → Bool → List Track → List Track
+owing_all g c first xs = each (λ i. owing c.at first (is_called g xs c i)) xs
+
+abbrev pub is_start : Why → Bool
+is_start Start = true
+is_start Asked = false
+is_start Jump = false
+is_start Day = false
 
 abbrev pub begun_tracks : Forest → Clocks → Option Why → List Track → List Track
 begun_tracks g c None xs = xs
-begun_tracks g c (Some why) xs = owing_all g c (untopped xs)
+begun_tracks g c (Some why) xs = owing_all g c (is_start why) (untopped xs)
 
 -- a state that begins anew
 abbrev pub noted_begun : WatchState → Option Why → WatchState

@@ -1,12 +1,13 @@
 -- Margins: how long before its end an entry is asked.
 -- Source: this project's own, over Vault, "Lease, renew, and revoke" (a grant may be shorter than the increment).
-use Rattle.std.specs.Prelude.{ℕ, ◌-◌, ◌*◌, ◌/◌, Bool, ◌==◌, Option, Some, None, min, nat_le}
+use Rattle.std.specs.Prelude.{ℕ, ◌-◌, ◌*◌, ◌/◌, Bool, ◌==◌, if◌then◌else◌, Option, Some, None, min, nat_le}
 use Rattle.keep_tree.specs.declared.entry.Entry.{Entry}
 use Rattle.keep_tree.specs.declared.forest.TheConstants.{END_MAX}
 use Rattle.watch_machine.specs.declared.track.End.{End}
 use Rattle.watch_machine.specs.declared.track.End.TheVariants.{Unknown, At, Never}
 use Rattle.watch_machine.specs.declared.track.Grant.{Grant}
 use Rattle.watch_machine.specs.declared.track.Track.{Track}
+use Rattle.watch_machine.specs.State.{has_last_try}
 
 -- how far a renewal is taken to lead: the lesser of the step and the last grant
 abbrev pub lead : ℕ → Option Grant → ℕ
@@ -29,9 +30,13 @@ time_before Unknown margin = 0
 time_before (At end) margin = end - margin
 time_before Never margin = END_MAX
 
--- the second from which on an entry is asked
+-- how long before its end an entry is asked: its own margin, for its last try half of that
+unfoldable pub asking_margin : ℕ → Entry → Track → ℕ
+asking_margin margin e x = if has_last_try x then own_margin margin e x / 2 else own_margin margin e x
+
+-- the second from which on it is
 unfoldable pub time : ℕ → Entry → Track → ℕ
-time margin e x = time_before x.end (own_margin margin e x)
+time margin e x = time_before x.end (asking_margin margin e x)
 
 unfoldable pub has_come : ℕ → Entry → Track → ℕ → Bool
 has_come margin e x now = nat_le (time margin e x) now

@@ -1,7 +1,7 @@
 -- Renewed: what the answer to a renewal makes of its entry.
 -- Source: Vault, HTTP API: `auth/token`, "Renew a token (self)"; `sys/leases`, "Renew lease". Vault, "Lease, renew, and revoke" (the
 -- TTL counts from the renewal; maximum TTL).
-use Rattle.std.specs.Prelude.{ℕ, ◌+◌, ◌-◌, Bool, true, false, ◌&&◌, if◌then◌else◌, Option, Some, None, min, nat_le, nat_lt}
+use Rattle.std.specs.Prelude.{ℕ, ◌+◌, ◌-◌, Bool, true, false, not, ◌&&◌, ◌||◌, if◌then◌else◌, Option, Some, None, min, nat_le, nat_lt}
 use Rattle.watch_machine.specs.declared.event.Operation.{Operation}
 use Rattle.watch_machine.specs.declared.event.Operation.TheVariants.{Look, Renew}
 use Rattle.watch_machine.specs.declared.event.Reply.{Reply}
@@ -16,7 +16,7 @@ use Rattle.watch_machine.specs.Answers.{failing, with_track}
 use Rattle.watch_machine.specs.Beginning.{owed}
 use Rattle.watch_machine.specs.Clocks.{sec}
 use Rattle.watch_machine.specs.Margins.{own_by}
-use Rattle.watch_machine.specs.State.{WatchState, entry_of, track_at}
+use Rattle.watch_machine.specs.State.{WatchState, entry_of, keeps_last_try, track_at}
 use Rattle.watch_machine.specs.Wanted.{is_alive}
 
 -- the time of an entry with that step, after a grant of so many seconds that counts from a second
@@ -46,12 +46,14 @@ abbrev pub granted_try : ℕ → Bool → ℕ → Option Try → Option Try
 granted_try at owes end None = None
 granted_try at owes end (Some t) = if nat_lt (sec at) end then (if owes then Some (owed (at + 30000)) else None) else Some (failing t Look false false)
 
--- an entry after a grant that counts from that clock
+-- an entry after a grant that counts from that clock. The first that leads it no further, since one that did, gives it its last try; the
+-- next one takes that away
 unfoldable pub granted_from : ℕ → ℕ → ℕ → Bool → ℕ → Track → Track
 granted_from step at seconds renewable from x = record x {
   end = At (sec from + seconds);
   renewable = renewable;
   top = is_no_further step seconds from x.grant x.end;
+  last_try = not (is_no_further step seconds from x.grant x.end) || keeps_last_try x;
   grant = Some (record { seconds = seconds; from = from });
   attempt = granted_try at x.owes (sec from + seconds) x.attempt;
   out = false;

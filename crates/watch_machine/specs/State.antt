@@ -1,6 +1,6 @@
 -- State: what a watch holds between two events.
 -- Source: this project's own.
-use Rattle.std.specs.Prelude.{ℕ, Bool, true, false, List, [], Option, None, length, map, slice_index_or}
+use Rattle.std.specs.Prelude.{ℕ, Bool, true, false, not, ◌&&◌, List, [], Option, None, length, map, slice_index_or}
 use Rattle.std.specs.List.{range_with_len}
 use Rattle.keep_tree.specs.declared.entry.Entry.{Entry}
 use Rattle.keep_tree.specs.Forest.{Forest, entry_at}
@@ -31,7 +31,7 @@ pub record WatchState : Type 0 where
 
 -- what is read past the last entry: one that is led no further, and has nothing to be asked
 abbrev pub no_track : Track
-no_track = record { end = Unknown; renewable = false; top = true; grant = None; owes = false; attempt = None; last = None; out = false }
+no_track = record { end = Unknown; renewable = false; top = true; last_try = false; grant = None; owes = false; attempt = None; last = None; out = false }
 
 -- the track at an index of a list
 abbrev pub track_in : List Track → ℕ → Track
@@ -46,6 +46,14 @@ attempt_at s i = (track_at s i).attempt
 abbrev pub entry_of : WatchState → ℕ → Entry
 entry_of s i = entry_at s.forest.entries i
 
+-- an entry has its last try: it is at its top, and may be asked once more
+abbrev pub has_last_try : Track → Bool
+has_last_try x = x.top && x.last_try
+
+-- it may still get one: no grant since one that led further has left it at its top
+abbrev pub keeps_last_try : Track → Bool
+keeps_last_try x = not x.top && x.last_try
+
 -- the second it is now
 abbrev pub second : WatchState → ℕ
 second s = sec s.clocks.at
@@ -56,7 +64,7 @@ each f xs = map (λ i. f i (track_in xs i)) (range_with_len 0 (length xs))
 
 -- what is known of an entry that is watched from now on
 abbrev pub fresh_track : Entry → Track
-fresh_track e = record { end = Unknown; renewable = e.renewable; top = false; grant = None; owes = false; attempt = None; last = None; out = false }
+fresh_track e = record { end = Unknown; renewable = e.renewable; top = false; last_try = true; grant = None; owes = false; attempt = None; last = None; out = false }
 
 -- the broker is there, and nothing is held back
 abbrev pub broker_present : Presence

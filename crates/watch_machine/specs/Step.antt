@@ -17,8 +17,9 @@ use Rattle.watch_machine.specs.declared.notes.Link.{Link}
 use Rattle.watch_machine.specs.declared.notes.Notes.{Notes}
 use Rattle.watch_machine.specs.declared.notes.Why.{Why}
 use Rattle.watch_machine.specs.declared.track.End.TheVariants.{At}
+use Rattle.watch_machine.specs.declared.track.Track.{Track}
 use Rattle.watch_machine.specs.Answers.{link, noted, replied, with_track}
-use Rattle.watch_machine.specs.Beginning.{begun, beginning}
+use Rattle.watch_machine.specs.Beginning.{begun, beginning, owing_past}
 use Rattle.watch_machine.specs.Looked.{is_orphaned, looked, status_of}
 use Rattle.watch_machine.specs.Press.{pressed}
 use Rattle.watch_machine.specs.Refusal.{request_out}
@@ -81,9 +82,12 @@ notes_top end = record nothing_noted { top = end }
 abbrev pub with_need_until : WatchState → ℕ → ℕ → WatchState
 with_need_until s i until = record s { forest = record s.forest { entries = slice_set s.forest.entries i (record (entry_of s i) { need = min LAST until }) } }
 
--- and with an end that an earlier watch told
+-- and with an end that an earlier watch told; where that is past a lookup is owed
+abbrev pub told_earlier : ℕ → Bool → Track → Track
+told_earlier end renewable x = record x { end = At (min END_MAX end); renewable = renewable }
+
 abbrev pub known : WatchState → ℕ → ℕ → Bool → WatchState
-known s i end renewable = with_track s i (record (track_at s i) { end = At (min END_MAX end); renewable = renewable })
+known s i end renewable = with_track s i (owing_past s.clocks.at (told_earlier end renewable (track_at s i)))
 
 abbrev pub taken : Notes → Output
 taken notes = record { command = Taken; notes = notes }

@@ -1,9 +1,8 @@
 -- Wanted: until when an entry is needed, on this clock, and whether it is still to be led there.
 -- Source: Vault, "Tokens" (a token's end ends its children and its leases); needs are this project's own.
-use Rattle.std.specs.Prelude.{◌≡◌, ℕ, ◌<◌, Bool, true, false, not, ◌&&◌, ◌||◌, ◌==◌, if◌then◌else◌, List, Option, filter, fold, length, map, max, min, option_map, nat_lt}
+use Rattle.std.specs.Prelude.{ℕ, Bool, true, false, not, ◌&&◌, ◌||◌, ◌==◌, if◌then◌else◌, List, Option, filter, fold, length, map, max, min, option_map, nat_lt}
 use Rattle.std.specs.List.{range_with_len}
 use Rattle.keep_moment.specs.declared.moment.TheConstants.{LAST}
-use Rattle.keep_needs.specs.Carried.{CarriedNeed, load_at}
 use Rattle.keep_tree.specs.declared.entry.Entry.{Entry}
 use Rattle.keep_tree.specs.declared.forest.TheConstants.{END_MAX}
 use Rattle.keep_tree.specs.Carried.{carried}
@@ -14,7 +13,7 @@ use Rattle.watch_machine.specs.declared.track.End.{End}
 use Rattle.watch_machine.specs.declared.track.End.TheVariants.{Unknown, At, Never}
 use Rattle.watch_machine.specs.declared.track.Track.{Track}
 use Rattle.watch_machine.specs.Clocks.{of_wall, sec, to_here}
-use Rattle.watch_machine.specs.State.{WatchState, track_at, track_in}
+use Rattle.watch_machine.specs.State.{WatchState, has_last_try, track_at, track_in}
 
 -- an end as a number: 0 where it is unknown, and past every need where there is none
 abbrev pub believed : End → ℕ
@@ -84,12 +83,23 @@ abbrev pub view : List Entry → List Track → Clocks → List Entry
 view es xs c = map (seen_entry es xs c) (range_with_len 0 (length es))
 
 -- the greatest need after now of an entry that i is over, 0 where there is none
+unfoldable pub cut_need : List Entry → List Track → Clocks → ℕ → ℕ
+cut_need es xs c i = carried (view es xs c) (sec c.at) i
+
+-- and what it would be with no limit at all
+abbrev pub free_entry : List Entry → Clocks → ℕ → Entry
+free_entry es c i = record (entry_at es i) { need = need_here c (entry_at es i).need }
+
+unfoldable pub free_need : List Entry → Clocks → ℕ → ℕ
+free_need es c i = carried (map (free_entry es c) (range_with_len 0 (length es))) (sec c.at) i
+
+-- the one that counts for i: for its last try no limit does
 unfoldable pub need_of : List Entry → List Track → Clocks → ℕ → ℕ
-need_of es xs c i = carried (view es xs c) (sec c.at) i
+need_of es xs c i = if has_last_try (track_in xs i) then free_need es c i else cut_need es xs c i
 
 -- an entry with that need may be led further, and has to be
 unfoldable pub wants : Track → ℕ → Bool
-wants x need = (x.renewable || is_unknown x.end) && (not x.top && (not (is_never x.end) && nat_lt (believed x.end) need))
+wants x need = (x.renewable || is_unknown x.end) && ((not x.top || x.last_try) && (not (is_never x.end) && nat_lt (believed x.end) need))
 
 -- these of a state
 abbrev pub wanted_need : WatchState → ℕ → ℕ
@@ -97,7 +107,3 @@ wanted_need s i = need_of s.forest.entries s.tracks s.clocks i
 
 abbrev pub is_wanted : WatchState → ℕ → Bool
 is_wanted s i = wants (track_at s i) (wanted_need s i)
-
--- these loads are what the entries carry
-abbrev pub HasNeeds : List Entry → List Track → Clocks → List CarriedNeed → Type 0
-HasNeeds es xs c loads = (i : ℕ) → i < length es → (load_at loads i).need ≡ need_of es xs c i

@@ -3,13 +3,14 @@ ghost use Rattle.watch_machine.specs.code.Bounds.{IsTrack, IsTry};
 ghost use Rattle.std.specs.List.{All};
 ghost use Rattle.std.specs.List.{list_any};
 ghost use Rattle.keep_needs.specs.Carried.{load_at};
-ghost use Rattle.watch_machine.specs.Beginning.{beginning, called_by, hastened, is_past, is_pressed, is_urgent, owed, owing, owing_lookup, soon, untopped_track};
+ghost use Rattle.watch_machine.specs.Beginning.{beginning, called_by, hastened, is_past, is_pressed, is_start, is_urgent, owed, owing, owing_lookup, owing_past, soon, untopped_track};
 ghost use Rattle.watch_machine.specs.State.{each};
 
 use crate::event::Operation;
 use crate::lines::rested;
+use crate::notes::Why;
 use crate::reading::{Millis, second};
-use crate::track::{Track, Try};
+use crate::track::{Track, Try, keeps_last_try};
 use crate::wanted::{is_alive, is_open};
 use keep_needs::Carried;
 
@@ -109,17 +110,42 @@ fn owing_lookup(track: Track, at: Millis) -> Track
     }
 }
 
-/// An entry at a beginning: a lookup is owed of one that is called and has not ended.
+/// Whether everything is looked up anew for the first time.
+pub(crate) fn is_start(why: Why) -> bool
+    ensures { result ≡ is_start why }
+{
+    match why {
+        Why::Start => true,
+        Why::Asked | Why::Jump | Why::Day => false,
+    }
+}
+
+/// An entry at a beginning, the `first` or a later one: a lookup is owed of one that is called and has not ended, and at the first
+/// also where it has: such an end was handed in as known.
 #[tactic(auto, unfolding(crate::specs::Beginning::owing))]
-fn owing(track: Track, called: bool, at: Millis) -> Track
+fn owing(track: Track, first: bool, called: bool, at: Millis) -> Track
     requires { IsTrack track }
-    ensures value { result ≡ owing at called track }
+    ensures value { result ≡ owing at first called track }
     ensures bounds { IsTrack result }
 {
-    if called && is_open(track, second(at)) {
+    if called && (first || is_open(track, second(at))) {
         owing_lookup(track, at)
     } else {
         track
+    }
+}
+
+/// An entry whose end is handed in as known: where that is past a lookup is owed.
+#[tactic(auto, unfolding(crate::specs::Beginning::owing_past))]
+pub(crate) fn owing_past(track: Track, at: Millis) -> Track
+    requires { IsTrack track }
+    ensures value { result ≡ owing_past at track }
+    ensures bounds { IsTrack result }
+{
+    if is_alive(track, second(at)) {
+        track
+    } else {
+        owing_lookup(track, at)
     }
 }
 
@@ -130,7 +156,7 @@ fn is_called(dated: bool, need: u64, written: u64) -> bool
     need > 0 || (!dated && written > 0)
 }
 
-/// A track that is not at the top.
+/// A track that is not at the top, and has no last try: that of one that was at its top is over.
 fn untopped(track: Track) -> Track
     requires { IsTrack track }
     ensures value { result ≡ untopped_track track }
@@ -138,11 +164,12 @@ fn untopped(track: Track) -> Track
 {
     Track {
         top: false,
+        last_try: keeps_last_try(track),
         ..track
     }
 }
 
-/// Nobody is at the top any more.
+/// Nobody is at the top any more, or has its last try.
 pub(crate) fn clear_tops(tracks: &mut [Track])
     requires { All IsTrack tracks.old }
     ensures value { tracks.new ≡ each (λ i. untopped_track) tracks.old }
@@ -153,11 +180,12 @@ pub(crate) fn clear_tops(tracks: &mut [Track])
     }
 }
 
-/// Each entry that is called and has not ended owes a lookup. There are `count` entries; `needs` has what they carry, `written` what
-/// they carry as the needs are written.
+/// Each entry that is called and has not ended owes a lookup, at the `first` beginning also one that has. There are `count` entries;
+/// `needs` has what they carry, `written` what they carry as the needs are written.
 pub(crate) fn owe_all(
     tracks: &mut [Track],
     count: u32,
+    first: bool,
     at: Millis,
     dated: bool,
     needs: &Carried,
@@ -167,12 +195,12 @@ pub(crate) fn owe_all(
     requires needs { length needs.now ≡ length tracks.old }
     requires written { length written.now ≡ length tracks.old }
     requires tracks { All IsTrack tracks.old }
-    ensures value { tracks.new ≡ each (λ i. owing at (called_by dated (load_at needs.now i).need (load_at written.now i).need)) tracks.old }
+    ensures value { tracks.new ≡ each (λ i. owing at first (called_by dated (load_at needs.now i).need (load_at written.now i).need)) tracks.old }
     ensures bounds { All IsTrack tracks.new }
 {
     for index in 0..count {
         let called = is_called(dated, needs.need(index), written.need(index));
         let track = tracks[index as usize];
-        tracks[index as usize] = owing(track, called, at);
+        tracks[index as usize] = owing(track, first, called, at);
     }
 }

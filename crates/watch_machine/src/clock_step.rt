@@ -12,13 +12,14 @@ ghost use Rattle.watch_machine.specs.code.View.{IsView};
 ghost use Rattle.watch_machine.specs.declared.command.Command.TheVariants.{Go};
 ghost use Rattle.watch_machine.specs.declared.fault.WatchFault.TheVariants.{OutOfMemory};
 
-use crate::beginning::{clear_tops, is_any_urgent, is_past, owe_all};
+use crate::beginning::{clear_tops, is_any_urgent, is_past, is_start, owe_all};
 use crate::clocks::{Clocks, goes_on};
 use crate::command::{Command, Output, Requests};
 use crate::fault::WatchFault;
 use crate::lanes::Presence;
 use crate::line::Line;
 use crate::lull::Lull;
+use crate::needs::{Needs, needs_of};
 use crate::notes::{Notes, Why};
 use crate::press::{press_alone, press_round};
 use crate::reading::{Millis, moment_at, reading, second};
@@ -27,9 +28,8 @@ use crate::sending::{Front, going, out_with, send_all};
 use crate::settling::{dated_by_all, is_holding, pace_after, presence_after, settled_tracks};
 use crate::track::Track;
 use crate::waiting::{latest, wait};
-use crate::wanted::write_view;
 use crate::watch::Watch;
-use keep_needs::{Carried, carry};
+use keep_needs::carry;
 use keep_tree::{Forest, Indices};
 use std::alloc::Global;
 
@@ -234,7 +234,7 @@ impl Watch {
     }
 }
 
-/// Looks everything up anew where there is a reason, and gives what the entries carry. The only error is lack of memory.
+/// Looks everything up anew where there is a reason, and gives what the entries need. The only error is lack of memory.
 fn begin(
     alloc: Global,
     view: &mut Forest,
@@ -242,7 +242,7 @@ fn begin(
     tracks: &mut [Track],
     clocks: Clocks,
     why: Option<Why>,
-) -> Result<Carried, WatchFault>
+) -> Result<Needs, WatchFault>
     requires count { length tracks.old ≡ length forest.now.entries }
     requires view { IsView view.old forest.now }
     requires bounds { All IsTrack tracks.old }
@@ -256,23 +256,24 @@ fn begin(
 {
     match why {
         None => needs_of(alloc, view, forest, tracks, clocks),
-        Some(_) => begin_anew(alloc, view, forest, tracks, clocks),
+        Some(why) => begin_anew(alloc, view, forest, tracks, clocks, is_start(why)),
     }
 }
 
-/// Looks everything up anew, and gives what the entries carry. The only error is lack of memory.
+/// Looks everything up anew, for the `first` time or a later one, and gives what the entries need. The only error is lack of memory.
 fn begin_anew(
     alloc: Global,
     view: &mut Forest,
     forest: &Forest,
     tracks: &mut [Track],
     clocks: Clocks,
-) -> Result<Carried, WatchFault>
+    first: bool,
+) -> Result<Needs, WatchFault>
     requires count { length tracks.old ≡ length forest.now.entries }
     requires view { IsView view.old forest.now }
     requires bounds { All IsTrack tracks.old }
     requires clocks { IsClocks clocks }
-    ensures tracks { IfOk result (λ needs. tracks.new ≡ owing_all forest.now clocks (untopped tracks.old)) }
+    ensures tracks { IfOk result (λ needs. tracks.new ≡ owing_all forest.now clocks first (untopped tracks.old)) }
     ensures needs { IfOk result (λ needs. Sees view.new forest.now tracks.new clocks needs) }
     ensures count { length tracks.new ≡ length forest.now.entries }
     ensures view { IsView view.new forest.now }
@@ -285,32 +286,13 @@ fn begin_anew(
     owe_all(
         tracks,
         forest.len(),
+        first,
         clocks.at,
         clocks.dated,
-        &needs,
+        needs.cut(),
         &written,
     );
     Ok(needs)
-}
-
-/// Writes the view, and gives what the entries carry. The only error is lack of memory.
-pub(crate) fn needs_of(
-    alloc: Global,
-    view: &mut Forest,
-    forest: &Forest,
-    tracks: &[Track],
-    clocks: Clocks,
-) -> Result<Carried, WatchFault>
-    requires count { length tracks.now ≡ length forest.now.entries }
-    requires view { IsView view.old forest.now }
-    requires bounds { All IsTrack tracks.now }
-    requires clocks { IsClocks clocks }
-    ensures needs { IfOk result (λ needs. Sees view.new forest.now tracks.now clocks needs) }
-    ensures view { IsView view.new forest.now }
-    ensures refused { IfErr result (λ fault. fault ≡ OutOfMemory) }
-{
-    write_view(view, forest, tracks, clocks);
-    Ok(carry(alloc, view, moment_at(second(clocks.at)))?)
 }
 
 /// Presses those whose time has come, and those whom a round asks. The only error is lack of memory.
@@ -320,7 +302,7 @@ fn press(
     forest: &Forest,
     tracks: &mut [Track],
     clocks: Clocks,
-    needs: &Carried,
+    needs: &Needs,
 ) -> Result<Option<Indices>, WatchFault>
     requires count { length tracks.old ≡ length forest.now.entries }
     requires view { IsView view.old forest.now }

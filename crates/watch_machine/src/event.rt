@@ -77,7 +77,8 @@ pub enum Event {
     },
     /// Everything is to be looked up anew.
     Begin,
-    /// An end in whole seconds of the clock that never steps, as an earlier watch of the same boot told it.
+    /// An end in whole seconds of the clock that never steps, as an earlier watch of the same boot told it. Where it is past a lookup is
+    /// owed.
     Known {
         entry: u32,
         end: u64,

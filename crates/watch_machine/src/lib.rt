@@ -24,6 +24,7 @@ mod lines;
 mod looked;
 mod lull;
 mod margins;
+mod needs;
 mod new_terms;
 mod notes;
 mod outlook;

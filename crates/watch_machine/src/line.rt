@@ -2,17 +2,16 @@ ghost use Rattle.std.specs.Prelude.{◌≡◌, ◌≤◌, ◌<◌, ◌+◌, ℕ,
 ghost use Rattle.watch_machine.specs.code.Bounds.{IsClocks, IsTrack};
 ghost use Rattle.std.specs.List.{All};
 ghost use Rattle.std.specs.List.{list_any};
-ghost use Rattle.keep_needs.specs.Carried.{load_at};
 ghost use Rattle.watch_machine.specs.Clocks.{sec};
 ghost use Rattle.watch_machine.specs.Lines.{is_due};
 ghost use Rattle.watch_machine.specs.Sending.{is_alone_try, is_partial};
 ghost use Rattle.watch_machine.specs.State.{track_in};
 ghost use Rattle.watch_machine.specs.Wait.{latest};
-ghost use Rattle.watch_machine.specs.Wanted.{HasNeeds};
 ghost use Rattle.watch_machine.specs.declared.lull.TheConstants.{NEVER};
 ghost use Rattle.watch_machine.specs.declared.reading.TheConstants.{READING_MAX};
 ghost use Rattle.watch_machine.specs.code.Line.{IsInLine, IsKnown, IsLine, calm, first_left, left_at, left_by, moved, requests_of, rest_of, time_in, try_left};
 ghost use Rattle.watch_machine.specs.code.Lull.{GoesOn};
+ghost use Rattle.watch_machine.specs.code.View.{HasNeeds, need_at};
 ghost use Rattle.watch_machine.specs.declared.track.Track.{Track};
 
 use crate::clocks::{Clocks, goes_on};
@@ -21,11 +20,11 @@ use crate::lanes::Presence;
 use crate::lines::{is_due, ready};
 use crate::lull::{NEVER, first_past, is_failed, is_owed_alone, time_due};
 use crate::margins::time;
+use crate::needs::Needs;
 use crate::reading::{Millis, Seconds, second};
 use crate::sending::{Place, requests_by};
 use crate::track::Track;
 use crate::wanted::wants;
-use keep_needs::Carried;
 use keep_tree::{Entry, Forest};
 use std::alloc::{AllocError, Global};
 
@@ -93,14 +92,14 @@ fn left_at(
 fn first_left(
     forest: &Forest,
     tracks: &[Track],
-    needs: &Carried,
+    needs: &Needs,
     presence: Presence,
     since: Millis,
 ) -> Millis
     requires count { length tracks.now ≡ length forest.now.entries }
-    requires needs { length needs.now ≡ length forest.now.entries }
+    requires needs { length needs.now.cut ≡ length forest.now.entries }
     requires tracks { All IsTrack tracks.now }
-    ensures { result ≡ first_left NEVER forest.now tracks.now (λ i. (load_at needs.now i).need) presence since }
+    ensures { result ≡ first_left NEVER forest.now tracks.now (need_at needs.now) presence since }
 {
     let margin = forest.margin();
     let mut least = NEVER;
@@ -125,14 +124,14 @@ fn beyond_with(beyond: Millis, left: Millis, is_due: bool) -> Millis
 fn first_beyond(
     forest: &Forest,
     tracks: &[Track],
-    needs: &Carried,
+    needs: &Needs,
     presence: Presence,
     since: Millis,
 ) -> Millis
     requires count { length tracks.now ≡ length forest.now.entries }
-    requires needs { length needs.now ≡ length forest.now.entries }
+    requires needs { length needs.now.cut ≡ length forest.now.entries }
     requires tracks { All IsTrack tracks.now }
-    ensures { (i : ℕ) → i < length forest.now.entries → is_due presence since (track_in tracks.now i) ≡ true → result ≤ left_by forest.now tracks.now (λ i. (load_at needs.now i).need) presence since i }
+    ensures { (i : ℕ) → i < length forest.now.entries → is_due presence since (track_in tracks.now i) ≡ true → result ≤ left_by forest.now tracks.now (need_at needs.now) presence since i }
 {
     let margin = forest.margin();
     let mut beyond = NEVER;
@@ -238,12 +237,12 @@ impl Line {
         from: usize,
         forest: &Forest,
         tracks: &[Track],
-        needs: &Carried,
+        needs: &Needs,
         clocks: Clocks,
         presence: Presence,
     ) -> Line
         requires count { length tracks.now ≡ length forest.now.entries }
-        requires needs { length needs.now ≡ length forest.now.entries }
+        requires needs { length needs.now.cut ≡ length forest.now.entries }
         requires tracks { All IsTrack tracks.now }
         ensures { HasNeeds forest.now.entries tracks.now clocks needs.now → IsInLine forest.now (calm presence) clocks.at tracks.now (drop from places.items) → IsKnown forest.now tracks.now presence result }
     {

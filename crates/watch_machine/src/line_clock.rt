@@ -20,7 +20,7 @@ use crate::reading::{Millis, second};
 use crate::renewed::renewed_track;
 use crate::sending::{out_with, send_all};
 use crate::settling::{is_holding, is_real, pace_after};
-use crate::track::Track;
+use crate::track::{Track, has_last_try};
 use crate::waiting::latest;
 use crate::wanted::{believed, is_fixed};
 use crate::watch::Watch;
@@ -38,6 +38,8 @@ fn is_plain(reply: Reply, before: Track, after: Track) -> bool
         && !is_failed(before)
         && !is_fixed(before)
         && !is_fixed(after)
+        && !has_last_try(before)
+        && !has_last_try(after)
         && after.attempt.is_none()
 }
 

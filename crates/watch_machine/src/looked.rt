@@ -13,9 +13,9 @@ use crate::lanes::Out;
 use crate::margins::has_come;
 use crate::new_terms::{is_orphaned, take_orphan, take_terms};
 use crate::notes::Notes;
-use crate::reading::{Millis, moment_at, second};
+use crate::reading::{Millis, second};
 use crate::track::{End, Track, Try};
-use crate::wanted::{carried_need, is_alive, is_never, is_open, wants, write_view};
+use crate::wanted::{is_alive, is_never, is_open, need_of, wants};
 use crate::watch::Watch;
 use keep_moment::Span;
 
@@ -255,8 +255,13 @@ impl Watch {
         if !has_come(self.forest.margin(), self.forest.get(entry), track, now) {
             return false;
         }
-        write_view(&mut self.view, &self.forest, &self.tracks, self.clocks);
-        let need = carried_need(&self.view, moment_at(now), entry);
+        let need = need_of(
+            &mut self.view,
+            &self.forest,
+            &self.tracks,
+            self.clocks,
+            entry,
+        );
         wants(track, need)
     }
 }

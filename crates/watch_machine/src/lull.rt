@@ -1,12 +1,12 @@
 ghost use Rattle.std.specs.Prelude.{◌≡◌, ◌≤◌, ◌<◌, ℕ, IfSome, IsTrue, length};
 ghost use Rattle.watch_machine.specs.code.Bounds.{IsTrack};
 ghost use Rattle.std.specs.List.{All};
-ghost use Rattle.keep_needs.specs.Carried.{load_at};
 ghost use Rattle.watch_machine.specs.Clocks.{sec};
 ghost use Rattle.watch_machine.specs.State.{track_in};
-ghost use Rattle.watch_machine.specs.Wanted.{HasNeeds, believed};
+ghost use Rattle.watch_machine.specs.Wanted.{believed};
 ghost use Rattle.watch_machine.specs.declared.lull.TheConstants.{NEVER};
 ghost use Rattle.watch_machine.specs.code.Lull.{IsLull, due_at, is_failed_try, is_owed_alone, next_due, time_due, try_due};
+ghost use Rattle.watch_machine.specs.code.View.{HasNeeds, need_at};
 
 use crate::beginning::is_pressed;
 use crate::clocks::Clocks;
@@ -14,11 +14,11 @@ use crate::command::Request;
 use crate::lanes::Presence;
 use crate::lines::ready;
 use crate::margins::time;
+use crate::needs::Needs;
 use crate::outlook::{Next, first_time};
 use crate::reading::{Millis, Seconds, second};
 use crate::track::Track;
 use crate::wanted::{believed, is_alive, wants};
-use keep_needs::Carried;
 use keep_tree::{Entry, Forest};
 
 /// Later than every moment.
@@ -99,11 +99,11 @@ fn due_at(margin: u32, entry: &Entry, need: u64, presence: Presence, track: Trac
 }
 
 /// The first of these; `needs` has what the entries carry.
-fn next_due(forest: &Forest, tracks: &[Track], needs: &Carried, presence: Presence) -> Millis
+fn next_due(forest: &Forest, tracks: &[Track], needs: &Needs, presence: Presence) -> Millis
     requires count { length tracks.now ≡ length forest.now.entries }
-    requires needs { length needs.now ≡ length forest.now.entries }
+    requires needs { length needs.now.cut ≡ length forest.now.entries }
     requires tracks { All IsTrack tracks.now }
-    ensures { result ≡ next_due forest.now tracks.now (λ i. (load_at needs.now i).need) presence }
+    ensures { result ≡ next_due forest.now tracks.now (need_at needs.now) presence }
 {
     let margin = forest.margin();
     let mut least = NEVER;
@@ -135,10 +135,10 @@ fn lasting_with(lasting: Seconds, need: u64, track: Track, now: u64) -> Seconds
 }
 
 /// The first second in which one of the needs that these `count` entries carry, or one of their ends that is ahead, is past.
-pub(crate) fn first_past(tracks: &[Track], needs: &Carried, count: u32, now: u64) -> Seconds
+pub(crate) fn first_past(tracks: &[Track], needs: &Needs, count: u32, now: u64) -> Seconds
     requires tracks { count ≡ length tracks.now }
-    requires needs { count ≡ length needs.now }
-    ensures need { (i : ℕ) → i < count → 0 < (load_at needs.now i).need → result ≤ (load_at needs.now i).need }
+    requires needs { count ≡ length needs.now.cut }
+    ensures need { (i : ℕ) → i < count → 0 < need_at needs.now i → result ≤ need_at needs.now i }
     ensures end { (i : ℕ) → i < count → now < believed (track_in tracks.now i).end → result ≤ believed (track_in tracks.now i).end }
 {
     let mut lasting = NEVER;
@@ -153,12 +153,12 @@ impl Lull {
     fn of(
         forest: &Forest,
         tracks: &[Track],
-        needs: &Carried,
+        needs: &Needs,
         clocks: Clocks,
         presence: Presence,
     ) -> Lull
         requires count { length tracks.now ≡ length forest.now.entries }
-        requires needs { length needs.now ≡ length forest.now.entries }
+        requires needs { length needs.now.cut ≡ length forest.now.entries }
         requires tracks { All IsTrack tracks.now }
         ensures { HasNeeds forest.now.entries tracks.now clocks needs.now → IsLull forest.now tracks.now clocks presence result }
     {
@@ -177,12 +177,12 @@ impl Lull {
         requests: &[Request],
         forest: &Forest,
         tracks: &[Track],
-        needs: &Carried,
+        needs: &Needs,
         clocks: Clocks,
         presence: Presence,
     ) -> Option<Lull>
         requires count { length tracks.now ≡ length forest.now.entries }
-        requires needs { length needs.now ≡ length forest.now.entries }
+        requires needs { length needs.now.cut ≡ length forest.now.entries }
         requires tracks { All IsTrack tracks.now }
         ensures { IfSome result (λ lull. HasNeeds forest.now.entries tracks.now clocks needs.now → IsLull forest.now tracks.now clocks presence lull) }
     {

@@ -1,9 +1,9 @@
 ghost use Rattle.std.specs.Prelude.{◌≡◌, ◌*◌, ◌/◌, ◌≤◌, min};
 ghost use Rattle.watch_machine.specs.code.Bounds.{IsEnd};
 ghost use Rattle.keep_tree.specs.declared.forest.TheConstants.{END_MAX};
-ghost use Rattle.watch_machine.specs.Margins.{has_come, is_in_plan, lead, own_by, own_margin, time};
+ghost use Rattle.watch_machine.specs.Margins.{asking_margin, has_come, is_in_plan, lead, own_by, own_margin, time};
 
-use crate::track::{End, Grant, Track};
+use crate::track::{End, Grant, Track, has_last_try};
 use keep_tree::{END_MAX, Entry};
 
 /// How far a renewal is taken to lead, in seconds: the lesser of the step and the last grant.
@@ -39,7 +39,16 @@ pub(crate) fn is_in_plan(margin: u32, entry: &Entry, track: Track) -> bool
     own_margin(margin, entry, track) == margin as u64
 }
 
-/// The second from which on the entry is asked: its own margin before its end; 0 where that is unknown.
+/// How long before its end the entry is asked, in seconds: its own margin, for its last try half of that.
+#[tactic(auto, unfolding(crate::specs::Margins::asking_margin))]
+fn asking_margin(margin: u32, entry: &Entry, track: Track) -> u64
+    ensures { result ≡ asking_margin margin entry.now track }
+{
+    let own = own_margin(margin, entry, track);
+    if has_last_try(track) { own / 2 } else { own }
+}
+
+/// The second from which on it is; 0 where its end is unknown.
 #[tactic(auto, unfolding(crate::specs::Margins::time))]
 pub(crate) fn time(margin: u32, entry: &Entry, track: Track) -> u64
     ensures value { result ≡ time margin entry.now track }
@@ -47,7 +56,7 @@ pub(crate) fn time(margin: u32, entry: &Entry, track: Track) -> u64
 {
     match track.end {
         End::Unknown => 0,
-        End::At(end) => end.saturating_sub(own_margin(margin, entry, track)),
+        End::At(end) => end.saturating_sub(asking_margin(margin, entry, track)),
         End::Never => END_MAX,
     }
 }

@@ -3,20 +3,20 @@ ghost use Rattle.std.specs.Prelude.{◌≡◌, ◌<◌, IfErr, IfOk, is_some, le
 ghost use Rattle.keep_tree.specs.declared.forest.TheConstants.{END_MAX};
 ghost use Rattle.watch_machine.specs.Outlook.{IsNextTime, broker_moment, is_timed, is_timed_at};
 ghost use Rattle.watch_machine.specs.State.{track_at};
-ghost use Rattle.watch_machine.specs.Wanted.{HasNeeds, is_wanted};
+ghost use Rattle.watch_machine.specs.Wanted.{is_wanted};
 ghost use Rattle.watch_machine.specs.code.Lull.{shown_by};
 ghost use Rattle.watch_machine.specs.code.Outlook.{earlier_next};
+ghost use Rattle.watch_machine.specs.code.View.{HasNeeds};
 ghost use Rattle.watch_machine.specs.declared.fault.WatchFault.TheVariants.{OutOfMemory};
 
-use crate::clock_step::needs_of;
 use crate::clocks::Clocks;
 use crate::fault::WatchFault;
 use crate::margins::time;
-use crate::reading::{moment_at, second};
+use crate::needs::{Needs, needs_of};
+use crate::reading::second;
 use crate::track::{End, Track};
-use crate::wanted::{carried_need, is_alive, wants, write_view};
+use crate::wanted::{is_alive, need_of, wants};
 use crate::watch::Watch;
-use keep_needs::Carried;
 use keep_tree::{END_MAX, Forest};
 use std::alloc::Global;
 
@@ -51,11 +51,11 @@ fn is_timed(track: Track, need: u64, now: u64) -> bool
 pub(crate) fn first_time(
     forest: &Forest,
     tracks: &[Track],
-    needs: &Carried,
+    needs: &Needs,
     clocks: Clocks,
 ) -> Option<Next>
     requires count { length tracks.now ≡ length forest.now.entries }
-    requires needs { length needs.now ≡ length forest.now.entries }
+    requires needs { length needs.now.cut ≡ length forest.now.entries }
     ensures { HasNeeds forest.now.entries tracks.now clocks needs.now → IsNextTime (shown_by forest.now tracks.now clocks) result }
 {
     let now = second(clocks.at);
@@ -108,8 +108,13 @@ impl Watch {
         ensures value { result ≡ is_wanted self.old index }
         ensures unchanged { self.new ≡ self.old }
     {
-        write_view(&mut self.view, &self.forest, &self.tracks, self.clocks);
-        let need = carried_need(&self.view, moment_at(second(self.clocks.at)), index);
+        let need = need_of(
+            &mut self.view,
+            &self.forest,
+            &self.tracks,
+            self.clocks,
+            index,
+        );
         wants(self.track(index), need)
     }
 

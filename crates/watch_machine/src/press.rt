@@ -2,7 +2,7 @@ ghost use Rattle.std.specs.Prelude.{◌≡◌, ◌≤◌, ℕ, IfSome, Some, len
 ghost use Rattle.watch_machine.specs.code.Bounds.{IsTrack, IsTry};
 ghost use Rattle.watch_machine.specs.declared.reading.TheConstants.{READING_MAX};
 ghost use Rattle.std.specs.List.{All};
-ghost use Rattle.keep_needs.specs.Carried.{load_at};
+ghost use Rattle.watch_machine.specs.code.View.{need_at};
 ghost use Rattle.keep_tree.specs.Forest.{entry_at};
 ghost use Rattle.watch_machine.specs.Press.{asked_track, dropped, is_fresh, press, pressed_track, track_asked_in};
 ghost use Rattle.watch_machine.specs.State.{each};
@@ -11,10 +11,10 @@ use crate::beginning::{is_pressed, soon};
 use crate::event::Operation;
 use crate::lines::rested;
 use crate::margins::has_come;
+use crate::needs::Needs;
 use crate::reading::{Millis, second};
 use crate::track::{Track, Try};
 use crate::wanted::{is_alive, wants};
-use keep_needs::Carried;
 use keep_tree::{Entry, Forest};
 
 /// Whether an entry with that need is wanted, its time has come, and it is neither pressed nor out.
@@ -114,12 +114,12 @@ fn asked(track: Track, at: Millis) -> Track
 }
 
 /// Presses those whose time has come, by the needs that the entries carry, and lets go those who are wanted no more.
-pub(crate) fn press_alone(tracks: &mut [Track], forest: &Forest, needs: &Carried, at: Millis)
+pub(crate) fn press_alone(tracks: &mut [Track], forest: &Forest, needs: &Needs, at: Millis)
     requires count { length tracks.old ≡ length forest.now.entries }
-    requires needs { length needs.now ≡ length forest.now.entries }
+    requires needs { length needs.now.cut ≡ length forest.now.entries }
     requires at { at ≤ READING_MAX }
     requires tracks { All IsTrack tracks.old }
-    ensures value { tracks.new ≡ each (λ i. pressed_track forest.now.margin (entry_at forest.now.entries i) (load_at needs.now i).need at) tracks.old }
+    ensures value { tracks.new ≡ each (λ i. pressed_track forest.now.margin (entry_at forest.now.entries i) (need_at needs.now i) at) tracks.old }
     ensures bounds { All IsTrack tracks.new }
 {
     let margin = forest.margin();

@@ -11,7 +11,7 @@ use crate::event::{Operation, Reply};
 use crate::lanes::Out;
 use crate::margins::own_by;
 use crate::reading::{Millis, Seconds, second};
-use crate::track::{End, Grant, Track, Try};
+use crate::track::{End, Grant, Track, Try, keeps_last_try};
 use crate::wanted::is_alive;
 use crate::watch::Watch;
 use keep_moment::Span;
@@ -116,7 +116,8 @@ fn granted_try(track: Track, at: Millis, end: u64) -> Option<Try>
     }
 }
 
-/// A track after a grant that counts from a clock's second.
+/// A track after a grant that counts from a clock's second. The first that leads it no further, since one that did, gives it its last
+/// try; the next one takes that away.
 #[tactic(auto, unfolding(crate::specs::Renewed::granted_from))]
 fn granted_from(
     step: u32,
@@ -133,10 +134,12 @@ fn granted_from(
     ensures bounds { IsTrack result }
 {
     let end = end_after(from, seconds);
+    let top = is_no_further(step, seconds, from, track);
     Track {
         end: End::At(end),
         renewable,
-        top: is_no_further(step, seconds, from, track),
+        top,
+        last_try: !top || keeps_last_try(track),
         grant: Some(Grant { seconds, from }),
         attempt: granted_try(track, at, end),
         out: false,

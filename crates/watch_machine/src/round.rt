@@ -4,18 +4,17 @@ ghost use Rattle.keep_needs.specs.Carried.{IsCarried, load_at};
 ghost use Rattle.keep_rule.specs.Forced.{latest_end};
 ghost use Rattle.keep_tree.specs.Forest.{entry_at};
 ghost use Rattle.keep_tree.specs.Push.{IsForest};
-ghost use Rattle.watch_machine.specs.Clocks.{sec};
 ghost use Rattle.watch_machine.specs.Round.{IsRound, IsSecond, is_hoped, opens, opens_some, plan_view, planned_by, step_in_plan};
 ghost use Rattle.watch_machine.specs.Wanted as wanted;
-ghost use Rattle.watch_machine.specs.Wanted.{HasNeeds};
 ghost use Rattle.watch_machine.specs.code.Rounds.{IsFirstShort, first_with, is_sooner};
-ghost use Rattle.watch_machine.specs.code.View.{IsView};
+ghost use Rattle.watch_machine.specs.code.View.{HasNeeds, IsView, Sees};
 ghost use Rattle.watch_machine.specs.declared.fault.WatchFault.TheVariants.{OutOfMemory};
 
 use crate::beginning::is_pressed;
 use crate::clocks::Clocks;
 use crate::fault::WatchFault;
 use crate::margins::{is_in_plan, lead};
+use crate::needs::Needs;
 use crate::press::is_fresh;
 use crate::reading::{moment_at, second};
 use crate::track::Track;
@@ -37,9 +36,9 @@ fn opens(margin: u32, entry: &Entry, track: Track, need: u64, now: u64) -> bool
 }
 
 /// Whether one of the entries opens a round; `needs` has what they carry.
-fn opens_some(forest: &Forest, tracks: &[Track], needs: &Carried, clocks: Clocks) -> bool
+fn opens_some(forest: &Forest, tracks: &[Track], needs: &Needs, clocks: Clocks) -> bool
     requires count { length tracks.now ≡ length forest.now.entries }
-    requires needs { length needs.now ≡ length forest.now.entries }
+    requires needs { length needs.now.cut ≡ length forest.now.entries }
     requires clocks { IsClocks clocks }
     ensures { HasNeeds forest.now.entries tracks.now clocks needs.now → result ≡ opens_some forest.now tracks.now clocks }
 {
@@ -111,12 +110,12 @@ fn write_plan_view(
     view: &mut Forest,
     forest: &Forest,
     tracks: &[Track],
-    needs: &Carried,
+    needs: &Needs,
     clocks: Clocks,
 )
     requires count { length tracks.now ≡ length forest.now.entries }
     requires view { IsView view.old forest.now }
-    requires needs { length needs.now ≡ length forest.now.entries }
+    requires needs { length needs.now.cut ≡ length forest.now.entries }
     requires clocks { IsClocks clocks }
     ensures view { IsView view.new forest.now }
     ensures sound { IsForest forest.now }
@@ -197,14 +196,14 @@ pub(crate) fn round(
     forest: &Forest,
     tracks: &[Track],
     clocks: Clocks,
-    needs: &Carried,
+    needs: &Needs,
 ) -> Result<Option<Indices>, WatchFault>
     requires count { length tracks.now ≡ length forest.now.entries }
     requires view { IsView view.old forest.now }
-    requires needs { length needs.now ≡ length forest.now.entries }
+    requires needs { length needs.now.cut ≡ length forest.now.entries }
     requires clocks { IsClocks clocks }
     ensures view { IsView view.new forest.now }
-    ensures round { IfOk result (λ round. view.old.entries ≡ wanted.view forest.now.entries tracks.now clocks → IsCarried view.old (sec clocks.at) needs.now → IsRound forest.now tracks.now clocks round) }
+    ensures round { IfOk result (λ round. Sees view.old forest.now tracks.now clocks needs.now → IsRound forest.now tracks.now clocks round) }
     ensures refused { IfErr result (λ fault. fault ≡ OutOfMemory) }
 {
     if !opens_some(forest, tracks, needs, clocks) {
@@ -212,6 +211,7 @@ pub(crate) fn round(
     }
     write_plan_view(view, forest, tracks, needs, clocks);
     let now = moment_at(second(clocks.at));
-    let next = second_round(view, needs, now);
-    Ok(Some(asks_before(alloc, view, needs, now, next)?))
+    let cut = needs.cut();
+    let next = second_round(view, cut, now);
+    Ok(Some(asks_before(alloc, view, cut, now, next)?))
 }

@@ -28,7 +28,7 @@ impl Watch {
     ///   nothing else is to be done.
     /// - The answer to a request that is out is taken for its entry, and its lane is free. Each request is to be answered, in
     ///   whatever order; one whose answer never comes is handed in as lost.
-    /// - A need is set, a beginning asked for, an end that an earlier watch told taken over.
+    /// - A need is set, a beginning asked for, an end that an earlier watch told taken over; where that is past a lookup is owed.
     ///
     /// A refused event leaves the watch as it was. The refusals: `BadIndex`, there is no such entry; `NotAsked`, an answer to no
     /// request that is out. `OutOfMemory` may come in the place of the answer to a clock, and to an answer.

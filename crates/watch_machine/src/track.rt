@@ -1,5 +1,5 @@
 ghost use Rattle.std.specs.Prelude.{◌≡◌};
-ghost use Rattle.watch_machine.specs.State.{no_track};
+ghost use Rattle.watch_machine.specs.State.{has_last_try, keeps_last_try, no_track};
 
 use crate::event::Operation;
 use crate::reading::{Millis, Seconds};
@@ -52,6 +52,8 @@ pub struct Track {
     pub renewable: bool,
     /// A grant led it no further.
     pub top: bool,
+    /// At its top it may be asked once more: it was not at its top before the last grant, since one that led it further.
+    pub last_try: bool,
     /// The last grant.
     pub grant: Option<Grant>,
     /// A lookup is owed.
@@ -73,6 +75,7 @@ impl Track {
             end: End::Unknown,
             renewable: false,
             top: true,
+            last_try: false,
             grant: None,
             owes: false,
             attempt: None,
@@ -80,4 +83,18 @@ impl Track {
             out: false,
         }
     }
+}
+
+/// Whether the entry has its last try: it is at its top, and may be asked once more.
+pub(crate) fn has_last_try(track: Track) -> bool
+    ensures { result ≡ has_last_try track }
+{
+    track.top && track.last_try
+}
+
+/// Whether it may still get one: no grant since one that led further has left it at its top.
+pub(crate) fn keeps_last_try(track: Track) -> bool
+    ensures { result ≡ keeps_last_try track }
+{
+    !track.top && track.last_try
 }

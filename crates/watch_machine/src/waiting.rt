@@ -3,7 +3,7 @@ ghost use Rattle.watch_machine.specs.code.Bounds.{IsTrack};
 ghost use Rattle.watch_machine.specs.declared.reading.TheConstants.{READING_MAX};
 ghost use Rattle.std.specs.List.{All};
 ghost use Rattle.std.specs.List.{range_with_len};
-ghost use Rattle.keep_needs.specs.Carried.{load_at};
+ghost use Rattle.watch_machine.specs.code.View.{need_at};
 ghost use Rattle.keep_tree.specs.Forest.{entry_at};
 ghost use Rattle.watch_machine.specs.State.{track_in};
 ghost use Rattle.watch_machine.specs.Wait.{latest, next_of, time_at, try_at};
@@ -13,10 +13,10 @@ use crate::beginning::is_pressed;
 use crate::lanes::Presence;
 use crate::lines::ready;
 use crate::margins::time;
+use crate::needs::Needs;
 use crate::reading::Millis;
 use crate::track::Track;
 use crate::wanted::wants;
-use keep_needs::Carried;
 use keep_tree::{Entry, Forest};
 
 /// The clocks are compared at least so often: every half minute, and four times a margin.
@@ -81,15 +81,15 @@ fn next_of(
 pub(crate) fn wait(
     forest: &Forest,
     tracks: &[Track],
-    needs: &Carried,
+    needs: &Needs,
     presence: Presence,
     at: Millis,
 ) -> Millis
     requires count { length tracks.now ≡ length forest.now.entries }
-    requires needs { length needs.now ≡ length forest.now.entries }
+    requires needs { length needs.now.cut ≡ length forest.now.entries }
     requires at { at ≤ READING_MAX }
     requires tracks { All IsTrack tracks.now }
-    ensures { result ≡ least (latest forest.now.margin at) (map (λ i. next_of forest.now.margin (entry_at forest.now.entries i) (load_at needs.now i).need presence at (track_in tracks.now i)) (range_with_len 0 (length forest.now.entries))) }
+    ensures { result ≡ least (latest forest.now.margin at) (map (λ i. next_of forest.now.margin (entry_at forest.now.entries i) (need_at needs.now i) presence at (track_in tracks.now i)) (range_with_len 0 (length forest.now.entries))) }
 {
     let margin = forest.margin();
     let mut least = latest(margin, at);

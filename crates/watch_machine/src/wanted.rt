@@ -1,15 +1,16 @@
-ghost use Rattle.std.specs.Prelude.{◌≡◌, ◌<◌, ◌≤◌, ◌&&◌, IfSome, length, if◌then◌else◌, max, min, nat_lt, option_map, slice_set};
+ghost use Rattle.std.specs.Prelude.{◌≡◌, ℕ, ◌<◌, ◌≤◌, ◌&&◌, IfSome, length, if◌then◌else◌, max, min, nat_lt, option_map, slice_set};
 ghost use Rattle.watch_machine.specs.code.Bounds.{IsClocks, IsEnd, IsTrack};
 ghost use Rattle.std.specs.List.{All};
 ghost use Rattle.keep_tree.specs.declared.forest.TheConstants.{END_MAX};
 ghost use Rattle.keep_tree.specs.Carried.{carried};
-ghost use Rattle.watch_machine.specs.Wanted.{believed, is_alive, is_fixed, is_open, is_unknown, least_over, seen_entry, wants};
+ghost use Rattle.keep_tree.specs.Forest.{entry_at};
+ghost use Rattle.watch_machine.specs.Wanted.{believed, is_alive, is_fixed, is_open, is_unknown, least_over, need_here, need_of, seen_entry, wants};
 ghost use Rattle.watch_machine.specs.Wanted as wanted;
 ghost use Rattle.watch_machine.specs.code.View.{IsView};
 
 use crate::clocks::Clocks;
-use crate::reading::moment_at;
-use crate::track::{End, Track};
+use crate::reading::{moment_at, second};
+use crate::track::{End, Track, has_last_try};
 use keep_moment::Moment;
 use keep_tree::{END_MAX, Forest};
 
@@ -102,7 +103,7 @@ fn limit(forest: &Forest, tracks: &[Track], index: u32, above: u64) -> u64
 }
 
 /// Writes the entry at an index as it is seen on this clock, by its believed end, its need cut to its limit.
-pub(crate) fn write_seen(
+fn write_seen(
     view: &mut Forest,
     forest: &Forest,
     tracks: &[Track],
@@ -155,7 +156,7 @@ fn carry_more(most: u64, now: Moment, need: u64, is_over: bool) -> u64
 
 /// The greatest need after `now` of an entry that this one is over, 0 where there is none.
 #[tactic(auto, unfolding(keep_tree::specs::Carried::carried))]
-pub(crate) fn carried_need(view: &Forest, now: Moment, index: u32) -> u64
+fn carried_need(view: &Forest, now: Moment, index: u32) -> u64
     requires { index < length view.now.entries }
     ensures { result ≡ carried view.now.entries now index }
 {
@@ -167,13 +168,51 @@ pub(crate) fn carried_need(view: &Forest, now: Moment, index: u32) -> u64
     most
 }
 
-/// Whether an entry may be led further, and has to be, where it carries that need.
+/// Writes the need of every entry as it is on this clock, cut to no limit.
+pub(crate) fn write_free(view: &mut Forest, forest: &Forest, clocks: Clocks)
+    requires view { IsView view.old forest.now }
+    requires clocks { IsClocks clocks }
+    ensures view { IsView view.new forest.now }
+    ensures written { (k : ℕ) → k < length forest.now.entries → (entry_at view.new.entries k).need ≡ need_here clocks (entry_at forest.now.entries k).need }
+{
+    for index in 0..forest.len() {
+        let need = clocks.need_here(forest.get(index).need);
+        view.set_need(index, moment_at(need));
+    }
+}
+
+/// The need that counts for an entry; for its last try no limit does. The view is written anew.
+pub(crate) fn need_of(
+    view: &mut Forest,
+    forest: &Forest,
+    tracks: &[Track],
+    clocks: Clocks,
+    index: u32,
+) -> u64
+    requires within { index < length forest.now.entries }
+    requires count { length tracks.now ≡ length forest.now.entries }
+    requires view { IsView view.old forest.now }
+    requires bounds { All IsTrack tracks.now }
+    requires clocks { IsClocks clocks }
+    ensures value { result ≡ need_of forest.now.entries tracks.now clocks index }
+    ensures view { IsView view.new forest.now }
+{
+    let now = moment_at(second(clocks.at));
+    if has_last_try(tracks[index as usize]) {
+        write_free(view, forest, clocks);
+        return carried_need(view, now, index);
+    }
+    write_view(view, forest, tracks, clocks);
+    carried_need(view, now, index)
+}
+
+/// Whether an entry may be led further, and has to be, where that need counts for it.
 #[tactic(auto, unfolding(crate::specs::Wanted::wants))]
 pub(crate) fn wants(track: Track, need: u64) -> bool
     ensures { result ≡ wants track need }
 {
     (track.renewable || is_unknown(track.end))
-        && !track.top
+        && (!track.top || track.last_try)
         && !is_never(track.end)
         && believed(track.end) < need
 }

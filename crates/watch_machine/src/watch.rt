@@ -1,14 +1,13 @@
-ghost use Rattle.std.specs.Prelude.{◌≡◌, ◌<◌, IfErr, IfOk, length, map, min, true};
+ghost use Rattle.std.specs.Prelude.{◌≡◌, ◌<◌, IfErr, IfOk, length, map, true};
 ghost use Rattle.watch_machine.specs.code.Bounds.{IsTrack};
 ghost use Rattle.std.specs.List.{All};
-ghost use Rattle.keep_tree.specs.declared.forest.TheConstants.{END_MAX};
 ghost use Rattle.keep_moment.specs.declared.moment.TheConstants.{LAST};
 ghost use Rattle.watch_machine.specs.Answers.{with_track};
 ghost use Rattle.watch_machine.specs.declared.fault.WatchFault.TheVariants.{OutOfMemory};
-ghost use Rattle.watch_machine.specs.declared.track.End.TheVariants.{At};
 ghost use Rattle.watch_machine.specs.State.{broker_present, fresh_track, opened, track_at};
-ghost use Rattle.watch_machine.specs.Step.{known, with_need_until};
+ghost use Rattle.watch_machine.specs.Step.{known, told_earlier, with_need_until};
 
+use crate::beginning::owing_past;
 use crate::clocks::Clocks;
 use crate::fault::WatchFault;
 use crate::lanes::{Answer, Out, Presence};
@@ -69,6 +68,7 @@ fn fresh_track(entry: &Entry) -> Track
         end: End::Unknown,
         renewable: entry.renewable,
         top: false,
+        last_try: true,
         grant: None,
         owes: false,
         attempt: None,
@@ -102,9 +102,9 @@ fn present() -> Presence
 }
 
 /// A track with an end that an earlier watch told.
-fn known(track: Track, end: u64, renewable: bool) -> Track
+fn told_earlier(track: Track, end: u64, renewable: bool) -> Track
     requires { IsTrack track }
-    ensures value { result ≡ record track { end = At (min END_MAX end); renewable = renewable } }
+    ensures value { result ≡ told_earlier end renewable track }
     ensures bounds { IsTrack result }
 {
     Track {
@@ -157,13 +157,13 @@ impl Watch {
         self.asked = true;
     }
 
-    /// An end that an earlier watch of the same boot told.
+    /// An end that an earlier watch of the same boot told. Where it is past a lookup is owed.
     pub(crate) fn know(&mut self, entry: u32, end: u64, renewable: bool)
         requires { entry < length self.old.forest.entries }
         ensures { self.new ≡ known self.old entry end renewable }
     {
-        let track = self.track(entry);
-        self.set_track(entry, known(track, end, renewable));
+        let track = told_earlier(self.track(entry), end, renewable);
+        self.set_track(entry, owing_past(track, self.clocks.at));
     }
 
     /// The forest, with needs, steps, ceilings and parents by the broker's moments, as looked up.

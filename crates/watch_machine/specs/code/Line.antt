@@ -23,7 +23,7 @@ use Rattle.watch_machine.specs.Press.{pressed_alone}
 use Rattle.watch_machine.specs.Round.{opens_some}
 use Rattle.watch_machine.specs.Sending.{IsSendingOrder, is_alone_try, is_before, is_partial, out_at, place, request, sent_in}
 use Rattle.watch_machine.specs.Settling.{pace_after, presence_after, settled_track}
-use Rattle.watch_machine.specs.State.{WatchState, each, track_in}
+use Rattle.watch_machine.specs.State.{WatchState, each, has_last_try, track_in}
 use Rattle.watch_machine.specs.Step.{nothing_noted}
 use Rattle.watch_machine.specs.Wanted.{believed, is_fixed, least, need_of, wants}
 use Rattle.watch_machine.specs.code.Lull.{is_failed_try, is_owed_alone, paced_by, time_due, wait_by}
@@ -109,6 +109,8 @@ pub record IsPlain (before after : Track) : Type 0 where
   pub settled : is_failed_try before.attempt ≡ false
   pub loose : is_fixed before ≡ false
   pub still : is_fixed after ≡ false
+  pub tried : has_last_try before ≡ false
+  pub untried : has_last_try after ≡ false
   pub idle : after.attempt ≡ None
 
 -- the requests of the first n of some places

@@ -8,6 +8,6 @@ use Rattle.watch_machine.proofs.beginning.owe_all.Given as goal
 
 abbrev pub invariant-loop-index : goal.invariant-loop-index
 invariant-loop-index l = record {
-  written : Written (λ i. owing l.at (called_by l.dated (load_at l.needs i).need (load_at l.written i).need)) l.initial.tracks l.tracks l.index;
+  written : Written (λ i. owing l.at l.first (called_by l.dated (load_at l.needs i).need (load_at l.written i).need)) l.initial.tracks l.tracks l.index;
   bounds : All IsTrack l.tracks;
 }

@@ -18,5 +18,5 @@ returns-in-Some-clause-tracks c =
     let k = c.args.clocks in
     let old = c.args.tracks.now in
     let new = c.begin_anew.new.tracks in
-    ok_map (λ needs. new ≡ owing_all g k (untopped old)) (λ needs. new ≡ begun_tracks g k c.args.why old)
-    (λ needs so. so ∙ ap (λ why. begun_tracks g k why old) (sym c.in-Some.is)) c.begin_anew.result c.begin_anew.ensures.tracks
+    ok_map (λ needs. new ≡ owing_all g k c.is_start.result (untopped old)) (λ needs. new ≡ begun_tracks g k c.args.why old)
+    (λ needs so. so ∙ ap (λ first. owing_all g k first (untopped old)) c.is_start.ensures ∙ ap (λ why. begun_tracks g k why old) (sym c.in-Some.is)) c.begin_anew.result c.begin_anew.ensures.tracks

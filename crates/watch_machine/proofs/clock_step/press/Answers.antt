@@ -4,15 +4,14 @@ use Rattle.watch_machine.specs.Press.{pressed_alone, pressed_tracks, track_asked
 use Rattle.watch_machine.specs.Round.{asked_by_round}
 use Rattle.watch_machine.specs.State.{each}
 use Rattle.watch_machine.proofs.Owing.{none_asked, pressed_are}
-use Rattle.watch_machine.proofs.Seeing.{has_needs}
 use Rattle.watch_machine.proofs.clock_step.press.Goals.{in-Some, in_default}
 use Rattle.watch_machine.proofs.clock_step.press.Goals as goal
 
 pub round-requires-clause-needs : goal.round-requires-clause-needs
-round-requires-clause-needs c = c.requires.needs.1.count ∙ c.requires.view.count
+round-requires-clause-needs c = c.requires.needs.cut.count ∙ c.requires.view.count
 
 pub press_alone-requires-clause-needs : goal.press_alone-requires-clause-needs
-press_alone-requires-clause-needs c = c.requires.needs.1.count ∙ c.requires.view.count
+press_alone-requires-clause-needs c = c.requires.needs.cut.count ∙ c.requires.view.count
 
 pub returns-clause-tracks : goal.returns-clause-tracks
 returns-clause-tracks c =
@@ -22,7 +21,7 @@ returns-clause-tracks c =
     let mid = c.press_alone.new.tracks in
     let needs = c.args.needs.now in
     let round = c.in_ok-round.round in
-    let alone : mid ≡ pressed_alone g k old = c.press_alone.ensures.value ∙ pressed_are g old k needs c.requires.count (has_needs c.args.view.now g old k needs c.requires.needs) in
+    let alone : mid ≡ pressed_alone g k old = c.press_alone.ensures.value ∙ pressed_are g old k needs c.requires.count c.requires.needs.needs in
     elim c.match-round.branch [
       | in-Some w ↦
           w.tracks-is ∙ w.press_round.ensures.value ∙ ap (λ r. each (track_asked_in k.at r) mid) w.list.ensures ∙ ap (each (track_asked_in k.at w.in-Some.asked)) alone

@@ -2,7 +2,6 @@
 use Rattle.std.proofs.Common.{◌≡◌, ◌∙◌, ℕ, ◌≤◌, true, ap, arith, length, sym, inl, inr}
 use Rattle.std.proofs.lemmas.Bool.{cases_eq}
 use Rattle.std.proofs.lemmas.List.{get_or_default}
-use Rattle.keep_needs.specs.Carried.{load_at}
 use Rattle.keep_tree.specs.declared.entry.Entry.{Entry}
 use Rattle.keep_tree.specs.Forest.{entry_at}
 use Rattle.watch_machine.specs.declared.lanes.Presence.{Presence}
@@ -10,6 +9,7 @@ use Rattle.watch_machine.specs.declared.track.Track.{Track}
 use Rattle.watch_machine.specs.Lines.{is_due}
 use Rattle.watch_machine.specs.State.{no_track, track_in}
 use Rattle.watch_machine.specs.code.Line.{left_at}
+use Rattle.watch_machine.specs.code.View.{need_at}
 use Rattle.watch_machine.proofs.line.first_beyond.Goals as goal
 
 -- the moment of an entry, by what was read of it
@@ -27,14 +27,14 @@ loop-index-preserved c =
     let m = c.margin-margin.result in
     let k = c.loop-index.index in
     let read = get_or_default xs k _ no_track (omega (arith, c.len-index-end.ensures.value, c.requires.count)) in
-    let made : c.left_at-left.result ≡ left_at m (entry_at g.entries k) (load_at needs k).need p since (track_in xs k) =
-    left_read m c.left_at-left.result c.need.result (load_at needs k).need since p c.get-entry.result.now (entry_at g.entries k) _ (track_in xs k) c.left_at-left.ensures c.get-entry.ensures.value c.need.ensures read in
+    let made : c.left_at-left.result ≡ left_at m (entry_at g.entries k) (need_at needs k) p since (track_in xs k) =
+    left_read m c.left_at-left.result c.need.result (need_at needs k) since p c.get-entry.result.now (entry_at g.entries k) _ (track_in xs k) c.left_at-left.ensures c.get-entry.ensures.value c.need.ensures read in
     let new = c.beyond_with-beyond.result in
-    λ i below due. elim (cases_eq i k) as (λ _. new ≤ left_at m (entry_at g.entries i) (load_at needs i).need p since (track_in xs i)) [
+    λ i below due. elim (cases_eq i k) as (λ _. new ≤ left_at m (entry_at g.entries i) (need_at needs i) p since (track_in xs i)) [
       | inl same ↦
           let is : c.is_due.result ≡ true = c.is_due.ensures ∙ ap (is_due p since) (read ∙ sym (ap (track_in xs) same)) ∙ due in
           let low = c.beyond_with-beyond.ensures.due is in
-          let there = ap (λ j. left_at m (entry_at g.entries j) (load_at needs j).need p since (track_in xs j)) same in
+          let there = ap (λ j. left_at m (entry_at g.entries j) (need_at needs j) p since (track_in xs j)) same in
           omega (arith, low, made, there)
       | inr other ↦ (let before = c.loop-index.invariant i (omega (arith, below, other)) due in let least = c.beyond_with-beyond.ensures.least in omega (arith, before, least))
     ]
@@ -46,5 +46,5 @@ returns c = λ i within due.
     let needs = c.args.needs.now in
     let whole : c.loop-index.index ≡ length g.entries = omega (arith, c.len-index-end.ensures.value, c.loop-index-test.false, c.loop-index.auto.index-end) in
     let low = c.loop-index.invariant i (omega (arith, within, whole)) due in
-    let m = ap (λ m. left_at m (entry_at g.entries i) (load_at needs i).need c.args.presence c.args.since (track_in xs i)) c.margin-margin.ensures in
+    let m = ap (λ m. left_at m (entry_at g.entries i) (need_at needs i) c.args.presence c.args.since (track_in xs i)) c.margin-margin.ensures in
     omega (arith, low, m)

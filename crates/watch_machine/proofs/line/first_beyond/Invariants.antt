@@ -1,13 +1,13 @@
 -- The moment is no later than that of each entry before the index that is due.
 use Rattle.std.proofs.Common.{◌≡◌, ℕ, ◌<◌, ◌≤◌, true}
-use Rattle.keep_needs.specs.Carried.{load_at}
 use Rattle.keep_tree.specs.Forest.{entry_at}
 use Rattle.watch_machine.specs.Lines.{is_due}
 use Rattle.watch_machine.specs.State.{track_in}
 use Rattle.watch_machine.specs.code.Line.{left_at}
+use Rattle.watch_machine.specs.code.View.{need_at}
 use Rattle.watch_machine.proofs.line.first_beyond.Given as goal
 
 abbrev pub invariant-loop-index : goal.invariant-loop-index
 invariant-loop-index l =
     (i : ℕ) → i < l.index → is_due l.presence l.since (track_in l.tracks i) ≡ true →
-    l.beyond ≤ left_at l.margin (entry_at l.forest.entries i) (load_at l.needs i).need l.presence l.since (track_in l.tracks i)
+    l.beyond ≤ left_at l.margin (entry_at l.forest.entries i) (need_at l.needs i) l.presence l.since (track_in l.tracks i)

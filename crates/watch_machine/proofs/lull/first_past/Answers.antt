@@ -2,10 +2,10 @@
 use Rattle.std.proofs.Common.{◌≡◌, ◌∙◌, ◌<◌, ◌≤◌, false, get_or, ap, arith, inl, inr, subst, sym}
 use Rattle.std.proofs.lemmas.Bool.{cases_eq}
 use Rattle.std.proofs.lemmas.List.{get_or_default}
-use Rattle.keep_needs.specs.Carried.{load_at}
 use Rattle.watch_machine.specs.declared.track.Track.{Track}
 use Rattle.watch_machine.specs.State.{no_track, track_in}
 use Rattle.watch_machine.specs.Wanted.{believed}
+use Rattle.watch_machine.specs.code.View.{need_at}
 use Rattle.watch_machine.proofs.lull.first_past.Goals as goal
 
 -- what the code reads past the last track
@@ -20,9 +20,9 @@ loop-index-preserved c =
     let made = c.lasting_with-lasting.result in
     let least = c.lasting_with-lasting.ensures.least in
     record {
-      need = λ i below some. elim (cases_eq i k) as (λ _. made ≤ (load_at needs i).need) [
+      need = λ i below some. elim (cases_eq i k) as (λ _. made ≤ need_at needs i) [
         | inl same ↦
-            let there : (load_at needs i).need ≡ c.need.result = ap (λ j. (load_at needs j).need) same ∙ sym c.need.ensures in
+            let there : need_at needs i ≡ c.need.result = ap (need_at needs) same ∙ sym c.need.ensures in
             let low = c.lasting_with-lasting.ensures.need (omega (arith, there, some)) in
             omega (arith, there, low)
         | inr other ↦ let before = c.loop-index.invariant.need i (omega (arith, below, other)) some in omega (arith, before, least)

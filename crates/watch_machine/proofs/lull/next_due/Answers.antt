@@ -4,7 +4,6 @@ use Rattle.std.proofs.lemmas.List.{get_or_default}
 use Rattle.std.proofs.lemmas.List.FromFn.{map-range_with_len_more}
 use Rattle.std.proofs.lemmas.List.Sums.{fold_push}
 use Rattle.std.specs.List.{range_with_len}
-use Rattle.keep_needs.specs.Carried.{load_at}
 use Rattle.keep_tree.specs.declared.entry.Entry.{Entry}
 use Rattle.keep_tree.specs.Forest.{entry_at}
 use Rattle.watch_machine.specs.declared.lanes.Presence.{Presence}
@@ -13,6 +12,7 @@ use Rattle.watch_machine.specs.declared.track.Track.{Track}
 use Rattle.watch_machine.specs.State.{no_track, track_in}
 use Rattle.watch_machine.specs.Wanted.{least}
 use Rattle.watch_machine.specs.code.Lull.{due_at, next_due}
+use Rattle.watch_machine.specs.code.View.{need_at}
 use Rattle.watch_machine.proofs.lull.next_due.Goals as goal
 
 -- the moment of an entry, by what was read of it
@@ -27,9 +27,9 @@ loop-index-preserved c =
     let needs = c.args.needs.now in
     let m = c.margin-margin.result in
     let k = c.loop-index.index in
-    let f : ℕ → ℕ = λ i. due_at m (entry_at g.entries i) (load_at needs i).need c.args.presence (track_in xs i) in
+    let f : ℕ → ℕ = λ i. due_at m (entry_at g.entries i) (need_at needs i) c.args.presence (track_in xs i) in
     let made : c.due_at-due.result ≡ f k =
-    due_read m c.due_at-due.result c.need.result (load_at needs k).need c.args.presence c.get-entry.result.now (entry_at g.entries k) _ (track_in xs k) c.due_at-due.ensures
+    due_read m c.due_at-due.result c.need.result (need_at needs k) c.args.presence c.get-entry.result.now (entry_at g.entries k) _ (track_in xs k) c.due_at-due.ensures
     c.get-entry.ensures.value c.need.ensures (get_or_default xs k _ no_track (omega (arith, c.len-index-end.ensures.value, c.requires.count))) in
     c.min-least.ensures ∙ ap (λ n. min n c.due_at-due.result) c.loop-index.invariant ∙ ap (min (least NEVER (map f (range_with_len 0 k)))) made
     ∙ sym (ap (least NEVER) (map-range_with_len_more f 0 k k (omega arith)) ∙ fold_push min NEVER (map f (range_with_len 0 k)) (f k))
@@ -40,7 +40,7 @@ returns c =
     let g = c.args.forest.now in
     let xs = c.args.tracks.now in
     let needs = c.args.needs.now in
-    let f : ℕ → ℕ → ℕ = λ m i. due_at m (entry_at g.entries i) (load_at needs i).need c.args.presence (track_in xs i) in
+    let f : ℕ → ℕ → ℕ = λ m i. due_at m (entry_at g.entries i) (need_at needs i) c.args.presence (track_in xs i) in
     let m = c.margin-margin.result in
     let whole : c.loop-index.index ≡ length g.entries = omega (arith, c.len-index-end.ensures.value, c.loop-index-test.false, c.loop-index.auto.index-end) in
     c.loop-index.invariant ∙ ap (λ n. least NEVER (map (f m) (range_with_len 0 n))) whole

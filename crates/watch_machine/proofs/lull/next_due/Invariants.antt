@@ -1,14 +1,14 @@
 -- The first moment is that of the entries before the index.
 use Rattle.std.proofs.Common.{◌≡◌, map}
 use Rattle.std.specs.List.{range_with_len}
-use Rattle.keep_needs.specs.Carried.{load_at}
 use Rattle.keep_tree.specs.Forest.{entry_at}
 use Rattle.watch_machine.specs.declared.lull.TheConstants.{NEVER}
 use Rattle.watch_machine.specs.State.{track_in}
 use Rattle.watch_machine.specs.Wanted.{least}
 use Rattle.watch_machine.specs.code.Lull.{due_at}
+use Rattle.watch_machine.specs.code.View.{need_at}
 use Rattle.watch_machine.proofs.lull.next_due.Given as goal
 
 abbrev pub invariant-loop-index : goal.invariant-loop-index
 invariant-loop-index l =
-    l.least ≡ least NEVER (map (λ i. due_at l.margin (entry_at l.forest.entries i) (load_at l.needs i).need l.presence (track_in l.tracks i)) (range_with_len 0 l.index))
+    l.least ≡ least NEVER (map (λ i. due_at l.margin (entry_at l.forest.entries i) (need_at l.needs i) l.presence (track_in l.tracks i)) (range_with_len 0 l.index))

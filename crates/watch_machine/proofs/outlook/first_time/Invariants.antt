@@ -1,7 +1,7 @@
 -- The first time of the entries before the index is found.
 use Rattle.watch_machine.specs.Outlook.{IsNextOf}
-use Rattle.watch_machine.specs.Wanted.{HasNeeds}
 use Rattle.watch_machine.specs.code.Lull.{shown_by}
+use Rattle.watch_machine.specs.code.View.{HasNeeds}
 use Rattle.watch_machine.proofs.outlook.first_time.Given as goal
 
 -- the first time so far

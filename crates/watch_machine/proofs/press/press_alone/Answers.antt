@@ -1,12 +1,12 @@
 -- Each entry is pressed or let go after those before it, and in the end all are.
 use Rattle.std.proofs.Common.{◌≡◌, ◌∙◌, ℕ, ◌<◌, arith, length, refl}
 use Rattle.std.proofs.lemmas.List.Elements.{All-set}
-use Rattle.keep_needs.specs.Carried.{load_at}
 use Rattle.keep_tree.specs.declared.entry.Entry.{Entry}
 use Rattle.keep_tree.specs.Forest.{entry_at}
 use Rattle.watch_machine.specs.declared.track.Track.{Track}
 use Rattle.watch_machine.specs.Press.{pressed_track}
 use Rattle.watch_machine.specs.code.Bounds.{IsTrack}
+use Rattle.watch_machine.specs.code.View.{need_at}
 use Rattle.watch_machine.proofs.Written.{written_all, written_more, written_none, written_read}
 use Rattle.watch_machine.proofs.press.press_alone.Goals as goal
 
@@ -16,7 +16,7 @@ pressed_same at margin m need n e d x y margins entries needs tracks = cc
 
 pub loop-index-init : goal.loop-index-init
 loop-index-init c = let g = c.args.forest.now in record {
-  written = written_none (λ i. pressed_track g.margin (entry_at g.entries i) (load_at c.args.needs.now i).need c.args.at) c.args.tracks.now;
+  written = written_none (λ i. pressed_track g.margin (entry_at g.entries i) (need_at c.args.needs.now i) c.args.at) c.args.tracks.now;
   bounds = c.requires.tracks;
 }
 
@@ -27,7 +27,7 @@ loop-index-preserved c =
     let now = c.loop-index.tracks in
     let k = c.loop-index.index in
     let so = c.loop-index.invariant.written in
-    let f : ℕ → Track → Track = λ i. pressed_track g.margin (entry_at g.entries i) (load_at c.args.needs.now i).need c.args.at in
+    let f : ℕ → Track → Track = λ i. pressed_track g.margin (entry_at g.entries i) (need_at c.args.needs.now i) c.args.at in
     let within : k < length old = omega arith in
     record {
       written = written_more f old now _ k c.pressed.result so within refl
@@ -38,5 +38,5 @@ loop-index-preserved c =
 pub returns-clause-value : goal.returns-clause-value
 returns-clause-value c =
     let g = c.args.forest.now in
-    let f : ℕ → Track → Track = λ i. pressed_track g.margin (entry_at g.entries i) (load_at c.args.needs.now i).need c.args.at in
+    let f : ℕ → Track → Track = λ i. pressed_track g.margin (entry_at g.entries i) (need_at c.args.needs.now i) c.args.at in
     written_all f c.args.tracks.now c.loop-index.tracks c.loop-index.index c.loop-index.invariant.written (omega arith)

@@ -1,12 +1,12 @@
 -- Whether an entry opens a round is told of each after those before it.
 use Rattle.std.proofs.Common.{◌≡◌, ◌∙◌, ℕ, Bool, true, false, below_more, get_or, length, sym, arith}
 use Rattle.std.proofs.lemmas.List.{get_or_default}
-use Rattle.keep_needs.specs.Carried.{load_at}
 use Rattle.keep_tree.specs.declared.entry.Entry.{Entry}
 use Rattle.keep_tree.specs.Forest.{entry_at}
 use Rattle.watch_machine.specs.declared.track.Track.{Track}
 use Rattle.watch_machine.specs.Round.{opens}
 use Rattle.watch_machine.specs.State.{no_track}
+use Rattle.watch_machine.specs.code.View.{need_at}
 use Rattle.watch_machine.proofs.Opening.{none_opens, opens_any, some_opens}
 use Rattle.watch_machine.proofs.round.opens_some.Goals as goal
 
@@ -23,8 +23,8 @@ loop-index-preserved c =
     let m = c.margin-margin.result in
     let now = c.second-now.result in
     let x = get_or_default c.args.tracks.now i _ no_track (omega (arith, c.len-index-end.ensures.value, c.requires.count)) in
-    below_more (λ k. opens m (entry_at g.entries k) (get_or c.args.tracks.now k no_track) (load_at c.args.needs.now k).need now ≡ false) i c.loop-index.invariant
-    (opens_read m _ (load_at c.args.needs.now i).need now _ (entry_at g.entries i) _ (get_or c.args.tracks.now i no_track) c.opens.result false c.opens.ensures c.get.ensures.value x c.need.ensures c.if-opens.false)
+    below_more (λ k. opens m (entry_at g.entries k) (get_or c.args.tracks.now k no_track) (need_at c.args.needs.now k) now ≡ false) i c.loop-index.invariant
+    (opens_read m _ (need_at c.args.needs.now i) now _ (entry_at g.entries i) _ (get_or c.args.tracks.now i no_track) c.opens.result false c.opens.ensures c.get.ensures.value x c.need.ensures c.if-opens.false)
 
 pub returns-then-opens : goal.returns-then-opens
 returns-then-opens c = λ has.
@@ -33,9 +33,9 @@ returns-then-opens c = λ has.
     let m = c.margin-margin.result in
     let now = c.second-now.result in
     let x = get_or_default c.args.tracks.now i _ no_track (omega (arith, c.len-index-end.ensures.value, c.requires.count)) in
-    sym (some_opens (λ k. opens m (entry_at g.entries k) (get_or c.args.tracks.now k no_track) (load_at c.args.needs.now k).need now) (length g.entries) i
+    sym (some_opens (λ k. opens m (entry_at g.entries k) (get_or c.args.tracks.now k no_track) (need_at c.args.needs.now k) now) (length g.entries) i
     (omega (arith, c.len-index-end.ensures.value))
-    (opens_read m _ (load_at c.args.needs.now i).need now _ (entry_at g.entries i) _ (get_or c.args.tracks.now i no_track) c.opens.result true c.opens.ensures c.get.ensures.value x c.need.ensures c.if-opens.true))
+    (opens_read m _ (need_at c.args.needs.now i) now _ (entry_at g.entries i) _ (get_or c.args.tracks.now i no_track) c.opens.result true c.opens.ensures c.get.ensures.value x c.need.ensures c.if-opens.true))
     ∙ opens_any g c.args.tracks.now c.args.clocks c.args.needs.now m now c.margin-margin.ensures c.second-now.ensures.value has
 
 pub returns : goal.returns
@@ -43,6 +43,6 @@ returns c = λ has.
     let g = c.args.forest.now in
     let m = c.margin-margin.result in
     let now = c.second-now.result in
-    sym (none_opens (λ k. opens m (entry_at g.entries k) (get_or c.args.tracks.now k no_track) (load_at c.args.needs.now k).need now) (length g.entries)
+    sym (none_opens (λ k. opens m (entry_at g.entries k) (get_or c.args.tracks.now k no_track) (need_at c.args.needs.now k) now) (length g.entries)
     (λ k within. c.loop-index.invariant k (omega (arith, c.len-index-end.ensures.value))))
     ∙ opens_any g c.args.tracks.now c.args.clocks c.args.needs.now m now c.margin-margin.ensures c.second-now.ensures.value has

@@ -6,32 +6,29 @@ use Rattle.keep_tree.specs.Forest.{end_of}
 use Rattle.watch_machine.specs.Clocks.{sec}
 use Rattle.watch_machine.specs.Round.{IsSecond, opens_some, plan_view}
 use Rattle.watch_machine.proofs.Opening.{plan_alike}
-use Rattle.watch_machine.proofs.Seeing.{has_needs}
 use Rattle.watch_machine.proofs.Shorting.{carries_alike}
 use Rattle.watch_machine.proofs.round.round.Goals as goal
 
 pub returns-then-not-opens_some-clause-round : goal.returns-then-not-opens_some-clause-round
-returns-then-not-opens_some-clause-round c = λ is carried.
-    let has = has_needs c.args.view.now c.args.forest.now c.args.tracks.now c.args.clocks c.args.needs.now (is, carried) in
-    sym (c.opens_some.ensures has) ∙ c.if-not-opens_some.true
+returns-then-not-opens_some-clause-round c = λ sees. sym (c.opens_some.ensures sees.needs) ∙ c.if-not-opens_some.true
 
 pub returns-clause-round : goal.returns-clause-round
-returns-clause-round c = λ is carried.
+returns-clause-round c = λ sees.
     let g = c.args.forest.now in
     let xs = c.args.tracks.now in
     let clocks = c.args.clocks in
     let v = c.write_plan_view.new.view in
     let now = c.moment_at-now.result in
-    let loads = c.args.needs.now in
+    let loads = c.cut-cut.result.now in
     let next = c.second_round-next.result in
     let asked = c.in_ok-asks_before.field-0 in
-    let has = has_needs c.args.view.now g xs clocks loads (is, carried) in
-    let any : opens_some g xs clocks ≡ true = sym (c.opens_some.ensures has) ∙ c.if-not-opens_some.false in
-    let plan : v.entries ≡ plan_view g xs clocks = c.write_plan_view.ensures.planned is has in
+    let any : opens_some g xs clocks ≡ true = sym (c.opens_some.ensures sees.needs) ∙ c.if-not-opens_some.false in
+    let plan : v.entries ≡ plan_view g xs clocks = c.write_plan_view.ensures.planned sees.seen sees.needs in
     let margin = c.write_plan_view.ensures.view.margin in
     let at : now ≡ sec clocks.at = c.moment_at-now.ensures ∙ c.second.ensures.value in
     let carries : IsCarried v (sec clocks.at) loads =
-    carries_alike c.args.view.now v (plan_alike c.args.view.now v g xs clocks c.write_plan_view.ensures.sound c.requires.view c.write_plan_view.ensures.view is plan) (sec clocks.at) loads carried in
+    carries_alike c.args.view.now v (plan_alike c.args.view.now v g xs clocks c.write_plan_view.ensures.sound c.requires.view c.write_plan_view.ensures.view sees.seen plan) (sec clocks.at) loads
+    (subst (IsCarried c.args.view.now (sec clocks.at)) (sym c.cut-cut.ensures) sees.cut) in
     let after : IsSecond v.entries v.margin now next = c.second_round-next.ensures (subst (λ t. IsCarried v t loads) (sym at) carries) in
     let after' : IsSecond (plan_view g xs clocks) g.margin (sec clocks.at) next =
     subst (λ t. IsSecond (plan_view g xs clocks) g.margin t next) at

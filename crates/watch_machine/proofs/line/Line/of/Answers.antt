@@ -1,10 +1,10 @@
 -- What is found of the entries is a line.
 use Rattle.std.proofs.Common.{◌∙◌, ℕ, ap, arith, refl}
-use Rattle.keep_needs.specs.Carried.{load_at}
 use Rattle.watch_machine.specs.declared.lull.TheConstants.{NEVER}
 use Rattle.watch_machine.specs.Lines.{is_due}
 use Rattle.watch_machine.specs.State.{track_in}
 use Rattle.watch_machine.specs.code.Line.{calm, first_left, left_by}
+use Rattle.watch_machine.specs.code.View.{need_at}
 use Rattle.watch_machine.proofs.LineMade.{line_by}
 use Rattle.watch_machine.proofs.line.Line.of.Goals as goal
 
@@ -18,7 +18,7 @@ returns c = λ has order known.
     let needs = c.args.needs.now in
     let two = c.is_kept-known.ensures known in
     let least = c.min-lasting.ensures in
-    let found : ℕ → ℕ = λ i. (load_at needs i).need in
+    let found : ℕ → ℕ = λ i. (need_at needs i) in
     line_by g xs c.args.clocks p needs
     (record { known = c.is_kept-known.result; places = c.args.places; from = c.args.from; clocks = c.args.clocks; next = c.first_left-next.result; beyond = c.first_beyond-beyond.result; lasting = c.min-lasting.result })
     refl c.second.result c.second.ensures.value has order (c.first_left-next.ensures ∙ ap (λ q. first_left NEVER g xs found q at) c.calm-calm.ensures)

@@ -1,11 +1,10 @@
 -- An entry is called for where it is wanted and its time has come.
 use Rattle.std.proofs.Common.{◌≡◌, ◌∙◌, ℕ, sym, ap}
 use Rattle.keep_tree.specs.declared.entry.Entry.{Entry}
-use Rattle.keep_tree.specs.Carried.{carried}
 use Rattle.watch_machine.specs.declared.track.Track.{Track}
 use Rattle.watch_machine.specs.Margins.{has_come}
 use Rattle.watch_machine.specs.State.{WatchState, entry_of, second, track_at}
-use Rattle.watch_machine.specs.Wanted.{is_wanted, need_of, view, wanted_need, wants}
+use Rattle.watch_machine.specs.Wanted.{is_wanted, need_of, wanted_need, wants}
 use Rattle.watch_machine.proofs.Tests.{and_yes}
 use Rattle.watch_machine.proofs.watch.Watch.is_called_for.Goals as goal
 
@@ -14,17 +13,13 @@ come_same : (margin m now n : ℕ) (e d : Entry) (x y : Track) → margin ≡ m 
 come_same margin m now n e d x y margins entries tracks nows = cc
 
 pub returns-clause-value : goal.returns-clause-value
-unfolding need_of
 returns-clause-value c =
     let w = c.self.inside in
     let n = c.args.self.now in
     let i = c.args.entry in
-    let need = c.carried_need-need.result in
+    let need = c.need_of-need.result in
     let needs : need ≡ wanted_need n i =
-    c.carried_need-need.ensures ∙ ap (λ es. carried es c.moment_at.result i) c.write_view.ensures.written
-    ∙ ap (λ xs. carried (view w.forest.entries xs w.clocks) c.moment_at.result i) c.deref.ensures.value
-    ∙ ap (λ now. carried (view w.forest.entries w.tracks.items w.clocks) now i) (c.moment_at.ensures ∙ c.second-now.ensures.value)
-    ∙ ap (λ (s : WatchState). wanted_need s i) c.self.view_is in
+    c.need_of-need.ensures.value ∙ ap (λ xs. need_of w.forest.entries xs w.clocks i) c.deref.ensures.value ∙ ap (λ (s : WatchState). wanted_need s i) c.self.view_is in
     let come : c.has_come.result ≡ has_come n.forest.margin (entry_of n i) (track_at n i) (second n) =
     c.has_come.ensures
     ∙ come_same _ _ _ _ _ _ _ _ (c.margin.ensures ∙ ap (λ (s : WatchState). s.forest.margin) c.self.view_is) (c.get.ensures.value ∙ ap (λ (s : WatchState). entry_of s i) c.self.view_is)

@@ -2,12 +2,10 @@
 use Rattle.std.proofs.Common.{subst}
 use Rattle.watch_machine.specs.Outlook.{IsNextTime}
 use Rattle.watch_machine.specs.State.{WatchState}
-use Rattle.watch_machine.specs.Wanted.{HasNeeds}
 use Rattle.watch_machine.specs.code.Lull.{IsLull, shown_by}
-use Rattle.watch_machine.specs.code.View.{Sees}
+use Rattle.watch_machine.specs.code.View.{HasNeeds, Sees}
 use Rattle.watch_machine.proofs.Cases.{of_value}
 use Rattle.watch_machine.proofs.Lulls.{next_shown}
-use Rattle.watch_machine.proofs.Seeing.{has_needs}
 use Rattle.watch_machine.proofs.watch.Watch.next.Goals as goal
 
 pub returns-in-Some-clause-next : goal.returns-in-Some-clause-next
@@ -49,4 +47,4 @@ returns-clause-next c =
     let sees : Sees view w.forest w.tracks.items w.clocks needs = subst (λ xs. Sees view w.forest xs w.clocks needs) c.deref.ensures.value c.in_ok-needs.ensures.needs in
     let next = c.first_time-next.result in
     let found = subst (λ xs. HasNeeds w.forest.entries xs w.clocks needs → IsNextTime (shown_by w.forest xs w.clocks) next) c.deref-2.ensures.value c.first_time-next.ensures in
-    subst (λ (t : WatchState). IsNextTime t next) c.self.view_is (next_shown s next (found (has_needs view w.forest w.tracks.items w.clocks needs sees)))
+    subst (λ (t : WatchState). IsNextTime t next) c.self.view_is (next_shown s next (found sees.needs))

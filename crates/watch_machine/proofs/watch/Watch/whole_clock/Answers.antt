@@ -1,7 +1,6 @@
 -- The parts of a clock are together the step of the definitions.
 use Rattle.std.proofs.Common.{◌≡◌, ◌∙◌, ◌-◌, ◌++◌, IfSome, List, [], ap, drop, length, map, subst, sym}
 use Rattle.std.specs.List.{All}
-use Rattle.keep_needs.specs.Carried.{load_at}
 use Rattle.watch_machine.specs.declared.command.Command.TheVariants.{Go}
 use Rattle.watch_machine.specs.declared.command.Output.{Output}
 use Rattle.watch_machine.specs.declared.lanes.Answer.{Answer}
@@ -15,10 +14,9 @@ use Rattle.watch_machine.specs.Sending.{IsGoing, out_at, sent_in}
 use Rattle.watch_machine.specs.Settling.{clocks_after, has_jumped, has_stepped, presence_after, settled_track}
 use Rattle.watch_machine.specs.State.{WatchState, each}
 use Rattle.watch_machine.specs.Step.{StepClock}
-use Rattle.watch_machine.specs.Wanted.{HasNeeds}
 use Rattle.watch_machine.specs.code.Bounds.{IsTrack}
 use Rattle.watch_machine.specs.code.Lull.{IsLull, wait_by}
-use Rattle.watch_machine.specs.code.View.{Sees}
+use Rattle.watch_machine.specs.code.View.{HasNeeds, need_at}
 use Rattle.watch_machine.specs.Clocks.{sec}
 use Rattle.watch_machine.specs.code.Line.{IsFrontOf, IsInLine, IsKnown, calm}
 use Rattle.watch_machine.proofs.ClockParts.{clock_step, needs_after}
@@ -26,7 +24,6 @@ use Rattle.watch_machine.proofs.LineMade.{line_in_order}
 use Rattle.watch_machine.proofs.LineSent.{asked_are, left_in_line}
 use Rattle.watch_machine.proofs.Lulls.{some_lull}
 use Rattle.watch_machine.proofs.Rewritten.{once, thrice, twice}
-use Rattle.watch_machine.proofs.Seeing.{has_needs}
 use Rattle.watch_machine.proofs.Written.{each_length}
 use Rattle.watch_machine.proofs.watch.Watch.whole_clock.Goals.{After-drop-needs-inside-2}
 use Rattle.watch_machine.proofs.watch.Watch.whole_clock.Goals as goal
@@ -78,11 +75,8 @@ why_is c =
 begun_are : (c : After-drop-needs-inside-2) → c.begin.new.tracks ≡ begun_tracks (before c).forest c.timed-timed.result.clocks c.reason-why.result c.in_ok-tracks.tracks.items
 begun_are c = c.in_ok-needs.ensures.tracks ∙ ap (begun_tracks c.self.inside.forest c.timed-timed.result.clocks c.reason-why.result) c.deref_mut.ensures.value
 
-sees : (c : After-drop-needs-inside-2) → Sees c.begin.new.view (before c).forest c.begin.new.tracks c.timed-timed.result.clocks c.in_ok-needs.needs
-sees c = c.in_ok-needs.ensures.needs
-
 has : (c : After-drop-needs-inside-2) → HasNeeds (before c).forest.entries c.begin.new.tracks c.timed-timed.result.clocks c.in_ok-needs.needs
-has c = has_needs c.begin.new.view (before c).forest c.begin.new.tracks c.timed-timed.result.clocks c.in_ok-needs.needs (sees c)
+has c = c.in_ok-needs.ensures.needs.needs
 
 -- the step 4
 read_begun : (c : After-drop-needs-inside-2) → c.deref_mut-2.result.now ≡ c.begin.new.tracks
@@ -145,10 +139,10 @@ sends c =
 -- the step 6
 waits :
     (c : After-drop-needs-inside-2) →
-    c.wait-until.result ≡ wait_by (before c).forest c.timed-timed.result.clocks c.presence_after-presence.result (sent_of c) (λ i. (load_at c.in_ok-needs.needs i).need)
+    c.wait-until.result ≡ wait_by (before c).forest c.timed-timed.result.clocks c.presence_after-presence.result (sent_of c) (need_at c.in_ok-needs.needs)
 waits c =
     c.wait-until.ensures
-    ∙ ap (λ xs. wait_by c.self.inside.forest c.timed-timed.result.clocks c.presence_after-presence.result xs (λ i. (load_at c.in_ok-needs.needs i).need))
+    ∙ ap (λ xs. wait_by c.self.inside.forest c.timed-timed.result.clocks c.presence_after-presence.result xs (need_at c.in_ok-needs.needs))
     (c.deref-9.ensures.value
     ∙ thrice c.in_ok-tracks.tracks c.deref_mut.result.now c.begin.new.tracks c.deref_mut.ensures.value c.begin.auto.tracks c.press.new.tracks (pressed_count c) c.send_all.new.tracks (sent_count c)
     ∙ sends c)
@@ -193,7 +187,7 @@ returns-clause-step c =
     let why = c.reason-why.result in
     subst (λ (s : WatchState). StepClock s wall elapsed (said c) c.note_begun.new.self) (before_is c)
     (clock_step (before c) c.note_begun.new.self wall elapsed t.clocks t.stepped t.jumped c.in_ok-tracks.tracks.items c.presence_after-presence.result why c.begin.new.tracks
-    round c.in_ok-requests.field-0.requests.items c.wait-until.result (λ i. (load_at c.in_ok-needs.needs i).need) (record c.none.result { began = why; round = round })
+    round c.in_ok-requests.field-0.requests.items c.wait-until.result (need_at c.in_ok-needs.needs) (record c.none.result { began = why; round = round })
     (clocks_are c) (stepped_is c) (jumped_is c) (tracks_are c) (presence_is c) (why_is c) (begun_are c) (has c) (rounds c) (goes c) (waits c)
     (ap (λ (n : Notes). record n { began = why; round = round }) c.none.ensures) (leaves c))
 
@@ -254,7 +248,7 @@ invariant_of-self-2 c =
     (c.deref_mut-3.ensures.value ∙ twice v c.deref_mut.result.now c.begin.new.tracks c.deref_mut.ensures.value c.begin.auto.tracks c.press.new.tracks still ∙ presses) in
     let pressed = pressed_tracks g k round c.begin.new.tracks in
     let had : HasNeeds g.entries (each (sent_in k.at requests) pressed) k needs =
-    needs_after g k round requests (λ i. (load_at needs i).need) c.begin.new.tracks (has_needs c.begin.new.view g c.begin.new.tracks k needs c.in_ok-needs.ensures.needs) in
+    needs_after g k round requests (need_at needs) c.begin.new.tracks c.in_ok-needs.ensures.needs.needs in
     let has : HasNeeds g.entries c.deref-11.result.now k needs = subst (λ xs. HasNeeds g.entries xs k needs) (sym (c.deref-11.ensures.value ∙ written ∙ sends)) had in
     let qs = c.in_ok-requests.field-0.line.items in
     let reads : c.deref-5.result.now ≡ pressed =

@@ -1,0 +1,249 @@
+-- LastTries: an entry at its top has its last try just where the grant before the last one led it further; and it is asked for that, and for nothing
+-- else. For the law of the last try.
+use Rattle.std.proofs.Common.{◌≡◌, ◌∙◌, ℕ, ◌+◌, ◌-◌, ◌/◌, ◌<◌, ◌≤◌, Bool, true, false, not, ◌&&◌, ◌||◌, ◌==◌, List, [], ◌∷◌, Option, Some, None, length, refl, sym, ap, subst, arith, inl, inr}
+use Rattle.std.proofs.lemmas.Bool.{and_from, and_parts, cases_Bool, cond-false, cond-true, eqb-true}
+use Rattle.std.proofs.lemmas.List.{length-map}
+use Rattle.std.specs.List.{list_any}
+use Rattle.keep_tree.specs.Forest.{Forest, end_of, entry_at}
+use Rattle.keep_tree.specs.Renewal.{capped}
+use Rattle.keep_tree.specs.declared.entry.Entry.{Entry}
+use Rattle.watch_machine.specs.declared.clocks.Clocks.{Clocks}
+use Rattle.watch_machine.specs.declared.event.Event.{Event}
+use Rattle.watch_machine.specs.declared.event.Event.TheVariants.{Clock, Looked, Renewed, Need, Begin, Known}
+use Rattle.watch_machine.specs.declared.event.Reply.TheVariants.{Told, Refused, Busy, Lost}
+use Rattle.watch_machine.specs.declared.lanes.Out.{Out}
+use Rattle.watch_machine.specs.declared.track.End.{End}
+use Rattle.watch_machine.specs.declared.track.Track.{Track}
+use Rattle.watch_machine.specs.Answers.{back_track}
+use Rattle.watch_machine.specs.Beginning.{is_pressed}
+use Rattle.watch_machine.specs.Clocks.{sec}
+use Rattle.watch_machine.specs.History.{History, Turn, Turned, after_all}
+use Rattle.watch_machine.specs.Margins.{lead}
+use Rattle.watch_machine.specs.Outlook.{time_of}
+use Rattle.watch_machine.specs.Renewed.{granted_from}
+use Rattle.watch_machine.specs.Round.{IsRound, asked_by_round, entry_planned, is_hoped, plan_view, planned_by, step_in_plan}
+use Rattle.watch_machine.specs.State.{WatchState, fresh_track, has_last_try, keeps_last_try, opened, second, track_at, track_in}
+use Rattle.watch_machine.specs.Step.{readied}
+use Rattle.watch_machine.specs.Wanted.{is_wanted, need_of, seen_entry, wanted_need}
+use Rattle.watch_machine.proofs.Cases.{if_both, not_both}
+use Rattle.watch_laws.specs.Absence.{is_event_taken}
+use Rattle.watch_laws.specs.Clocks.{IsClock}
+use Rattle.watch_laws.specs.Margins.{IsTimeBefore, asked_before, own_before}
+use Rattle.watch_laws.specs.Needs.{IsEndToBeLed}
+use Rattle.watch_laws.specs.Presses.{HasPressed}
+use Rattle.watch_laws.specs.Time.{is_come, is_named_in_round, round_of}
+use Rattle.watch_laws.specs.Tops.{IsNeededBeyond, LastTryLaw, first_topped_after, is_first_topped, is_first_topped_from, is_grant_of, is_granted_at, topped_after}
+use Rattle.watch_laws.proofs.Believed.{written_at, written_count}
+use Rattle.watch_laws.proofs.GrantedFrom.{made, turn_holds}
+use Rattle.watch_laws.proofs.Grounds.{first_turns, last_turns}
+use Rattle.watch_laws.proofs.Needing.{needed, tries_last}
+use Rattle.watch_laws.proofs.Once.{renewable_of}
+use Rattle.watch_laws.proofs.Opener.{mid_bears}
+use Rattle.watch_laws.proofs.Presses.{clock_of, presses_so}
+use Rattle.watch_laws.proofs.Timing.{timed_so}
+use Rattle.watch_laws.proofs.Topping.{Tops, first_track, turn_count, turn_lower}
+
+-- what the grants so far say of the track: whether the last one left it at its top, and whether that was the first
+record Tried (before first : Bool) (x : Track) : Type 0 where
+  led : x.top ≡ true → before ≡ true
+  try : x.last_try ≡ (not before || (x.top && first))
+
+begun_try : (before first top last : Bool) → (top ≡ true → before ≡ true) → last ≡ (not before || (top && first)) → (not top && last) ≡ (not before || (false && first))
+begun_try false first true last led is = absurd (let bad : false ≡ true = led refl in cc)
+begun_try false first false last led is = is
+begun_try true first true last led is = refl
+begun_try true first false last led is = is
+
+-- what is no grant leaves it so
+tops_tried : (before first : Bool) (y x : Track) → Tops y x → Tried before first x → Tried before first y
+tops_tried before first y x (inl same) h = record {
+  led = λ top. h.led (sym same.0 ∙ top);
+  try = same.1 ∙ h.try ∙ ap (λ t. not before || (t && first)) (sym same.0);
+}
+tops_tried before first y x (inr gone) h = record {
+  led = λ top. absurd (not_both top gone.0);
+  try = gone.1 ∙ begun_try before first x.top x.last_try h.led h.try ∙ ap (λ t. not before || (t && first)) (sym gone.0);
+}
+
+-- and a grant
+grant_try :
+    (before first top top' last last' : Bool) → (top ≡ true → before ≡ true) → last ≡ (not before || (top && first)) → last' ≡ (not top' || (not top && last)) →
+    last' ≡ (not top' || (top' && (top' && not before)))
+grant_try before first top false last last' led is is' = is'
+grant_try true first true true last last' led is is' = is'
+grant_try false first true true last last' led is is' = absurd (let bad : false ≡ true = led refl in cc)
+grant_try true first false true last last' led is is' = is' ∙ is
+grant_try false first false true last last' led is is' = is' ∙ is
+
+granted_tried : (before first : Bool) (y x : Track) → y.last_try ≡ (not y.top || keeps_last_try x) → Tried before first x → Tried y.top (y.top && not before) y
+granted_tried before first y x is h = record { led = λ top. top; try = grant_try before first x.top y.top x.last_try y.last_try h.led h.try is }
+
+-- the last try that a grant leaves
+made_try : (old : WatchState) (i seconds : ℕ) (renewable : Bool) (q : Out) → (made old i seconds renewable q).last_try ≡ (not (made old i seconds renewable q).top || keeps_last_try (track_at old i))
+unfolding granted_from
+made_try old i seconds renewable q = refl
+
+back_try : (x y : Track) → y.last_try ≡ (not y.top || keeps_last_try x) → (back_track y).last_try ≡ (not (back_track y).top || keeps_last_try x)
+unfolding back_track
+back_try x y h = h
+
+-- the words of a turn that grants
+record Grants (i : ℕ) (event : Event) : Type 0 where
+  seconds : ℕ
+  renewable : Bool
+  date : Option ℕ
+  is : event ≡ Renewed i (Told seconds renewable date)
+
+grants : (i : ℕ) (event : Event) → is_grant_of i event ≡ true → Grants i event
+grants i (Clock wall elapsed) h = absurd cc
+grants i (Looked j reply terms) h = absurd cc
+grants i (Renewed j (Told seconds renewable date)) h =
+    record { seconds = seconds; renewable = renewable; date = date; is = ap (λ k. Renewed k (Told seconds renewable date)) (eqb-true j i (and_parts (j == i) true h).0) }
+grants i (Renewed j (Refused status date)) h = absurd (let bad = (and_parts (j == i) false h).1 in cc)
+grants i (Renewed j Busy) h = absurd (let bad = (and_parts (j == i) false h).1 in cc)
+grants i (Renewed j Lost) h = absurd (let bad = (and_parts (j == i) false h).1 in cc)
+grants i (Need j until) h = absurd cc
+grants i Begin h = absurd cc
+grants i (Known j end renewable) h = absurd cc
+
+turn_tried :
+    (old : WatchState) (turn : Turned) (i : ℕ) (before first : Bool) → Turn old turn.event turn.result turn.state → i < length old.tracks → Tried before first (track_at old i) →
+    Tried (topped_after i before turn) (first_topped_after i before first turn) (track_at turn.state i)
+turn_tried old turn i before first h within tried =
+    let new = turn.state in
+    let x = track_at old i in
+    let y = track_at new i in
+    let granted = is_granted_at i turn in
+    elim (cases_Bool granted) as (λ _. Tried (topped_after i before turn) (first_topped_after i before first turn) y) [
+      | inl yes' ↦
+          let both = and_parts (is_event_taken turn.result) (is_grant_of i turn.event) yes' in
+          let g = grants i turn.event both.1 in
+          let is =
+          (turn_holds (λ q z. z.last_try ≡ (not z.top || keeps_last_try x)) (λ q z k. back_try x z k) old new turn.event turn.result i g.seconds g.renewable g.date h within g.is both.0
+          (λ q. made_try old i g.seconds g.renewable q)).1.1 in
+          subst (λ b. Tried b (first_topped_after i before first turn) y) (sym (cond-true granted y.top before yes'))
+          (subst (λ b. Tried y.top b y) (sym (cond-true granted (y.top && not before) first yes')) (granted_tried before first y x is tried))
+      | inr no' ↦
+          subst (λ b. Tried b (first_topped_after i before first turn) y) (sym (cond-false granted y.top before no'))
+          (subst (λ b. Tried before b y) (sym (cond-false granted (y.top && not before) first no'))
+          (tops_tried before first y x (turn_lower old new turn.event turn.result i h no').1 tried))
+    ]
+
+ran :
+    (turns : List Turned) (old : WatchState) (i : ℕ) (before first : Bool) → History old turns → i < length old.tracks → Tried before first (track_at old i) →
+    (b : Bool) × Tried b (is_first_topped_from i before first turns) (track_at (after_all old turns) i)
+ran [] old i before first h within tried = (before, tried)
+ran (turn ∷ turns) old i before first h within tried =
+    let here = turn_tried old turn i before first h.0 within tried in
+    let count = turn_count old turn.state turn.event turn.result h.0 in
+    ran turns turn.state i (topped_after i before turn) (first_topped_after i before first turn) h.1 (omega (arith, count, within)) here
+
+fresh_tried : (g : Forest) (width i : ℕ) → i < length g.entries → Tried false false (track_at (opened g width) i)
+fresh_tried g width i within = subst (Tried false false) (sym (first_track g.entries i within)) (record { led = λ top. absurd cc; try = refl })
+
+-- a clock grants nothing
+clock_none : (i : ℕ) (turn : Turned) (wall elapsed : ℕ) → IsClock wall elapsed turn → is_granted_at i turn ≡ false
+clock_none i turn wall elapsed clock =
+    ap (λ e. is_event_taken turn.result && is_grant_of i e) clock.0 ∙ none (is_event_taken turn.result) where
+      none : (b : Bool) → b && false ≡ false
+      none true = refl
+      none false = refl
+
+-- at a clock an entry that is at its top after it has its last try just where the last grant before it was the first there
+by_first : (before first top last : Bool) → (top ≡ true → before ≡ true) → last ≡ (not before || (top && first)) → top ≡ true → last ≡ first
+by_first true first true last led is top = is
+by_first false first true last led is top = absurd (let bad : false ≡ true = led refl in cc)
+by_first before first false last led is top = absurd cc
+
+module _ (g : Forest) (width : ℕ) (before : List Turned) (turn : Turned) (wall elapsed i : ℕ) (first : History (opened g width) before) (h : Turn (after_all (opened g width) before) turn.event turn.result turn.state) (within : i < length g.entries) (clock : IsClock wall elapsed turn) where
+  abbrev old : WatchState
+  old = after_all (opened g width) before
+
+  counts : i < length old.tracks
+  counts = ran_count before (opened g width) first (let count = length-map g.entries fresh_track in omega (arith, count, within)) where
+    ran_count : (turns : List Turned) (s : WatchState) → History s turns → i < length s.tracks → i < length (after_all s turns).tracks
+    ran_count [] s run low = low
+    ran_count (t ∷ turns) s run low = let count = turn_count s t.state t.event t.result run.0 in ran_count turns t.state run.1 (omega (arith, count, low))
+
+  last_is : (track_at turn.state i).top ≡ true → (track_at turn.state i).last_try ≡ is_first_topped i before
+  last_is topped =
+      let first' = is_first_topped i before in
+      let start = length-map g.entries fresh_track in
+      let so = ran before (opened g width) i false false first (omega (arith, start, within)) (fresh_tried g width i within) in
+      let none = clock_none i turn wall elapsed clock in
+      let y = track_at turn.state i in
+      let tried = tops_tried so.0 first' y (track_at old i) (turn_lower old turn.state turn.event turn.result i h none).1 so.1 in
+      by_first so.0 first' y.top y.last_try tried.led tried.try topped
+
+-- a last try is asked for
+asked_so :
+    (old : WatchState) (turn : Turned) (wall elapsed i end j until : ℕ) → History old (turn ∷ []) → IsClock wall elapsed turn → i < length old.tracks → (track_at old i).out ≡ false →
+    is_pressed (track_at old i) ≡ false → has_last_try (track_at turn.state i) ≡ true → IsNeededBeyond turn.state i end j until → end - own_before turn.state i / 2 ≤ second turn.state → HasPressed old turn.state i
+asked_so old turn wall elapsed i end j until h clock within free loose tries n time =
+    let s = turn.state in
+    let wanted = needed s i j until (record {
+      ends = subst (λ (e : End). IsEndToBeLed until (track_at s i).renewable e) (sym n.ends) (n.renewable, n.beyond);
+      may = inr tries;
+      over = n.over;
+      needed = n.needed;
+      ahead = n.ahead;
+    }) in
+    let long : asked_before s i ≡ own_before s i / 2 = cond-true (has_last_try (track_at s i)) (own_before s i / 2) (own_before s i) tries in
+    let at : time_of s i ≡ end - asked_before s i = subst (λ (e : End). IsTimeBefore (asked_before s i) e (time_of s i)) n.ends (timed_so.time s i) in
+    let come = (timed_so.come s i).1 (omega (arith, at, long, time)) in
+    presses_so.come old turn wall elapsed i h clock within free loose wanted come
+
+-- a round names nobody at its top
+planned_top : (r t : Bool) → t ≡ true → r && not t ≡ false
+planned_top true true h = refl
+planned_top true false h = absurd cc
+planned_top false t h = refl
+
+topped_planned : (g : Forest) (xs : List Track) (c : Clocks) (j : ℕ) → (track_in xs j).top ≡ true → (entry_planned g xs c j).renewable ≡ false
+unfolding entry_planned planned_by
+topped_planned g xs c j topped =
+    let e = entry_at g.entries j in
+    let x = track_in xs j in
+    let y = seen_entry g.entries xs c j in
+    if_both (λ (z : Entry). z.renewable ≡ false) (is_hoped g.margin e x (need_of g.entries xs c j)) (record y { end = capped y.ceiling (sec c.at + lead e.step x.grant); renewable = false })
+    (record y { renewable = x.renewable && not x.top; step = step_in_plan g.margin e x y.step }) refl (planned_top x.renewable x.top topped)
+
+names_untopped : (g : Forest) (xs : List Track) (c : Clocks) (round : Option (List ℕ)) (j : ℕ) → IsRound g xs c round → (track_in xs j).top ≡ true → is_named_in_round round j ≡ false
+names_untopped g xs c None j h topped = refl
+names_untopped g xs c (Some asked) j h topped =
+    elim (cases_Bool (list_any (λ k. k == j) asked)) as (λ _. list_any (λ k. k == j) asked ≡ false) [
+      | inl named ↦
+          let es = plan_view g xs c in
+          let there = renewable_of es g.margin (sec c.at) (end_of es) (sec c.at) h.1.0 j (sym (ap (list_any (λ k. k == j)) h.1.1.1) ∙ named) in
+          let count = written_count (entry_planned g xs c) (length g.entries) in
+          let low = there.0 in
+          absurd (not_both there.1 (ap (λ (e : Entry). e.renewable) (written_at (entry_planned g xs c) (length g.entries) j (omega (arith, low, count))) ∙ topped_planned g xs c j topped))
+      | inr none ↦ none
+    ]
+
+unnamed : (old : WatchState) (turn : Turned) (wall elapsed i : ℕ) → Turn old turn.event turn.result turn.state → IsClock wall elapsed turn → (track_at turn.state i).top ≡ true → is_named_in_round (round_of turn.result) i ≡ false
+unnamed old turn wall elapsed i h clock =
+    let r = readied old wall elapsed in
+    clock_of (λ n round. (track_at n i).top ≡ true → is_named_in_round round i ≡ false) old turn.state turn.event turn.result wall elapsed h clock.0 clock.1
+    (λ round requests real topped. names_untopped r.forest r.tracks r.clocks round i real (sym (ap (λ (x : Track). x.top) (mid_bears r (asked_by_round round) requests i)) ∙ topped))
+
+pub last_tries : LastTryLaw
+last_tries = record {
+  asked = λ g width before turn wall elapsed i end j until run within clock free loose topped first n time.
+      let old = after_all (opened g width) before in
+      let start = first_turns before (turn ∷ []) (opened g width) run in
+      let h = last_turns before (turn ∷ []) (opened g width) run in
+      let last = last_is g width before turn wall elapsed i start h.0 within clock topped in
+      asked_so old turn wall elapsed i end j until h clock (counts g width before turn wall elapsed i start h.0 within clock) free loose
+      (and_from (track_at turn.state i).top (track_at turn.state i).last_try topped (last ∙ first)) n time;
+  only = λ g width before turn wall elapsed i run within clock loose now topped.
+      let old = after_all (opened g width) before in
+      let start = first_turns before (turn ∷ []) (opened g width) run in
+      let h = last_turns before (turn ∷ []) (opened g width) run in
+      let s = turn.state in
+      let last = last_is g width before turn wall elapsed i start h.0 within clock topped in
+      elim (presses_so.only old turn wall elapsed i h clock loose now).1 as (λ _. (is_first_topped i before ≡ true) × ((is_wanted s i ≡ true) × (is_come s i ≡ true))) [
+        | inl come ↦ (sym last ∙ (and_parts (track_at s i).top (track_at s i).last_try (tries_last (track_at s i) (wanted_need s i) topped come.0)).1, come)
+        | inr named ↦ absurd (not_both named (unnamed old turn wall elapsed i h.0 clock topped))
+      ];
+}
