@@ -7,3 +7,4 @@ pub mod Handed
 pub mod EndLines
 pub mod Saying
 pub mod Running
+pub mod Equal
