@@ -50,7 +50,7 @@ class Entry:
 
     def row(self, above: Row | None, **real: Any) -> Row:
         """Its row at the broker; `real`: what is otherwise there."""
-        plain = {"end": ns(self.left), "parent": above, "ceiling": ns(ISSUED - BEGAN + self.max_ttl)}
+        plain: dict[str, Any] = {"end": ns(self.left), "parent": above, "ceiling": ns(ISSUED - BEGAN + self.max_ttl)}
         return Row(self.name, self.kind, self.secret, **{**plain, **real})
 
 

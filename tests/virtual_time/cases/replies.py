@@ -42,8 +42,10 @@ def each_status(program: Path) -> list[str]:
     """What each status of a reply to a renewal comes to, by 'HTTP status codes' of Vault's HTTP API, and a 200 that says nothing of what
     was asked."""
     found = []
-    wanted = {code: [("lost", "e0", code), ("away", code)] for code in LOST} | {code: [("refused", "e0", code)] for code in REFUSED}
-    for code, said in {**wanted, "429": [("lost", "e0", "429")]}.items():
+    wanted: dict[str, list[tuple[str, ...]]] = {code: [("lost", "e0", code), ("away", code)] for code in LOST}
+    wanted |= {code: [("refused", "e0", code)] for code in REFUSED}
+    wanted["429"] = [("lost", "e0", "429")]
+    for code, said in wanted.items():
         told = first_trouble(program, lambda request: framed(b'{"errors":[]}', code.encode() + b" x"), True)
         found += [] if told[:len(said)] == said else [f"{code}: {told}"]
     for body in EMPTY:
