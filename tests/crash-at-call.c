@@ -8,6 +8,8 @@
    Disk calls: what makes, writes, cuts, syncs, moves or removes a file or a folder; standard streams are none. Where CRASH_LOG
    names a file, each is written there, a word and a line feed.
 
+   Where CRASH_FOLDER is a number and a path, each sync of the folder at that path fails with that error.
+
    Where CRASH_WHILE names a file, disk calls go, as long as it is there, as the word in it says:
      full       what needs room fails (ENOSPC): to make or write a file, to make a folder
      read-only  each fails (EROFS), and so it does to open a file for writing
@@ -298,9 +300,23 @@ int ftruncate64(int fd, off_t size) {
     return ftruncate(fd, size);
 }
 
+/* 1 where it is the folder that CRASH_FOLDER names, whose sync fails. */
+static int is_lost_folder(int fd) {
+    struct stat seen, named;
+    char *path;
+    const char *text = getenv("CRASH_FOLDER");
+    if (!text) return 0;
+    int error = strtol(text, &path, 10);
+    if (fstat(fd, &seen) < 0 || stat(path + 1, &named) < 0) return 0;
+    if (seen.st_dev != named.st_dev || seen.st_ino != named.st_ino) return 0;
+    errno = error;
+    return 1;
+}
+
 int fsync(int fd) {
     int turn = is_turn("sync");
     if (stops(turn, 0)) return -1;
+    if (is_lost_folder(fd)) return -1;
     int done = syscall(SYS_fsync, fd);
     if (done == 0) synced(fd);
     ended(turn);
