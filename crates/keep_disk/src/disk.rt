@@ -117,7 +117,7 @@ pub trait Disk {
         ensures cause { TellsFailure (state self.old) (state self.new) result };
 
     /// Holds the lock of the file at `path`, which is made where there is none, until the process ends; `None` where another
-    /// process holds it.
+    /// process holds it. One that this process holds already is given again.
     fn lock(&mut self, path: &str) -> Result<Option<Lock>, DiskFault>
         ensures held { IfOk result (λ lock. IfSome lock (λ l. l ≡ path.now)) }
         ensures taken { IsTrue is_known → IfOk result (λ lock. is_none lock ≡ (state self.old).taken path.now) }

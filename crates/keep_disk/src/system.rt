@@ -29,8 +29,8 @@ pub struct SystemDisk<'a, R> {
     fault: Why,
     // A file was moved to this path, and its folder is not synced yet.
     moved: Option<String>,
-    // Held until the process ends.
-    locks: Vec<File>,
+    // Those that are locked until the process ends, with their paths.
+    locks: Vec<(String, File)>,
 }
 
 impl<'a, R: Files<File = File> + AllocGlobal> SystemDisk<'a, R> {
@@ -140,6 +140,10 @@ impl<'a, R: Files<File = File> + AllocGlobal> SystemDisk<'a, R> {
         ensures faults { self.new.faults ≡ self.old.faults }
         ensures fault { self.new.fault ≡ self.old.fault }
     {
+        // (The system would refuse it to this process, too.)
+        if self.is_held(path) {
+            return Ok(true);
+        }
         let file = OpenOptions::new()
             .write(true)
             .create(true)
@@ -150,8 +154,14 @@ impl<'a, R: Files<File = File> + AllocGlobal> SystemDisk<'a, R> {
             Err(TryLockError::WouldBlock) => return Ok(false),
             Err(TryLockError::Error(error)) => return Err(error),
         }
-        self.locks.push(file)?;
+        let path = String::from_str(self.rt.alloc(), path)?;
+        self.locks.push((path, file))?;
         Ok(true)
+    }
+
+    // Whether this process holds the lock of the file at that path.
+    fn is_held(&self, path: &str) -> bool {
+        self.locks.iter().any(|held| held.0.as_str() == path)
     }
 }
 

@@ -93,6 +93,7 @@ pub(crate) fn begin<'a, R: Files<File = File> + AllocGlobal, L: Lanes + Drop>(
     let paths = folder.paths(alloc)?;
     let mut disk = SystemDisk::new(rt);
     make_folder(alloc, &mut disk, folder.name)?;
+    hold(alloc, &mut disk, paths, folder.name)?;
     let found = find(alloc, &mut disk, paths, folder.name, demands)?;
     let opened = open(alloc, disk, paths, folder.name, &found)?;
     let files = SystemSecrets::new(rt);
@@ -107,6 +108,15 @@ fn make_folder<R: Files<File = File> + AllocGlobal>(
 ) -> Result<(), NotBegun> {
     match disk.make_folder(folder) {
         Ok(_) => Ok(()),
+        Err(fault) => Err(unused_by(alloc, folder, fault)?),
+    }
+}
+
+/// Holds the folder until the process ends, before any file in it is read: what another agent writes there would be missed.
+fn hold<D: Disk>(alloc: Global, disk: &mut D, paths: &Paths, folder: &str) -> Result<(), NotBegun> {
+    match disk.lock(paths.lock()) {
+        Ok(Some(_)) => Ok(()),
+        Ok(None) => Err(NotBegun::Held),
         Err(fault) => Err(unused_by(alloc, folder, fault)?),
     }
 }

@@ -27,7 +27,7 @@ enum Call {
     Sync(&'static str, Option<DiskFault>),
     // What stands in the file.
     Has(&'static [u8]),
-    // The file is locked, and not for another process.
+    // The file is locked, also where this process asks again, and not for another one.
     Lock,
 }
 
@@ -73,7 +73,7 @@ fn is_stamped(
 }
 
 fn is_locked(rt: &HostRuntime, disk: &mut SystemDisk<'_, HostRuntime>) -> Result<bool, Fail> {
-    let is_locked = disk.lock(PLAIN)?.is_some();
+    let is_locked = disk.lock(PLAIN)?.is_some() && disk.lock(PLAIN)?.is_some();
     // Another process has another disk.
     Ok(is_locked && SystemDisk::new(rt).lock(PLAIN)?.is_none())
 }
