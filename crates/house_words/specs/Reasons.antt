@@ -49,6 +49,7 @@ take_words margin name w takes.NoRecord = codes "no journal can write it"
 take_words margin name w (takes.Refused fault) = change_fault_text margin name w fault
 take_words margin name w (takes.Unwritten fault) = written_words fault
 take_words margin name w (takes.Disk fault) = codes "it cannot be kept: " ++ disk_words fault
+take_words margin name w (takes.Unsure fault) = codes "it may hold after a restart or not: " ++ disk_words fault
 take_words margin name w takes.OutOfMemory = codes "out of memory"
 
 -- why FILE is not read

@@ -36,6 +36,11 @@ pub fn take_words(
         TakeFault::Refused(fault) => why(alloc, margin, name, what, fault),
         TakeFault::Unwritten(fault) => written_words(alloc, b"", fault),
         TakeFault::Disk(fault) => after(alloc, b"it cannot be kept: ", disk_words(fault)),
+        TakeFault::Unsure(fault) => after(
+            alloc,
+            b"it may hold after a restart or not: ",
+            disk_words(fault),
+        ),
         TakeFault::OutOfMemory => Text::of(alloc, b"out of memory"),
     }
 }

@@ -24,6 +24,15 @@ put_leaves path lines line size s t u first counts rest second =
     (leaves_then path s t (λ f. StandsFor f lines) (IsBeforeOrAfter lines line) (IsBeforeOrAfter lines line) (at_end s t (CrashLeaves path (λ f. StandsFor f lines) s) first counts)
     (λ d left. inl (rest_has path lines size t rest d left)) (λ f has. has))
 
+-- or is not, and nothing of it counts
+pub unput_leaves : (path : List ℕ) (lines : List (List ℕ)) (size : ℕ) (s t u : DiskState) → LeavesOnly s t (CrashLeaves path (λ f. StandsFor f lines) s)
+    → ((m : ℕ) (c : Image) → m ≤ t.moment → t.may_leave c → t.left_since m c) → JournalIsAtRest path lines size t
+    → LeavesOnly t u (CrashLeaves path (λ f. StandsFor f lines) t) → LeavesOnly s u (CrashLeaves path (λ f. StandsFor f lines) s)
+unput_leaves path lines size s t u first counts rest second =
+    and_then s t u (CrashLeaves path (λ f. StandsFor f lines) s) (CrashLeaves path (λ f. StandsFor f lines) t) first second
+    (leaves_then path s t (λ f. StandsFor f lines) (λ f. StandsFor f lines) (λ f. StandsFor f lines) (at_end s t (CrashLeaves path (λ f. StandsFor f lines) s) first counts)
+    (rest_has path lines size t rest) (λ f has. has))
+
 -- a file is put in its place, which is not the journal's
 module _ (path target : List ℕ) (file : File) (apart : bytes_eq path target ≡ false) (s t : DiskState) where
   pub in_place : t.seen ≡ with_file_at target file s.seen → DiskKeeps target t → FileIsThere target file t

@@ -1,5 +1,5 @@
 -- What each step of a journal leaves on its disk.
-use Rattle.std.proofs.Common.{◌≡◌, ◌⊎◌, inl, inr, ⊎_elim, ℕ, ◌≤◌, List, [], ◌∷◌, ◌++◌, Option, None, Some, Bool, true, false, if◌then◌else◌, Result, Ok, Err, OnOk, refl, sym, ◌∙◌, ap, subst}
+use Rattle.std.proofs.Common.{◌≡◌, ◌⊎◌, inl, inr, ⊎_elim, ℕ, ◌≤◌, List, [], ◌∷◌, ◌++◌, Option, None, Some, Bool, true, false, if◌then◌else◌, Result, Ok, Err, OnOk, OnErr, refl, sym, ◌∙◌, ap, subst}
 use Rattle.std.proofs.lemmas.Bool.{true≢false, cases_Bool}
 use Rattle.std.proofs.lemmas.Slice.Eq.{bytes_eq-Decides}
 use Rattle.std.specs.Str.{bytes_eq}
@@ -160,3 +160,8 @@ on_both (Err e) f a b = tt
 pub on_any : {X E A : Type 0} (r : Result X E) → A → OnOk r A
 on_any (Ok x) a = a
 on_any (Err e) a = tt
+
+-- and one of a call that was refused
+pub on_refused : {X E A : Type 0} (r : Result X E) → A → OnErr r A
+on_refused (Ok x) a = tt
+on_refused (Err e) a = a

@@ -15,6 +15,11 @@ module _ (path : List ℕ) (lines : List (List ℕ)) (size : ℕ) (s : DiskState
   behind_leaves n c after = torn_leaves path s (Torn (size + 1) n) (IsBeforeOrAfter lines line) rest.mode (at_rest lines) rest.seen rest.is_kept
       (λ f torn. inl (torn_behind lines size rest.are_lines rest.size_is n f torn)) c after
 
+  -- of what is written behind a closed gate nothing counts
+  pub closed_leaves : (n : ℕ) (c : Image) → IsAfter (Tears path (Torn (size + 1) n)) s c → CrashLeaves path (λ f. StandsFor f lines) s c
+  closed_leaves n c after = torn_leaves path s (Torn (size + 1) n) (λ f. StandsFor f lines) rest.mode (at_rest lines) rest.seen rest.is_kept
+      (λ f torn. torn_behind lines size rest.are_lines rest.size_is n f torn) c after
+
   module _ (tail : List ℕ) (tail_is : tail ≡ line ++ 10 ∷ 45 ∷ []) (t : DiskState) (written : t.seen ≡ image_changed path (with_bytes (overwritten (size + 1) tail)) s.seen) where
     staged_seen : t.seen path ≡ Some (record { mode = rest.mode; bytes = staged lines line })
     staged_seen =

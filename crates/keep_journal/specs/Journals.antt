@@ -27,6 +27,10 @@ path_of_journal journal = journal.path.now
 abbrev pub lines_of_journal : Journal → List (List ℕ)
 lines_of_journal journal = journal.lines.items
 
+-- the disk may have the record that was put last, although it was refused
+abbrev pub may_have : Journal → Bool
+may_have journal = journal.may_be_open
+
 -- its file is at rest with its records
 abbrev pub JournalIsWhole : Journal → DiskState → Type 0
 JournalIsWhole journal s = JournalIsAtRest journal.path.now journal.lines.items journal.size s

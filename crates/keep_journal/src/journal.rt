@@ -1,8 +1,8 @@
-ghost use Rattle.std.specs.Prelude.{◌≡◌, ◌∷◌, [], ◌++◌, ◌≤◌, ◌<◌, ◌+◌, length, IsTrue, IfOk, OnOk, OnErr, List, ℕ, ◌^◌, Some};
+ghost use Rattle.std.specs.Prelude.{◌≡◌, ◌∷◌, [], ◌++◌, ◌≤◌, ◌<◌, ◌+◌, length, IsTrue, IfOk, OnOk, OnErr, List, ℕ, ◌^◌, Some, false, true};
 ghost use Rattle.keep_disk.specs.Image.{File};
 ghost use Rattle.keep_disk.specs.State.{DiskKeeps, Touches, LeavesOnly, TellsFailure};
 ghost use Rattle.keep_journal.specs.Records.{IsRecordLine, AreLines, StandsFor, IsBeforeOrAfter};
-ghost use Rattle.keep_journal.specs.Journals.{JournalIsAtRest, JournalIsWhole, JournalHolds, CrashLeaves, Untidy, KeepsOthers, bytes_of_file, path_of_journal, lines_of_journal};
+ghost use Rattle.keep_journal.specs.Journals.{JournalIsAtRest, JournalIsWhole, JournalHolds, CrashLeaves, Untidy, KeepsOthers, bytes_of_file, path_of_journal, lines_of_journal, may_have};
 
 use crate::records::{CLOSED, OPEN, read_records, tail_of, text_of};
 use keep_disk::{Disk, DiskFault, FILE_MODE, cut_synced, replace, write_synced};
@@ -26,6 +26,8 @@ pub struct Journal<'a> {
     pub(crate) size: usize,
     // No call has failed since its file was written.
     pub(crate) is_whole: bool,
+    // The gate of the record that was put last may be open on the disk.
+    pub(crate) may_be_open: bool,
 }
 
 impl<'a> Journal<'a> {
@@ -75,6 +77,7 @@ impl<'a> Journal<'a> {
             lines: Vec::new(alloc),
             size: 0,
             is_whole: false,
+            may_be_open: false,
         };
         journal.refresh(disk)?;
         Ok(journal)
@@ -105,6 +108,7 @@ impl<'a> Journal<'a> {
             lines: found.lines,
             size: found.size,
             is_whole: true,
+            may_be_open: false,
         };
         if found.is_at_rest {
             return Ok(journal);
@@ -120,8 +124,17 @@ impl<'a> Journal<'a> {
         &self.lines
     }
 
+    /// Whether the disk may have the record that was put last, also where it was refused.
+    pub fn may_have(&self) -> bool
+        ensures { result ≡ may_have self.now }
+    {
+        self.may_be_open
+    }
+
     /// Adds a record. At `Ok` it is acknowledged: from then on each crash leaves a file that has it. After a call that failed,
     /// the file is written anew first, since nobody knows what the disk keeps of the old one.
+    ///
+    /// A record that is refused is on the disk at most where [`Journal::may_have`] says so: the call failed that opens its gate.
     ///
     /// `TooLong`: the file would have more than 128 MiB.
     pub fn put<D: Disk>(&mut self, disk: &mut D, line: Text) -> Result<(), DiskFault>
@@ -136,9 +149,12 @@ impl<'a> Journal<'a> {
         // A crash at any moment leaves the records, with the new one or without; or the file as it might have been left before.
         ensures any_moment { IsTrue D.is_known → LeavesOnly (D.state disk.old) (D.state disk.new)
             (CrashLeaves (path_of_journal self.old) (IsBeforeOrAfter (lines_of_journal self.old) line) (D.state disk.old)) }
+        ensures gone { OnErr result (may_have self.new ≡ false → IsTrue D.is_known → LeavesOnly (D.state disk.old) (D.state disk.new)
+            (CrashLeaves (path_of_journal self.old) (λ file. StandsFor file (lines_of_journal self.old)) (D.state disk.old))) }
         ensures others { IsTrue D.is_known → KeepsOthers (path_of_journal self.old) (D.state disk.old) (D.state disk.new) }
         ensures cause { TellsFailure (D.state disk.old) (D.state disk.new) result }
     {
+        self.may_be_open = false;
         self.lines.reserve(1)?;
         self.write(disk, &line)?;
         // There is room for it.
@@ -154,11 +170,14 @@ impl<'a> Journal<'a> {
         requires held { JournalHolds D.is_known self.old (D.state disk.old) }
         ensures written { OnOk result (IsTrue D.is_known
             → JournalIsAtRest (path_of_journal self.old) (lines_of_journal self.old ++ line.now ∷ []) self.new.size (D.state disk.new)) }
+        ensures opened { OnOk result (may_have self.new ≡ true) }
         ensures lines { lines_of_journal self.new ≡ lines_of_journal self.old }
         ensures path { path_of_journal self.new ≡ path_of_journal self.old }
         ensures held { JournalHolds D.is_known self.new (D.state disk.new) }
         ensures any_moment { IsTrue D.is_known → LeavesOnly (D.state disk.old) (D.state disk.new)
             (CrashLeaves (path_of_journal self.old) (IsBeforeOrAfter (lines_of_journal self.old) line.now) (D.state disk.old)) }
+        ensures gone { OnErr result (may_have self.new ≡ false → IsTrue D.is_known → LeavesOnly (D.state disk.old) (D.state disk.new)
+            (CrashLeaves (path_of_journal self.old) (λ file. StandsFor file (lines_of_journal self.old)) (D.state disk.old))) }
         ensures others { IsTrue D.is_known → KeepsOthers (path_of_journal self.old) (D.state disk.old) (D.state disk.new) }
         ensures cause { TellsFailure (D.state disk.old) (D.state disk.new) result }
     {
@@ -175,19 +194,24 @@ impl<'a> Journal<'a> {
     }
 
     /// Writes a record after the closed gate, and opens the gate.
-    fn append<D: Disk>(&self, disk: &mut D, line: &Text, tail: &[u8]) -> Result<(), DiskFault>
+    fn append<D: Disk>(&mut self, disk: &mut D, line: &Text, tail: &[u8]) -> Result<(), DiskFault>
         requires line { IsRecordLine line.now }
         requires tail { tail.now ≡ line.now ++ 10 ∷ 45 ∷ [] }
-        requires room { self.now.size < 2 ^ 60 }
-        requires whole { IsTrue D.is_known → JournalIsWhole self.now (D.state disk.old) }
-        ensures acknowledged { OnOk result (IsTrue D.is_known → JournalIsAtRest (path_of_journal self.now) (lines_of_journal self.now ++ line.now ∷ [])
-            (self.now.size + (length line.now + 2)) (D.state disk.new)) }
+        requires room { self.old.size < 2 ^ 60 }
+        requires whole { IsTrue D.is_known → JournalIsWhole self.old (D.state disk.old) }
+        ensures acknowledged { OnOk result (IsTrue D.is_known → JournalIsAtRest (path_of_journal self.old) (lines_of_journal self.old ++ line.now ∷ [])
+            (self.old.size + (length line.now + 2)) (D.state disk.new)) }
+        ensures opened { OnOk result (may_have self.new ≡ true) }
+        ensures rest { self.new ≡ record self.old { may_be_open = self.new.may_be_open } }
         ensures any_moment { IsTrue D.is_known → LeavesOnly (D.state disk.old) (D.state disk.new)
-            (CrashLeaves (path_of_journal self.now) (IsBeforeOrAfter (lines_of_journal self.now) line.now) (D.state disk.old)) }
-        ensures touches { IsTrue D.is_known → Touches (path_of_journal self.now) (D.state disk.old) (D.state disk.new) }
+            (CrashLeaves (path_of_journal self.old) (IsBeforeOrAfter (lines_of_journal self.old) line.now) (D.state disk.old)) }
+        ensures gone { OnErr result (may_have self.new ≡ false → IsTrue D.is_known → LeavesOnly (D.state disk.old) (D.state disk.new)
+            (CrashLeaves (path_of_journal self.old) (λ file. StandsFor file (lines_of_journal self.old)) (D.state disk.old))) }
+        ensures touches { IsTrue D.is_known → Touches (path_of_journal self.old) (D.state disk.old) (D.state disk.new) }
         ensures cause { TellsFailure (D.state disk.old) (D.state disk.new) result }
     {
         write_synced(disk, self.path, self.size + 1, tail)?;
+        self.may_be_open = true;
         write_synced(disk, self.path, self.size, &[OPEN])
     }
 

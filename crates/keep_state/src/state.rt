@@ -53,7 +53,7 @@ impl<'a, D: Disk> State<'a, D> {
     ghost use Rattle.keep_served.specs.ForGood.{inventory_for_good};
     ghost use Rattle.keep_store.specs.Books.{HasSecrets, IsBookIf, IsFileFaultOf};
     ghost use Rattle.keep_store.specs.Compacted.{compacted_lines, is_worth};
-    ghost use Rattle.keep_store.specs.Entering.{IsWhyNot, line_for_change};
+    ghost use Rattle.keep_store.specs.Entering.{IsWhyNot, line_for_change, may_hold};
     ghost use Rattle.keep_store.specs.Records.{records_in};
     ghost use Rattle.keep_store.specs.Stores.{ChangeIsTaken, journal_of, lines_in, path_of_store};
     ghost use Rattle.keep_waiting.specs.Keepers.{InventoryIsGiven, waiting_in};
@@ -68,7 +68,7 @@ impl<'a, D: Disk> State<'a, D> {
     ///
     /// # Errors
     ///
-    /// The first in the order of [`TakeFault`]. All is as it was then, but that the disk may have the change where that has failed.
+    /// The first in the order of [`TakeFault`]. All is as it was then; but that the disk may have the change, where that is said.
     pub fn take(&mut self, now: Millis, name: Name, what: What) -> Result<bool, TakeFault>
         ensures taken { IfOk result (λ need. ChangeIsTaken (store_in self.old) name what need (store_in self.new)) }
         ensures waiting { IfOk result (λ need. waiting_in self.new.keeper ≡ (if need then waiting_in self.old.keeper else changed (waiting_in self.old.keeper) now)) }
@@ -82,6 +82,10 @@ impl<'a, D: Disk> State<'a, D> {
         // A crash at any moment leaves the journal with the change or without it.
         ensures any_moment { IsTrue D.is_known → LeavesOnly (D.state self.old.disk) (D.state self.new.disk)
             (CrashLeaves (path_of_store (store_in self.old)) (IsBeforeOrAfter (lines_in (store_in self.old)) (line_for_change (book_in self.old).file name what)) (D.state self.old.disk)) }
+
+        // And without it where it is refused, unless it is said that the disk may have it.
+        ensures gone { IfErr result (λ fault. may_hold fault ≡ false → IsTrue D.is_known → LeavesOnly (D.state self.old.disk) (D.state self.new.disk)
+            (CrashLeaves (path_of_store (store_in self.old)) (λ file. StandsFor file (lines_in (store_in self.old))) (D.state self.old.disk))) }
         ensures others { IsTrue D.is_known → KeepsOthers (path_of_store (store_in self.old)) (D.state self.old.disk) (D.state self.new.disk) }
     {
         self.keeper.take(&mut self.disk, now, name, what)

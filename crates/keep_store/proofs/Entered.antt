@@ -24,10 +24,10 @@ use Rattle.keep_disk.specs.declared.fault.DiskFault.TheVariants as disks
 use Rattle.keep_settle.specs.declared.fault.SettleFault.{SettleFault}
 use Rattle.keep_settle.specs.declared.fault.SettleFault.TheVariants as settles
 use Rattle.keep_store.specs.declared.fault.TakeFault.{TakeFault}
-use Rattle.keep_store.specs.declared.fault.TakeFault.TheVariants.{NoRecord, Refused, Unwritten, Disk}
+use Rattle.keep_store.specs.declared.fault.TakeFault.TheVariants.{NoRecord, Refused, Unwritten, Disk, Unsure}
 use Rattle.keep_store.specs.declared.fault.TakeFault.TheVariants as takes
 use Rattle.keep_store.specs.Books.{Book}
-use Rattle.keep_store.specs.Entering.{IsReadAs, IsWhyNot, line_for_change, record_for}
+use Rattle.keep_store.specs.Entering.{IsReadAs, IsWhyNot, line_for_change, may_hold, record_for}
 use Rattle.keep_store.specs.code.Entered.{IsRecorded, IsUnmade, IsUnrecorded}
 use Rattle.keep_store.specs.code.Faults.{change_in, unkept, unmade, unwritten}
 
@@ -112,6 +112,7 @@ unrecorded_why b name w NoRecord why = why
 unrecorded_why b name w (Refused fault) why = absurd why
 unrecorded_why b name w (Unwritten fault) why = absurd why
 unrecorded_why b name w (Disk fault) why = absurd why
+unrecorded_why b name w (Unsure fault) why = absurd why
 unrecorded_why b name w takes.OutOfMemory why = tt
 
 pub unmade_why : (b : Book) (name : List ℕ) (w : What) (c : Change) (fault : TakeFault) → IsReadAs b.file name w c → IsUnmade b c fault → IsWhyNot b name w fault
@@ -119,9 +120,17 @@ unmade_why b name w c NoRecord read why = absurd why
 unmade_why b name w c (Refused fault) read why = (c, (read, why))
 unmade_why b name w c (Unwritten fault) read why = (c, (read, why))
 unmade_why b name w c (Disk fault) read why = absurd why
+unmade_why b name w c (Unsure fault) read why = absurd why
 unmade_why b name w c takes.OutOfMemory read why = tt
 
 -- nor is what the disk has not kept
-pub unkept_why : (b : Book) (name : List ℕ) (w : What) (c : Change) (fault : DiskFault) → IsReadAs b.file name w c → change_refusal b.file.margin b.rows c.name c.what ≡ None → IsWhyNot b name w (unkept fault)
-unkept_why b name w c disks.OutOfMemory read is = tt
-unkept_why b name w c fault read is = (c, (read, is))
+pub unkept_why : (b : Book) (name : List ℕ) (w : What) (c : Change) (fault : DiskFault) (may : Bool) → IsReadAs b.file name w c → change_refusal b.file.margin b.rows c.name c.what ≡ None → IsWhyNot b name w (unkept fault may)
+unkept_why b name w c fault true read is = (c, (read, is))
+unkept_why b name w c disks.OutOfMemory false read is = tt
+unkept_why b name w c (disks.Failed why) false read is = (c, (read, is))
+unkept_why b name w c disks.TooLong false read is = (c, (read, is))
+
+-- the disk has nothing of it unless the journal says that it may
+pub surely : (fault : DiskFault) (may : Bool) → may_hold (unkept fault may) ≡ false → may ≡ false
+surely fault true is = is
+surely fault false is = refl

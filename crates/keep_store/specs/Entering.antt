@@ -1,6 +1,6 @@
 -- Entering: a change that is taken, the line that keeps it, and what it makes of a book.
 -- Source: this project's own.
-use Rattle.std.specs.Prelude.{◌≡◌, ℕ, List, Option, Some, None, Result, Ok}
+use Rattle.std.specs.Prelude.{◌≡◌, ℕ, Bool, true, false, List, Option, Some, None, Result, Ok}
 use Rattle.keep_change.specs.declared.change.Change.{Change}
 use Rattle.keep_change.specs.declared.change.Record.{Record}
 use Rattle.keep_change.specs.declared.change.Record.TheVariants.{Made}
@@ -11,7 +11,7 @@ use Rattle.keep_change.specs.Changes.{change_refusal, rows_changed}
 use Rattle.keep_change.specs.Records.{IsRecord, record_of, record_text}
 use Rattle.keep_change.specs.Said.{said}
 use Rattle.keep_store.specs.declared.fault.TakeFault.{TakeFault}
-use Rattle.keep_store.specs.declared.fault.TakeFault.TheVariants.{NoRecord, Refused, Unwritten, Disk, OutOfMemory}
+use Rattle.keep_store.specs.declared.fault.TakeFault.TheVariants.{NoRecord, Refused, Unwritten, Disk, Unsure, OutOfMemory}
 use Rattle.keep_store.specs.Books.{Book}
 
 -- a change of the entry of that name, beside what the file says of it
@@ -34,10 +34,16 @@ pub record IsChanged (old : Book) (name : List ℕ) (w : What) (c : Change) (new
   pub secrets : new.secrets ≡ old.secrets
 
 -- why a change is not taken: no journal can write it; it is refused by name; the file that says what there is then would be none,
--- as over 1 MiB; the disk failed; or memory was refused
+-- as over 1 MiB; the disk failed, and has it or not; or memory was refused
 abbrev pub IsWhyNot : Book → List ℕ → What → TakeFault → Type 0
 IsWhyNot b name w NoRecord = IsRecord (record_for b.file name w) → ⊥
 IsWhyNot b name w (Refused fault) = (c : Change) × (IsReadAs b.file name w c × (change_refusal b.file.margin b.rows c.name c.what ≡ Some fault))
 IsWhyNot b name w (Unwritten fault) = (c : Change) × (IsReadAs b.file name w c × (change_refusal b.file.margin b.rows c.name c.what ≡ None))
 IsWhyNot b name w (Disk fault) = (c : Change) × (IsReadAs b.file name w c × (change_refusal b.file.margin b.rows c.name c.what ≡ None))
+IsWhyNot b name w (Unsure fault) = (c : Change) × (IsReadAs b.file name w c × (change_refusal b.file.margin b.rows c.name c.what ≡ None))
 IsWhyNot b name w OutOfMemory = Unit {0}
+
+-- whether the disk may have a change that was not taken
+abbrev pub may_hold : TakeFault → Bool
+may_hold (Unsure fault) = true
+may_hold fault = false

@@ -40,9 +40,12 @@ pub enum TakeFault {
     /// After it the inventory could not be written as a file.
     #[error("{0}")]
     Unwritten(SettleFault),
-    /// It could not be written to the disk.
+    /// It could not be written to the disk, which does not have it.
     #[error("{0}")]
     Disk(DiskFault),
+    /// It could not be written to the disk, which may have it all the same.
+    #[error("{0}; it may hold or not")]
+    Unsure(DiskFault),
     /// Memory was refused.
     #[error("out of memory")]
     OutOfMemory,
@@ -155,10 +158,13 @@ pub(crate) fn unwritten(fault: SettleFault) -> TakeFault
     }
 }
 
-/// Why a change is not taken that a disk has not kept.
-pub(crate) fn unkept(fault: DiskFault) -> TakeFault
-    ensures { result ≡ unkept fault }
+/// Why a change is not taken that a disk has not kept, or may have kept.
+pub(crate) fn unkept(fault: DiskFault, may_have: bool) -> TakeFault
+    ensures { result ≡ unkept fault may_have }
 {
+    if may_have {
+        return TakeFault::Unsure(fault);
+    }
     match fault {
         DiskFault::OutOfMemory => TakeFault::OutOfMemory,
         fault => TakeFault::Disk(fault),

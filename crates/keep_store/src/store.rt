@@ -36,10 +36,10 @@ impl<'a> Store<'a> {
     ghost use Rattle.keep_disk.specs.State.{IsAfter, LeavesOnly, OutcomesFollow, TellsFailure};
     ghost use Rattle.keep_disk.specs.Torn.{MovesFile};
     ghost use Rattle.keep_journal.specs.Journals.{CrashLeaves, FileIsThere, JournalHolds, JournalIsWhole, KeepsOthers};
-    ghost use Rattle.keep_journal.specs.Records.{IsBeforeOrAfter};
+    ghost use Rattle.keep_journal.specs.Records.{IsBeforeOrAfter, StandsFor};
     ghost use Rattle.keep_served.specs.ForGood.{inventory_for_good};
     ghost use Rattle.keep_store.specs.Books.{HasSecrets, IsBookIf, IsFileFaultOf};
-    ghost use Rattle.keep_store.specs.Entering.{IsWhyNot, line_for_change};
+    ghost use Rattle.keep_store.specs.Entering.{IsWhyNot, line_for_change, may_hold};
     ghost use Rattle.keep_store.specs.Records.{records_in};
     ghost use Rattle.keep_store.specs.Stores.{ChangeIsTaken, IsReplayed, book_of, journal_of, lines_in, path_of_store};
 
@@ -69,7 +69,7 @@ impl<'a> Store<'a> {
     ///
     /// # Errors
     ///
-    /// The first in the order of [`TakeFault`]. All is as it was then, but that the disk may have the change where that has failed.
+    /// The first in the order of [`TakeFault`]. All is as it was then; but that the disk may have the change, where that is said.
     pub fn take<D: Disk>(&mut self, disk: &mut D, name: Name, what: What) -> Result<bool, TakeFault>
         requires held { JournalHolds D.is_known (journal_of self.old) (D.state disk.old) }
         requires replayed { IsReplayed self.old }
@@ -85,6 +85,10 @@ impl<'a> Store<'a> {
         // A crash at any moment leaves the journal with the change or without it.
         ensures any_moment { IsTrue D.is_known → LeavesOnly (D.state disk.old) (D.state disk.new)
             (CrashLeaves (path_of_store self.old) (IsBeforeOrAfter (lines_in self.old) (line_for_change (book_of self.old).file name what)) (D.state disk.old)) }
+
+        // And without it where it is refused, unless it is said that the disk may have it.
+        ensures gone { IfErr result (λ fault. may_hold fault ≡ false → IsTrue D.is_known → LeavesOnly (D.state disk.old) (D.state disk.new)
+            (CrashLeaves (path_of_store self.old) (λ file. StandsFor file (lines_in self.old)) (D.state disk.old))) }
         ensures others { IsTrue D.is_known → KeepsOthers (path_of_store self.old) (D.state disk.old) (D.state disk.new) }
     {
         let entered = self.book.enter(self.alloc, name, what)?;
@@ -99,7 +103,7 @@ impl<'a> Store<'a> {
                 self.book.turn(rows, text);
                 Ok(is_need)
             }
-            Err(fault) => Err(unkept(fault)),
+            Err(fault) => Err(unkept(fault, self.journal.may_have())),
         }
     }
 

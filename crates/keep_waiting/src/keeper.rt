@@ -25,7 +25,7 @@ impl<'a> Keeper<'a> {
     ghost use Rattle.keep_journal.specs.Records.{IsBeforeOrAfter, StandsFor};
     ghost use Rattle.keep_store.specs.Books.{HasSecrets, IsBookIf, IsFileFaultOf};
     ghost use Rattle.keep_store.specs.Compacted.{compacted_lines, is_worth};
-    ghost use Rattle.keep_store.specs.Entering.{IsWhyNot, line_for_change};
+    ghost use Rattle.keep_store.specs.Entering.{IsWhyNot, line_for_change, may_hold};
     ghost use Rattle.keep_store.specs.Moved.{HasMarkAtMost, IsMovedIf, IsWhyUnsettled, LeftByMove};
     ghost use Rattle.keep_waiting.specs.Keepers.{InventoryIsGiven, store_of, waiting_in};
     ghost use Rattle.keep_store.specs.Records.{records_in};
@@ -72,6 +72,8 @@ impl<'a> Keeper<'a> {
         ensures replayed { IsReplayed (store_of self.new) }
         ensures any_moment { IsTrue D.is_known → LeavesOnly (D.state disk.old) (D.state disk.new)
             (CrashLeaves (path_of_store (store_of self.old)) (IsBeforeOrAfter (lines_in (store_of self.old)) (line_for_change (book_of (store_of self.old)).file name what)) (D.state disk.old)) }
+        ensures gone { IfErr result (λ fault. may_hold fault ≡ false → IsTrue D.is_known → LeavesOnly (D.state disk.old) (D.state disk.new)
+            (CrashLeaves (path_of_store (store_of self.old)) (λ file. StandsFor file (lines_in (store_of self.old))) (D.state disk.old))) }
         ensures others { IsTrue D.is_known → KeepsOthers (path_of_store (store_of self.old)) (D.state disk.old) (D.state disk.new) }
     {
         let is_need = self.store.take(disk, name, what)?;

@@ -1,6 +1,6 @@
 -- Words for the faults of the crates below, as this one tells them. No public clause cites them.
 -- Source: this project's own.
-use Rattle.std.specs.Prelude.{Option, Some, None}
+use Rattle.std.specs.Prelude.{Bool, true, false, Option, Some, None}
 use Rattle.keep_change.specs.declared.change.Change.{Change}
 use Rattle.keep_change.specs.declared.change.Record.{Record}
 use Rattle.keep_change.specs.declared.change.Record.TheVariants.{Made, Settling}
@@ -28,9 +28,10 @@ abbrev pub unwritten : SettleFault → TakeFault
 unwritten settles.OutOfMemory = takes.OutOfMemory
 unwritten fault = takes.Unwritten fault
 
-abbrev pub unkept : DiskFault → TakeFault
-unkept disks.OutOfMemory = takes.OutOfMemory
-unkept fault = takes.Disk fault
+abbrev pub unkept : DiskFault → Bool → TakeFault
+unkept fault true = takes.Unsure fault
+unkept disks.OutOfMemory false = takes.OutOfMemory
+unkept fault false = takes.Disk fault
 
 abbrev pub faulty : InvFault → FileFault
 faulty inventories.OutOfMemory = files.OutOfMemory

@@ -14,6 +14,7 @@ refused margin name w v takes.NoRecord h = refl
 refused margin name w v (takes.Refused fault) h = why_shows_none margin name w v fault h
 refused margin name w v (takes.Unwritten fault) h = refl
 refused margin name w v (takes.Disk fault) h = refl
+refused margin name w v (takes.Unsure fault) h = refl
 refused margin name w v takes.OutOfMemory h = refl
 
 pub returns-clause-refused : goal.returns-clause-refused

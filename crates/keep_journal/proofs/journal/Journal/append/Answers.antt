@@ -2,10 +2,10 @@ use Rattle.std.proofs.Common.{◌+◌, length}
 use Rattle.keep_disk.specs.Torn.{Torn, Tears}
 use Rattle.keep_disk.specs.State.{IsAfter}
 use Rattle.keep_disk.proofs.Moments.{weaker, and_then}
-use Rattle.keep_journal.specs.Records.{IsBeforeOrAfter}
+use Rattle.keep_journal.specs.Records.{IsBeforeOrAfter, StandsFor}
 use Rattle.keep_journal.specs.Journals.{CrashLeaves, path_of_journal, lines_of_journal}
-use Rattle.keep_journal.proofs.Steps.{on_both}
-use Rattle.keep_journal.proofs.Writing.{behind_leaves, appended, gate_leaves}
+use Rattle.keep_journal.proofs.Steps.{on_both, on_refused}
+use Rattle.keep_journal.proofs.Writing.{behind_leaves, closed_leaves, appended, gate_leaves}
 use Rattle.keep_journal.proofs.journal.Journal.append.Goals as goal
 
 pub returns-in_err-write_synced-clause-any_moment : goal.returns-in_err-write_synced-clause-any_moment
@@ -17,6 +17,15 @@ returns-in_err-write_synced-clause-any_moment g c known =
     weaker (s c.args.disk.now) (s c.write_synced.new.disk) (IsAfter (Tears (path_of_journal j) (Torn (j.size + 1) n)) (s c.args.disk.now))
     (CrashLeaves (path_of_journal j) (IsBeforeOrAfter (lines_of_journal j) line) (s c.args.disk.now)) (c.write_synced.ensures.any_moment known)
     (behind_leaves (path_of_journal j) (lines_of_journal j) j.size (s c.args.disk.now) (c.requires.whole known) line c.requires.line n)
+
+pub returns-in_err-write_synced-clause-gone : goal.returns-in_err-write_synced-clause-gone
+returns-in_err-write_synced-clause-gone g c = on_refused c.from_residual.result (λ closed known.
+    let s = g.D.Disk.state in
+    let j = c.args.self.now in
+    let n = length c.args.tail.now in
+    weaker (s c.args.disk.now) (s c.write_synced.new.disk) (IsAfter (Tears (path_of_journal j) (Torn (j.size + 1) n)) (s c.args.disk.now))
+    (CrashLeaves (path_of_journal j) (λ f. StandsFor f (lines_of_journal j)) (s c.args.disk.now)) (c.write_synced.ensures.any_moment known)
+    (closed_leaves (path_of_journal j) (lines_of_journal j) j.size (s c.args.disk.now) (c.requires.whole known) c.args.line.now c.requires.line n))
 
 pub returns-clause-acknowledged : goal.returns-clause-acknowledged
 returns-clause-acknowledged g c =

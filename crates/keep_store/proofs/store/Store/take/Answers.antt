@@ -1,8 +1,9 @@
 -- The rows go on being those of a replay; and the disk is the last that can refuse.
-use Rattle.std.proofs.Common.{sym, subst}
+use Rattle.std.proofs.Common.{◌≡◌, false, sym, subst, ◌∙◌}
 use Rattle.keep_store.specs.declared.store.Store.{Store}
-use Rattle.keep_store.specs.Entering.{IsWhyNot}
-use Rattle.keep_store.proofs.Entered.{made_unrefused, unkept_why}
+use Rattle.keep_store.specs.declared.fault.TakeFault.{TakeFault}
+use Rattle.keep_store.specs.Entering.{IsWhyNot, may_hold}
+use Rattle.keep_store.proofs.Entered.{made_unrefused, surely, unkept_why}
 use Rattle.keep_store.proofs.Taken.{goes_on_replaying}
 use Rattle.keep_store.proofs.store.Store.take.Goals as goal
 
@@ -16,5 +17,9 @@ returns-in-Err-clause-refused g c =
     let b = c.args.self.now.book in
     let is = c.in_ok-entered.ensures.entered in
     subst (IsWhyNot b c.args.name c.args.what) (sym c.unkept.ensures)
-    (unkept_why b c.args.name c.args.what is.change c.in-Err.fault is.recorded.read
+    (unkept_why b c.args.name c.args.what is.change c.in-Err.fault c.may_have.result is.recorded.read
     (made_unrefused b.file.margin b.rows c.in_ok-entered.entered.rows is.change.name is.change.what is.made.made))
+
+pub returns-in-Err-clause-gone : goal.returns-in-Err-clause-gone
+returns-in-Err-clause-gone g c sure known =
+    c.in-Err.ensures.gone (sym c.may_have.ensures ∙ surely c.in-Err.fault c.may_have.result (subst (λ (f : TakeFault). may_hold f ≡ false) c.unkept.ensures sure)) known
