@@ -37,8 +37,8 @@ def blob(described: dict[str, Any]) -> str:
 
 def may_be_apart() -> bool:
     """Whether a process may get namespaces of its own here."""
-    return shutil.which("unshare") is not None and subprocess.run(
-        ["unshare", "--pid", "--fork", "--net", "--mount-proc", "chroot", "/", "true"], capture_output=True, timeout=SECONDS).returncode == 0
+    words = ["unshare", "--pid", "--fork", "--net", "--mount-proc", "chroot", "/", "true"]
+    return shutil.which("unshare") is not None and subprocess.run(words, capture_output=True, timeout=SECONDS).returncode == 0
 
 
 APART = unittest.skipUnless(may_be_apart(), "only root may make a namespace")

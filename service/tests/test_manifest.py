@@ -96,8 +96,8 @@ class Manifest(unittest.TestCase):
     @unittest.skipIf(shutil.which("kubectl") is None, "kubectl is not installed")
     def test_kubectl_knows_each_field_and_its_kind(self) -> None:
         """It reads the pod's controller into types of its own, and writes what it knows."""
-        written = subprocess.run(["kubectl", "set", "image", "--local", "-f", "-", "app=other:1", "-o", "json"], capture_output=True, text=True,
-                                 input=json.dumps(self.deployment), timeout=60 * SLOWER)
+        words = ["kubectl", "set", "image", "--local", "-f", "-", "app=other:1", "-o", "json"]
+        written = subprocess.run(words, input=json.dumps(self.deployment), capture_output=True, text=True, timeout=60 * SLOWER)
         self.assertEqual(written.returncode, 0, written.stderr)
         self.containers["app"]["image"] = "other:1"
         self.assertEqual(list(lost(self.deployment, json.loads(written.stdout))), [])
@@ -110,7 +110,8 @@ class Manifest(unittest.TestCase):
     def test_its_names_agree(self) -> None:
         spec = self.deployment["spec"]
         self.assertEqual(spec["selector"]["matchLabels"], spec["template"]["metadata"]["labels"])
-        self.assertEqual({mount["name"] for container in self.containers.values() for mount in container.get("volumeMounts", [])}, set(self.volumes))
+        mounted = {mount["name"] for container in self.containers.values() for mount in container.get("volumeMounts", [])}
+        self.assertEqual(mounted, set(self.volumes))
         self.assertEqual(self.volumes["state"]["persistentVolumeClaim"]["claimName"], self.claim["metadata"]["name"])
         for kind, name in (("secret generic", self.volumes["inventory"]["secret"]["secretName"]),
                            ("configmap", self.volumes["vault-proxy-files"]["configMap"]["name"])):
@@ -119,7 +120,8 @@ class Manifest(unittest.TestCase):
     def test_only_the_agent_s_group_reads_the_secret(self) -> None:
         self.assertEqual(self.volumes["inventory"]["secret"]["defaultMode"], 0o440)
         self.assertEqual(self.agent["securityContext"]["runAsGroup"], self.pod["securityContext"]["fsGroup"])
-        self.assertEqual([name for name, container in self.containers.items() if "inventory" in str(container.get("volumeMounts"))], ["leasekeep"])
+        readers = [name for name, container in self.containers.items() if "inventory" in str(container.get("volumeMounts"))]
+        self.assertEqual(readers, ["leasekeep"])
 
     def test_the_agent_is_the_image(self) -> None:
         context = self.agent["securityContext"]

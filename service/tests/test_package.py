@@ -130,8 +130,8 @@ class Package(unittest.TestCase):
 
     def test_their_fields(self) -> None:
         for name, deb in self.debs.items():
-            shown = subprocess.run(["dpkg-deb", "-f", str(deb), "Package", "Version", "Depends"], check=True, capture_output=True, text=True,
-                                   timeout=60 * SLOWER).stdout
+            shown = subprocess.run(["dpkg-deb", "-f", str(deb), "Package", "Version", "Depends"], check=True, capture_output=True,
+                                   text=True, timeout=60 * SLOWER).stdout
             self.assertIn(f"Package: {name}\nVersion: {VERSION}\n", shown)
             self.assertIn("libc6", shown)
             self.assertEqual("python3 (>= 3.11)" in shown, name == TOOLS)
