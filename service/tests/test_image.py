@@ -10,6 +10,7 @@ import signal
 import subprocess
 import tarfile
 import tempfile
+import threading
 import time
 import unittest
 from pathlib import Path
@@ -20,7 +21,7 @@ from trial.programs import SLOWER
 from .test_package import TOP, programs
 
 DOCKERFILE = (TOP / "packaging" / "container" / "Dockerfile").read_text()
-SECONDS = 30 * SLOWER
+SECONDS = 60 * SLOWER
 INVENTORY = 'margin = 60\n[[token]]\nname = "app"\nsecret = "hvs.app"\nincrement = "1h"\nmax_ttl = "1d"\nneed = "always"\n'
 
 
@@ -109,6 +110,9 @@ class Image(unittest.TestCase):
                                  stdout=subprocess.PIPE, stderr=subprocess.STDOUT, text=True)
         self.addCleanup(outer.wait)
         self.addCleanup(outer.kill)
+        at_last = threading.Timer(SECONDS, outer.kill)
+        at_last.start()
+        self.addCleanup(at_last.cancel)
         assert outer.stdout is not None
         self.addCleanup(outer.stdout.close)
         end = time.monotonic() + SECONDS

@@ -68,7 +68,7 @@ class Package(unittest.TestCase):
         built = programs(cls.folder / "programs", "leasekeep", "minibroker")
         said = subprocess.run([str(TOP / "scripts" / "package"), "--built", str(built), str(cls.folder / "out")], check=True,
                               capture_output=True, text=True, timeout=600 * SLOWER,
-                              env={**os.environ, "DPKG_DEB_COMPRESSOR_TYPE": "none"}).stdout
+                              env={**os.environ, "DPKG_DEB_COMPRESSOR_TYPE": "gzip"}).stdout
         *debs, tar = (Path(line) for line in said.splitlines())
         cls.debs, cls.tar = dict(zip((AGENT, TOOLS), debs, strict=True)), tar
         cls.roots, cls.root = {name: cls.folder / name for name in cls.debs}, cls.folder / "root"
