@@ -1,10 +1,8 @@
-"""The Debian package, the archive and the image: what is in them, and that they work in a system without the clone."""
+"""The Debian packages and the archive: what is in them, and that they work in a system without the clone."""
 
 from __future__ import annotations
 
 import gzip
-import importlib.util
-import json
 import os
 import re
 import shutil
@@ -21,10 +19,10 @@ TOP = Path(__file__).resolve().parents[2]
 VERSION = (TOP / "VERSION").read_text().strip()
 
 
-def programs(folder: Path) -> Path:
-    """A folder with both built programs; SkipTest where one is not built."""
+def programs(folder: Path, *names: str) -> Path:
+    """A folder with these built programs; SkipTest where one is not built."""
     folder.mkdir()
-    for name in ("leasekeep", "minibroker"):
+    for name in names:
         found = find_program(name)
         if found is None:
             raise unittest.SkipTest(f"no built {name}")
@@ -32,41 +30,75 @@ def programs(folder: Path) -> Path:
     return folder
 
 
+AGENT, TOOLS = "leasekeep", "leasekeep-tools"
+FILES = {
+    AGENT: (
+        ("usr/bin/leasekeep", 0o755), ("lib/systemd/system/leasekeep.service", 0o644), ("lib/systemd/system/leasekeep@.service", 0o644),
+        ("lib/systemd/system/leasekeep-proxy.service", 0o644), ("etc/vault-proxy/haproxy.cfg", 0o644),
+        ("usr/lib/sysusers.d/leasekeep.conf", 0o644), ("usr/lib/tmpfiles.d/leasekeep.conf", 0o644),
+        ("usr/share/man/man1/leasekeep.1.gz", 0o644), ("usr/share/man/man5/leasekeep-inventory.5.gz", 0o644),
+        ("usr/share/bash-completion/completions/leasekeep", 0o644), ("usr/share/zsh/vendor-completions/_leasekeep", 0o644),
+        ("usr/share/doc/leasekeep/examples/nginx.conf", 0o644), ("usr/share/doc/leasekeep/examples/sidecar.yaml", 0o644),
+        ("usr/share/doc/leasekeep/examples/web.toml", 0o644), ("usr/share/doc/leasekeep/docs/running.md", 0o644),
+        ("usr/share/doc/leasekeep/docs/commands/watch.md", 0o644), ("usr/share/doc/leasekeep/README.md", 0o644),
+    ),
+    TOOLS: (
+        ("usr/bin/minibroker", 0o755), ("usr/lib/leasekeep/leasekeepd", 0o755), ("usr/lib/leasekeep/leasekeep-draw", 0o755),
+        ("lib/systemd/system/leasekeepd.service", 0o644), ("usr/share/man/man1/leasekeepd.1.gz", 0o644),
+        ("usr/share/bash-completion/completions/leasekeepd", 0o644), ("usr/share/fish/vendor_completions.d/minibroker.fish", 0o644),
+    ),
+}
+"""Some files of each package."""
+
+
 @unittest.skipIf(shutil.which("dpkg-deb") is None or shutil.which("strip") is None, "dpkg-deb or strip is not installed")
 class Package(unittest.TestCase):
     folder: Path
-    deb: Path
+    debs: dict[str, Path]
     tar: Path
+    roots: dict[str, Path]
+    """Each package, unpacked by itself."""
     root: Path
+    """Both in one."""
 
     @classmethod
     def setUpClass(cls) -> None:
         cls.folder = Path(tempfile.mkdtemp())
         cls.addClassCleanup(shutil.rmtree, cls.folder, True)
-        built = programs(cls.folder / "programs")
+        built = programs(cls.folder / "programs", "leasekeep", "minibroker")
         said = subprocess.run([str(TOP / "scripts" / "package"), "--built", str(built), str(cls.folder / "out")], check=True,
-                              capture_output=True, text=True, timeout=600 * SLOWER).stdout
-        cls.deb, cls.tar = (Path(line) for line in said.splitlines())
-        cls.root = cls.folder / "root"
-        subprocess.run(["dpkg-deb", "-R", str(cls.deb), str(cls.root)], check=True, timeout=60 * SLOWER)
+                              capture_output=True, text=True, timeout=600 * SLOWER,
+                              env={**os.environ, "DPKG_DEB_COMPRESSOR_TYPE": "gzip"}).stdout
+        *debs, tar = (Path(line) for line in said.splitlines())
+        cls.debs, cls.tar = dict(zip((AGENT, TOOLS), debs, strict=True)), tar
+        cls.roots, cls.root = {name: cls.folder / name for name in cls.debs}, cls.folder / "root"
+        for name, deb in cls.debs.items():
+            subprocess.run(["dpkg-deb", "-R", str(deb), str(cls.roots[name])], check=True, timeout=60 * SLOWER)
+            subprocess.run(["dpkg-deb", "-x", str(deb), str(cls.root)], check=True, timeout=60 * SLOWER)
 
-    def test_what_is_in_it(self) -> None:
-        for file, mode in (
-            ("usr/bin/leasekeep", 0o755), ("usr/bin/minibroker", 0o755), ("usr/lib/leasekeep/leasekeepd", 0o755),
-            ("usr/lib/leasekeep/leasekeep-draw", 0o755), ("lib/systemd/system/leasekeep.service", 0o644),
-            ("lib/systemd/system/leasekeep@.service", 0o644), ("lib/systemd/system/leasekeepd.service", 0o644),
-            ("lib/systemd/system/leasekeep-proxy.service", 0o644),
-            ("usr/lib/sysusers.d/leasekeep.conf", 0o644), ("usr/lib/tmpfiles.d/leasekeep.conf", 0o644),
-            ("usr/share/man/man1/leasekeepd.1.gz", 0o644), ("usr/share/man/man1/leasekeep.1.gz", 0o644),
-            ("usr/share/bash-completion/completions/leasekeepd", 0o644), ("usr/share/zsh/vendor-completions/_leasekeep", 0o644),
-            ("usr/share/fish/vendor_completions.d/minibroker.fish", 0o644), ("usr/share/doc/leasekeep/examples/haproxy.cfg", 0o644),
-            ("usr/share/doc/leasekeep/examples/web.toml", 0o644), ("DEBIAN/postinst", 0o755), ("DEBIAN/prerm", 0o755),
-            ("usr/share/man/man5/leasekeep-inventory.5.gz", 0o644), ("usr/share/doc/leasekeep/docs/running.md", 0o644),
-            ("usr/share/doc/leasekeep/docs/commands/watch.md", 0o644), ("usr/share/doc/leasekeep/README.md", 0o644),
-        ):
-            with self.subTest(file=file):
-                self.assertEqual(stat.S_IMODE((self.root / file).stat().st_mode), mode)
-        self.assertFalse((self.root / "usr/local").exists())
+    def test_what_is_in_each(self) -> None:
+        for name, files in FILES.items():
+            for file, mode in (*files, ("DEBIAN/postinst", 0o755), ("DEBIAN/prerm", 0o755), ("DEBIAN/postrm", 0o755)):
+                with self.subTest(package=name, file=file):
+                    self.assertEqual(stat.S_IMODE((self.roots[name] / file).stat().st_mode), mode)
+            self.assertFalse((self.roots[name] / "usr/local").exists())
+
+    def test_no_file_is_in_both(self) -> None:
+        files = [{path.relative_to(root) for path in root.rglob("*") if not path.is_dir() and "DEBIAN" not in path.parts}
+                 for root in self.roots.values()]
+        self.assertEqual(files[0] & files[1], set())
+
+    def test_the_agent_needs_no_python(self) -> None:
+        root = self.roots[AGENT]
+        self.assertEqual([str(path) for path in root.rglob("*.py")], [])
+        for path in (*(root / "usr/bin").iterdir(), *(root / "DEBIAN").iterdir(), *(root / "lib/systemd/system").iterdir()):
+            self.assertNotIn(b"python", path.read_bytes() if path.name != "leasekeep" else b"", path)
+        self.assertEqual((root / "usr/bin/leasekeep").read_bytes()[:4], b"\x7fELF")
+
+    def test_what_an_administrator_changes_is_kept(self) -> None:
+        self.assertEqual((self.roots[AGENT] / "DEBIAN/conffiles").read_text(), "/etc/vault-proxy/haproxy.cfg\n")
+        self.assertEqual((self.root / "etc/vault-proxy/haproxy.cfg").read_bytes(), (TOP / "service/proxy/haproxy.cfg").read_bytes())
+        self.assertNotRegex((self.roots[AGENT] / "DEBIAN/md5sums").read_text(), "(?m)  etc/")
 
     def test_nothing_in_it_speaks_of_usr_local_or_of_the_clone(self) -> None:
         for unit, program in (("leasekeep", "leasekeep"), ("leasekeep@", "leasekeep"), ("leasekeepd", "leasekeepd")):
@@ -96,12 +128,14 @@ class Package(unittest.TestCase):
         self.assertRegex(news, rf"(?m)^## {re.escape(VERSION)}, of commit [0-9a-f]+ of \d{{4}}-\d\d-\d\d$")
         self.assertNotIn("Unreleased", news)
 
-    def test_its_fields(self) -> None:
-        shown = subprocess.run(["dpkg-deb", "-f", str(self.deb), "Package", "Version", "Depends"], check=True, capture_output=True,
-                               text=True, timeout=60 * SLOWER).stdout
-        self.assertIn(f"Package: leasekeep\nVersion: {VERSION}\n", shown)
-        self.assertIn("python3 (>= 3.11)", shown)
-        self.assertIn("libc6", shown)
+    def test_their_fields(self) -> None:
+        for name, deb in self.debs.items():
+            shown = subprocess.run(["dpkg-deb", "-f", str(deb), "Package", "Version", "Depends"], check=True, capture_output=True,
+                                   text=True, timeout=60 * SLOWER).stdout
+            self.assertIn(f"Package: {name}\nVersion: {VERSION}\n", shown)
+            self.assertIn("libc6", shown)
+            self.assertEqual("python3 (>= 3.11)" in shown, name == TOOLS)
+            self.assertEqual(f"leasekeep (= {VERSION})" in shown, name == TOOLS)
 
     def test_the_programs_run_from_where_they_are_unpacked(self) -> None:
         environment = {"PATH": os.environ["PATH"], "HOME": str(self.folder)}
@@ -125,62 +159,15 @@ class Package(unittest.TestCase):
 
     @unittest.skipIf(shutil.which("lintian") is None, "lintian is not installed")
     def test_lintian_has_no_error(self) -> None:
-        said = subprocess.run(["lintian", "--fail-on", "error", "--allow-root", str(self.deb)], capture_output=True, text=True, timeout=300)
-        self.assertEqual(said.returncode, 0, said.stdout + said.stderr)
+        for deb in self.debs.values():
+            said = subprocess.run(["lintian", "--fail-on", "error", "--allow-root", str(deb)], capture_output=True, text=True, timeout=300)
+            self.assertEqual(said.returncode, 0, said.stdout + said.stderr)
 
-    def test_its_scripts_are_taken_by_the_shell(self) -> None:
-        for script in ("postinst", "prerm", "postrm"):
-            checked = subprocess.run(["sh", "-n", str(self.root / "DEBIAN" / script)], capture_output=True, text=True, timeout=60 * SLOWER)
-            self.assertEqual((checked.returncode, checked.stderr), (0, ""))
-
-
-MANIFEST = (TOP / "packaging" / "kubernetes" / "sidecar.yaml").read_text()
-
-
-@unittest.skipIf(shutil.which("ldd") is None or shutil.which("strip") is None, "ldd or strip is not installed")
-class Image(unittest.TestCase):
-    """What a container's image is made of."""
-
-    root: Path
-    dockerfile: str
-
-    @classmethod
-    def setUpClass(cls) -> None:
-        folder = Path(tempfile.mkdtemp())
-        cls.addClassCleanup(shutil.rmtree, folder, True)
-        folder.chmod(0o755)
-        subprocess.run([str(TOP / "scripts" / "image"), "--built", str(programs(folder / "programs")), str(folder / "out")], check=True,
-                       capture_output=True, timeout=60 * SLOWER)
-        cls.root = folder / "out" / "root"
-        cls.dockerfile = (folder / "out" / "Dockerfile").read_text()
-
-    @unittest.skipIf(os.getuid() != 0, "chroot is root's")
-    def test_the_programs_run_in_it_as_its_user(self) -> None:
-        for program in ("leasekeep", "minibroker"):
-            ran = subprocess.run(["chroot", "--userspec=65532:65532", str(self.root), f"/usr/bin/{program}", "--version"],
-                                 capture_output=True, text=True, timeout=60 * SLOWER)
-            self.assertEqual((ran.returncode, ran.stdout), (0, f"{program} {VERSION}\n"), ran.stderr)
-
-    def test_it_has_each_folder_that_is_mounted(self) -> None:
-        volumes = json.loads(re.findall(r"(?m)^VOLUME (.*)$", self.dockerfile)[0])
-        for volume in volumes:
-            self.assertTrue((self.root / volume[1:]).is_dir(), volume)
-            self.assertIn(f"mountPath: {volume}\n", MANIFEST)
-
-    def test_it_serves_with_the_words_of_the_manifest(self) -> None:
-        words = json.loads(re.findall(r"(?m)^CMD (.*)$", self.dockerfile)[0])
-        arguments = MANIFEST.split("          args:\n")[1].split("          ports:\n")[0]
-        self.assertEqual(re.findall(r"(?m)^ +- (.*)$", arguments), words)
-
-    @unittest.skipIf(importlib.util.find_spec("yaml") is None, "python3-yaml is not installed")
-    def test_the_manifest_is_well_formed(self) -> None:
-        yaml = importlib.import_module("yaml")
-        deployment, claim = yaml.safe_load_all(MANIFEST)
-        pod = deployment["spec"]["template"]["spec"]
-        volumes = {volume["name"]: volume for volume in pod["volumes"]}
-        self.assertEqual(volumes["inventory"]["secret"]["defaultMode"], 0o440)
-        self.assertEqual(volumes["state"]["persistentVolumeClaim"]["claimName"], claim["metadata"]["name"])
-        self.assertEqual({mount["name"] for container in pod["containers"] for mount in container.get("volumeMounts", [])}, set(volumes))
+    def test_their_scripts_are_taken_by_the_shell(self) -> None:
+        for root in self.roots.values():
+            for script in ("postinst", "prerm", "postrm"):
+                checked = subprocess.run(["sh", "-n", str(root / "DEBIAN" / script)], capture_output=True, text=True, timeout=60 * SLOWER)
+                self.assertEqual((checked.returncode, checked.stderr), (0, ""))
 
 
 if __name__ == "__main__":

@@ -44,7 +44,8 @@ class Units(unittest.TestCase):
     def test_what_lives_depend_on_stands_in_each(self) -> None:
         for unit in UNITS:
             lines = unit.read_text().splitlines()
-            own = ("User=leasekeep-proxy",) if unit == PROXY else ("User=leasekeep", "IPAddressDeny=any", "IPAddressAllow=localhost")
+            own = ("User=leasekeep-proxy", "PrivateUsers=yes") if unit == PROXY else (
+                "User=leasekeep", "IPAddressDeny=any", "IPAddressAllow=localhost", "After=network-online.target leasekeep-proxy.service")
             for line in ("Restart=always", "RestartSec=1", "StartLimitIntervalSec=0", "NoNewPrivileges=yes", "ProtectSystem=strict",
                          "Group=leasekeep", "SocketBindDeny=any", "MemoryDenyWriteExecute=yes", "SystemCallErrorNumber=EPERM", *own):
                 with self.subTest(unit=unit.name, line=line):
@@ -77,9 +78,9 @@ class Units(unittest.TestCase):
 
     @unittest.skipIf(shutil.which("systemd-analyze") is None, "systemd-analyze is not installed")
     def test_how_exposed_each_is(self) -> None:
-        """At most 1.5 of 10, as systemd counts."""
+        """At most 1.2 of 10, as systemd counts."""
         for unit in UNITS:
-            said = subprocess.run(["systemd-analyze", "security", "--offline=true", "--threshold=15", str(unit)], capture_output=True,
+            said = subprocess.run(["systemd-analyze", "security", "--offline=true", "--threshold=12", str(unit)], capture_output=True,
                                   text=True, timeout=60 * SLOWER)
             self.assertEqual(said.returncode, 0, said.stdout[-300:])
 
