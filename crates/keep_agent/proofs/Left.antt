@@ -72,7 +72,7 @@ settled_word : (margin at : ℕ) (x : Track) → Word (settled_track margin at x
 unfolding settled_track
 settled_word margin at x = refl
 
-lookup_word : (at : ℕ) (x : Track) → Word (owing_lookup at x) x
+pub lookup_word : (at : ℕ) (x : Track) → Word (owing_lookup at x) x
 lookup_word at x = if_both (λ y. Word y x) x.out (record x { owes = true }) (record x { owes = true; attempt = Some (sooner_try (soon at x) x.attempt) }) refl refl
 
 owing_word : (at : ℕ) (first called : Bool) (x : Track) → Word (owing at first called x) x

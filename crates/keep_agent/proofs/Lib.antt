@@ -7,3 +7,5 @@ pub mod Handed
 pub mod EndLines
 pub mod Saying
 pub mod Running
+pub mod WasOf
+pub mod Onward

@@ -3,6 +3,7 @@ pub mod code
 pub mod Agent
 pub mod Turns
 pub mod Rebuilding
+pub mod Changed
 pub mod Laws
 pub mod Shorts
 pub mod Status

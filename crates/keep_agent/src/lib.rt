@@ -7,6 +7,7 @@
 #![tactic(auto)]
 
 mod agent;
+mod changed;
 mod ends;
 mod laws;
 mod rebuilding;

@@ -41,7 +41,7 @@ impl Agent {
     }
 
     /// What is said of each entry of another inventory from then on. The only error is out of memory.
-    fn carried(&self, alloc: Global, inventory: &Inventory) -> Result<Vec<Standing>, AllocError>
+    pub(crate) fn carried(&self, alloc: Global, inventory: &Inventory) -> Result<Vec<Standing>, AllocError>
         ensures value { IfOk result (λ standings. standings.items ≡ map (carried_standing self.now inventory.now) (range_with_len 0 (length inventory.now.forest.entries))) }
         ensures bounds { IfOk result (λ standings. All IsStanding standings.items) }
     {
@@ -67,7 +67,7 @@ impl Agent {
 
     /// Where an entry of another inventory is served now.
     #[tactic(auto, unfolding(crate::specs::Rebuilding::former))]
-    fn former(&self, inventory: &Inventory, index: u32) -> Option<u32>
+    pub(crate) fn former(&self, inventory: &Inventory, index: u32) -> Option<u32>
         requires { index < length inventory.now.forest.entries }
         ensures value { result ≡ former self.now.inventory inventory.now index }
         ensures within { IfSome result (λ i. i < length self.now.inventory.forest.entries) }

@@ -80,3 +80,4 @@ pub mod Working
 pub mod Starting
 pub mod UnderWay
 pub mod LastTries
+pub mod Changing

@@ -29,3 +29,5 @@ pub mod Waits
 pub mod Begins
 pub mod Dates
 pub mod Rounds
+pub mod Changes
+pub mod Whole

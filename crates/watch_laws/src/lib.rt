@@ -8,6 +8,7 @@
 mod laws_of_absence;
 mod laws_of_beginnings;
 mod laws_of_calm;
+mod laws_of_changes;
 mod laws_of_clocks;
 mod laws_of_ends;
 mod laws_of_load;
@@ -29,6 +30,7 @@ mod laws_of_waiting;
 pub use laws_of_absence::{held_law, hold_law, spared_law};
 pub use laws_of_beginnings::{begin_law, few_law, lookup_law};
 pub use laws_of_calm::{calm_law, next_moment_law, round_of_plan_law};
+pub use laws_of_changes::change_law;
 pub use laws_of_clocks::{clocks_law, date_law};
 pub use laws_of_ends::never_past_law;
 pub use laws_of_load::{load_law, spaced_law, width_law};

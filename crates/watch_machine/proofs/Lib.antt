@@ -29,3 +29,6 @@ pub mod LineSent
 pub mod LineAnswer
 pub mod LineMade
 pub mod RoundClock
+pub mod Nobody
+pub mod Changing
+pub mod Moved

@@ -1,0 +1,119 @@
+//! Another inventory is served from now on, and the Watch goes on over it.
+ghost use Rattle.std.specs.Prelude.{◌≡◌, ◌<◌, IfErr, IfOk, OnErr, OnOk, length};
+ghost use Rattle.keep_agent.specs.Changed.{AgentIsChanged, all_was, has_same_parent, is_said_again, is_same_answer, is_same_number, is_same_terms, parent_name, was_of};
+ghost use Rattle.watch_machine.specs.declared.fault.WatchFault.TheVariants.{OutOfMemory};
+
+use crate::agent::Agent;
+use keep_inventory::{Inventory, Terms};
+use keep_moment::Span;
+use keep_tree::{Entry, Forest};
+use std::alloc::{AllocError, Global};
+use watch_machine::{Was, WatchFault};
+
+impl Agent {
+    /// Serves another inventory from now on.
+    ///
+    /// An entry that was served before, by its name, of the same kind and with the same credential, keeps its standing and all that the
+    /// Watch knows of it, its request that is out too. One that was not, or of which the inventory says something else but for its need,
+    /// is looked up at once. The only error is out of memory: then all is as it was.
+    pub fn change(&mut self, alloc: Global, inventory: Inventory) -> Result<(), WatchFault>
+        ensures changed { OnOk result (AgentIsChanged self.old inventory self.new) }
+        ensures refused { IfErr result (λ fault. fault ≡ OutOfMemory) }
+        ensures unchanged { OnErr result (self.new ≡ self.old) }
+    {
+        let forest = inventory.forest().copy()?;
+        let standings = self.carried(alloc, &inventory)?;
+        let was = self.all_was(alloc, &inventory)?;
+        self.watch.change(alloc, forest, &was)?;
+        self.inventory = inventory;
+        self.standings = standings;
+        Ok(())
+    }
+
+    /// Where each entry of another inventory is served now. The only error is out of memory.
+    #[tactic(auto, unfolding(crate::specs::Changed::all_was))]
+    fn all_was(&self, alloc: Global, inventory: &Inventory) -> Result<Vec<Was>, AllocError>
+        ensures { IfOk result (λ was. was.items ≡ all_was self.now.inventory inventory.now) }
+    {
+        let mut was = Vec::new(alloc);
+        for index in 0..inventory.forest().len() {
+            was.push(self.was_of(inventory, index))?;
+        }
+        Ok(was)
+    }
+
+    /// Where an entry of another inventory is served now, and whether that says of it what this one says.
+    #[tactic(auto, unfolding(crate::specs::Changed::was_of))]
+    fn was_of(&self, inventory: &Inventory, index: u32) -> Was
+        requires { index < length inventory.now.forest.entries }
+        ensures { result ≡ was_of self.now.inventory inventory.now index }
+    {
+        match self.former(inventory, index) {
+            None => Was::New,
+            Some(former) if is_said_again(&self.inventory, inventory, former, index) => {
+                Was::Same(former)
+            }
+            Some(former) => Was::Retold(former),
+        }
+    }
+}
+
+/// Whether an inventory says of an entry what another says of one of its own, but for its need.
+#[tactic(auto, unfolding(crate::specs::Changed::is_said_again))]
+fn is_said_again(old: &Inventory, new: &Inventory, before: u32, after: u32) -> bool
+    requires before { before < length old.now.forest.entries }
+    requires after { after < length new.now.forest.entries }
+    ensures { result ≡ is_said_again old.now new.now before after }
+{
+    let one = old.forest().get(before);
+    let other = new.forest().get(after);
+    one.end == other.end
+        && is_same_answer(one.renewable, other.renewable)
+        && has_same_parent(old.forest(), new.forest(), one, other)
+        && is_same_terms(old.terms(before), new.terms(after))
+}
+
+/// Whether two entries have parents of the same name, or none.
+#[tactic(auto, unfolding(crate::specs::Changed::has_same_parent))]
+fn has_same_parent(old: &Forest, new: &Forest, one: &Entry, other: &Entry) -> bool
+    ensures { result ≡ has_same_parent old.now.entries new.now.entries one.now other.now }
+{
+    parent_name(old, one.parent) == parent_name(new, other.parent)
+}
+
+/// The name of a parent; no name where there is none.
+fn parent_name(forest: &Forest, parent: Option<u32>) -> &[u8]
+    ensures { result.now ≡ parent_name forest.now.entries parent }
+{
+    match parent {
+        Some(parent) if parent < forest.len() => forest.get(parent).name.list(),
+        _ => b"",
+    }
+}
+
+fn is_same_answer(one: bool, other: bool) -> bool
+    ensures { result ≡ is_same_answer one other }
+{
+    if one { other } else { !other }
+}
+
+fn is_same_number(one: Option<Span>, other: Option<Span>) -> bool
+    ensures { result ≡ is_same_number one other }
+{
+    match (one, other) {
+        (None, None) => true,
+        (Some(one), Some(other)) => one == other,
+        (None, Some(_)) | (Some(_), None) => false,
+    }
+}
+
+#[tactic(auto, unfolding(crate::specs::Changed::is_same_terms))]
+fn is_same_terms(one: Terms, other: Terms) -> bool
+    ensures { result ≡ is_same_terms one other }
+{
+    one.issued.get() == other.issued.get()
+        && is_same_number(one.increment, other.increment)
+        && one.period == other.period
+        && one.max_ttl == other.max_ttl
+        && one.explicit_max == other.explicit_max
+}

@@ -1,0 +1,54 @@
+-- Changing: where entries are after a change, what is written of them, and the requests that are out. For `change`.
+use Rattle.std.proofs.Common.{◌≡◌, ◌∙◌, ℕ, suc, ◌+◌, ◌<◌, ◌≤◌, ◌++◌, Bool, true, false, if◌then◌else◌, List, [], ◌∷◌, Option, Some, None, IfSome, drop, get_or, length, map, option_map, set, take, refl, sym, ap, arith}
+use Rattle.std.proofs.lemmas.Bool.{cond-false, cond-true}
+use Rattle.std.proofs.lemmas.List.{append_assoc, drop_more, get_or_at, length-take, set_at, take_more}
+use Rattle.watch_machine.specs.declared.change.Was.{Was}
+use Rattle.watch_machine.specs.declared.lanes.Out.{Out}
+use Rattle.watch_machine.specs.Change.{former, is_former, moved_out, out_after, place_now}
+
+-- where an entry is, if it is among those from an index on
+further : (k : ℕ) (o : Option ℕ) → option_map (λ j. k + j) (option_map (λ j. suc j) o) ≡ option_map (λ j. (k + 1) + j) o
+further k None = refl
+further k (Some j) = ap (λ n. Some n) (omega arith)
+
+pub place_further :
+    (k : ℕ) (w : Was) (ws : List Was) (i : ℕ) → is_former i (former w) ≡ false → option_map (λ j. k + j) (place_now (w ∷ ws) i) ≡ option_map (λ j. (k + 1) + j) (place_now ws i)
+unfolding place_now
+place_further k w ws i other = ap (option_map (λ j. k + j)) (cond-false (is_former i (former w)) (Some 0) (option_map (λ j. suc j) (place_now ws i)) other) ∙ further k (place_now ws i)
+
+pub place_here : (k : ℕ) (w : Was) (ws : List Was) (i : ℕ) → is_former i (former w) ≡ true → option_map (λ j. k + j) (place_now (w ∷ ws) i) ≡ Some k
+unfolding place_now
+place_here k w ws i here = ap (option_map (λ j. k + j)) (cond-true (is_former i (former w)) (Some 0) (option_map (λ j. suc j) (place_now ws i)) here) ∙ ap (λ n. Some n) (omega arith)
+
+pub place_all : (o : Option ℕ) → option_map (λ j. 0 + j) o ≡ o
+place_all None = refl
+place_all (Some j) = ap (λ n. Some n) (omega arith)
+
+-- requests one after another
+pub out_append : (was : List Was) (n : ℕ) (xs ys : List Out) → out_after was n (xs ++ ys) ≡ out_after was n xs ++ out_after was (n + length xs) ys
+out_append was n [] ys = ap (λ k. out_after was k ys) (omega arith)
+out_append was n (x ∷ xs) ys = ap (λ rest. moved_out was n x ∷ rest) (out_append was (suc n) xs ys ∙ ap (λ k. out_after was (suc n) xs ++ out_after was k ys) (omega arith))
+
+pub out_length : (was : List Was) (n : ℕ) (out : List Out) → length (out_after was n out) ≡ length out
+out_length was n [] = refl
+out_length was n (r ∷ rest) = ap (λ k. suc k) (out_length was (suc n) rest)
+
+-- one request more
+pub out_more :
+    (was : List Was) (n : ℕ) (old now : List Out) (k : ℕ) (x y : Out) → k < length old → now ≡ out_after was n (take k old) ++ drop k old → x ≡ get_or now k x →
+    y ≡ moved_out was (n + k) x → set now k y ≡ out_after was n (take (k + 1) old) ++ drop (k + 1) old
+out_more was n old now k x y within is read made =
+    let front = out_after was n (take k old) in
+    let long : length front ≡ k = out_length was n (take k old) ∙ (let l = length-take k old in omega (arith, l)) in
+    let parts : now ≡ front ++ get_or old k x ∷ drop (k + 1) old = is ∙ ap (λ rest. front ++ rest) (drop_more old k x within) in
+    let was_x : x ≡ get_or old k x = read ∙ ap (λ os. get_or os k x) parts ∙ get_or_at front _ _ x k long in
+    let one : out_after was n (take (k + 1) old) ≡ front ++ y ∷ [] =
+    ap (out_after was n) (take_more old k x within) ∙ out_append was n (take k old) (get_or old k x ∷ [])
+    ∙ ap (λ m. front ++ moved_out was m (get_or old k x) ∷ []) (let l = length-take k old in omega (arith, l))
+    ∙ ap (λ z. front ++ moved_out was (n + k) z ∷ []) (sym was_x) ∙ ap (λ z. front ++ z ∷ []) (sym made) in
+    ap (λ os. set os k y) parts ∙ set_at front _ _ y k long ∙ sym (append_assoc front (y ∷ []) _) ∙ ap (λ os. os ++ drop (k + 1) old) (sym one)
+
+-- an index that is told of is one of so many
+pub within_some : (n : ℕ) (o : Option ℕ) → ((i : ℕ) → o ≡ Some i → i < n) → IfSome o (λ i. i < n)
+within_some n None h = tt
+within_some n (Some i) h = h i refl
