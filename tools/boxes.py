@@ -26,6 +26,8 @@ text { font-family: 'DejaVu Sans', 'Segoe UI', Helvetica, Arial, sans-serif; fil
 .head { fill: var(--wake); }
 .bad { stroke: var(--bad); stroke-width: 2; fill: none; }
 .flag { fill: var(--flag); stroke: var(--ink); stroke-width: 1; }
+.bar { stroke: var(--token-mark); stroke-width: 1.6; fill: none; }
+.margin { fill: var(--flag); }
 """
 
 

@@ -2,7 +2,7 @@
 
 An edit is a file of `crates/NAME/must-fail/` or `crates/NAME/also-fail/` with a line `file: src/what.rt` and then pairs
 of lines `old: TEXT` and `new: TEXT`; each old text stands once in that file. One that changes anything outside functions, as a
-constant, says in a line `refuses: FUNCTION` which one cannot be proved with it.
+constant, or a function of an impl for a type with types in it, says in a line `refuses: FUNCTION` which one cannot be proved with it.
 """
 
 from __future__ import annotations

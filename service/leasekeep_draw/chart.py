@@ -54,7 +54,8 @@ class Lane:
 class Chart:
     """The lanes from top to bottom, the wake-ups, and the moments from which and to which the picture goes.
 
-    `entries`, `short`: how many entries there are, and how many of them are not kept, whichever lanes are shown. `first`: so
+    `entries`, `short`: how many entries there are, and how many of them are not kept, whichever lanes are shown. `margin`: that of the
+    inventory, in seconds. `first`: so
     many lanes at the top are entries that are not kept, out of their place in the tree. `summary`: what is said of all entries
     where only some are shown; else empty.
     """
@@ -68,6 +69,7 @@ class Chart:
     is_over: bool
     entries: int
     short: int
+    margin: int = 1
     first: int = 0
     summary: str = ""
 
@@ -156,7 +158,7 @@ def chart_of(inventory: Inventory, history: History, start: int) -> Chart:
     )
     is_dated = inventory.is_dated or history.begun is not None
     short = sum(1 for lane in lanes if lane.falls_short)
-    return Chart(lanes, tuple(history.wakes), history.requests, start, stop, is_dated, history.is_over, len(lanes), short)
+    return Chart(lanes, tuple(history.wakes), history.requests, start, stop, is_dated, history.is_over, len(lanes), short, inventory.margin)
 
 
 def _name_over(inventory: Inventory, entry: Entry) -> str | None:

@@ -38,10 +38,11 @@ class Entry:
 
 @dataclass(frozen=True)
 class Inventory:
-    """The entries by index, tokens first, and whether the moments were written as dates."""
+    """The entries by index, tokens first, whether the moments were written as dates, and the margin in seconds."""
 
     entries: tuple[Entry, ...]
     is_dated: bool
+    margin: int = 1
 
 
 def read(text: str, path: str = "FILE") -> Inventory:
@@ -52,7 +53,8 @@ def read(text: str, path: str = "FILE") -> Inventory:
         raise InventoryFault(f"{first.text(path)} (`leasekeepd lint {path}` shows every fault)")
     written = reading.inventory
     places = {entry.name: place for place, entry in enumerate(written.entries)}
-    return Inventory(tuple(_entry(written, entry, places) for entry in written.entries), _is_dated(tomllib.loads(older(text).text)))
+    entries = tuple(_entry(written, entry, places) for entry in written.entries)
+    return Inventory(entries, _is_dated(tomllib.loads(older(text).text)), written.margin)
 
 
 def _entry(inventory: WrittenInventory, entry: Written, places: dict[str, int]) -> Entry:

@@ -27,6 +27,8 @@ _LANES_A_BLOCK = 50
 _HEADING = 24
 """What a heading of a group of lanes takes."""
 _FAINTEST = 0.12
+_NARROWEST = 2.0
+"""A margin that is narrower than this is not drawn."""
 _NEAR = 3.2
 """Marks of a kind that are nearer to each other than this are drawn as one."""
 _RULES = """
@@ -45,6 +47,7 @@ text { font-family: 'DejaVu Sans', 'Segoe UI', Helvetica, Arial, sans-serif; fil
 .many { stroke: var(--token-mark); stroke-width: 1.2; fill: none; } .lease .many { stroke: var(--lease-mark); }
 .bad { stroke: var(--bad); stroke-width: 1.8; fill: none; }
 .flag { stroke: var(--ink); stroke-width: 1; fill: var(--flag); }
+.margin { fill: var(--flag); }
 .ceiling { stroke: var(--ink); stroke-width: 2.4; fill: none; }
 """
 
@@ -84,7 +87,7 @@ def svg(chart: Chart) -> str:
         f'<rect class="page" width="{WIDTH}" height="{layout.height}"/>',
         f'<text class="title" x="{_MARGIN}" y="28">{escape(chart.title)}</text>',
         f'<text class="small" x="{WIDTH - _MARGIN}" y="28" text-anchor="end">{escape(_span(chart))}</text>',
-        *_legend(),
+        *_legend(_margin(chart, layout) > 0),
         *_grid(chart, layout),
         f'<g class="{"dense" if layout.is_dense else "roomy"}">',
     ]
@@ -101,7 +104,7 @@ def _span(chart: Chart) -> str:
     return f"{moment_text(chart.start, chart.is_dated)} to {moment_text(chart.stop, chart.is_dated)}"
 
 
-def _legend() -> Iterator[str]:
+def _legend(has_margin: bool) -> Iterator[str]:
     """The signs with their words, in two lines."""
     lines = (
         (46, [
@@ -110,6 +113,7 @@ def _legend() -> Iterator[str]:
             ('<g class="lease">' + _life(Kind.LEASE, 0, -4, 26, 10) + "</g>", 34, "lease lives"),
             ('<g class="lease">' + _told(Kind.LEASE, 5, -4, 10) + "</g>", 14, "lease renewed"),
             ('<path class="wake" d="M3 -10V2"/>', 10, "wake-up"),
+            *([('<rect class="margin" fill-opacity="0.5" x="0" y="-10" width="8" height="12"/>', 14, "margin")] if has_margin else []),
             ('<path class="ceiling" d="M3 -10V2"/>', 10, "ceiling"),
         ]),
         (65, [
@@ -138,6 +142,10 @@ def _grid(chart: Chart, layout: _Layout) -> Iterator[str]:
         )
     bottom = layout.y(count - 1) + layout.lane if count else _HEAD
     places = sorted({round(layout.x(wake) * 2) / 2 for wake in chart.wakes})
+    wide = _margin(chart, layout)
+    if wide:
+        bands = "".join(f"M{place:g} {_HEAD}h{wide:.1f}V{bottom:.0f}h{-wide:.1f}z" for place in places)
+        yield f'<path class="margin" fill-opacity="0.25" d="{bands}"/>'
     lines = "".join(f"M{place:g} {_HEAD}V{bottom:.0f}" for place in places)
     yield f'<path class="wake" stroke-opacity="{_faintness(len(places)):g}" d="{lines}"/>'
     ticks = layout.axis.ticks(9)
@@ -153,6 +161,12 @@ def _grid(chart: Chart, layout: _Layout) -> Iterator[str]:
             # (near the edge a moment's text is moved as far as it has to be)
             x = min(layout.x(moment), WIDTH - 4 - 3.4 * len(words))
             yield f'<text class="small" x="{x:.1f}" y="{y:.1f}" text-anchor="middle">{escape(words)}</text>'
+
+
+def _margin(chart: Chart, layout: _Layout) -> float:
+    """How wide the margin is that is drawn after each wake-up; 0 where it could not be told from the line."""
+    wide = layout.axis.place(chart.start + chart.margin)
+    return wide if wide >= _NARROWEST and len(chart.wakes) * wide < WIDTH / 2 else 0.0
 
 
 def _faintness(lines: int) -> float:

@@ -70,5 +70,7 @@ class Colours(unittest.TestCase):
         for picture in PICTURES:
             with self.subTest(picture=picture.name):
                 shown = rendered_colours(picture)
-                wanted = {bytes.fromhex(colours.LIGHT[name][1:]) for name in ("page", "ink", "token")}
+                # (the bars of wakes.svg are thinner than two pixels)
+                area = "flag" if picture.name == "wakes.svg" else "token"
+                wanted = {bytes.fromhex(colours.LIGHT[name][1:]) for name in ("page", "ink", area)}
                 self.assertEqual(wanted - shown, set())

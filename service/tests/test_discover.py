@@ -8,6 +8,7 @@ import subprocess
 import tempfile
 import time
 import unittest
+from collections.abc import Callable
 from pathlib import Path
 from typing import Any, cast
 
@@ -85,7 +86,7 @@ class Discovered(unittest.TestCase):
         self.addCleanup(shutil.rmtree, self.folder, True)
         (self.folder / "app.token").write_text("hvs.app-secret\n")
 
-    def fill(self, data: bytes, mode: int = 0o600, faults: tuple[Fault, ...] = (), **real: dict[str, object]) -> Filled:
+    def fill(self, data: bytes, mode: int = 0o600, faults: tuple[Fault, ...] = (), **real: Any) -> Filled:
         """The list filled in by a broker that issued everything 1,800 seconds ago for an hour, but for what `real` changes."""
         row = Entry("app", Kind.TOKEN, None, BEGAN - 1800, BEGAN + 1800, increment=3600, max_ttl=90_000, credential="hvs.app-secret")
         rows = (row, Entry("job", Kind.TOKEN, "app", BEGAN - 1800, BEGAN + 1800, increment=3600, credential="s.job"),
@@ -98,7 +99,7 @@ class Discovered(unittest.TestCase):
             return await discover(Broker(VaultTransport(vault), 5.0), world.wall, read_list(data, mode, self.folder))
         return simulate(go())
 
-    def text(self, text: str, **real: dict[str, object]) -> str:
+    def text(self, text: str, **real: Any) -> str:
         return self.fill(text.encode(), **real).data.decode()
 
     def faults(self, text: str, **words: Any) -> list[str]:
@@ -123,8 +124,10 @@ class Kept(Discovered):
         self.assertEqual(self.text(FILLED), FILLED)
 
     def test_ends_of_lines_a_mark_at_the_start_and_none_at_the_end(self) -> None:
-        for change in (lambda text: text.replace("\n", "\r\n"), lambda text: "\ufeff" + text, lambda text: text.removesuffix("\n"),
-                       lambda text: text.replace("\n", "\r\n").removesuffix("\r\n")):
+        changes: tuple[Callable[[str], str], ...] = (
+            lambda text: text.replace("\n", "\r\n"), lambda text: "\ufeff" + text, lambda text: text.removesuffix("\n"),
+            lambda text: text.replace("\n", "\r\n").removesuffix("\r\n"))
+        for change in changes:
             self.assertEqual(self.text(change(LIST)), change(FILLED))
 
     def test_old_values_are_written_anew_in_their_place(self) -> None:

@@ -390,6 +390,23 @@ class Shapes(unittest.TestCase):
         self.assertGreater(some, hundreds)
         self.assertGreaterEqual(hundreds, 0.1)
 
+    def test_the_margin_is_drawn_after_each_wake_up(self) -> None:
+        def band(margin: int) -> str | None:
+            inventory = entries.read(f"margin = {margin}\n{FAMILY}")
+            indices = {entry.name: index for index, entry in enumerate(inventory.entries)}
+            chart = chart_of(inventory, history.read(["wake 1040 L\n", "wake 1100 L\n", "next none\n"], indices, 1000), 1000)
+            paths = [one for one in tree.fromstring(picture.svg(chart)).iter(f"{SPACED}path") if one.get("class") == "margin"]
+            return paths[0].get("d") if paths else None
+        narrow, wide = band(10), band(20)
+        assert narrow is not None and wide is not None
+        self.assertEqual((narrow.count("M"), wide.count("M")), (2, 2))
+        widths = [float(text.partition("h")[2].partition("V")[0]) for text in (narrow, wide)]
+        self.assertAlmostEqual(widths[1], 2 * widths[0], delta=0.2)
+
+    def test_a_margin_that_could_not_be_told_from_the_line_is_not_drawn(self) -> None:
+        chart = family("".join(f"wake {1001 + n}\n" for n in range(400)) + "next none\n")
+        self.assertNotIn('class="margin"', picture.svg(chart))
+
     def test_dense_marks_say_how_many_they_stand_for(self) -> None:
         chart = family("".join(f"wake {1000 + n // 50} U\ntold U 60\n" for n in range(5000)) + "next none\n")
         counts = [one.text or "" for one in self.of_class(chart, "token", "count")]

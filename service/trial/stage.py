@@ -27,8 +27,8 @@ def short_leases(now: int, seconds: int) -> Inventory:
         Entry("job", Kind.TOKEN, "app", now, first + 8, increment=9, max_ttl=86400, need=until, credential="s.job"),
         Entry("app-db", Kind.LEASE, "app", now, first + 7, increment=8, max_ttl=86400, need=until,
               credential="database/creds/app/1"),
-        Entry("pay-cert", Kind.LEASE, "pay", now, first + 8, increment=11, max_ttl=86400, need=until,
-              credential="pki/issue/pay/1"),
+        Entry("pay-db", Kind.LEASE, "pay", now, first + 8, increment=11, max_ttl=86400, need=until,
+              credential="database/creds/pay/1"),
     ), 4)
 
 

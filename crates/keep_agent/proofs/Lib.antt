@@ -9,3 +9,4 @@ pub mod Saying
 pub mod Running
 pub mod WasOf
 pub mod Onward
+pub mod Equal

@@ -3,7 +3,8 @@
 //!
 //! The contract for the layer above: each [`Agent::turn`] is a turn of the Watch, and what is said of an entry follows from what was
 //! told of it (`specs/Turns`, `specs/Standings`); [`Agent::rebuilt`] takes everything over to a changed inventory that is still true of
-//! it (`specs/Rebuilding`, and the law [`nothing_is_forgotten`]). Begin with `standing` and `agent`, then `turn`.
+//! it (`specs/Rebuilding`, and the law [`nothing_is_forgotten`]), and [`Agent::serves`] tells one that is no change from others. Begin
+//! with `standing` and `agent`, then `turn`.
 #![tactic(auto)]
 
 mod agent;
@@ -11,6 +12,7 @@ mod changed;
 mod ends;
 mod laws;
 mod rebuilding;
+mod same;
 mod shorts;
 mod standing;
 mod status;

@@ -1,8 +1,8 @@
 -- Alike: agents that differ in credentials alone go the same way. For `secrets_change_no_turn`.
-use Rattle.std.proofs.Common.{◌≡◌, ◌∙◌, ℕ, zero, suc, ◌-◌, Bool, true, false, List, [], ◌∷◌, ◌++◌, Option, Some, None, Result, Ok, Err, ap, ap₂, length, map, refl, sym, subst}
+use Rattle.std.proofs.Common.{◌≡◌, ◌∙◌, ℕ, zero, suc, ◌-◌, Bool, true, false, List, [], ◌∷◌, ◌++◌, Option, Some, None, Result, Ok, Err, ap, ap₂, length, map, refl, sym, subst, inl, inr}
 use Rattle.std.specs.List.{range_with_len}
 use Rattle.keep_agent.specs.Agent.{Agent}
-use Rattle.keep_agent.specs.Rebuilding.{AreHanded, IsHanded, carried_standing, carried_told}
+use Rattle.keep_agent.specs.Rebuilding.{AgentIsRebuilt, AreHanded, IsHanded, carried_standing, carried_told}
 use Rattle.keep_agent.specs.Shorts.{all_said, said_standings}
 use Rattle.keep_agent.specs.Standings.{standings_after}
 use Rattle.keep_agent.specs.Turns.{AgentTurn, beginnings_after, inventory_after}
@@ -29,7 +29,7 @@ use Rattle.watch_machine.specs.declared.lanes.Out.{Out}
 use Rattle.watch_machine.specs.History.{Turn}
 use Rattle.watch_machine.specs.State.{WatchState, opened}
 use Rattle.watch_machine.specs.Step.{TurnMayWantMemory}
-use Rattle.keep_serving.specs.Alike.{AlikeLaw, AreAgentsAlike, AreHeldAlike, AreInventoriesAlike, AreWordsAlike, Content, RebuiltAlikeLaw, contents_at, contents_in, contents_taken}
+use Rattle.keep_serving.specs.Alike.{AlikeLaw, AreAgentsAlike, AreHeldAlike, AreInventoriesAlike, AreWordsAlike, Content, RebuiltAlikeLaw, ServedAlikeLaw, contents_at, contents_in, contents_taken}
 use Rattle.keep_serving.specs.Changes.{AgentIsTurned, ChangeIsMade, MadeChange, OneIsMade}
 use Rattle.keep_serving.specs.Held.{Held, ServingSide, serving_side}
 use Rattle.keep_serving.specs.Laws.{OneKeepsInventory, KeepsInventory}
@@ -168,7 +168,7 @@ event_alike event h k l m a b wants alike one two = record {
 }
 
 change_alike : (c : Change) (is_made : Bool) (h k : Held) (l m : Lanes) (a b : ServingSide) → KeepsInventory c → AreHeldAlike h k → ChangeIsMade c is_made (serving_side h l) a → ChangeIsMade c is_made (serving_side k m) b → AreHeldAlike a.held b.held
-change_alike c false h k l m a b keep alike one two = same_held h k a.held b.held (ap (λ (x : ServingSide). x.held) one) (ap (λ (x : ServingSide). x.held) two) alike
+change_alike c false h k l m a b keep alike one two = same_held h k a.held b.held (ap (λ (x : ServingSide). x.held) one.1) (ap (λ (x : ServingSide). x.held) two.1) alike
 change_alike (Need i until) true h k l m a b keep alike one two = event_alike (events.Need i until) h k l m a b (λ wants. wants) alike one two
 change_alike Begin true h k l m a b keep alike one two = event_alike events.Begin h k l m a b (λ wants. wants) alike one two
 change_alike (Serve s) true h k l m a b keep alike one two = absurd keep
@@ -224,4 +224,19 @@ rebuilt_alike_law a b new last s t width alike inventories carried one two =
       inventory = subst (λ (x : Inventory). AreInventoriesAlike x last.inventory) (sym one.inventory) (subst (λ (y : Inventory). AreInventoriesAlike s y) (sym two.inventory) inventories);
       standings = standings ∙ map_alike (carried_standing a s) (carried_standing b t) (range_with_len 0 (length s.forest.entries)) carried ∙ sym one.standings;
       beginnings = two.beginnings ∙ alike.beginnings ∙ sym one.beginnings;
+    }
+
+-- ---- an inventory that is handed over
+
+pub served_alike_law : ServedAlikeLaw
+served_alike_law h k l m a b s t alike inventories both carried (inl one) (inl two) = same_held h k a.held b.held (ap (λ (x : ServingSide). x.held) one.1) (ap (λ (x : ServingSide). x.held) two.1) alike
+served_alike_law h k l m a b s t alike inventories both carried (inl one) (inr two) = absurd (two.0 (both.0 one.0))
+served_alike_law h k l m a b s t alike inventories both carried (inr one) (inl two) = absurd (one.0 (both.1 two.0))
+served_alike_law h k l m a b s t alike inventories both carried (inr one) (inr two) =
+    let other = subst (λ (w : WatchState). AgentIsRebuilt k.agent t w.width b.held.agent) alike.agent.machine two.1.agent in
+    record {
+      agent = rebuilt_alike_law h.agent k.agent a.held.agent b.held.agent s t h.agent.machine.width alike.agent inventories carried one.1.agent other;
+      unsent = ap (λ (x : Held). x.unsent) two.1.held ∙ sym (ap (λ (x : Held). x.unsent) one.1.held);
+      asked = ap (λ (x : Held). x.asked) two.1.held ∙ alike.asked ∙ sym (ap (λ (x : Held). x.asked) one.1.held);
+      until = ap (λ (x : Held). x.until) two.1.held ∙ alike.until ∙ sym (ap (λ (x : Held). x.until) one.1.held);
     }

@@ -1,5 +1,5 @@
 -- Changed: a change is made, and leaves what is held in step with the lanes. For `make_change` and the turn.
-use Rattle.std.proofs.Common.{◌≡◌, ◌∙◌, ℕ, zero, suc, ◌+◌, Bool, true, false, List, [], ◌++◌, Option, Some, None, Result, Ok, Err, append_assoc, length, map, refl, sym, ap, subst, arith}
+use Rattle.std.proofs.Common.{◌≡◌, ◌≢◌, ◌∙◌, ℕ, zero, suc, ◌+◌, Bool, true, false, List, [], ◌++◌, Option, Some, None, Result, Ok, Err, append_assoc, length, map, refl, sym, ap, subst, arith, inl, inr}
 use Rattle.keep_agent.specs.declared.standing.Told.{Told}
 use Rattle.keep_agent.specs.Agent.{Agent}
 use Rattle.keep_agent.specs.Rebuilding.{AreHanded, IsHanded, carried_told}
@@ -15,12 +15,18 @@ use Rattle.watch_machine.specs.declared.event.Event.TheVariants as events
 use Rattle.watch_machine.specs.declared.fault.WatchFault.{WatchFault}
 use Rattle.watch_machine.specs.declared.lanes.Out.{Out}
 use Rattle.watch_machine.specs.State.{WatchState, opened}
-use Rattle.keep_serving.specs.Changes.{AllGiven, ChangeIsMade, InventoryIsServed, MadeChange, OneIsMade}
+use Rattle.keep_serving.specs.Changes.{AllGiven, ChangeIsMade, InventoryIsServed, MadeChange, OneIsMade, ServesInventory}
 use Rattle.keep_serving.specs.Held.{Held, IsInStep, ServingSide}
 use Rattle.keep_serving.specs.declared.change.Change.{Change}
 use Rattle.keep_serving.specs.declared.change.Change.TheVariants.{Need, Begin, Serve, Kept}
 
--- ---- one change
+-- ---- an inventory
+
+pub served_already : (s : Inventory) (old : ServingSide) → s ≡ old.held.agent.inventory → ServesInventory s old old
+served_already s old same = inl (same, refl)
+
+pub served_anew : (s : Inventory) (old new : ServingSide) → s ≢ old.held.agent.inventory → InventoryIsServed s old new → ServesInventory s old new
+served_anew s old new other served = inr (other, served)
 
 -- ---- one after another
 
@@ -81,15 +87,19 @@ served_in_step width s old new h step =
     } in
     subst (λ l. IsInStep width l.out new.held) (sym h.lanes) (subst (IsInStep width []) (sym h.held) held)
 
+serves_in_step : (width : ℕ) (s : Inventory) (old new : ServingSide) → ServesInventory s old new → IsInStep width old.lanes.out old.held → IsInStep width new.lanes.out new.held
+serves_in_step width s old new (inl h) step = subst (λ (x : ServingSide). IsInStep width x.lanes.out x.held) (sym h.1) step
+serves_in_step width s old new (inr h) step = served_in_step width s old new h.1 step
+
 made_one : (width : ℕ) (c : Change) (is_made : Bool) (old new : ServingSide) → ChangeIsMade c is_made old new → IsInStep width old.lanes.out old.held → IsInStep width new.lanes.out new.held
-made_one width c false old new h step = subst (λ (s : ServingSide). IsInStep width s.lanes.out s.held) (sym h) step
+made_one width c false old new h step = subst (λ (s : ServingSide). IsInStep width s.lanes.out s.held) (sym h.1) step
 made_one width (Need i until) true old new h step =
     subst (λ (s : ServingSide). IsInStep width s.lanes.out s.held) (sym h.rest)
     (turned_in_step width old.lanes.out (events.Need i until) old.held new.held.agent (λ output turn. turn_need old.held.agent.machine new.held.agent.machine i until output turn.machine step.sound) h.result h.turn step)
 made_one width Begin true old new h step =
     subst (λ (s : ServingSide). IsInStep width s.lanes.out s.held) (sym h.rest)
     (turned_in_step width old.lanes.out events.Begin old.held new.held.agent (λ output turn. turn_begin old.held.agent.machine new.held.agent.machine output turn.machine step.sound) h.result h.turn step)
-made_one width (Serve s) true old new h step = served_in_step width s old new h step
+made_one width (Serve s) true old new h step = serves_in_step width s old new h step
 made_one width Kept true old new h step = subst (λ (s : ServingSide). IsInStep width s.lanes.out s.held) (sym h) step
 
 pub made_keeps : (width : ℕ) (made : Option MadeChange) (old new : ServingSide) → OneIsMade made old new → IsInStep width old.lanes.out old.held → IsInStep width new.lanes.out new.held

@@ -1,5 +1,5 @@
 -- OneWay: from the same words and the same beginning the same follows.
-use Rattle.std.proofs.Common.{◌≡◌, ◌∙◌, ℕ, zero, suc, ◌-◌, Bool, true, false, List, [], ◌∷◌, ◌++◌, Option, Some, None, Result, Ok, Err, ap, ap₂, length, sym, subst}
+use Rattle.std.proofs.Common.{◌≡◌, ◌∙◌, ℕ, zero, suc, ◌-◌, Bool, true, false, List, [], ◌∷◌, ◌++◌, Option, Some, None, Result, Ok, Err, ap, ap₂, length, sym, subst, inl, inr}
 use Rattle.keep_agent.specs.Agent.{Agent}
 use Rattle.keep_agent.specs.Rebuilding.{AgentIsRebuilt, AreHanded, IsHanded, carried_told}
 use Rattle.keep_agent.specs.Shorts.{all_said}
@@ -27,7 +27,7 @@ use Rattle.watch_machine.specs.declared.lanes.Out.{Out}
 use Rattle.watch_machine.specs.History.{Turn}
 use Rattle.watch_machine.specs.State.{WatchState, opened}
 use Rattle.watch_machine.specs.Step.{TurnMayWantMemory}
-use Rattle.keep_serving.specs.Changes.{AgentIsTurned, ChangeIsMade, InventoryIsServed, MadeChange, OneIsMade}
+use Rattle.keep_serving.specs.Changes.{AgentIsTurned, ChangeIsMade, InventoryIsServed, MadeChange, OneIsMade, ServesInventory}
 use Rattle.keep_serving.specs.Held.{Held, ServingSide, serving_side}
 use Rattle.keep_serving.specs.Laws.{OneWayLaw}
 use Rattle.keep_serving.specs.Stages.{AnswerIsTaken, AnswersAreTaken}
@@ -139,11 +139,17 @@ served_same s h l k a b one two =
     let agent = rebuilt_same h.agent s h.agent.machine.width a.held.agent b.held.agent one.agent two.agent in
     two.held ∙ ap (λ (x : Agent). record h { agent = x; pending = []; unsent = [] }) agent ∙ sym one.held
 
+serving_same : (s : Inventory) (h : Held) (l k : Lanes) (a b : ServingSide) → ServesInventory s (serving_side h l) a → ServesInventory s (serving_side h k) b → b.held ≡ a.held
+serving_same s h l k a b (inl one) (inl two) = ap (λ (x : ServingSide). x.held) two.1 ∙ sym (ap (λ (x : ServingSide). x.held) one.1)
+serving_same s h l k a b (inl one) (inr two) = absurd (two.0 one.0)
+serving_same s h l k a b (inr one) (inl two) = absurd (one.0 two.0)
+serving_same s h l k a b (inr one) (inr two) = served_same s h l k a b one.1 two.1
+
 change_same : (c : Change) (is_made : Bool) (h : Held) (l k : Lanes) (a b : ServingSide) → ChangeIsMade c is_made (serving_side h l) a → ChangeIsMade c is_made (serving_side h k) b → b.held ≡ a.held
-change_same c false h l k a b one two = ap (λ (x : ServingSide). x.held) two ∙ sym (ap (λ (x : ServingSide). x.held) one)
+change_same c false h l k a b one two = ap (λ (x : ServingSide). x.held) two.1 ∙ sym (ap (λ (x : ServingSide). x.held) one.1)
 change_same (Need i until) true h l k a b one two = event_same (events.Need i until) h l k a b (λ wants. wants) one two
 change_same Begin true h l k a b one two = event_same events.Begin h l k a b (λ wants. wants) one two
-change_same (Serve s) true h l k a b one two = served_same s h l k a b one two
+change_same (Serve s) true h l k a b one two = serving_same s h l k a b one two
 change_same Kept true h l k a b one two = ap (λ (x : ServingSide). x.held) two ∙ sym (ap (λ (x : ServingSide). x.held) one)
 
 one_same : (made : Option MadeChange) (h : Held) (l k : Lanes) (a b : ServingSide) → OneIsMade made (serving_side h l) a → OneIsMade made (serving_side h k) b → b.held ≡ a.held

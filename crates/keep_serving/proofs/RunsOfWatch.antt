@@ -1,5 +1,5 @@
 -- RunsOfWatch: the law that what the Watches of an agent are handed from its start on is a run of each.
-use Rattle.std.proofs.Common.{◌≡◌, ◌∙◌, ℕ, zero, suc, Bool, true, false, List, [], ◌∷◌, ◌++◌, Option, Some, None, append_assoc, filter, ap, refl, sym, subst}
+use Rattle.std.proofs.Common.{◌≡◌, ◌∙◌, ℕ, zero, suc, Bool, true, false, List, [], ◌∷◌, ◌++◌, Option, Some, None, append_assoc, filter, ap, refl, sym, subst, inl, inr}
 use Rattle.std.proofs.lemmas.List.{append-nil}
 use Rattle.std.proofs.lemmas.List.Elements.{All-nil, All-push}
 use Rattle.keep_agent.specs.Agent.{Agent, fresh}
@@ -7,17 +7,18 @@ use Rattle.keep_agent.specs.Laws.{known_event, known_events}
 use Rattle.keep_agent.specs.Rebuilding.{AreHanded, IsHanded, carried_told}
 use Rattle.keep_agent.specs.declared.standing.Told.{Told}
 use Rattle.keep_agent.proofs.Running.{known_more}
+use Rattle.keep_inventory.specs.Inventories.{Inventory}
 use Rattle.watch_machine.specs.declared.event.Event.{Event}
 use Rattle.watch_machine.specs.declared.event.Event.TheVariants as events
 use Rattle.watch_machine.specs.History.{IsWatchRun, Turned}
 use Rattle.watch_machine.specs.State.{WatchState, opened}
 use Rattle.keep_serving.specs.Apart.{Ending, EndsBy, Spent, Unread, Over, Wanting, Changed}
-use Rattle.keep_serving.specs.Changes.{ChangeIsMade, MadeChange, OneIsMade}
+use Rattle.keep_serving.specs.Changes.{ChangeIsMade, MadeChange, OneIsMade, ServesInventory}
 use Rattle.keep_serving.specs.Held.{Held, ServingSide}
 use Rattle.keep_serving.specs.Laws.{OneKeepsInventory, KeepsInventory, Lead}
 use Rattle.keep_serving.specs.Resuming.{AreResumed, IsResumed}
 use Rattle.keep_serving.specs.Runs.{AreTurns}
-use Rattle.keep_serving.specs.RunsOfWatch.{AreRunsOfWatches, CarriedLaw, OneRunLaw, ResumedLaw, ServingLaw, RunOfWatch, RunsOfWatches, events_of, is_told_before, rebuilt_run, resumed_run, runs_and, runs_at_first, runs_of_change, runs_of_one, runs_of_turn, runs_of_turns, runs_of_wait, runs_then, turns_of_carrying, turns_of_known, turns_of_resuming, turns_of_told}
+use Rattle.keep_serving.specs.RunsOfWatch.{AreRunsOfWatches, CarriedLaw, OneRunLaw, ResumedLaw, ServingLaw, RunOfWatch, RunsOfWatches, events_of, is_told_before, rebuilt_run, resumed_run, runs_and, runs_at_first, runs_of_change, runs_of_one, runs_of_serving, runs_of_turn, runs_of_turns, runs_of_wait, runs_then, turns_of_carrying, turns_of_known, turns_of_resuming, turns_of_told}
 use Rattle.keep_serving.specs.Turns.{IsServingTurn, ServingTurn}
 use Rattle.keep_serving.specs.TurnsOfWatch.{turns_in, turns_of, turns_of_change, turns_of_hearing, turns_of_one}
 use Rattle.keep_serving.specs.declared.change.Change.{Change}
@@ -71,12 +72,16 @@ are_then runs old new run are lead = record {
 stays : (old new : ServingSide) → new ≡ old → (runs : RunsOfWatches) → AreRunsOfWatches runs old.held.agent.machine → AreRunsOfWatches runs new.held.agent.machine
 stays old new same runs are = subst (λ (s : ServingSide). AreRunsOfWatches runs s.held.agent.machine) (sym same) are
 
-run_change : (c : Change) (is_made : Bool) (old new : ServingSide) (h : ChangeIsMade c is_made old new) (runs : RunsOfWatches) → AreRunsOfWatches runs old.held.agent.machine → AreRunsOfWatches (runs_of_change c is_made old new h runs) new.held.agent.machine
-run_change (Serve s) true old new h runs are =
+run_serving : (s : Inventory) (old new : ServingSide) (h : ServesInventory s old new) (runs : RunsOfWatches) → AreRunsOfWatches runs old.held.agent.machine → AreRunsOfWatches (runs_of_serving s old new h runs) new.held.agent.machine
+run_serving s old new (inl h) runs are = stays old new h.1 runs are
+run_serving s old new (inr h) runs are =
     let width = old.held.agent.machine.width in
-    are_then runs old.held.agent.machine new.held.agent.machine (rebuilt_run old.held.agent s width new.held.agent h.agent) are
-    (carrying_leads (carried_told old.held.agent s) (opened s.forest width) _ new.held.agent.machine h.agent.machine)
-run_change (Serve s) false old new h runs are = are_and runs old.held.agent.machine new.held.agent.machine [] are (same_machine old.held.agent new.held.agent (ap (λ (x : ServingSide). x.held.agent) h))
+    are_then runs old.held.agent.machine new.held.agent.machine (rebuilt_run old.held.agent s width new.held.agent h.1.agent) are
+    (carrying_leads (carried_told old.held.agent s) (opened s.forest width) _ new.held.agent.machine h.1.agent.machine)
+
+run_change : (c : Change) (is_made : Bool) (old new : ServingSide) (h : ChangeIsMade c is_made old new) (runs : RunsOfWatches) → AreRunsOfWatches runs old.held.agent.machine → AreRunsOfWatches (runs_of_change c is_made old new h runs) new.held.agent.machine
+run_change (Serve s) true old new h runs are = run_serving s old new h runs are
+run_change (Serve s) false old new h runs are = are_and runs old.held.agent.machine new.held.agent.machine [] are (same_machine old.held.agent new.held.agent (ap (λ (x : ServingSide). x.held.agent) h.1))
 run_change (Need i until) is_made old new h runs are = are_and runs old.held.agent.machine new.held.agent.machine (turns_of_change (Need i until) is_made old new h) are (by_change (Need i until) is_made old new tt h)
 run_change Begin is_made old new h runs are = are_and runs old.held.agent.machine new.held.agent.machine (turns_of_change Begin is_made old new h) are (by_change Begin is_made old new tt h)
 run_change Kept is_made old new h runs are = are_and runs old.held.agent.machine new.held.agent.machine (turns_of_change Kept is_made old new h) are (by_change Kept is_made old new tt h)

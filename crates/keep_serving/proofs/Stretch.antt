@@ -104,7 +104,7 @@ by_event event old new (Ok output) turn = by_turn old new event (Ok output) turn
 by_event event old new (Err fault) turn = by_turn old new event (Err fault) (subst (λ (a : Agent). Turn old.machine event (Err fault) a.machine) (sym turn.1) turn.0)
 
 pub by_change : (c : Change) (is_made : Bool) (old new : ServingSide) → KeepsInventory c → (h : ChangeIsMade c is_made old new) → Lead old.held.agent.machine (turns_of_change c is_made old new h) new.held.agent.machine
-by_change c false old new keeps h = nowhere old.held.agent.machine new.held.agent.machine (ap (λ (s : ServingSide). s.held.agent.machine) h)
+by_change c false old new keeps h = nowhere old.held.agent.machine new.held.agent.machine (ap (λ (s : ServingSide). s.held.agent.machine) h.1)
 by_change (Need i until) true old new keeps h = by_event (events.Need i until) old.held.agent new.held.agent h.result h.turn
 by_change Begin true old new keeps h = by_event events.Begin old.held.agent new.held.agent h.result h.turn
 by_change (Serve s) true old new keeps h = absurd keeps

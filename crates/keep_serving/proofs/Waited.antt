@@ -44,7 +44,7 @@ paused_without does until millis is_busy r s g h a b c before waits went gave gi
 
 -- what is not made now changes nothing
 still : (change : Change) (is_made : Bool) (old new : ServingSide) → ChangeIsMade change is_made old new → is_change_kept change || not is_made ≡ true → new ≡ old
-still change false old new made on = made
+still change false old new made on = made.1
 still (Need i until) true old new made on = absurd (let e : false ≡ true = on in cc)
 still Begin true old new made on = absurd (let e : false ≡ true = on in cc)
 still (Serve s) true old new made on = absurd (let e : false ≡ true = on in cc)

@@ -1,14 +1,16 @@
 -- Alike: two agents whose inventories differ in credentials alone. The contract of a public function without a body.
 -- Source: this project's own.
-use Rattle.std.specs.Prelude.{◌≡◌, ◌++◌, ℕ, Bool, List, [], ◌∷◌, Option, None, Some}
+use Rattle.std.specs.Prelude.{◌≡◌, ◌↔◌, ◌++◌, ℕ, Bool, List, [], ◌∷◌, Option, None, Some}
 use Rattle.keep_agent.specs.Agent.{Agent}
 use Rattle.keep_agent.specs.Rebuilding.{AgentIsRebuilt, carried_standing}
+use Rattle.keep_asking.specs.Sending.{Lanes}
 use Rattle.keep_asking.specs.declared.told.Said.{Said}
 use Rattle.keep_clock.specs.declared.reading.Reading.{Reading}
 use Rattle.keep_inventory.specs.Inventories.{Inventory}
 use Rattle.keep_lanes.specs.declared.lanes.Answered.{Answered}
 use Rattle.watch_machine.specs.declared.command.Request.{Request}
-use Rattle.keep_serving.specs.Held.{Held}
+use Rattle.keep_serving.specs.Changes.{ServesInventory}
+use Rattle.keep_serving.specs.Held.{Held, ServingSide, serving_side}
 use Rattle.keep_serving.specs.Laws.{OneKeepsInventory}
 use Rattle.keep_serving.specs.Stages.{AnswersAreTaken}
 use Rattle.keep_serving.specs.Words.{AllFollow, HandsBy, TurnFollowsWords, Words}
@@ -82,3 +84,9 @@ abbrev pub RebuiltAlikeLaw : Type 0
 RebuiltAlikeLaw =
     (a b new last : Agent) (s t : Inventory) (width : ℕ) → AreAgentsAlike a b → AreInventoriesAlike s t → ((i : ℕ) → carried_standing b t i ≡ carried_standing a s i) → AgentIsRebuilt a s width new → AgentIsRebuilt b t width last →
     AreAgentsAlike new last
+
+-- and after an inventory was handed over to each, which is served already by both or by neither, and if the same is carried over
+abbrev pub ServedAlikeLaw : Type 0
+ServedAlikeLaw =
+    (h k : Held) (l m : Lanes) (a b : ServingSide) (s t : Inventory) → AreHeldAlike h k → AreInventoriesAlike s t → ((s ≡ h.agent.inventory) ↔ (t ≡ k.agent.inventory)) →
+    ((i : ℕ) → carried_standing k.agent t i ≡ carried_standing h.agent s i) → ServesInventory s (serving_side h l) a → ServesInventory t (serving_side k m) b → AreHeldAlike a.held b.held

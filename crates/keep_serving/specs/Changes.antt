@@ -1,6 +1,6 @@
 -- Changes: what is taken from clients and files while the agent runs, and what it makes of the agent.
 -- Source: this project's own.
-use Rattle.std.specs.Prelude.{◌≡◌, ◌++◌, Bool, true, false, List, [], ◌∷◌, Option, Some, None, IfSome, Result}
+use Rattle.std.specs.Prelude.{◌≡◌, ◌≢◌, ◌⊎◌, ◌++◌, Bool, true, false, List, [], ◌∷◌, Option, Some, None, IfSome, Result}
 use Rattle.keep_agent.specs.Rebuilding.{AgentIsRebuilt}
 use Rattle.keep_agent.specs.Turns.{AgentTurn}
 use Rattle.keep_inventory.specs.Inventories.{Inventory}
@@ -24,11 +24,15 @@ pub record InventoryIsServed (s : Inventory) (old new : ServingSide) : Type 0 wh
   pub held : new.held ≡ record old.held { agent = new.held.agent; pending = []; unsent = [] }
   pub lanes : new.lanes ≡ record old.lanes { out = [] }
 
+-- an inventory that is served already, with the needs as they were given last, is no change: all stays as it is, also what is out
+abbrev pub ServesInventory : Inventory → ServingSide → ServingSide → Type 0
+ServesInventory s old new = ((s ≡ old.held.agent.inventory) × (new ≡ old)) ⊎ ((s ≢ old.held.agent.inventory) × InventoryIsServed s old new)
+
 -- what a change makes
 abbrev pub MakesChange : Change → ServingSide → ServingSide → Type 0
 MakesChange (Need i until) old new = AgentIsTurned (events.Need i until) old new
 MakesChange Begin old new = AgentIsTurned events.Begin old new
-MakesChange (Serve s) old new = InventoryIsServed s old new
+MakesChange (Serve s) old new = ServesInventory s old new
 MakesChange Kept old new = new ≡ old
 
 -- a change that was taken, and whether memory sufficed to make it; where it did not, all is as it was, and it is to be given again
@@ -36,9 +40,16 @@ pub record MadeChange : Type 0 where
   pub change : Change
   pub is_made : Bool
 
+-- none but another inventory wants memory
+abbrev pub WantsMemory : Change → ServingSide → Type 0
+WantsMemory (Need i until) old = ⊥
+WantsMemory Begin old = ⊥
+WantsMemory (Serve s) old = s ≢ old.held.agent.inventory
+WantsMemory Kept old = ⊥
+
 abbrev pub ChangeIsMade : Change → Bool → ServingSide → ServingSide → Type 0
 ChangeIsMade change true old new = MakesChange change old new
-ChangeIsMade change false old new = new ≡ old
+ChangeIsMade change false old new = WantsMemory change old × (new ≡ old)
 
 -- that of a turn or of a pause, where one was given
 abbrev pub OneIsMade : Option MadeChange → ServingSide → ServingSide → Type 0

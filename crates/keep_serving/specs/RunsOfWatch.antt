@@ -1,6 +1,7 @@
 -- RunsOfWatch: the runs of the Watches of an agent, from its start on. One run is made over each inventory that is served. Ends are
 -- handed to it first: at a start those that were told before, at a rebuilding those that are carried over. Then come the events of turns.
 -- Source: this project's own.
+use Rattle.std.proofs.Common.{inl, inr}
 use Rattle.std.specs.Prelude.{◌≡◌, ℕ, zero, suc, ◌++◌, Bool, true, false, List, [], ◌∷◌, Option, Some, None, Ok, filter, length, map}
 use Rattle.std.specs.List.{All}
 use Rattle.keep_agent.specs.Agent.{Agent, fresh}
@@ -14,7 +15,7 @@ use Rattle.watch_machine.specs.declared.event.Event.TheVariants as events
 use Rattle.watch_machine.specs.History.{IsWatchRun, Turned, after_all}
 use Rattle.watch_machine.specs.State.{WatchState, opened}
 use Rattle.keep_serving.specs.Apart.{Ending, EndsBy, IsWaitedApart, Waited, Spent, Unread, Over, Wanting, Changed}
-use Rattle.keep_serving.specs.Changes.{ChangeIsMade, MadeChange, OneIsMade}
+use Rattle.keep_serving.specs.Changes.{ChangeIsMade, MadeChange, OneIsMade, ServesInventory}
 use Rattle.keep_serving.specs.Held.{ServingSide, held_at_first}
 use Rattle.keep_serving.specs.Laws.{IsStretch}
 use Rattle.keep_serving.specs.Resuming.{AreResumed, IsResumed}
@@ -84,10 +85,15 @@ rebuilt_run old s width new h =
 
 -- ---- turns of the loop: what becomes of the runs
 
--- another inventory that is served is another Watch; any other change is an event of the one that is, or none
+-- another inventory that is served is another Watch; the same is none
+abbrev pub runs_of_serving : (s : Inventory) (old new : ServingSide) → ServesInventory s old new → RunsOfWatches → RunsOfWatches
+runs_of_serving s old new (inl h) runs = runs
+runs_of_serving s old new (inr h) runs = runs_then (rebuilt_run old.held.agent s old.held.agent.machine.width new.held.agent h.1.agent) runs
+
+-- any other change is an event of the Watch that is, or none
 abbrev pub runs_of_change :
     (c : Change) (is_made : Bool) (old new : ServingSide) → ChangeIsMade c is_made old new → RunsOfWatches → RunsOfWatches
-runs_of_change (Serve s) true old new h runs = runs_then (rebuilt_run old.held.agent s old.held.agent.machine.width new.held.agent h.agent) runs
+runs_of_change (Serve s) true old new h runs = runs_of_serving s old new h runs
 runs_of_change c is_made old new h runs = runs_and (turns_of_change c is_made old new h) runs
 
 abbrev pub runs_of_one : (made : Option MadeChange) (old new : ServingSide) → OneIsMade made old new → RunsOfWatches → RunsOfWatches

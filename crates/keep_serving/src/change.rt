@@ -8,7 +8,7 @@ pub enum Change {
     Need { entry: u32, until: u64 },
     /// Everything is to be looked up anew.
     Begin,
-    /// This inventory is served from now on.
+    /// This inventory is served from now on. One that is served already, with the same needs, is no change at all.
     Serve(Inventory),
     /// It is kept, and nothing is made of it now: a rebuilding takes it up later.
     Kept,

@@ -41,7 +41,7 @@ impl Serving {
         is_made
     }
 
-    /// Makes a change. Whether memory sufficed; where it did not all is as it was.
+    /// Makes a change. Whether memory sufficed; where it did not all is as it was. None but another inventory wants memory.
     pub(crate) fn make<L: Lanes>(&mut self, alloc: Global, lanes: &mut L, change: Change) -> bool
         ensures made { ChangeIsMade change result (serving_side self.old (⟦<L as SeenLanes>⟧.seen lanes.old)) (serving_side self.new (⟦<L as SeenLanes>⟧.seen lanes.new)) }
         ensures width { L.width lanes.new ≡ L.width lanes.old }
@@ -56,7 +56,7 @@ impl Serving {
                 self.take(alloc, Event::Begin);
                 true
             }
-            Change::Serve(inventory) => self.serve_instead(alloc, lanes, inventory),
+            Change::Serve(inventory) => self.serve(alloc, lanes, inventory),
             Change::Kept => true,
         }
     }
@@ -69,17 +69,17 @@ impl Serving {
         let _turned = self.agent.turn(alloc, event);
     }
 
-    /// Serves another inventory from now on, and forgets what is out. Whether memory sufficed.
-    fn serve_instead<L: Lanes>(
-        &mut self,
-        alloc: Global,
-        lanes: &mut L,
-        inventory: Inventory,
-    ) -> bool
+    /// Serves this inventory from now on, and forgets what is out; where it is served already all stays as it is. Whether memory
+    /// sufficed.
+    #[tactic(auto, using(crate::proofs::Changed::served_already, crate::proofs::Changed::served_anew))]
+    fn serve<L: Lanes>(&mut self, alloc: Global, lanes: &mut L, inventory: Inventory) -> bool
         ensures made { ChangeIsMade (Serve inventory) result (serving_side self.old (⟦<L as SeenLanes>⟧.seen lanes.old)) (serving_side self.new (⟦<L as SeenLanes>⟧.seen lanes.new)) }
         ensures width { L.width lanes.new ≡ L.width lanes.old }
         ensures port { L.host_port lanes.new ≡ L.host_port lanes.old }
     {
+        if self.agent.serves(&inventory) {
+            return true;
+        }
         let width = self.agent.watch().width();
         let Ok(agent) = self.agent.rebuilt(alloc, inventory, width) else {
             return false;

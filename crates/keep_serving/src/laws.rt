@@ -1,5 +1,5 @@
 //! Laws of the loop.
-ghost use Rattle.keep_serving.specs.Alike.{AlikeLaw, RebuiltAlikeLaw};
+ghost use Rattle.keep_serving.specs.Alike.{AlikeLaw, RebuiltAlikeLaw, ServedAlikeLaw};
 ghost use Rattle.keep_serving.specs.Laws.{CallsLaw, OneWayLaw, StretchLaw, TurnWaitLaw, WordsLaw};
 ghost use Rattle.keep_serving.specs.RunsOfWatch.{CarriedLaw, OneRunLaw, ResumedLaw, ServingLaw};
 
@@ -12,7 +12,8 @@ pub fn a_stretch_is_a_run()
 
 /// The law that all that its Watches were handed from a start on is a run of each, from its making on. At a start the ends that were told
 /// before come first; a start may wait, and a change may end its wait; then come turns. Where another inventory is served, another run
-/// begins, with the ends that are carried over. In turns that serve one inventory the run goes on by the events of [`a_stretch_is_a_run`].
+/// begins, with the ends that are carried over; one that is served already leaves the run as it is. In turns that serve one inventory the
+/// run goes on by the events of [`a_stretch_is_a_run`].
 pub fn a_serving_is_a_run()
     ensures runs { ServingLaw }
     ensures start { ResumedLaw }
@@ -37,8 +38,9 @@ pub fn a_turn_is_bounded()
 
 /// The law that credentials change no turn: of two agents that differ in credentials alone, with the same readings and changes and with
 /// answers of the same content, the same requests go out, and they differ in credentials alone after it. And so they do after another
-/// inventory is served, if the same is carried over.
+/// inventory is served, if the same is carried over, and after one that may be served already, if it is so in both or in neither.
 pub fn secrets_change_no_turn()
     ensures turns { AlikeLaw }
     ensures rebuilding { RebuiltAlikeLaw }
+    ensures served { ServedAlikeLaw }
 {}

@@ -16,7 +16,7 @@ struct Kept {
 }
 
 /// What of a file's stamp changes as it is written.
-#[derive(Clone, Copy, Debug, PartialEq, Eq)]
+#[derive(Clone, Copy)]
 pub enum Stamping {
     /// When it was written, and how many bytes it has.
     Written,
@@ -78,7 +78,12 @@ impl Drawer {
     }
 
     fn at(&self, path: &[u8]) -> Option<&Kept> {
-        self.files.iter().find(|file| file.path.as_slice() == path)
+        for file in &self.files {
+            if file.path.as_slice() == path {
+                return Some(file);
+            }
+        }
+        None
     }
 
     fn stamp_at(&self, path: &[u8]) -> Option<FileStamp> {

@@ -1,83 +1,101 @@
 //! What happens in a play.
 use crate::fault::Fault;
-use crate::guests::Peer;
+use crate::guests::{Peer, guest_named};
 use crate::play::{Play, Told};
 use crate::running::Running;
-use crate::settings::put_file;
+use crate::settings::{Setting, put_file};
 use crate::steps::Step;
 use crate::words::{lane_fault, number};
-use keep_lanes::LaneFault;
 use keep_tree::Forest;
+use keep_words::push_number;
 use std::alloc::{AllocError, Global};
 use watch_machine::{Operation, Out};
 
 impl<'a> Play<'a> {
     /// Goes on by a step; what came, where it is one of which something comes.
-    pub fn go_on(&mut self, step: &Step<'_>) -> Result<Option<Vec<u8>>, Fault> {
-        let unread = step.unread();
-        match step.words.as_slice() {
-            ["turns", count] => self.turns(number(count).ok_or(unread)?)?,
-            ["client", name, words @ ..] => self.comes(step, name, words, true)?,
-            ["onlooker", name, words @ ..] => self.comes(step, name, words, false)?,
-            ["request", request, fault @ ..] => {
-                let request = number(request).ok_or(unread)?;
-                let fault = lane_fault(fault).ok_or(unread)?;
-                self.set_fault(request, fault)?;
+    pub fn go_on(
+        &mut self,
+        setting: &mut Setting,
+        step: &Step<'_>,
+    ) -> Result<Option<Vec<u8>>, Fault> {
+        let words = step.words.as_slice();
+        match self.happens(setting, step, words) {
+            None => {
+                let told = self.outcome(words, step.unread())?;
+                Ok(Some(told))
             }
-            ["file", path, words @ ..] => self.put(step, path, words)?,
-            ["restart"] => self.restart(step.line)?,
-            // (See sweeps.)
-            ["sweep", ..] => {}
-            words => return Ok(Some(self.outcome(words)?.ok_or(unread)?)),
+            Some(Ok(())) => Ok(None),
+            Some(Err(fault)) => Err(fault),
         }
-        Ok(None)
     }
 
-    fn set_fault(&mut self, request: u64, fault: LaneFault) -> Result<(), AllocError> {
-        match &mut self.running {
-            None => Ok(()),
-            Some(running) => running.set_fault(request, fault),
+    // What these words of a step say happens; `None` where they do not say what happens.
+    fn happens(
+        &mut self,
+        setting: &mut Setting,
+        step: &Step<'_>,
+        words: &[&str],
+    ) -> Option<Result<(), Fault>> {
+        match words {
+            ["turns", count] => Some(self.turns(count, step.unread())),
+            ["client", name, words @ ..] => Some(self.client_comes(step, name, words)),
+            ["onlooker", name, words @ ..] => Some(self.onlooker_comes(step, name, words)),
+            ["request", request, fault @ ..] => Some(self.goes_wrong(
+                request,
+                fault,
+                step.unread(),
+            )),
+            ["file", path, words @ ..] => Some(self.put(step, path, words)),
+            ["restart"] => Some(self.restart(setting, step.refused())),
+            // (See sweeps.)
+            ["sweep", ..] => Some(Ok(())),
+            _ => None,
         }
+    }
+
+    // A request to come goes wrong.
+    fn goes_wrong(&mut self, request: &str, fault: &[&str], unread: Fault) -> Result<(), Fault> {
+        let request = number(request, unread)?;
+        let fault = lane_fault(fault, unread)?;
+        self.running.set_fault(request, fault)?;
+        Ok(())
     }
 
     fn put(&mut self, step: &Step<'_>, path: &str, words: &[&str]) -> Result<(), Fault> {
         match &mut self.house.others.state {
-            None => Err(Fault::Step(step.line)),
+            None => Err(step.refused()),
             Some(ledger) => put_file(self.alloc, step, path, words, &mut ledger.inputs),
         }
     }
 
-    // A guest comes in: a client, or an onlooker.
-    fn comes(
-        &mut self,
-        step: &Step<'_>,
-        name: &str,
-        words: &[&str],
-        is_client: bool,
-    ) -> Result<(), Fault> {
-        let guests = self.guests;
-        let guest = guests
-            .iter()
-            .find(|guest| guest.name == name)
-            .ok_or(step.unread())?;
-        let peer = Peer::new(guest, step.bytes(self.alloc)?);
-        let peer = peer.with(words).ok_or(step.unread())?;
-        let house = &mut self.house.others;
-        match (is_client, &mut house.control, &mut house.onlookers) {
-            (true, Some(control), _) => control.door.bring(peer)?,
-            (false, _, Some(onlookers)) => onlookers.door.bring(peer)?,
-            _ => return Err(Fault::Step(step.line)),
+    fn client_comes(&mut self, step: &Step<'_>, name: &str, words: &[&str]) -> Result<(), Fault> {
+        let peer = self.peer(step, name, words)?;
+        match &mut self.house.others.control {
+            None => Err(step.refused()),
+            Some(control) => control.door.bring(peer),
         }
-        Ok(())
     }
 
-    fn turns(&mut self, count: u64) -> Result<(), AllocError> {
-        let Some(running) = &mut self.running else {
-            return Ok(());
-        };
-        for _ in 0..count {
-            running.turn(self.alloc, &mut self.clock, &mut self.house);
-            keep_asked(self.alloc, running, &mut self.told)?;
+    fn onlooker_comes(&mut self, step: &Step<'_>, name: &str, words: &[&str]) -> Result<(), Fault> {
+        let peer = self.peer(step, name, words)?;
+        match &mut self.house.others.onlookers {
+            None => Err(step.refused()),
+            Some(onlookers) => onlookers.door.bring(peer),
+        }
+    }
+
+    // The connection of a guest who comes.
+    fn peer(&self, step: &Step<'_>, name: &str, words: &[&str]) -> Result<Peer<'a>, Fault> {
+        let guest = guest_named(self.guests, name, step.unread())?;
+        let text = step.bytes(self.alloc)?;
+        Peer::new(guest, text, words, step.unread())
+    }
+
+    fn turns(&mut self, count: &str, unread: Fault) -> Result<(), Fault> {
+        for _ in 0..number(count, unread)? {
+            self.running
+                .turn(self.alloc, &mut self.clock, &mut self.house);
+            keep_asked(self.alloc, &self.running, &mut self.told)?;
         }
         Ok(())
     }
@@ -85,7 +103,9 @@ impl<'a> Play<'a> {
 
 // Keeps the requests that are out and were not after the turn before.
 fn keep_asked(alloc: Global, running: &Running, told: &mut Told) -> Result<(), AllocError> {
-    let agent = running.agent();
+    let Some(agent) = running.agent() else {
+        return Ok(());
+    };
     let forest = agent.inventory().forest();
     let out = agent.watch().out();
     for request in out {
@@ -99,11 +119,15 @@ fn keep_asked(alloc: Global, running: &Running, told: &mut Told) -> Result<(), A
 
 // Whether a request is among these.
 fn is_among(out: &[Out], request: &Out) -> bool {
-    out.iter().any(|one| {
-        one.since == request.since
+    for one in out {
+        if one.since == request.since
             && one.entry == request.entry
             && one.operation == request.operation
-    })
+        {
+            return true;
+        }
+    }
+    false
 }
 
 // When it was asked, what, and of which entry.
@@ -116,13 +140,11 @@ fn push_request(
     if request.entry >= forest.len() {
         return Ok(());
     }
-    let at = request.since;
-    let operation = match request.operation {
-        Operation::Look => "look",
-        Operation::Renew => "renew",
-    };
-    let words = format!(in alloc; "{at} {operation} ")?;
-    out.extend_from_slice(words.as_bytes())?;
+    push_number(alloc, request.since, out)?;
+    out.extend_from_slice(match request.operation {
+        Operation::Look => b" look ",
+        Operation::Renew => b" renew ",
+    })?;
     out.extend_from_slice(forest.get(request.entry).name.list())?;
     out.push(b'\n')?;
     Ok(())

@@ -1,19 +1,30 @@
 use keep_device::InputFault;
 use std::alloc::{AllocError, AllocFailed};
-use std::io;
-use thiserror::Error;
+use std::{fmt, io};
 
 /// Why a case is not played.
-#[derive(Clone, Copy, Debug, PartialEq, Eq, Error)]
+#[derive(Clone, Copy)]
 pub enum Fault {
-    #[error("line {0} of the case cannot be read")]
+    /// The line with that number cannot be read.
     Line(usize),
-    #[error("the step of line {0} does not come about: the play cannot begin or go on with it")]
+    /// The step of that line does not come about.
     Step(usize),
-    #[error("standard streams")]
     Streams,
-    #[error("out of memory")]
     Memory,
+}
+
+impl fmt::Display for Fault {
+    fn fmt<W: fmt::Write>(&self, f: &mut fmt::Formatter<W>) -> fmt::Result {
+        match self {
+            Fault::Line(line) => write!(f, "line {line} of the case cannot be read"),
+            Fault::Step(line) => write!(
+                f,
+                "the step of line {line} does not come about: the play cannot begin or go on with it"
+            ),
+            Fault::Streams => write!(f, "standard streams"),
+            Fault::Memory => write!(f, "out of memory"),
+        }
+    }
 }
 
 impl Fault {

@@ -3,6 +3,7 @@ ghost use Rattle.std.specs.Prelude.{◌≤◌, ◌≡◌, length};
 
 use crate::fault::Fault;
 use crate::steps::Step;
+use crate::words::number;
 use keep_clients::{Door, Talk};
 use keep_device::Tried;
 use std::alloc::{AllocError, Global};
@@ -73,6 +74,20 @@ pub fn guests_of<'a>(
     Ok(guests)
 }
 
+/// The guest of that name.
+pub fn guest_named<'a>(
+    guests: &'a [Guest<'a>],
+    name: &str,
+    unread: Fault,
+) -> Result<&'a Guest<'a>, Fault> {
+    for guest in guests {
+        if guest.name == name {
+            return Ok(guest);
+        }
+    }
+    Err(unread)
+}
+
 /// A connection of a guest.
 #[derive(Drop)]
 pub struct Peer<'a> {
@@ -86,31 +101,26 @@ pub struct Peer<'a> {
 }
 
 impl<'a> Peer<'a> {
-    /// One that sends its text at once, and takes what it is sent.
-    pub fn new(guest: &'a Guest<'a>, text: Vec<u8>) -> Peer<'a> {
-        Peer {
+    /// One that sends this text, and takes what it is sent, as these words have it: at once, where they say nothing.
+    pub fn new(
+        guest: &'a Guest<'a>,
+        text: Vec<u8>,
+        words: &[&str],
+        unread: Fault,
+    ) -> Result<Peer<'a>, Fault> {
+        let (piece, takes) = match words {
+            [] => (4096, 4096),
+            ["piece", piece] => (number(piece, unread)? as usize, 4096),
+            ["takes", takes] => (4096, number(takes, unread)? as usize),
+            _ => return Err(unread),
+        };
+        Ok(Peer {
             guest,
             text,
-            piece: 4096,
+            piece,
             at: 0,
-            takes: 4096,
-        }
-    }
-
-    /// The same as these words have it; `None` where they cannot be read.
-    pub fn with(self, words: &[&str]) -> Option<Peer<'a>> {
-        match words {
-            [] => Some(self),
-            ["piece", piece] => Some(Peer {
-                piece: piece.parse::<usize>().ok()?,
-                ..self
-            }),
-            ["takes", takes] => Some(Peer {
-                takes: takes.parse::<usize>().ok()?,
-                ..self
-            }),
-            _ => None,
-        }
+            takes,
+        })
     }
 
     fn get_text(&mut self, buf: &mut [u8]) -> usize
@@ -167,7 +177,7 @@ impl<'a> PeerDoor<'a> {
     }
 
     /// One more comes to it.
-    pub fn bring(&mut self, peer: Peer<'a>) -> Result<(), AllocError> {
+    pub fn bring(&mut self, peer: Peer<'a>) -> Result<(), Fault> {
         self.peers.push_back(peer)?;
         Ok(())
     }

@@ -13,6 +13,7 @@ mod events;
 mod fault;
 mod guests;
 mod outcomes;
+mod places;
 mod play;
 mod run;
 mod running;

@@ -1,38 +1,44 @@
 //! A play, from its start on.
-use crate::drawers::Drawer;
 use crate::fault::Fault;
 use crate::guests::{Guest, guests_of};
-use crate::running::Running;
-use crate::settings::Setting;
-use crate::starts::{
-    Course, ENDS, FILE, Ground, MemoryHouse, MemoryLedger, clock_of, lanes_of, start, stored,
-};
+use crate::running::{MemoryLanes, Running};
+use crate::settings::{FILE, Setting};
+use crate::starts::{MemoryHouse, Said, lanes_of};
 use crate::steps::Step;
 use crate::sweeps::Disturbance;
-use keep_clock::{Clock as _, MemoryClock, Reading};
-use keep_disk::{Failing, MemoryDisk, Stored};
-use keep_ends::EndsFile;
+use keep_clock::MemoryClock;
+use keep_house::{Desk, House};
 use keep_log::MemorySink;
+use keep_onlook::FileReading;
 use keep_serving::EarlyDay;
-use keep_state::{Paths, State};
-use std::alloc::{AllocError, Global};
+use keep_state::Paths;
+use std::alloc::Global;
 use std::mem;
 use watch_machine::Out;
 
 /// The state folder.
 const FOLDER: &str = "state";
 
+/// The calls of its clock that a play keeps.
+const CLOCK_CALLS: usize = 4096;
+
+/// The inventory's file before a start.
+const UNREAD: FileReading = FileReading {
+    is_good: false,
+    at: None,
+    good_at: None,
+};
+
 /// An agent, and all that is around it.
 #[derive(Drop)]
 pub struct Play<'a> {
     pub alloc: Global,
-    pub course: Course,
     pub paths: &'a Paths,
     pub guests: &'a [Guest<'a>],
     pub clock: MemoryClock,
-    /// What serves; it is never missing but while it is started again.
-    pub running: Option<Running>,
+    pub running: Running,
     pub house: EarlyDay<MemoryHouse<'a>>,
+    pub said: Said,
     pub told: Told,
 }
 
@@ -49,202 +55,64 @@ pub struct Told {
     pub requests: Vec<u8>,
 }
 
-/// Plays a case, where this goes wrong: what came of each of its steps of which something comes.
+/// Plays a case, where this goes wrong: what came of each of its steps of which something comes. A start that is refused is a fault of the
+/// first step at which something happens.
 pub fn outcomes_of(
     alloc: Global,
     steps: &[Step<'_>],
     disturbance: Disturbance,
 ) -> Result<Vec<Option<Vec<u8>>>, Fault> {
     let mut setting = Setting::new(alloc);
-    let first = setting.take_first(steps)?;
-    disturbance.disturb(&mut setting)?;
-    let guests = guests_of(alloc, steps, setting.guest_fails)?;
-    let Ok(paths) = Paths::of(alloc, FILE, FOLDER) else {
-        return Err(Fault::Memory);
-    };
-    let line = steps.get(first).map_or(0, |step| step.line);
-    let mut play = begin(alloc, setting, &paths, &guests, line)?;
-    outcomes_from(alloc, &mut play, steps, first)
+    played(alloc, &mut setting, steps, disturbance)
 }
 
-/// What came of each step, of which so many only say what the play begins with.
-fn outcomes_from(
+/// The same, with a setting that says nothing yet.
+fn played(
     alloc: Global,
-    play: &mut Play<'_>,
+    setting: &mut Setting,
+    steps: &[Step<'_>],
+    disturbance: Disturbance,
+) -> Result<Vec<Option<Vec<u8>>>, Fault> {
+    let first = setting.take_first(steps)?;
+    disturbance.disturb(setting)?;
+    let guests = guests_of(alloc, steps, setting.guest_fails)?;
+    match Paths::of(alloc, FILE, FOLDER) {
+        Ok(paths) => played_among(alloc, setting, &paths, &guests, steps, first),
+        Err(_) => Err(Fault::Memory),
+    }
+}
+
+/// The same, with a setting that so many steps say.
+fn played_among(
+    alloc: Global,
+    setting: &mut Setting,
+    paths: &Paths,
+    guests: &[Guest<'_>],
     steps: &[Step<'_>],
     first: usize,
 ) -> Result<Vec<Option<Vec<u8>>>, Fault> {
-    let mut outcomes = Vec::new(alloc);
-    for (number, step) in steps.iter().enumerate() {
-        let outcome = if number < first {
-            None
-        } else {
-            play.go_on(step)?
-        };
-        outcomes.push(outcome)?;
-    }
-    Ok(outcomes)
-}
-
-/// Begins a play; a start that is refused is a fault of this line.
-fn begin<'a>(
-    alloc: Global,
-    setting: Setting,
-    paths: &'a Paths,
-    guests: &'a [Guest<'a>],
-    line: usize,
-) -> Result<Play<'a>, Fault> {
-    let Setting {
-        course,
-        ground,
-        readings,
-        answers,
-        width,
-        ..
-    } = setting;
-    let mut clock = clock_of(alloc, readings)?;
-    let now = read_clock(&mut clock);
-    let Some(lanes) = lanes_of(alloc, &course.broker, course.timeout, width)? else {
-        return Err(Fault::Step(line));
+    let refused = match steps.get(first) {
+        None => Fault::Step(0),
+        Some(step) => step.refused(),
     };
-    let sink = MemorySink::new(alloc, answers);
-    match start(alloc, &course, ground, paths, sink, lanes, now)? {
-        None => Err(Fault::Step(line)),
-        Some((running, house)) => {
-            let house = EarlyDay::new(house, course.earlier());
-            Ok(Play {
-                alloc,
-                course,
-                paths,
-                guests,
-                clock,
-                running: Some(running),
-                house,
-                told: Told::new(alloc),
-            })
-        }
-    }
+    let readings = mem::replace(&mut setting.readings, Vec::new(alloc));
+    let clock = MemoryClock::new(alloc, readings, CLOCK_CALLS)?;
+    let lanes = lanes_of(alloc, setting, setting.width, refused)?;
+    let desk = Desk::new(alloc, setting.form, 0)?;
+    let house = house_of(alloc, setting, desk);
+    let play = Play::new(alloc, paths, guests, clock, lanes, house);
+    play.over(setting, steps, first, refused)
 }
 
-/// The reading of a start.
-fn read_clock(clock: &mut MemoryClock) -> Reading {
-    clock.read().unwrap_or(Reading {
-        wall: 0,
-        elapsed: 0,
-    })
-}
-
-/// A file of a disk as it is read; none where there is none.
-pub fn file_of(
-    alloc: Global,
-    disk: &MemoryDisk,
-    path: &str,
-) -> Result<Option<Vec<u8>>, AllocError> {
-    match disk.file(alloc, path)? {
-        None => Ok(None),
-        Some(held) => Ok(Some(held.bytes)),
-    }
-}
-
-/// Adds the file at a path, if the disk has one.
-fn keep_file(
-    alloc: Global,
-    disk: &MemoryDisk,
-    path: &str,
-    files: &mut Vec<Stored>,
-) -> Result<(), AllocError> {
-    if let Some(bytes) = file_of(alloc, disk, path)? {
-        files.push(stored(alloc, path, bytes)?)?;
-    }
-    Ok(())
-}
-
-/// The files of a state.
-fn state_files(alloc: Global, state: &State<'_, MemoryDisk>) -> Result<Vec<Stored>, AllocError> {
-    let mut files = Vec::new(alloc);
-    keep_file(alloc, state.disk(), FILE, &mut files)?;
-    keep_file(alloc, state.disk(), state.paths().journal(), &mut files)?;
-    keep_file(alloc, state.disk(), state.paths().copy(), &mut files)?;
-    keep_file(alloc, state.disk(), state.paths().aside(), &mut files)?;
-    Ok(files)
-}
-
-/// The files of the ends, where they are kept.
-fn ends_files(
-    alloc: Global,
-    ends: &Option<EndsFile<MemoryDisk>>,
-) -> Result<Vec<Stored>, AllocError> {
-    let mut files = Vec::new(alloc);
-    if let Some(ends) = ends {
-        keep_file(alloc, &ends.disk, ENDS, &mut files)?;
-    }
-    Ok(files)
-}
-
-/// What the disks hold after an agent that had this ledger; `None` where there is no inventory. No call of them fails from now on.
-fn ground_after(
-    alloc: Global,
-    ledger: &mut MemoryLedger<'_>,
-    ends: &Option<EndsFile<MemoryDisk>>,
-) -> Result<Option<Ground>, AllocError> {
-    let Some(file) = file_of(alloc, ledger.state.disk(), FILE)? else {
-        return Ok(None);
-    };
-    let state_files = state_files(alloc, &ledger.state)?;
-    let ends_files = ends_files(alloc, ends)?;
-    Ok(Some(Ground {
-        file,
-        state: Some(Failing::Never),
-        state_files,
-        ends: ends.as_ref().map(|_| Failing::Never),
-        ends_files,
-        drawer: mem::replace(&mut ledger.inputs, Drawer::new(alloc)),
-    }))
-}
-
-impl<'a> Play<'a> {
-    /// The agent is ended and started again, over the same disks; a start that is refused is a fault of this line.
-    pub fn restart(&mut self, line: usize) -> Result<(), Fault> {
-        let Some(ground) = self.ground()? else {
-            return Err(Fault::Step(line));
-        };
-        let Some(running) = self.running.take() else {
-            return Err(Fault::Step(line));
-        };
-        let now = read_clock(&mut self.clock);
-        let none = MemorySink::new(self.alloc, Vec::new(self.alloc));
-        let sink = mem::replace(&mut self.house.others.sink, none);
-        let lanes = running.into_lanes();
-        match start(
-            self.alloc,
-            &self.course,
-            ground,
-            self.paths,
-            sink,
-            lanes,
-            now,
-        )? {
-            None => Err(Fault::Step(line)),
-            Some((running, house)) => {
-                self.running = Some(running);
-                self.house = EarlyDay::new(house, self.course.earlier());
-                Ok(())
-            }
-        }
-    }
-
-    // What the disks hold now; `None` where no changes are kept.
-    fn ground(&mut self) -> Result<Option<Ground>, AllocError> {
-        let alloc = self.alloc;
-        let house = &mut self.house.others;
-        match &mut house.state {
-            None => Ok(None),
-            Some(ledger) => ground_after(alloc, ledger, &house.ends),
-        }
-    }
+/// A house in which there is the log alone.
+fn house_of<'a>(alloc: Global, setting: &mut Setting, desk: Desk) -> EarlyDay<MemoryHouse<'a>> {
+    let answers = mem::replace(&mut setting.answers, Vec::new(alloc));
+    let house = House::new(desk, MemorySink::new(alloc, answers), UNREAD);
+    EarlyDay::new(house, u64::from(setting.part).saturating_mul(1000))
 }
 
 impl Told {
+    /// Nothing.
     fn new(alloc: Global) -> Told {
         Told {
             log: 0,
@@ -252,5 +120,63 @@ impl Told {
             out: Vec::new(alloc),
             requests: Vec::new(alloc),
         }
+    }
+}
+
+impl<'a> Play<'a> {
+    // One of which no agent is started.
+    fn new(
+        alloc: Global,
+        paths: &'a Paths,
+        guests: &'a [Guest<'a>],
+        clock: MemoryClock,
+        lanes: MemoryLanes,
+        house: EarlyDay<MemoryHouse<'a>>,
+    ) -> Play<'a> {
+        Play {
+            alloc,
+            paths,
+            guests,
+            clock,
+            running: Running::new(lanes),
+            house,
+            said: Said::new(alloc),
+            told: Told::new(alloc),
+        }
+    }
+
+    // It is played, and over then; what came of each step, of which so many only say what the play begins with.
+    fn over(
+        self,
+        setting: &mut Setting,
+        steps: &[Step<'_>],
+        first: usize,
+        refused: Fault,
+    ) -> Result<Vec<Option<Vec<u8>>>, Fault> {
+        let mut play = self;
+        let outcomes = play.outcomes(setting, steps, first, refused);
+        drop(play);
+        outcomes
+    }
+
+    // What came of each step.
+    fn outcomes(
+        &mut self,
+        setting: &mut Setting,
+        steps: &[Step<'_>],
+        first: usize,
+        refused: Fault,
+    ) -> Result<Vec<Option<Vec<u8>>>, Fault> {
+        self.start(setting, refused)?;
+        let mut outcomes = Vec::new(self.alloc);
+        for (number, step) in steps.iter().enumerate() {
+            let outcome = if number < first {
+                None
+            } else {
+                self.go_on(setting, step)?
+            };
+            outcomes.push(outcome)?;
+        }
+        Ok(outcomes)
     }
 }

@@ -22,16 +22,15 @@ pub fn run<R: AllocGlobal + Print, I: Read + Drop>(rt: &R, input: I) -> Result<(
 
 /// What came of each step, those that sweep included.
 fn all_outcomes(alloc: Global, case: &Case<'_>) -> Result<Vec<Option<Vec<u8>>>, Fault> {
-    let plain = outcomes_of(alloc, &case.steps, Disturbance::Nothing)?;
-    let mut all = Vec::new(alloc);
-    for (step, outcome) in case.steps.iter().zip(plain.iter()) {
-        match (step.words.as_slice(), outcome) {
-            (["sweep", words @ ..], _) => {
-                all.push(Some(swept(alloc, case, &plain, words, step.unread())?))?;
+    let mut outcomes = outcomes_of(alloc, &case.steps, Disturbance::Nothing)?;
+    let whole = case.written(alloc, &outcomes)?;
+    for (number, step) in case.steps.iter().enumerate() {
+        if let ["sweep", words @ ..] = step.words.as_slice() {
+            let told = swept(alloc, case, &whole, words, step.unread())?;
+            if let Some(outcome) = outcomes.get_mut(number) {
+                *outcome = Some(told);
             }
-            (_, None) => all.push(None)?,
-            (_, Some(bytes)) => all.push(Some(Vec::from_slice(alloc, bytes)?))?,
         }
     }
-    Ok(all)
+    Ok(outcomes)
 }

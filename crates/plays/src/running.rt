@@ -1,5 +1,6 @@
 //! An agent beside its lanes to the broker, in step with them between two turns.
 use crate::fault::Fault;
+use crate::places::put;
 pub use broker_lanes::MemoryLanes;
 use keep_agent::Agent;
 use keep_clock::Clock;
@@ -10,36 +11,48 @@ use std::alloc::{AllocError, Global};
 use std::marker::Model;
 use watch_machine::Event;
 
-/// An agent, and its lanes to the broker.
+/// Lanes to the broker, and the agent that has them, once it is started.
 #[derive(Drop)]
 pub struct Running {
-    serving: Serving,
+    serving: Option<Serving>,
     lanes: MemoryLanes,
 }
 
 impl Model for Running {
+    ghost use Rattle.std.specs.Prelude.{IfSome, Option};
     ghost use Rattle.keep_serving.specs.Held.{Held, IsInStep};
 
-    ghost Value = { Held };
+    ghost Value = { Option Held };
 
     ghost view = { λ r. r.serving };
 
-    ghost invariant = { λ r. IsInStep r.lanes.width r.lanes.out r.serving };
+    ghost invariant = { λ r. IfSome r.serving (λ serving. IsInStep r.lanes.width r.lanes.out serving) };
 }
 
 impl Running {
-    /// What serves this inventory over these lanes, of which nothing is out any more, where these ends were told before. The only error is
-    /// out of memory.
-    pub fn begin(
+    /// Lanes of which no agent has one.
+    pub fn new(lanes: MemoryLanes) -> Running {
+        Running {
+            serving: None,
+            lanes,
+        }
+    }
+
+    /// An agent is started that serves this inventory, where these ends were told before; the one before it is gone, and nothing is out any
+    /// more. The only error is out of memory.
+    pub fn start(
+        &mut self,
         alloc: Global,
         inventory: Inventory,
         known: &[Event],
-        lanes: MemoryLanes,
-    ) -> Result<Running, Fault> {
-        let mut lanes = lanes;
-        lanes.forget();
-        match Serving::resume(alloc, inventory, &lanes, known) {
-            Ok(serving) => Ok(Running { serving, lanes }),
+    ) -> Result<(), Fault> {
+        put(&mut self.serving, None);
+        self.lanes.forget();
+        match Serving::resume(alloc, inventory, &self.lanes, known) {
+            Ok(serving) => {
+                put(&mut self.serving, Some(serving));
+                Ok(())
+            }
             Err(_) => Err(Fault::Memory),
         }
     }
@@ -51,8 +64,9 @@ impl Running {
         clock: &mut C,
         neighbours: &mut N,
     ) {
-        self.serving
-            .run(alloc, clock, &mut self.lanes, neighbours, 1);
+        if let Some(serving) = &mut self.serving {
+            serving.run(alloc, clock, &mut self.lanes, neighbours, 1);
+        }
     }
 
     /// This goes wrong with the request of that number, from 1.
@@ -61,17 +75,15 @@ impl Running {
     }
 
     /// The agent.
-    pub fn agent(&self) -> &Agent {
-        self.serving.agent()
+    pub fn agent(&self) -> Option<&Agent> {
+        match &self.serving {
+            None => None,
+            Some(serving) => Some(serving.agent()),
+        }
     }
 
     /// The lanes.
     pub fn lanes(&self) -> &MemoryLanes {
         &self.lanes
-    }
-
-    /// The lanes alone.
-    pub fn into_lanes(self) -> MemoryLanes {
-        self.lanes
     }
 }

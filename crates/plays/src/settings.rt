@@ -1,28 +1,96 @@
 //! What a play begins with.
 use crate::drawers::{Drawer, Stamping};
 use crate::fault::Fault;
-use crate::starts::{Course, ENDS, FILE, Ground, file_at};
 use crate::steps::Step;
 use crate::words::{answer, failing, lane_fault, number, readings, small};
 use keep_clock::Reading;
+use keep_disk::{Failing, Held, MemoryDisk, Stored};
 use keep_lanes::NumberedFault;
 use keep_log::{Answer, Form};
 use std::alloc::{AllocError, Global};
+
+/// The inventory's file.
+pub const FILE: &str = "web.toml";
+
+/// Where the ends are kept.
+pub const ENDS: &str = "run/ends";
 
 /// What a play begins with.
 #[derive(Drop)]
 pub struct Setting {
     alloc: Global,
-    pub course: Course,
-    pub ground: Ground,
+    pub form: Form,
+    /// The time-out of a request, in seconds.
+    pub timeout: u32,
+    /// How many requests may be out at once.
+    pub width: u32,
+    /// By how many seconds a day is shorter.
+    pub part: u32,
+    /// The inventory that the broker knows at first.
+    pub broker: Vec<u8>,
+    /// Whether credentials are looked up before they are taken, and what goes wrong with one of these requests.
+    pub looks_up: bool,
+    pub lookup_fault: Option<NumberedFault>,
     /// What the clocks read, one reading after the other; the first is that of the start.
     pub readings: Vec<Option<Reading>>,
     /// What the log's reader answers to its calls, one after the other.
     pub answers: Vec<Answer>,
-    /// How many requests may be out at once.
-    pub width: u32,
     /// The number of the call of the first guest's connection that fails.
     pub guest_fails: u64,
+    /// The text of the inventory that is served.
+    pub file: Vec<u8>,
+    /// Where changes are kept, and where ends.
+    pub state: Store,
+    pub ends: Store,
+    /// The files of credentials.
+    pub drawer: Drawer,
+}
+
+/// A disk before a start.
+#[derive(Drop)]
+pub struct Store {
+    /// Which of its calls fail; `None` where there is no such disk.
+    pub failing: Option<Failing>,
+    pub files: Vec<Stored>,
+}
+
+impl Store {
+    fn new(alloc: Global) -> Store {
+        Store {
+            failing: None,
+            files: Vec::new(alloc),
+        }
+    }
+
+    // Its one file has the text of this step.
+    fn hold(&mut self, alloc: Global, path: &str, step: &Step<'_>) -> Result<(), AllocError> {
+        let bytes = step.bytes(alloc)?;
+        self.files = Vec::new(alloc);
+        self.push(alloc, path, Held { mode: 0o600, bytes })
+    }
+
+    fn push(&mut self, alloc: Global, path: &str, file: Held) -> Result<(), AllocError> {
+        let path = Vec::from_slice(alloc, path.as_bytes())?;
+        self.files.push(Stored { path, file })?;
+        Ok(())
+    }
+
+    /// It has the files that this disk has at these paths, and no call of it fails.
+    pub fn keep(
+        &mut self,
+        alloc: Global,
+        disk: &MemoryDisk,
+        paths: &[&str],
+    ) -> Result<(), AllocError> {
+        self.failing = Some(Failing::Never);
+        self.files = Vec::new(alloc);
+        for path in paths {
+            if let Some(file) = disk.file(alloc, path)? {
+                self.push(alloc, path, file)?;
+            }
+        }
+        Ok(())
+    }
 }
 
 impl Setting {
@@ -30,12 +98,20 @@ impl Setting {
     pub fn new(alloc: Global) -> Setting {
         Setting {
             alloc,
-            course: Course::new(alloc),
-            ground: Ground::new(alloc),
+            form: Form::Text,
+            timeout: 5,
+            width: 8,
+            part: 0,
+            broker: Vec::new(alloc),
+            looks_up: false,
+            lookup_fault: None,
             readings: Vec::new(alloc),
             answers: Vec::new(alloc),
-            width: 8,
             guest_fails: u64::MAX,
+            file: Vec::new(alloc),
+            state: Store::new(alloc),
+            ends: Store::new(alloc),
+            drawer: Drawer::new(alloc),
         }
     }
 
@@ -48,35 +124,35 @@ impl Setting {
                 break;
             }
         }
-        if self.course.broker.is_empty() {
-            self.course.broker = Vec::from_slice(self.alloc, &self.ground.file)?;
+        if self.broker.is_empty() {
+            self.broker = Vec::from_slice(self.alloc, &self.file)?;
         }
         Ok(first)
     }
 
     // Takes what a step says, where that is what a play begins with.
     fn take(&mut self, step: &Step<'_>) -> Result<bool, Fault> {
-        let unread = step.unread();
+        let alloc = self.alloc;
         match step.words.as_slice() {
             ["inventory"] => {
-                self.ground.file = step.bytes(self.alloc)?;
-                self.ground.state_files = file_at(self.alloc, FILE, step.bytes(self.alloc)?)?;
+                self.file = step.bytes(alloc)?;
+                self.state.hold(alloc, FILE, step)?;
             }
-            ["inventory", "later"] => {
-                self.ground.state_files = file_at(self.alloc, FILE, step.bytes(self.alloc)?)?;
+            ["inventory", "later"] => self.state.hold(alloc, FILE, step)?,
+            ["broker"] => self.broker = step.bytes(alloc)?,
+            ["state", words @ ..] => {
+                self.state.failing = Some(failing(words, step.unread())?);
             }
-            ["broker"] => self.course.broker = step.bytes(self.alloc)?,
-            ["state", words @ ..] => self.ground.state = Some(failing(words).ok_or(unread)?),
             ["ends", words @ ..] => {
-                self.ground.ends = Some(failing(words).ok_or(unread)?);
+                self.ends.failing = Some(failing(words, step.unread())?);
                 if !step.written.is_empty() {
-                    self.ground.ends_files = file_at(self.alloc, ENDS, step.bytes(self.alloc)?)?;
+                    self.ends.hold(alloc, ENDS, step)?;
                 }
             }
             ["file", path, words @ ..] => {
-                put_file(self.alloc, step, path, words, &mut self.ground.drawer)?;
+                put_file(alloc, step, path, words, &mut self.drawer)?;
             }
-            words => return self.take_words(words, unread),
+            words => return self.take_words(words, step.unread()),
         }
         Ok(true)
     }
@@ -84,21 +160,21 @@ impl Setting {
     // The same of one that has no text.
     fn take_words(&mut self, words: &[&str], unread: Fault) -> Result<bool, Fault> {
         match words {
-            ["form", "json"] => self.course.form = Form::Json,
+            ["form", "json"] => self.form = Form::Json,
             ["clock", words @ ..] => self.take_readings(words, unread)?,
-            ["timeout", word] => self.course.timeout = small(word).ok_or(unread)?,
-            ["width", word] => self.width = small(word).ok_or(unread)?,
-            ["part", word] => self.course.part = small(word).ok_or(unread)?,
+            ["timeout", word] => self.timeout = small(word, unread)?,
+            ["width", word] => self.width = small(word, unread)?,
+            ["part", word] => self.part = small(word, unread)?,
             ["reader", call, words @ ..] => {
-                let call = number(call).ok_or(unread)?;
-                self.answer_at(call, answer(words).ok_or(unread)?)?;
+                let call = number(call, unread)?;
+                self.answer_at(call, answer(words, unread)?)?;
             }
-            ["lookups"] => self.course.looks_up = true,
+            ["lookups"] => self.looks_up = true,
             ["lookups", request, fault @ ..] => {
-                let number = number(request).ok_or(unread)?;
-                let fault = lane_fault(fault).ok_or(unread)?;
-                self.course.looks_up = true;
-                self.course.lookup_fault = Some(NumberedFault { number, fault });
+                let number = number(request, unread)?;
+                let fault = lane_fault(fault, unread)?;
+                self.looks_up = true;
+                self.lookup_fault = Some(NumberedFault { number, fault });
             }
             _ => return Ok(false),
         }
@@ -107,7 +183,7 @@ impl Setting {
 
     fn take_readings(&mut self, words: &[&str], unread: Fault) -> Result<(), Fault> {
         for word in words {
-            let readings = readings(word).ok_or(unread)?;
+            let readings = readings(word, unread)?;
             for number in 0..readings.count {
                 self.readings.push(readings.get(number))?;
             }

@@ -1,426 +1,321 @@
-//! What an agent of a play is made of at a start.
+//! How the agent of a play is started: in its place, over what the disks hold.
+ghost use Rattle.std.specs.Prelude.{◌≡◌, [], IfOk, max, min};
+
 use crate::drawers::Drawer;
 use crate::fault::Fault;
 use crate::guests::{Peer, PeerDoor};
-use crate::running::{MemoryLanes, Running};
+use crate::places::put;
+use crate::play::Play;
+use crate::running::MemoryLanes;
+use crate::settings::{ENDS, FILE, Setting, Store};
 use broker_table::Table;
+use keep_agent::KnownEnd;
 use keep_answering::{Control, Onlookers};
 use keep_change::Note;
-use keep_clock::{MemoryClock, Reading};
-use keep_disk::{DiskFault, Failing, Held, MemoryDisk, Stored, Why};
+use keep_clock::{Clock as _, Reading};
+use keep_disk::{DiskFault, MemoryDisk, Why};
 use keep_ends::{EndsFile, known_events, load_ends};
 use keep_house::{Demands, Desk, House, Ledger};
 use keep_inventory::{Inventory, read};
 use keep_lanes::NumberedFault;
-use keep_log::{Form, Level, MemorySink};
+use keep_log::{Level, MemorySink};
 use keep_moment::Text;
 use keep_onlook::FileReading;
 use keep_proving::Proving;
 use keep_secrets::Looking;
 use keep_state::{Opened, Paths, State};
 use std::alloc::{AllocError, Global};
-use watch_machine::{Event, Millis};
-
-/// The inventory's file.
-pub const FILE: &str = "web.toml";
-
-/// Where the ends are kept.
-pub const ENDS: &str = "run/ends";
+use std::mem;
+use watch_machine::Event;
 
 /// The id of the boot in which all plays are.
 const BOOT: &[u8] = b"boot-1";
-
-/// The calls of its clock that a play keeps.
-const CLOCK_CALLS: usize = 4096;
 
 pub type MemoryLedger<'a> = Ledger<'a, MemoryDisk, Drawer, MemoryLanes>;
 
 pub type MemoryHouse<'a> = House<MemorySink, Peer<'a>, PeerDoor<'a>, MemoryLedger<'a>, MemoryDisk>;
 
-/// What is the same at each start.
+/// What is said at a start: of the changes, and of files of credentials.
 #[derive(Drop)]
-pub struct Course {
-    pub form: Form,
-    /// The time-out of a request, in seconds.
-    pub timeout: u32,
-    /// By how many seconds a day is shorter.
-    pub part: u32,
-    /// The inventory that the broker knows at first.
-    pub broker: Vec<u8>,
-    /// Whether credentials are looked up before they are taken, and what goes wrong with one of these requests.
-    pub looks_up: bool,
-    pub lookup_fault: Option<NumberedFault>,
+pub struct Said {
+    pub changes: Vec<Text>,
+    pub files: Vec<Text>,
 }
 
-/// What the disks hold at a start.
-#[derive(Drop)]
-pub struct Ground {
-    /// The text of the inventory that is served.
-    pub file: Vec<u8>,
-    /// Where changes are kept, which calls of their disk fail.
-    pub state: Option<Failing>,
-    pub state_files: Vec<Stored>,
-    /// Where ends are kept, which calls of their disk fail.
-    pub ends: Option<Failing>,
-    pub ends_files: Vec<Stored>,
-    /// The files of credentials.
-    pub drawer: Drawer,
-}
-
-impl Course {
-    /// By how many milliseconds a day is shorter.
-    pub fn earlier(&self) -> Millis {
-        u64::from(self.part).saturating_mul(1000)
-    }
-
-    /// Where nothing is said.
-    pub fn new(alloc: Global) -> Course {
-        Course {
-            form: Form::Text,
-            timeout: 5,
-            part: 0,
-            broker: Vec::new(alloc),
-            looks_up: false,
-            lookup_fault: None,
+impl Said {
+    /// Nothing.
+    pub fn new(alloc: Global) -> Said {
+        Said {
+            changes: Vec::new(alloc),
+            files: Vec::new(alloc),
         }
     }
 }
 
-impl Ground {
-    /// Where nothing is kept.
-    pub fn new(alloc: Global) -> Ground {
-        Ground {
-            file: Vec::new(alloc),
-            state: None,
-            state_files: Vec::new(alloc),
-            ends: None,
-            ends_files: Vec::new(alloc),
-            drawer: Drawer::new(alloc),
-        }
-    }
-}
-
-/// What is begun of an agent, beside what is carried along, of any type: so nothing here depends on that.
-#[derive(Drop)]
-struct Begun<K> {
-    carried: K,
-    desk: Desk,
-    ends: Option<EndsFile<MemoryDisk>>,
-    inventory: Inventory,
-    known: Vec<Event>,
-}
-
-/// The neighbours of an agent that are there before it serves.
-#[derive(Drop)]
-struct Neighbours<'a> {
-    ledger: Option<MemoryLedger<'a>>,
-    sink: MemorySink,
-    lanes: MemoryLanes,
-}
-
-/// The neighbours of an agent that serves.
-#[derive(Drop)]
-struct Rooms<'a> {
-    ledger: Option<MemoryLedger<'a>>,
-    sink: MemorySink,
-    desk: Desk,
-    ends: Option<EndsFile<MemoryDisk>>,
-}
-
-/// A disk's one file.
-pub fn file_at(alloc: Global, path: &str, bytes: Vec<u8>) -> Result<Vec<Stored>, AllocError> {
-    let mut files = Vec::new(alloc);
-    files.push(stored(alloc, path, bytes)?)?;
-    Ok(files)
-}
-
-/// A file of a disk.
-pub fn stored(alloc: Global, path: &str, bytes: Vec<u8>) -> Result<Stored, AllocError> {
-    Ok(Stored {
-        path: Vec::from_slice(alloc, path.as_bytes())?,
-        file: Held { mode: 0o600, bytes },
-    })
-}
-
-/// A clock with these readings to come.
-pub fn clock_of(alloc: Global, readings: Vec<Option<Reading>>) -> Result<MemoryClock, AllocError> {
-    MemoryClock::new(alloc, readings, CLOCK_CALLS)
-}
-
-/// So many lanes to a broker that knows the inventory of this text; `None` where that is none.
+/// So many lanes to the broker.
 pub fn lanes_of(
     alloc: Global,
-    broker: &[u8],
-    timeout: u32,
+    setting: &Setting,
     width: u32,
-) -> Result<Option<MemoryLanes>, AllocError> {
-    match read(alloc, broker) {
-        Ok(known) => Ok(Some(MemoryLanes::new(alloc, Table::load(alloc, &known)?, timeout, width))),
-        Err(_) => Ok(None),
+    refused: Fault,
+) -> Result<MemoryLanes, Fault>
+    ensures none { IfOk result (λ lanes. lanes.out ≡ []) }
+    ensures wide { IfOk result (λ lanes. lanes.width ≡ max 1 (min width 32)) }
+{
+    let table = table_of(alloc, &setting.broker, refused)?;
+    Ok(MemoryLanes::new(alloc, table, setting.timeout, width))
+}
+
+/// The table of a broker that knows the inventory of this text.
+fn table_of(alloc: Global, text: &[u8], refused: Fault) -> Result<Table, Fault> {
+    let known = read_or(alloc, text, refused)?;
+    Ok(Table::load(alloc, &known)?)
+}
+
+/// The inventory of this text.
+fn read_or(alloc: Global, text: &[u8], refused: Fault) -> Result<Inventory, Fault> {
+    match read(alloc, text) {
+        Ok(inventory) => Ok(inventory),
+        Err(_) => Err(refused),
     }
 }
 
-/// Starts an agent at this reading, over these lanes; `None` where the start is refused.
-pub fn start<'a>(
-    alloc: Global,
-    course: &Course,
-    ground: Ground,
-    paths: &'a Paths,
-    sink: MemorySink,
-    lanes: MemoryLanes,
-    now: Reading,
-) -> Result<Option<(Running, MemoryHouse<'a>)>, Fault> {
-    let Ground {
-        file,
-        state,
-        state_files,
-        ends,
-        ends_files,
-        drawer,
-    } = ground;
-    let mut said = Vec::new(alloc);
-    let Some(ledger) = kept(
-        alloc,
-        course,
-        paths,
-        &file,
-        (state, state_files, drawer),
-        &mut said,
-    )?
-    else {
-        return Ok(None);
-    };
-    let inventory = inventory_of(alloc, &ledger, &file);
-    let carried = Neighbours {
-        ledger,
-        sink,
-        lanes,
-    };
-    let at = (course.form, now);
-    match begin(alloc, at, inventory, &said, (ends, ends_files), carried)? {
-        None => Ok(None),
-        Some(begun) => serve(alloc, begun, now).map(Some),
+impl<'a> Play<'a> {
+    /// The agent is started; its house has what it has at a start, but for the reader of the log, who is the same.
+    pub fn start(&mut self, setting: &mut Setting, refused: Fault) -> Result<(), Fault> {
+        let alloc = self.alloc;
+        let now = self.clock.read().unwrap_or(Reading {
+            wall: 0,
+            elapsed: 0,
+        });
+        self.keep_changes(setting, refused)?;
+        let state = &self.house.others.state;
+        let inventory = inventory_of(alloc, state, &setting.file, refused)?;
+        let known = self.take_over(setting, now, &inventory)?;
+        self.running.start(alloc, inventory, &known)
+    }
+
+    /// The agent is ended and started again, over the same disks, of which no call fails from now on.
+    pub fn restart(&mut self, setting: &mut Setting, refused: Fault) -> Result<(), Fault> {
+        let Some(ledger) = &mut self.house.others.state else {
+            return Err(refused);
+        };
+        leave(self.alloc, self.paths, ledger, setting, refused)?;
+        if let Some(ends) = &self.house.others.ends {
+            setting.ends.keep(self.alloc, &ends.disk, &[ENDS])?;
+        }
+        self.start(setting, refused)
+    }
+
+    // Changes are kept, where they are.
+    fn keep_changes(&mut self, setting: &mut Setting, refused: Fault) -> Result<(), Fault> {
+        let alloc = self.alloc;
+        let state = &mut self.house.others.state;
+        let notes = open(alloc, self.paths, setting, state, refused)?;
+        if let Some(ledger) = state {
+            let proving = proving(alloc, setting, refused)?;
+            put(&mut ledger.proving, proving);
+            fill(alloc, ledger, &notes, &mut self.said)?;
+        }
+        Ok(())
+    }
+
+    // A new log, in which that is said, and new guests; and what hands in the ends that are kept of this boot.
+    fn take_over(
+        &mut self,
+        setting: &mut Setting,
+        now: Reading,
+        inventory: &Inventory,
+    ) -> Result<Vec<Event>, AllocError> {
+        let alloc = self.alloc;
+        let house = &mut self.house.others;
+        let desk = Desk::new(alloc, setting.form, inventory.forest().len())?;
+        put(&mut house.desk, desk);
+        say(alloc, now, &self.said, &mut house.desk);
+        let_in(alloc, now, house);
+        let told = open_ends(alloc, &mut setting.ends, &mut house.ends);
+        self.house.begun = None;
+        self.house.is_own = false;
+        known_of(alloc, now, inventory, told, &mut self.house.others.desk)
     }
 }
 
-/// What is begun where this is served: the log with what was said, and the ends that were told before; `None` where nothing is.
-fn begin<K: Drop>(
-    alloc: Global,
-    (form, now): (Form, Reading),
-    inventory: Result<Option<Inventory>, AllocError>,
-    said: &[Said],
-    (ends, ends_files): (Option<Failing>, Vec<Stored>),
-    carried: K,
-) -> Result<Option<Begun<K>>, Fault> {
-    let Some(inventory) = inventory? else {
-        return Ok(None);
-    };
-    let mut desk = Desk::new(alloc, form, inventory.forest().len())?;
-    for (level, event, text) in said {
-        desk.hear_at_start(alloc, now, *level, event, text.list());
-    }
-    let (ends, known) = take_over(alloc, ends, ends_files, &inventory, now, &mut desk)?;
-    Ok(Some(Begun {
-        carried,
-        desk,
-        ends,
-        inventory,
-        known,
-    }))
-}
-
-/// Serves what is begun.
-fn serve<'a>(
-    alloc: Global,
-    begun: Begun<Neighbours<'a>>,
-    now: Reading,
-) -> Result<(Running, MemoryHouse<'a>), Fault> {
-    let Begun {
-        carried,
-        desk,
-        ends,
-        inventory,
-        known,
-    } = begun;
-    let Neighbours {
-        ledger,
-        sink,
-        lanes,
-    } = carried;
-    let rooms = Rooms {
-        ledger,
-        sink,
-        desk,
-        ends,
-    };
-    let (running, rooms) = serve_beside(alloc, inventory, &known, lanes, rooms)?;
-    Ok((running, house_of(alloc, rooms, now)))
-}
-
-/// Serves this inventory, beside anything else.
-fn serve_beside<K: Drop>(
-    alloc: Global,
-    inventory: Inventory,
-    known: &[Event],
-    lanes: MemoryLanes,
-    beside: K,
-) -> Result<(Running, K), Fault> {
-    let running = Running::begin(alloc, inventory, known, lanes)?;
-    Ok((running, beside))
-}
-
-/// What keeps changes, where they are kept, with what is said of it; `None` where the start is refused.
-fn kept<'a>(
-    alloc: Global,
-    course: &Course,
-    paths: &'a Paths,
-    file: &[u8],
-    (state, state_files, drawer): (Option<Failing>, Vec<Stored>, Drawer),
-    said: &mut Vec<Said>,
-) -> Result<Option<Option<MemoryLedger<'a>>>, Fault> {
-    let Some(failing) = state else {
-        return Ok(Some(None));
-    };
-    let proving = proving(alloc, course)?;
-    let Some(opened) = open(alloc, state_files, failing, paths, file) else {
-        return Ok(None);
-    };
-    let Opened { state, notes, .. } = opened;
-    let mut ledger = ledger_of(alloc, course, state, drawer, proving);
-    match fill(alloc, &mut ledger, &notes, said) {
-        Ok(()) => Ok(Some(Some(ledger))),
-        Err(fault) => Err(fault),
-    }
-}
-
-/// What is served: by a ledger, or the file alone; `None` where that is no inventory.
-fn inventory_of(
-    alloc: Global,
-    ledger: &Option<MemoryLedger<'_>>,
-    file: &[u8],
-) -> Result<Option<Inventory>, AllocError> {
-    match ledger {
-        None => Ok(read(alloc, file).ok()),
-        Some(ledger) => Ok(Some(ledger.inventory(alloc)?)),
-    }
-}
-
-/// What is said at a start: how it is marked, of what, and in which words.
-type Said = (Level, &'static str, Text);
-
-/// The state over a disk with these files; `None` where it is refused.
+/// What keeps changes, where they are kept, is opened; and what is to be noted of it.
 fn open<'a>(
     alloc: Global,
-    files: Vec<Stored>,
-    failing: Failing,
     paths: &'a Paths,
-    file: &[u8],
-) -> Option<Opened<'a, MemoryDisk>> {
-    let disk = MemoryDisk::new(alloc, files, failing, Why::Full);
-    State::open(alloc, disk, paths, Some(file), None).ok()
-}
-
-/// What looks credentials up over a lane of its own, where that is done.
-fn proving(alloc: Global, course: &Course) -> Result<Option<Proving<MemoryLanes>>, AllocError> {
-    let (true, Ok(known)) = (course.looks_up, read(alloc, &course.broker)) else {
-        return Ok(None);
+    setting: &mut Setting,
+    place: &mut Option<MemoryLedger<'a>>,
+    refused: Fault,
+) -> Result<Vec<Note>, Fault> {
+    let Some(failing) = setting.state.failing else {
+        return Ok(Vec::new(alloc));
     };
-    let mut lanes = MemoryLanes::new(alloc, Table::load(alloc, &known)?, course.timeout, 1);
-    if let Some(NumberedFault { number, fault }) = course.lookup_fault {
-        lanes.set_fault(number, fault)?;
+    let files = mem::replace(&mut setting.state.files, Vec::new(alloc));
+    let disk = MemoryDisk::new(alloc, files, failing, Why::Full);
+    match State::open(alloc, disk, paths, Some(&setting.file), None) {
+        Ok(opened) => Ok(keep(alloc, opened, setting, place)),
+        Err(_) => Err(refused),
     }
-    Ok(Some(Proving::new(lanes)))
 }
 
-/// A ledger of a state.
+/// What is opened is kept there; and what is to be noted of it.
+fn keep<'a>(
+    alloc: Global,
+    opened: Opened<'a, MemoryDisk>,
+    setting: &mut Setting,
+    place: &mut Option<MemoryLedger<'a>>,
+) -> Vec<Note> {
+    let Opened { state, notes, .. } = opened;
+    let drawer = mem::replace(&mut setting.drawer, Drawer::new(alloc));
+    let ledger = ledger_of(alloc, state, drawer, setting.timeout);
+    put(place, Some(ledger));
+    notes
+}
+
+/// What files of credentials hold is taken, which waits for no rebuilding at a start; and what is to be said then.
+fn fill(
+    alloc: Global,
+    ledger: &mut MemoryLedger<'_>,
+    notes: &[Note],
+    said: &mut Said,
+) -> Result<(), Fault> {
+    said.changes = ledger.note_lines(alloc, notes)?;
+    said.files = ledger.fill(alloc, 0)?;
+    ledger.state.rebuilt();
+    Ok(())
+}
+
+/// A ledger of a state, which looks nothing up.
 fn ledger_of<'a>(
     alloc: Global,
-    course: &Course,
     state: State<'a, MemoryDisk>,
     drawer: Drawer,
-    proving: Option<Proving<MemoryLanes>>,
+    timeout: u32,
 ) -> MemoryLedger<'a> {
     Ledger {
         state,
         demands: Demands {
-            timeout: course.timeout,
+            timeout,
             names_are_secrets: false,
             earlier: 0,
         },
         folder: "",
         inputs: drawer,
         looking: Looking::new(alloc),
-        proving,
+        proving: None,
         asked: None,
     }
 }
 
-/// It takes what files of credentials hold, which waits for no rebuilding at a start; what is said of that, and of its changes.
-fn fill(
+/// What looks credentials up over a lane of its own, where that is done.
+fn proving(
     alloc: Global,
-    ledger: &mut MemoryLedger<'_>,
-    notes: &[Note],
-    said: &mut Vec<Said>,
-) -> Result<(), Fault> {
-    for line in ledger.note_lines(alloc, notes)? {
-        said.push((Level::Note, "journal", line))?;
+    setting: &Setting,
+    refused: Fault,
+) -> Result<Option<Proving<MemoryLanes>>, Fault> {
+    if !setting.looks_up {
+        return Ok(None);
     }
-    for line in ledger.fill(alloc, 0)? {
-        said.push((Level::Alert, "secret-file", line))?;
+    let mut lanes = lanes_of(alloc, setting, 1, refused)?;
+    if let Some(NumberedFault { number, fault }) = setting.lookup_fault {
+        lanes.set_fault(number, fault)?;
     }
-    ledger.state.rebuilt();
-    Ok(())
+    Ok(Some(Proving::new(lanes)))
 }
 
-/// The file of the ends, where they are kept, and what hands in those of this boot.
-fn take_over(
+/// What is served: by a ledger, or the file alone.
+fn inventory_of(
     alloc: Global,
-    ends: Option<Failing>,
-    files: Vec<Stored>,
-    inventory: &Inventory,
-    now: Reading,
-    desk: &mut Desk,
-) -> Result<(Option<EndsFile<MemoryDisk>>, Vec<Event>), Fault> {
-    let Some(failing) = ends else {
-        return Ok((None, Vec::new(alloc)));
-    };
-    let mut disk = MemoryDisk::new(alloc, files, failing, Why::Full);
-    let known = match load_ends(alloc, &mut disk, ENDS, BOOT) {
-        Ok(ends) => known_events(alloc, inventory, &ends)?,
-        Err(DiskFault::OutOfMemory) => return Err(Fault::Memory),
-        Err(fault) => {
-            desk.hear_unread(alloc, now, fault);
-            Vec::new(alloc)
-        }
+    ledger: &Option<MemoryLedger<'_>>,
+    file: &[u8],
+    refused: Fault,
+) -> Result<Inventory, Fault> {
+    match ledger {
+        None => read_or(alloc, file, refused),
+        Some(ledger) => Ok(ledger.inventory(alloc)?),
+    }
+}
+
+/// Says that in the log.
+fn say(alloc: Global, now: Reading, said: &Said, desk: &mut Desk) {
+    for line in &said.changes {
+        desk.hear_at_start(alloc, now, Level::Note, "journal", line.list());
+    }
+    for line in &said.files {
+        desk.hear_at_start(alloc, now, Level::Alert, "secret-file", line.list());
+    }
+}
+
+/// The file of the ends is opened, where they are kept; and those of this boot.
+fn open_ends(
+    alloc: Global,
+    ends: &mut Store,
+    place: &mut Option<EndsFile<MemoryDisk>>,
+) -> Result<Vec<KnownEnd>, DiskFault> {
+    let Some(failing) = ends.failing else {
+        return Ok(Vec::new(alloc));
     };
     let path = String::from_str(alloc, ENDS)?;
-    let file = EndsFile::new(path, Text::of(alloc, BOOT)?, disk);
-    Ok((Some(file), known))
+    let boot = Text::of(alloc, BOOT)?;
+    let files = mem::replace(&mut ends.files, Vec::new(alloc));
+    let disk = MemoryDisk::new(alloc, files, failing, Why::Full);
+    let mut file = EndsFile::new(path, boot, disk);
+    let told = load_ends(alloc, &mut file.disk, ENDS, BOOT);
+    put(place, Some(file));
+    told
 }
 
-/// All neighbours of an agent, at a start.
-fn house_of<'a>(alloc: Global, rooms: Rooms<'a>, now: Reading) -> MemoryHouse<'a> {
-    let Rooms {
-        ledger,
-        sink,
-        desk,
-        ends,
-    } = rooms;
-    let seconds = Some(now.wall / 1000);
-    House {
-        desk,
-        sink,
-        control: Some(Control::new(alloc, PeerDoor::new(alloc))),
-        onlookers: Some(Onlookers::new(alloc, PeerDoor::new(alloc))),
-        file: FileReading {
-            is_good: true,
-            at: seconds,
-            good_at: seconds,
-        },
-        state: ledger,
-        given: None,
-        awaited: None,
-        next: None,
-        ends,
+/// What hands these ends in; where they could not be read, that is said.
+fn known_of(
+    alloc: Global,
+    now: Reading,
+    inventory: &Inventory,
+    told: Result<Vec<KnownEnd>, DiskFault>,
+    desk: &mut Desk,
+) -> Result<Vec<Event>, AllocError> {
+    match told {
+        Ok(ends) => known_events(alloc, inventory, &ends),
+        Err(DiskFault::OutOfMemory) => Err(AllocError),
+        Err(fault) => {
+            desk.hear_unread(alloc, now, fault);
+            Ok(Vec::new(alloc))
+        }
     }
+}
+
+/// Nobody asks or looks on, and nothing was given or said yet.
+fn let_in(alloc: Global, now: Reading, house: &mut MemoryHouse<'_>) {
+    let seconds = Some(now.wall / 1000);
+    let control = Control::new(alloc, PeerDoor::new(alloc));
+    let onlookers = Onlookers::new(alloc, PeerDoor::new(alloc));
+    put(&mut house.control, Some(control));
+    put(&mut house.onlookers, Some(onlookers));
+    house.file = FileReading {
+        is_good: true,
+        at: seconds,
+        good_at: seconds,
+    };
+    put(&mut house.given, None);
+    put(&mut house.awaited, None);
+    put(&mut house.next, None);
+}
+
+/// What a ledger leaves for the next start.
+fn leave(
+    alloc: Global,
+    paths: &Paths,
+    ledger: &mut MemoryLedger<'_>,
+    setting: &mut Setting,
+    refused: Fault,
+) -> Result<(), Fault> {
+    let disk = ledger.state.disk();
+    let Some(held) = disk.file(alloc, FILE)? else {
+        return Err(refused);
+    };
+    setting.file = held.bytes;
+    let places = [FILE, paths.journal(), paths.copy(), paths.aside()];
+    setting.state.keep(alloc, disk, &places)?;
+    setting.drawer = mem::replace(&mut ledger.inputs, Drawer::new(alloc));
+    Ok(())
 }

@@ -19,6 +19,8 @@ pub struct Step<'a> {
 /// A case: the lines in front, which say what it shows, and its steps.
 #[derive(Drop)]
 pub struct Case<'a> {
+    /// How many lines it has.
+    lines: usize,
     pub front: Vec<u8>,
     pub steps: Vec<Step<'a>>,
 }
@@ -48,28 +50,41 @@ impl<'a> Step<'a> {
     pub fn unread(&self) -> Fault {
         Fault::Line(self.line)
     }
+
+    /// That it does not come about.
+    pub fn refused(&self) -> Fault {
+        Fault::Step(self.line)
+    }
 }
 
 /// Reads a case.
 pub fn read_case<'a>(alloc: Global, text: &'a [u8]) -> Result<Case<'a>, Fault> {
     let mut case = Case {
+        lines: 0,
         front: Vec::new(alloc),
         steps: Vec::new(alloc),
     };
     let text = text.strip_suffix(b"\n").unwrap_or(text);
-    for (before, line) in text.split(|byte| *byte == b'\n').enumerate() {
-        match line.strip_prefix(MARK) {
-            Some(words) => {
-                let step = Step::new(alloc, before.saturating_add(1), words)?;
-                case.steps.push(step)?;
-            }
-            None => case.push_line(line)?,
-        }
+    for line in text.split(|byte| *byte == b'\n') {
+        case.take_line(alloc, line)?;
     }
     Ok(case)
 }
 
 impl<'a> Case<'a> {
+    // Takes its next line.
+    fn take_line(&mut self, alloc: Global, line: &'a [u8]) -> Result<(), Fault> {
+        self.lines = self.lines.saturating_add(1);
+        match line.strip_prefix(MARK) {
+            Some(words) => {
+                let step = Step::new(alloc, self.lines, words)?;
+                self.steps.push(step)?;
+            }
+            None => self.push_line(line)?,
+        }
+        Ok(())
+    }
+
     fn push_line(&mut self, line: &[u8]) -> Result<(), AllocError> {
         match self.steps.last_mut() {
             None => push_whole(line, &mut self.front),
@@ -84,11 +99,11 @@ impl<'a> Case<'a> {
         outcomes: &[Option<Vec<u8>>],
     ) -> Result<Vec<u8>, AllocError> {
         let mut out = Vec::from_slice(alloc, &self.front)?;
-        for (step, outcome) in self.steps.iter().zip(outcomes.iter()) {
+        for (number, step) in self.steps.iter().enumerate() {
             push_words(&step.words, &mut out)?;
-            match outcome {
-                None => out.extend_from_slice(&step.written)?,
-                Some(bytes) => push_text(alloc, bytes, &mut out)?,
+            match outcomes.get(number) {
+                Some(Some(bytes)) => push_text(bytes, &mut out)?,
+                _ => out.extend_from_slice(&step.written)?,
             }
         }
         Ok(out)

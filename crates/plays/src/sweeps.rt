@@ -6,6 +6,7 @@ use crate::steps::Case;
 use crate::words::{answer, number};
 use keep_disk::Failing;
 use keep_log::Answer;
+use keep_words::push_number;
 use std::alloc::{AllocError, Global};
 
 /// What goes wrong beside what the case says.
@@ -29,8 +30,8 @@ impl Disturbance {
     pub fn disturb(self, setting: &mut Setting) -> Result<(), AllocError> {
         match self {
             Disturbance::Nothing => {}
-            Disturbance::State(failing) => setting.ground.state = Some(failing),
-            Disturbance::Ends(failing) => setting.ground.ends = Some(failing),
+            Disturbance::State(failing) => setting.state.failing = Some(failing),
+            Disturbance::Ends(failing) => setting.ends.failing = Some(failing),
             Disturbance::Reader(call, answer) => setting.answer_at(call, answer)?,
             Disturbance::Clock(number) => setting.fail_reading(number)?,
             Disturbance::Guest(call) => setting.guest_fails = call,
@@ -40,44 +41,56 @@ impl Disturbance {
 }
 
 /// What a sweep says to the call with that number.
-fn disturbance_at(words: &[&str], call: u64) -> Option<Disturbance> {
+fn disturbance_at(words: &[&str], call: u64, unread: Fault) -> Result<Disturbance, Fault> {
     match words {
-        ["state", "once"] => Some(Disturbance::State(Failing::Once(call))),
-        ["state", "from"] => Some(Disturbance::State(Failing::From(call))),
-        ["ends", "once"] => Some(Disturbance::Ends(Failing::Once(call))),
-        ["ends", "from"] => Some(Disturbance::Ends(Failing::From(call))),
-        ["clock"] => Some(Disturbance::Clock(call)),
-        ["guest"] => Some(Disturbance::Guest(call)),
-        ["reader", words @ ..] => Some(Disturbance::Reader(call, answer(words)?)),
-        _ => None,
+        ["state", "once"] => Ok(Disturbance::State(Failing::Once(call))),
+        ["state", "from"] => Ok(Disturbance::State(Failing::From(call))),
+        ["ends", "once"] => Ok(Disturbance::Ends(Failing::Once(call))),
+        ["ends", "from"] => Ok(Disturbance::Ends(Failing::From(call))),
+        ["clock"] => Ok(Disturbance::Clock(call)),
+        ["guest"] => Ok(Disturbance::Guest(call)),
+        ["reader", words @ ..] => Ok(Disturbance::Reader(call, answer(words, unread)?)),
+        _ => Err(unread),
     }
 }
 
-/// Plays the case once for each of so many calls, and says how its outcomes differ from these.
+/// Plays the case once for each of so many calls, and says how it then differs from this, which is written where nothing fails.
 pub fn swept(
     alloc: Global,
     case: &Case<'_>,
-    outcomes: &[Option<Vec<u8>>],
+    whole: &[u8],
     words: &[&str],
     unread: Fault,
 ) -> Result<Vec<u8>, Fault> {
     let [count, words @ ..] = words else {
         return Err(unread);
     };
-    let count = number(count).ok_or(unread)?;
-    let whole = case.written(alloc, outcomes)?;
+    let count = number(count, unread)?;
     let mut stretches = Stretches::new(alloc);
     for call in 0..count {
-        let disturbance = disturbance_at(words, call).ok_or(unread)?;
-        let difference = match outcomes_of(alloc, &case.steps, disturbance) {
-            Ok(other) => difference(alloc, &whole, &case.written(alloc, &other)?)?,
-            Err(Fault::Step(_)) => Vec::from_slice(alloc, b"the start is refused\n")?,
-            Err(fault) => return Err(fault),
-        };
+        let disturbance = disturbance_at(words, call, unread)?;
+        let difference = differs(alloc, case, whole, disturbance)?;
         stretches.take(call, difference)?;
     }
     stretches.end(count)?;
     Ok(stretches.told)
+}
+
+/// How the case differs from this where that goes wrong.
+fn differs(
+    alloc: Global,
+    case: &Case<'_>,
+    whole: &[u8],
+    disturbance: Disturbance,
+) -> Result<Vec<u8>, Fault> {
+    match outcomes_of(alloc, &case.steps, disturbance) {
+        Ok(outcomes) => {
+            let other = case.written(alloc, &outcomes)?;
+            Ok(difference(alloc, whole, &other)?)
+        }
+        Err(Fault::Step(_)) => Ok(Vec::from_slice(alloc, b"the start is refused\n")?),
+        Err(fault) => Err(fault),
+    }
 }
 
 /// Calls one after the other of which the same comes.
@@ -119,9 +132,13 @@ impl Stretches {
             return Ok(());
         };
         let (first, last_call) = (self.first, call.saturating_sub(1));
-        let ends = if last.is_empty() { ": the same" } else { "" };
-        let line = format!(in self.alloc; "{first} to {last_call}{ends}\n")?;
-        self.told.extend_from_slice(line.as_bytes())?;
+        push_number(self.alloc, first, &mut self.told)?;
+        self.told.extend_from_slice(b" to ")?;
+        push_number(self.alloc, last_call, &mut self.told)?;
+        if last.is_empty() {
+            self.told.extend_from_slice(b": the same")?;
+        }
+        self.told.push(b'\n')?;
         self.told.extend_from_slice(last)
     }
 }
@@ -129,61 +146,74 @@ impl Stretches {
 /// The lines in which two texts differ, between those that both begin with and those that both end with: those of the first after `-`, and
 /// then those of the second after `+`.
 fn difference(alloc: Global, one: &[u8], other: &[u8]) -> Result<Vec<u8>, AllocError> {
-    let (one, other) = (lines_of(alloc, one)?, lines_of(alloc, other)?);
-    let front = same_front(&one, &other);
-    let back = same_back(&one, &other, front);
+    let front = same_front(one, other);
+    let one = without_first(one, front);
+    let other = without_first(other, front);
+    let back = same_back(one, other);
+    let gone = without_last(one, back);
+    let new = without_last(other, back);
     let mut told = Vec::new(alloc);
-    push_marked(b'-', &one, front, back, &mut told)?;
-    push_marked(b'+', &other, front, back, &mut told)?;
+    push_marked(b'-', gone, &mut told)?;
+    push_marked(b'+', new, &mut told)?;
     Ok(told)
 }
 
-/// How many lines are the same at the front of both.
-fn same_front(one: &[&[u8]], other: &[&[u8]]) -> usize {
-    for (number, (line, same)) in one.iter().zip(other.iter()).enumerate() {
-        if line != same {
-            return number;
+/// How many bytes the lines have that are the same at the front of both.
+fn same_front(one: &[u8], other: &[u8]) -> usize {
+    let mut front = 0;
+    for (at, byte) in one.iter().enumerate() {
+        if other.get(at) != Some(byte) {
+            return front;
+        }
+        if *byte == b'\n' {
+            front = at.saturating_add(1);
         }
     }
-    one.len().min(other.len())
+    front
 }
 
-/// The same at their back, of the lines after so many at the front.
-fn same_back(one: &[&[u8]], other: &[&[u8]], front: usize) -> usize {
-    let most = one.len().min(other.len()).saturating_sub(front);
-    let pairs = one.iter().rev().zip(other.iter().rev());
-    for (number, (line, same)) in pairs.enumerate() {
-        if number >= most || line != same {
-            return number;
+/// The same at their back.
+fn same_back(one: &[u8], other: &[u8]) -> usize {
+    let mut back = 0;
+    for count in 0..one.len().min(other.len()).saturating_add(1) {
+        let byte = byte_before(one, count);
+        if byte != byte_before(other, count) {
+            return back;
+        }
+        if byte == b'\n' {
+            back = count;
         }
     }
-    most
+    back
 }
 
-fn lines_of<'a>(alloc: Global, text: &'a [u8]) -> Result<Vec<&'a [u8]>, AllocError> {
-    let mut lines = Vec::new(alloc);
-    let text = text.strip_suffix(b"\n").unwrap_or(text);
-    for line in text.split(|byte| *byte == b'\n') {
-        lines.push(line)?;
+/// The byte before the last so many; the end of a line where there is none.
+fn byte_before(text: &[u8], count: usize) -> u8 {
+    match without_last(text, count).last() {
+        None => b'\n',
+        Some(byte) => *byte,
     }
-    Ok(lines)
 }
 
-/// The lines that are not among so many at the front, nor at the back, each after that mark.
-fn push_marked(
-    mark: u8,
-    lines: &[&[u8]],
-    front: usize,
-    back: usize,
-    out: &mut Vec<u8>,
-) -> Result<(), AllocError> {
-    let end = lines.len().saturating_sub(back);
-    for (number, line) in lines.iter().enumerate() {
-        if number >= front && number < end {
+/// A text without its first bytes.
+fn without_first(text: &[u8], count: usize) -> &[u8] {
+    text.get(count..).unwrap_or(&[])
+}
+
+/// A text without its last bytes.
+fn without_last(text: &[u8], count: usize) -> &[u8] {
+    text.get(..text.len().saturating_sub(count)).unwrap_or(&[])
+}
+
+/// These lines, each after that mark.
+fn push_marked(mark: u8, lines: &[u8], out: &mut Vec<u8>) -> Result<(), AllocError> {
+    let mut is_front = true;
+    for byte in lines {
+        if is_front {
             out.push(mark)?;
-            out.extend_from_slice(line)?;
-            out.push(b'\n')?;
         }
+        out.push(*byte)?;
+        is_front = *byte == b'\n';
     }
     Ok(())
 }

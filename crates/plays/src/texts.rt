@@ -49,15 +49,14 @@ fn digit(byte: u8) -> Option<u8> {
 }
 
 /// Appends a text that writes these bytes, in whole lines.
-pub fn push_text(alloc: Global, bytes: &[u8], out: &mut Vec<u8>) -> Result<(), AllocError> {
+pub fn push_text(bytes: &[u8], out: &mut Vec<u8>) -> Result<(), AllocError> {
     let mut is_front = true;
     for (at, byte) in bytes.iter().enumerate() {
         let rest = bytes.get(at..).unwrap_or(&[]);
         if is_plain(rest) && !(is_front && rest.starts_with(b"== ")) {
             out.push(*byte)?;
         } else {
-            let escape = format!(in alloc; "\\x{byte:02x}")?;
-            out.extend_from_slice(escape.as_bytes())?;
+            out.extend_from_slice(&escape_of(*byte))?;
         }
         is_front = *byte == b'\n';
     }
@@ -65,6 +64,18 @@ pub fn push_text(alloc: Global, bytes: &[u8], out: &mut Vec<u8>) -> Result<(), A
         out.extend_from_slice(b"\\\n")?;
     }
     Ok(())
+}
+
+/// What stands for a byte.
+fn escape_of(byte: u8) -> [u8; 4] {
+    [b'\\', b'x', hex_digit(byte / 16), hex_digit(byte % 16)]
+}
+
+fn hex_digit(number: u8) -> u8 {
+    match number {
+        0..=9 => b'0' + number,
+        _ => (b'a' - 10).saturating_add(number),
+    }
 }
 
 /// Whether the first of these bytes can stand for itself.

@@ -1,49 +1,59 @@
-//! What the words of steps say.
+//! What the words of steps say; each has the fault of a step of which it cannot be read.
+use crate::fault::Fault;
 use keep_clock::Reading;
 use keep_disk::Failing;
 use keep_lanes::LaneFault;
 use keep_log::Answer;
 
 /// A number.
-pub fn number(word: &str) -> Option<u64> {
-    word.parse::<u64>().ok()
+pub fn number(word: &str, unread: Fault) -> Result<u64, Fault> {
+    match word.parse::<u64>() {
+        Ok(number) => Ok(number),
+        Err(_) => Err(unread),
+    }
 }
 
 /// A number that a small one can be.
-pub fn small(word: &str) -> Option<u32> {
-    word.parse::<u32>().ok()
+pub fn small(word: &str, unread: Fault) -> Result<u32, Fault> {
+    match word.parse::<u32>() {
+        Ok(number) => Ok(number),
+        Err(_) => Err(unread),
+    }
 }
 
 /// What goes wrong with a request to the broker.
-pub fn lane_fault(words: &[&str]) -> Option<LaneFault> {
+pub fn lane_fault(words: &[&str], unread: Fault) -> Result<LaneFault, Fault> {
     match words {
-        ["refuse"] => Some(LaneFault::Refuse),
-        ["lose"] => Some(LaneFault::Lose),
-        ["hang"] => Some(LaneFault::Hang),
-        ["garble"] => Some(LaneFault::Garble),
-        ["late", millis] => Some(LaneFault::Late(number(millis)?)),
-        ["status", status] => Some(LaneFault::Status(status.parse::<u16>().ok()?)),
-        _ => None,
+        ["refuse"] => Ok(LaneFault::Refuse),
+        ["lose"] => Ok(LaneFault::Lose),
+        ["hang"] => Ok(LaneFault::Hang),
+        ["garble"] => Ok(LaneFault::Garble),
+        ["late", millis] => Ok(LaneFault::Late(number(millis, unread)?)),
+        ["status", status] => match status.parse::<u16>() {
+            Ok(status) => Ok(LaneFault::Status(status)),
+            Err(_) => Err(unread),
+        },
+        _ => Err(unread),
     }
 }
 
 /// What the log's reader answers to a call.
-pub fn answer(words: &[&str]) -> Option<Answer> {
+pub fn answer(words: &[&str], unread: Fault) -> Result<Answer, Fault> {
     match words {
-        ["waits"] => Some(Answer::Waits),
-        ["fails"] => Some(Answer::Fails),
-        ["takes", most] => Some(Answer::Takes(most.parse::<usize>().ok()?)),
-        _ => None,
+        ["waits"] => Ok(Answer::Waits),
+        ["fails"] => Ok(Answer::Fails),
+        ["takes", most] => Ok(Answer::Takes(number(most, unread)? as usize)),
+        _ => Err(unread),
     }
 }
 
 /// Which calls of a disk fail.
-pub fn failing(words: &[&str]) -> Option<Failing> {
+pub fn failing(words: &[&str], unread: Fault) -> Result<Failing, Fault> {
     match words {
-        [] => Some(Failing::Never),
-        ["fails", "once", call] => Some(Failing::Once(number(call)?)),
-        ["fails", "from", call] => Some(Failing::From(number(call)?)),
-        _ => None,
+        [] => Ok(Failing::Never),
+        ["fails", "once", call] => Ok(Failing::Once(number(call, unread)?)),
+        ["fails", "from", call] => Ok(Failing::From(number(call, unread)?)),
+        _ => Err(unread),
     }
 }
 
@@ -59,28 +69,29 @@ pub struct Stretch {
 
 /// The readings that a word says: `none`, or milliseconds, of the wall's clock and the elapsed one where they differ, how much later each
 /// next one is, and how many they are, as in `1000000/5000+2000*3`.
-pub fn readings(word: &str) -> Option<Stretch> {
-    let (word, count) = match word.split_once('*') {
-        None => (word, 1),
-        Some((word, count)) => (word, number(count)?),
+pub fn readings(word: &str, unread: Fault) -> Result<Stretch, Fault> {
+    let (word, count) = with_number(word, '*', 1, unread)?;
+    let (word, step) = with_number(word, '+', 0, unread)?;
+    let first = match word {
+        "none" => None,
+        word => Some(reading(word, unread)?),
     };
-    let (word, step) = match word.split_once('+') {
-        None => (word, 0),
-        Some((word, step)) => (word, number(step)?),
-    };
-    let first = if word == "none" {
-        None
-    } else {
-        Some(reading(word)?)
-    };
-    Some(Stretch { first, step, count })
+    Ok(Stretch { first, step, count })
 }
 
-fn reading(word: &str) -> Option<Reading> {
+/// What stands in front of a mark, and the number after it; `none` where there is no mark.
+fn with_number(word: &str, mark: char, none: u64, unread: Fault) -> Result<(&str, u64), Fault> {
+    match word.split_once(mark) {
+        None => Ok((word, none)),
+        Some((front, after)) => Ok((front, number(after, unread)?)),
+    }
+}
+
+fn reading(word: &str, unread: Fault) -> Result<Reading, Fault> {
     let (wall, elapsed) = word.split_once('/').unwrap_or((word, word));
-    Some(Reading {
-        wall: number(wall)?,
-        elapsed: number(elapsed)?,
+    Ok(Reading {
+        wall: number(wall, unread)?,
+        elapsed: number(elapsed, unread)?,
     })
 }
 

@@ -138,7 +138,7 @@ begun_steady s (Some w) round i bound S h =
     let none' : P no_track = none_stands at bound S in
     mid_steady (begun s (Some w)) round i bound S
     (each_holds P none' (λ j. owing at (is_start w) (is_called s.forest xs s.clocks j)) xs i
-    (owing_stands at bound S (is_called s.forest xs s.clocks i) (track_in xs i)
+    (owing_stands at bound S (is_start w) (is_called s.forest xs s.clocks i) (track_in xs i)
     (each_holds P none' (λ j. untopped_track) s.tracks i (record { last = h.last; tries = h.tries }))))
 
 -- the longest pause while the end is ahead

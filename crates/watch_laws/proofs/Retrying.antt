@@ -189,9 +189,9 @@ module _ (at pause' : ℕ) (t : Try) where
     all (Some v) =
         let xs = untopped s.tracks in
         later (begun s (Some v)) is
-        (each_holds Retried none_retried (λ j. owing s.clocks.at (is_start w) (is_called s.forest xs s.clocks j)) xs i
-        (subst (λ n. Retried (owing n (is_start w) (is_called s.forest xs s.clocks i) (track_in xs i))) (sym is)
-        (owing_retried (is_start w) (is_called s.forest xs s.clocks i) (track_in xs i)
+        (each_holds Retried none_retried (λ j. owing s.clocks.at (is_start v) (is_called s.forest xs s.clocks j)) xs i
+        (subst (λ n. Retried (owing n (is_start v) (is_called s.forest xs s.clocks i) (track_in xs i))) (sym is)
+        (owing_retried (is_start v) (is_called s.forest xs s.clocks i) (track_in xs i)
         (each_kept Still (λ k. k) (λ j. untopped_track) s.tracks (λ j x k. record { last = k.last; comes = k.comes }) i h))))
 
 -- the clock sets the pause

@@ -1,5 +1,5 @@
--- secrets_change_no_turn: turns, and a rebuilding.
-use Rattle.keep_serving.proofs.Alike.{alike_law, rebuilt_alike_law}
+-- secrets_change_no_turn: turns, a rebuilding, and an inventory that is handed over.
+use Rattle.keep_serving.proofs.Alike.{alike_law, rebuilt_alike_law, served_alike_law}
 use Rattle.keep_serving.proofs.laws.secrets_change_no_turn.Goals as goal
 
 pub returns-clause-turns : goal.returns-clause-turns
@@ -7,3 +7,6 @@ returns-clause-turns c = alike_law
 
 pub returns-clause-rebuilding : goal.returns-clause-rebuilding
 returns-clause-rebuilding c = rebuilt_alike_law
+
+pub returns-clause-served : goal.returns-clause-served
+returns-clause-served c = served_alike_law

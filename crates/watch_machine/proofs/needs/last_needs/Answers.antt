@@ -19,7 +19,7 @@ loop-index-preserved c =
     let k = c.loop-index.index in
     let f : ℕ → ℕ = λ i. need_by (track_in xs i) (load_at c.args.cut.now i).need (load_at c.args.free.now i).need in
     let made : c.need_by-need.result ≡ f k =
-    c.need_by-need.ensures ∙ need_read _ (track_in xs k) _ _ _ _ (get_or_default xs k _ no_track (omega arith)) c.need.ensures c.need-2.ensures in
+    c.need_by-need.ensures ∙ need_read _ (track_in xs k) _ _ _ _ (get_or_default xs k _ no_track (omega arith)) c.need.ensures c.need-in-loop-index.ensures in
     c.in_ok-push.ensures.items ∙ ap (λ ns. ns ++ c.need_by-need.result ∷ []) c.loop-index.invariant ∙ ap (λ n. map f (range_with_len 0 k) ++ n ∷ []) made
     ∙ sym (map-range_with_len_more f 0 k k (omega arith))
 

@@ -34,5 +34,5 @@ returns-clause-value c =
     let read = get_or_default xs i _ no_track (omega (arith, c.requires.within, c.requires.count)) in
     let other : has_last_try (track_in xs i) ≡ false = sym (c.has_last_try.ensures ∙ ap has_last_try read) ∙ c.if-has_last_try.false in
     let at : c.moment_at-now.result ≡ sec k.at = c.moment_at-now.ensures ∙ c.second.ensures.value in
-    c.carried_need.ensures ∙ ap (λ fs. carried fs c.moment_at-now.result i) c.write_view.ensures.written ∙ ap (λ t. carried (view es xs k) t i) at
+    c.carried_need-2.ensures ∙ ap (λ fs. carried fs c.moment_at-now.result i) c.write_view.ensures.written ∙ ap (λ t. carried (view es xs k) t i) at
     ∙ sym (cond-false (has_last_try (track_in xs i)) (free_need es k i) (cut_need es xs k i) other)

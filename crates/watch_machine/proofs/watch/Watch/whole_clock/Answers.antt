@@ -25,36 +25,36 @@ use Rattle.watch_machine.proofs.LineSent.{asked_are, left_in_line}
 use Rattle.watch_machine.proofs.Lulls.{some_lull}
 use Rattle.watch_machine.proofs.Rewritten.{once, thrice, twice}
 use Rattle.watch_machine.proofs.Written.{each_length}
-use Rattle.watch_machine.proofs.watch.Watch.whole_clock.Goals.{After-drop-needs-inside-2}
+use Rattle.watch_machine.proofs.watch.Watch.whole_clock.Goals.{After-drop-needs-inside-3}
 use Rattle.watch_machine.proofs.watch.Watch.whole_clock.Goals as goal
 
 -- the state before the clock, by its fields
-abbrev before : After-drop-needs-inside-2 → WatchState
+abbrev before : After-drop-needs-inside-3 → WatchState
 before c =
     let w = c.self.inside in
     record { forest = w.forest; width = w.width; tracks = w.tracks.items; out = w.out.items; answers = w.answers.items; clocks = w.clocks; presence = w.presence; begun = w.begun; asked = w.asked; stepped = w.stepped }
 
-before_is : (c : After-drop-needs-inside-2) → before c ≡ c.args.self.now
+before_is : (c : After-drop-needs-inside-3) → before c ≡ c.args.self.now
 before_is c = c.self.view_is
 
 -- the steps 1 and 2
-clocks_are : (c : After-drop-needs-inside-2) → c.timed-timed.result.clocks ≡ clocks_after (before c) c.args.wall c.args.elapsed
+clocks_are : (c : After-drop-needs-inside-3) → c.timed-timed.result.clocks ≡ clocks_after (before c) c.args.wall c.args.elapsed
 clocks_are c = c.timed-timed.ensures.clocks ∙ ap (λ (t : WatchState). clocks_after t c.args.wall c.args.elapsed) (sym (before_is c))
 
-stepped_is : (c : After-drop-needs-inside-2) → c.timed-timed.result.stepped ≡ has_stepped (before c) c.args.wall c.args.elapsed
+stepped_is : (c : After-drop-needs-inside-3) → c.timed-timed.result.stepped ≡ has_stepped (before c) c.args.wall c.args.elapsed
 stepped_is c = c.timed-timed.ensures.stepped ∙ ap (λ (t : WatchState). has_stepped t c.args.wall c.args.elapsed) (sym (before_is c))
 
-jumped_is : (c : After-drop-needs-inside-2) → c.timed-timed.result.jumped ≡ has_jumped (before c) c.args.wall c.args.elapsed
+jumped_is : (c : After-drop-needs-inside-3) → c.timed-timed.result.jumped ≡ has_jumped (before c) c.args.wall c.args.elapsed
 jumped_is c = c.timed-timed.ensures.jumped ∙ ap (λ (t : WatchState). has_jumped t c.args.wall c.args.elapsed) (sym (before_is c))
 
-tracks_are : (c : After-drop-needs-inside-2) → c.in_ok-tracks.tracks.items ≡ each (λ i. settled_track (before c).forest.margin c.timed-timed.result.clocks.at) (before c).tracks
+tracks_are : (c : After-drop-needs-inside-3) → c.in_ok-tracks.tracks.items ≡ each (λ i. settled_track (before c).forest.margin c.timed-timed.result.clocks.at) (before c).tracks
 tracks_are c =
     let at = c.timed-timed.result.clocks.at in
     c.in_ok-tracks.ensures.value ∙ ap (λ m. each (λ i. settled_track m at) c.deref.result.now) c.margin-margin.ensures
     ∙ ap (each (λ i. settled_track c.self.inside.forest.margin at)) c.deref.ensures.value
 
 presence_is :
-    (c : After-drop-needs-inside-2) →
+    (c : After-drop-needs-inside-3) →
     c.presence_after-presence.result ≡ presence_after (before c).forest.margin c.timed-timed.result.clocks.at (before c).tracks (before c).answers (before c).presence
 presence_is c =
     let w = c.self.inside in
@@ -65,52 +65,52 @@ presence_is c =
 
 -- the step 3
 why_is :
-    (c : After-drop-needs-inside-2) →
+    (c : After-drop-needs-inside-3) →
     c.reason-why.result ≡ beginning (before c).begun (before c).asked c.timed-timed.result.stepped c.timed-timed.result.jumped c.timed-timed.result.clocks.at c.in_ok-tracks.tracks.items
 why_is c =
     let t = c.timed-timed.result in
     c.reason-why.ensures ∙ ap (λ (s : WatchState). beginning s.begun s.asked t.stepped t.jumped t.clocks.at c.deref-4.result.now) (sym (before_is c))
     ∙ ap (beginning (before c).begun (before c).asked t.stepped t.jumped t.clocks.at) c.deref-4.ensures.value
 
-begun_are : (c : After-drop-needs-inside-2) → c.begin.new.tracks ≡ begun_tracks (before c).forest c.timed-timed.result.clocks c.reason-why.result c.in_ok-tracks.tracks.items
+begun_are : (c : After-drop-needs-inside-3) → c.begin.new.tracks ≡ begun_tracks (before c).forest c.timed-timed.result.clocks c.reason-why.result c.in_ok-tracks.tracks.items
 begun_are c = c.in_ok-needs.ensures.tracks ∙ ap (begun_tracks c.self.inside.forest c.timed-timed.result.clocks c.reason-why.result) c.deref_mut.ensures.value
 
-has : (c : After-drop-needs-inside-2) → HasNeeds (before c).forest.entries c.begin.new.tracks c.timed-timed.result.clocks c.in_ok-needs.needs
+has : (c : After-drop-needs-inside-3) → HasNeeds (before c).forest.entries c.begin.new.tracks c.timed-timed.result.clocks c.in_ok-needs.needs
 has c = c.in_ok-needs.ensures.needs.needs
 
 -- the step 4
-read_begun : (c : After-drop-needs-inside-2) → c.deref_mut-2.result.now ≡ c.begin.new.tracks
+read_begun : (c : After-drop-needs-inside-3) → c.deref_mut-2.result.now ≡ c.begin.new.tracks
 read_begun c = c.deref_mut-2.ensures.value ∙ once c.in_ok-tracks.tracks c.deref_mut.result.now c.begin.new.tracks c.deref_mut.ensures.value c.begin.auto.tracks
 
-rounds : (c : After-drop-needs-inside-2) → IsRound (before c).forest c.begin.new.tracks c.timed-timed.result.clocks c.in_ok-round.round
+rounds : (c : After-drop-needs-inside-3) → IsRound (before c).forest c.begin.new.tracks c.timed-timed.result.clocks c.in_ok-round.round
 rounds c = subst (λ xs. IsRound c.self.inside.forest xs c.timed-timed.result.clocks c.in_ok-round.round) (read_begun c) c.in_ok-round.ensures.round
 
 -- the tracks that all are pressed in
-abbrev pressed_of : After-drop-needs-inside-2 → List Track
+abbrev pressed_of : After-drop-needs-inside-3 → List Track
 pressed_of c = pressed_tracks c.self.inside.forest c.timed-timed.result.clocks (asked_by_round c.in_ok-round.round) c.begin.new.tracks
 
-presses : (c : After-drop-needs-inside-2) → c.press.new.tracks ≡ pressed_of c
+presses : (c : After-drop-needs-inside-3) → c.press.new.tracks ≡ pressed_of c
 presses c = c.in_ok-round.ensures.tracks ∙ ap (pressed_tracks c.self.inside.forest c.timed-timed.result.clocks (asked_by_round c.in_ok-round.round)) (read_begun c)
 
 -- the step 5
-pressed_count : (c : After-drop-needs-inside-2) → length c.press.new.tracks ≡ length c.begin.new.tracks
+pressed_count : (c : After-drop-needs-inside-3) → length c.press.new.tracks ≡ length c.begin.new.tracks
 pressed_count c = c.press.auto.tracks ∙ ap length (read_begun c)
 
-sent_count : (c : After-drop-needs-inside-2) → length c.send_all.new.tracks ≡ length c.press.new.tracks
+sent_count : (c : After-drop-needs-inside-3) → length c.send_all.new.tracks ≡ length c.press.new.tracks
 sent_count c =
     c.send_all.auto.tracks
     ∙ ap length (c.deref_mut-3.ensures.value ∙ twice c.in_ok-tracks.tracks c.deref_mut.result.now c.begin.new.tracks c.deref_mut.ensures.value c.begin.auto.tracks c.press.new.tracks (pressed_count c))
 
-read_pressed : (c : After-drop-needs-inside-2) → c.deref-5.result.now ≡ pressed_of c
+read_pressed : (c : After-drop-needs-inside-3) → c.deref-5.result.now ≡ pressed_of c
 read_pressed c =
     c.deref-5.ensures.value
     ∙ twice c.in_ok-tracks.tracks c.deref_mut.result.now c.begin.new.tracks c.deref_mut.ensures.value c.begin.auto.tracks c.press.new.tracks (pressed_count c) ∙ presses c
 
-lanes_are : (c : After-drop-needs-inside-2) → c.saturating_sub-lanes.result ≡ (before c).width - length (before c).out
+lanes_are : (c : After-drop-needs-inside-3) → c.saturating_sub-lanes.result ≡ (before c).width - length (before c).out
 lanes_are c = c.saturating_sub-lanes.ensures ∙ ap (λ n. c.self.inside.width - n) (c.len.ensures ∙ c.self.inside.out.ok.0)
 
 goes :
-    (c : After-drop-needs-inside-2) →
+    (c : After-drop-needs-inside-3) →
     IsGoing (before c).forest c.presence_after-presence.result c.timed-timed.result.clocks.at (pressed_of c) ((before c).width - length (before c).out) c.in_ok-requests.field-0.requests.items
 goes c =
     let p = c.presence_after-presence.result in
@@ -118,17 +118,17 @@ goes c =
     let requests = c.in_ok-requests.field-0.requests.items in
     subst (λ n. IsGoing c.self.inside.forest p at (pressed_of c) n requests) (lanes_are c) (subst (λ xs. IsGoing c.self.inside.forest p at xs c.saturating_sub-lanes.result requests) (read_pressed c) c.in_ok-requests.ensures.going)
 
-out_are : (c : After-drop-needs-inside-2) → c.in_ok-out.out.items ≡ (before c).out ++ map (out_at c.timed-timed.result.clocks.at) c.in_ok-requests.field-0.requests.items
+out_are : (c : After-drop-needs-inside-3) → c.in_ok-out.out.items ≡ (before c).out ++ map (out_at c.timed-timed.result.clocks.at) c.in_ok-requests.field-0.requests.items
 out_are c =
     let at = c.timed-timed.result.clocks.at in
     c.in_ok-out.ensures.value ∙ ap (λ os. os ++ map (out_at at) c.deref-7.result.now) c.deref-6.ensures.value
     ∙ ap (λ rs. c.self.inside.out.items ++ map (out_at at) rs) c.deref-7.ensures.value
 
 -- the tracks in which it is noted who goes out
-abbrev sent_of : After-drop-needs-inside-2 → List Track
+abbrev sent_of : After-drop-needs-inside-3 → List Track
 sent_of c = each (sent_in c.timed-timed.result.clocks.at c.in_ok-requests.field-0.requests.items) (pressed_of c)
 
-sends : (c : After-drop-needs-inside-2) → c.send_all.new.tracks ≡ sent_of c
+sends : (c : After-drop-needs-inside-3) → c.send_all.new.tracks ≡ sent_of c
 sends c =
     let at = c.timed-timed.result.clocks.at in
     c.send_all.ensures.value ∙ ap (λ rs. each (sent_in at rs) c.deref_mut-3.result.now) c.deref-8.ensures.value
@@ -138,7 +138,7 @@ sends c =
 
 -- the step 6
 waits :
-    (c : After-drop-needs-inside-2) →
+    (c : After-drop-needs-inside-3) →
     c.wait-until.result ≡ wait_by (before c).forest c.timed-timed.result.clocks c.presence_after-presence.result (sent_of c) (need_at c.in_ok-needs.needs)
 waits c =
     c.wait-until.ensures
@@ -148,7 +148,7 @@ waits c =
     ∙ sends c)
 
 -- what is left, and what is noted
-abbrev after : After-drop-needs-inside-2 → List Track → List Out → List Answer → WatchState
+abbrev after : After-drop-needs-inside-3 → List Track → List Out → List Answer → WatchState
 after c xs os as' =
     let w = c.self.inside in
     record {
@@ -164,7 +164,7 @@ after c xs os as' =
       stepped = c.timed-timed.result.stepped;
     }
 
-leaves : (c : After-drop-needs-inside-2) → c.note_begun.new.self ≡ noted_begun (after c (sent_of c) ((before c).out ++ map (out_at c.timed-timed.result.clocks.at) c.in_ok-requests.field-0.requests.items) []) c.reason-why.result
+leaves : (c : After-drop-needs-inside-3) → c.note_begun.new.self ≡ noted_begun (after c (sent_of c) ((before c).out ++ map (out_at c.timed-timed.result.clocks.at) c.in_ok-requests.field-0.requests.items) []) c.reason-why.result
 leaves c =
     let why = c.reason-why.result in
     c.note_begun.ensures
@@ -175,7 +175,7 @@ leaves c =
     ∙ ap (λ (ys : List Answer). noted_begun (after c (sent_of c) ((before c).out ++ map (out_at c.timed-timed.result.clocks.at) c.in_ok-requests.field-0.requests.items) ys) why) c.clear.ensures.items
 
 -- what is given
-abbrev said : After-drop-needs-inside-2 → Output
+abbrev said : After-drop-needs-inside-3 → Output
 said c = record { command = Go c.in_ok-requests.field-0.requests.items c.wait-until.result; notes = record c.none.result { began = c.reason-why.result; round = c.in_ok-round.round } }
 
 pub returns-clause-step : goal.returns-clause-step

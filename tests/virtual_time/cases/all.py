@@ -1,0 +1,9 @@
+"""All cases."""
+
+from __future__ import annotations
+
+from . import Case, ceilings, changes, clocks, good_brokers, lanes, outages, replies, restarts
+
+MODULES = (good_brokers, outages, restarts, clocks, ceilings, lanes, changes, replies)
+KEPT: tuple[Case, ...] = tuple(case for module in MODULES for case in module.KEPT)
+NOT_YET: tuple[Case, ...] = tuple(case for module in MODULES for case in module.NOT_YET)

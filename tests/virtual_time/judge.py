@@ -1,0 +1,103 @@
+"""What has to hold in every world, seen at the broker, in the file of the ends and in the log."""
+
+from __future__ import annotations
+
+from pathlib import Path
+
+from .agent import Agent
+from .clock import NANOSECONDS, ns
+from .fleet import Fleet
+from .listening import Broker
+from .vault import Asked, Row, second_of
+
+APART = NANOSECONDS - 2_000_000
+"""Two requests of an entry are a second apart; its clock shows whole milliseconds."""
+
+
+class Judge:
+    """Watches a world. `faults`: what went wrong, a line each."""
+
+    def __init__(self, broker: Broker, agent: Agent, ends: Path, width: int) -> None:
+        self._broker, self._agent, self._ends, self._width = broker, agent, ends, width
+        self.faults: list[str] = []
+        self._judged = 0
+        self._last: dict[str, Asked] = {}
+        self._stamp: tuple[int, int] = (0, 0)
+        self._crowded = False
+        broker.world.watchers.append(self.watch)
+
+    def watch(self) -> None:
+        """Judges what is new."""
+        self._judge_requests()
+        if self._broker.out > self._width + 1 and not self._crowded:
+            self._crowded = True
+            self._tell(f"{self._broker.out} requests are out of {self._width}, and one for a credential")
+        self._judge_ends()
+
+    def _tell(self, fault: str) -> None:
+        self.faults.append(f"at {self._broker.world.now / NANOSECONDS:.3f}: {fault}")
+
+    def _judge_requests(self) -> None:
+        asked = self._broker.vault.asked
+        for one in asked[self._judged:]:
+            before = self._last.get(one.credential)
+            self._last[one.credential] = one
+            if before is not None and one.moment - before.moment < APART and not self._may_follow(before, one):
+                self._tell(f"{one.name or one.credential} is asked {(one.moment - before.moment) / NANOSECONDS:.3f} s after it was asked")
+        self._judged = len(asked)
+
+    def _may_follow(self, before: Asked, one: Asked) -> bool:
+        """Whether it is the renewal right behind its lookup, or another watch knows of no request that the one before it made."""
+        if one.renews and not before.renews:
+            return True
+        began = [line.moment for line in self._agent.said("begin", "start")]
+        return one.run != before.run or any(before.moment <= moment <= one.moment for moment in began)
+
+    # ---- ends
+
+    def _judge_ends(self) -> None:
+        try:
+            seen = self._ends.stat()
+        except OSError:
+            return
+        stamp = seen.st_mtime_ns, seen.st_ino
+        if stamp == self._stamp:
+            return
+        self._stamp = stamp
+        clocks, latest = self._agent.clocks, self._broker.vault.latest_ends()
+        for line in self._ends.read_text().splitlines():
+            name, end, *_ = line.split()
+            real = clocks.elapsed(latest[name])
+            if ns(int(end)) > real:
+                self._tell(f"the file of the ends has {name} end at {end}, and the broker at {real / NANOSECONDS:.3f}")
+
+    def judge_status(self, ends: dict[str, float], slack: float) -> None:
+        """Ends that the agent shows, in seconds since 1970, are no later than the broker's. `slack`: by how much its clock may be wrong."""
+        latest = self._broker.vault.latest_ends()
+        for name, end in ends.items():
+            real = second_of(latest[name])
+            if end > real + slack:
+                self._tell(f"status shows the end of {name} at {end}, and the broker {real}")
+
+    # ---- lives
+
+    def lost(self, fleet: Fleet) -> list[str]:
+        """The entries that are needed and have ended, although renewals could have led them on: neither revoked, nor at a ceiling, nor
+        not to be renewed, they or one over them."""
+        now, rows, lost = self._broker.world.now, self._broker.vault.by_name(), []
+        for name, need in needed(fleet, rows).items():
+            row = rows[name]
+            ended = row.ended(now)
+            if ended is not None and second_of(ended) < need and ended < min(row.reach(), now):
+                lost.append(name)
+        return lost
+
+
+def needed(fleet: Fleet, rows: dict[str, Row]) -> dict[str, int]:
+    """Until when each is needed, in seconds since 1970: by itself, or by one that the broker has under it, for as long as that can live."""
+    needs = {entry.name: entry.need for entry in fleet.entries}
+    for entry in reversed(fleet.entries):
+        row = rows[entry.name]
+        if row.parent is not None and row.parent.name in needs:
+            needs[row.parent.name] = max(needs[row.parent.name], min(needs[entry.name], second_of(row.own_reach())))
+    return needs
