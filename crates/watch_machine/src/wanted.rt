@@ -103,13 +103,7 @@ fn limit(forest: &Forest, tracks: &[Track], index: u32, above: u64) -> u64
 }
 
 /// Writes the entry at an index as it is seen on this clock, by its believed end, its need cut to its limit.
-fn write_seen(
-    view: &mut Forest,
-    forest: &Forest,
-    tracks: &[Track],
-    clocks: Clocks,
-    index: u32,
-)
+fn write_seen(view: &mut Forest, forest: &Forest, tracks: &[Track], clocks: Clocks, index: u32)
     requires within { index < length forest.now.entries }
     requires count { length tracks.now ≡ length forest.now.entries }
     requires view { IsView view.old forest.now }
