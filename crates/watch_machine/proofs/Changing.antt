@@ -2,6 +2,8 @@
 use Rattle.std.proofs.Common.{◌≡◌, ◌∙◌, ℕ, suc, ◌+◌, ◌<◌, ◌≤◌, ◌++◌, Bool, true, false, if◌then◌else◌, List, [], ◌∷◌, Option, Some, None, IfSome, drop, get_or, length, map, option_map, set, take, refl, sym, ap, arith}
 use Rattle.std.proofs.lemmas.Bool.{cond-false, cond-true}
 use Rattle.std.proofs.lemmas.List.{append_assoc, drop_more, get_or_at, length-take, set_at, take_more}
+use Rattle.std.proofs.lemmas.List.Elements.{All-cons, All-head, All-tail}
+use Rattle.std.specs.List.{All}
 use Rattle.watch_machine.specs.declared.change.Was.{Was}
 use Rattle.watch_machine.specs.declared.lanes.Out.{Out}
 use Rattle.watch_machine.specs.Change.{former, is_former, moved_out, out_after, place_now}
@@ -32,6 +34,16 @@ out_append was n (x ∷ xs) ys = ap (λ rest. moved_out was n x ∷ rest) (out_a
 pub out_length : (was : List Was) (n : ℕ) (out : List Out) → length (out_after was n out) ≡ length out
 out_length was n [] = refl
 out_length was n (r ∷ rest) = ap (λ k. suc k) (out_length was (suc n) rest)
+
+-- what holds of each whatever its index is holds after a change too, and what else it tells is as before
+module _ (was : List Was) where
+  pub all_after : (P : Out → Type 0) → ((k : ℕ) (r : Out) → P r → P (moved_out was k r)) → (n : ℕ) (out : List Out) → All P out → All P (out_after was n out)
+  all_after P kept n [] all = all
+  all_after P kept n (r ∷ rest) all = All-cons P (moved_out was n r) (out_after was (suc n) rest) (kept n r (All-head P r rest all)) (all_after P kept (suc n) rest (All-tail P r rest all))
+
+  pub map_after : {X : Type 0} (f : Out → X) → ((k : ℕ) (r : Out) → f (moved_out was k r) ≡ f r) → (n : ℕ) (out : List Out) → map f (out_after was n out) ≡ map f out
+  map_after f kept n [] = refl
+  map_after f kept n (r ∷ rest) = ap (λ x. x ∷ map f (out_after was (suc n) rest)) (kept n r) ∙ ap (λ xs. f r ∷ xs) (map_after f kept (suc n) rest)
 
 -- one request more
 pub out_more :

@@ -32,3 +32,4 @@ pub mod RoundClock
 pub mod Nobody
 pub mod Changing
 pub mod Moved
+pub mod Foresting

@@ -1,9 +1,10 @@
 -- Moved: where an entry is after a change, what is known of it and written of it there, and which requests are out. For the laws of a change.
-use Rattle.std.proofs.Common.{◌≡◌, ◌≢◌, ◌∙◌, ◌⊎◌, ◌==◌, ◌&&◌, ℕ, zero, suc, ◌<◌, ◌≤◌, Bool, true, false, if◌then◌else◌, List, [], ◌∷◌, Option, Some, None, cond, find, inl, inr, length, map, option_map, refl, sym, ap, subst, arith}
+use Rattle.std.proofs.Common.{◌≡◌, ◌∙◌, ◌==◌, ◌&&◌, ℕ, zero, suc, ◌+◌, ◌<◌, ◌≤◌, Bool, true, false, if◌then◌else◌, List, [], ◌∷◌, Option, Some, None, cond, count_by, find, inl, inr, length, map, option_map, refl, sym, ap, subst, arith}
 use Rattle.std.proofs.lemmas.Bool.{and_parts, cases_Bool, cases_eq, cases_lt, cond-false, cond-true, eqb-true}
 use Rattle.std.proofs.lemmas.Bool.Decides.{nat_tests}
 use Rattle.std.proofs.lemmas.List.{get_or_past}
 use Rattle.std.proofs.lemmas.List.FromFn.{get_or-map-range_with_len}
+use Rattle.std.proofs.lemmas.List.Sums.{sum_by-cons}
 use Rattle.keep_tree.specs.Forest.{Forest, entry_at, no_entry}
 use Rattle.watch_machine.specs.declared.change.Was.{Was}
 use Rattle.watch_machine.specs.declared.change.Was.TheVariants.{New}
@@ -125,3 +126,76 @@ apart_moved n m many was d e low le less other same = by (place_now was d) (plac
   by None (Some k) one two is = let below = low e k (place_said was e k two) in omega (arith, is, below, le)
   by (Some k) None one two is = let below = low d k (place_said was d k one) in omega (arith, is, below, le, less)
   by (Some j) (Some k) one two is = other (value_is e d (sym (place_said was e k two) ∙ ap (former_at was) is ∙ place_said was d j one))
+
+-- ---- how many are out under an index
+
+-- whatever was somewhere is told of below the number of entries
+pub former_low : (n : ℕ) (g : Forest) (was : List Was) → IsChange n g was → (i j : ℕ) → former_at was j ≡ Some i → j < length g.entries
+former_low n g was change i j said = said_within was j (length g.entries) change.count (λ new. let bad : None ≡ Some i = sym (ap former new) ∙ said in cc)
+
+abbrev pub times_out : ℕ → List Out → ℕ
+times_out j out = count_by (λ (r : Out). r.entry == j) out
+
+abbrev one_if : Bool → ℕ
+one_if b = if b then 1 else 0
+
+times_more : (j : ℕ) (r : Out) (rest : List Out) → times_out j (r ∷ rest) ≡ one_if (r.entry == j) + times_out j rest
+times_more j r rest = sum_by-cons (λ (q : Out). one_if (q.entry == j)) r rest
+
+-- as many as before of an entry that was
+pub times_moved :
+    (n many : ℕ) (was : List Was) (i j : ℕ) (out : List Out) → many ≤ n → j < many → former_at was j ≡ Some i → place_now was i ≡ Some j → times_out j (out_after was n out) ≡ times_out i out
+times_moved n many was i j [] le low said there = refl
+times_moved n many was i j (r ∷ rest) le low said there =
+    times_more j (moved_out was n r) (out_after was (suc n) rest)
+    ∙ ap (λ b. one_if b + times_out j (out_after was (suc n) rest)) (index_same n many was i j r.entry le low said there)
+    ∙ ap (λ k. one_if (r.entry == i) + k) (times_moved (suc n) many was i j rest (omega (arith, le)) low said there) ∙ sym (times_more i r rest)
+
+-- none of one that is new
+index_new : (n many : ℕ) (was : List Was) (j e : ℕ) → many ≤ n → j < many → former_at was j ≡ None → (index_or n (place_now was e) == j) ≡ false
+index_new n many was j e le low new = by (place_now was e) refl where
+  by : (o : Option ℕ) → place_now was e ≡ o → (index_or n o == j) ≡ false
+  by None place = grind (arith, nat_tests)
+  by (Some k) place = elim (cases_eq k j) [
+    | inl same ↦ absurd (let bad : None ≡ Some e = sym new ∙ ap (former_at was) (sym same) ∙ place_said was e k place in cc)
+    | inr apart ↦ grind (arith, nat_tests)
+  ]
+
+pub times_new : (n many : ℕ) (was : List Was) (j : ℕ) (out : List Out) → many ≤ n → j < many → former_at was j ≡ None → times_out j (out_after was n out) ≡ 0
+times_new n many was j [] le low new = refl
+times_new n many was j (r ∷ rest) le low new =
+    times_more j (moved_out was n r) (out_after was (suc n) rest) ∙ ap (λ b. one_if b + times_out j (out_after was (suc n) rest)) (index_new n many was j r.entry le low new)
+    ∙ times_new (suc n) many was j rest (omega (arith, le)) low new
+
+-- and one at most under an index past the last entry
+module _ (many : ℕ) (was : List Was) (low : (i j : ℕ) → former_at was j ≡ Some i → j < many) where
+  index_past : (n j e : ℕ) → many ≤ j → (j ≡ n → ⊥) → (index_or n (place_now was e) == j) ≡ false
+  index_past n j e past other = by (place_now was e) refl where
+    by : (o : Option ℕ) → place_now was e ≡ o → (index_or n o == j) ≡ false
+    by None place = elim (cases_eq n j) [ inl same ↦ absurd (other (sym same)) | inr apart ↦ grind (arith, nat_tests) ]
+    by (Some k) place = let below = low e k (place_said was e k place) in grind (arith, nat_tests)
+
+  times_passed : (n j : ℕ) (out : List Out) → many ≤ j → j < n → times_out j (out_after was n out) ≡ 0
+  times_passed n j [] past before = refl
+  times_passed n j (r ∷ rest) past before =
+      times_more j (moved_out was n r) (out_after was (suc n) rest)
+      ∙ ap (λ b. one_if b + times_out j (out_after was (suc n) rest)) (index_past n j r.entry past (λ h. omega (arith, h, before)))
+      ∙ times_passed (suc n) j rest past (omega (arith, before))
+
+  pub times_nobody : (n j : ℕ) (out : List Out) → many ≤ j → times_out j (out_after was n out) ≤ 1
+  times_nobody n j [] past = omega arith
+  times_nobody n j (r ∷ rest) past =
+      let more = times_more j (moved_out was n r) (out_after was (suc n) rest) in
+      elim (cases_eq j n) [
+        | inl same ↦
+            let none = times_passed (suc n) j rest past (omega (arith, same)) in
+            let one = few (index_or n (place_now was r.entry) == j) in
+            omega (arith, more, none, one)
+        | inr other ↦
+            let zero_here = ap one_if (index_past n j r.entry past other) in
+            let rest_low = times_nobody (suc n) j rest past in
+            omega (arith, more, zero_here, rest_low)
+      ] where
+        few : (b : Bool) → one_if b ≤ 1
+        few true = omega arith
+        few false = omega arith
