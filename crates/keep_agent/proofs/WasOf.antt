@@ -42,7 +42,7 @@ unfolding former
 former_named s t j i is = was_named s t j i (index_named s.forest.entries (entry_at t.forest.entries j).name) is
 
 -- what is said of an entry says where it was
-former_by : (s t : Inventory) (j : ℕ) (o : Option ℕ) → changes.former (was_by s t j o) ≡ o
+pub former_by : (s t : Inventory) (j : ℕ) (o : Option ℕ) → changes.former (was_by s t j o) ≡ o
 former_by s t j None = refl
 former_by s t j (Some i) = elim (cases_Bool (is_said_again s t i j)) [
   | inl yes' ↦ ap changes.former (cond-true (is_said_again s t i j) (Same i) (Retold i) yes')

@@ -183,7 +183,7 @@ set_kept R same (x ∷ xs) zero y made (suc i) = same (track_in xs i)
 set_kept R same (x ∷ xs) (suc j) y made zero = same x
 set_kept R same (x ∷ xs) (suc j) y made (suc i) = set_kept R same xs j y made i
 
-lookup_flag : (at : ℕ) (x : Track) → Flag (owing_lookup at x) x
+pub lookup_flag : (at : ℕ) (x : Track) → Flag (owing_lookup at x) x
 lookup_flag at x = if_both (λ y. Flag y x) x.out (record x { owes = true }) (record x { owes = true; attempt = Some (sooner_try (soon at x) x.attempt) }) refl refl
 
 owing_flag : (at : ℕ) (first called : Bool) (x : Track) → Flag (owing at first called x) x

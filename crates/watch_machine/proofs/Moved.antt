@@ -83,7 +83,7 @@ index_other n many was i j e (Some k) place le low said other = elim (cases_eq k
   | inr apart ↦ grind (arith, nat_tests)
 ]
 
-index_same :
+pub index_same :
     (n many : ℕ) (was : List Was) (i j e : ℕ) → many ≤ n → j < many → former_at was j ≡ Some i → place_now was i ≡ Some j → (index_or n (place_now was e) == j) ≡ (e == i)
 index_same n many was i j e le low said there = elim (cases_eq e i) [
   | inl same ↦
