@@ -17,8 +17,7 @@ use Rattle.watch_machine.proofs.Cases.{if_both}
 use Rattle.keep_agent.specs.declared.standing.Standing.{Standing}
 use Rattle.keep_agent.specs.declared.standing.Told.{Told}
 use Rattle.keep_agent.specs.Agent.{Agent, Believes, IsAgent, IsStanding, standing_at}
-use Rattle.keep_agent.specs.Changed.{all_was, is_said_again, was_by, was_of}
-use Rattle.keep_agent.specs.Rebuilding.{carried_standing, former, standing_of}
+use Rattle.keep_agent.specs.Changed.{all_was, carried_standing, former, is_said_again, standing_of, was_by, was_of}
 use Rattle.keep_agent.specs.Standings.{fresh_standing, standing_in}
 use Rattle.keep_agent.proofs.Believing.{still_believed}
 use Rattle.keep_agent.proofs.Fresh.{unknown_believed}

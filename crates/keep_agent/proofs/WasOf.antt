@@ -13,8 +13,7 @@ use Rattle.watch_machine.specs.declared.change.Was.{Was}
 use Rattle.watch_machine.specs.declared.change.Was.TheVariants.{New, Same, Retold}
 use Rattle.watch_machine.specs.Change.{IsChange, former_at, was_at}
 use Rattle.watch_machine.specs.Change as changes
-use Rattle.keep_agent.specs.Changed.{all_was, is_said_again, was_by, was_of}
-use Rattle.keep_agent.specs.Rebuilding.{former, if_same, is_same_entry}
+use Rattle.keep_agent.specs.Changed.{all_was, former, if_same, is_said_again, is_same_entry, was_by, was_of}
 
 -- the entry of an index under a name has that name
 name_step : (here : Bool) (e : Entry) (es : List Entry) (q : List ℕ) (o : Option ℕ) (i : ℕ) → (here ≡ true → e.name ≡ q) → ((k : ℕ) → o ≡ Some k → (entry_at es k).name ≡ q) →

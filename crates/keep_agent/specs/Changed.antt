@@ -3,15 +3,47 @@
 -- Source: this project's own.
 use Rattle.std.specs.Prelude.{◌≡◌, ℕ, Bool, true, false, not, ◌&&◌, ◌==◌, if◌then◌else◌, List, [], Option, Some, None, bytes_eq, length, map}
 use Rattle.std.specs.List.{range_with_len}
-use Rattle.keep_inventory.specs.Inventories.{Inventory, terms_at}
+use Rattle.keep_inventory.specs.Inventories.{Inventory, credential_at, terms_at}
 use Rattle.keep_inventory.specs.declared.terms.Terms.{Terms}
 use Rattle.keep_tree.specs.declared.entry.Entry.{Entry}
-use Rattle.keep_tree.specs.Forest.{entry_at}
+use Rattle.keep_tree.specs.declared.entry.Kind.{Kind}
+use Rattle.keep_tree.specs.declared.entry.Kind.TheVariants.{Token, Lease}
+use Rattle.keep_tree.specs.Forest.{entry_at, index_named}
 use Rattle.watch_machine.specs.declared.change.Was.{Was}
 use Rattle.watch_machine.specs.declared.change.Was.TheVariants.{New, Same, Retold}
 use Rattle.watch_machine.specs.History.{IsChanged}
-use Rattle.keep_agent.specs.Agent.{Agent}
-use Rattle.keep_agent.specs.Rebuilding.{carried_standing, former}
+use Rattle.keep_agent.specs.declared.standing.Standing.{Standing}
+use Rattle.keep_agent.specs.Agent.{Agent, standing_at}
+use Rattle.keep_agent.specs.Standings.{fresh_standing}
+
+-- ---- where an entry was served before, and what is said of it
+
+abbrev pub is_same_kind : Kind → Kind → Bool
+is_same_kind Token Token = true
+is_same_kind Token Lease = false
+is_same_kind Lease Token = false
+is_same_kind Lease Lease = true
+
+-- the entry at an index of one inventory is that at an index of another: of its kind, and with its credential
+unfoldable pub is_same_entry : Inventory → Inventory → ℕ → ℕ → Bool
+is_same_entry s t i j =
+    is_same_kind (entry_at s.forest.entries i).kind (entry_at t.forest.entries j).kind && bytes_eq (credential_at s.credentials i) (credential_at t.credentials j)
+
+abbrev pub if_same : Inventory → Inventory → ℕ → Option ℕ → Option ℕ
+if_same s t j None = None
+if_same s t j (Some i) = if is_same_entry s t i j then Some i else None
+
+-- where an entry of the second inventory stood in the first: that of its name, if it is the same
+unfoldable pub former : Inventory → Inventory → ℕ → Option ℕ
+former s t j = if_same s t j (index_named s.forest.entries (entry_at t.forest.entries j).name)
+
+abbrev pub standing_of : Agent → Option ℕ → Standing
+standing_of a None = fresh_standing
+standing_of a (Some i) = standing_at a i
+
+-- its standing there, a fresh one where it was not
+unfoldable pub carried_standing : Agent → Inventory → ℕ → Standing
+carried_standing a t j = standing_of a (former a.inventory t j)
 
 -- ---- what the inventory says of an entry, but for its need
 

@@ -1,12 +1,15 @@
 //! Another inventory is served from now on, and the Watch goes on over it.
-ghost use Rattle.std.specs.Prelude.{◌≡◌, ◌<◌, IfErr, IfOk, OnErr, OnOk, length};
-ghost use Rattle.keep_agent.specs.Changed.{AgentIsChanged, all_was, has_same_parent, is_said_again, is_same_answer, is_same_number, is_same_terms, parent_name, was_of};
+ghost use Rattle.std.specs.Prelude.{◌≡◌, ◌<◌, IfErr, IfOk, IfSome, OnErr, OnOk, length, map};
+ghost use Rattle.std.specs.List.{All, range_with_len};
+ghost use Rattle.keep_agent.specs.Agent.{IsStanding};
+ghost use Rattle.keep_agent.specs.Changed.{AgentIsChanged, all_was, carried_standing, former, has_same_parent, is_said_again, is_same_answer, is_same_entry, is_same_kind, is_same_number, is_same_terms, parent_name, was_of};
 ghost use Rattle.watch_machine.specs.declared.fault.WatchFault.TheVariants.{OutOfMemory};
 
 use crate::agent::Agent;
+use crate::standing::Standing;
 use keep_inventory::{Inventory, Terms};
 use keep_moment::Span;
-use keep_tree::{Entry, Forest};
+use keep_tree::{Entry, Forest, Kind};
 use std::alloc::{AllocError, Global};
 use watch_machine::{Was, WatchFault};
 
@@ -28,6 +31,47 @@ impl Agent {
         self.inventory = inventory;
         self.standings = standings;
         Ok(())
+    }
+
+    /// What is said of each entry of another inventory from then on. The only error is out of memory.
+    fn carried(&self, alloc: Global, inventory: &Inventory) -> Result<Vec<Standing>, AllocError>
+        ensures value { IfOk result (λ standings. standings.items ≡ map (carried_standing self.now inventory.now) (range_with_len 0 (length inventory.now.forest.entries))) }
+        ensures bounds { IfOk result (λ standings. All IsStanding standings.items) }
+    {
+        let mut standings = Vec::new(alloc);
+        for index in 0..inventory.forest().len() {
+            standings.push(self.carried_standing(inventory, index))?;
+        }
+        Ok(standings)
+    }
+
+    /// What is said of an entry of another inventory from then on.
+    #[tactic(auto, unfolding(crate::specs::Changed::carried_standing))]
+    fn carried_standing(&self, inventory: &Inventory, index: u32) -> Standing
+        requires { index < length inventory.now.forest.entries }
+        ensures value { result ≡ carried_standing self.now inventory.now index }
+        ensures bounds { IsStanding result }
+    {
+        match self.former(inventory, index) {
+            None => Standing::fresh(),
+            Some(former) => self.standing(former),
+        }
+    }
+
+    /// Where an entry of another inventory is served now.
+    #[tactic(auto, unfolding(crate::specs::Changed::former))]
+    fn former(&self, inventory: &Inventory, index: u32) -> Option<u32>
+        requires { index < length inventory.now.forest.entries }
+        ensures value { result ≡ former self.now.inventory inventory.now index }
+        ensures within { IfSome result (λ i. i < length self.now.inventory.forest.entries) }
+    {
+        let name = inventory.forest().get(index).name.list();
+        let former = self.inventory.forest().find(name)?;
+        if is_same_entry(&self.inventory, inventory, former, index) {
+            Some(former)
+        } else {
+            None
+        }
     }
 
     /// Where each entry of another inventory is served now. The only error is out of memory.
@@ -55,6 +99,26 @@ impl Agent {
             }
             Some(former) => Was::Retold(former),
         }
+    }
+}
+
+/// Whether an entry of one inventory is that of another: of its kind, and with its credential.
+#[tactic(auto, unfolding(crate::specs::Changed::is_same_entry))]
+fn is_same_entry(old: &Inventory, new: &Inventory, before: u32, after: u32) -> bool
+    requires before { before < length old.now.forest.entries }
+    requires after { after < length new.now.forest.entries }
+    ensures { result ≡ is_same_entry old.now new.now before after }
+{
+    is_same_kind(old.forest().get(before).kind, new.forest().get(after).kind)
+        && old.credential(before) == new.credential(after)
+}
+
+fn is_same_kind(one: Kind, other: Kind) -> bool
+    ensures { result ≡ is_same_kind one other }
+{
+    match (one, other) {
+        (Kind::Token, Kind::Token) | (Kind::Lease, Kind::Lease) => true,
+        _ => false,
     }
 }
 

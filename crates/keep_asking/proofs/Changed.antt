@@ -5,7 +5,7 @@ use Rattle.std.proofs.lemmas.Bool.Decides.{nat_tests}
 use Rattle.std.proofs.lemmas.List.{length-map, map-append}
 use Rattle.std.proofs.lemmas.List.FromFn.{length-map-range_with_len}
 use Rattle.keep_lanes.specs.Out as lanes
-use Rattle.keep_lanes.specs.Out.{index_in, renamed}
+use Rattle.keep_lanes.specs.Out.{index_in, renamed, with_index}
 use Rattle.keep_lanes.proofs.Renamed.{in_front, in_rest}
 use Rattle.keep_tree.specs.Forest.{Forest, entry_at}
 use Rattle.watch_machine.specs.declared.change.Was.{Was}
@@ -216,7 +216,7 @@ change_law old c width out h abreast =
     let many : length c.state.out ≡ length old.out = ap (λ (s : WatchState). length s.out) state ∙ out_length c.was (length c.forest.entries) old.out in
     let long : length from ≡ length to = length-map old.out (λ (r : Out). r.entry) ∙ sym many ∙ sym (length-map c.state.out (λ (r : Out). r.entry)) in
     let all = all_renamed from to (λ i. (let few = abreast.sound.once i in let one = at_most_one old i in omega (arith, few, one))) long in
-    let count = length-map out (λ (o : lanes.Out). record o { index = index_in from to o.index }) in
+    let count = length-map out (with_index from to) in
     let room = abreast.room in
     record {
       width_is = ap (λ (s : WatchState). s.width) state ∙ abreast.width_is;

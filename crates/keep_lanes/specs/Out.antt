@@ -44,9 +44,12 @@ index_in [] others index = index
 index_in (k ∷ ks) [] index = index
 index_in (k ∷ ks) (j ∷ js) index = if k == index then j else index_in ks js index
 
--- each that is out is for another index so
+-- what is out is for another index so, and all else of it is the same
+abbrev pub with_index : List ℕ → List ℕ → Out → Out
+with_index from to o = record o { index = index_in from to o.index }
+
 abbrev pub renamed : List ℕ → List ℕ → List Out → List Out
-renamed from to out = map (λ o. record o { index = index_in from to o.index }) out
+renamed from to out = map (with_index from to) out
 
 -- ---- where it is known what comes
 

@@ -2,9 +2,8 @@
 use Rattle.std.proofs.Common.{◌≡◌, ◌∙◌, ℕ, zero, ◌-◌, Bool, true, false, List, [], ◌∷◌, ◌++◌, Option, Some, None, Result, Ok, Err, ap, ap₂, length, map, refl, sym, subst, inl, inr}
 use Rattle.std.specs.List.{range_with_len}
 use Rattle.keep_agent.specs.Agent.{Agent}
-use Rattle.keep_agent.specs.Changed.{all_was, was_of}
-use Rattle.keep_agent.specs.Rebuilding.{carried_standing, standing_of}
-use Rattle.keep_agent.specs.Rebuilding as agents
+use Rattle.keep_agent.specs.Changed.{all_was, carried_standing, standing_of, was_of}
+use Rattle.keep_agent.specs.Changed as agents
 use Rattle.keep_agent.specs.Shorts.{all_said, said_standings}
 use Rattle.keep_agent.specs.Standings.{standing_in, standings_after}
 use Rattle.keep_agent.specs.Turns.{AgentTurn, beginnings_after, inventory_after}
