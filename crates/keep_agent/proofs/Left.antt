@@ -32,7 +32,7 @@ use Rattle.watch_machine.specs.Clocks.{dated_by, first_clocks, is_ahead, is_behi
 use Rattle.watch_machine.specs.History.{Turn}
 use Rattle.watch_machine.specs.Looked.{looked, told_state, untold_track}
 use Rattle.watch_machine.specs.Press.{asked_track, dropped, is_fresh, press, pressed, pressed_alone, pressed_track, track_asked_in}
-use Rattle.watch_machine.specs.Refusal.{refusal, request_out, unless_within}
+use Rattle.watch_machine.specs.Refusal.{request_out, unless_within}
 use Rattle.watch_machine.specs.Renewed.{renewed_track, state_renewed, ungranted_track}
 use Rattle.watch_machine.specs.Round.{asked_by_round}
 use Rattle.watch_machine.specs.Sending.{sent, sent_in, sent_track}
