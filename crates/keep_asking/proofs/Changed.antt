@@ -25,9 +25,12 @@ use Rattle.keep_asking.proofs.Sound.{counts, lookup_flag, same_index, skips, tim
 -- ---- the same indices, under others
 
 -- an index that is among some stands between those before it and those behind it
-split : (i : ℕ) (xs : List ℕ) → 0 < times i xs → (a : List ℕ) × ((b : List ℕ) × (xs ≡ a ++ i ∷ b))
+abbrev StandsIn : List ℕ → ℕ → Type 0
+StandsIn xs i = (a : List ℕ) × ((b : List ℕ) × (xs ≡ a ++ i ∷ b))
+
+split : (i : ℕ) (xs : List ℕ) → 0 < times i xs → StandsIn xs i
 split i [] some = absurd (omega (arith, some))
-split i (x ∷ xs) some = elim (cases_Bool (x == i)) [
+split i (x ∷ xs) some = elim (cases_Bool (x == i)) as (λ _. StandsIn (x ∷ xs) i) [
   | inl same ↦ ([], (xs, ap (λ n. n ∷ xs) (eqb-true x i same)))
   | inr other ↦ (let s = skips i x xs other in let more = split i xs (omega (arith, some, s)) in (x ∷ more.0, (more.1.0, ap (λ ns. x ∷ ns) more.1.1)))
 ]
@@ -88,12 +91,15 @@ indices_renamed from to (o ∷ os) = ap (λ ns. index_in from to o.index ∷ ns)
 abbrev entries_in : List Out → List ℕ
 entries_in out = map (λ (r : Out). r.entry) out
 
+abbrev IsOnceFrom : ℕ → ℕ → List ℕ → Type 0
+IsOnceFrom n j xs = (j < n → times j xs ≡ 0) × (times j xs ≤ 1)
+
 module _ (old : WatchState) (g : Forest) (was : List Was) (may : IsChange (length old.forest.entries) g was) where
   low : (i j : ℕ) → former_at was j ≡ Some i → j < length g.entries
   low i j said = said_within was j (length g.entries) may.count (λ new. (let bad : None ≡ Some i = sym (ap former new) ∙ said in cc))
 
   -- past the last entry each index is one of them once, and those before the first are none
-  nobody : (j n : ℕ) (out : List Out) → length g.entries ≤ n → length g.entries ≤ j → (j < n → times j (entries_in (out_after was n out)) ≡ 0) × (times j (entries_in (out_after was n out)) ≤ 1)
+  nobody : (j n : ℕ) (out : List Out) → length g.entries ≤ n → length g.entries ≤ j → IsOnceFrom n j (entries_in (out_after was n out))
   nobody j n [] many past = ((λ h. refl), omega arith)
   nobody j n (r ∷ rest) many past =
       let later = nobody j (suc n) rest (omega (arith, many)) past in
@@ -104,21 +110,21 @@ module _ (old : WatchState) (g : Forest) (was : List Was) (may : IsChange (lengt
         by :
             (o : Option ℕ) → place_now was r.entry ≡ o → (j < suc n → times j (entries_in (out_after was (suc n) rest)) ≡ 0) → times j (entries_in (out_after was (suc n) rest)) ≤ 1 →
             times j (entries_in (out_after was n (r ∷ rest))) ≡ cond ((moved_out was n r).entry == j) 1 0 + times j (entries_in (out_after was (suc n) rest)) →
-            (j < n → times j (entries_in (out_after was n (r ∷ rest))) ≡ 0) × (times j (entries_in (out_after was n (r ∷ rest))) ≤ 1)
-        by None place none few more = elim (cases_eq n j) [
+            IsOnceFrom n j (entries_in (out_after was n (r ∷ rest)))
+        by None place none few more = elim (cases_eq n j) as (λ _. IsOnceFrom n j (entries_in (out_after was n (r ∷ rest)))) [
           | inl same ↦
               let here = none (omega (arith, same)) in
               let one : cond ((moved_out was n r).entry == j) 1 0 ≤ 1 = at_most ((moved_out was n r).entry == j) in
               ((λ before. absurd (omega (arith, before, same))), omega (arith, here, one, more))
           | inr apart ↦
               let other : (n == j) ≡ false = grind (arith, nat_tests) in
-              let skip : cond ((moved_out was n r).entry == j) 1 0 ≡ 0 = ap (λ o. cond (index_or n o == j) 1 0) place ∙ ap (λ b. cond b 1 0) other in
+              let skip : cond ((moved_out was n r).entry == j) 1 0 ≡ 0 = ap {B = ℕ} (λ o. cond (index_or n o == j) 1 0) place ∙ ap {B = ℕ} (λ (b : Bool). cond b 1 0) other in
               ((λ before. (let rest = none (omega (arith, before)) in omega (arith, more, skip, rest))), omega (arith, more, skip, few))
         ]
         by (Some k) place none few more =
             let below = low r.entry k (place_said was r.entry k place) in
             let other : (k == j) ≡ false = grind (arith, nat_tests) in
-            let skip : cond ((moved_out was n r).entry == j) 1 0 ≡ 0 = ap (λ o. cond (index_or n o == j) 1 0) place ∙ ap (λ b. cond b 1 0) other in
+            let skip : cond ((moved_out was n r).entry == j) 1 0 ≡ 0 = ap {B = ℕ} (λ o. cond (index_or n o == j) 1 0) place ∙ ap {B = ℕ} (λ (b : Bool). cond b 1 0) other in
             ((λ before. (let rest = none (omega (arith, before)) in omega (arith, more, skip, rest))), omega (arith, more, skip, few))
 
         at_most : (b : Bool) → cond b 1 0 ≤ 1
@@ -145,7 +151,7 @@ module _ (old : WatchState) (g : Forest) (was : List Was) (may : IsChange (lengt
       let there = place_there was i j said (λ k other. may.once i j k said other) in
       let same = index_same n (length g.entries) was i j r.entry many (low i j said) said there in
       times_cons j (moved_out was n r).entry (entries_in (out_after was (suc n) rest))
-      ∙ ap (λ b. cond b 1 0 + times j (entries_in (out_after was (suc n) rest))) same
+      ∙ ap (λ (b : Bool). cond b 1 0 + times j (entries_in (out_after was (suc n) rest))) same
       ∙ ap (λ k. cond (r.entry == i) 1 0 + k) (as_many (suc n) i j rest (omega (arith, many)) said)
       ∙ sym (times_cons i r.entry (entries_in rest))
 
@@ -153,14 +159,15 @@ module _ (old : WatchState) (g : Forest) (was : List Was) (may : IsChange (lengt
   its_seats : (i j : ℕ) → former_at was j ≡ Some i → (track_by old.clocks.at old.tracks (entry_at g.entries j) (was_at was j)).out ≡ (track_at old i).out → seats_of (changed old g was) j ≡ seats_of old i
   unfolding forest_after
   its_seats i j said flag =
-      let many = length-map-range_with_len (λ k. entry_by g.margin old.forest.entries (entry_at g.entries k) (was_at was k)) 0 (length g.entries) in
+      let many : length (changed old g was).forest.entries ≡ length g.entries =
+      length-map-range_with_len (λ k. entry_by g.margin old.forest.entries (entry_at g.entries k) (was_at was k)) 0 (length g.entries) in
       let within = low i j said in
       let before = may.within i j said in
       let here : nat_lt j (length (changed old g was).forest.entries) ≡ true = grind (arith, nat_tests) in
       let there : nat_lt i (length old.forest.entries) ≡ true = grind (arith, nat_tests) in
       let marked : (track_at (changed old g was) j).out ≡ (track_at old i).out = ap (λ (x : Track). x.out) (changed_track old g was j within) ∙ flag in
       cond-true (nat_lt j (length (changed old g was).forest.entries)) (if (track_at (changed old g was) j).out then 1 else 0) 1 here
-      ∙ ap (λ b. if b then 1 else 0) marked
+      ∙ ap {B = ℕ} (λ (b : Bool). if b then 1 else 0) marked
       ∙ sym (cond-true (nat_lt i (length old.forest.entries)) (if (track_at old i).out then 1 else 0) 1 there)
 
   flag_by : (j i : ℕ) (w : Was) → former w ≡ Some i → (track_by old.clocks.at old.tracks (entry_at g.entries j) w).out ≡ (track_at old i).out
@@ -172,7 +179,7 @@ module _ (old : WatchState) (g : Forest) (was : List Was) (may : IsChange (lengt
   unfolding forest_after
   once_now sound j =
       let n = length g.entries in
-      let many = length-map-range_with_len (λ k. entry_by g.margin old.forest.entries (entry_at g.entries k) (was_at was k)) 0 n in
+      let many : length (changed old g was).forest.entries ≡ n = length-map-range_with_len (λ k. entry_by g.margin old.forest.entries (entry_at g.entries k) (was_at was k)) 0 n in
       elim (cases_lt j n) as (λ _. times j (entries_out (changed old g was)) ≤ seats_of (changed old g was) j) [
         | inl within ↦ by within (former_at was j) refl
         | inr past ↦

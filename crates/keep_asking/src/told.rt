@@ -40,7 +40,7 @@ pub fn said_to(
 }
 
 /// The same of an entry that is.
-fn said_of_entry(
+pub fn said_of_entry(
     alloc: Global,
     inventory: &Inventory,
     operation: Operation,

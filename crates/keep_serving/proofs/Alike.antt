@@ -207,16 +207,15 @@ alike_law (w ∷ ws) (v ∷ vs) h k new last (s ∷ sent) (o ∷ out) one two al
 -- ---- another inventory
 
 -- what is said of an entry is what was said of it where it was
-by_was : (a : Agent) (w : Was) → Standing
+abbrev by_was : Agent → Was → Standing
 by_was a w = standing_of a (former w)
 
 carried_by : (a : Agent) (s : Inventory) (xs : List ℕ) → map (carried_standing a s) xs ≡ map (by_was a) (map (was_of a.inventory s) xs)
-unfolding carried_standing was_of by_was
+unfolding carried_standing was_of
 carried_by a s [] = refl
 carried_by a s (j ∷ js) = ap₂ (λ (y : Standing) (ys : List Standing). y ∷ ys) (ap (standing_of a) (sym (former_by a.inventory s j (agents.former a.inventory s j)))) (carried_by a s js)
 
 by_was_alike : (a b : Agent) (ws : List Was) → b.standings ≡ a.standings → map (by_was b) ws ≡ map (by_was a) ws
-unfolding by_was
 by_was_alike a b [] same = refl
 by_was_alike a b (w ∷ ws) same = ap₂ (λ (y : Standing) (ys : List Standing). y ∷ ys) (said_alike a b (former w) same) (by_was_alike a b ws same) where
   said_alike : (a b : Agent) (o : Option ℕ) → b.standings ≡ a.standings → standing_of b o ≡ standing_of a o
