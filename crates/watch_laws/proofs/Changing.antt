@@ -1,5 +1,5 @@
 -- Changing: another forest that is watched costs no entry anything that is known of it. For the law of a change.
-use Rattle.std.proofs.Common.{◌≡◌, ◌≢◌, ◌∙◌, ◌&&◌, ℕ, suc, ◌<◌, ◌≤◌, true, false, if◌then◌else◌, List, [], ◌∷◌, Option, Some, None, Result, Ok, Err, IfSome, length, min, nat_lt, option_map, refl, sym, ap, subst, arith}
+use Rattle.std.proofs.Common.{◌≡◌, ◌≢◌, ◌∙◌, ◌&&◌, ℕ, suc, ◌<◌, ◌≤◌, true, false, cond, not, is_none, if◌then◌else◌, List, [], ◌∷◌, Option, Some, None, Result, Ok, Err, IfSome, length, min, nat_lt, option_map, refl, sym, ap, subst, arith}
 use Rattle.std.proofs.lemmas.Bool.{cond-true, eqb-true}
 use Rattle.std.proofs.lemmas.Bool.Decides.{nat_tests}
 use Rattle.std.specs.List.{All}
@@ -9,7 +9,6 @@ use Rattle.keep_tree.specs.declared.forest.TheConstants.{END_MAX}
 use Rattle.keep_tree.specs.Forest.{entry_at}
 use Rattle.keep_tree.specs.Push.{IsForest, is_lease}
 use Rattle.keep_tree.proofs.Placed.{range_parts}
-use Rattle.watch_machine.specs.declared.change.Was.{Was}
 use Rattle.watch_machine.specs.declared.change.Was.TheVariants.{New, Same, Retold}
 use Rattle.watch_machine.specs.declared.command.Output.{Output}
 use Rattle.watch_machine.specs.declared.event.Event.{Event}
@@ -31,16 +30,16 @@ use Rattle.watch_machine.specs.Looked.{by_terms, looked}
 use Rattle.watch_machine.specs.Refusal.{request_out}
 use Rattle.watch_machine.specs.Renewed.{state_renewed}
 use Rattle.watch_machine.specs.Settling.{is_real}
-use Rattle.watch_machine.specs.State.{WatchState, entry_of, fresh_track, track_at, track_in}
+use Rattle.watch_machine.specs.State.{WatchState, entry_of, fresh_track, track_at}
 use Rattle.watch_machine.specs.Step.{StepLooked, StepRenewed, nothing_noted, notes_top, with_link}
 use Rattle.watch_machine.proofs.Cases.{if_both, if_cases}
-use Rattle.watch_machine.proofs.Moved.{apart_moved, changed_entry, changed_track, place_said, place_there, request_moved, said_within}
+use Rattle.watch_machine.proofs.Moved.{apart_moved, changed_entry, changed_track, place_there, request_moved, said_within}
 use Rattle.watch_machine.proofs.Nobody.{looked_past, notes_past, renewed_past, top_past}
 use Rattle.watch_machine.proofs.View.{ceiling_low}
 use Rattle.watch_machine.proofs.Within.{out_entry}
 use Rattle.watch_laws.specs.Absence.{is_event_taken}
 use Rattle.watch_laws.specs.Backs.{replies_to}
-use Rattle.watch_laws.specs.Changes.{AreMoved, AreUnderOthers, ChangeLaw, IsIndexNow, IsMoved, IsOfNobody, IsOwed, IsSoonerThan, IsWatchedAnew, KeepsAll, KeepsButTop, KeepsRequest, KeepsTerms, NothingElse}
+use Rattle.watch_laws.specs.Changes.{AreMoved, AreUnderOthers, ChangeLaw, IsIndexNow, IsOfNobody, IsSoonerThan, IsWatchedAnew, KeepsAll, KeepsButTop, KeepsRequest, KeepsTerms, NothingElse}
 use Rattle.watch_laws.proofs.Tracking.{replied_forest}
 
 -- ---- an entry that owes a lookup at once
@@ -82,13 +81,13 @@ module _ (old : WatchState) (c : Changed) (h : IsChanged old c) where
   n : ℕ
   n = length c.forest.entries
 
-  its_track : (j : ℕ) → j < length c.forest.entries → track_at c.state j ≡ track_by old.clocks.at old.tracks (entry_at c.forest.entries j) (was_at c.was j)
+  pub its_track : (j : ℕ) → j < length c.forest.entries → track_at c.state j ≡ track_by old.clocks.at old.tracks (entry_at c.forest.entries j) (was_at c.was j)
   its_track j within = ap (λ (s : WatchState). track_at s j) h.state ∙ changed_track old c.forest c.was j within
 
   its_entry : (j : ℕ) → j < length c.forest.entries → entry_of c.state j ≡ entry_by c.forest.margin old.forest.entries (entry_at c.forest.entries j) (was_at c.was j)
   its_entry j within = ap (λ (s : WatchState). entry_of s j) h.state ∙ changed_entry old c.forest c.was j within
 
-  low : (i j : ℕ) → former_at c.was j ≡ Some i → j < length c.forest.entries
+  pub low : (i j : ℕ) → former_at c.was j ≡ Some i → j < length c.forest.entries
   low i j said = said_within c.was j (length c.forest.entries) h.may.count (λ new. let bad : None ≡ Some i = sym (ap former new) ∙ said in cc)
 
   its_request : (i j : ℕ) → former_at c.was j ≡ Some i → KeepsRequest old c.state i j
@@ -112,8 +111,6 @@ module _ (old : WatchState) (c : Changed) (h : IsChanged old c) where
         orphan = λ token alone. ap (λ (x : Entry). x.parent) is ∙ orphaned_is e was token alone;
         need = ap (λ (x : Entry). x.need) is;
       } where
-        use Rattle.std.proofs.Common.{cond, not, ◌&&◌, is_none}
-
         orphaned_is : (e was : Entry) → is_lease e.kind ≡ false → was.parent ≡ None → cond (is_none was.parent && not (is_lease e.kind)) None e.parent ≡ None
         orphaned_is e was token alone = ap (λ o. cond (is_none o && not (is_lease e.kind)) None e.parent) alone ∙ ap (λ b. cond (not b) None e.parent) token
 

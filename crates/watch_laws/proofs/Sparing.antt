@@ -37,14 +37,14 @@ use Rattle.watch_machine.specs.Renewed.{state_renewed}
 use Rattle.watch_machine.specs.Round.{asked_by_round as round_of}
 use Rattle.watch_machine.specs.Sending.{out_at, sent, sent_in, sent_track}
 use Rattle.watch_machine.specs.Settling.{count_after, held_back, hold_after, is_real, is_silent, presence_after, settled, timed}
-use Rattle.watch_machine.specs.State.{WatchState, attempt_at, each, opened, track_at, track_in}
+use Rattle.watch_machine.specs.State.{WatchState, attempt_at, each, opened, track_in}
 use Rattle.watch_machine.specs.Step.{Step, StepClock, StepCommand, StepLooked, StepRenewed, known, readied, why, with_need_until}
 use Rattle.watch_machine.proofs.Cases.{if_both, not_both, value_is}
 use Rattle.watch_machine.proofs.Within.{out_entry}
 use Rattle.watch_laws.specs.Absence.{AllAway, NoneSets, Sets, SparedLaw, is_later, is_later_try, laters}
 use Rattle.watch_laws.specs.Load.{requests_asked_by, requests_at_turn}
 use Rattle.watch_laws.proofs.Answering.{looked_rest}
-use Rattle.watch_laws.proofs.Alone.{IsAlone, flag, lanes_of, turn_alone}
+use Rattle.watch_laws.proofs.Alone.{IsAlone, lanes_of, turn_alone}
 use Rattle.watch_laws.proofs.Clocking.{begun_some, clock_rises, readied_clocks, readied_width, refused_stays}
 use Rattle.watch_laws.proofs.Going.{Goes, entry_by, goes, request_at}
 use Rattle.watch_laws.proofs.Holding.{looked_presence, ready_presence}
@@ -325,9 +325,7 @@ answer_spares width n old mid new q reply i operation found entry is out answers
                       | inr all ↦
                           elim (cases_Bool q.heard) as (λ _. (list_any is_silent new.answers ≡ true) ⊎ (n ≤ unheard new.out)) [
                             | inl hears ↦
-                                let once = alone.once i in
-                                let low = one_at_most (track_at old i).out in
-                                let same = ap unheard left ∙ rid_heard i operation old.out q found hears (omega (arith, once, low)) in
+                                let same = ap unheard left ∙ rid_heard i operation old.out q found hears (alone.single i) in
                                 inr (omega (arith, all, same))
                             | inr unheard' ↦ inl (ap (list_any is_silent) these ∙ any_last is_silent old.answers a (and_from (not (is_real reply)) (not q.heard) (ap not lost) (ap not unheard')))
                           ]
@@ -335,10 +333,7 @@ answer_spares width n old mid new q reply i operation found entry is out answers
                   })
             ];
           }
-    ] where
-      one_at_most : (b : Bool) → flag b ≤ 1
-      one_at_most true = omega arith
-      one_at_most false = omega arith
+    ]
 
 pub looked_answers : (s : WatchState) (q : Out) (reply : Reply) (terms : Terms) → (looked s q reply terms).answers ≡ s.answers
 looked_answers s q (Told seconds renewable date) terms = refl
@@ -441,7 +436,7 @@ reached (turn ∷ before) turns width old h fits alone =
 pub spared : SparedLaw
 spared g width before turns run away all none =
     let s = opened g width in
-    let there = reached before turns width s run (refl, omega arith) (record { once = λ i. omega arith }) in
+    let there = reached before turns width s run (refl, omega arith) (record { once = λ i low. omega arith; single = λ i. omega arith }) in
     let end = after_all s before in
     let few = ran turns width 0 end there.1.1 there.0 there.1.0 away all none (record { few = omega arith; all = inl refl }) in
     omega (arith, few)

@@ -16,7 +16,7 @@ use Rattle.watch_machine.specs.declared.lanes.Out.{Out}
 use Rattle.watch_machine.specs.declared.track.Try.{Try}
 use Rattle.watch_machine.specs.Beginning.{is_pressed}
 use Rattle.watch_machine.specs.Clocks.{ms}
-use Rattle.watch_machine.specs.History.{IsWatchRun, Turned}
+use Rattle.watch_machine.specs.History.{History, IsReached, IsWatchRun, Turned}
 use Rattle.watch_machine.specs.Lines.{is_first, rested}
 use Rattle.watch_machine.specs.Margins.{is_in_plan}
 use Rattle.watch_machine.specs.Outlook.{time_of}
@@ -122,6 +122,10 @@ abbrev pub coming : Outage → ℕ → WatchState → List Turned → ℕ
 coming o n old [] = 0
 coming o n old (turn ∷ turns) = how_many n (comes o old turn.state) + coming o n turn.state turns
 
+-- those that wait in a state, and those that come to
+abbrev pub in_line : Outage → WatchState → List Turned → ℕ
+in_line o s turns = waiting o (length s.forest.entries) s + coming o (length s.forest.entries) s turns
+
 -- how long a lane is taken by one request after another, as many as rounds; and the longest pause before them
 abbrev pub sweep : Outage → ℕ
 sweep o = (o.quick + o.late) * o.rounds + o.late
@@ -208,19 +212,17 @@ AllInTime o i from (turn ∷ turns) = EndIsInTime o i from turn.state × AllInTi
 -- up, its end is ahead, through any outage that the margin outlasts
 abbrev pub OutageLaw : Type 0
 OutageLaw =
-    (o : Outage) (g : Forest) (width : ℕ) (before : List Turned) (last : Turned) (turns : List Turned) (i : ℕ) → 0 < width →
-    IsWatchRun g width (before ++ last ∷ turns) → is_clock last.event ≡ true → is_event_taken last.result ≡ true → IsBefore last.state i →
-    AreLived o i (outage_next_after o last.result last.state 0) last.state turns →
-    waiting o (length g.entries) last.state + coming o (length g.entries) last.state turns ≤ width * o.rounds → o.from ≤ o.until → IsShortOutage o g.margin →
+    (o : Outage) (old : WatchState) (last : Turned) (turns : List Turned) (i : ℕ) → IsReached old → 0 < old.width → History old (last ∷ turns) → is_clock last.event ≡ true →
+    is_event_taken last.result ≡ true → IsBefore last.state i → AreLived o i (outage_next_after o last.result last.state 0) last.state turns →
+    in_line o last.state turns ≤ old.width * o.rounds → o.from ≤ o.until → IsShortOutage o last.state.forest.margin →
     AllInTime o i (ms (time_of last.state i)) turns
 
 -- and so it is from a grant or a lookup of the entry on, until the next one. So outages of which no two lie between the same two count each
 -- by itself
 abbrev pub GrantLaw : Type 0
 GrantLaw =
-    (o : Outage) (g : Forest) (width : ℕ) (before : List Turned) (grant : Turned) (turns : List Turned) (i : ℕ) → 0 < width →
-    IsWatchRun g width (before ++ grant ∷ turns) → IsGrant grant i → AreLived o i (granted_next o grant.state i) grant.state turns →
-    waiting o (length g.entries) grant.state + coming o (length g.entries) grant.state turns ≤ width * o.rounds → o.from ≤ o.until → IsShortOutage o g.margin →
+    (o : Outage) (old : WatchState) (grant : Turned) (turns : List Turned) (i : ℕ) → IsReached old → 0 < old.width → History old (grant ∷ turns) → IsGrant grant i →
+    AreLived o i (granted_next o grant.state i) grant.state turns → in_line o grant.state turns ≤ old.width * o.rounds → o.from ≤ o.until → IsShortOutage o grant.state.forest.margin →
     AllInTime o i (ms (time_of grant.state i)) turns
 
 -- a turn from which on an entry is lived with: a clock, or a reply that tells its end; and by when the next clock is handed in
@@ -234,9 +236,8 @@ StartsBy o turn i due =
 -- that was told the ends of an earlier one
 abbrev pub LeftLaw : Type 0
 LeftLaw =
-    (o : Outage) (g : Forest) (width : ℕ) (before : List Turned) (last : Turned) (turns : List Turned) (i from due : ℕ) → 0 < width →
-    IsWatchRun g width (before ++ last ∷ turns) → StartsBy o last i due → MayBeAsked last.state i from → AreLived o i due last.state turns →
-    waiting o (length g.entries) last.state + coming o (length g.entries) last.state turns ≤ width * o.rounds → o.from ≤ o.until →
+    (o : Outage) (old : WatchState) (last : Turned) (turns : List Turned) (i from due : ℕ) → IsReached old → 0 < old.width → History old (last ∷ turns) → StartsBy o last i due →
+    MayBeAsked last.state i from → AreLived o i due last.state turns → in_line o last.state turns ≤ old.width * o.rounds → o.from ≤ o.until →
     IsShortFor o (ms (believed (track_at last.state i).end) - from) → AllInTime o i from turns
 
 -- what a new watch may be told before its first clock: ends of an earlier one, needs, and that all is to begin anew
@@ -264,5 +265,5 @@ KillLaw =
     (o : Outage) (g : Forest) (width : ℕ) (before : List Turned) (first : Turned) (turns : List Turned) (i : ℕ) → 0 < width →
     IsWatchRun g width (before ++ first ∷ turns) → AreHanded before → is_clock first.event ≡ true → is_event_taken first.result ≡ true → i < length g.entries →
     is_wanted first.state i ≡ true → is_known (track_at first.state i).end ≡ true → AreLived o i (outage_next_after o first.result first.state 0) first.state turns →
-    waiting o (length g.entries) first.state + coming o (length g.entries) first.state turns ≤ width * o.rounds → o.from ≤ o.until →
+    in_line o first.state turns ≤ width * o.rounds → o.from ≤ o.until →
     IsShortFor o (ms (believed (track_at first.state i).end) - left_from first.state i) → AllInTime o i (left_from first.state i) turns

@@ -1,5 +1,5 @@
 -- Time: nobody is renewed too early. Each law is the contract of a public function without a body.
-use Rattle.std.specs.Prelude.{◌≡◌, ◌==◌, ℕ, ◌+◌, ◌<◌, ◌≤◌, Bool, true, false, ◌&&◌, ◌||◌, if◌then◌else◌, List, [], ◌∷◌, ◌++◌, Option, Some, None, Result, Ok, Err, IfSome, length}
+use Rattle.std.specs.Prelude.{◌≡◌, ◌==◌, ℕ, ◌+◌, ◌<◌, ◌≤◌, Bool, true, false, ◌&&◌, ◌||◌, if◌then◌else◌, List, [], ◌∷◌, Option, Some, None, Result, Ok, Err, IfSome, length}
 use Rattle.std.specs.List.{list_any}
 use Rattle.keep_tree.specs.Forest.{Forest}
 use Rattle.watch_machine.specs.declared.command.Output.{Output}
@@ -11,11 +11,11 @@ use Rattle.watch_machine.specs.declared.event.Reply.{Reply}
 use Rattle.watch_machine.specs.declared.event.Reply.TheVariants.{Told, Refused, Busy, Lost}
 use Rattle.watch_machine.specs.declared.fault.WatchFault.{WatchFault}
 use Rattle.watch_machine.specs.Clocks.{sec}
-use Rattle.watch_machine.specs.History.{IsWatchRun, Turned, after_all}
+use Rattle.watch_machine.specs.History.{History, IsReached, IsWatchRun, Turned}
 use Rattle.watch_machine.specs.Margins.{has_come, own_margin}
 use Rattle.watch_machine.specs.Outlook.{time_of}
 use Rattle.watch_machine.specs.Refusal.{is_same, request_out}
-use Rattle.watch_machine.specs.State.{WatchState, entry_of, opened, second, track_at}
+use Rattle.watch_machine.specs.State.{WatchState, entry_of, second, track_at}
 use Rattle.watch_laws.specs.Absence.{is_event_taken}
 use Rattle.watch_laws.specs.Load.{requests_at_turn}
 
@@ -72,7 +72,7 @@ round_of (Err fault) = None
 -- more after the second in which the request went out
 abbrev pub AheadLaw : Type 0
 AheadLaw =
-    (g : Forest) (width : ℕ) (before : List Turned) (grant : Turned) (i seconds : ℕ) (renewable : Bool) (date : Option ℕ) → IsWatchRun g width (before ++ grant ∷ []) → i < length g.entries →
+    (old : WatchState) (grant : Turned) (i seconds : ℕ) (renewable : Bool) (date : Option ℕ) → IsReached old → History old (grant ∷ []) → i < length old.forest.entries →
     grant.event ≡ Renewed i (Told seconds renewable date) → is_event_taken grant.result ≡ true →
     own_margin grant.state.forest.margin (entry_of grant.state i) (track_at grant.state i) + 2 ≤ seconds →
-    IfSome (request_out (after_all (opened g width) before).out i Renew) (λ q. sec q.since + 2 ≤ time_of grant.state i)
+    IfSome (request_out old.out i Renew) (λ q. sec q.since + 2 ≤ time_of grant.state i)

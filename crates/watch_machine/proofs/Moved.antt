@@ -75,7 +75,7 @@ place_there (w ∷ ws) i (suc j) is once = elim (cases_Bool (is_former i (former
 -- ---- requests
 
 -- the index of a request is that of an entry just where it was that of the same before
-index_other :
+pub index_other :
     (n many : ℕ) (was : List Was) (i j e : ℕ) (o : Option ℕ) → place_now was e ≡ o → many ≤ n → j < many → former_at was j ≡ Some i → (e ≡ i → ⊥) → (index_or n o == j) ≡ false
 index_other n many was i j e None place le low said other = grind (arith, nat_tests)
 index_other n many was i j e (Some k) place le low said other = elim (cases_eq k j) [
