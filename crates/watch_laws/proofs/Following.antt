@@ -1,23 +1,31 @@
 -- Following: what is known of an entry after a change, by what was known of it, and which requests are out of it. For the laws over whole runs.
-use Rattle.std.proofs.Common.{◌≡◌, ◌∙◌, ◌==◌, ◌&&◌, ◌||◌, ℕ, suc, ◌<◌, ◌≤◌, Bool, true, false, if◌then◌else◌, List, [], ◌∷◌, Option, Some, None, length, refl, sym, ap, subst, arith, inl, inr}
-use Rattle.std.proofs.lemmas.Bool.{cases_lt}
-use Rattle.std.proofs.lemmas.List.{get_or_past}
+use Rattle.std.proofs.Common.{◌≡◌, ◌∙◌, ◌==◌, ◌&&◌, ◌||◌, ℕ, suc, ◌<◌, ◌≤◌, Bool, true, false, if◌then◌else◌, List, [], ◌∷◌, Option, Some, None, length, refl, sym, ap, subst, arith, inl, inr, Result}
+use Rattle.std.proofs.lemmas.Bool.{cases_lt, eqb-true}
+use Rattle.std.proofs.lemmas.List.{get_or_past, length-map}
+use Rattle.std.proofs.lemmas.List.Elements.{All-cons, All-head, All-nil, All-tail}
 use Rattle.std.proofs.lemmas.List.FromFn.{length-map-range_with_len}
-use Rattle.std.specs.List.{list_any}
+use Rattle.std.specs.List.{All, list_any}
+use Rattle.std.proofs.lemmas.Bool.Decides.{nat_tests}
 use Rattle.keep_tree.specs.declared.entry.Entry.{Entry}
-use Rattle.keep_tree.specs.Forest.{entry_at}
+use Rattle.keep_tree.specs.Forest.{Forest, entry_at}
 use Rattle.watch_machine.specs.declared.change.Was.{Was}
 use Rattle.watch_machine.specs.declared.change.Was.TheVariants.{New, Same, Retold}
 use Rattle.watch_machine.specs.declared.lanes.Out.{Out}
 use Rattle.watch_machine.specs.declared.track.Track.{Track}
+use Rattle.watch_machine.specs.declared.command.Output.{Output}
+use Rattle.watch_machine.specs.declared.event.Event.{Event}
+use Rattle.watch_machine.specs.declared.fault.WatchFault.{WatchFault}
 use Rattle.watch_machine.specs.Beginning.{owing_lookup, soon, sooner_try, untopped_track}
-use Rattle.watch_machine.specs.Change.{entry_by, forest_after, former, former_at, out_after, place_now, track_by, tracks_after, was_at}
-use Rattle.watch_machine.specs.History.{Changed, IsChanged}
-use Rattle.watch_machine.specs.State.{WatchState, fresh_track, no_track, track_at}
-use Rattle.watch_machine.proofs.Cases.{if_cases, value_is}
-use Rattle.watch_machine.proofs.Moved.{index_same, place_there}
+use Rattle.watch_machine.specs.Change.{entry_by, forest_after, former, former_at, index_or, moved_out, out_after, place_now, track_by, tracks_after, was_at}
+use Rattle.watch_machine.specs.History.{Changed, Hands, IsChanged, IsReached, Turn, Turned, stood_at_some}
+use Rattle.watch_machine.specs.State.{WatchState, fresh_track, no_track, opened, track_at}
+use Rattle.watch_machine.proofs.Cases.{if_cases, not_both, value_is}
+use Rattle.watch_machine.proofs.Moved.{index_new, index_same, place_there}
 use Rattle.watch_laws.proofs.Changing.{its_track, low}
 use Rattle.watch_laws.proofs.Lanes.{is_of}
+use Rattle.watch_laws.proofs.Reached.{reached_has}
+use Rattle.watch_laws.proofs.Shapes.{turn_shape}
+use Rattle.watch_laws.proofs.Topping.{turn_count}
 
 -- an entry that owes a lookup: it is out, or has a try
 pub owed_is :
@@ -90,3 +98,58 @@ pub any_over : (old : WatchState) (c : Changed) (h : IsChanged old c) (i j : ℕ
 any_over old c h i j test said =
     ap (list_any (is_of j test)) (changed_out old c h)
     ∙ any_moved (length c.forest.entries) (length c.forest.entries) c.was i j test old.out (omega arith) (low old c h i j said) said (place_over old c h i j said)
+
+-- and what holds of each of them holds of them where the entry is now
+module _ (Q : Out → Type 0) (moves : (r : Out) (m : ℕ) → Q r → Q (record r { entry = m })) where
+  named_moved :
+      (n many : ℕ) (was : List Was) (i j : ℕ) (out : List Out) → many ≤ n → j < many → former_at was j ≡ Some i → place_now was i ≡ Some j → All (λ (q : Out). q.entry ≡ i → Q q) out →
+      All (λ (q : Out). q.entry ≡ j → Q q) (out_after was n out)
+  named_moved n many was i j [] le low' said there all = All-nil (λ (q : Out). q.entry ≡ j → Q q)
+  named_moved n many was i j (r ∷ rest) le low' said there all =
+      let k = index_or n (place_now was r.entry) in
+      All-cons (λ (q : Out). q.entry ≡ j → Q q) (moved_out was n r) (out_after was (suc n) rest)
+      (λ is. moves r k (All-head (λ (q : Out). q.entry ≡ i → Q q) r rest all (eqb-true r.entry i (sym (index_same n many was i j r.entry le low' said there) ∙ same_number k j is))))
+      (named_moved (suc n) many was i j rest (omega (arith, le)) low' said there (All-tail (λ (q : Out). q.entry ≡ i → Q q) r rest all)) where
+        same_number : (a b : ℕ) → a ≡ b → (a == b) ≡ true
+        same_number a b e = grind (arith, nat_tests)
+
+  pub named_over : (old : WatchState) (c : Changed) (h : IsChanged old c) (i j : ℕ) → former_at c.was j ≡ Some i → All (λ (q : Out). q.entry ≡ i → Q q) old.out → All (λ (q : Out). q.entry ≡ j → Q q) c.state.out
+  named_over old c h i j said all =
+      subst (All (λ (q : Out). q.entry ≡ j → Q q)) (sym (changed_out old c h))
+      (named_moved (length c.forest.entries) (length c.forest.entries) c.was i j old.out (omega arith) (low old c h i j said) said (place_over old c h i j said) all)
+
+-- none is out of one that is new
+named_none : (Q : Out → Type 0) (n many : ℕ) (was : List Was) (j : ℕ) (out : List Out) → many ≤ n → j < many → former_at was j ≡ None → All (λ (q : Out). q.entry ≡ j → Q q) (out_after was n out)
+named_none Q n many was j [] le low' said = All-nil (λ (q : Out). q.entry ≡ j → Q q)
+named_none Q n many was j (r ∷ rest) le low' said =
+    All-cons (λ (q : Out). q.entry ≡ j → Q q) (moved_out was n r) (out_after was (suc n) rest)
+    (λ is. absurd (not_both (same_number (index_or n (place_now was r.entry)) j is) (index_new n many was j r.entry le low' said))) (named_none Q (suc n) many was j rest (omega (arith, le)) low' said) where
+      same_number : (a b : ℕ) → a ≡ b → (a == b) ≡ true
+      same_number a b e = grind (arith, nat_tests)
+
+pub named_new : (Q : Out → Type 0) (old : WatchState) (c : Changed) (h : IsChanged old c) (j : ℕ) → j < length c.forest.entries → former_at c.was j ≡ None → All (λ (q : Out). q.entry ≡ j → Q q) c.state.out
+named_new Q old c h j within said =
+    subst (All (λ (q : Out). q.entry ≡ j → Q q)) (sym (changed_out old c h)) (named_none Q (length c.forest.entries) (length c.forest.entries) c.was j old.out (omega arith) within said)
+
+-- ---- where an entry stood
+
+-- no turn moves it
+pub stays_there : (turn : Turned) (e : Option ℕ) → stood_at_some (Hands turn) e ≡ e
+stays_there turn None = refl
+stays_there turn (Some i) = refl
+
+-- there are as many tracks as entries, in every state of a run
+abbrev pub IsCounted : WatchState → Type 0
+IsCounted s = length s.tracks ≡ length s.forest.entries
+
+pub turn_counted : (old new : WatchState) (event : Event) (result : Result Output WatchFault) → Turn old event result new → IsCounted old → IsCounted new
+turn_counted old new event result turn count = turn_count old new event result turn ∙ count ∙ sym (turn_shape old new event result turn).0
+
+pub changed_counted : (old : WatchState) (c : Changed) → IsChanged old c → IsCounted c.state
+changed_counted old c h = changed_tracks old c h ∙ sym (changed_entries old c h)
+
+pub opened_counted : (g : Forest) (width : ℕ) → IsCounted (opened g width)
+opened_counted g width = length-map g.entries fresh_track
+
+pub reached_counted : (s : WatchState) → IsReached s → IsCounted s
+reached_counted s r = reached_has IsCounted turn_counted (λ old c h count. changed_counted old c h) opened_counted s r

@@ -86,3 +86,5 @@ pub mod Reached
 pub mod Following
 pub mod Bases
 pub mod Always
+pub mod Apart
+pub mod Topped

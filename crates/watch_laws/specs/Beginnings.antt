@@ -18,7 +18,7 @@ use Rattle.watch_machine.specs.declared.notes.Why.{Why}
 use Rattle.watch_machine.specs.declared.notes.Why.TheVariants.{Start}
 use Rattle.watch_machine.specs.declared.reading.TheConstants.{READING_MAX}
 use Rattle.watch_machine.specs.Beginning.{is_called}
-use Rattle.watch_machine.specs.History.{History, IsReached, Turned, after_all}
+use Rattle.watch_machine.specs.History.{AllHappen, Changes, Happening, Hands, History, IsReached, Turned, after_all, state_after_all}
 use Rattle.watch_machine.specs.Refusal.{is_same}
 use Rattle.watch_machine.specs.State.{WatchState, second, track_at}
 use Rattle.watch_machine.specs.Wanted.{is_alive, is_open, is_wanted}
@@ -56,11 +56,15 @@ abbrev pub Jumps : WatchState → Event → WatchState → Type 0
 Jumps old (Clock wall elapsed) new = HasParted old.clocks.wall new.clocks.at (min wall READING_MAX)
 Jumps old event new = ⊥
 
--- between two beginnings lies a jump of the wall, a Begin, or ten minutes (a day is longer)
+-- between two beginnings lies a jump of the wall, a Begin, or ten minutes (a day is longer). A change is none, and none comes of it
+abbrev pub asks_beginning_at : Happening → Bool
+asks_beginning_at (Hands turn) = asks_beginning turn
+asks_beginning_at (Changes c) = false
+
 abbrev pub FewLaw : Type 0
 FewLaw =
-    (old : WatchState) (first second : Turned) (between : List Turned) → History old (first ∷ (between ++ second ∷ [])) → IsBeginning first → IsBeginning second →
-    Jumps (after_all first.state between) second.event second.state ⊎ ((list_any asks_beginning between ≡ true) ⊎ (first.state.clocks.at + 600000 ≤ second.state.clocks.at))
+    (old : WatchState) (first second : Turned) (between : List Happening) → AllHappen old (Hands first ∷ (between ++ Hands second ∷ [])) → IsBeginning first → IsBeginning second →
+    Jumps (state_after_all first.state between) second.event second.state ⊎ ((list_any asks_beginning_at between ≡ true) ⊎ (first.state.clocks.at + 600000 ≤ second.state.clocks.at))
 
 -- how many lookups of i go out
 abbrev pub is_lookup : ℕ → Request → Bool

@@ -11,7 +11,7 @@ use Rattle.watch_machine.specs.declared.event.Reply.{Reply}
 use Rattle.watch_machine.specs.declared.event.Reply.TheVariants.{Told, Refused, Busy, Lost}
 use Rattle.watch_machine.specs.declared.fault.WatchFault.{WatchFault}
 use Rattle.watch_machine.specs.Clocks.{sec}
-use Rattle.watch_machine.specs.History.{History, IsReached, IsWatchRun, Turned}
+use Rattle.watch_machine.specs.History.{Changes, Happening, Hands, History, IsReached, IsRun, Turned, stood}
 use Rattle.watch_machine.specs.Margins.{has_come, own_margin}
 use Rattle.watch_machine.specs.Outlook.{time_of}
 use Rattle.watch_machine.specs.Refusal.{is_same, request_out}
@@ -53,15 +53,24 @@ reason i before event (Err fault) s = before
 abbrev pub renewal_goes_out : ℕ → List Request → Bool
 renewal_goes_out i requests = list_any (λ r. r.entry == i && is_same r.operation Renew) requests
 
--- each renewal of i has a reason
-abbrev pub AllReasoned : ℕ → Bool → List Turned → Type 0
-AllReasoned i before [] = Unit {0}
-AllReasoned i before (turn ∷ turns) =
-    (renewal_goes_out i (requests_at_turn turn.result) ≡ true → reason i before turn.event turn.result turn.state ≡ true) × AllReasoned i (reason i before turn.event turn.result turn.state) turns
+-- a renewal of the entry that stands there goes out for a reason alone; of one that is not there yet there is none
+abbrev pub IsReasonedAt : Option ℕ → Bool → Turned → Type 0
+IsReasonedAt None before turn = Unit {0}
+IsReasonedAt (Some i) before turn = renewal_goes_out i (requests_at_turn turn.result) ≡ true → reason i before turn.event turn.result turn.state ≡ true
+
+abbrev pub reason_at : Option ℕ → Bool → Turned → Bool
+reason_at None before turn = false
+reason_at (Some i) before turn = reason i before turn.event turn.result turn.state
+
+-- so at each turn, of the entry that stands at k in the end: a change gives no reason, and takes none
+abbrev pub AllReasoned : ℕ → Bool → List Happening → Type 0
+AllReasoned k before [] = Unit {0}
+AllReasoned k before (Hands turn ∷ hs) = IsReasonedAt (stood hs k) before turn × AllReasoned k (reason_at (stood hs k) before turn) hs
+AllReasoned k before (Changes c ∷ hs) = AllReasoned k before hs
 
 -- no entry is renewed before its time, but in a round, or after a failure
 abbrev pub EarlyLaw : Type 0
-EarlyLaw = (g : Forest) (width : ℕ) (turns : List Turned) → IsWatchRun g width turns → (i : ℕ) → AllReasoned i false turns
+EarlyLaw = (g : Forest) (width : ℕ) (hs : List Happening) → IsRun g width hs → (k : ℕ) → AllReasoned k false hs
 
 -- the round that opens at a turn, None where none does
 abbrev pub round_of : Result Output WatchFault → Option (List ℕ)
