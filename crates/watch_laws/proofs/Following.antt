@@ -1,5 +1,5 @@
 -- Following: what is known of an entry after a change, by what was known of it, and which requests are out of it. For the laws over whole runs.
-use Rattle.std.proofs.Common.{◌≡◌, ◌∙◌, ◌==◌, ◌&&◌, ◌||◌, ℕ, suc, ◌<◌, ◌≤◌, Bool, true, false, if◌then◌else◌, List, [], ◌∷◌, Option, Some, None, length, refl, sym, ap, subst, arith, inl, inr, Result}
+use Rattle.std.proofs.Common.{◌≡◌, ◌∙◌, ◌==◌, ◌&&◌, ◌||◌, ℕ, suc, ◌<◌, ◌≤◌, Bool, true, false, if◌then◌else◌, List, [], ◌∷◌, Option, Some, None, length, refl, sym, ap, subst, arith, inl, inr, Result, cond, filter}
 use Rattle.std.proofs.lemmas.Bool.{cases_lt, eqb-true}
 use Rattle.std.proofs.lemmas.List.{get_or_past, length-map}
 use Rattle.std.proofs.lemmas.List.Elements.{All-cons, All-head, All-nil, All-tail}
@@ -130,6 +130,17 @@ named_none Q n many was j (r ∷ rest) le low' said =
 pub named_new : (Q : Out → Type 0) (old : WatchState) (c : Changed) (h : IsChanged old c) (j : ℕ) → j < length c.forest.entries → former_at c.was j ≡ None → All (λ (q : Out). q.entry ≡ j → Q q) c.state.out
 named_new Q old c h j within said =
     subst (All (λ (q : Out). q.entry ≡ j → Q q)) (sym (changed_out old c h)) (named_none Q (length c.forest.entries) (length c.forest.entries) c.was j old.out (omega arith) within said)
+
+-- as many are out as before that pass a test that does not look at the entry
+pub filter_after : (test : Out → Bool) → ((r : Out) (k : ℕ) → test (record r { entry = k }) ≡ test r) → (was : List Was) (m : ℕ) (out : List Out) → length (filter test (out_after was m out)) ≡ length (filter test out)
+filter_after test same was m [] = refl
+filter_after test same was m (r ∷ rest) =
+    let x = moved_out was m r in
+    ap (λ b. length (cond b (x ∷ filter test (out_after was (suc m) rest)) (filter test (out_after was (suc m) rest)))) (same r x.entry) ∙ by (test r) (filter_after test same was (suc m) rest) where
+      by : (b : Bool) → length (filter test (out_after was (suc m) rest)) ≡ length (filter test rest) →
+          length (cond b (moved_out was m r ∷ filter test (out_after was (suc m) rest)) (filter test (out_after was (suc m) rest))) ≡ length (cond b (r ∷ filter test rest) (filter test rest))
+      by true h = ap (λ n. suc n) h
+      by false h = h
 
 -- ---- where an entry stood
 

@@ -153,26 +153,27 @@ first_untouched (e ∷ es) zero = (refl, omega arith)
 first_untouched (e ∷ es) (suc i) = first_untouched es i
 
 pub killed : KillLaw
-killed o g width before first turns i wide run handed clock' taken' low wanted known' lived few order short =
+killed o g width before first hs i wide history happens handed clock' taken' low wanted known' lived few order short =
     let n = length g.entries in
     let old = after_all (opened g width) before in
     let s = first.state in
-    let history = last_turns before (first ∷ turns) (opened g width) run in
-    let until = first_turns before (first ∷ turns) (opened g width) run in
+    let last = (last_turns before (first ∷ []) (opened g width) history).0 in
+    let until = first_turns before (first ∷ []) (opened g width) history in
     let base = ran_base width n before (opened g width) until (opened_base g width) in
-    let after = turn_base width n old s first.event first.result history.0 base in
-    let start = starts o old first first.event first.result refl history.0 clock' taken' in
+    let after = turn_base width n old s first.event first.result last base in
+    let start = starts o old first first.event first.result refl last clock' taken' in
     let untouched = ran_untouched i before (opened g width) handed until (first_untouched g.entries i) in
-    let here = (turn_shape old s first.event first.result history.0).0 in
+    let here = (turn_shape old s first.event first.result last).0 in
     let there = (ran_shape before (opened g width) until).0 in
-    left_from_clock o old first turns i (left_from s i) (record { forest = g; width = width; run = map (λ (t : Turned). Hands t) before; is_run = hands before (opened g width) until; leads = leads before (opened g width) })
-    (subst (λ w. 0 < w) (sym base.fits.0) wide) history clock' taken'
+    left_from_clock o old first hs i (left_from s i)
+    (record { forest = g; width = width; run = map (λ (t : Turned). Hands t) before; is_run = hands before (opened g width) until; leads = leads before (opened g width) })
+    (subst (λ w. 0 < w) (sym base.fits.0) wide) (last, happens) clock' taken'
     (may_be_asked width n old s start.wall start.elapsed start.output i low start.ticks' base after untouched.0 untouched.1 (omega (arith, low, here, there)) wanted known') lived
-    (subst (λ w. in_line o s turns ≤ w * o.rounds) (sym base.fits.0) few) order short where
-      hands : (ts : List Turned) (s : WatchState) → History s ts → AllHappen s (map (λ (t : Turned). Hands t) ts)
-      hands [] s h = tt
-      hands (t ∷ ts) s h = (h.0, hands ts t.state h.1)
+    (subst (λ w. in_line o s hs ≤ w * o.rounds) (sym base.fits.0) few) order short where
+      hands : (ts : List Turned) (x : WatchState) → History x ts → AllHappen x (map (λ (t : Turned). Hands t) ts)
+      hands [] x h = tt
+      hands (t ∷ ts) x h = (h.0, hands ts t.state h.1)
 
-      leads : (ts : List Turned) (s : WatchState) → state_after_all s (map (λ (t : Turned). Hands t) ts) ≡ after_all s ts
-      leads [] s = refl
-      leads (t ∷ ts) s = leads ts t.state
+      leads : (ts : List Turned) (x : WatchState) → state_after_all x (map (λ (t : Turned). Hands t) ts) ≡ after_all x ts
+      leads [] x = refl
+      leads (t ∷ ts) x = leads ts t.state

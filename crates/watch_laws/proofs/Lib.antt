@@ -88,3 +88,4 @@ pub mod Bases
 pub mod Always
 pub mod Apart
 pub mod Topped
+pub mod Moving

@@ -20,7 +20,7 @@ use Rattle.watch_machine.specs.declared.track.Track.{Track}
 use Rattle.watch_machine.specs.Answers.{noted}
 use Rattle.watch_machine.specs.Beginning.{is_pressed, is_pressed_try}
 use Rattle.watch_machine.specs.Clocks.{ms}
-use Rattle.watch_machine.specs.History.{History, IsReached, Turn, Turned}
+use Rattle.watch_machine.specs.History.{AllHappen, Changed, Changes, Hands, Happening, IsChanged, IsReached, Turn, Turned}
 use Rattle.watch_machine.specs.Lines.{rested}
 use Rattle.watch_machine.specs.Looked.{looked}
 use Rattle.watch_machine.specs.Margins.{is_in_plan, own_margin, time, time_before}
@@ -37,10 +37,11 @@ use Rattle.watch_machine.specs.Wanted.{believed, is_known, is_never, is_unknown,
 use Rattle.watch_machine.proofs.Cases.{not_both}
 use Rattle.watch_machine.proofs.Leasts.{least_start}
 use Rattle.watch_laws.specs.Absence.{is_clock, is_event_taken}
-use Rattle.watch_laws.specs.Outage.{AllInTime, AreLived, EndIsInTime, GrantLaw, IsBefore, IsIncident, IsLived, IsReplyInOutage, IsShortFor, LeftLaw, MayBeAsked, Outage, OutageLaw, TellsNothing, again, clock_asked_at, comes, coming, granted_at, granted_by, granted_next, how_many, in_line, is_request_served, is_request_whole, outage_next_after, outage_next_after_command, outage_next_by, outage_settled_by, tells, waiting}
+use Rattle.watch_laws.specs.Outage.{AllInTime, AreLived, EndIsInTime, GrantLaw, IsBefore, IsIncident, IsLived, IsLivedChange, IsReplyInOutage, IsShortFor, LeftLaw, MayBeAsked, Outage, OutageLaw, TellsNothing, again, clock_asked_at, comes, comes_over, coming_through, granted_at, granted_by, granted_next, how_many, in_line, is_request_served, is_request_whole, outage_next_after, outage_next_after_command, outage_next_by, outage_settled_by, tells, waiting}
 use Rattle.watch_laws.specs.Presence.{is_told}
 use Rattle.watch_laws.proofs.Answered.{IsReplied, goes_on_after, looked_replied, renewed_replied, replied_through}
 use Rattle.watch_laws.proofs.Bases.{last_base}
+use Rattle.watch_laws.proofs.Changing.{low}
 use Rattle.watch_laws.proofs.Clocking.{refused_stays}
 use Rattle.watch_laws.proofs.Counting.{least_all}
 use Rattle.watch_laws.proofs.Enduring.{Cutting, Endures, Kept, Missed, cut, cut_off, real_away}
@@ -48,6 +49,7 @@ use Rattle.watch_laws.proofs.Grounds.{IsBase, fewer_wait, starts, turn_base}
 use Rattle.watch_laws.proofs.Lanes.{Sends, Ticks, is_anew, ticks, turn_sends}
 use Rattle.watch_laws.proofs.Lasting.{Same, known_other, same_time, turn_same}
 use Rattle.watch_laws.proofs.Marked.{none_out, not_out, only_cut, only_whole}
+use Rattle.watch_laws.proofs.Moving.{facts_over, fewer_over, going_over, through_over}
 use Rattle.watch_laws.proofs.Requests.{any_gives, anew_none, none_passes, quick_if, some_lane}
 use Rattle.watch_laws.proofs.Retrying.{ready_first, rises}
 use Rattle.watch_laws.proofs.Minding.{end_minded, tended}
@@ -252,19 +254,44 @@ in_time f due k s h =
     let by = h.going.by in
     (subst (λ n. s.clocks.at < ms n) (sym end) ahead, subst (λ n. s.clocks.at ≤ granted_by f.o f.time n) (sym end) by)
 
+-- a change
+changed_stays :
+    (f : Facts) (due rest : ℕ) (old : WatchState) (c : Changed) (h : IsChanged old c) (k : ℕ) → IsLivedChange old c f.i k → Stays f due (waiting f.o f.n old + (how_many (length c.forest.entries) (comes_over old c) + rest)) old →
+    Stays (facts_over f c k) due (waiting f.o (length c.forest.entries) c.state + rest) c.state
+changed_stays f due rest old c h k lived stays = record {
+  going = going_over f due old c h k lived.kept lived stays.going;
+  through =
+      through_over f due old c h k lived.kept (waiting f.o f.n old + (how_many (length c.forest.entries) (comes_over old c) + rest)) (waiting f.o (length c.forest.entries) c.state + rest)
+      (fewer_over f due old c h rest stays.going) stays.through;
+}
+
+planned_over : (f : Facts) (old : WatchState) (c : Changed) (k : ℕ) → k < length c.forest.entries → IsPlanned f → IsPlanned (facts_over f c k)
+planned_over f old c k within planned = record { wide = planned.wide; within = within; order = planned.order; short = planned.short; end_is = planned.end_is }
+
 along :
-    (f : Facts) → IsPlanned f → (turns : List Turned) (due : ℕ) (old : WatchState) → History old turns → AreLived f.o f.i due old turns → Stays f due (waiting f.o f.n old + coming f.o f.n old turns) old →
-    AllInTime f.o f.i f.time turns
+    (f : Facts) → IsPlanned f → (hs : List Happening) (due : ℕ) (old : WatchState) → AllHappen old hs → AreLived f.o f.i due old hs → Stays f due (waiting f.o f.n old + coming_through f.o old hs) old →
+    AllInTime f.o f.i f.time hs
 along f planned [] due old history lived h = tt
-along f planned (turn ∷ turns) due old history lived h =
+along f planned (Hands turn ∷ hs) due old history lived h =
+    let rest = coming_through f.o turn.state hs in
     let base = turn_base f.width f.n old turn.state turn.event turn.result history.0 h.going.base in
     let count = base.count in
     let sends = turn_sends old turn.state turn.event turn.result f.n (omega (arith, count)) history.0 in
     let same = turn_same f.o f.i due old turn.state turn.event turn.result history.0 lived.0 in
-    let here = turn_stays f due (coming f.o f.n turn.state turns) old turn.state turn.event turn.result planned history.0 lived.0 lived.1.0 base sends same h in (
-      in_time f (outage_next_after f.o turn.result turn.state due) (After f turn.state (coming f.o f.n turn.state turns)) turn.state here,
-      along f planned turns (outage_next_after f.o turn.result turn.state due) turn.state history.1 lived.1.1 here,
+    let stays = subst (λ n. Stays f due (waiting f.o f.n old + (how_many n (comes f.o old turn.state) + rest)) old) h.going.entries h in
+    let here = turn_stays f due rest old turn.state turn.event turn.result planned history.0 lived.0 lived.1.0 base sends same stays in (
+      in_time f (outage_next_after f.o turn.result turn.state due) (After f turn.state rest) turn.state here,
+      along f planned hs (outage_next_after f.o turn.result turn.state due) turn.state history.1 lived.1.1 here,
     )
+along f planned (Changes c ∷ hs) due old history lived h = λ k said.
+    let j = lived.0 in
+    let change = lived.1.0 in
+    let same : j ≡ k = history.0.may.once f.i j k change.kept said in
+    let rest = coming_through f.o c.state hs in
+    let here = changed_stays f due rest old c history.0 j change h in
+    let planned' = planned_over f old c j (low old c history.0 f.i j change.kept) planned in
+    subst (λ m. EndIsInTime f.o m f.time c.state × AllInTime f.o m f.time hs) same
+    (in_time (facts_over f c j) due (waiting f.o (length c.forest.entries) c.state + rest) c.state here, along (facts_over f c j) planned' hs due c.state history.1 lived.1.1.1 here)
 
 -- the end that is a margin after the time
 end_known : (e : End) (margin n : ℕ) (x : Track) (need : ℕ) → x.end ≡ e → wants x need ≡ true → n < time_before e margin → (k : ℕ) × ((e ≡ At k) × (k ≡ time_before e margin + margin))
@@ -510,36 +537,36 @@ known_end Never x need is wanted known' = absurd cc
 
 -- what follows whatever the turn is from which on it is lived
 from_there :
-    (o : Outage) (old : WatchState) (last : Turned) (turns : List Turned) (i from due : ℕ) → IsReached old → 0 < old.width → History old (last ∷ turns) → MayBeAsked last.state i from →
-    AreLived o i due last.state turns → in_line o last.state turns ≤ old.width * o.rounds → o.from ≤ o.until → IsShortFor o (ms (believed (track_at last.state i).end) - from) →
+    (o : Outage) (old : WatchState) (last : Turned) (hs : List Happening) (i from due : ℕ) → IsReached old → 0 < old.width → AllHappen old (Hands last ∷ hs) → MayBeAsked last.state i from →
+    AreLived o i due last.state hs → in_line o last.state hs ≤ old.width * o.rounds → o.from ≤ o.until → IsShortFor o (ms (believed (track_at last.state i).end) - from) →
     (list_any is_silent last.state.answers ≡ true → last.state.presence.away ≡ true → ⊥) →
     All (λ (q : Out). due ≤ outage_settled_by o q.since + o.late) last.state.out →
-    ((f : Facts) → f.o ≡ o → f.time ≡ from → IsBase old.width (length last.state.forest.entries) last.state → is_request_served o last.state i ≡ false → Begins f due last.state) → AllInTime o i from turns
-from_there o old last turns i from due reached wide history b lived few order short quiet timely begins =
+    ((f : Facts) → f.o ≡ o → f.time ≡ from → IsBase old.width (length last.state.forest.entries) last.state → is_request_served o last.state i ≡ false → Begins f due last.state) → AllInTime o i from hs
+from_there o old last hs i from due reached wide history b lived few order short quiet timely begins =
     let width = old.width in
     let s = last.state in
     let n = length s.forest.entries in
-    let base = last_base old last turns reached history in
+    let base = last_base old last [] reached (history.0, tt) in
     let e = known_end (track_at s i).end (track_at s i) (wanted_need s i) refl b.wanted b.known in
     let f : Facts = facts_of o i n width from e.0 in
     let low = b.within in
     let is : believed (track_at s i).end ≡ e.0 = ap believed e.1 in
     let short' : IsShortFor o (ms e.0 - from) = subst (λ k. IsShortFor o (ms k - from)) is short in
     let planned : IsPlanned f = record { wide = wide; within = low; order = order; short = short'; end_is = left_over o e.0 from short' } in
-    let stays = first_stays o width n s i from due (waiting o n s + coming o n s turns) e.0 planned base refl b e.1 quiet timely few (begins f refl refl base) in
-    along f planned turns due s history.1 lived stays
+    let stays = first_stays o width n s i from due (waiting o n s + coming_through o s hs) e.0 planned base refl b e.1 quiet timely few (begins f refl refl base) in
+    along f planned hs due s history.1 lived stays
 
 pub left_from_clock :
-    (o : Outage) (old : WatchState) (last : Turned) (turns : List Turned) (i from : ℕ) → IsReached old → 0 < old.width → History old (last ∷ turns) → is_clock last.event ≡ true →
-    is_event_taken last.result ≡ true → MayBeAsked last.state i from → AreLived o i (outage_next_after o last.result last.state 0) last.state turns →
-    in_line o last.state turns ≤ old.width * o.rounds → o.from ≤ o.until → IsShortFor o (ms (believed (track_at last.state i).end) - from) → AllInTime o i from turns
-left_from_clock o old last turns i from reached wide history clock taken' b lived few order short =
+    (o : Outage) (old : WatchState) (last : Turned) (hs : List Happening) (i from : ℕ) → IsReached old → 0 < old.width → AllHappen old (Hands last ∷ hs) → is_clock last.event ≡ true →
+    is_event_taken last.result ≡ true → MayBeAsked last.state i from → AreLived o i (outage_next_after o last.result last.state 0) last.state hs →
+    in_line o last.state hs ≤ old.width * o.rounds → o.from ≤ o.until → IsShortFor o (ms (believed (track_at last.state i).end) - from) → AllInTime o i from hs
+left_from_clock o old last hs i from reached wide history clock taken' b lived few order short =
     let s = last.state in
     let start = starts o old last last.event last.result refl history.0 clock taken' in
     let answers : s.answers ≡ [] = ap (λ (x : WatchState). x.answers) start.ticks'.new_is ∙ readied_answers old start.wall start.elapsed in
     let due = outage_next_by o (wait s) s.out in
     let timely = least_all (λ (q : Out). outage_settled_by o q.since + o.late) (wait s + o.late) s.out in
-    from_there o old last turns i from due reached wide history b (subst (λ d. AreLived o i d s turns) start.due lived) few order short
+    from_there o old last hs i from due reached wide history b (subst (λ d. AreLived o i d s hs) start.due lived) few order short
     (λ any away. absurd (not_both any (ap (list_any is_silent) answers))) timely
     (λ f same time base unserved.
     let late = ap (λ (x : Outage). x.late) same in
@@ -611,17 +638,17 @@ asked_before None at h = omega arith
 asked_before (Some n) at h = omega (arith, h)
 
 left_from_told :
-    (o : Outage) (old : WatchState) (grant : Turned) (turns : List Turned) (i from : ℕ) → IsReached old → 0 < old.width → History old (grant ∷ turns) → tells i grant.event ≡ true →
-    is_event_taken grant.result ≡ true → MayBeAsked grant.state i from → AreLived o i (granted_next o grant.state i) grant.state turns →
-    in_line o grant.state turns ≤ old.width * o.rounds → o.from ≤ o.until → IsShortFor o (ms (believed (track_at grant.state i).end) - from) → AllInTime o i from turns
-left_from_told o old grant turns i from reached wide history told taken' b lived few order short =
+    (o : Outage) (old : WatchState) (grant : Turned) (hs : List Happening) (i from : ℕ) → IsReached old → 0 < old.width → AllHappen old (Hands grant ∷ hs) → tells i grant.event ≡ true →
+    is_event_taken grant.result ≡ true → MayBeAsked grant.state i from → AreLived o i (granted_next o grant.state i) grant.state hs →
+    in_line o grant.state hs ≤ old.width * o.rounds → o.from ≤ o.until → IsShortFor o (ms (believed (track_at grant.state i).end) - from) → AllInTime o i from hs
+left_from_told o old grant hs i from reached wide history told taken' b lived few order short =
     let s = grant.state in
     let at = s.clocks.at in
     let there = told_there old s grant.event grant.result i history.0 taken' told in
     let asked = granted_at s i in
     let due = granted_next o s i in
     let timely = least_all (λ (q : Out). outage_settled_by o q.since + o.late) (outage_settled_by o asked + o.late) s.out in
-    from_there o old grant turns i from due reached wide history b lived few order short (λ any away. absurd (not_both away there)) timely
+    from_there o old grant hs i from due reached wide history b lived few order short (λ any away. absurd (not_both away there)) timely
     (λ f same time base unserved.
     let least' = least_start (outage_settled_by o asked + o.late) (map (λ (q : Out). outage_settled_by o q.since + o.late) s.out) in
     let early = asked_before (track_at s i).last at (base.past.last i) in
@@ -662,10 +689,10 @@ left_from_told o old grant turns i from reached wide history told taken' b lived
     ])
 
 pub left : LeftLaw
-left o old last turns i from due reached wide history (inl clock) b lived few order short =
-    left_from_clock o old last turns i from reached wide history clock.0 clock.1.0 b (subst (λ d. AreLived o i d last.state turns) clock.1.1 lived) few order short
-left o old last turns i from due reached wide history (inr told) b lived few order short =
-    left_from_told o old last turns i from reached wide history told.0 told.1.0 b (subst (λ d. AreLived o i d last.state turns) told.1.1 lived) few order short
+left o old last hs i from due reached wide history (inl clock) b lived few order short =
+    left_from_clock o old last hs i from reached wide history clock.0 clock.1.0 b (subst (λ d. AreLived o i d last.state hs) clock.1.1 lived) few order short
+left o old last hs i from due reached wide history (inr told) b lived few order short =
+    left_from_told o old last hs i from reached wide history told.0 told.1.0 b (subst (λ d. AreLived o i d last.state hs) told.1.1 lived) few order short
 
 -- in the plan, where the time is ahead: what is left from there on is the margin
 may_at_time : (s : WatchState) (i : ℕ) → IsBefore s i → MayBeAsked s i (ms (time_of s i)) × (ms (believed (track_at s i).end) - ms (time_of s i) ≡ ms s.forest.margin)
@@ -687,11 +714,11 @@ may_at_time s i b =
     )
 
 pub outlives : OutageLaw
-outlives o old last turns i reached wide history clock taken' b lived few order short =
+outlives o old last hs i reached wide history clock taken' b lived few order short =
     let m = may_at_time last.state i b in
-    left_from_clock o old last turns i (ms (time_of last.state i)) reached wide history clock taken' m.0 lived few order (subst (IsShortFor o) (sym m.1) short)
+    left_from_clock o old last hs i (ms (time_of last.state i)) reached wide history clock taken' m.0 lived few order (subst (IsShortFor o) (sym m.1) short)
 
 pub outlives_again : GrantLaw
-outlives_again o old grant turns i reached wide history b lived few order short =
+outlives_again o old grant hs i reached wide history b lived few order short =
     let m = may_at_time grant.state i b.before in
-    left_from_told o old grant turns i (ms (time_of grant.state i)) reached wide history b.told b.taken m.0 lived few order (subst (IsShortFor o) (sym m.1) short)
+    left_from_told o old grant hs i (ms (time_of grant.state i)) reached wide history b.told b.taken m.0 lived few order (subst (IsShortFor o) (sym m.1) short)

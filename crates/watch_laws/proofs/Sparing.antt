@@ -25,10 +25,8 @@ use Rattle.watch_machine.specs.declared.lanes.Presence.{Presence}
 use Rattle.watch_machine.specs.declared.notes.Why.{Why}
 use Rattle.watch_machine.specs.declared.track.Track.{Track}
 use Rattle.watch_machine.specs.declared.track.Try.{Try}
-use Rattle.watch_machine.specs.declared.change.Was.{Was}
 use Rattle.watch_machine.specs.Answers.{answers_all, back_track, heard, is_back, lane_freed, noted, presence_gone, replied, silent, without_request}
 use Rattle.watch_machine.specs.Beginning.{begun}
-use Rattle.watch_machine.specs.Change.{moved_out, out_after}
 use Rattle.watch_machine.specs.Clocks.{sec}
 use Rattle.watch_machine.specs.History.{AllHappen, Changed, Changes, Hands, Happening, IsChanged, Turn}
 use Rattle.watch_machine.specs.Lines.{is_due, is_due_try, is_first, later_at, ready}
@@ -49,7 +47,7 @@ use Rattle.watch_laws.proofs.Answering.{looked_rest}
 use Rattle.watch_laws.proofs.Alone.{IsAlone, lanes_of, turn_alone}
 use Rattle.watch_laws.proofs.Bases.{changed_alone, changed_fits, reached_base}
 use Rattle.watch_laws.proofs.Clocking.{begun_some, clock_rises, readied_clocks, readied_width, refused_stays}
-use Rattle.watch_laws.proofs.Following.{IsCounted, changed_counted, reached_counted, turn_counted}
+use Rattle.watch_laws.proofs.Following.{IsCounted, changed_counted, filter_after, reached_counted, turn_counted}
 use Rattle.watch_laws.proofs.Going.{Goes, entry_by, goes, request_at}
 use Rattle.watch_laws.proofs.Holding.{looked_presence, ready_presence}
 use Rattle.watch_laws.proofs.Spacing.{looked_out, readied_out}
@@ -419,15 +417,6 @@ turn_spares width n old new event (Err fault) turn fits alone away still never h
     subst (λ m. Spares width m new) (let e : n ≡ 0 + n = omega arith in e) (subst (Spares width n) (sym (refused_stays old new event fault turn)) h)
 
 -- and a change leaves as many out, of which as many have heard of none
-unheard_kept : (was : List Was) (m : ℕ) (out : List Out) → unheard (out_after was m out) ≡ unheard out
-unheard_kept was m [] = refl
-unheard_kept was m (q ∷ out) = by (not q.heard) (unheard_kept was (suc m) out) where
-  by : (b : Bool) → unheard (out_after was (suc m) out) ≡ unheard out →
-      length (cond b (moved_out was m q ∷ filter (λ (o : Out). not o.heard) (out_after was (suc m) out)) (filter (λ (o : Out). not o.heard) (out_after was (suc m) out)))
-      ≡ length (cond b (q ∷ filter (λ (o : Out). not o.heard) out) (filter (λ (o : Out). not o.heard) out))
-  by true h = ap (λ n. suc n) h
-  by false h = h
-
 changed_spares : (width n : ℕ) (old : WatchState) (c : Changed) → IsChanged old c → Spares width n old → Spares width n c.state
 changed_spares width n old c h spares = record {
   few = spares.few;
@@ -442,7 +431,7 @@ changed_spares width n old c h spares = record {
           over = omega (arith, past, hold, clock);
           rest = elim over.rest as (λ _. (list_any is_silent c.state.answers ≡ true) ⊎ (n ≤ unheard c.state.out)) [
             | inl silent' ↦ inl (ap (λ (s : WatchState). list_any is_silent s.answers) h.state ∙ silent')
-            | inr all ↦ (let same = ap (λ (s : WatchState). unheard s.out) h.state ∙ unheard_kept c.was (length c.forest.entries) old.out in inr (omega (arith, all, same)))
+            | inr all ↦ (let same = ap (λ (s : WatchState). unheard s.out) h.state ∙ filter_after (λ (q : Out). not q.heard) (λ r k. refl) c.was (length c.forest.entries) old.out in inr (omega (arith, all, same)))
           ];
         })
   ];

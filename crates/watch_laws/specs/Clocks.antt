@@ -13,6 +13,7 @@ use Rattle.watch_machine.specs.declared.lanes.Out.{Out}
 use Rattle.watch_machine.specs.declared.reading.TheConstants.{READING_MAX}
 use Rattle.watch_machine.specs.Clocks.{sec}
 use Rattle.watch_machine.specs.History.{History, IsReached, Turned}
+use Rattle.watch_machine.specs.State.{WatchState}
 use Rattle.watch_laws.specs.Absence.{is_event_taken}
 use Rattle.watch_laws.specs.Beginnings.{HasParted}
 use Rattle.watch_laws.specs.Presence.{is_asked_at_turn}

@@ -30,4 +30,3 @@ pub mod Begins
 pub mod Dates
 pub mod Rounds
 pub mod Changes
-pub mod Whole

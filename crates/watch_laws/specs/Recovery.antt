@@ -11,7 +11,7 @@ use Rattle.watch_machine.specs.Lines.{ready}
 use Rattle.watch_machine.specs.Settling.{timed}
 use Rattle.watch_machine.specs.State.{WatchState, attempt_at, track_at}
 use Rattle.watch_laws.specs.Absence.{is_clock, is_event_taken}
-use Rattle.watch_laws.specs.Outage.{Outage, in_line, outage_next_after}
+use Rattle.watch_laws.specs.Outage.{Outage, coming, outage_next_after, waiting}
 
 -- no outage: every request is settled so soon, and every clock comes in time
 abbrev pub without_outage : ℕ → ℕ → Outage
@@ -54,5 +54,5 @@ RecoveryLaw =
     (quick late rounds : ℕ) (old : WatchState) (last : Turned) (turns : List Turned) (i : ℕ) → IsReached old → 0 < old.width → History old (last ∷ turns) → is_clock last.event ≡ true →
     is_event_taken last.result ≡ true → MayGo last.state i →
     ArePassing (without_outage quick late) i (outage_next_after (without_outage quick late) last.result last.state 0) last.state turns →
-    in_line (without_outage quick late) last.state turns ≤ old.width * rounds →
+    waiting (without_outage quick late) (length last.state.forest.entries) last.state + coming (without_outage quick late) (length last.state.forest.entries) last.state turns ≤ old.width * rounds →
     AllBy (last.state.clocks.at + (quick + late) * rounds) turns
