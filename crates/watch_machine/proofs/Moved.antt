@@ -75,7 +75,7 @@ place_there (w ∷ ws) i (suc j) is once = elim (cases_Bool (is_former i (former
 -- ---- requests
 
 -- the index of a request is that of an entry just where it was that of the same before
-pub index_other :
+index_other :
     (n many : ℕ) (was : List Was) (i j e : ℕ) (o : Option ℕ) → place_now was e ≡ o → many ≤ n → j < many → former_at was j ≡ Some i → (e ≡ i → ⊥) → (index_or n o == j) ≡ false
 index_other n many was i j e None place le low said other = grind (arith, nat_tests)
 index_other n many was i j e (Some k) place le low said other = elim (cases_eq k j) [
@@ -152,7 +152,7 @@ times_moved n many was i j (r ∷ rest) le low said there =
     ∙ ap (λ k. one_if (r.entry == i) + k) (times_moved (suc n) many was i j rest (omega (arith, le)) low said there) ∙ sym (times_more i r rest)
 
 -- none of one that is new
-index_new : (n many : ℕ) (was : List Was) (j e : ℕ) → many ≤ n → j < many → former_at was j ≡ None → (index_or n (place_now was e) == j) ≡ false
+pub index_new : (n many : ℕ) (was : List Was) (j e : ℕ) → many ≤ n → j < many → former_at was j ≡ None → (index_or n (place_now was e) == j) ≡ false
 index_new n many was j e le low new = by (place_now was e) refl where
   by : (o : Option ℕ) → place_now was e ≡ o → (index_or n o == j) ≡ false
   by None place = grind (arith, nat_tests)
@@ -164,8 +164,10 @@ index_new n many was j e le low new = by (place_now was e) refl where
 pub times_new : (n many : ℕ) (was : List Was) (j : ℕ) (out : List Out) → many ≤ n → j < many → former_at was j ≡ None → times_out j (out_after was n out) ≡ 0
 times_new n many was j [] le low new = refl
 times_new n many was j (r ∷ rest) le low new =
-    times_more j (moved_out was n r) (out_after was (suc n) rest) ∙ ap (λ b. one_if b + times_out j (out_after was (suc n) rest)) (index_new n many was j r.entry le low new)
-    ∙ times_new (suc n) many was j rest (omega (arith, le)) low new
+    let more = times_more j (moved_out was n r) (out_after was (suc n) rest) in
+    let here = ap one_if (index_new n many was j r.entry le low new) in
+    let none = times_new (suc n) many was j rest (omega (arith, le)) low new in
+    omega (arith, more, here, none)
 
 -- and one at most under an index past the last entry
 module _ (many : ℕ) (was : List Was) (low : (i j : ℕ) → former_at was j ≡ Some i → j < many) where
@@ -178,9 +180,10 @@ module _ (many : ℕ) (was : List Was) (low : (i j : ℕ) → former_at was j �
   times_passed : (n j : ℕ) (out : List Out) → many ≤ j → j < n → times_out j (out_after was n out) ≡ 0
   times_passed n j [] past before = refl
   times_passed n j (r ∷ rest) past before =
-      times_more j (moved_out was n r) (out_after was (suc n) rest)
-      ∙ ap (λ b. one_if b + times_out j (out_after was (suc n) rest)) (index_past n j r.entry past (λ h. omega (arith, h, before)))
-      ∙ times_passed (suc n) j rest past (omega (arith, before))
+      let more = times_more j (moved_out was n r) (out_after was (suc n) rest) in
+      let here = ap one_if (index_past n j r.entry past (λ h. omega (arith, h, before))) in
+      let none = times_passed (suc n) j rest past (omega (arith, before)) in
+      omega (arith, more, here, none)
 
   pub times_nobody : (n j : ℕ) (out : List Out) → many ≤ j → times_out j (out_after was n out) ≤ 1
   times_nobody n j [] past = omega arith

@@ -1,5 +1,5 @@
 -- Nobody: an answer to a request whose entry is no more makes nothing of any entry, and nothing is noted of it. For `looked` and `renewed`.
-use Rattle.std.proofs.Common.{◌≡◌, ◌∙◌, ℕ, ◌≤◌, Bool, true, false, not, ◌&&◌, Option, None, is_some, length, nat_lt, ap, refl}
+use Rattle.std.proofs.Common.{◌≡◌, ◌∙◌, ℕ, ◌≤◌, Bool, true, false, not, ◌&&◌, if◌then◌else◌, Option, Some, None, is_some, length, nat_lt, ap, refl}
 use Rattle.std.proofs.lemmas.Bool.Decides.{nat_tests}
 use Rattle.std.proofs.lemmas.List.{get_or_past, set_past}
 use Rattle.keep_tree.specs.declared.entry.Entry.{Entry}
@@ -52,18 +52,12 @@ notes_past s r (Told seconds renewable date) terms past =
     ap (λ b. record nothing_noted { orphan = b; endless = is_watched s r.entry && (terms.endless && not (is_never (track_at s r.entry).end)) }) (orphan_past s r.entry terms past)
     ∙ ap (λ b. record nothing_noted { endless = b && (terms.endless && not (is_never (track_at s r.entry).end)) }) (watched_not s r.entry past)
 notes_past s r (Refused status date) terms past = ap (λ b. record nothing_noted { gone = cond_of b status }) (watched_not s r.entry past) where
-  use Rattle.std.proofs.Common.{Some, if◌then◌else◌}
-
   cond_of : Bool → ℕ → Option ℕ
   cond_of b status = if b then Some status else None
 notes_past s r Busy terms past = ap (λ b. record nothing_noted { gone = none_of b }) (watched_not s r.entry past) where
-  use Rattle.std.proofs.Common.{if◌then◌else◌}
-
   none_of : Bool → Option ℕ
   none_of b = if b then None else None
 notes_past s r Lost terms past = ap (λ b. record nothing_noted { gone = none_of b }) (watched_not s r.entry past) where
-  use Rattle.std.proofs.Common.{if◌then◌else◌}
-
   none_of : Bool → Option ℕ
   none_of b = if b then None else None
 
