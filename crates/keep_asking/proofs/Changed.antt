@@ -1,9 +1,10 @@
 -- Changed: where another forest is watched, the requests on lanes stay those that the machine has out. For the law of lanes that stay in step.
-use Rattle.std.proofs.Common.{◌≡◌, ◌∙◌, ◌==◌, ℕ, suc, ◌+◌, ◌<◌, ◌≤◌, Bool, true, false, cond, if◌then◌else◌, List, [], ◌∷◌, ◌++◌, Option, Some, None, length, map, nat_lt, refl, sym, ap, subst, arith, inl, inr}
-use Rattle.std.proofs.lemmas.Bool.{cases_Bool, cases_eq, cases_lt, cond-false, cond-true, eqb-true}
+use Rattle.std.proofs.Common.{◌≡◌, ◌∙◌, ◌==◌, ℕ, ◌+◌, ◌<◌, ◌≤◌, Bool, true, false, cond, if◌then◌else◌, List, [], ◌∷◌, ◌++◌, Option, Some, None, length, map, nat_lt, refl, sym, ap, subst, arith, inl, inr}
+use Rattle.std.proofs.lemmas.Bool.{cases_Bool, cases_lt, cond-false, cond-true, eqb-true}
 use Rattle.std.proofs.lemmas.Bool.Decides.{nat_tests}
 use Rattle.std.proofs.lemmas.List.{length-map, map-append}
 use Rattle.std.proofs.lemmas.List.FromFn.{length-map-range_with_len}
+use Rattle.std.proofs.lemmas.List.Sums.{sum_by-cons}
 use Rattle.keep_lanes.specs.Out as lanes
 use Rattle.keep_lanes.specs.Out.{index_in, renamed, with_index}
 use Rattle.keep_lanes.proofs.Renamed.{in_front, in_rest}
@@ -13,11 +14,11 @@ use Rattle.watch_machine.specs.declared.change.Was.TheVariants.{New, Same, Retol
 use Rattle.watch_machine.specs.declared.lanes.Out.{Out}
 use Rattle.watch_machine.specs.declared.track.Track.{Track}
 use Rattle.watch_machine.specs.Beginning.{untopped_track}
-use Rattle.watch_machine.specs.Change.{IsChange, changed, entry_by, forest_after, former, former_at, index_or, moved_out, out_after, place_now, track_by, tracks_after, was_at}
+use Rattle.watch_machine.specs.Change.{IsChange, changed, entry_by, forest_after, former, former_at, out_after, track_by, tracks_after, was_at}
 use Rattle.watch_machine.specs.History.{Changed, IsChanged}
 use Rattle.watch_machine.specs.State.{WatchState, track_at}
 use Rattle.watch_machine.proofs.Changing.{out_length}
-use Rattle.watch_machine.proofs.Moved.{changed_track, index_same, place_said, place_there, said_within}
+use Rattle.watch_machine.proofs.Moved.{changed_track, former_low, place_there, times_moved, times_new, times_nobody, times_out}
 use Rattle.keep_asking.specs.InStep.{IsAbreast, MachineIsSound, entries_on, entries_out, seats_of, times}
 use Rattle.keep_asking.specs.Laws.{ChangeLaw}
 use Rattle.keep_asking.proofs.Sound.{counts, lookup_flag, same_index, skips, times_append, times_cons}
@@ -88,72 +89,15 @@ indices_renamed from to (o ∷ os) = ap (λ ns. index_in from to o.index ∷ ns)
 
 -- ---- what the machine has out
 
-abbrev entries_in : List Out → List ℕ
-entries_in out = map (λ (r : Out). r.entry) out
-
-abbrev IsOnceFrom : ℕ → ℕ → List ℕ → Type 0
-IsOnceFrom n j xs = (j < n → times j xs ≡ 0) × (times j xs ≤ 1)
+-- how often an index is among those of requests
+times_under : (i : ℕ) (out : List Out) → times i (map (λ (r : Out). r.entry) out) ≡ times_out i out
+times_under i [] = refl
+times_under i (r ∷ rest) =
+    times_cons i r.entry (map (λ (q : Out). q.entry) rest) ∙ ap (λ k. cond (r.entry == i) 1 0 + k) (times_under i rest) ∙ sym (sum_by-cons (λ (q : Out). cond (q.entry == i) 1 0) r rest)
 
 module _ (old : WatchState) (g : Forest) (was : List Was) (may : IsChange (length old.forest.entries) g was) where
   low : (i j : ℕ) → former_at was j ≡ Some i → j < length g.entries
-  low i j said = said_within was j (length g.entries) may.count (λ new. (let bad : None ≡ Some i = sym (ap former new) ∙ said in cc))
-
-  -- past the last entry each index is one of them once, and those before the first are none
-  nobody : (j n : ℕ) (out : List Out) → length g.entries ≤ n → length g.entries ≤ j → IsOnceFrom n j (entries_in (out_after was n out))
-  nobody j n [] many past = ((λ h. refl), omega arith)
-  nobody j n (r ∷ rest) many past =
-      let later = nobody j (suc n) rest (omega (arith, many)) past in
-      let more = times_cons j (moved_out was n r).entry (entries_in (out_after was (suc n) rest)) in
-      let none = later.0 in
-      let few = later.1 in
-      by (place_now was r.entry) refl none few more where
-        by :
-            (o : Option ℕ) → place_now was r.entry ≡ o → (j < suc n → times j (entries_in (out_after was (suc n) rest)) ≡ 0) → times j (entries_in (out_after was (suc n) rest)) ≤ 1 →
-            times j (entries_in (out_after was n (r ∷ rest))) ≡ cond ((moved_out was n r).entry == j) 1 0 + times j (entries_in (out_after was (suc n) rest)) →
-            IsOnceFrom n j (entries_in (out_after was n (r ∷ rest)))
-        by None place none few more = elim (cases_eq n j) as (λ _. IsOnceFrom n j (entries_in (out_after was n (r ∷ rest)))) [
-          | inl same ↦
-              let here = none (omega (arith, same)) in
-              let one : cond ((moved_out was n r).entry == j) 1 0 ≤ 1 = at_most ((moved_out was n r).entry == j) in
-              ((λ before. absurd (omega (arith, before, same))), omega (arith, here, one, more))
-          | inr apart ↦
-              let other : (n == j) ≡ false = grind (arith, nat_tests) in
-              let skip : cond ((moved_out was n r).entry == j) 1 0 ≡ 0 = ap {B = ℕ} (λ o. cond (index_or n o == j) 1 0) place ∙ ap {B = ℕ} (λ (b : Bool). cond b 1 0) other in
-              ((λ before. (let rest = none (omega (arith, before)) in omega (arith, more, skip, rest))), omega (arith, more, skip, few))
-        ]
-        by (Some k) place none few more =
-            let below = low r.entry k (place_said was r.entry k place) in
-            let other : (k == j) ≡ false = grind (arith, nat_tests) in
-            let skip : cond ((moved_out was n r).entry == j) 1 0 ≡ 0 = ap {B = ℕ} (λ o. cond (index_or n o == j) 1 0) place ∙ ap {B = ℕ} (λ (b : Bool). cond b 1 0) other in
-            ((λ before. (let rest = none (omega (arith, before)) in omega (arith, more, skip, rest))), omega (arith, more, skip, few))
-
-        at_most : (b : Bool) → cond b 1 0 ≤ 1
-        at_most true = omega arith
-        at_most false = omega arith
-
-  -- of an entry that was not nothing is out
-  index_new : (n j e : ℕ) (o : Option ℕ) → place_now was e ≡ o → j < n → former_at was j ≡ None → (index_or n o == j) ≡ false
-  index_new n j e None place less new = grind (arith, nat_tests)
-  index_new n j e (Some k) place less new = elim (cases_eq k j) [
-    | inl same ↦ absurd (let bad : None ≡ Some e = sym new ∙ ap (former_at was) (sym same) ∙ place_said was e k place in cc)
-    | inr apart ↦ grind (arith, nat_tests)
-  ]
-
-  none_new : (n j : ℕ) (out : List Out) → j < n → former_at was j ≡ None → times j (entries_in (out_after was n out)) ≡ 0
-  none_new n j [] less new = refl
-  none_new n j (r ∷ rest) less new =
-      skips j (moved_out was n r).entry (entries_in (out_after was (suc n) rest)) (index_new n j r.entry (place_now was r.entry) refl less new) ∙ none_new (suc n) j rest (omega (arith, less)) new
-
-  -- of one that was as many are out as were
-  as_many : (n i j : ℕ) (out : List Out) → length g.entries ≤ n → former_at was j ≡ Some i → times j (entries_in (out_after was n out)) ≡ times i (entries_in out)
-  as_many n i j [] many said = refl
-  as_many n i j (r ∷ rest) many said =
-      let there = place_there was i j said (λ k other. may.once i j k said other) in
-      let same = index_same n (length g.entries) was i j r.entry many (low i j said) said there in
-      times_cons j (moved_out was n r).entry (entries_in (out_after was (suc n) rest))
-      ∙ ap (λ (b : Bool). cond b 1 0 + times j (entries_in (out_after was (suc n) rest))) same
-      ∙ ap (λ k. cond (r.entry == i) 1 0 + k) (as_many (suc n) i j rest (omega (arith, many)) said)
-      ∙ sym (times_cons i r.entry (entries_in rest))
+  low i j said = former_low (length old.forest.entries) g was may i j said
 
   -- one may be out where one might
   its_seats : (i j : ℕ) → former_at was j ≡ Some i → (track_by old.clocks.at old.tracks (entry_at g.entries j) (was_at was j)).out ≡ (track_at old i).out → seats_of (changed old g was) j ≡ seats_of old i
@@ -180,21 +124,28 @@ module _ (old : WatchState) (g : Forest) (was : List Was) (may : IsChange (lengt
   once_now sound j =
       let n = length g.entries in
       let many : length (changed old g was).forest.entries ≡ n = length-map-range_with_len (λ k. entry_by g.margin old.forest.entries (entry_at g.entries k) (was_at was k)) 0 n in
+      let under = times_under j (out_after was n old.out) in
       elim (cases_lt j n) as (λ _. times j (entries_out (changed old g was)) ≤ seats_of (changed old g was) j) [
         | inl within ↦ by within (former_at was j) refl
         | inr past ↦
-            let few = (nobody j n old.out (omega arith) past).1 in
+            let few = times_nobody n was low n j old.out past in
             let free : nat_lt j (length (changed old g was).forest.entries) ≡ false = grind (arith, nat_tests) in
             let one : seats_of (changed old g was) j ≡ 1 = cond-false (nat_lt j (length (changed old g was).forest.entries)) (if (track_at (changed old g was) j).out then 1 else 0) 1 free in
-            omega (arith, few, one)
+            omega (arith, under, few, one)
       ] where
         by : j < length g.entries → (o : Option ℕ) → former_at was j ≡ o → times j (entries_out (changed old g was)) ≤ seats_of (changed old g was) j
-        by within None new = let none = none_new (length g.entries) j old.out within new in omega (arith, none)
+        by within None new =
+            let under = times_under j (out_after was (length g.entries) old.out) in
+            let none = times_new (length g.entries) (length g.entries) was j old.out (omega arith) within new in
+            omega (arith, under, none)
         by within (Some i) said =
-            let same = as_many (length g.entries) i j old.out (omega arith) said in
+            let under = times_under j (out_after was (length g.entries) old.out) in
+            let before = times_under i old.out in
+            let there = place_there was i j said (λ k other. may.once i j k said other) in
+            let same = times_moved (length g.entries) (length g.entries) was i j old.out (omega arith) within said there in
             let few = sound.once i in
             let seats = its_seats i j said (flag_by j i (was_at was j) said) in
-            omega (arith, same, few, seats)
+            omega (arith, under, before, same, few, seats)
 
   sound_now : MachineIsSound old → MachineIsSound (changed old g was)
   unfolding forest_after tracks_after
