@@ -1,5 +1,5 @@
 -- Always: what holds of every turn from a state on that a run leads to. For the laws of owed lookups, retries and failures.
-use Rattle.std.proofs.Common.{arith, length, refl, subst}
+use Rattle.std.proofs.Common.{arith, ◌≤◌, length, refl, subst}
 use Rattle.watch_machine.specs.State.{WatchState, opened}
 use Rattle.watch_laws.specs.Failures.{StaysLostLaw}
 use Rattle.watch_laws.specs.Load.{WidthLaw}

@@ -14,7 +14,7 @@ use Rattle.watch_machine.specs.Beginning.{owing_lookup, untopped_track}
 use Rattle.watch_machine.specs.Change.{former_at, index_or, out_after, place_now}
 use Rattle.watch_machine.specs.History.{Changed, History, IsChanged, IsReached, Turn, Turned}
 use Rattle.watch_machine.specs.Lines.{rested}
-use Rattle.watch_machine.specs.State.{WatchState, track_at}
+use Rattle.watch_machine.specs.State.{WatchState, fresh_track, track_at}
 use Rattle.watch_machine.proofs.Changing.{all_after, out_length}
 use Rattle.watch_machine.proofs.Moved.{former_low, place_said, times_moved, times_new, times_nobody}
 use Rattle.watch_laws.proofs.Alone.{IsAlone, flag, lanes_of}
@@ -101,7 +101,7 @@ module _ (old : WatchState) (c : Changed) (h : IsChanged old c) where
 
   pub changed_tries : AllTry old → AllTry c.state
   changed_tries all j =
-      each_over old c h Tries none_tries (λ e. owing_tries old.clocks.at _ (λ out. absurd cc))
+      each_over old c h Tries none_tries (λ e. owing_tries old.clocks.at (fresh_track e) (λ out. absurd cc))
       (λ x tries. owing_tries old.clocks.at (untopped_track x) (λ out. record { owed = tries.owed; out = tries.out })) all j
 
   pub changed_past : IsPast old → IsPast c.state

@@ -286,17 +286,17 @@ at_some p (Some i) = p i
 -- of indices of which each is told of one at most, no more pass than of all
 pub moved_pass : (N n : ℕ) (m : ℕ → Option ℕ) (p : ℕ → Bool) → ((i j : ℕ) → m j ≡ Some i → i < n) → ((i j k : ℕ) → m j ≡ Some i → m k ≡ Some i → j ≡ k) → how_many N (λ j. at_some p (m j)) ≤ how_many n p
 moved_pass zero n m p low once = omega arith
-moved_pass (suc N) n m p low once = by (m N) refl where
-  by : (o : Option ℕ) → m N ≡ o → one_where (at_some p (m N)) + how_many N (λ j. at_some p (m j)) ≤ how_many n p
-  by None is = let here = ap (λ o. one_where (at_some p o)) is in let rest = moved_pass N n m p low once in omega (arith, here, rest)
-  by (Some e) is =
+moved_pass (suc N) n m p low once = by (m N) refl (λ q. moved_pass N n m q low once) where
+  by : (o : Option ℕ) → m N ≡ o → ((q : ℕ → Bool) → how_many N (λ j. at_some q (m j)) ≤ how_many n q) → one_where (at_some p (m N)) + how_many N (λ j. at_some p (m j)) ≤ how_many n p
+  by None is less = let here = ap (λ o. one_where (at_some p o)) is in let rest = less p in omega (arith, here, rest)
+  by (Some e) is less' =
       let here = ap (λ o. one_where (at_some p o)) is in
       let q : ℕ → Bool = λ i. p i && not (i == e) in
       elim (cases_Bool (p e)) as (λ _. one_where (at_some p (m N)) + how_many N (λ j. at_some p (m j)) ≤ how_many n p) [
-        | inr no' ↦ (let zero' = ap one_where no' in let rest = moved_pass N n m p low once in omega (arith, here, zero', rest))
+        | inr no' ↦ (let zero' = ap one_where no' in let rest = less' p in omega (arith, here, zero', rest))
         | inl yes' ↦
             let one = ap one_where yes' in
-            let rest = moved_pass N n m q low once in
+            let rest = less' q in
             let less = below N (λ j. at_some p (m j)) (λ j. at_some q (m j)) (λ j under passes'. other j (m j) refl under passes') in
             let gone : q e ≡ false = ap (λ b. p e && not b) (same_index e) ∙ and_no (p e) in
             let more' = one_more n e q p (low e N is) gone yes' (λ j h. (and_parts (p j) (not (j == e)) h).0) in
@@ -334,12 +334,7 @@ lanes_filtered n test out =
 
 fewer_lanes : (j : ℕ) (test : Out → Bool) (out : List Out) → lanes_of j (filter test out) ≤ lanes_of j out
 fewer_lanes j test [] = omega arith
-fewer_lanes j test (r ∷ out) = by (test r) (r.entry == j) (fewer_lanes j test out) where
-  by : (b h : Bool) → lanes_of j (filter test out) ≤ lanes_of j out →
-      lanes_of j (cond b (r ∷ filter test out) (filter test out)) ≤ length (cond (r.entry == j) (r ∷ filter (λ (q : Out). q.entry == j) out) (filter (λ (q : Out). q.entry == j) out))
-  by false h less = (let more' = all_less (r.entry == j) in omega (arith, less, more'))
-  by true h less = both (r.entry == j) less
-
+fewer_lanes j test (r ∷ out) = by (test r) (fewer_lanes j test out) where
   all_less : (b : Bool) → length (filter (λ (q : Out). q.entry == j) out) ≤ length (cond b (r ∷ filter (λ (q : Out). q.entry == j) out) (filter (λ (q : Out). q.entry == j) out))
   all_less true = omega arith
   all_less false = omega arith
@@ -348,6 +343,11 @@ fewer_lanes j test (r ∷ out) = by (test r) (r.entry == j) (fewer_lanes j test 
       length (cond b (r ∷ filter (λ (q : Out). q.entry == j) (filter test out)) (filter (λ (q : Out). q.entry == j) (filter test out))) ≤ length (cond b (r ∷ filter (λ (q : Out). q.entry == j) out) (filter (λ (q : Out). q.entry == j) out))
   both true less = omega (arith, less)
   both false less = less
+
+  by : (b : Bool) → lanes_of j (filter test out) ≤ lanes_of j out →
+      lanes_of j (cond b (r ∷ filter test out) (filter test out)) ≤ length (cond (r.entry == j) (r ∷ filter (λ (q : Out). q.entry == j) out) (filter (λ (q : Out). q.entry == j) out))
+  by false less = (let more' = all_less (r.entry == j) in omega (arith, less, more'))
+  by true less = both (r.entry == j) less
 
 pub filtered_lanes : (n : ℕ) (test : Out → Bool) (out : List Out) → ((j : ℕ) → lanes_of j out ≤ 1) → All (λ (q : Out). q.entry < n) out → length (filter test out) ≤ how_many n (λ j. list_any (λ (q : Out). q.entry == j && test q) out)
 filtered_lanes n test out once all =

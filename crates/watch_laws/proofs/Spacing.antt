@@ -215,7 +215,7 @@ asks_so p now at xs i new is_out j is =
     (is_out, ap (λ k. operation_of (track_in xs k).attempt) (sym same) ∙ sym (asks_by p now xs j))
 
 -- what goes out at a clock
-pub Outcome : WatchState → ℕ → Option Sent → List Sent → Type 0
+unfoldable pub Outcome : WatchState → ℕ → Option Sent → List Sent → Type 0
 Outcome new i o xs = ((xs ≡ []) × Keeps new i o) ⊎ ((x : Sent) × ((xs ≡ x ∷ []) × (IfSome o (λ r. IsApart r x) × IsSpaced new i x)))
 
 -- before it does

@@ -1,8 +1,8 @@
-//! The laws of the Watch: what holds of every list of events that the machine of `watch_machine` is handed, in words that do not
-//! name its steps. Each law is a statement in `specs/` and the contract of a public function without a body, so the check proves
-//! it.
+//! The laws of the Watch: what holds of every list of events that the machine of `watch_machine` is handed, and of changes of what it
+//! watches among them, in words that do not name its steps. Each law is a statement in `specs/` and the contract of a public function
+//! without a body, so the check proves it.
 //!
-//! `History.IsWatchRun` of `watch_machine` says what a list of events gives. Begin with `specs/Time`.
+//! `History.IsRun` of `watch_machine` says what may happen to it. Begin with `specs/Time`.
 #![tactic(auto)]
 
 mod laws_of_absence;
