@@ -1,6 +1,5 @@
 -- Recovering: while the broker is there, an entry that may go out is passed over by few rounds. For the law of recovery.
 use Rattle.std.proofs.Common.{◌≡◌, ◌∙◌, ℕ, suc, ◌+◌, ◌*◌, ◌<◌, ◌≤◌, true, false, not, ◌&&◌, List, [], ◌∷◌, Option, Some, None, All, Result, Ok, Err, get_or, is_some, length, nat_le, refl, sym, ap, subst, arith, inl, inr}
-use Rattle.std.proofs.Math.Nat.{mul-suc}
 use Rattle.std.proofs.lemmas.Bool.{and_from, cases_Bool}
 use Rattle.std.proofs.lemmas.Bool.Decides.{nat_tests}
 use Rattle.std.specs.List.{list_any}
@@ -34,7 +33,7 @@ use Rattle.watch_laws.proofs.Counting.{lanes_apart, least_all, some}
 use Rattle.watch_laws.proofs.Grounds.{IsBase, fewer_wait, starts, tracked, turn_base}
 use Rattle.watch_laws.proofs.Lanes.{Sends, Ticks, all_left, is_anew, served_marked, ticks, turn_sends}
 use Rattle.watch_laws.proofs.Minding.{some_within, tended}
-use Rattle.watch_laws.proofs.Requests.{anew_none, any_gives, later_than, none_passes, one_left, quick_if, some_lane, take_one, whole_after}
+use Rattle.watch_laws.proofs.Requests.{anew_none, any_gives, later_than, none_passes, one_left, quick_if, round_of_lanes, some_lane, take_one, whole_after}
 use Rattle.watch_laws.proofs.Spacing.{looked_out}
 
 -- every request is whole
@@ -112,7 +111,7 @@ clock_passes quick late width n i by due rest old new wall elapsed output wide l
     ] in
     let one = some n i (waits_to_be_asked o new) low (and_from (is_tried new i) (not (is_request_served o new i)) tried (ap not unserved)) in
     let r = one_left width p.r k (omega (arith, less, count)) (omega (arith, one)) in
-    let g = ap (λ x. (quick + late) * x) r.1 ∙ mul-suc (quick + late) r.0 in
+    let g = round_of_lanes (quick + late) p.r r.0 r.1 in
     let soon = soon_next quick late width n i by due' new wide base timely full in
     subst (λ x. Passes quick late width n i by (outage_next_after_command o x new due) k new) (sym h.command)
     (elim (cases_Bool (list_any (λ (q : Out). nat_le q.since p.from) new.out)) as (λ _. Passes quick late width n i by due' k new) [
@@ -136,7 +135,7 @@ clock_passes quick late width n i by due rest old new wall elapsed output wide l
           let test : nat_le (suc p.from) q.since ≡ true = grind (arith, nat_tests) in
           (within j d below, and_from (is_request_whole o q.since) (nat_le (suc p.from) q.since) (all_whole quick late q.since) test)) in
           let q = take_one width p.r (k + how_many (n + width) (is_anew o (suc p.from) new)) k wide (omega (arith, full, anew)) (omega (arith, less, count)) in
-          let e = ap (λ x. (quick + late) * x) q.1.0 ∙ mul-suc (quick + late) q.0 in
+          let e = round_of_lanes (quick + late) p.r q.0 q.1.0 in
           let zero' = anew_none o (suc at) (n + width) new base.since (omega arith) in
           let fits = q.1.1 in
           record {

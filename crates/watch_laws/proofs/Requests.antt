@@ -61,6 +61,10 @@ pub one_left : (w r k : ℕ) → k ≤ w * r → 1 ≤ k → (q : ℕ) × (r ≡
 one_left w zero k fits some = absurd (let z = mul-zero w in omega (arith, z, fits, some))
 one_left w (suc q) k fits some = (q, refl)
 
+-- so long one round more lasts
+pub round_of_lanes : (turn r q : ℕ) → r ≡ suc q → turn * r ≡ turn + turn * q
+round_of_lanes turn r q is = let all = ap (λ x. turn * x) is in let m = mul-suc turn q in omega (arith, all, m)
+
 -- requests by when they went out
 pub whole_after : (o : Outage) (at : ℕ) → o.until ≤ at → is_request_whole o at ≡ true
 unfolding is_request_whole
