@@ -1,12 +1,17 @@
 -- Changing: where entries are after a change, what is written of them, and the requests that are out. For `change`.
 use Rattle.std.proofs.Common.{◌≡◌, ◌∙◌, ℕ, suc, ◌+◌, ◌<◌, ◌≤◌, ◌++◌, Bool, true, false, if◌then◌else◌, List, [], ◌∷◌, Option, Some, None, IfSome, drop, get_or, length, map, option_map, set, take, refl, sym, ap, arith}
 use Rattle.std.proofs.lemmas.Bool.{cond-false, cond-true}
-use Rattle.std.proofs.lemmas.List.{append_assoc, drop_more, get_or_at, length-take, set_at, take_more}
+use Rattle.std.proofs.lemmas.List.{append_assoc, drop_more, get_or_at, length-take, set-get_or, set_at, take_more}
 use Rattle.std.proofs.lemmas.List.Elements.{All-cons, All-head, All-tail}
+use Rattle.std.proofs.lemmas.List.FromFn.{length-map-range_with_len}
 use Rattle.std.specs.List.{All}
+use Rattle.keep_tree.specs.declared.entry.Entry.{Entry}
+use Rattle.keep_tree.specs.Forest.{Forest, entry_at, no_entry}
 use Rattle.watch_machine.specs.declared.change.Was.{Was}
+use Rattle.watch_machine.specs.declared.change.Was.TheVariants.{New, Same, Retold}
 use Rattle.watch_machine.specs.declared.lanes.Out.{Out}
-use Rattle.watch_machine.specs.Change.{former, is_former, moved_out, out_after, place_now}
+use Rattle.watch_machine.specs.declared.track.Track.{Track}
+use Rattle.watch_machine.specs.Change.{entry_by, former, forest_after, is_former, moved_out, out_after, place_now, track_by, tracks_after, was_at}
 
 -- where an entry is, if it is among those from an index on
 further : (k : ℕ) (o : Option ℕ) → option_map (λ j. k + j) (option_map (λ j. suc j) o) ≡ option_map (λ j. (k + 1) + j) o
@@ -34,6 +39,22 @@ out_append was n (x ∷ xs) ys = ap (λ rest. moved_out was n x ∷ rest) (out_a
 pub out_length : (was : List Was) (n : ℕ) (out : List Out) → length (out_after was n out) ≡ length out
 out_length was n [] = refl
 out_length was n (r ∷ rest) = ap (λ k. suc k) (out_length was (suc n) rest)
+
+-- nothing is written of an entry but where the inventory says of it what it said
+pub unwritten : (margin : ℕ) (es gs : List Entry) (i : ℕ) (w : Was) → ((k : ℕ) → w ≡ Same k → ⊥) → gs ≡ set gs i (entry_by margin es (entry_at gs i) w)
+unfolding entry_at
+unwritten margin es gs i New other = sym (set-get_or gs i no_entry)
+unwritten margin es gs i (Same k) other = absurd (other k refl)
+unwritten margin es gs i (Retold k) other = sym (set-get_or gs i no_entry)
+
+-- as many entries and tracks as the other forest has
+pub after_length : (es : List Entry) (g : Forest) (was : List Was) → length (forest_after es g was).entries ≡ length g.entries
+unfolding forest_after
+after_length es g was = length-map-range_with_len (λ j. entry_by g.margin es (entry_at g.entries j) (was_at was j)) 0 (length g.entries)
+
+pub tracks_length : (at : ℕ) (xs : List Track) (g : Forest) (was : List Was) → length (tracks_after at xs g was) ≡ length g.entries
+unfolding tracks_after
+tracks_length at xs g was = length-map-range_with_len (λ j. track_by at xs (entry_at g.entries j) (was_at was j)) 0 (length g.entries)
 
 -- what holds of each whatever its index is holds after a change too, and what else it tells is as before
 module _ (was : List Was) where

@@ -2,7 +2,7 @@
 use Rattle.std.proofs.Common.{◌≡◌, ◌∙◌, ℕ, zero, suc, ◌<◌, ◌≤◌, Bool, true, false, not, ◌&&◌, List, Option, Some, None, length, map, min, nat_lt, option_map, set, refl, sym, ap, subst, arith, inl, inr}
 use Rattle.std.proofs.lemmas.Bool.{cases_Bool, cond-false, cond-true}
 use Rattle.std.proofs.lemmas.Bool.Decides.{nat_tests}
-use Rattle.std.proofs.lemmas.List.{length-set, set-get_or, set-set}
+use Rattle.std.proofs.lemmas.List.{length-set, set-set}
 use Rattle.std.proofs.lemmas.List.FromFn.{fill_by_all}
 use Rattle.keep_tree.specs.declared.entry.Entry.{Entry}
 use Rattle.keep_tree.specs.declared.forest.TheConstants.{END_MAX}
@@ -17,6 +17,8 @@ use Rattle.watch_machine.specs.declared.event.Terms.{Terms}
 use Rattle.watch_machine.specs.Change.{entry_by, forest_after, terms_left, was_at}
 use Rattle.watch_machine.specs.Looked.{by_terms, step_told}
 use Rattle.watch_machine.proofs.Cases.{if_cases}
+use Rattle.watch_machine.proofs.Changing.{unwritten}
+use Rattle.watch_machine.proofs.Tests.{not_true}
 use Rattle.watch_machine.proofs.View.{written_more}
 
 -- ---- an entry by the terms that were told
@@ -28,10 +30,6 @@ told_step margin step (Some told) more = if_cases (λ n. margin < n) (nat_lt mar
 told_ceiling : (o : Option ℕ) → is_too_high (option_map (λ t. min END_MAX t) o) ≡ false
 told_ceiling None = refl
 told_ceiling (Some t) = let l : min END_MAX t ≤ END_MAX = omega arith in grind (arith, nat_tests)
-
-not_so : (b : Bool) → not b ≡ true → b ≡ false
-not_so true h = absurd cc
-not_so false h = refl
 
 pub told_is_forest : (g : Forest) (i : ℕ) (terms : Terms) → IsForest g → i < length g.entries → IsForest (record g { entries = set g.entries i (by_terms g.margin terms (entry_at g.entries i)) })
 unfolding by_terms
@@ -48,7 +46,7 @@ told_is_forest g i terms forest within =
       | inl orphan ↦
           let alone : Entry = record old { parent = None } in
           let es = set g.entries i alone in
-          let token : is_lease old.kind ≡ false = not_so (is_lease old.kind) (and_right terms.orphan (not (is_lease old.kind)) orphan) in
+          let token : is_lease old.kind ≡ false = not_true (is_lease old.kind) (and_right terms.orphan (not (is_lease old.kind)) orphan) in
           let there = entry_at_set_same g.entries i alone within in
           let count = length-set g.entries i alone in
           let fits : Replaces (record { entries = es; margin = g.margin }) i e = record {
@@ -75,10 +73,9 @@ told_is_forest g i terms forest within =
 -- ---- all entries of a change
 
 by_was : (g : Forest) (es : List Entry) (i : ℕ) (w : Was) → IsForest g → i < length g.entries → IsForest (record g { entries = set g.entries i (entry_by g.margin es (entry_at g.entries i) w) })
-unfolding entry_at
-by_was g es i New forest within = subst (λ xs. IsForest (record g { entries = xs })) (sym (set-get_or g.entries i no_entry)) forest
+by_was g es i New forest within = subst (λ xs. IsForest (record g { entries = xs })) (unwritten g.margin es g.entries i New (λ k e. cc)) forest
 by_was g es i (Same k) forest within = told_is_forest g i (terms_left (entry_at es k)) forest within
-by_was g es i (Retold k) forest within = subst (λ xs. IsForest (record g { entries = xs })) (sym (set-get_or g.entries i no_entry)) forest
+by_was g es i (Retold m) forest within = subst (λ xs. IsForest (record g { entries = xs })) (unwritten g.margin es g.entries i (Retold m) (λ k e. cc)) forest
 
 -- entries of which those before k are written
 record WrittenTo (es : List Entry) (g : Forest) (was : List Was) (k : ℕ) : Type 0 where

@@ -1,5 +1,5 @@
 -- Nobody: an answer to a request whose entry is no more makes nothing of any entry, and nothing is noted of it. For `looked` and `renewed`.
-use Rattle.std.proofs.Common.{◌≡◌, ◌∙◌, ℕ, ◌≤◌, Bool, true, false, not, ◌&&◌, if◌then◌else◌, Option, Some, None, is_some, length, nat_lt, ap, refl, arith}
+use Rattle.std.proofs.Common.{◌≡◌, ◌∙◌, ℕ, ◌≤◌, Bool, true, false, not, ◌&&◌, Option, Some, None, if◌then◌else◌, is_some, length, nat_lt, ap, arith, refl, subst}
 use Rattle.std.proofs.lemmas.Bool.Decides.{nat_tests}
 use Rattle.std.proofs.lemmas.List.{get_or_past, set_past}
 use Rattle.keep_tree.specs.declared.entry.Entry.{Entry}
@@ -16,11 +16,16 @@ use Rattle.watch_machine.specs.Renewed.{granted_from, renewed_track, state_renew
 use Rattle.watch_machine.specs.State.{WatchState, entry_of, no_track, track_at}
 use Rattle.watch_machine.specs.Step.{is_watched, notes_of, nothing_noted}
 use Rattle.watch_machine.specs.Wanted.{is_never}
+use Rattle.watch_machine.proofs.Tests.{and_no}
 
 -- an index past the last entry, and past the last track
 pub record IsPastAll (s : WatchState) (i : ℕ) : Type 0 where
   pub entries : length s.forest.entries ≤ i
   pub tracks : length s.tracks ≤ i
+
+-- an index past the last entry is one past the last track where there is a track for each entry
+pub past_all : (s now : WatchState) (i : ℕ) → s ≡ now → length s.tracks ≡ length s.forest.entries → length s.forest.entries ≤ i → IsPastAll now i
+past_all s now i is count past = subst (λ (t : WatchState). IsPastAll t i) is (record { entries = past; tracks = omega (arith, count, past) })
 
 track_past : (s : WatchState) (i : ℕ) (x : Track) → length s.tracks ≤ i → with_track s i x ≡ s
 track_past s i x past = ap (λ xs. record s { tracks = xs }) (set_past s.tracks i x past)
@@ -40,26 +45,16 @@ looked_past s r Lost terms past = track_past s r.entry _ past.tracks
 watched_not : (s : WatchState) (i : ℕ) → length s.forest.entries ≤ i → is_watched s i ≡ false
 watched_not s i past = grind (arith, nat_tests)
 
-and_no : (b : Bool) → b && false ≡ false
-and_no true = refl
-and_no false = refl
-
 orphan_past : (s : WatchState) (i : ℕ) (terms : Terms) → length s.forest.entries ≤ i → is_orphaned terms (entry_of s i) ≡ false
-orphan_past s i terms past = ap (λ (e : Entry). terms.orphan && (not (is_lease e.kind) && is_some e.parent)) (entry_at_past s.forest.entries i past) ∙ and_no terms.orphan
+orphan_past s i terms past = ap (λ (e : Entry). terms.orphan && (not (is_lease e.kind) && is_some e.parent)) (entry_at_past s.forest.entries i past) ∙ and_no terms.orphan false refl
 
 pub notes_past : (s : WatchState) (r : Out) (reply : Reply) (terms : Terms) → length s.forest.entries ≤ r.entry → notes_of s r reply terms ≡ nothing_noted
 notes_past s r (Told seconds renewable date) terms past =
     ap (λ b. record nothing_noted { orphan = b; endless = is_watched s r.entry && (terms.endless && not (is_never (track_at s r.entry).end)) }) (orphan_past s r.entry terms past)
     ∙ ap (λ b. record nothing_noted { endless = b && (terms.endless && not (is_never (track_at s r.entry).end)) }) (watched_not s r.entry past)
-notes_past s r (Refused status date) terms past = ap (λ b. record nothing_noted { gone = cond_of b status }) (watched_not s r.entry past) where
-  cond_of : Bool → ℕ → Option ℕ
-  cond_of b status = if b then Some status else None
-notes_past s r Busy terms past = ap (λ b. record nothing_noted { gone = none_of b }) (watched_not s r.entry past) where
-  none_of : Bool → Option ℕ
-  none_of b = if b then None else None
-notes_past s r Lost terms past = ap (λ b. record nothing_noted { gone = none_of b }) (watched_not s r.entry past) where
-  none_of : Bool → Option ℕ
-  none_of b = if b then None else None
+notes_past s r (Refused status date) terms past = ap (λ b. record nothing_noted { gone = if b then Some status else None }) (watched_not s r.entry past)
+notes_past s r Busy terms past = ap (λ b. record nothing_noted { gone = if b then None else None }) (watched_not s r.entry past)
+notes_past s r Lost terms past = ap (λ b. record nothing_noted { gone = if b then None else None }) (watched_not s r.entry past)
 
 -- and of a renewal
 pub renewed_past : (s : WatchState) (r : Out) (reply : Reply) → length s.tracks ≤ r.entry → state_renewed s r reply ≡ s

@@ -48,13 +48,21 @@ fn is_former(entry: u32, former: Option<u32>) -> bool
     }
 }
 
+/// What is said of an entry.
+fn was_at(was: &[Was], index: u32) -> Was
+    requires { index < length was.now }
+    ensures { result ≡ was_at was.now index }
+{
+    was[index as usize]
+}
+
 /// Where an entry is among `count` entries that was at that index before, `None` where it is no more.
 fn place_now(was: &[Was], count: u32, entry: u32) -> Option<u32>
     requires { count ≡ length was.now }
     ensures { result ≡ place_now was.now entry }
 {
     for index in 0..count {
-        if is_former(entry, former(was[index as usize])) {
+        if is_former(entry, former(was_at(was, index))) {
             return Some(index);
         }
     }
@@ -90,7 +98,7 @@ fn keep_all_terms(forest: &mut Forest, before: &Forest, was: &[Was])
     ensures { forest.new ≡ forest_after before.now.entries forest.old was.now }
 {
     for index in 0..forest.len() {
-        keep_terms(forest, before, index, was[index as usize]);
+        keep_terms(forest, before, index, was_at(was, index));
     }
 }
 
@@ -125,7 +133,7 @@ fn tracks_after(
     let mut after = Vec::new(alloc);
     for index in 0..forest.len() {
         let entry = forest.get(index);
-        after.push(track_by(entry, was[index as usize], tracks, at))?;
+        after.push(track_by(entry, was_at(was, index), tracks, at))?;
     }
     Ok(after)
 }

@@ -1,6 +1,6 @@
 -- The entry stands where the first is that was there.
 use Rattle.std.proofs.Common.{◌≡◌, ◌∙◌, ◌+◌, ◌<◌, false, true, ap, arith, drop, get_or, length, option_map, sym}
-use Rattle.std.proofs.lemmas.List.{drop_all, drop_more, get_or_default}
+use Rattle.std.proofs.lemmas.List.{drop_all, drop_more}
 use Rattle.watch_machine.specs.declared.change.Was.TheVariants.{New}
 use Rattle.watch_machine.specs.Change.{former, is_former, place_now}
 use Rattle.watch_machine.proofs.Changing.{place_all, place_further, place_here}
@@ -16,7 +16,7 @@ loop-index-preserved c =
     let k = c.loop-index.index in
     let within : k < length was = omega (arith, c.requires) in
     let other : is_former i (former (get_or was k New)) ≡ false =
-    sym (c.is_former.ensures ∙ ap (is_former i) (c.former.ensures ∙ ap former (get_or_default was k _ New within))) ∙ c.if-is_former.false in
+    sym (c.is_former.ensures ∙ ap (is_former i) (c.former.ensures ∙ ap former c.was_at.ensures)) ∙ c.if-is_former.false in
     c.loop-index.invariant ∙ ap (λ ws. option_map (λ j. k + j) (place_now ws i)) (drop_more was k New within) ∙ place_further k (get_or was k New) (drop (k + 1) was) i other
 
 pub returns-then-is_former : goal.returns-then-is_former
@@ -26,7 +26,7 @@ returns-then-is_former c =
     let k = c.loop-index.index in
     let within : k < length was = omega (arith, c.requires) in
     let here : is_former i (former (get_or was k New)) ≡ true =
-    sym (c.is_former.ensures ∙ ap (is_former i) (c.former.ensures ∙ ap former (get_or_default was k _ New within))) ∙ c.if-is_former.true in
+    sym (c.is_former.ensures ∙ ap (is_former i) (c.former.ensures ∙ ap former c.was_at.ensures)) ∙ c.if-is_former.true in
     sym (c.loop-index.invariant ∙ ap (λ ws. option_map (λ j. k + j) (place_now ws i)) (drop_more was k New within) ∙ place_here k (get_or was k New) (drop (k + 1) was) i here)
 
 pub returns : goal.returns

@@ -1,13 +1,11 @@
 -- Each track is made after those before it.
-use Rattle.std.proofs.Common.{◌≡◌, ◌∙◌, ◌<◌, ◌++◌, ◌∷◌, [], ℕ, IfSome, ap, arith, get_or, length, map, subst, sym}
-use Rattle.std.proofs.lemmas.List.{get_or_default}
+use Rattle.std.proofs.Common.{◌≡◌, ◌∙◌, ◌<◌, ◌++◌, ◌∷◌, [], ℕ, IfSome, ap, arith, length, map, subst, sym}
 use Rattle.std.proofs.lemmas.List.Elements.{All-push}
 use Rattle.std.proofs.lemmas.List.FromFn.{map-range_with_len_more}
 use Rattle.std.specs.List.{All, range_with_len}
 use Rattle.keep_tree.specs.declared.entry.Entry.{Entry}
 use Rattle.keep_tree.specs.Forest.{entry_at}
 use Rattle.watch_machine.specs.declared.change.Was.{Was}
-use Rattle.watch_machine.specs.declared.change.Was.TheVariants.{New}
 use Rattle.watch_machine.specs.declared.track.Track.{Track}
 use Rattle.watch_machine.specs.Change.{former, former_at, track_by, tracks_after, was_at}
 use Rattle.watch_machine.specs.code.Bounds.{IsTrack}
@@ -19,8 +17,7 @@ track_by-requires-clause-within c =
     let was = c.args.was.now in
     let n = length c.args.tracks.now in
     let i = c.loop-index.index in
-    let within : i < length was = omega (arith, c.len-index-end.ensures.value, c.requires.change.count) in
-    subst (λ (w : Was). IfSome (former w) (λ k. k < n)) (sym (get_or_default was i _ New within)) (within_some n (former_at was i) (λ k is. c.requires.change.within k i is))
+    subst (λ (w : Was). IfSome (former w) (λ k. k < n)) (sym c.was_at.ensures) (within_some n (former_at was i) (λ k is. c.requires.change.within k i is))
 
 pub loop-index-preserved : goal.loop-index-preserved
 loop-index-preserved c =
@@ -29,10 +26,9 @@ loop-index-preserved c =
     let xs = c.args.tracks.now in
     let at = c.args.at in
     let i = c.loop-index.index in
-    let within : i < length was = omega (arith, c.len-index-end.ensures.value, c.requires.change.count) in
     let f : ℕ → Track = λ j. track_by at xs (entry_at es j) (was_at was j) in
     let made : c.track_by.result ≡ f i =
-    c.track_by.ensures.value ∙ ap (λ (e : Entry). track_by at xs e (get_or was i _)) c.get-entry.ensures.value ∙ ap (track_by at xs (entry_at es i)) (get_or_default was i _ New within) in
+    c.track_by.ensures.value ∙ ap (λ (e : Entry). track_by at xs e c.was_at.result) c.get-entry.ensures.value ∙ ap (track_by at xs (entry_at es i)) c.was_at.ensures in
     record {
       is =
           c.in_ok-push.ensures.items ∙ ap (λ ys. ys ++ c.track_by.result ∷ []) c.loop-index.invariant.is ∙ ap (λ y. map f (range_with_len 0 i) ++ y ∷ []) made
