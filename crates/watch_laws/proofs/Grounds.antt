@@ -53,7 +53,7 @@ pub record IsBase (width n : ℕ) (s : WatchState) : Type 0 where
 pub tracked : (width n : ℕ) (s : WatchState) (j : ℕ) → IsBase width n s → j < n → j < length s.tracks
 tracked width n s j base low = let count = base.count in omega (arith, count, low)
 
-abbrev Bounds : ℕ → WatchState → Type 0
+abbrev pub Bounds : ℕ → WatchState → Type 0
 Bounds n s = All (λ (q : Out). q.entry < n) s.out × All (λ (q : Out). q.since ≤ s.clocks.at) s.out
 
 since_later : (a b : ℕ) (out : List Out) → a ≤ b → All (λ (q : Out). q.since ≤ a) out → All (λ (q : Out). q.since ≤ b) out
@@ -100,7 +100,7 @@ step_bounds n old new (Need j until) output step count past b = subst (Bounds n)
 step_bounds n old new Begin output step count past b = subst (Bounds n) (sym step.1) b
 step_bounds n old new (Known j end renewable) output step count past b = subst (Bounds n) (sym step.1) b
 
-turn_bounds : (n : ℕ) (old new : WatchState) (event : Event) (result : Result Output WatchFault) → Turn old event result new → length old.tracks ≤ n → IsPast old → Bounds n old → Bounds n new
+pub turn_bounds : (n : ℕ) (old new : WatchState) (event : Event) (result : Result Output WatchFault) → Turn old event result new → length old.tracks ≤ n → IsPast old → Bounds n old → Bounds n new
 turn_bounds n old new event (Ok output) turn count past b = step_bounds n old new event output turn.1 count past b
 turn_bounds n old new event (Err fault) turn count past b = subst (Bounds n) (sym (refused_stays old new event fault turn)) b
 

@@ -1,19 +1,29 @@
 -- Starting: from a clock on at which an entry is at work, it is answered within few rounds. For the law of a start.
-use Rattle.std.proofs.Common.{◌≡◌, ◌∙◌, ℕ, suc, ◌+◌, ◌*◌, ◌≤◌, Bool, true, false, not, ◌&&◌, All, get_or, is_some, length, refl, ap, subst, arith, inl, inr, filter, nat_le}
+use Rattle.std.proofs.Common.{◌≡◌, ◌<◌, ◌∷◌, ◌∙◌, ℕ, suc, ◌+◌, ◌*◌, ◌≤◌, Bool, true, false, not, ◌&&◌, All, get_or, is_some, length, refl, ap, subst, arith, inl, inr, filter, nat_le, List, [], cond, Result}
 use Rattle.std.proofs.Math.Nat.{mul-suc}
 use Rattle.std.proofs.lemmas.Bool.{cases_Bool}
+use Rattle.std.proofs.lemmas.Bool.Decides.{nat_tests}
+use Rattle.std.proofs.lemmas.List.Elements.{All-head, All-nil, All-tail}
 use Rattle.watch_machine.specs.declared.lanes.Out.{Out}
-use Rattle.watch_machine.specs.State.{WatchState}
+use Rattle.watch_machine.specs.declared.command.Output.{Output}
+use Rattle.watch_machine.specs.declared.event.Event.{Event}
+use Rattle.watch_machine.specs.declared.fault.WatchFault.{WatchFault}
+use Rattle.watch_machine.specs.History.{Turn, after_all}
+use Rattle.watch_machine.specs.State.{WatchState, opened}
 use Rattle.watch_machine.specs.Wait.{wait}
 use Rattle.watch_laws.specs.Outage.{Outage, coming, how_many, is_request_served, is_request_whole, is_tried, one_where, outage_next_by, outage_settled_by, waiting, waits_to_be_asked}
 use Rattle.watch_laws.specs.Recovery.{without_outage}
-use Rattle.watch_laws.specs.Starts.{AllSoon, AreWorked, StartLaw, all_asked, of_nobody}
+use Rattle.watch_laws.specs.Starts.{AllSoon, AreWorked, NobodyLaw, StartLaw, all_asked, of_nobody}
 use Rattle.watch_laws.proofs.Bases.{last_base}
 use Rattle.watch_laws.proofs.Counting.{lanes_apart, lanes_past, least_all, more, none, some, sums}
-use Rattle.watch_laws.proofs.Grounds.{IsBase, starts, tracked}
+use Rattle.watch_laws.proofs.Grounds.{Bounds, IsBase, opened_base, starts, tracked, turn_bounds}
 use Rattle.watch_laws.proofs.Lanes.{anew_served, is_anew, served_tried}
+use Rattle.watch_laws.proofs.Reached.{ran_keeps}
 use Rattle.watch_laws.proofs.Recovering.{Timely, all_whole, full_lanes, soon_next}
 use Rattle.watch_laws.proofs.Requests.{anew_none, one_left, take_one}
+use Rattle.watch_laws.proofs.Retrying.{IsPast, turn_past}
+use Rattle.watch_laws.proofs.Shapes.{ran_shape}
+use Rattle.watch_laws.proofs.Topping.{turn_count}
 use Rattle.watch_laws.proofs.Working.{Stage, along, served_now, soon_after}
 
 -- whoever waits or is being asked has something to be asked
@@ -110,3 +120,29 @@ starts_soon quick late rounds old last turns i reached wide history clock taken'
     ] in
     subst (λ b. AllSoon i (quick + late) b turns) (let e : by + (quick + late) ≡ at + (quick + late) * rounds = omega (arith, g') in e)
     (along quick late width n i wide low turns by due s history.1 (subst (λ d. AreWorked o i d s turns) start.due working) stage base)
+
+-- a turn leaves none out of an index at which there is no entry, where none was
+abbrev OfEntries : ℕ → WatchState → Type 0
+OfEntries n s = (length s.tracks ≡ n) × (IsPast s × Bounds n s)
+
+turn_entries : (n : ℕ) (old new : WatchState) (event : Event) (result : Result Output WatchFault) → Turn old event result new → OfEntries n old → OfEntries n new
+turn_entries n old new event result turn h =
+    let count = h.0 in
+    (turn_count old new event result turn ∙ h.0, (turn_past old new event result turn h.1.0, turn_bounds n old new event result turn (omega (arith, count)) h.1.0 h.1.1))
+
+none_past : (n : ℕ) (out : List Out) → All (λ (q : Out). q.entry < n) out → length (filter (λ (q : Out). nat_le n q.entry) out) ≡ 0
+none_past n [] all = refl
+none_past n (q ∷ out) all =
+    let low = All-head (λ (r : Out). r.entry < n) q out all in
+    let rest = filter (λ (r : Out). nat_le n r.entry) out in
+    let test : nat_le n q.entry ≡ false = grind (arith, nat_tests) in
+    ap (λ b. length (cond b (q ∷ rest) rest)) test ∙ none_past n out (All-tail (λ (r : Out). r.entry < n) q out all)
+
+pub nobody_out : NobodyLaw
+nobody_out g width turns run =
+    let n = length g.entries in
+    let base = opened_base g width in
+    let last = after_all (opened g width) turns in
+    let all = ran_keeps (OfEntries n) (turn_entries n) turns (opened g width) run (base.count, (base.past, (All-nil (λ (q : Out). q.entry < n), All-nil (λ (q : Out). q.since ≤ 0)))) in
+    let entries = (ran_shape turns (opened g width) run).0 in
+    ap (λ m. length (filter (λ (q : Out). nat_le m q.entry) last.out)) entries ∙ none_past n last.out all.1.1.0

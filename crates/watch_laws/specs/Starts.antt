@@ -3,6 +3,7 @@
 -- Source: this project's own.
 use Rattle.std.specs.Prelude.{◌≡◌, ◌⊎◌, ◌==◌, ℕ, ◌+◌, ◌*◌, ◌<◌, ◌≤◌, Bool, true, false, ◌&&◌, if◌then◌else◌, List, [], ◌∷◌, Option, Some, None, Result, Ok, Err, IfSome, filter, length, nat_le}
 use Rattle.std.specs.List.{All}
+use Rattle.keep_tree.specs.Forest.{Forest}
 use Rattle.watch_machine.specs.declared.command.Output.{Output}
 use Rattle.watch_machine.specs.declared.event.Event.{Event}
 use Rattle.watch_machine.specs.declared.event.Event.TheVariants.{Clock, Looked, Renewed, Need, Begin, Known}
@@ -10,11 +11,11 @@ use Rattle.watch_machine.specs.declared.event.Operation.TheVariants.{Look, Renew
 use Rattle.watch_machine.specs.declared.fault.WatchFault.{WatchFault}
 use Rattle.watch_machine.specs.declared.lanes.Out.{Out}
 use Rattle.watch_machine.specs.declared.track.Try.{Try}
-use Rattle.watch_machine.specs.History.{History, IsReached, Turned}
+use Rattle.watch_machine.specs.History.{History, IsReached, IsWatchRun, Turned, after_all}
 use Rattle.watch_machine.specs.Lines.{is_first}
 use Rattle.watch_machine.specs.Refusal.{request_out}
 use Rattle.watch_machine.specs.Settling.{timed}
-use Rattle.watch_machine.specs.State.{WatchState, attempt_at, second, track_at}
+use Rattle.watch_machine.specs.State.{WatchState, attempt_at, opened, second, track_at}
 use Rattle.watch_machine.specs.Wanted.{is_alive, is_wanted}
 use Rattle.watch_laws.specs.Absence.{is_clock, is_event_taken}
 use Rattle.watch_laws.specs.Load.{requests_at_turn}
@@ -80,6 +81,10 @@ StartLaw =
     AreWorked (without_outage quick late) i (outage_next_after (without_outage quick late) last.result last.state 0) last.state turns →
     all_asked (without_outage quick late) last.state turns ≤ old.width * rounds →
     AllSoon i (quick + late) (last.state.clocks.at + (quick + late) * rounds) turns
+
+-- until what is watched changes, no request is out whose entry is no more
+abbrev pub NobodyLaw : Type 0
+NobodyLaw = (g : Forest) (width : ℕ) (turns : List Turned) → IsWatchRun g width turns → of_nobody (after_all (opened g width) turns) ≡ 0
 
 -- a try that is pressed and has not failed
 abbrev pub is_first_try : Option Try → Bool
