@@ -1,5 +1,5 @@
 -- Nobody: an answer to a request whose entry is no more makes nothing of any entry, and nothing is noted of it. For `looked` and `renewed`.
-use Rattle.std.proofs.Common.{◌≡◌, ◌∙◌, ℕ, ◌≤◌, Bool, true, false, not, ◌&&◌, Option, Some, None, if◌then◌else◌, is_some, length, nat_lt, ap, arith, refl, subst}
+use Rattle.std.proofs.Common.{◌≡◌, ◌∙◌, ℕ, ◌≤◌, false, not, ◌&&◌, Some, None, if◌then◌else◌, is_some, length, ap, arith, refl, subst}
 use Rattle.std.proofs.lemmas.Bool.Decides.{nat_tests}
 use Rattle.std.proofs.lemmas.List.{get_or_past, set_past}
 use Rattle.keep_tree.specs.declared.entry.Entry.{Entry}

@@ -1,5 +1,5 @@
 -- Each request is moved after those before it, and in the end all are.
-use Rattle.std.proofs.Common.{◌≡◌, ◌∙◌, ◌<◌, ◌++◌, ap, arith, drop, length, refl}
+use Rattle.std.proofs.Common.{◌∙◌, ◌<◌, ◌++◌, ap, arith, drop, length}
 use Rattle.std.proofs.lemmas.List.{append-nil, drop_all, get_or_default, take_all}
 use Rattle.std.proofs.lemmas.List.Elements.{All-set}
 use Rattle.watch_machine.specs.Change.{out_after}

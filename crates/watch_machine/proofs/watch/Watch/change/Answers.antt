@@ -1,11 +1,11 @@
 -- The forest is another, each track is made by where its entry was, the requests go on, and what was known of a lull and of a line is no
 -- more.
-use Rattle.std.proofs.Common.{◌≡◌, ◌∙◌, ◌+◌, ◌≤◌, List, ap, arith, false, length, refl, subst, sym, true}
+use Rattle.std.proofs.Common.{◌≡◌, ◌∙◌, List, ap, arith, false, length, refl, subst, sym, true}
 use Rattle.std.specs.List.{All}
 use Rattle.keep_tree.specs.Forest.{Forest}
 use Rattle.watch_machine.specs.declared.lanes.Out.{Out}
 use Rattle.watch_machine.specs.declared.track.Track.{Track}
-use Rattle.watch_machine.specs.Change.{changed, forest_after, out_after, tracks_after}
+use Rattle.watch_machine.specs.Change.{changed, out_after, tracks_after}
 use Rattle.watch_machine.specs.State.{WatchState}
 use Rattle.watch_machine.specs.code.Bounds.{WentOutAtReading}
 use Rattle.watch_machine.specs.code.View.{IsView}

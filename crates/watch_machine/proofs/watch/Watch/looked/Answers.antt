@@ -1,5 +1,5 @@
 -- Nothing is made of the answer to a request whose entry is no more, and nothing is noted of it.
-use Rattle.std.proofs.Common.{◌≡◌, ◌∙◌, ◌≤◌, arith, length, sym}
+use Rattle.std.proofs.Common.{◌∙◌, ◌≤◌, arith, length, sym}
 use Rattle.watch_machine.proofs.Nobody.{looked_past, notes_past, past_all}
 use Rattle.watch_machine.proofs.watch.Watch.looked.Goals as goal
 

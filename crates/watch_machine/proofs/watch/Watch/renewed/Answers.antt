@@ -1,5 +1,5 @@
 -- The answer to a request whose entry is no more has no top.
-use Rattle.std.proofs.Common.{◌≡◌, ◌≤◌, arith, length, sym}
+use Rattle.std.proofs.Common.{◌≤◌, arith, length, sym}
 use Rattle.watch_machine.proofs.Nobody.{past_all, top_past}
 use Rattle.watch_machine.proofs.watch.Watch.renewed.Goals as goal
 
