@@ -1,9 +1,7 @@
 -- Changing: another forest that is watched costs no entry anything that is known of it. For the law of a change.
-use Rattle.std.proofs.Common.{◌≡◌, ◌≢◌, ◌∙◌, ◌&&◌, ℕ, suc, ◌<◌, ◌≤◌, true, false, cond, not, is_none, if◌then◌else◌, List, [], ◌∷◌, Option, Some, None, Result, Ok, Err, IfSome, length, min, nat_lt, option_map, refl, sym, ap, subst, arith}
+use Rattle.std.proofs.Common.{◌≡◌, ◌∙◌, ◌&&◌, ℕ, suc, ◌<◌, ◌≤◌, true, false, cond, if◌then◌else◌, List, [], ◌∷◌, Option, Some, None, Result, Ok, Err, IfSome, length, min, not, is_none, nat_lt, option_map, refl, sym, ap, subst, arith}
 use Rattle.std.proofs.lemmas.Bool.{cond-true, eqb-true}
 use Rattle.std.proofs.lemmas.Bool.Decides.{nat_tests}
-use Rattle.std.specs.List.{All}
-use Rattle.std.proofs.lemmas.List.Elements.{All-cons, All-head, All-nil, All-tail}
 use Rattle.keep_tree.specs.declared.entry.Entry.{Entry}
 use Rattle.keep_tree.specs.declared.forest.TheConstants.{END_MAX}
 use Rattle.keep_tree.specs.Forest.{entry_at}
@@ -24,7 +22,7 @@ use Rattle.watch_machine.specs.declared.track.Track.{Track}
 use Rattle.watch_machine.specs.declared.track.Try.{Try}
 use Rattle.watch_machine.specs.Answers.{answers_all, lane_freed, link, noted, replied, silent}
 use Rattle.watch_machine.specs.Beginning.{owing_lookup, soon, sooner_try, untopped_track}
-use Rattle.watch_machine.specs.Change.{entry_by, former, former_at, index_or, moved_out, out_after, place_now, terms_left, track_by, was_at}
+use Rattle.watch_machine.specs.Change.{entry_by, former, former_at, index_or, out_after, place_now, terms_left, track_by, was_at}
 use Rattle.watch_machine.specs.History.{Changed, IsChanged, Turn}
 use Rattle.watch_machine.specs.Looked.{by_terms, looked}
 use Rattle.watch_machine.specs.Refusal.{request_out}
@@ -33,13 +31,13 @@ use Rattle.watch_machine.specs.Settling.{is_real}
 use Rattle.watch_machine.specs.State.{WatchState, entry_of, fresh_track, track_at}
 use Rattle.watch_machine.specs.Step.{StepLooked, StepRenewed, nothing_noted, notes_top, with_link}
 use Rattle.watch_machine.proofs.Cases.{if_both, if_cases}
-use Rattle.watch_machine.proofs.Moved.{apart_moved, changed_entry, changed_track, place_there, request_moved, said_within}
+use Rattle.watch_machine.proofs.Moved.{changed_entry, changed_track, place_there, request_moved, said_within}
 use Rattle.watch_machine.proofs.Nobody.{looked_past, notes_past, renewed_past, top_past}
 use Rattle.watch_machine.proofs.View.{ceiling_low}
 use Rattle.watch_machine.proofs.Within.{out_entry}
 use Rattle.watch_laws.specs.Absence.{is_event_taken}
 use Rattle.watch_laws.specs.Backs.{replies_to}
-use Rattle.watch_laws.specs.Changes.{AreMoved, AreUnderOthers, ChangeLaw, IsIndexNow, IsOfNobody, IsSoonerThan, IsWatchedAnew, KeepsAll, KeepsButTop, KeepsRequest, KeepsTerms, NothingElse}
+use Rattle.watch_laws.specs.Changes.{AreMoved, IsIndexNow, IsOfNobody, IsSoonerThan, IsWatchedAnew, KeepsAll, KeepsButTop, KeepsRequest, KeepsTerms, NothingElse}
 use Rattle.watch_laws.proofs.Tracking.{replied_forest}
 
 -- ---- an entry that owes a lookup at once
@@ -174,20 +172,6 @@ module _ (old : WatchState) (c : Changed) (h : IsChanged old c) where
   pub are_moved : AreMoved c old.out c.state.out
   are_moved = subst (AreMoved c old.out) (sym (ap (λ (s : WatchState). s.out) h.state)) (all_moved (length c.forest.entries) old.out (omega arith))
 
-  others : (m k d : ℕ) (out : List Out) → length c.forest.entries ≤ m → m < k → All (λ (q : Out). q.entry ≢ d) out → All (λ (q : Out). q.entry ≢ index_or m (place_now c.was d)) (out_after c.was k out)
-  others m k d [] le less all = All-nil (λ (q : Out). q.entry ≢ index_or m (place_now c.was d))
-  others m k d (r ∷ rest) le less all =
-      All-cons (λ (q : Out). q.entry ≢ index_or m (place_now c.was d)) (moved_out c.was k r) (out_after c.was (suc k) rest)
-      (apart_moved m k (length c.forest.entries) c.was d r.entry low le less (All-head (λ (q : Out). q.entry ≢ d) r rest all))
-      (others m (suc k) d rest le (omega (arith, less)) (All-tail (λ (q : Out). q.entry ≢ d) r rest all))
-
-  all_apart : (m : ℕ) (out : List Out) → length c.forest.entries ≤ m → AreUnderOthers out → AreUnderOthers (out_after c.was m out)
-  all_apart m [] le apart = tt
-  all_apart m (r ∷ rest) le apart = (others m (suc m) r.entry rest le (omega arith) apart.0, all_apart (suc m) rest (omega (arith, le)) apart.1)
-
-  pub are_under_others : AreUnderOthers old.out → AreUnderOthers c.state.out
-  are_under_others apart = subst AreUnderOthers (sym (ap (λ (s : WatchState). s.out) h.state)) (all_apart (length c.forest.entries) old.out (omega arith) apart)
-
   pub nothing_else : NothingElse old c.state
   nothing_else = subst (NothingElse old) (sym h.state) (record { width = refl; answers = refl; clocks = refl; presence = refl; begun = refl; asked = refl; stepped = refl })
 
@@ -237,7 +221,7 @@ renewed_nobody old new j (Some r) reply output found step count past =
       notes = notes_of_nobody output.notes l (ap (λ (o : Output). o.notes) step.0 ∙ ap (λ (e : Option ℕ). with_link (notes_top e) l) (top_past s r reply past'));
     }
 
-nobody :
+pub nobody :
     (old new : WatchState) (event : Event) (result : Result Output WatchFault) (i : ℕ) → Turn old event result new → length old.tracks ≡ length old.forest.entries →
     length old.forest.entries ≤ i → is_event_taken result && replies_to i event ≡ true → IsOfNobody old (record { event = event; result = result; state = new })
 nobody old new (Looked j reply terms) (Ok output) i turn count past is =
@@ -251,16 +235,3 @@ nobody old new (Need j until) (Ok output) i turn count past is = absurd cc
 nobody old new Begin (Ok output) i turn count past is = absurd cc
 nobody old new (Known j end renewable) (Ok output) i turn count past is = absurd cc
 nobody old new event (Err fault) i turn count past is = absurd cc
-
--- ---- the law
-
-pub change_so : ChangeLaw
-change_so = record {
-  same = λ old c i j forest h said. keeps_all old c h i j forest said;
-  retold = λ old c i j h said. (keeps_but_top old c h i j said, keeps_request old c h i j said);
-  anew = λ old c j h within said. watched_anew old c h j within said;
-  requests = λ old c h. are_moved old c h;
-  apart = λ old c h apart. are_under_others old c h apart;
-  rest = λ old c h. nothing_else old c h;
-  nobody = λ old turn i h count past is. nobody old turn.state turn.event turn.result i h.0 count past is;
-}

@@ -17,7 +17,7 @@ use Rattle.watch_machine.specs.declared.track.End.TheVariants.{Unknown}
 use Rattle.watch_machine.specs.declared.track.Track.{Track}
 use Rattle.watch_machine.specs.declared.track.Try.{Try}
 use Rattle.watch_machine.specs.Change.{place_now, was_at}
-use Rattle.watch_machine.specs.History.{Changed, History, IsChanged, Turned}
+use Rattle.watch_machine.specs.History.{Changed, History, IsChanged, IsReached, Turned}
 use Rattle.watch_machine.specs.Refusal.{request_out}
 use Rattle.watch_machine.specs.State.{WatchState, entry_of, track_at}
 use Rattle.watch_machine.specs.Step.{nothing_noted}
@@ -145,8 +145,7 @@ pub record ChangeLaw : Type 0 where
       KeepsButTop old.clocks.at (track_at old i) (track_at c.state j) × KeepsRequest old c.state i j
   pub anew : (old : WatchState) (c : Changed) (j : ℕ) → IsChanged old c → j < length c.forest.entries → was_at c.was j ≡ New → IsWatchedAnew old.clocks.at (entry_at c.forest.entries j) (track_at c.state j)
   pub requests : (old : WatchState) (c : Changed) → IsChanged old c → AreMoved c old.out c.state.out
-  pub apart : (old : WatchState) (c : Changed) → IsChanged old c → AreUnderOthers old.out → AreUnderOthers c.state.out
+  pub apart : (s : WatchState) → IsReached s → AreUnderOthers s.out
   pub rest : (old : WatchState) (c : Changed) → IsChanged old c → NothingElse old c.state
   pub nobody :
-      (old : WatchState) (turn : Turned) (i : ℕ) → History old (turn ∷ []) → length old.tracks ≡ length old.forest.entries → length old.forest.entries ≤ i →
-      is_reply_to i turn ≡ true → IsOfNobody old turn
+      (old : WatchState) (turn : Turned) (i : ℕ) → IsReached old → History old (turn ∷ []) → length old.forest.entries ≤ i → is_reply_to i turn ≡ true → IsOfNobody old turn

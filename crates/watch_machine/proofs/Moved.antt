@@ -116,17 +116,6 @@ request_moved n many was i j operation (r ∷ rest) le low said there =
           ∙ sym (ap (option_map (λ (q : Out). record q { entry = j })) (cond-false (test r) (Some r) (find test rest) no'))
     ]
 
--- two that were of others stay so; and one whose entry is no more has an index of its own
-pub apart_moved :
-    (n m many : ℕ) (was : List Was) (d e : ℕ) → ((i j : ℕ) → former_at was j ≡ Some i → j < many) → many ≤ n → n < m → (e ≡ d → ⊥) →
-    index_or m (place_now was e) ≡ index_or n (place_now was d) → ⊥
-apart_moved n m many was d e low le less other same = by (place_now was d) (place_now was e) refl refl same where
-  by : (p o : Option ℕ) → place_now was d ≡ p → place_now was e ≡ o → index_or m o ≡ index_or n p → ⊥
-  by None None one two is = omega (arith, is, less)
-  by None (Some k) one two is = let below = low e k (place_said was e k two) in omega (arith, is, below, le)
-  by (Some k) None one two is = let below = low d k (place_said was d k one) in omega (arith, is, below, le, less)
-  by (Some j) (Some k) one two is = other (value_is e d (sym (place_said was e k two) ∙ ap (former_at was) is ∙ place_said was d j one))
-
 -- ---- how many are out under an index
 
 -- whatever was somewhere is told of below the number of entries

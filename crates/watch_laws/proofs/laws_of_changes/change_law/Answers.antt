@@ -1,5 +1,5 @@
--- change_law: the law as it is proved in Changing.
-use Rattle.watch_laws.proofs.Changing.{change_so}
+-- change_law: the law as it is proved in Always.
+use Rattle.watch_laws.proofs.Always.{change_so}
 use Rattle.watch_laws.proofs.laws_of_changes.change_law.Goals as goal
 
 pub returns : goal.returns
