@@ -1,5 +1,5 @@
 -- Onward: an agent that serves another inventory is one. For `change`.
-use Rattle.std.proofs.Common.{◌≡◌, ◌∙◌, ℕ, ◌<◌, ◌≤◌, List, Option, Some, None, All, ap, arith, inl, inr, length, map, subst, sym}
+use Rattle.std.proofs.Common.{◌≡◌, ◌∙◌, ℕ, ◌<◌, ◌≤◌, List, Option, Some, None, All, ap, arith, inl, inr, length, map, refl, subst, sym}
 use Rattle.std.proofs.lemmas.Bool.{cases_lt}
 use Rattle.std.proofs.lemmas.List.{get_or_past}
 use Rattle.std.proofs.lemmas.List.FromFn.{get_or-map-range_with_len, length-map-range_with_len}
@@ -57,8 +57,7 @@ module _ (old : Agent) (s : Inventory) (agent : IsAgent old) where
             (subst (λ (x : Standing). Believed no_track x.told)
             (sym (get_or_past (map (carried_standing old s) (range_with_len 0 n)) j fresh_standing (let l = length-map-range_with_len (carried_standing old s) 0 n in omega (arith, l, past))))
             (unknown_believed no_track refl))
-      ] where
-        use Rattle.std.proofs.Common.{refl}
+      ]
 
   pub changed_is_agent :
       (xs : List Standing) (n : ℕ) → xs ≡ map (carried_standing old s) (range_with_len 0 (length s.forest.entries)) → All IsStanding xs →

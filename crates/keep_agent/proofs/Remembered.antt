@@ -29,7 +29,7 @@ module _ (old new : Agent) (s : Inventory) (h : AgentIsChanged old s new) (j : �
   its_track from is =
       ap (λ (m : WatchState). track_at m j) h.machine.state ∙ changed_track old.machine s.forest (all_was old.inventory s) j within
       ∙ ap (track_by old.machine.clocks.at old.machine.tracks (entry_at s.forest.entries j))
-        (get_or-map-range_with_len (was_of old.inventory s) 0 (length s.forest.entries) j j New within (omega arith) ∙ ap (was_by old.inventory s j) is)
+      (get_or-map-range_with_len (was_of old.inventory s) 0 (length s.forest.entries) j j New within (omega arith) ∙ ap (was_by old.inventory s j) is)
 
   -- of one that was served before: the two words are those that were believed
   its_word : (i : ℕ) → former old.inventory s j ≡ Some i → Word (track_at new.machine j) (track_at old.machine i)

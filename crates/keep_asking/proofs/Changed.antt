@@ -47,14 +47,14 @@ times_map f (x ∷ xs) ys same j =
     let a = parts.0 in
     let b = parts.1.0 in
     let rest = times_map f xs (a ++ b)
-        (λ i.
-            (let all = same i in
-            let here = times_cons i x xs in
-            let whole = ap (times i) parts.1.1 ∙ times_append i a (x ∷ b) in
-            let one = times_cons i x b in
-            let without = times_append i a b in
-            omega (arith, all, here, whole, one, without)))
-        j in
+    (λ i.
+    (let all = same i in
+    let here = times_cons i x xs in
+    let whole = ap (times i) parts.1.1 ∙ times_append i a (x ∷ b) in
+    let one = times_cons i x b in
+    let without = times_append i a b in
+    omega (arith, all, here, whole, one, without)))
+    j in
     let left = times_cons j (f x) (map f xs) in
     let whole = ap (λ ns. times j (map f ns)) parts.1.1 ∙ ap (times j) (map-append f a (x ∷ b)) ∙ times_append j (map f a) (f x ∷ map f b) in
     let one = times_cons j (f x) (map f b) in

@@ -47,6 +47,6 @@ returns-clause-changed c =
       inventory = refl;
       standings = c.in_ok-standings.ensures.value;
       machine = subst (λ (a : Agent). IsChanged a.machine (record { forest = s.forest; was = all_was a.inventory s; state = c.change.new.self })) c.self.view_is
-      (record { may = all_was_is_change w.inventory s (length w.watch.forest.entries) c.forest.ensures.sound.forest (sym c.self.invariant.entries); state = is });
+          (record { may = all_was_is_change w.inventory s (length w.watch.forest.entries) c.forest.ensures.sound.forest (sym c.self.invariant.entries); state = is });
       beginnings = ap (λ (a : Agent). a.beginnings) c.self.view_is;
     }

@@ -69,6 +69,6 @@ returns-clause-changed c =
     ∙ ap (out_after was (length g.entries)) c.deref_mut.ensures.value in
     ap (λ (os : List Out). record s { forest = forest; tracks = tracks; out = os }) out
     ∙ ap (λ (xs : List Track). record s { forest = forest; tracks = xs; out = out_after was (length g.entries) s.out })
-      (c.in_ok-tracks.ensures.value ∙ ap (λ xs. tracks_after w.clocks.at xs g was) c.deref.ensures.value)
+    (c.in_ok-tracks.ensures.value ∙ ap (λ xs. tracks_after w.clocks.at xs g was) c.deref.ensures.value)
     ∙ ap (λ (h : Forest). record s { forest = h; tracks = tracks_after s.clocks.at s.tracks g was; out = out_after was (length g.entries) s.out }) c.keep_all_terms.ensures
     ∙ ap (λ (t : WatchState). changed t g was) c.self.view_is
