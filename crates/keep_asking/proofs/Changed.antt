@@ -21,7 +21,7 @@ use Rattle.watch_machine.proofs.Changing.{out_length}
 use Rattle.watch_machine.proofs.Moved.{changed_track, former_low, place_there, times_moved, times_new, times_nobody, times_out}
 use Rattle.keep_asking.specs.InStep.{IsAbreast, MachineIsSound, entries_on, entries_out, seats_of, times}
 use Rattle.keep_asking.specs.Laws.{ChangeLaw}
-use Rattle.keep_asking.proofs.Sound.{counts, lookup_flag, same_index, skips, times_append, times_cons}
+use Rattle.keep_asking.proofs.Sound.{at_most_one, counts, lookup_flag, same_index, skips, times_append, times_cons}
 
 -- ---- the same indices, under others
 
@@ -156,14 +156,6 @@ module _ (old : WatchState) (g : Forest) (was : List Was) (may : IsChange (lengt
   }
 
 -- ---- the lanes
-
--- one at most is out under each index
-at_most_one : (m : WatchState) (i : ℕ) → seats_of m i ≤ 1
-at_most_one m i = by (nat_lt i (length m.forest.entries)) (track_at m i).out where
-  by : (is_entry is_out : Bool) → (if is_entry then (if is_out then 1 else 0) else 1) ≤ 1
-  by true true = omega arith
-  by true false = omega arith
-  by false is_out = omega arith
 
 pub change_law : ChangeLaw
 change_law old c width out h abreast =
