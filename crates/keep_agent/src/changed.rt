@@ -1,6 +1,7 @@
 //! Another inventory is served from now on, and the Watch goes on over it.
 ghost use Rattle.std.specs.Prelude.{◌≡◌, ◌<◌, IfErr, IfOk, IfSome, OnErr, OnOk, length, map};
 ghost use Rattle.std.specs.List.{All, range_with_len};
+ghost use Rattle.keep_tree.specs.Forest.{entry_at};
 ghost use Rattle.keep_agent.specs.Agent.{IsStanding};
 ghost use Rattle.keep_agent.specs.Changed.{AgentIsChanged, all_was, carried_standing, former, has_same_parent, is_said_again, is_same_answer, is_same_entry, is_same_kind, is_same_number, is_same_terms, parent_name, was_of};
 ghost use Rattle.watch_machine.specs.declared.fault.WatchFault.TheVariants.{OutOfMemory};
@@ -150,8 +151,19 @@ fn parent_name(forest: &Forest, parent: Option<u32>) -> &[u8]
     ensures { result.now ≡ parent_name forest.now.entries parent }
 {
     match parent {
-        Some(parent) if parent < forest.len() => forest.get(parent).name.list(),
-        _ => b"",
+        None => b"",
+        Some(parent) => name_at(forest, parent),
+    }
+}
+
+/// The name of the entry at an index; no name past the last.
+fn name_at(forest: &Forest, index: u32) -> &[u8]
+    ensures { result.now ≡ (entry_at forest.now.entries index).name }
+{
+    if index < forest.len() {
+        forest.get(index).name.list()
+    } else {
+        b""
     }
 }
 

@@ -671,7 +671,7 @@ step_entries old new (Need i until) output step = ap (λ (s : WatchState). lengt
 step_entries old new Begin output step = ap (λ (s : WatchState). length s.forest.entries) step.1
 step_entries old new (Known i end renewable) output step = ap (λ (s : WatchState). length s.forest.entries) step.1
 
-refused_stays : (old new : WatchState) (event : Event) (fault : WatchFault) → Turn old event (Err fault) new → new ≡ old
+pub refused_stays : (old new : WatchState) (event : Event) (fault : WatchFault) → Turn old event (Err fault) new → new ≡ old
 refused_stays old new event NotAsked h = h.1
 refused_stays old new event BadIndex h = h.1
 refused_stays old new event OutOfMemory h = h.1.1

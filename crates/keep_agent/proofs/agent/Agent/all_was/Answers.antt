@@ -4,7 +4,7 @@ use Rattle.std.proofs.lemmas.List.FromFn.{map-range_with_len_more}
 use Rattle.std.specs.List.{range_with_len}
 use Rattle.keep_tree.specs.Forest.{Forest}
 use Rattle.watch_machine.specs.declared.change.Was.{Was}
-use Rattle.keep_agent.specs.Changed.{was_of}
+use Rattle.keep_agent.specs.Changed.{all_was, was_of}
 use Rattle.keep_agent.proofs.agent.Agent.all_was.Goals as goal
 
 pub loop-index-preserved : goal.loop-index-preserved
@@ -15,6 +15,7 @@ loop-index-preserved c =
     ∙ sym (map-range_with_len_more f 0 k k (omega arith))
 
 pub returns : goal.returns
+unfolding all_was
 returns c =
     let f : ℕ → Was = was_of c.args.self.now.inventory c.args.inventory.now in
     let count : c.len-index-end.result ≡ length c.args.inventory.now.forest.entries = c.len-index-end.ensures.value ∙ ap (λ (g : Forest). length g.entries) c.forest.ensures.value in
