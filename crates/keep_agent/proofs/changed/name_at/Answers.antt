@@ -1,5 +1,5 @@
 -- Past the last entry there is no name.
-use Rattle.std.proofs.Common.{◌≡◌, ◌≤◌, ap, arith, length, sym}
+use Rattle.std.proofs.Common.{◌≤◌, ap, arith, length, sym}
 use Rattle.keep_tree.specs.declared.entry.Entry.{Entry}
 use Rattle.keep_tree.proofs.Entries.{entry_at_past}
 use Rattle.keep_agent.proofs.changed.name_at.Goals as goal

@@ -1,5 +1,5 @@
 -- Once the Watch has taken the event, the rest of the agent follows it.
-use Rattle.std.proofs.Common.{◌≡◌, ◌∙◌, List, ap, length, subst, sym}
+use Rattle.std.proofs.Common.{◌∙◌, List, ap, length, subst, sym}
 use Rattle.watch_machine.proofs.Rewritten.{once}
 use Rattle.keep_agent.specs.declared.standing.Standing.{Standing}
 use Rattle.keep_agent.specs.Agent.{Agent, IsAgent}
