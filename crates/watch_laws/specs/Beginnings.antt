@@ -56,11 +56,12 @@ abbrev pub Jumps : WatchState → Event → WatchState → Type 0
 Jumps old (Clock wall elapsed) new = HasParted old.clocks.wall new.clocks.at (min wall READING_MAX)
 Jumps old event new = ⊥
 
--- between two beginnings lies a jump of the wall, a Begin, or ten minutes (a day is longer). A change is none, and none comes of it
+-- a change of what is watched asks for none
 abbrev pub asks_beginning_at : Happening → Bool
 asks_beginning_at (Hands turn) = asks_beginning turn
 asks_beginning_at (Changes c) = false
 
+-- between two beginnings lies a jump of the wall, a Begin, or ten minutes (a day is longer)
 abbrev pub FewLaw : Type 0
 FewLaw =
     (old : WatchState) (first second : Turned) (between : List Happening) → AllHappen old (Hands first ∷ (between ++ Hands second ∷ [])) → IsBeginning first → IsBeginning second →
