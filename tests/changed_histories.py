@@ -46,7 +46,8 @@ class Lane:
 
 
 def story(chance: random.Random) -> Story:
-    margin = chance.choice((5, 20, 60))
+    timeout = chance.choice((2, 5, 10))
+    margin = 4 * timeout + chance.choice((0, 1, 20))
     names = [f"e{number}" for number in range(chance.randint(2, 8))]
     steps = {name: chance.randint(margin + 1, 8 * margin + 10) for name in names}
     ends = {name: START // SECOND + chance.randint(1, 3 * steps[name]) for name in names}
@@ -72,7 +73,7 @@ def story(chance: random.Random) -> Story:
         served ^= {name}
     faults = {number: chance.choice((*FAULTS, *(f"late {chance.randint(1, 9000)}" for _ in range(6))))
               for number in range(1, 400) if chance.random() < 0.4}
-    return Story(ends, first, later, margin, chance.randint(1, 5), chance.choice((2, 5, 10)), tuple(readings), faults, asks)
+    return Story(ends, first, later, margin, chance.randint(1, 5), timeout, tuple(readings), faults, asks)
 
 
 def table(told: Story, name: str, step: int) -> str:
@@ -143,8 +144,8 @@ class Modelled:
     def _change(self, turn: int, now: int) -> None:
         if self._due is not None and now >= self._due:
             self._serve()
-        elif turn in self._told.asks:
-            what, name = self._told.asks[turn]
+        elif turn - 1 in self._told.asks:  # (A client who comes in one turn is read in the next.)
+            what, name = self._told.asks[turn - 1]
             if what == "reload":
                 self._steps = dict(self._told.later)
             elif what == "drop":
