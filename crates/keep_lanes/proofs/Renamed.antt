@@ -56,8 +56,8 @@ module _ {T : Type 0} where
   abbrev seat_of : ℕ → T → Seat T
   seat_of index standing = record { index = index; standing = standing }
 
-  pub is_under : (from to : List ℕ) (x : Seat T) (index : ℕ) (standing : T) → index ≡ index_in from to x.index → standing ≡ x.standing → seat_of index standing ≡ under from to x
-  is_under from to x index standing one other = ap₂ seat_of one other
+  pub is_under : (from to : List ℕ) (x y : Seat T) (index : ℕ) → index ≡ index_in from to y.index → x ≡ y → seat_of index y.standing ≡ under from to x
+  is_under from to x y index one same = ap₂ seat_of (one ∙ ap (λ (s : Seat T). index_in from to s.index) (sym same)) (ap (λ (s : Seat T). s.standing) (sym same))
 
   -- and all of them
   pub renamed_all :

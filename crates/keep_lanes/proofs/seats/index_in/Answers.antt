@@ -1,5 +1,5 @@
 -- It is found where it stands, or stands further on, or at no place.
-use Rattle.std.proofs.Common.{◌≡◌, ◌∙◌, ◌==◌, true, false, ap, arith, drop, get_or, sym}
+use Rattle.std.proofs.Common.{◌≡◌, ◌∙◌, ◌==◌, ◌+◌, true, false, ap, arith, drop, get_or, sym}
 use Rattle.std.proofs.lemmas.Bool.Decides.{nat_tests}
 use Rattle.std.proofs.lemmas.List.{drop_all}
 use Rattle.keep_lanes.specs.Out.{index_in}
